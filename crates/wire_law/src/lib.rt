@@ -1,0 +1,13 @@
+//! What every codec of the gateway keeps: a value is written in one way, and what is written is read back as itself.
+//!
+//! A trait says it with ghost members: what a value is on the wire is a function of the value alone, and the laws
+//! are facts about that function, which each `impl` proves once. A caller needs no more than the trait's clauses.
+#![tactic(auto)]
+
+mod fixed_wire;
+mod printable;
+mod text_wire;
+
+pub use fixed_wire::FixedWire;
+pub use printable::{are_printable, is_printable};
+pub use text_wire::TextWire;
