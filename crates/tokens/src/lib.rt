@@ -1,0 +1,14 @@
+//! Order tokens: `G` and the 13 decimal digits of a number.
+//!
+//! The market knows each order by 14 bytes that the gateway picks. A number and its token determine each other, so a
+//! token that comes back says which accepted request it is of, and no two requests have one token.
+//!
+//! Source: OUCH 4.2, "Enter Order Message", order token; its form is the gateway's own.
+#![tactic(auto)]
+
+mod token;
+
+pub use token::{Token, TokenRefusal, one_number_a_token};
+
+#[cfg(test)]
+mod tests;

@@ -1,0 +1,31 @@
+use super::*;
+use std::test::Fail;
+
+#[test]
+fn a_number_and_its_token(rt: HostRuntime) -> Result<(), Fail> {
+    for (number, text) in [
+        (1, b"G0000000000001"),
+        (10_203, b"G0000000010203"),
+        (Token::MOST, b"G9999999999999"),
+    ] {
+        let token = Token::of(number)?;
+        assert_eq!(rt; &token.bytes(), text);
+        assert_eq!(rt; Token::number(text), Some(number));
+    }
+    Ok(())
+}
+
+#[test]
+fn what_is_no_token(rt: HostRuntime) {
+    assert_eq!(rt; Token::of(0), Err(TokenRefusal));
+    assert_eq!(rt; Token::of(Token::MOST + 1), Err(TokenRefusal));
+    for text in [
+        b"G0000000000000",
+        b"H0000000000001",
+        b"G000000000000x",
+        b"00000000000001",
+        b"G 000000000001",
+    ] {
+        assert_eq!(rt; Token::number(text), None);
+    }
+}
