@@ -1,0 +1,6 @@
+pub mod Tables
+pub mod Lookups
+pub mod Numbers
+pub mod Floats
+pub mod Written
+pub mod WrittenReport

@@ -1,0 +1,6 @@
+pub mod Texts
+pub mod Letters
+pub mod Formats
+pub mod Slots
+pub mod NewOrder
+pub mod Report

@@ -1,0 +1,31 @@
+//! Reading a new order from fields that have passed its table.
+
+ghost use Rattle.std.specs.Prelude.{◌≡◌, None, IfOk};
+ghost use Rattle.fix_types.specs.NewOrder.{new_order_refusal, new_order_of, IsNewOrder};
+
+use crate::new_order::NewOrder;
+use crate::reading::{
+    char_at, float_at, id_at, optional_char_at, optional_float_at, optional_text_at, text_at,
+};
+use fix_fields::Fields;
+use std::alloc::{AllocError, Global};
+
+/// The new order that fields say, which meet no refusal.
+pub fn read_new_order(alloc: Global, fields: &Fields) -> Result<NewOrder, AllocError>
+    requires { new_order_refusal fields.now ≡ None }
+    ensures said { IfOk result (λ order. order ≡ new_order_of fields.now) }
+    ensures kept { IfOk result IsNewOrder }
+{
+    Ok(NewOrder {
+        cl_ord_id: id_at(alloc, fields, 11)?,
+        side: char_at(fields, 54),
+        symbol: text_at(alloc, fields, 55)?,
+        order_qty: float_at(alloc, fields, 38)?,
+        ord_type: char_at(fields, 40),
+        price: optional_float_at(alloc, fields, 44)?,
+        time_in_force: optional_char_at(fields, 59),
+        exec_inst: optional_text_at(alloc, fields, 18)?,
+        order_capacity: optional_char_at(fields, 528),
+        min_qty: optional_float_at(alloc, fields, 110)?,
+    })
+}

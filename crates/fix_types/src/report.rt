@@ -1,0 +1,104 @@
+//! ExecutionReport: 35=8.
+
+use crate::character::Character;
+use crate::cl_ord_id::ClOrdId;
+use crate::exec_type::ExecType;
+use crate::format::{Format, Row, first_refusal};
+use crate::ord_status::OrdStatus;
+use crate::refusal::TextFault;
+use crate::report_fields::{push_amounts, push_head};
+use crate::report_reading::read_report;
+use fix_fields::{Fields, Text};
+use std::alloc::{AllocError, Global};
+use wire_law::TextWire;
+
+/// What the gateway tells a client of an order. Quantities and prices are texts, since a refused order's are its own.
+///
+/// Source: FIX 4.4 Volume 4, "Execution Report", with the fields that this gateway writes, in this order.
+#[derive(Debug, Drop)]
+pub struct Report {
+    /// OrderID (37): the gateway's number of the order.
+    pub order_id: u64,
+    /// ClOrdID (11).
+    pub cl_ord_id: ClOrdId,
+    /// OrigClOrdID (41).
+    pub orig_cl_ord_id: Option<ClOrdId>,
+    /// ExecID (17): the number of this report.
+    pub exec_id: u64,
+    /// ExecRefID (19): the report whose trade was broken.
+    pub exec_ref_id: Option<u64>,
+    /// ExecType (150).
+    pub exec_type: ExecType,
+    /// OrdStatus (39).
+    pub ord_status: OrdStatus,
+    /// OrdRejReason (103).
+    pub ord_rej_reason: Option<u64>,
+    /// ExecRestatementReason (378).
+    pub exec_restatement_reason: Option<u64>,
+    /// Symbol (55).
+    pub symbol: Text,
+    /// Side (54).
+    pub side: Character,
+    /// OrderQty (38).
+    pub order_qty: Text,
+    /// Price (44).
+    pub price: Option<Text>,
+    /// LastQty (32).
+    pub last_qty: Option<u64>,
+    /// LastPx (31).
+    pub last_px: Option<Text>,
+    /// LeavesQty (151): the shares that are open.
+    pub leaves_qty: u64,
+    /// CumQty (14): the shares that are executed.
+    pub cum_qty: u64,
+    /// AvgPx (6).
+    pub avg_px: Text,
+    /// Text (58).
+    pub text: Option<Text>,
+}
+
+/// The tags that have to be there, in the order in which they are judged.
+const REQUIRED: [u32; 11] = [37, 11, 17, 150, 39, 55, 54, 38, 151, 14, 6];
+
+/// What values have to be, in the order in which they are judged.
+const ROWS: [Row; 13] = [
+    Row { tag: 37, format: Format::Number },
+    Row { tag: 11, format: Format::ClOrdId },
+    Row { tag: 41, format: Format::ClOrdId },
+    Row { tag: 17, format: Format::Number },
+    Row { tag: 19, format: Format::Number },
+    Row { tag: 150, format: Format::ExecType },
+    Row { tag: 39, format: Format::OrdStatus },
+    Row { tag: 103, format: Format::Number },
+    Row { tag: 378, format: Format::Number },
+    Row { tag: 54, format: Format::Char },
+    Row { tag: 32, format: Format::Number },
+    Row { tag: 151, format: Format::Number },
+    Row { tag: 14, format: Format::Number },
+];
+
+impl TextWire<Fields, TextFault> for Report {
+    ghost use Rattle.fix_types.specs.declared.refusal.TextFault.TheVariants.{NoMemory};
+    ghost use Rattle.std.specs.Prelude.{◌≡◌};
+    ghost use Rattle.fix_types.specs.Report.{report_fields, IsReport};
+
+    ghost text = { report_fields };
+
+    ghost is_value = { IsReport };
+
+    ghost is_no_memory = { λ fault. fault ≡ NoMemory };
+
+    fn put(&self, alloc: Global) -> Result<Fields, AllocError> {
+        let mut fields = Fields::with_capacity(alloc, 20, 256)?;
+        push_head(&mut fields, self)?;
+        push_amounts(&mut fields, self)?;
+        Ok(fields)
+    }
+
+    fn get(alloc: Global, fields: &Fields) -> Result<Self, TextFault> {
+        match first_refusal(fields, &REQUIRED, &ROWS) {
+            Some(refusal) => Err(TextFault::Refused(refusal)),
+            None => Ok(read_report(alloc, fields)?),
+        }
+    }
+}

@@ -1,0 +1,6 @@
+pub mod Amounts
+pub mod Points
+pub mod Printed
+pub mod SaidInRange
+pub mod Sizes
+pub mod Values

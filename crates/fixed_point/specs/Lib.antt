@@ -1,0 +1,5 @@
+pub mod Decimal
+pub mod Examples
+pub mod Price
+pub mod Refusal
+pub mod Steps

@@ -1,0 +1,60 @@
+//! Digits, and the numbers that they make.
+
+ghost use Rattle.std.specs.Prelude.{◌≡◌, ◌^◌, ◌≤◌, ◌==◌, IfSome};
+ghost use Rattle.std.specs.List.{list_all};
+ghost use Rattle.fixed_point.specs.Decimal as decimal;
+ghost use Rattle.fixed_point.specs.Steps as steps;
+
+/// Above every amount; a number that reaches it stays there, so that no number of digits makes it wrap.
+pub const TOO_LARGE: u64 = 100_000_000_000;
+
+/// The number that these digits make behind those of `start`, `TOO_LARGE` at most; `None` where one is no digit.
+pub fn read_on(start: u64, digits: &[u8]) -> Option<u64>
+    requires { start ≤ 100_000_000_000 }
+    ensures value { result ≡ steps.read_on start digits.now }
+    ensures at_most { IfSome result (λ n. n ≤ 100_000_000_000) }
+{
+    let mut number = start;
+    for byte in digits {
+        if !is_digit(*byte) {
+            return None;
+        }
+        number = (10 * number + u64::from(*byte - b'0')).min(TOO_LARGE);
+    }
+    Some(number)
+}
+
+/// Whether each of these bytes is a digit.
+pub fn are_digits(bytes: &[u8]) -> bool
+    ensures { result ≡ list_all decimal.is_digit bytes.now }
+{
+    bytes.iter().all(|byte| is_digit(*byte))
+}
+
+/// Whether each of these bytes is the digit 0.
+pub fn are_zeros(bytes: &[u8]) -> bool
+    ensures { result ≡ list_all (λ byte. byte == 48) bytes.now }
+{
+    bytes.iter().all(|byte| *byte == b'0')
+}
+
+/// 10 to the power of 0 to 4.
+pub fn power_of_ten(exponent: usize) -> u64
+    requires { exponent ≤ 4 }
+    ensures value { result ≡ 10 ^ exponent }
+    ensures at_most { result ≤ 10_000 }
+{
+    match exponent {
+        0 => 1,
+        1 => 10,
+        2 => 100,
+        3 => 1_000,
+        _ => 10_000,
+    }
+}
+
+fn is_digit(byte: u8) -> bool
+    ensures { result ≡ decimal.is_digit byte }
+{
+    byte >= b'0' && byte <= b'9'
+}
