@@ -20,10 +20,13 @@ pub struct Token {
 
 impl Model for Token {
     ghost use Rattle.std.specs.Prelude.{ℕ, List};
+    ghost use Rattle.wire_law.specs.Printable.{ArePrintable};
 
     ghost Value = { List ℕ };
 
     ghost view = { λ t. t.bytes };
+
+    ghost invariant = { λ t. ArePrintable t.bytes };
 
     ghost inverse = { λ bytes. record { bytes = bytes } };
 }
@@ -36,7 +39,6 @@ impl Token {
     pub fn of(number: u64) -> Result<Token, TokenRefusal>
         ensures has { IsOk result ↔ HasToken number }
         ensures text { IfOk result (λ token. token ≡ token_text number) }
-        ensures printable { IfOk result (λ token. ArePrintable token) }
     {
         if number == 0 || number > Token::MOST {
             return Err(TokenRefusal);
@@ -63,7 +65,8 @@ impl Token {
 
     /// The bytes as they stand in a message.
     pub fn bytes(self) -> [u8; 14]
-        ensures { result ≡ self }
+        ensures bytes { result ≡ self }
+        ensures printable { ArePrintable result }
     {
         self.bytes
     }

@@ -9,3 +9,7 @@ is_printable byte = nat_le 32 byte && nat_le byte 126
 -- each byte of a text is one of them
 abbrev pub ArePrintable : List ℕ → Type 0
 ArePrintable text = list_all is_printable text ≡ true
+
+-- A byte of a name: an ASCII character that is seen, so no space.
+abbrev pub is_visible : ℕ → Bool
+is_visible byte = nat_le 33 byte && nat_le byte 126

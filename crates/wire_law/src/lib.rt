@@ -9,5 +9,5 @@ mod printable;
 mod text_wire;
 
 pub use fixed_wire::FixedWire;
-pub use printable::{are_printable, is_printable};
+pub use printable::{are_printable, are_visible, is_printable, is_visible, padded};
 pub use text_wire::TextWire;

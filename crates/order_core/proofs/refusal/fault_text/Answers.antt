@@ -1,0 +1,15 @@
+use Rattle.std.proofs.Common.{◌≡◌, ◌<◌, ◌^◌, ◌++◌, true, ℕ, List, decimal, ap, ◌∙◌, refl, arith}
+use Rattle.std.specs.Prelude.{codes}
+use Rattle.std.specs.List.{list_all}
+use Rattle.fix_fields.specs.Field.{is_inside}
+use Rattle.fix_types.proofs.Numbers.{inside-decimal}
+use Rattle.order_core.proofs.Inside.{inside-append}
+use Rattle.order_core.proofs.refusal.fault_text.Goals as goal
+
+inside : (all words digits : List ℕ) (n : ℕ) → all ≡ words ++ digits → words ≡ codes "port fault " → digits ≡ decimal n → n < 2 ^ 64 → list_all is_inside all ≡ true
+inside all words digits n a w d small =
+    ap (λ (l : List ℕ). list_all is_inside l) a ∙ inside-append words digits (ap (λ (l : List ℕ). list_all is_inside l) w) (ap (λ (l : List ℕ). list_all is_inside l) d ∙ inside-decimal n small)
+
+pub from_vec-requires : goal.from_vec-requires
+from_vec-requires c =
+    inside c.extend_from_slice.new.self.items c.in_ok-text.text.items c.as_bytes.result.now c.args.number c.in_ok-extend_from_slice.ensures.items c.in_ok-text.ensures.items (c.as_bytes.ensures.value ∙ c.format.ensures.text) (omega arith)

@@ -1,0 +1,23 @@
+//! The order machine: what clients ask goes in, and what the market is asked and clients are told comes out.
+//!
+//! It is a value that is stepped: by an application message of a client, or by a payload of a market port. It knows
+//! nothing of links, sequence numbers and time. Each call gives all that it causes, or changes nothing.
+//!
+//! Source: FIX 4.4 Volume 4, "Order State Change Matrices"; OUCH 4.2, order messages.
+#![tactic(auto)]
+
+mod client_terms;
+mod market_fault;
+mod order_core;
+mod orders;
+mod outcome;
+mod port_state;
+mod refusal;
+mod to_client;
+mod to_market;
+
+pub use client_terms::ClientTerms;
+pub use market_fault::MarketFault;
+pub use order_core::OrderCore;
+pub use outcome::{CoreOut, MarketOut};
+pub use port_state::PortState;

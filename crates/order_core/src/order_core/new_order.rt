@@ -1,0 +1,207 @@
+//! A new order: its verdict, and what either verdict does.
+
+ghost use Rattle.std.specs.Prelude.{◌≡◌, ◌≤◌, ◌+◌, ◌<◌, ◌^◌, ◌++◌, ◌∷◌, [], vec_len, vec_capacity, OnErr};
+
+use super::OrderCore;
+use crate::client_terms::ClientTerms;
+use crate::orders::{Order, Stage, UsedId, is_used, open_count};
+use crate::outcome::CoreOut;
+use crate::port_state::PortState;
+use crate::refusal::Refusal;
+use crate::to_client::{Shown, refusal_report, report};
+use crate::to_market::{ask_of, enter_order, refuse_if};
+use fix_fields::Text;
+use fix_types::{AppBody, ClOrdId, ExecType, NewOrder, OrdStatus, Report};
+use ouch_codec::{EnterOrder, Inbound};
+use std::alloc::{AllocError, Global};
+use tokens::Token;
+
+/// How many orders of a client may be open or waiting.
+const MOST_OPEN: usize = 10_000;
+
+impl OrderCore {
+    ghost use Rattle.order_core.specs.State.{clients, IsClient, issued, HasRoom, IsUnchanged};
+
+    /// A new order of a client.
+    pub(super) fn new_order(
+        &mut self,
+        alloc: Global,
+        client: u16,
+        order: &NewOrder,
+        port: PortState,
+    ) -> Result<CoreOut, AllocError>
+        requires client { IsClient self.old client }
+        requires room { HasRoom self.old }
+        ensures clients { clients self.new ≡ clients self.old }
+        ensures issued { issued self.new ≤ issued self.old + 3 }
+        ensures err { OnErr result (IsUnchanged self.old self.new) }
+    {
+        let terms = self.terms[client as usize - 1];
+        match self.verdict(client, order, &terms, port) {
+            Err(refusal) => self.refuse(alloc, client, order, refusal),
+            Ok(enter) => self.accept(alloc, client, order, terms.port, enter, port),
+        }
+    }
+
+    /// The message that asks a new order of the market, or the first row of the table that holds.
+    fn verdict(
+        &self,
+        client: u16,
+        order: &NewOrder,
+        terms: &ClientTerms,
+        port: PortState,
+    ) -> Result<EnterOrder, Refusal>
+        requires { HasRoom self.now }
+    {
+        let is_duplicate = is_used(self.used.as_slice(), client, &order.cl_ord_id);
+        refuse_if(is_duplicate, Refusal::DuplicateClOrdId)?;
+        refuse_port(port)?;
+        let ask = ask_of(order, terms)?;
+        let open = open_count(self.orders.as_slice(), client);
+        refuse_if(open >= MOST_OPEN, Refusal::TooManyOpenOrders)?;
+        let token = next_token(self.tokens)?;
+        Ok(enter_order(&ask, token, terms))
+    }
+
+    /// Refuses a new order, in one report.
+    fn refuse(
+        &mut self,
+        alloc: Global,
+        client: u16,
+        order: &NewOrder,
+        refusal: Refusal,
+    ) -> Result<CoreOut, AllocError>
+        requires { HasRoom self.old }
+        ensures clients { clients self.new ≡ clients self.old }
+        ensures issued { issued self.new ≤ issued self.old + 3 }
+        ensures err { OnErr result (IsUnchanged self.old self.new) }
+    {
+        let order_id = self.order_ids + 1;
+        let exec_id = self.exec_ids + 1;
+        let report = refusal_report(alloc, order_id, exec_id, order, refusal)?;
+        let bodies = one_body(alloc, AppBody::Report(report))?;
+        let cl_ord_id = ClOrdId::copied(alloc, order.cl_ord_id.as_slice())?;
+        self.used.push(UsedId { client, cl_ord_id })?;
+        self.order_ids = order_id;
+        self.exec_ids = exec_id;
+        Ok(CoreOut {
+            bodies,
+            sends: Vec::new(alloc),
+        })
+    }
+
+    /// Accepts a new order: reports it as pending, and asks it of the market where the port is up.
+    fn accept(
+        &mut self,
+        alloc: Global,
+        client: u16,
+        order: &NewOrder,
+        port: u16,
+        enter: EnterOrder,
+        state: PortState,
+    ) -> Result<CoreOut, AllocError>
+        requires { HasRoom self.old }
+        ensures clients { clients self.new ≡ clients self.old }
+        ensures issued { issued self.new ≤ issued self.old + 3 }
+        ensures err { OnErr result (IsUnchanged self.old self.new) }
+    {
+        let order_id = self.order_ids + 1;
+        let exec_id = self.exec_ids + 1;
+        let accepted = order_of(alloc, client, port, order_id, order, &enter)?;
+        let report = pending_report(alloc, exec_id, &accepted)?;
+        let bodies = one_body(alloc, AppBody::Report(report))?;
+        let sends = sends_of(alloc, enter, state)?;
+        let cl_ord_id = ClOrdId::copied(alloc, order.cl_ord_id.as_slice())?;
+        self.used.reserve(1)?;
+        self.orders.push(accepted)?;
+        push_used(&mut self.used, UsedId { client, cl_ord_id });
+        self.order_ids = order_id;
+        self.exec_ids = exec_id;
+        self.tokens += 1;
+        Ok(CoreOut { bodies, sends })
+    }
+}
+
+/// The rows of the table on the port.
+fn refuse_port(port: PortState) -> Result<(), Refusal> {
+    match port {
+        PortState::Waiting | PortState::Up => Ok(()),
+        PortState::Ended => Err(Refusal::PortEnded),
+        PortState::Faulted(number) => Err(Refusal::PortFaulted(number)),
+    }
+}
+
+/// The token after so many.
+fn next_token(tokens: u64) -> Result<Token, Refusal>
+    requires { tokens < 2 ^ 60 }
+{
+    match Token::of(tokens + 1) {
+        Ok(token) => Ok(token),
+        Err(_) => Err(Refusal::NoTokenLeft),
+    }
+}
+
+/// The order that waits for the market after its message.
+fn order_of(
+    alloc: Global,
+    client: u16,
+    port: u16,
+    order_id: u64,
+    order: &NewOrder,
+    enter: &EnterOrder,
+) -> Result<Order, AllocError> {
+    Ok(Order {
+        client,
+        port,
+        order_id,
+        cl_ord_id: ClOrdId::copied(alloc, order.cl_ord_id.as_slice())?,
+        token: enter.token,
+        symbol: Text::copied(alloc, order.symbol.as_slice())?,
+        stock: enter.stock,
+        side: order.side,
+        market_side: enter.side,
+        stage: Stage::Waiting,
+        quantity: enter.shares,
+        price: enter.price,
+        leaves: enter.shares,
+    })
+}
+
+/// The report that an order waits for the market.
+fn pending_report(alloc: Global, exec_id: u64, order: &Order) -> Result<Report, AllocError> {
+    let shown = Shown {
+        order_id: order.order_id,
+        cl_ord_id: &order.cl_ord_id,
+        status: OrdStatus::PendingNew,
+        symbol: &order.symbol,
+        side: order.side,
+        quantity: order.quantity,
+        price: order.price,
+        leaves: order.leaves,
+    };
+    report(alloc, exec_id, ExecType::PendingNew, shown)
+}
+
+/// A list of one body.
+fn one_body(alloc: Global, body: AppBody) -> Result<Vec<AppBody>, AllocError> {
+    let mut bodies = Vec::with_capacity(alloc, 1)?;
+    bodies.push(body)?;
+    Ok(bodies)
+}
+
+/// What goes out now: the message, where the port is up.
+fn sends_of(alloc: Global, enter: EnterOrder, state: PortState) -> Result<Vec<Inbound>, AllocError> {
+    let mut sends = Vec::new(alloc);
+    if state == PortState::Up {
+        sends.push(Inbound::Enter(enter))?;
+    }
+    Ok(sends)
+}
+
+/// Adds a used id, where there is room for it.
+fn push_used(used: &mut Vec<UsedId>, id: UsedId)
+    requires { vec_len used.old < vec_capacity used.old }
+    ensures { used.new.items ≡ used.old.items ++ id ∷ [] }
+{
+    let _ = used.push(id);
+}

@@ -1,0 +1,32 @@
+//! What a step gives.
+
+use fix_types::AppBody;
+use ouch_codec::Inbound;
+use std::alloc::Global;
+
+/// What a client's message gives: bodies for the client, and messages to its port, in order.
+#[derive(Debug, Drop)]
+pub struct CoreOut {
+    /// For the client that sent the message.
+    pub bodies: Vec<AppBody>,
+    /// For its port; empty unless the port is up.
+    pub sends: Vec<Inbound>,
+}
+
+/// What a payload of the market gives: bodies for one client at most, in order.
+#[derive(Debug, Drop)]
+pub struct MarketOut {
+    /// Whom the bodies are for; `None` where there are none.
+    pub client: Option<u16>,
+    pub bodies: Vec<AppBody>,
+}
+
+impl MarketOut {
+    /// No bodies, for nobody.
+    pub fn nothing(alloc: Global) -> MarketOut {
+        MarketOut {
+            client: None,
+            bodies: Vec::new(alloc),
+        }
+    }
+}

@@ -1,0 +1,104 @@
+-- What a layout is: which bytes are a message, and which bytes stand for a row of values.
+-- The layouts themselves are in `Layouts.antt`.
+use Rattle.std.specs.Prelude.{◌≡◌, ℕ, ◌+◌, ◌≤◌, ◌<◌, ◌^◌, List, [], ◌∷◌, ◌++◌, length, take, drop, Bool, true, ◌&&◌, ◌==◌, nat_le, slice_index}
+use Rattle.std.specs.List.{list_all}
+use Rattle.std.specs.Int.{w32, w64, to_be_bytes, from_be_bytes}
+use Rattle.wire_law.specs.Printable.{is_printable, ArePrintable}
+use Rattle.ouch_codec.specs.declared.side.Side.{Side}
+use Rattle.ouch_codec.specs.declared.order_state.OrderState.{OrderState}
+use Rattle.ouch_codec.specs.declared.layout.Kind.{Kind}
+use Rattle.ouch_codec.specs.declared.layout.Kind.TheVariants.{Constant, SideLetter, OrderStateLetter, Printable, Text, Shares, IntendedShares, Number, LongNumber}
+use Rattle.ouch_codec.specs.Letters.{side_letter, is_side, order_state_letter, is_order_state}
+
+-- how many bytes a field takes
+abbrev pub width : Kind → ℕ
+width (Constant byte) = 1
+width SideLetter = 1
+width OrderStateLetter = 1
+width Printable = 1
+width (Text bytes) = bytes
+width Shares = 4
+width IntendedShares = 4
+width Number = 4
+width LongNumber = 8
+
+-- these bytes, as many as the field takes, are in its set
+abbrev pub is_in : Kind → List ℕ → Bool
+is_in (Constant byte) bs = slice_index bs 0 == byte
+is_in SideLetter bs = is_side (slice_index bs 0)
+is_in OrderStateLetter bs = is_order_state (slice_index bs 0)
+is_in Printable bs = is_printable (slice_index bs 0)
+is_in (Text bytes) bs = list_all is_printable bs
+is_in Shares bs = nat_le 1 (from_be_bytes w32 bs) && nat_le (from_be_bytes w32 bs) 999_999
+is_in IntendedShares bs = nat_le (from_be_bytes w32 bs) 999_999
+is_in Number bs = true
+is_in LongNumber bs = true
+
+-- what a field says
+abbrev pub Value : Kind → Type 0
+Value (Constant byte) = Unit {0}
+Value SideLetter = Side
+Value OrderStateLetter = OrderState
+Value Printable = ℕ
+Value (Text bytes) = List ℕ
+Value Shares = ℕ
+Value IntendedShares = ℕ
+Value Number = ℕ
+Value LongNumber = ℕ
+
+-- a value is one that the field can say
+abbrev pub IsValue : (kind : Kind) → Value kind → Type 0
+IsValue (Constant byte) v = Unit {0}
+IsValue SideLetter v = Unit {0}
+IsValue OrderStateLetter v = Unit {0}
+IsValue Printable v = is_printable v ≡ true
+IsValue (Text bytes) v = (length v ≡ bytes) × ArePrintable v
+IsValue Shares v = (1 ≤ v) × (v ≤ 999_999)
+IsValue IntendedShares v = v ≤ 999_999
+IsValue Number v = v < 2 ^ 32
+IsValue LongNumber v = v < 2 ^ 64
+
+-- the bytes that a value is written as
+abbrev pub field : (kind : Kind) → Value kind → List ℕ
+field (Constant byte) v = byte ∷ []
+field SideLetter v = side_letter v ∷ []
+field OrderStateLetter v = order_state_letter v ∷ []
+field Printable v = v ∷ []
+field (Text bytes) v = v
+field Shares v = to_be_bytes w32 v
+field IntendedShares v = to_be_bytes w32 v
+field Number v = to_be_bytes w32 v
+field LongNumber v = to_be_bytes w64 v
+
+-- how many bytes a message has
+abbrev pub total : List Kind → ℕ
+total [] = 0
+total (kind ∷ kinds) = width kind + total kinds
+
+-- These bytes are a message: for each field as many as it takes, in its set, and no more.
+abbrev pub IsMessage : List Kind → List ℕ → Type 0
+IsMessage [] bs = bs ≡ []
+IsMessage (kind ∷ kinds) bs =
+    (width kind ≤ length bs)
+    × (is_in kind (take (width kind) bs) ≡ true)
+    × IsMessage kinds (drop (width kind) bs)
+
+-- what a message says: a value for each field, one after another
+abbrev pub Row : List Kind → Type 0
+Row [] = Unit {0}
+Row (kind ∷ kinds) = Value kind × Row kinds
+
+-- a value, and the values of the fields after it
+infixr 20 ◌⨾◌
+abbrev pub ◌⨾◌ : {A B : Type 0} → A → B → A × B
+value ⨾ values = (value, values)
+
+-- each value is one that its field can say
+abbrev pub AreValues : (kinds : List Kind) → Row kinds → Type 0
+AreValues [] row = Unit {0}
+AreValues (kind ∷ kinds) row = IsValue kind row.0 × AreValues kinds row.1
+
+-- the bytes that a row is written as
+abbrev pub spelled : (kinds : List Kind) → Row kinds → List ℕ
+spelled [] row = []
+spelled (kind ∷ kinds) row = field kind row.0 ++ spelled kinds row.1

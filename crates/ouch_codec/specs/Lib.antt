@@ -1,0 +1,12 @@
+pub mod Letters
+pub mod LetterLaws
+pub mod Layout
+pub mod LayoutLaws
+pub mod Layouts
+pub mod Rows
+pub mod EnterOrderLaws
+pub mod CancelLaws
+pub mod AcceptedLaws
+pub mod Inbound
+pub mod Decoding
+pub mod DecodingLaws

@@ -1,0 +1,67 @@
+//! Cancel Order: `X`, 19 bytes, towards the market.
+//!
+//! Source: OUCH 4.2, "Cancel Order Message".
+
+ghost use Rattle.std.specs.Prelude.{◌≡◌, ◌≤◌, true, length};
+ghost use Rattle.wire_law.specs.Printable.{ArePrintable};
+
+use crate::field::{number_at, number_bytes, put_fields, text_at};
+use crate::layout::{Kind, is_message};
+use wire_law::FixedWire;
+
+/// A request to cancel what is open of an order, or a part of it.
+///
+/// A value has each field in its set. `get` is `None` for bytes that are no Cancel; neither `put` nor `get` takes
+/// memory.
+///
+/// Source: OUCH 4.2, "Cancel Order Message".
+#[derive(Clone, Copy, Debug, PartialEq, Eq)]
+pub struct Cancel {
+    /// The token of the order, padded right with spaces.
+    pub token: [u8; 14],
+    /// The intended order size: at most so many shares are executed in all, 0 to 999,999. 0 cancels all that is open.
+    pub shares: u32,
+    ghost token_set: { (length token ≡ 14) × ArePrintable token },
+    ghost shares_set: { shares ≤ 999_999 },
+}
+
+const LAYOUT: [Kind; 3] = [
+    Kind::Constant(b'X'),
+    Kind::Text(14), // token
+    Kind::IntendedShares, // shares
+];
+
+impl FixedWire for Cancel {
+    ghost use Rattle.ouch_codec.specs.Layout.{IsMessage, spelled};
+    ghost use Rattle.ouch_codec.specs.Layouts.{cancel};
+    ghost use Rattle.ouch_codec.specs.Rows.{cancel_row};
+    ghost use Rattle.ouch_codec.specs.CancelLaws.{length-cancel, IsMessage-cancel, same_cancel};
+
+    const LEN: usize = 19;
+
+    ghost LEN = { 19 };
+
+    ghost bytes = { λ message. spelled cancel (cancel_row message) };
+
+    ghost is_spelled = { IsMessage cancel };
+
+    ghost fixed = { length-cancel };
+
+    ghost again = { IsMessage-cancel };
+
+    ghost one_value = { same_cancel };
+
+    fn put(&self, out: &mut [u8]) {
+        put_fields(out, &[b"X", &self.token, &number_bytes(self.shares)]);
+    }
+
+    fn get(b: &[u8]) -> Option<Self> {
+        if !is_message(&LAYOUT, b) {
+            return None;
+        }
+        Some(Cancel {
+            token: text_at(b, 1),
+            shares: number_at(b, 15),
+        })
+    }
+}
