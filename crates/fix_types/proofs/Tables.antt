@@ -1,5 +1,5 @@
 -- Fields that pass a table.
-use Rattle.std.proofs.Common.{◌≡◌, Bool, true, false, ℕ, List, [], ◌∷◌, refl, ap, ◌∙◌, sym}
+use Rattle.std.proofs.Common.{◌≡◌, Bool, true, false, ℕ, List, [], ◌∷◌, refl}
 use Rattle.std.specs.Prelude.{Option, Some, None, is_some, is_none, if◌then◌else◌}
 use Rattle.std.specs.Option.{option_or}
 use Rattle.fix_fields.specs.Field.{Field, first_value}
@@ -54,9 +54,11 @@ none_refused tags rows fs there pass = rw (nothing_missing tags fs there, nothin
     both : (value : Option (List ℕ)) (r : SessionRefusal) (rest : Option SessionRefusal) → is_some value ≡ true → rest ≡ None → (if is_none value then Some r else rest) ≡ None
     both None r rest h e = absurd cc
     both (Some v) r rest h e = e
+
     nothing_missing : (tags : List ℕ) (fs : List Field) → AreThere tags fs → first_missing tags fs ≡ None
     nothing_missing [] fs h = refl
     nothing_missing (tag ∷ tags) fs h = both (first_value tag fs) (refusal tag 1) (first_missing tags fs) h.0 (nothing_missing tags fs h.1)
+
     nothing_misfit : (rows : List Row) (fs : List Field) → AllPass rows fs → first_misfit rows fs ≡ None
     nothing_misfit [] fs h = refl
     nothing_misfit (row ∷ rows) fs h = rw (h.0, nothing_misfit rows fs h.1) refl

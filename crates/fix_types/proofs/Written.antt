@@ -1,16 +1,15 @@
 -- What is written is read again.
-use Rattle.std.proofs.Common.{◌≡◌, Bool, true, false, ℕ, ◌^◌, ◌<◌, List, [], ◌∷◌, ◌++◌, length, refl, ap, ◌∙◌, sym, rules, arith, decimal}
-use Rattle.std.specs.Prelude.{Option, Some, None, IfSome, slice_index, unwrap_or, is_some}
+use Rattle.std.proofs.Common.{◌≡◌, true, ℕ, List, refl, ap, ◌∙◌}
+use Rattle.std.specs.Prelude.{Option, Some, None, slice_index, is_some}
 use Rattle.std.specs.Option.{option_map, option_or}
 use Rattle.fix_fields.specs.Field.{Field, first_value}
-use Rattle.fix_fields.specs.Front.{number_of}
 use Rattle.fix_types.specs.declared.format.Format.TheVariants as formats
 use Rattle.fix_types.specs.declared.new_order.NewOrder.{NewOrder}
 use Rattle.fix_types.specs.declared.refusal.SessionRefusal.{SessionRefusal}
 use Rattle.fix_types.specs.Formats.{passes}
-use Rattle.fix_types.specs.Slots.{char_text, number_text, optional_char, text_of, char_of}
+use Rattle.fix_types.specs.Slots.{char_text}
 use Rattle.fix_types.specs.NewOrder.{required, rows, new_order_slots, new_order_fields, new_order_refusal, new_order_of, IsNewOrder}
-use Rattle.fix_types.proofs.Tables.{AreThere, AllPass, none_refused}
+use Rattle.fix_types.proofs.Tables.{none_refused}
 use Rattle.fix_types.proofs.Lookups.{lookup, option_or-none, first_value-fields_of}
 
 -- a tag that one slot alone has
@@ -30,8 +29,7 @@ refusal-new_order_fields m is =
     let fs : List Field = new_order_fields m in
     let there : (tag : ℕ) (v : List ℕ) → lookup tag (new_order_slots m) ≡ Some v → is_some (first_value tag fs) ≡ true = λ tag v e. ap is_some (first_value-fields_of tag (new_order_slots m) ∙ e) in
     none_refused required rows fs
-    (there 11 _ refl, (there 54 _ refl, (there 55 _ refl, (there 38 _ refl, (there 40 _ refl, tt)))))
-    (
+    (there 11 _ refl, (there 54 _ refl, (there 55 _ refl, (there 38 _ refl, (there 40 _ refl, tt))))) (
       ap (passes formats.ClOrdId) (first_value-fields_of 11 (new_order_slots m)) ∙ is.cl_ord_id,
       (
         ap (passes formats.Char) (first_value-fields_of 54 (new_order_slots m)),

@@ -1,6 +1,6 @@
 -- A written report is read again.
-use Rattle.std.proofs.Common.{◌≡◌, Bool, true, false, ℕ, ◌^◌, ◌<◌, List, [], ◌∷◌, ◌++◌, length, refl, ap, ◌∙◌, sym, rules, arith, decimal}
-use Rattle.std.specs.Prelude.{Option, Some, None, IfSome, slice_index, unwrap_or, is_some}
+use Rattle.std.proofs.Common.{◌≡◌, true, ℕ, ◌^◌, ◌<◌, List, [], ◌∷◌, refl, ap, ◌∙◌, decimal}
+use Rattle.std.specs.Prelude.{Option, Some, None, IfSome, is_some}
 use Rattle.std.specs.Option.{option_map, option_or}
 use Rattle.fix_fields.specs.Field.{Field, first_value}
 use Rattle.fix_fields.specs.Front.{number_of}

@@ -1,5 +1,5 @@
 -- Which values a field may have, and which refusal a message meets first.
-use Rattle.std.specs.Prelude.{◌≡◌, ℕ, ◌<◌, ◌≤◌, ◌^◌, Bool, true, false, not, ◌&&◌, ◌||◌, ◌==◌, nat_le, nat_lt, List, [], ◌∷◌, length, slice_index, Option, Some, None, is_some, is_none, if◌then◌else◌}
+use Rattle.std.specs.Prelude.{◌≡◌, ℕ, ◌^◌, Bool, true, ◌&&◌, ◌==◌, nat_le, nat_lt, List, [], ◌∷◌, length, slice_index, Option, Some, None, is_none, if◌then◌else◌}
 use Rattle.std.specs.Option.{option_or}
 use Rattle.std.specs.List.{list_all, list_any}
 use Rattle.std.specs.Char.{is_ascii_digit}
@@ -10,6 +10,8 @@ use Rattle.fix_types.specs.declared.format.Format.{Format}
 use Rattle.fix_types.specs.declared.format.Format.TheVariants as formats
 use Rattle.fix_types.specs.declared.format.Row.{Row}
 use Rattle.fix_types.specs.declared.refusal.SessionRefusal.{SessionRefusal}
+use Rattle.fix_types.specs.declared.refusal.TextFault.{TextFault}
+use Rattle.fix_types.specs.declared.refusal.TextFault.TheVariants.{NoMemory, Refused}
 
 -- 1 to 20 digits of a number below 2 ^ 64. (FIX 4.4 Volume 1, data type int.)
 abbrev pub is_number : List ℕ → Bool
@@ -65,3 +67,8 @@ first_misfit (row ∷ rows) fs = if passes row.format (first_value row.tag fs) t
 -- The first refusal that a message of these required tags and formats meets.
 abbrev pub first_refusal : List ℕ → List Row → List Field → Option SessionRefusal
 first_refusal tags rows fs = option_or (first_missing tags fs) (first_misfit rows fs)
+
+-- A fault says just what refuses a message, or that memory ran out.
+abbrev pub Tells : Option SessionRefusal → TextFault → Type 0
+Tells first NoMemory = Unit {0}
+Tells first (Refused r) = first ≡ Some r

@@ -1,5 +1,5 @@
 -- ExecutionReport as fields. (FIX 4.4 Volume 4, "Execution Report".)
-use Rattle.std.specs.Prelude.{◌≡◌, ℕ, ◌<◌, ◌^◌, true, List, [], ◌∷◌, ◌++◌, Option, Some, None, IfSome, decimal, slice_index}
+use Rattle.std.specs.Prelude.{◌≡◌, ℕ, ◌<◌, ◌^◌, true, List, [], ◌∷◌, ◌++◌, Option, IfSome, decimal}
 use Rattle.fix_fields.specs.Field.{Field, first_value}
 use Rattle.fix_types.specs.declared.format.Format.TheVariants as formats
 use Rattle.fix_types.specs.declared.format.Row.{Row}

@@ -45,6 +45,7 @@ pub struct NewOrder {
 const REQUIRED: [u32; 5] = [11, 54, 55, 38, 40];
 
 /// What values have to be, in the order in which they are judged.
+#[rattlefmt::skip]
 const ROWS: [Row; 8] = [
     Row { tag: 11, format: Format::ClOrdId },
     Row { tag: 54, format: Format::Char },
@@ -58,8 +59,10 @@ const ROWS: [Row; 8] = [
 
 impl TextWire<Fields, TextFault> for NewOrder {
     ghost use Rattle.fix_types.specs.declared.refusal.TextFault.TheVariants.{NoMemory};
-    ghost use Rattle.std.specs.Prelude.{◌≡◌};
-    ghost use Rattle.fix_types.specs.NewOrder.{new_order_fields, IsNewOrder};
+    ghost use Rattle.std.specs.Prelude.{◌≡◌, None, IfOk, IfErr, MatchResult};
+    ghost use Rattle.fix_types.specs.declared.new_order.NewOrder.{NewOrder};
+    ghost use Rattle.fix_types.specs.Formats.{Tells};
+    ghost use Rattle.fix_types.specs.NewOrder.{new_order_fields, new_order_refusal, new_order_of, IsNewOrder};
 
     ghost text = { new_order_fields };
 
@@ -83,7 +86,13 @@ impl TextWire<Fields, TextFault> for NewOrder {
         Ok(fields)
     }
 
-    fn get(alloc: Global, fields: &Fields) -> Result<Self, TextFault> {
+    fn get(alloc: Global, fields: &Fields) -> Result<Self, TextFault>
+        ensures read { (value : NewOrder) → IsNewOrder value → fields.now ≡ new_order_fields value
+            → MatchResult result (λ read. read ≡ value) (λ fault. fault ≡ NoMemory) }
+        ensures kept { IfOk result IsNewOrder }
+        ensures said { IfOk result (λ said. (new_order_refusal fields.now ≡ None) × (said ≡ new_order_of fields.now)) }
+        ensures refused { IfErr result (Tells (new_order_refusal fields.now)) }
+    {
         match first_refusal(fields, &REQUIRED, &ROWS) {
             Some(refusal) => Err(TextFault::Refused(refusal)),
             None => Ok(read_new_order(alloc, fields)?),

@@ -61,6 +61,7 @@ pub struct Report {
 const REQUIRED: [u32; 11] = [37, 11, 17, 150, 39, 55, 54, 38, 151, 14, 6];
 
 /// What values have to be, in the order in which they are judged.
+#[rattlefmt::skip]
 const ROWS: [Row; 13] = [
     Row { tag: 37, format: Format::Number },
     Row { tag: 11, format: Format::ClOrdId },
@@ -79,8 +80,10 @@ const ROWS: [Row; 13] = [
 
 impl TextWire<Fields, TextFault> for Report {
     ghost use Rattle.fix_types.specs.declared.refusal.TextFault.TheVariants.{NoMemory};
-    ghost use Rattle.std.specs.Prelude.{◌≡◌};
-    ghost use Rattle.fix_types.specs.Report.{report_fields, IsReport};
+    ghost use Rattle.std.specs.Prelude.{◌≡◌, None, IfOk, IfErr, MatchResult};
+    ghost use Rattle.fix_types.specs.declared.report.Report.{Report};
+    ghost use Rattle.fix_types.specs.Formats.{Tells};
+    ghost use Rattle.fix_types.specs.Report.{report_fields, report_refusal, report_of, IsReport};
 
     ghost text = { report_fields };
 
@@ -95,7 +98,13 @@ impl TextWire<Fields, TextFault> for Report {
         Ok(fields)
     }
 
-    fn get(alloc: Global, fields: &Fields) -> Result<Self, TextFault> {
+    fn get(alloc: Global, fields: &Fields) -> Result<Self, TextFault>
+        ensures read { (value : Report) → IsReport value → fields.now ≡ report_fields value
+            → MatchResult result (λ read. read ≡ value) (λ fault. fault ≡ NoMemory) }
+        ensures kept { IfOk result IsReport }
+        ensures said { IfOk result (λ said. (report_refusal fields.now ≡ None) × (said ≡ report_of fields.now)) }
+        ensures refused { IfErr result (Tells (report_refusal fields.now)) }
+    {
         match first_refusal(fields, &REQUIRED, &ROWS) {
             Some(refusal) => Err(TextFault::Refused(refusal)),
             None => Ok(read_report(alloc, fields)?),
