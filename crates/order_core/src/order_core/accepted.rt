@@ -81,12 +81,7 @@ fn bodies_of(
 }
 
 /// The order as the market has it, with this status and so many shares open.
-fn shown<'a>(
-    order: &'a Order,
-    message: &Accepted,
-    status: OrdStatus,
-    leaves: u32,
-) -> Shown<'a> {
+fn shown<'a>(order: &'a Order, message: &Accepted, status: OrdStatus, leaves: u32) -> Shown<'a> {
     Shown {
         order_id: order.order_id,
         cl_ord_id: &order.cl_ord_id,

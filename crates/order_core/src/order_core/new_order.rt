@@ -190,7 +190,11 @@ fn one_body(alloc: Global, body: AppBody) -> Result<Vec<AppBody>, AllocError> {
 }
 
 /// What goes out now: the message, where the port is up.
-fn sends_of(alloc: Global, enter: EnterOrder, state: PortState) -> Result<Vec<Inbound>, AllocError> {
+fn sends_of(
+    alloc: Global,
+    enter: EnterOrder,
+    state: PortState,
+) -> Result<Vec<Inbound>, AllocError> {
     let mut sends = Vec::new(alloc);
     if state == PortState::Up {
         sends.push(Inbound::Enter(enter))?;
