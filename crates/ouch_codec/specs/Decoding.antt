@@ -15,7 +15,7 @@ outbound_layouts =
     (slice_index (codes "A") 0, accepted)
     ∷ []
 
-abbrev layout_in : List (ℕ × List Kind) → ℕ → Option (List Kind)
+abbrev pub layout_in : List (ℕ × List Kind) → ℕ → Option (List Kind)
 layout_in [] letter = None
 layout_in (l ∷ ls) letter = if l.0 == letter then Some l.1 else layout_in ls letter
 

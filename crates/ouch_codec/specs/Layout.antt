@@ -83,6 +83,13 @@ IsMessage (kind ∷ kinds) bs =
     × (is_in kind (take (width kind) bs) ≡ true)
     × IsMessage kinds (drop (width kind) bs)
 
+-- the same as a test
+abbrev pub is_message : List Kind → List ℕ → Bool
+is_message [] bs = length bs == 0
+is_message (kind ∷ kinds) bs =
+    nat_le (width kind) (length bs)
+    && (is_in kind (take (width kind) bs) && is_message kinds (drop (width kind) bs))
+
 -- what a message says: a value for each field, one after another
 abbrev pub Row : List Kind → Type 0
 Row [] = Unit {0}

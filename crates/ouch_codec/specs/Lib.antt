@@ -3,6 +3,9 @@ pub mod LetterLaws
 pub mod Layout
 pub mod LayoutLaws
 pub mod Layouts
+pub mod Parts
+pub mod ToMarket
+pub mod FromMarket
 pub mod Rows
 pub mod EnterOrderLaws
 pub mod CancelLaws
