@@ -1,0 +1,129 @@
+// Calls each export of exports.rt.in in a bounded loop and prints the best of several repeats, in nanoseconds a call.
+//
+// What the calls answer is checked once before the loops and summed in them, so that no call can be left out.
+
+#define _POSIX_C_SOURCE 200809L
+
+#include <stdbool.h>
+#include <stddef.h>
+#include <stdint.h>
+#include <stdio.h>
+#include <string.h>
+#include <time.h>
+
+uint64_t bench_split(const uint8_t *text, size_t length);
+uint32_t bench_parse_price(const uint8_t *text, size_t length);
+bool bench_put_enter_order(const uint8_t *bytes, size_t length, uint32_t times, uint8_t *out, size_t room);
+
+enum {
+    REPEATS = 40,
+    CALLS = 200000,
+    FRAME_LENGTH = 160,
+    FIELDS = 17,
+    ENTER_ORDER = 49,
+};
+
+// A NewOrderSingle, the whole frame: 160 bytes in 17 fields, its body length and its check sum right.
+static const char FRAME[] =
+    "8=FIX.4.4\0019=137\001"
+    "35=D\00149=BROKER01\00156=FEVZURK\00134=1042\00152=20260102-14:30:00\001"
+    "11=ORD0000017\00155=INTC\00154=1\00138=300\00140=2\00144=23.45\00159=0\001528=A\00160=20260102-14:30:00\001"
+    "10=092\001";
+
+static const char PRICE[] = "23.45";
+
+// An Enter Order: to buy 300 shares of INTC at 23.45.
+static const char ORDER[] =
+    "OFVZ00000000001B\000\000\001,INTC    \000\003\224\004\000\001\206\236FEVZYAN\000\000\000\000N ";
+
+static uint64_t sum;
+
+static double now(void) {
+    struct timespec time;
+    clock_gettime(CLOCK_MONOTONIC, &time);
+    return (double)time.tv_sec * 1e9 + (double)time.tv_nsec;
+}
+
+// Hides from the compiler what stands behind a pointer, so that each call reads it anew.
+static const uint8_t *hidden(const void *pointer) {
+    __asm__ volatile("" : "+r"(pointer) : : "memory");
+    return pointer;
+}
+
+static void split_calls(void) {
+    for (int i = 0; i < CALLS; i++) {
+        sum += bench_split(hidden(FRAME), FRAME_LENGTH);
+    }
+}
+
+static void parse_price_calls(void) {
+    for (int i = 0; i < CALLS; i++) {
+        sum += bench_parse_price(hidden(PRICE), sizeof PRICE - 1);
+    }
+}
+
+// The export loops by itself: it reads the order once, and then writes it again and again.
+static void put_calls(void) {
+    uint8_t out[ENTER_ORDER];
+    sum += bench_put_enter_order(hidden(ORDER), ENTER_ORDER, CALLS, out, sizeof out);
+    sum += hidden(out)[ENTER_ORDER - 1];
+}
+
+static double best(void (*calls)(void)) {
+    double least = 1e18;
+    for (int repeat = 0; repeat < REPEATS; repeat++) {
+        double start = now();
+        calls();
+        double each = (now() - start) / CALLS;
+        if (each < least) {
+            least = each;
+        }
+    }
+    return least;
+}
+
+static bool frame_is_right(void) {
+    size_t length = sizeof FRAME - 1;
+    const char *body = strchr(strchr(FRAME, 1) + 1, 1) + 1;
+    size_t body_length = length - 7 - (size_t)(body - FRAME);
+    unsigned check = 0;
+    for (size_t i = 0; i < length - 7; i++) {
+        check += (uint8_t)FRAME[i];
+    }
+    char front[40];
+    char back[16];
+    snprintf(front, sizeof front, "8=FIX.4.4%c9=%zu%c", 1, body_length, 1);
+    snprintf(back, sizeof back, "10=%03u%c", check % 256, 1);
+    return length == FRAME_LENGTH && strncmp(FRAME, front, strlen(front)) == 0 && strcmp(FRAME + length - 7, back) == 0;
+}
+
+static bool split_is_right(void) {
+    return bench_split((const uint8_t *)FRAME, FRAME_LENGTH) == FIELDS &&
+           bench_split((const uint8_t *)FRAME, FRAME_LENGTH - 1) == UINT64_MAX - 1;
+}
+
+static bool parse_price_is_right(void) {
+    return bench_parse_price((const uint8_t *)PRICE, sizeof PRICE - 1) == 234500 &&
+           bench_parse_price((const uint8_t *)FRAME, FRAME_LENGTH) == 0;
+}
+
+static bool put_is_right(void) {
+    uint8_t out[ENTER_ORDER] = {0};
+    const uint8_t *order = (const uint8_t *)ORDER;
+    return sizeof ORDER - 1 == ENTER_ORDER && !bench_put_enter_order(order, ENTER_ORDER, 1, out, sizeof out - 1) &&
+           !bench_put_enter_order(order, ENTER_ORDER - 1, 1, out, sizeof out) && out[0] == 0 &&
+           bench_put_enter_order(order, ENTER_ORDER, 1, out, sizeof out) && memcmp(out, ORDER, ENTER_ORDER) == 0;
+}
+
+int main(void) {
+    if (!frame_is_right() || !split_is_right() || !parse_price_is_right() || !put_is_right()) {
+        fprintf(stderr, "wrong: the frame is right %d, split %d, parse_price %d, put %d\n", frame_is_right(),
+                split_is_right(), parse_price_is_right(), put_is_right());
+        return 1;
+    }
+    printf("%-44s %7.1f   aim: below 400\n", "split, a NewOrderSingle frame of 160 bytes", best(split_calls));
+    printf("%-44s %7.1f   aim: below  25\n", "parse_price, the text 23.45", best(parse_price_calls));
+    printf("%-44s %7.1f   aim: below  25\n", "EnterOrder::put, 49 bytes", best(put_calls));
+    printf("nanoseconds a call, the best of %d times %d calls\n", REPEATS, CALLS);
+    return sum == 0;
+}

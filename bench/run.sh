@@ -1,0 +1,53 @@
+#!/usr/bin/env bash
+# Measures split, parse_price and EnterOrder::put, and prints the figures with the machine.
+#
+# The static library of the measured calls is no crate of the repository: it's made in a folder of its own, over a copy
+# of the crates that it stands on, and removed again. Their out/ folders are copied too, so that what is proved there
+# isn't proved again; in a clean clone there are none, and they are proved first.
+set -euo pipefail
+
+here=$(cd "$(dirname "${BASH_SOURCE[0]}")" && pwd)
+repository=$(dirname "$here")
+measured=(fix_fields fixed_point ouch_codec wire_law)
+seconds_to_build=1500
+seconds_to_run=120
+
+work=$(mktemp -d "${TMPDIR:-/tmp}/fevzurk-bench.XXXXXX")
+trap 'rm -rf "$work"' EXIT
+trap 'exit 130' INT TERM
+
+mkdir -p "$work/crates/bench_exports/src"
+cp "$here/exports.rt.in" "$work/crates/bench_exports/src/lib.rt"
+if [ -f "$repository/HANDLES" ]; then
+    cp "$repository/HANDLES" "$work/"
+fi
+# The measured crates, and the repository's own that they stand on.
+crates=("${measured[@]}")
+for ((i = 0; i < ${#crates[@]}; i++)); do
+    crate=${crates[i]}
+    if ! line=$(grep -E "^$crate *:" "$repository/crates.txt"); then
+        echo "crates.txt has no line for $crate" >&2
+        exit 2
+    fi
+    echo "$line" >> "$work/crates.txt"
+    cp -a "$repository/crates/$crate" "$work/crates/"
+    for needed in ${line#*:}; do
+        if [ -d "$repository/crates/$needed" ] && [[ " ${crates[*]} " != *" $needed "* ]]; then
+            crates+=("$needed")
+        fi
+    done
+done
+echo "bench_exports staticlib: ${measured[*]}" >> "$work/crates.txt"
+
+kit=$(dirname "$(dirname "$(readlink -f "$(command -v rt)")")")
+started=$SECONDS
+if ! (cd "$work/crates/bench_exports" && timeout "$seconds_to_build" rt lib --jobs 1) > "$work/build.log" 2>&1; then
+    tail -n 30 "$work/build.log" >&2
+    echo "the static library wasn't built" >&2
+    exit 1
+fi
+echo "proved and built in $((SECONDS - started)) s"
+"${CC:-cc}" -O2 -Wall -Wextra -o "$work/harness" "$here/harness.c" \
+    "$work/crates/bench_exports/out/libbench_exports.a" "$kit/c/liblibc_c.a"
+timeout "$seconds_to_run" "$work/harness"
+echo "$(nproc) processors, $(sed -n 's/^model name[^:]*: //p' /proc/cpuinfo | head -n 1), $(rt version)"

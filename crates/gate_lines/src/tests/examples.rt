@@ -1,0 +1,78 @@
+//! Worked examples, whole.
+
+use super::running::assert_prints;
+
+/// An order, accepted by the gateway and by the market.
+const ORDER_ACCEPTED: &str = "\
+C1 msg 35=D|11=A1|54=1|55=INTC|38=300|40=2|44=23.45|59=0|528=P
+P1 A 1 B 300 INTC 234500 99998 L
+";
+
+const ORDER_ACCEPTED_OUTPUT: &str = "\
+C1 > 35=8|37=1|11=A1|17=1|150=A|39=A|55=INTC|54=1|38=300|44=23.45|151=300|14=0|6=0
+P1 > O G0000000000001 B 300 INTC 234500 99998 FIRM Y P N 0 N R
+C1 > 35=8|37=1|11=A1|17=2|150=0|39=0|55=INTC|54=1|38=300|44=23.45|151=300|14=0|6=0
+";
+
+/// An order that the market takes and cancels at once.
+const ORDER_ACCEPTED_DEAD: &str = "\
+C1 msg 35=D|11=A1|54=1|55=INTC|38=300|40=2|44=23.45|59=0|528=P
+P1 A 1 B 300 INTC 234500 99998 D
+";
+
+const ORDER_ACCEPTED_DEAD_OUTPUT: &str = "\
+C1 > 35=8|37=1|11=A1|17=1|150=A|39=A|55=INTC|54=1|38=300|44=23.45|151=300|14=0|6=0
+P1 > O G0000000000001 B 300 INTC 234500 99998 FIRM Y P N 0 N R
+C1 > 35=8|37=1|11=A1|17=2|150=0|39=0|55=INTC|54=1|38=300|44=23.45|151=300|14=0|6=0
+C1 > 35=8|37=1|11=A1|17=3|150=4|39=4|55=INTC|54=1|38=300|44=23.45|151=0|14=0|6=0
+";
+
+/// An order that is sent twice: its ClOrdID is used by then.
+const ACCEPTED_TWICE: &str = "\
+C1 msg 35=D|11=A1|54=1|55=INTC|38=300|40=2|44=23.45|59=0|528=P
+C1 msg 35=D|11=A1|54=1|55=INTC|38=300|40=2|44=23.45|59=0|528=P
+";
+
+const ACCEPTED_TWICE_OUTPUT: &str = "\
+C1 > 35=8|37=1|11=A1|17=1|150=A|39=A|55=INTC|54=1|38=300|44=23.45|151=300|14=0|6=0
+P1 > O G0000000000001 B 300 INTC 234500 99998 FIRM Y P N 0 N R
+C1 > 35=8|37=2|11=A1|17=2|150=8|39=8|103=6|55=INTC|54=1|38=300|44=23.45|151=0|14=0|6=0|58=duplicate ClOrdID
+";
+
+/// Two clients with the same ClOrdID: each has its own.
+const SAME_ID_OF_TWO_CLIENTS: &str = "\
+C1 msg 35=D|11=A1|54=1|55=INTC|38=300|40=2|44=23.45|59=0|528=P
+C2 msg 35=D|11=A1|54=1|55=INTC|38=300|40=2|44=23.45|59=0|528=P
+";
+
+const SAME_ID_OF_TWO_CLIENTS_OUTPUT: &str = "\
+C1 > 35=8|37=1|11=A1|17=1|150=A|39=A|55=INTC|54=1|38=300|44=23.45|151=300|14=0|6=0
+P1 > O G0000000000001 B 300 INTC 234500 99998 FIRM Y P N 0 N R
+C2 > 35=8|37=2|11=A1|17=2|150=A|39=A|55=INTC|54=1|38=300|44=23.45|151=300|14=0|6=0
+P1 > O G0000000000002 B 300 INTC 234500 99998 FIRM Y P N 0 N R
+";
+
+/// A client of the other port, with the order's optional fields left out.
+const OTHER_PORT: &str = "\
+C3 msg 35=D|11=A1|54=5|55=V|38=7.0|40=2|44=0.0001
+P2 A 1 T 7 V 1 99998 L
+";
+
+const OTHER_PORT_OUTPUT: &str = "\
+C3 > 35=8|37=1|11=A1|17=1|150=A|39=A|55=V|54=5|38=7|44=0.0001|151=7|14=0|6=0
+P2 > O G0000000000001 T 7 V 1 99998 FIRM Y A N 0 N R
+C3 > 35=8|37=1|11=A1|17=2|150=0|39=0|55=V|54=5|38=7|44=0.0001|151=7|14=0|6=0
+";
+
+#[test]
+fn worked_examples(rt: HostRuntime) {
+    for (script, output) in [
+        (ORDER_ACCEPTED, ORDER_ACCEPTED_OUTPUT),
+        (ORDER_ACCEPTED_DEAD, ORDER_ACCEPTED_DEAD_OUTPUT),
+        (ACCEPTED_TWICE, ACCEPTED_TWICE_OUTPUT),
+        (SAME_ID_OF_TWO_CLIENTS, SAME_ID_OF_TWO_CLIENTS_OUTPUT),
+        (OTHER_PORT, OTHER_PORT_OUTPUT),
+    ] {
+        assert_prints(&rt, script, output);
+    }
+}

@@ -1,0 +1,116 @@
+-- When a market message is lawful, and which fault it is if not: read from the lists so far. (OUCH 4.2, "Outbound
+-- Messages".)
+use Rattle.std.specs.Prelude.{ℕ, ◌==◌, Bool, true, false, not, ◌&&◌, ◌||◌, nat_le, List, [], ◌∷◌, length, Option, Some, None, if◌then◌else◌, bytes_eq, codes, is_some, slice_index}
+use Rattle.std.specs.List.{find, list_any}
+use Rattle.ouch_codec.specs.declared.layout.Kind.{Kind}
+use Rattle.ouch_codec.specs.Layout.{is_message}
+use Rattle.ouch_codec.specs.Layouts as layouts
+use Rattle.ouch_codec.specs.Decoding.{layout_in}
+use Rattle.ouch_codec.specs.Parts.{type_of}
+use Rattle.ouch_codec.specs.FromMarket as heard
+use Rattle.order_law.specs.Messages.{text, character}
+use Rattle.order_law.specs.Asks.{side_of_letter}
+use Rattle.order_law.specs.Life.{Life, is_of, is_live, is_closed, is_waiting, is_working, stands_as, is_type, Trade}
+use Rattle.order_law.specs.Chain.{chain}
+use Rattle.order_law.specs.History.{Terms, terms_of, History, Entry, issued, handled, accepted, life_of, new_of, pending_tokens, token_of}
+
+-- the faults: the bytes are no message of their type; no order of this port has the token; the message isn't lawful of
+-- the order; the type is outside the profile
+abbrev pub bytes_fault : ℕ
+bytes_fault = 1
+
+abbrev pub token_fault : ℕ
+token_fault = 2
+
+abbrev pub row_fault : ℕ
+row_fault = 3
+
+abbrev pub type_fault : ℕ
+type_fault = 4
+
+-- the types of the profile, each with its layout
+abbrev profile : List (ℕ × List Kind)
+profile =
+    (slice_index (codes "S") 0, layouts.system_event)
+    ∷ (slice_index (codes "A") 0, layouts.accepted)
+    ∷ (slice_index (codes "U") 0, layouts.replaced)
+    ∷ (slice_index (codes "C") 0, layouts.canceled)
+    ∷ (slice_index (codes "E") 0, layouts.executed)
+    ∷ (slice_index (codes "B") 0, layouts.broken)
+    ∷ (slice_index (codes "J") 0, layouts.rejected)
+    ∷ (slice_index (codes "P") 0, layouts.cancel_pending)
+    ∷ (slice_index (codes "I") 0, layouts.cancel_reject)
+    ∷ []
+
+-- an accepted message of a client of this port has the token
+abbrev has_token : List Terms → ℕ → List ℕ → Entry → Bool
+has_token terms port token e =
+    is_some e.token && ((terms_of terms e.client).port == port && bytes_eq (token_of e) token)
+
+-- the new order whose token, or whose replacement's token, this is
+abbrev pub order_of_token : List Terms → ℕ → List Entry → List ℕ → Option Entry
+order_of_token terms port entries token = new_by (find (has_token terms port token) entries)
+  where
+    new_by : Option Entry → Option Entry
+    new_by None = None
+    new_by (Some e) = new_of e.order entries
+
+abbrev pub is_known_token : List Terms → ℕ → List Entry → List ℕ → Bool
+is_known_token terms port entries token = is_some (order_of_token terms port entries token)
+
+-- side and stock as the new order has them
+abbrev same_terms : List ℕ → Entry → Bool
+same_terms m new = bytes_eq (heard.stock m) (text 55 new.message) && is_side (side_of_letter (heard.side m))
+  where
+    is_side : Option ℕ → Bool
+    is_side None = false
+    is_side (Some side) = side == character 54 new.message
+
+-- so many shares may leave what is open
+abbrev may_leave : ℕ → Life → Bool
+may_leave shares l = nat_le 1 shares && nat_le shares l.unfilled
+
+-- the order is in the book under the token
+abbrev works_as : Life → List ℕ → Bool
+works_as l token = is_live l token && is_working l.stage
+
+-- the condition of the message's type, of an order with this life and these tokens of pending replaces
+abbrev pub row_holds : List ℕ → Life → Entry → List (List ℕ) → Bool
+row_holds m l new pending =
+    if is_type (codes "A") m then is_live l (heard.token m) && (is_waiting l.stage && same_terms m new)
+    else (if is_type (codes "U") m then works_as l (heard.previous_token m) && (list_any (bytes_eq (heard.token m)) pending && same_terms m new)
+    else (if is_type (codes "C") m then works_as l (heard.token m) && may_leave (heard.decrement m) l
+    else (if is_type (codes "E") m then works_as l (heard.token m) && (may_leave (heard.executed_shares m) l && not (list_any (λ (t : Trade). t.match_number == heard.executed_match m) l.trades))
+    else (if is_type (codes "B") m then is_of l (heard.token m) && list_any (stands_as (heard.broken_match m)) l.trades
+    else (if is_type (codes "J") m then (is_live l (heard.token m) && is_waiting l.stage) || (list_any (bytes_eq (heard.token m)) pending && not (is_closed l.stage))
+    else (if is_type (codes "I") m then works_as l (heard.token m)
+    else true))))))
+
+-- the order that a message is on goes by this token: of a Replaced the previous one
+abbrev order_token : List ℕ → List ℕ
+order_token m = if is_type (codes "U") m then heard.previous_token m else heard.token m
+
+-- The fault of a payload, if it is one. `T` is passed over, whatever its bytes; a System Event has no token.
+abbrev pub judgement : List Terms → ℕ → List ℕ → History → Option ℕ
+judgement terms port m before =
+    if length m == 0 then Some bytes_fault
+    else (if is_type (codes "T") m then None else by_layout (layout_in profile (type_of m)))
+  where
+    by_order : Option Entry → Option ℕ
+    by_order None = Some token_fault
+    by_order (Some new) =
+        if row_holds m (life_of new.order (accepted terms before) (handled port before)) new
+            (pending_tokens new.client (chain new.order (issued new.client before)) (accepted terms before))
+        then None else Some row_fault
+
+    by_tokens : Option ℕ
+    by_tokens =
+        if is_known_token terms port (accepted terms before) (heard.token m)
+        then by_order (order_of_token terms port (accepted terms before) (order_token m))
+        else Some token_fault
+
+    by_layout : Option (List Kind) → Option ℕ
+    by_layout None = Some type_fault
+    by_layout (Some layout) =
+        if not (is_message layout m) then Some bytes_fault
+        else (if is_type (codes "S") m then None else by_tokens)

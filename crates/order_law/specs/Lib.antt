@@ -1,0 +1,14 @@
+pub mod Messages
+pub mod Asks
+pub mod Life
+pub mod Reading
+pub mod Chain
+pub mod Verdicts
+pub mod History
+pub mod Lawful
+pub mod Headline
+pub mod Transcript
+pub mod Kept
+pub mod WorkedRows
+pub mod VerdictRows
+pub mod MarketRows

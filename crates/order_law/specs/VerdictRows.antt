@@ -1,0 +1,95 @@
+-- Each row of the tables of verdicts, where it alone holds, computed.
+use Rattle.std.specs.Prelude.{◌≡◌, ℕ, List, [], ◌∷◌, codes, refl, Some, None}
+use Rattle.std.specs.Fmt.{digits}
+use Rattle.fixed_point.specs.Decimal.{price, quantity, amount, amount_of, within, scaled, fraction, worth, worth_of}
+use Rattle.tokens.specs.TokenText.{last_digits}
+use Rattle.order_law.specs.Messages.{Message}
+use Rattle.order_law.specs.Verdicts.{Port, Up, Down, Ended, Faulted, Verdict, Accepted, Refused, verdict_of_new, verdict_of_request, Named, open_orders}
+use Rattle.order_law.specs.Reading.{unread}
+use Rattle.order_law.specs.Chain.{unchained}
+use Rattle.order_law.specs.History.{History, issued, accepted, verdict}
+use Rattle.order_law.specs.Transcript.{terms, message, asked, heard, enter_message, replace_message, cancel_message, accepted_message, executed_message}
+use Rattle.order_law.specs.WorkedRows.{entered_and_accepted, filled, cancelled_across_a_replace, replace_rejected, replaced_after_a_trade}
+
+-- the verdict of a new order with its port up
+abbrev of_new : List ℕ → Verdict
+of_new text = verdict_of_new [] Up 0 (message text)
+
+abbrev usual : List ℕ
+usual = codes "35=D|11=B1|54=1|55=INTC|38=300|40=2|44=23.45"
+
+-- new orders
+of_new_orders :
+    (of_new usual ≡ Accepted)
+    × (verdict_of_new [] Down 0 (message usual) ≡ Accepted)  -- it is sent once the port is up
+    × (verdict_of_new (message (codes "35=8|11=B1") ∷ []) Up 0 (message usual) ≡ Refused 6 (codes "duplicate ClOrdID"))  -- of a report
+    × (verdict_of_new (message (codes "35=9|11=B1") ∷ []) Up 0 (message usual) ≡ Refused 6 (codes "duplicate ClOrdID"))  -- of a reject
+    × (verdict_of_new [] Ended 0 (message usual) ≡ Refused 2 (codes "market session ended"))
+    × (verdict_of_new [] (Faulted 3) 0 (message usual) ≡ Refused 2 (codes "port fault 3"))
+    × (of_new (codes "35=D|11=B1|54=3|55=INTC|38=300|40=2|44=23.45") ≡ Refused 11 (codes "side"))
+    × (of_new (codes "35=D|11=B1|54=1|55=NINEBYTES|38=300|40=2|44=23.45") ≡ Refused 1 (codes "symbol"))  -- nine bytes
+    × (of_new (codes "35=D|11=B1|54=1|55=|38=300|40=2|44=23.45") ≡ Refused 1 (codes "symbol"))  -- none
+    × (of_new (codes "35=D|11=B1|54=1|55=IN TC|38=300|40=2|44=23.45") ≡ Refused 1 (codes "symbol"))  -- a space
+    × (of_new (codes "35=D|11=B1|54=1|55=INTC|38=300|40=1|44=23.45") ≡ Refused 11 (codes "order type"))
+    × (of_new (codes "35=D|11=B1|54=1|55=INTC|38=300|40=2|44=23.45|59=1") ≡ Refused 11 (codes "time in force"))
+    × (of_new (codes "35=D|11=B1|54=1|55=INTC|38=300|40=2|44=23.45|18=5") ≡ Refused 11 (codes "execution instruction"))
+    × (of_new (codes "35=D|11=B1|54=1|55=INTC|38=300|40=2|44=23.45|528=B") ≡ Refused 11 (codes "capacity"))
+    × (of_new (codes "35=D|11=B1|54=1|55=INTC|38=300.5|40=2|44=23.45") ≡ Refused 13 (codes "quantity"))  -- not exact
+    × (of_new (codes "35=D|11=B1|54=1|55=INTC|38=1000000|40=2|44=23.45") ≡ Refused 13 (codes "quantity"))  -- out of range
+    × (of_new (codes "35=D|11=B1|54=1|55=INTC|38=300|40=2|44=23.45|110=301") ≡ Refused 13 (codes "minimum quantity"))  -- above the total
+    × (of_new (codes "35=D|11=B1|54=1|55=INTC|38=300|40=2|44=23.45|110=0.5") ≡ Refused 13 (codes "minimum quantity"))  -- not exact
+    × (of_new (codes "35=D|11=B1|54=1|55=INTC|38=300|40=2|44=23.45|110=300") ≡ Accepted)  -- all of it
+    × (of_new (codes "35=D|11=B1|54=1|55=INTC|38=300|40=2") ≡ Refused 99 (codes "price missing"))
+    × (of_new (codes "35=D|11=B1|54=1|55=INTC|38=300|40=2|44=23.45001") ≡ Refused 99 (codes "price not in 1/10000"))
+    × (of_new (codes "35=D|11=B1|54=1|55=INTC|38=300|40=2|44=0") ≡ Refused 99 (codes "price out of range"))
+    × (of_new (codes "35=D|11=B1|54=3|55=IN TC|38=300|40=2|44=23.45") ≡ Refused 11 (codes "side"))  -- the earlier row
+    × (of_new (codes "35=D|11=B1|54=1|55=INTC|38=0|40=2|44=23.45|18=5|528=B") ≡ Refused 11 (codes "execution instruction"))  -- the earlier row
+    × (verdict_of_new [] Up 9999999999999 (message usual) ≡ Refused 99 (codes "no token left"))
+unfolding digits price quantity amount amount_of within scaled fraction worth worth_of last_digits
+of_new_orders = (refl, refl, refl, refl, refl, refl, refl, refl, refl, refl, refl, refl, refl, refl, refl, refl, refl, refl, refl, refl, refl, refl, refl, refl, refl)
+
+-- the orders that count for the limit of open ones
+of_open_orders :
+    (open_orders (issued 1 entered_and_accepted) ≡ 1)  -- it is open
+    × (open_orders (issued 1 filled) ≡ 0)  -- it is closed
+unfolding digits price quantity amount amount_of within scaled fraction worth worth_of last_digits
+of_open_orders = (refl, refl)
+
+-- the verdict of a cancel or replace of client 1 after a history, with its port up
+abbrev of_request : History → List ℕ → Verdict
+of_request h text = verdict terms (issued 1 h) (accepted terms h) Up (message text)
+
+-- an order with so many replaces behind it
+abbrev replaced_often : ℕ → Named
+replaced_often n = record { side = codes "1"; symbol = codes "INTC"; capacity = 65; reading = unread; chain = unchained; replaces = n }
+
+-- cancels and replaces. That a total has to be above what is executed stands in `WorkedRows.antt`.
+of_requests :
+    (of_request entered_and_accepted (codes "35=F|41=A1|11=B2") ≡ Accepted)
+    × (of_request entered_and_accepted (codes "35=G|41=A1|11=B2|38=400|40=2|44=23.45") ≡ Accepted)
+    × (of_request entered_and_accepted (codes "35=F|41=A1|11=A1") ≡ Refused 6 (codes "duplicate ClOrdID"))
+    × (of_request entered_and_accepted (codes "35=F|41=Q|11=B2") ≡ Refused 1 (codes "unknown order"))
+    × (of_request filled (codes "35=F|41=A1|11=B2") ≡ Refused 0 (codes "too late"))
+    × (verdict terms (issued 1 entered_and_accepted) (accepted terms entered_and_accepted) Ended (message (codes "35=G|41=A1|11=B2|38=400|40=2|44=23.45")) ≡ Refused 2 (codes "market session ended"))
+    × (verdict terms (issued 1 entered_and_accepted) (accepted terms entered_and_accepted) (Faulted 1) (message (codes "35=G|41=A1|11=B2|38=400|40=2|44=23.45")) ≡ Refused 2 (codes "port fault 1"))
+    × (of_request cancelled_across_a_replace (codes "35=F|41=A1|11=B2") ≡ Refused 3 (codes "already pending"))  -- a cancel for a cancel
+    × (of_request cancelled_across_a_replace (codes "35=G|41=A3|11=B2|38=400|40=2|44=23.45") ≡ Refused 3 (codes "already pending"))  -- a replace for either; named by the cancel's id
+    × (of_request entered_and_accepted (codes "35=G|41=A1|11=B2|38=400|40=2|44=23.45|54=2") ≡ Refused 99 (codes "side, symbol or capacity"))
+    × (of_request entered_and_accepted (codes "35=G|41=A1|11=B2|38=400|40=2|44=23.45|55=MSFT") ≡ Refused 99 (codes "side, symbol or capacity"))
+    × (of_request entered_and_accepted (codes "35=G|41=A1|11=B2|38=400|40=2|44=23.45|528=A") ≡ Refused 99 (codes "side, symbol or capacity"))  -- the order has P
+    × (of_request entered_and_accepted (codes "35=G|41=A1|11=B2|38=400|40=2|44=23.45|54=1|55=INTC|528=P") ≡ Accepted)  -- as the order has them
+    × (of_request entered_and_accepted (codes "35=G|41=A1|11=B2|38=400|40=1|44=23.45") ≡ Refused 99 (codes "order type"))
+    × (of_request entered_and_accepted (codes "35=G|41=A1|11=B2|38=400|40=2|44=23.45|59=1") ≡ Refused 99 (codes "time in force"))
+    × (of_request entered_and_accepted (codes "35=G|41=A1|11=B2|38=400|40=2|44=23.45|18=5") ≡ Refused 99 (codes "execution instruction"))
+    × (of_request entered_and_accepted (codes "35=G|41=A1|11=B2|38=0|40=2|44=23.45") ≡ Refused 99 (codes "quantity"))
+    × (of_request entered_and_accepted (codes "35=G|41=A1|11=B2|38=400|40=2|44=23.45|110=401") ≡ Refused 99 (codes "minimum quantity"))
+    × (of_request entered_and_accepted (codes "35=G|41=A1|11=B2|38=400|40=2") ≡ Refused 99 (codes "price missing"))
+    × (of_request entered_and_accepted (codes "35=G|41=A1|11=B2|38=400|40=2|44=0.00001") ≡ Refused 99 (codes "price not in 1/10000"))
+    × (of_request entered_and_accepted (codes "35=G|41=A1|11=B2|38=400|40=2|44=200000") ≡ Refused 99 (codes "price out of range"))
+    × (of_request replaced_after_a_trade (codes "35=F|41=A1|11=B2") ≡ Refused 1 (codes "unknown order"))  -- an id that was replaced names none
+    × (verdict_of_request [] (Some (replaced_often 65534)) Up 0 (message (codes "35=G|41=A1|11=B2|38=400|40=2|44=23.45")) ≡ Accepted)  -- one is left
+    × (verdict_of_request [] (Some (replaced_often 65535)) Up 0 (message (codes "35=G|41=A1|11=B2|38=400|40=2|44=23.45")) ≡ Refused 2 (codes "replace limit"))
+    × (verdict_of_request [] (Some (replaced_often 0)) Up 9999999999999 (message (codes "35=G|41=A1|11=B2|38=400|40=2|44=23.45")) ≡ Refused 2 (codes "no token left"))
+    × (verdict_of_request [] (Some (replaced_often 0)) Up 9999999999999 (message (codes "35=F|41=A1|11=B2")) ≡ Accepted)  -- a cancel needs none
+unfolding digits price quantity amount amount_of within scaled fraction worth worth_of last_digits
+of_requests = (refl, refl, refl, refl, refl, refl, refl, refl, refl, refl, refl, refl, refl, refl, refl, refl, refl, refl, refl, refl, refl, refl, refl, refl, refl, refl)
