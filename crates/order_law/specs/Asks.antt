@@ -1,10 +1,9 @@
 -- What a FIX message asks, and what an OUCH message asks. The first never looks at bytes, the second never at tags.
 use Rattle.std.specs.Result.{result_unwrap_or}
-use Rattle.std.specs.Prelude.{ℕ, Bool, List, length, Option, Some, None, option_map, if◌then◌else◌, ◌==◌, ◌&&◌, bytes_eq, codes, slice_index}
+use Rattle.std.specs.Prelude.{ℕ, Bool, List, Option, Some, None, option_map, if◌then◌else◌, ◌==◌, ◌&&◌, bytes_eq, codes, slice_index}
 use Rattle.fixed_point.specs.Decimal.{price, quantity}
 use Rattle.ouch_codec.specs.Layout.{is_message}
 use Rattle.ouch_codec.specs.Layouts.{enter_order, replace, cancel}
-use Rattle.ouch_codec.specs.Parts.{type_of}
 use Rattle.ouch_codec.specs.ToMarket as said
 use Rattle.order_law.specs.Messages.{Message, has, text, is, character}
 

@@ -2,8 +2,8 @@
 -- Request", ClOrdID chaining.)
 use Rattle.std.specs.Prelude.{ℕ, Bool, true, false, not, ◌&&◌, ◌||◌, List, [], ◌∷◌, ◌++◌, map, Option, if◌then◌else◌, bytes_eq, codes, filter}
 use Rattle.std.specs.List.{find, list_any}
-use Rattle.order_law.specs.Messages.{Message, text, is, is_one_of}
-use Rattle.order_law.specs.Reading.{is_report, is_report_on}
+use Rattle.order_law.specs.Messages.{Message, text, is}
+use Rattle.order_law.specs.Reading.{is_report}
 
 -- an accepted request that isn't answered: its ClOrdID, and whether it is a replace
 pub record Request : Type 0 where

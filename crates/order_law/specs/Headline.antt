@@ -1,6 +1,6 @@
 -- What each turn of the order level promises, and the headline: that every turn of a history keeps it.
-use Rattle.std.specs.Prelude.{◌≡◌, ℕ, ◌+◌, ◌/◌, ◌==◌, Bool, true, false, not, ◌&&◌, ◌||◌, List, [], ◌∷◌, filter, Option, Some, None, if◌then◌else◌, bytes_eq, codes, decimal, is_some, option_map, unwrap_or}
-use Rattle.std.specs.List.{list_any, find}
+use Rattle.std.specs.Prelude.{◌≡◌, ℕ, ◌+◌, ◌/◌, ◌==◌, Bool, true, false, not, ◌&&◌, ◌||◌, List, [], ◌∷◌, filter, Option, None, if◌then◌else◌, bytes_eq, codes, decimal, is_some, option_map, unwrap_or}
+use Rattle.std.specs.List.{list_any}
 use Rattle.std.specs.Str.Parse.{digits_value}
 use Rattle.ouch_codec.specs.ToMarket as said
 use Rattle.order_law.specs.Messages.{Message, text, number, is, is_one_of, has}
@@ -237,10 +237,10 @@ order_number terms port entries token = option_map (λ (e : Entry). digits_value
 pub record AnswersClient (terms : List Terms) (client : ℕ) (m : Message) (port : Port) (t : Turn) (before : History) : Type 0 where
   pub replies : RepliesTo (issued client before) m (verdict terms (issued client before) (accepted terms before) port m) t.bodies
   pub sends :
-    Sends port
-    (Says (terms_of terms client).standing (order_number terms (terms_of terms client).port (accepted terms (t ∷ before))))
-    (asks_of terms (terms_of terms client).port (entry_at terms (Came client m port) before) (accepted terms before) (issued client before) (handled (terms_of terms client).port before))
-    t.sends
+      Sends port
+      (Says (terms_of terms client).standing (order_number terms (terms_of terms client).port (accepted terms (t ∷ before))))
+      (asks_of terms (terms_of terms client).port (entry_at terms (Came client m port) before) (accepted terms before) (issued client before) (handled (terms_of terms client).port before))
+      t.sends
   pub fault : t.fault ≡ None
   pub addressee : t.client ≡ client
 

@@ -1,11 +1,11 @@
 -- The promises of the headline on a history that is written down, as equations that can be computed.
-use Rattle.std.specs.Prelude.{◌≡◌, ℕ, Bool, not, ◌==◌, List, [], ◌∷◌, ◌++◌, map, filter, Option, Some, None, if◌then◌else◌, codes, is_some, option_to_list}
+use Rattle.std.specs.Prelude.{◌≡◌, ℕ, Bool, List, [], ◌∷◌, ◌++◌, map, filter, Option, None, if◌then◌else◌, codes}
 use Rattle.std.specs.List.{flat_map}
 use Rattle.order_law.specs.Messages.{Message, text, number, is}
 use Rattle.order_law.specs.Asks.{Ask, ask_of_bytes}
 use Rattle.order_law.specs.Life.{Life, is_closed}
 use Rattle.order_law.specs.Reading.{Reading, reading, is_report_on}
-use Rattle.order_law.specs.Verdicts.{Verdict, Accepted, Refused, Port, Up, Down, Ended, Faulted}
+use Rattle.order_law.specs.Verdicts.{Verdict, Accepted, Refused, Up, Down, Ended, Faulted}
 use Rattle.order_law.specs.Chain.{chain, has_pending_cancel, has_pending_replace}
 use Rattle.order_law.specs.Lawful.{judgement}
 use Rattle.order_law.specs.History.{Terms, terms_of, Event, Came, Heard, Turn, History, Entry, Asked, issued, handled, accepted, verdict, entry_at, asks_of, is_new_order, outstanding}

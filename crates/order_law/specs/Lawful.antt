@@ -100,7 +100,7 @@ judgement terms port m before =
     by_order None = Some token_fault
     by_order (Some new) =
         if row_holds m (life_of new.order (accepted terms before) (handled port before)) new
-            (pending_tokens new.client (chain new.order (issued new.client before)) (accepted terms before))
+        (pending_tokens new.client (chain new.order (issued new.client before)) (accepted terms before))
         then None else Some row_fault
 
     by_tokens : Option ℕ

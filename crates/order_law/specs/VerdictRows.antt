@@ -1,15 +1,14 @@
 -- Each row of the tables of verdicts, where it alone holds, computed.
-use Rattle.std.specs.Prelude.{◌≡◌, ℕ, List, [], ◌∷◌, codes, refl, Some, None}
+use Rattle.std.specs.Prelude.{◌≡◌, ℕ, List, [], ◌∷◌, codes, refl, Some}
 use Rattle.std.specs.Fmt.{digits}
 use Rattle.fixed_point.specs.Decimal.{price, quantity, amount, amount_of, within, scaled, fraction, worth, worth_of}
 use Rattle.tokens.specs.TokenText.{last_digits}
-use Rattle.order_law.specs.Messages.{Message}
-use Rattle.order_law.specs.Verdicts.{Port, Up, Down, Ended, Faulted, Verdict, Accepted, Refused, verdict_of_new, verdict_of_request, Named, open_orders}
+use Rattle.order_law.specs.Verdicts.{Up, Down, Ended, Faulted, Verdict, Accepted, Refused, verdict_of_new, verdict_of_request, Named, open_orders}
 use Rattle.order_law.specs.Reading.{unread}
 use Rattle.order_law.specs.Chain.{unchained}
 use Rattle.order_law.specs.History.{History, issued, accepted, verdict}
-use Rattle.order_law.specs.Transcript.{terms, message, asked, heard, enter_message, replace_message, cancel_message, accepted_message, executed_message}
-use Rattle.order_law.specs.WorkedRows.{entered_and_accepted, filled, cancelled_across_a_replace, replace_rejected, replaced_after_a_trade}
+use Rattle.order_law.specs.Transcript.{terms, message}
+use Rattle.order_law.specs.WorkedRows.{entered_and_accepted, filled, cancelled_across_a_replace, replaced_after_a_trade}
 
 -- the verdict of a new order with its port up
 abbrev of_new : List ℕ → Verdict

@@ -1,9 +1,8 @@
 -- The verdict of a new order, cancel or replace: the first row of its table that holds.
 -- (FIX 4.4 Volume 4, "New Order - Single", "Order Cancel Request", "Order Cancel/Replace Request"; codes are those of
 -- OrdRejReason (103) and CxlRejReason (102) in Volume 6.)
-use Rattle.std.specs.Result.{result_unwrap_or}
-use Rattle.std.specs.Prelude.{ℕ, Bool, true, false, not, ◌&&◌, ◌||◌, nat_le, List, [], ◌∷◌, ◌++◌, length, Option, Some, None, Result, Ok, Err, if◌then◌else◌, codes, filter, decimal, is_ok, is_some}
-use Rattle.std.specs.List.{list_any, list_all}
+use Rattle.std.specs.Prelude.{ℕ, Bool, true, false, not, ◌&&◌, ◌||◌, nat_le, List, [], ◌∷◌, ◌++◌, length, Option, Some, None, Result, Ok, Err, if◌then◌else◌, codes, filter, decimal, is_ok}
+use Rattle.std.specs.List.{list_all}
 use Rattle.wire_law.specs.Printable.{is_visible}
 use Rattle.fixed_point.specs.Decimal.{price, quantity}
 use Rattle.fixed_point.specs.declared.refusal.DecimalRefusal.{DecimalRefusal}

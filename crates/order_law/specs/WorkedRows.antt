@@ -1,5 +1,5 @@
 -- The worked exchanges of docs/RULES.md, each with the promises of the headline, computed. The newest turn is first.
-use Rattle.std.specs.Prelude.{◌≡◌, ℕ, List, [], ◌∷◌, ◌++◌, map, codes, refl, Some, None}
+use Rattle.std.specs.Prelude.{[], ◌∷◌, codes, refl}
 use Rattle.std.specs.Fmt.{digits}
 use Rattle.fixed_point.specs.Decimal.{price, quantity, amount, amount_of, within, scaled, fraction, worth, worth_of}
 use Rattle.tokens.specs.TokenText.{last_digits}
@@ -11,16 +11,16 @@ use Rattle.order_law.specs.Kept.{Keeps}
 abbrev pub only_entered : History
 only_entered =
     asked (codes "35=D|11=A1|54=1|55=INTC|38=300|40=2|44=23.45|59=0|528=P")
-        (codes "35=8|37=1|11=A1|17=1|150=A|39=A|55=INTC|54=1|38=300|44=23.45|151=300|14=0|6=0")
-        (enter_message 1 300 ∷ [])
+    (codes "35=8|37=1|11=A1|17=1|150=A|39=A|55=INTC|54=1|38=300|44=23.45|151=300|14=0|6=0")
+    (enter_message 1 300 ∷ [])
     ∷ []
 
 -- an order of 300 at 23.45, entered and accepted
 abbrev pub entered_and_accepted : History
 entered_and_accepted =
     heard (accepted_message 1 300 (codes "INTC    ") (codes "L"))
-        (message (codes "35=8|37=1|11=A1|17=2|150=0|39=0|55=INTC|54=1|38=300|44=23.45|151=300|14=0|6=0")
-        ∷ [])
+    (message (codes "35=8|37=1|11=A1|17=2|150=0|39=0|55=INTC|54=1|38=300|44=23.45|151=300|14=0|6=0")
+    ∷ [])
     ∷ only_entered
 
 entered_and_accepted_keeps : Keeps terms entered_and_accepted
@@ -31,19 +31,19 @@ entered_and_accepted_keeps = record { replies_are_verdicts = refl; faults_are_ju
 abbrev pub replace_pending : History
 replace_pending =
     asked (codes "35=G|41=A1|11=A2|38=500|40=2|44=23.45")
-        (codes "35=8|37=1|11=A2|41=A1|17=3|150=E|39=E|55=INTC|54=1|38=300|44=23.45|151=300|14=0|6=0")
-        (replace_message 1 2 500 ∷ [])
+    (codes "35=8|37=1|11=A2|41=A1|17=3|150=E|39=E|55=INTC|54=1|38=300|44=23.45|151=300|14=0|6=0")
+    (replace_message 1 2 500 ∷ [])
     ∷ entered_and_accepted
 
 -- two trades fill it
 abbrev pub filled : History
 filled =
     heard (executed_message 1 200 234400 8)
-        (message (codes "35=8|37=1|11=A1|17=4|150=F|39=2|55=INTC|54=1|38=300|44=23.45|32=200|31=23.44|151=0|14=300|6=23.4433")
-        ∷ [])
+    (message (codes "35=8|37=1|11=A1|17=4|150=F|39=2|55=INTC|54=1|38=300|44=23.45|32=200|31=23.44|151=0|14=300|6=23.4433")
+    ∷ [])
     ∷ heard (executed_message 1 100 234500 7)
-        (message (codes "35=8|37=1|11=A1|17=3|150=F|39=1|55=INTC|54=1|38=300|44=23.45|32=100|31=23.45|151=200|14=100|6=23.45")
-        ∷ [])
+    (message (codes "35=8|37=1|11=A1|17=3|150=F|39=1|55=INTC|54=1|38=300|44=23.45|32=100|31=23.45|151=200|14=100|6=23.45")
+    ∷ [])
     ∷ entered_and_accepted
 
 filled_keeps : Keeps terms filled
@@ -54,12 +54,12 @@ filled_keeps = record { replies_are_verdicts = refl; faults_are_judged = refl; a
 abbrev pub filled_while_cancel_pending : History
 filled_while_cancel_pending =
     heard (executed_message 1 300 234500 7)
-        (message (codes "35=8|37=1|11=A1|17=4|150=F|39=6|55=INTC|54=1|38=300|44=23.45|32=300|31=23.45|151=0|14=300|6=23.45")
-        ∷ message (codes "35=9|37=1|11=A2|41=A1|39=2|434=1|102=0|58=too late")
-        ∷ [])
+    (message (codes "35=8|37=1|11=A1|17=4|150=F|39=6|55=INTC|54=1|38=300|44=23.45|32=300|31=23.45|151=0|14=300|6=23.45")
+    ∷ message (codes "35=9|37=1|11=A2|41=A1|39=2|434=1|102=0|58=too late")
+    ∷ [])
     ∷ asked (codes "35=F|41=A1|11=A2")
-        (codes "35=8|37=1|11=A2|41=A1|17=3|150=6|39=6|55=INTC|54=1|38=300|44=23.45|151=300|14=0|6=0")
-        (cancel_message 1 ∷ [])
+    (codes "35=8|37=1|11=A2|41=A1|17=3|150=6|39=6|55=INTC|54=1|38=300|44=23.45|151=300|14=0|6=0")
+    (cancel_message 1 ∷ [])
     ∷ entered_and_accepted
 
 filled_while_cancel_pending_keeps : Keeps terms filled_while_cancel_pending
@@ -70,17 +70,17 @@ filled_while_cancel_pending_keeps = record { replies_are_verdicts = refl; faults
 abbrev pub replaced_after_a_trade : History
 replaced_after_a_trade =
     asked (codes "35=G|41=A2|11=A4|38=101|40=2|44=23.45")
-        (codes "35=8|37=1|11=A4|41=A2|17=6|150=E|39=E|55=INTC|54=1|38=500|44=23.45|151=400|14=100|6=23.45")
-        (replace_message 2 3 101 ∷ [])
+    (codes "35=8|37=1|11=A4|41=A2|17=6|150=E|39=E|55=INTC|54=1|38=500|44=23.45|151=400|14=100|6=23.45")
+    (replace_message 2 3 101 ∷ [])
     ∷ asked (codes "35=G|41=A2|11=A3|38=100|40=2|44=23.45")
-        (codes "35=9|37=1|11=A3|41=A2|39=1|434=2|102=99|58=total not above executed")
-        ([])
+    (codes "35=9|37=1|11=A3|41=A2|39=1|434=2|102=99|58=total not above executed")
+    ([])
     ∷ heard (replaced_message 2 1 400 (codes "L"))
-        (message (codes "35=8|37=1|11=A2|41=A1|17=5|150=5|39=1|55=INTC|54=1|38=500|44=23.45|151=400|14=100|6=23.45")
-        ∷ [])
+    (message (codes "35=8|37=1|11=A2|41=A1|17=5|150=5|39=1|55=INTC|54=1|38=500|44=23.45|151=400|14=100|6=23.45")
+    ∷ [])
     ∷ heard (executed_message 1 100 234500 7)
-        (message (codes "35=8|37=1|11=A1|17=4|150=F|39=E|55=INTC|54=1|38=300|44=23.45|32=100|31=23.45|151=200|14=100|6=23.45")
-        ∷ [])
+    (message (codes "35=8|37=1|11=A1|17=4|150=F|39=E|55=INTC|54=1|38=300|44=23.45|32=100|31=23.45|151=200|14=100|6=23.45")
+    ∷ [])
     ∷ replace_pending
 
 replaced_after_a_trade_keeps : Keeps terms replaced_after_a_trade
@@ -91,8 +91,8 @@ replaced_after_a_trade_keeps = record { replies_are_verdicts = refl; faults_are_
 abbrev pub cancelled_across_a_replace : History
 cancelled_across_a_replace =
     asked (codes "35=F|41=A2|11=A3")
-        (codes "35=8|37=1|11=A3|41=A2|17=4|150=6|39=6|55=INTC|54=1|38=300|44=23.45|151=300|14=0|6=0")
-        (cancel_message 1 ∷ cancel_message 2 ∷ [])
+    (codes "35=8|37=1|11=A3|41=A2|17=4|150=6|39=6|55=INTC|54=1|38=300|44=23.45|151=300|14=0|6=0")
+    (cancel_message 1 ∷ cancel_message 2 ∷ [])
     ∷ replace_pending
 
 cancelled_across_a_replace_keeps : Keeps terms cancelled_across_a_replace
@@ -103,11 +103,11 @@ cancelled_across_a_replace_keeps = record { replies_are_verdicts = refl; faults_
 abbrev pub cancelled_after_it_is_replaced : History
 cancelled_after_it_is_replaced =
     heard (canceled_message 2 500 (codes "U"))
-        (message (codes "35=8|37=1|11=A3|41=A2|17=6|150=4|39=4|55=INTC|54=1|38=500|44=23.45|151=0|14=0|6=0|58=U")
-        ∷ [])
+    (message (codes "35=8|37=1|11=A3|41=A2|17=6|150=4|39=4|55=INTC|54=1|38=500|44=23.45|151=0|14=0|6=0|58=U")
+    ∷ [])
     ∷ heard (replaced_message 2 1 500 (codes "L"))
-        (message (codes "35=8|37=1|11=A2|41=A1|17=5|150=5|39=6|55=INTC|54=1|38=500|44=23.45|151=500|14=0|6=0")
-        ∷ [])
+    (message (codes "35=8|37=1|11=A2|41=A1|17=5|150=5|39=6|55=INTC|54=1|38=500|44=23.45|151=500|14=0|6=0")
+    ∷ [])
     ∷ cancelled_across_a_replace
 
 cancelled_after_it_is_replaced_keeps : Keeps terms cancelled_after_it_is_replaced
@@ -118,10 +118,10 @@ cancelled_after_it_is_replaced_keeps = record { replies_are_verdicts = refl; fau
 abbrev pub filled_across_replace_and_cancel : History
 filled_across_replace_and_cancel =
     heard (executed_message 1 300 234500 7)
-        (message (codes "35=8|37=1|11=A1|17=5|150=F|39=6|55=INTC|54=1|38=300|44=23.45|32=300|31=23.45|151=0|14=300|6=23.45")
-        ∷ message (codes "35=9|37=1|11=A2|41=A1|39=6|434=2|102=0|58=too late")
-        ∷ message (codes "35=9|37=1|11=A3|41=A2|39=2|434=1|102=0|58=too late")
-        ∷ [])
+    (message (codes "35=8|37=1|11=A1|17=5|150=F|39=6|55=INTC|54=1|38=300|44=23.45|32=300|31=23.45|151=0|14=300|6=23.45")
+    ∷ message (codes "35=9|37=1|11=A2|41=A1|39=6|434=2|102=0|58=too late")
+    ∷ message (codes "35=9|37=1|11=A3|41=A2|39=2|434=1|102=0|58=too late")
+    ∷ [])
     ∷ cancelled_across_a_replace
 
 filled_across_replace_and_cancel_keeps : Keeps terms filled_across_replace_and_cancel
@@ -132,9 +132,9 @@ filled_across_replace_and_cancel_keeps = record { replies_are_verdicts = refl; f
 abbrev pub closed_by_the_market : History
 closed_by_the_market =
     heard (canceled_message 1 300 (codes "Z"))
-        (message (codes "35=8|37=1|11=A1|17=4|150=4|39=E|55=INTC|54=1|38=300|44=23.45|151=0|14=0|6=0|58=Z")
-        ∷ message (codes "35=9|37=1|11=A2|41=A1|39=4|434=2|102=0|58=too late")
-        ∷ [])
+    (message (codes "35=8|37=1|11=A1|17=4|150=4|39=E|55=INTC|54=1|38=300|44=23.45|151=0|14=0|6=0|58=Z")
+    ∷ message (codes "35=9|37=1|11=A2|41=A1|39=4|434=2|102=0|58=too late")
+    ∷ [])
     ∷ replace_pending
 
 closed_by_the_market_keeps : Keeps terms closed_by_the_market
@@ -145,8 +145,8 @@ closed_by_the_market_keeps = record { replies_are_verdicts = refl; faults_are_ju
 abbrev pub replace_rejected : History
 replace_rejected =
     heard (rejected_message 2 (codes "X"))
-        (message (codes "35=9|37=1|11=A2|41=A1|39=0|434=2|102=2|58=X")
-        ∷ [])
+    (message (codes "35=9|37=1|11=A2|41=A1|39=0|434=2|102=2|58=X")
+    ∷ [])
     ∷ replace_pending
 
 replace_rejected_keeps : Keeps terms replace_rejected
@@ -157,11 +157,11 @@ replace_rejected_keeps = record { replies_are_verdicts = refl; faults_are_judged
 abbrev pub asked_twice : History
 asked_twice =
     heard (canceled_message 1 100 (codes "T"))
-        (message (codes "35=8|37=1|11=A1|17=4|150=D|39=0|378=5|55=INTC|54=1|38=200|44=23.45|151=200|14=0|6=0|58=T")
-        ∷ [])
+    (message (codes "35=8|37=1|11=A1|17=4|150=D|39=0|378=5|55=INTC|54=1|38=200|44=23.45|151=200|14=0|6=0|58=T")
+    ∷ [])
     ∷ asked (codes "35=D|11=A1|54=1|55=INTC|38=300|40=2|44=23.45|59=0|528=P")
-        (codes "35=8|37=2|11=A1|17=3|150=8|39=8|103=6|55=INTC|54=1|38=300|44=23.45|151=0|14=0|6=0|58=duplicate ClOrdID")
-        ([])
+    (codes "35=8|37=2|11=A1|17=3|150=8|39=8|103=6|55=INTC|54=1|38=300|44=23.45|151=0|14=0|6=0|58=duplicate ClOrdID")
+    ([])
     ∷ entered_and_accepted
 
 asked_twice_keeps : Keeps terms asked_twice
@@ -173,8 +173,8 @@ abbrev pub broken_after_it_is_filled : History
 broken_after_it_is_filled =
     faulted (broken_message 1 7 (codes "E")) 3
     ∷ heard (broken_message 1 7 (codes "E"))
-        (message (codes "35=8|37=1|11=A1|17=5|19=3|150=H|39=4|55=INTC|54=1|38=300|44=23.45|151=0|14=200|6=23.44|58=E")
-        ∷ [])
+    (message (codes "35=8|37=1|11=A1|17=5|19=3|150=H|39=4|55=INTC|54=1|38=300|44=23.45|151=0|14=200|6=23.44|58=E")
+    ∷ [])
     ∷ filled
 
 broken_after_it_is_filled_keeps : Keeps terms broken_after_it_is_filled
@@ -185,9 +185,9 @@ broken_after_it_is_filled_keeps = record { replies_are_verdicts = refl; faults_a
 abbrev pub dead_as_it_is_accepted : History
 dead_as_it_is_accepted =
     heard (accepted_message 1 300 (codes "INTC    ") (codes "D"))
-        (message (codes "35=8|37=1|11=A1|17=2|150=0|39=0|55=INTC|54=1|38=300|44=23.45|151=300|14=0|6=0")
-        ∷ message (codes "35=8|37=1|11=A1|17=3|150=4|39=4|55=INTC|54=1|38=300|44=23.45|151=0|14=0|6=0")
-        ∷ [])
+    (message (codes "35=8|37=1|11=A1|17=2|150=0|39=0|55=INTC|54=1|38=300|44=23.45|151=300|14=0|6=0")
+    ∷ message (codes "35=8|37=1|11=A1|17=3|150=4|39=4|55=INTC|54=1|38=300|44=23.45|151=0|14=0|6=0")
+    ∷ [])
     ∷ only_entered
 
 dead_as_it_is_accepted_keeps : Keeps terms dead_as_it_is_accepted
@@ -198,12 +198,12 @@ dead_as_it_is_accepted_keeps = record { replies_are_verdicts = refl; faults_are_
 abbrev pub rejected_while_cancel_pending : History
 rejected_while_cancel_pending =
     heard (rejected_message 1 (codes "T"))
-        (message (codes "35=8|37=1|11=A1|17=3|150=8|39=8|103=99|55=INTC|54=1|38=300|44=23.45|151=0|14=0|6=0|58=T")
-        ∷ message (codes "35=9|37=1|11=A2|41=A1|39=8|434=1|102=0|58=too late")
-        ∷ [])
+    (message (codes "35=8|37=1|11=A1|17=3|150=8|39=8|103=99|55=INTC|54=1|38=300|44=23.45|151=0|14=0|6=0|58=T")
+    ∷ message (codes "35=9|37=1|11=A2|41=A1|39=8|434=1|102=0|58=too late")
+    ∷ [])
     ∷ asked (codes "35=F|41=A1|11=A2")
-        (codes "35=8|37=1|11=A2|41=A1|17=2|150=6|39=6|55=INTC|54=1|38=300|44=23.45|151=300|14=0|6=0")
-        (cancel_message 1 ∷ [])
+    (codes "35=8|37=1|11=A2|41=A1|17=2|150=6|39=6|55=INTC|54=1|38=300|44=23.45|151=300|14=0|6=0")
+    (cancel_message 1 ∷ [])
     ∷ only_entered
 
 rejected_while_cancel_pending_keeps : Keeps terms rejected_while_cancel_pending
@@ -214,8 +214,8 @@ rejected_while_cancel_pending_keeps = record { replies_are_verdicts = refl; faul
 abbrev pub no_order_of_that_name : History
 no_order_of_that_name =
     asked (codes "35=F|41=Q|11=A9")
-        (codes "35=9|37=NONE|11=A9|41=Q|39=8|434=1|102=1|58=unknown order")
-        ([])
+    (codes "35=9|37=NONE|11=A9|41=Q|39=8|434=1|102=1|58=unknown order")
+    ([])
     ∷ []
 
 no_order_of_that_name_keeps : Keeps terms no_order_of_that_name
@@ -246,11 +246,11 @@ executed_too_much_keeps = record { replies_are_verdicts = refl; faults_are_judge
 abbrev pub cancel_rejected : History
 cancel_rejected =
     heard (cancel_reject_message 1)
-        (message (codes "35=9|37=1|11=A2|41=A1|39=0|434=1|102=2|58=cancel rejected by market")
-        ∷ [])
+    (message (codes "35=9|37=1|11=A2|41=A1|39=0|434=1|102=2|58=cancel rejected by market")
+    ∷ [])
     ∷ asked (codes "35=F|41=A1|11=A2")
-        (codes "35=8|37=1|11=A2|41=A1|17=3|150=6|39=6|55=INTC|54=1|38=300|44=23.45|151=300|14=0|6=0")
-        (cancel_message 1 ∷ [])
+    (codes "35=8|37=1|11=A2|41=A1|17=3|150=6|39=6|55=INTC|54=1|38=300|44=23.45|151=300|14=0|6=0")
+    (cancel_message 1 ∷ [])
     ∷ entered_and_accepted
 
 cancel_rejected_keeps : Keeps terms cancel_rejected

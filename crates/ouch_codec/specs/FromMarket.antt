@@ -1,5 +1,5 @@
 -- What a message from the market says, by the offsets of its type. (OUCH 4.2, "Outbound Messages".)
-use Rattle.std.specs.Prelude.{◌≡◌, ℕ, List, Bool, true, ◌&&◌, codes, refl}
+use Rattle.std.specs.Prelude.{◌≡◌, ℕ, List, true, codes, refl}
 use Rattle.ouch_codec.specs.Parts.{byte_at, bytes_at, number_at, text_at, lies_at}
 use Rattle.ouch_codec.specs.Layouts.{accepted_table, broken_table, cancel_pending_table, cancel_reject_table, canceled_table, executed_table, rejected_table, replaced_table}
 

@@ -13,3 +13,4 @@ pub mod AcceptedLaws
 pub mod Inbound
 pub mod Decoding
 pub mod DecodingLaws
+pub mod Examples

@@ -1,5 +1,5 @@
 -- What a message towards the market says, by the offsets of its type. (OUCH 4.2, "Inbound Messages".)
-use Rattle.std.specs.Prelude.{◌≡◌, ℕ, List, Bool, true, ◌&&◌, codes, refl}
+use Rattle.std.specs.Prelude.{◌≡◌, ℕ, List, true, codes, refl}
 use Rattle.ouch_codec.specs.Parts.{byte_at, bytes_at, number_at, text_at, lies_at}
 use Rattle.ouch_codec.specs.Layouts.{cancel_table, enter_order_table, replace_table}
 

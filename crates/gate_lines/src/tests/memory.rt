@@ -59,7 +59,7 @@ C1 > 35=8|37=1|11=A1|17=2|150=0|39=0|55=INTC|54=1|38=300|44=23.45|151=300|14=0|6
 ];
 
 /// With memory left the run is whole. With an allocation refused the run stops with status 1, and what it has printed
-/// is what the lines before print.
+/// is what the lines before print. It prints which of both it was, for `scripts/refuse-each-allocation.sh`.
 #[test]
 fn each_line_is_printed_whole_or_not_at_all(rt: HostRuntime) {
     let mut input = SCRIPT;
@@ -70,9 +70,11 @@ fn each_line_is_printed_whole_or_not_at_all(rt: HostRuntime) {
     if status == 0 {
         assert_eq!(rt; output.text(), OUTPUTS[2]);
         assert_eq!(rt; faults.text(), b"".as_slice());
+        let _ = println!(rt; "whole");
     } else {
         assert_eq!(rt; status, 1);
         assert!(rt; OUTPUTS.contains(&output.text()));
         assert_eq!(rt; faults.text(), b"out of memory\n".as_slice());
+        let _ = println!(rt; "refused");
     }
 }
