@@ -2,6 +2,7 @@
 use Rattle.std.specs.Prelude.{◌≡◌, ℕ, ◌+◌, ◌/◌, ◌==◌, Bool, true, false, not, ◌&&◌, ◌||◌, List, [], ◌∷◌, filter, Option, None, if◌then◌else◌, bytes_eq, codes, decimal, is_some, option_map, unwrap_or}
 use Rattle.std.specs.List.{list_any}
 use Rattle.std.specs.Str.Parse.{digits_value}
+use Rattle.fix_fields.specs.Field.{first_value}
 use Rattle.ouch_codec.specs.ToMarket as said
 use Rattle.order_law.specs.Messages.{Message, text, number, is, is_one_of, has}
 use Rattle.order_law.specs.Asks.{Standing, ask_of_bytes, total_of}
@@ -10,7 +11,7 @@ use Rattle.order_law.specs.Lawful.{judgement, order_of_token}
 use Rattle.order_law.specs.Reading.{Reading, reading, is_report, is_report_on, price_in}
 use Rattle.order_law.specs.Chain.{Chain, chain, named, Request, has_pending_cancel, has_pending_replace}
 use Rattle.order_law.specs.Verdicts.{Verdict, Accepted, Refused, Port, Up, Down, Ended, Faulted, is_replace}
-use Rattle.order_law.specs.History.{Terms, terms_of, Event, Came, Heard, Turn, History, issued, handled, accepted, Entry, by_id, verdict, Asked, Said, SaysNew, SaysReplace, SaysCancel, outstanding, life_of, entry_at, asks_of, is_new_order}
+use Rattle.order_law.specs.History.{Terms, terms_of, Event, Came, Heard, Turn, History, issued, handled, accepted, Entry, by_id, verdict, Asked, Said, SaysNew, SaysReplace, SaysCancel, outstanding, life_of, entry_at, asks_of, is_new_order, numbered}
 
 abbrev pub Each : {X : Type 0} → (X → Type 0) → List X → Type 0
 Each P [] = Unit {0}
@@ -51,14 +52,30 @@ status is_refused cumulated total x y =
 abbrev is_on_request : Chain → Message → Bool
 is_on_request before r = is_one_of 150 (codes "E" ∷ codes "5" ∷ codes "6" ∷ []) r || (is 150 (codes "4") r && has_pending_cancel before)
 
-abbrev is_pending : List ℕ → Chain → Bool
-is_pending id x = list_any (λ (q : Request). bytes_eq q.id id) x.pending
+-- the pending requests of one kind
+abbrev replaces : Chain → List Request
+replaces x = filter (λ (q : Request). q.is_replace) x.pending
 
--- ClOrdID (11) and OrigClOrdID (41) of a report: those of a request that is pending before it or after it, or else the
--- current id and none. `old_id` gives what a request of the client named.
-pub record SaysIds (r : Message) (before after : Chain) (old_id : List ℕ → List ℕ) : Type 0 where
-  pub own : is_on_request before r ≡ true → ((is_pending (text 11 r) before || is_pending (text 11 r) after) ≡ true) × (text 41 r ≡ old_id (text 11 r))
-  pub current : is_on_request before r ≡ false → (has 41 r ≡ false) × (text 11 r ≡ after.current)
+abbrev cancels : Chain → List Request
+cancels x = filter (λ (q : Request). not q.is_replace) x.pending
+
+-- the requests that a report may be on: E and 6 on one that is pending from then on, 5 and 4 on one that was
+abbrev requests_of : Chain → Chain → Message → List Request
+requests_of before after r =
+    if is 150 (codes "E") r then replaces after
+    else (if is 150 (codes "5") r then replaces before
+    else (if is 150 (codes "6") r then cancels after else cancels before))
+
+abbrev pub is_id_of : List Request → List ℕ → Bool
+is_id_of requests id = list_any (λ (q : Request). bytes_eq q.id id) requests
+
+-- ClOrdID (11) and OrigClOrdID (41) of a report are those of the request that it is on, or else the current id and none.
+-- `old_id` gives what a request of the client named.
+abbrev pub has_due_ids : Message → Chain → Chain → (List ℕ → List ℕ) → Bool
+has_due_ids r before after old_id =
+    if is_on_request before r
+    then is_id_of (requests_of before after r) (text 11 r) && bytes_eq (text 41 r) (old_id (text 11 r))
+    else not (has 41 r) && bytes_eq (text 11 r) after.current
 
 -- what a report states of the order
 pub record State : Type 0 where
@@ -116,11 +133,12 @@ abbrev pub is_reject_on : List ℕ → Message → Bool
 is_reject_on order r = not (is_report r) && is 37 order r
 
 -- One body, with what was sent before it: a report states what is due, with the ids that are; a reject has the order's
--- status.
+-- status, and where it answers a pending request, the id that the request named.
 pub record SaysOf (order : List ℕ) (new : Message) (old_id : List ℕ → List ℕ) (sent : List Message) (r : Message) : Type 0 where
   pub state : is_report_on order r ≡ true → stated r ≡ due_after order new (r ∷ sent)
-  pub ids : is_report_on order r ≡ true → SaysIds r (chain order sent) (chain order (r ∷ sent)) old_id
+  pub ids : is_report_on order r ≡ true → has_due_ids r (chain order sent) (chain order (r ∷ sent)) old_id ≡ true
   pub reject : is_reject_on order r ≡ true → text 39 r ≡ (due_after order new (r ∷ sent)).status
+  pub rejected_id : (is_reject_on order r && is_id_of (chain order sent).pending (text 11 r)) ≡ true → text 41 r ≡ old_id (text 11 r)
 
 -- the bodies of a turn, one after another, each with what was sent before it
 abbrev pub ReadsWell : List ℕ → Message → (List ℕ → List ℕ) → List Message → List Message → Type 0
@@ -180,21 +198,30 @@ pub record IsAcceptance (m r : Message) : Type 0 where
   pub id : text 11 r ≡ text 11 m
   pub exec_type : text 150 r ≡ accepted_exec_type m
 
--- a refused new order's one report: the row's code and text, and the order as it was asked
-pub record IsOrderRefusal (m : Message) (row_code : ℕ) (row_text : List ℕ) (r : Message) : Type 0 where
+-- A refused new order's one report: an OrderID of its own, the row's code and text, the order's own texts, nothing open or
+-- executed.
+pub record IsOrderRefusal (m : Message) (row_code : ℕ) (row_text : List ℕ) (number_of : ℕ) (r : Message) : Type 0 where
   pub kind : is_report r ≡ true
+  pub order : text 37 r ≡ decimal number_of
   pub id : text 11 r ≡ text 11 m
   pub exec_type : text 150 r ≡ codes "8"
   pub status : text 39 r ≡ codes "8"
   pub code : text 103 r ≡ decimal row_code
   pub why : text 58 r ≡ row_text
+  pub symbol : text 55 r ≡ text 55 m
+  pub side : text 54 r ≡ text 54 m
+  pub quantity : text 38 r ≡ text 38 m
+  pub price : first_value 44 r ≡ first_value 44 m
+  pub leaves : number 151 r ≡ 0
+  pub cumulated : number 14 r ≡ 0
+  pub average : price_in 6 r ≡ 0
 
 -- CxlRejResponseTo (434): 1 to a cancel, 2 to a replace
 abbrev responds_to : Message → List ℕ
 responds_to m = if is_replace m then codes "2" else codes "1"
 
 -- 37 of a refused request's reject, and 39 where it names no order
-abbrev order_or_none : Option (List ℕ) → List ℕ
+abbrev pub order_or_none : Option (List ℕ) → List ℕ
 order_or_none order = unwrap_or order (codes "NONE")
 
 -- a refused request's one reject: the row's code and text, and the order that it names
@@ -209,18 +236,19 @@ pub record IsRequestRefusal (m : Message) (named_order : Option (List ℕ)) (row
   pub why : text 58 r ≡ row_text
 
 -- what refuses a message, by its type
-pub record IsRefusal (sent : List Message) (m : Message) (row_code : ℕ) (row_text : List ℕ) (r : Message) : Type 0 where
-  pub to_new : is_new_order m ≡ true → IsOrderRefusal m row_code row_text r
+pub record IsRefusal (sent : List Message) (number_of : ℕ) (m : Message) (row_code : ℕ) (row_text : List ℕ) (r : Message) : Type 0 where
+  pub to_new : is_new_order m ≡ true → IsOrderRefusal m row_code row_text number_of r
   pub to_request : is_new_order m ≡ false → IsRequestRefusal m (named (text 41 m) sent) row_code row_text r
 
 -- just one body, and this holds of it
 abbrev IsOnly : (Message → Type 0) → List Message → Type 0
 IsOnly P bodies = (r : Message) × (bodies ≡ r ∷ []) × P r
 
--- what a client is told of a message: that it is accepted, or the code and text of the row that refuses it
-abbrev pub RepliesTo : List Message → Message → Verdict → List Message → Type 0
-RepliesTo sent m Accepted bodies = IsOnly (IsAcceptance m) bodies
-RepliesTo sent m (Refused code why) bodies = IsOnly (IsRefusal sent m code why) bodies
+-- what a client is told of a message: that it is accepted, or the code and text of the row that refuses it. A new order
+-- that is refused has this number.
+abbrev pub RepliesTo : List Message → ℕ → Message → Verdict → List Message → Type 0
+RepliesTo sent number_of m Accepted bodies = IsOnly (IsAcceptance m) bodies
+RepliesTo sent number_of m (Refused code why) bodies = IsOnly (IsRefusal sent number_of m code why) bodies
 
 -- where the port is up, all that is asked is sent at once; else nothing is
 abbrev pub Sends : Port → (Asked → List ℕ → Type 0) → List Asked → List (List ℕ) → Type 0
@@ -235,7 +263,7 @@ order_number terms port entries token = option_map (λ (e : Entry). digits_value
 
 -- a client's turn
 pub record AnswersClient (terms : List Terms) (client : ℕ) (m : Message) (port : Port) (t : Turn) (before : History) : Type 0 where
-  pub replies : RepliesTo (issued client before) m (verdict terms (issued client before) (accepted terms before) port m) t.bodies
+  pub replies : RepliesTo (issued client before) (numbered before + 1) m (verdict terms (issued client before) (accepted terms before) port m) t.bodies
   pub sends :
       Sends port
       (Says (terms_of terms client).standing (order_number terms (terms_of terms client).port (accepted terms (t ∷ before))))

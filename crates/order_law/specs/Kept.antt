@@ -1,6 +1,6 @@
 -- The promises of the headline on a history that is written down, as equations that can be computed.
-use Rattle.std.specs.Prelude.{◌≡◌, ℕ, Bool, List, [], ◌∷◌, ◌++◌, map, filter, Option, None, if◌then◌else◌, codes}
-use Rattle.std.specs.List.{flat_map}
+use Rattle.std.specs.Prelude.{◌≡◌, ◌&&◌, ℕ, Bool, true, bytes_eq, List, [], ◌∷◌, ◌++◌, map, filter, Option, None, if◌then◌else◌, codes}
+use Rattle.std.specs.List.{flat_map, list_all}
 use Rattle.order_law.specs.Messages.{Message, text, number, is}
 use Rattle.order_law.specs.Asks.{Ask, ask_of_bytes}
 use Rattle.order_law.specs.Life.{Life, is_closed}
@@ -9,7 +9,7 @@ use Rattle.order_law.specs.Verdicts.{Verdict, Accepted, Refused, Up, Down, Ended
 use Rattle.order_law.specs.Chain.{chain, has_pending_cancel, has_pending_replace}
 use Rattle.order_law.specs.Lawful.{judgement}
 use Rattle.order_law.specs.History.{Terms, terms_of, Event, Came, Heard, Turn, History, Entry, Asked, issued, handled, accepted, verdict, entry_at, asks_of, is_new_order, outstanding}
-use Rattle.order_law.specs.Headline.{State, stated, due_after, is_reject_on, life_in, order_number, is_outstanding, is_replace_said, is_cancel_said}
+use Rattle.order_law.specs.Headline.{State, stated, due_after, is_reject_on, life_in, order_number, is_outstanding, is_replace_said, is_cancel_said, has_due_ids, is_id_of, old_ids}
 
 -- ---- replies
 
@@ -110,6 +110,18 @@ statuses terms h = flat_map (λ (e : Entry). rejects_on e.order (issued e.client
 abbrev pub due_statuses : List Terms → History → List (List ℕ)
 due_statuses terms h = flat_map (λ (e : Entry). due_rejects_on e.order e.message (issued e.client h)) (new_orders terms h)
 
+-- each report on the order has the ids that are due, and each reject of a pending request the id that this named
+abbrev ids_on : List ℕ → (List ℕ → List ℕ) → List Message → List Bool
+ids_on order old_id [] = []
+ids_on order old_id (r ∷ earlier) =
+    if is_report_on order r then has_due_ids r (chain order earlier) (chain order (r ∷ earlier)) old_id ∷ ids_on order old_id earlier
+    else (if is_reject_on order r && is_id_of (chain order earlier).pending (text 11 r)
+    then bytes_eq (text 41 r) (old_id (text 11 r)) ∷ ids_on order old_id earlier
+    else ids_on order old_id earlier)
+
+abbrev pub ids : List Terms → History → List Bool
+ids terms h = flat_map (λ (e : Entry). ids_on e.order (old_ids e.client (accepted terms h)) (issued e.client h)) (new_orders terms h)
+
 -- ---- both sides
 
 -- what reports and messages say alike of an order
@@ -161,5 +173,6 @@ pub record Keeps (terms : List Terms) (h : History) : Type 0 where
   pub asks_are_sent : sent_asks terms h ≡ due_asks terms h
   pub states_are_due : states terms h ≡ due_states terms h
   pub statuses_are_due : statuses terms h ≡ due_statuses terms h
+  pub ids_are_due : list_all (λ is_due. is_due) (ids terms h) ≡ true
   pub accounts_agree : accounts_read terms h ≡ accounts_lived terms h
   pub pending_is_unanswered : pending terms h ≡ unanswered terms h

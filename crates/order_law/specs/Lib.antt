@@ -9,6 +9,6 @@ pub mod Lawful
 pub mod Headline
 pub mod Transcript
 pub mod Kept
-pub mod WorkedRows
+pub mod Exchanges
 pub mod VerdictRows
 pub mod MarketRows

@@ -6,7 +6,7 @@ use Rattle.tokens.specs.TokenText.{last_digits}
 use Rattle.order_law.specs.Lawful.{judgement, bytes_fault, token_fault, row_fault, type_fault}
 use Rattle.order_law.specs.History.{History}
 use Rattle.order_law.specs.Transcript.{terms, accepted_message, replaced_message, executed_message, canceled_message, broken_message, rejected_message, cancel_reject_message, cancel_pending_message, sold_message}
-use Rattle.order_law.specs.WorkedRows.{entered_and_accepted, filled, closed_by_the_market, broken_after_it_is_filled, replace_rejected, replace_pending, only_entered}
+use Rattle.order_law.specs.Exchanges.{entered_and_accepted, filled, closed_by_the_market, broken_after_it_is_filled, replace_rejected, replace_pending, only_entered}
 
 -- the fault of a payload of port 1 after a history
 abbrev fault : History → List ℕ → Option ℕ

@@ -8,7 +8,7 @@ use Rattle.order_law.specs.Reading.{unread}
 use Rattle.order_law.specs.Chain.{unchained}
 use Rattle.order_law.specs.History.{History, issued, accepted, verdict}
 use Rattle.order_law.specs.Transcript.{terms, message}
-use Rattle.order_law.specs.WorkedRows.{entered_and_accepted, filled, cancelled_across_a_replace, replaced_after_a_trade}
+use Rattle.order_law.specs.Exchanges.{entered_and_accepted, filled, cancelled_across_a_replace, replaced_after_a_trade}
 
 -- the verdict of a new order with its port up
 abbrev of_new : List ℕ → Verdict
@@ -62,7 +62,7 @@ of_request h text = verdict terms (issued 1 h) (accepted terms h) Up (message te
 abbrev replaced_often : ℕ → Named
 replaced_often n = record { side = codes "1"; symbol = codes "INTC"; capacity = 65; reading = unread; chain = unchained; replaces = n }
 
--- cancels and replaces. That a total has to be above what is executed stands in `WorkedRows.antt`.
+-- cancels and replaces. That a total has to be above what is executed stands in `Exchanges.antt`.
 of_requests :
     (of_request entered_and_accepted (codes "35=F|41=A1|11=B2") ≡ Accepted)
     × (of_request entered_and_accepted (codes "35=G|41=A1|11=B2|38=400|40=2|44=23.45") ≡ Accepted)

@@ -1,11 +1,12 @@
--- The worked exchanges of docs/RULES.md, each with the promises of the headline, computed. The newest turn is first.
-use Rattle.std.specs.Prelude.{[], ◌∷◌, codes, refl}
+-- Exchanges that are written down, each with the promises of the headline, computed. The newest turn is first.
+use Rattle.std.specs.Prelude.{[], ◌∷◌, None, codes, refl}
 use Rattle.std.specs.Fmt.{digits}
 use Rattle.fixed_point.specs.Decimal.{price, quantity, amount, amount_of, within, scaled, fraction, worth, worth_of}
 use Rattle.tokens.specs.TokenText.{last_digits}
 use Rattle.order_law.specs.History.{History}
 use Rattle.order_law.specs.Transcript.{terms, message, asked, heard, faulted, enter_message, replace_message, cancel_message, accepted_message, replaced_message, executed_message, canceled_message, broken_message, rejected_message, cancel_reject_message}
 use Rattle.order_law.specs.Kept.{Keeps}
+use Rattle.order_law.specs.Headline.{IsOrderRefusal, IsRequestRefusal}
 
 -- an order of 300 at 23.45 is entered
 abbrev pub only_entered : History
@@ -25,7 +26,7 @@ entered_and_accepted =
 
 entered_and_accepted_keeps : Keeps terms entered_and_accepted
 unfolding digits price quantity amount amount_of within scaled fraction worth worth_of last_digits
-entered_and_accepted_keeps = record { replies_are_verdicts = refl; faults_are_judged = refl; asks_are_sent = refl; states_are_due = refl; statuses_are_due = refl; accounts_agree = refl; pending_is_unanswered = refl }
+entered_and_accepted_keeps = record { replies_are_verdicts = refl; faults_are_judged = refl; asks_are_sent = refl; states_are_due = refl; statuses_are_due = refl; ids_are_due = refl; accounts_agree = refl; pending_is_unanswered = refl }
 
 -- then a replace by 500 is asked
 abbrev pub replace_pending : History
@@ -48,7 +49,7 @@ filled =
 
 filled_keeps : Keeps terms filled
 unfolding digits price quantity amount amount_of within scaled fraction worth worth_of last_digits
-filled_keeps = record { replies_are_verdicts = refl; faults_are_judged = refl; asks_are_sent = refl; states_are_due = refl; statuses_are_due = refl; accounts_agree = refl; pending_is_unanswered = refl }
+filled_keeps = record { replies_are_verdicts = refl; faults_are_judged = refl; asks_are_sent = refl; states_are_due = refl; statuses_are_due = refl; ids_are_due = refl; accounts_agree = refl; pending_is_unanswered = refl }
 
 -- it fills while a cancel is pending, which then is too late
 abbrev pub filled_while_cancel_pending : History
@@ -64,7 +65,7 @@ filled_while_cancel_pending =
 
 filled_while_cancel_pending_keeps : Keeps terms filled_while_cancel_pending
 unfolding digits price quantity amount amount_of within scaled fraction worth worth_of last_digits
-filled_while_cancel_pending_keeps = record { replies_are_verdicts = refl; faults_are_judged = refl; asks_are_sent = refl; states_are_due = refl; statuses_are_due = refl; accounts_agree = refl; pending_is_unanswered = refl }
+filled_while_cancel_pending_keeps = record { replies_are_verdicts = refl; faults_are_judged = refl; asks_are_sent = refl; states_are_due = refl; statuses_are_due = refl; ids_are_due = refl; accounts_agree = refl; pending_is_unanswered = refl }
 
 -- it is replaced, and a trade crosses the replace; then a total that isn't above what is executed, and one that is
 abbrev pub replaced_after_a_trade : History
@@ -85,7 +86,7 @@ replaced_after_a_trade =
 
 replaced_after_a_trade_keeps : Keeps terms replaced_after_a_trade
 unfolding digits price quantity amount amount_of within scaled fraction worth worth_of last_digits
-replaced_after_a_trade_keeps = record { replies_are_verdicts = refl; faults_are_judged = refl; asks_are_sent = refl; states_are_due = refl; statuses_are_due = refl; accounts_agree = refl; pending_is_unanswered = refl }
+replaced_after_a_trade_keeps = record { replies_are_verdicts = refl; faults_are_judged = refl; asks_are_sent = refl; states_are_due = refl; statuses_are_due = refl; ids_are_due = refl; accounts_agree = refl; pending_is_unanswered = refl }
 
 -- a cancel while a replace is pending asks for both tokens
 abbrev pub cancelled_across_a_replace : History
@@ -97,7 +98,7 @@ cancelled_across_a_replace =
 
 cancelled_across_a_replace_keeps : Keeps terms cancelled_across_a_replace
 unfolding digits price quantity amount amount_of within scaled fraction worth worth_of last_digits
-cancelled_across_a_replace_keeps = record { replies_are_verdicts = refl; faults_are_judged = refl; asks_are_sent = refl; states_are_due = refl; statuses_are_due = refl; accounts_agree = refl; pending_is_unanswered = refl }
+cancelled_across_a_replace_keeps = record { replies_are_verdicts = refl; faults_are_judged = refl; asks_are_sent = refl; states_are_due = refl; statuses_are_due = refl; ids_are_due = refl; accounts_agree = refl; pending_is_unanswered = refl }
 
 -- the replace is answered, then the cancel
 abbrev pub cancelled_after_it_is_replaced : History
@@ -112,7 +113,7 @@ cancelled_after_it_is_replaced =
 
 cancelled_after_it_is_replaced_keeps : Keeps terms cancelled_after_it_is_replaced
 unfolding digits price quantity amount amount_of within scaled fraction worth worth_of last_digits
-cancelled_after_it_is_replaced_keeps = record { replies_are_verdicts = refl; faults_are_judged = refl; asks_are_sent = refl; states_are_due = refl; statuses_are_due = refl; accounts_agree = refl; pending_is_unanswered = refl }
+cancelled_after_it_is_replaced_keeps = record { replies_are_verdicts = refl; faults_are_judged = refl; asks_are_sent = refl; states_are_due = refl; statuses_are_due = refl; ids_are_due = refl; accounts_agree = refl; pending_is_unanswered = refl }
 
 -- it fills while both are pending: each is too late, in order of acceptance
 abbrev pub filled_across_replace_and_cancel : History
@@ -126,7 +127,7 @@ filled_across_replace_and_cancel =
 
 filled_across_replace_and_cancel_keeps : Keeps terms filled_across_replace_and_cancel
 unfolding digits price quantity amount amount_of within scaled fraction worth worth_of last_digits
-filled_across_replace_and_cancel_keeps = record { replies_are_verdicts = refl; faults_are_judged = refl; asks_are_sent = refl; states_are_due = refl; statuses_are_due = refl; accounts_agree = refl; pending_is_unanswered = refl }
+filled_across_replace_and_cancel_keeps = record { replies_are_verdicts = refl; faults_are_judged = refl; asks_are_sent = refl; states_are_due = refl; statuses_are_due = refl; ids_are_due = refl; accounts_agree = refl; pending_is_unanswered = refl }
 
 -- the market cancels it while a replace is pending
 abbrev pub closed_by_the_market : History
@@ -139,7 +140,7 @@ closed_by_the_market =
 
 closed_by_the_market_keeps : Keeps terms closed_by_the_market
 unfolding digits price quantity amount amount_of within scaled fraction worth worth_of last_digits
-closed_by_the_market_keeps = record { replies_are_verdicts = refl; faults_are_judged = refl; asks_are_sent = refl; states_are_due = refl; statuses_are_due = refl; accounts_agree = refl; pending_is_unanswered = refl }
+closed_by_the_market_keeps = record { replies_are_verdicts = refl; faults_are_judged = refl; asks_are_sent = refl; states_are_due = refl; statuses_are_due = refl; ids_are_due = refl; accounts_agree = refl; pending_is_unanswered = refl }
 
 -- the market rejects the replace
 abbrev pub replace_rejected : History
@@ -151,7 +152,7 @@ replace_rejected =
 
 replace_rejected_keeps : Keeps terms replace_rejected
 unfolding digits price quantity amount amount_of within scaled fraction worth worth_of last_digits
-replace_rejected_keeps = record { replies_are_verdicts = refl; faults_are_judged = refl; asks_are_sent = refl; states_are_due = refl; statuses_are_due = refl; accounts_agree = refl; pending_is_unanswered = refl }
+replace_rejected_keeps = record { replies_are_verdicts = refl; faults_are_judged = refl; asks_are_sent = refl; states_are_due = refl; statuses_are_due = refl; ids_are_due = refl; accounts_agree = refl; pending_is_unanswered = refl }
 
 -- its ClOrdID comes again, and then the market takes 100 away
 abbrev pub asked_twice : History
@@ -166,7 +167,7 @@ asked_twice =
 
 asked_twice_keeps : Keeps terms asked_twice
 unfolding digits price quantity amount amount_of within scaled fraction worth worth_of last_digits
-asked_twice_keeps = record { replies_are_verdicts = refl; faults_are_judged = refl; asks_are_sent = refl; states_are_due = refl; statuses_are_due = refl; accounts_agree = refl; pending_is_unanswered = refl }
+asked_twice_keeps = record { replies_are_verdicts = refl; faults_are_judged = refl; asks_are_sent = refl; states_are_due = refl; statuses_are_due = refl; ids_are_due = refl; accounts_agree = refl; pending_is_unanswered = refl }
 
 -- a trade of the filled order is broken, and can't be broken again
 abbrev pub broken_after_it_is_filled : History
@@ -179,7 +180,7 @@ broken_after_it_is_filled =
 
 broken_after_it_is_filled_keeps : Keeps terms broken_after_it_is_filled
 unfolding digits price quantity amount amount_of within scaled fraction worth worth_of last_digits
-broken_after_it_is_filled_keeps = record { replies_are_verdicts = refl; faults_are_judged = refl; asks_are_sent = refl; states_are_due = refl; statuses_are_due = refl; accounts_agree = refl; pending_is_unanswered = refl }
+broken_after_it_is_filled_keeps = record { replies_are_verdicts = refl; faults_are_judged = refl; asks_are_sent = refl; states_are_due = refl; statuses_are_due = refl; ids_are_due = refl; accounts_agree = refl; pending_is_unanswered = refl }
 
 -- it is dead as it is accepted
 abbrev pub dead_as_it_is_accepted : History
@@ -192,7 +193,7 @@ dead_as_it_is_accepted =
 
 dead_as_it_is_accepted_keeps : Keeps terms dead_as_it_is_accepted
 unfolding digits price quantity amount amount_of within scaled fraction worth worth_of last_digits
-dead_as_it_is_accepted_keeps = record { replies_are_verdicts = refl; faults_are_judged = refl; asks_are_sent = refl; states_are_due = refl; statuses_are_due = refl; accounts_agree = refl; pending_is_unanswered = refl }
+dead_as_it_is_accepted_keeps = record { replies_are_verdicts = refl; faults_are_judged = refl; asks_are_sent = refl; states_are_due = refl; statuses_are_due = refl; ids_are_due = refl; accounts_agree = refl; pending_is_unanswered = refl }
 
 -- the market rejects it while a cancel is pending
 abbrev pub rejected_while_cancel_pending : History
@@ -208,7 +209,7 @@ rejected_while_cancel_pending =
 
 rejected_while_cancel_pending_keeps : Keeps terms rejected_while_cancel_pending
 unfolding digits price quantity amount amount_of within scaled fraction worth worth_of last_digits
-rejected_while_cancel_pending_keeps = record { replies_are_verdicts = refl; faults_are_judged = refl; asks_are_sent = refl; states_are_due = refl; statuses_are_due = refl; accounts_agree = refl; pending_is_unanswered = refl }
+rejected_while_cancel_pending_keeps = record { replies_are_verdicts = refl; faults_are_judged = refl; asks_are_sent = refl; states_are_due = refl; statuses_are_due = refl; ids_are_due = refl; accounts_agree = refl; pending_is_unanswered = refl }
 
 -- a cancel of no order
 abbrev pub no_order_of_that_name : History
@@ -220,7 +221,7 @@ no_order_of_that_name =
 
 no_order_of_that_name_keeps : Keeps terms no_order_of_that_name
 unfolding digits price quantity amount amount_of within scaled fraction worth worth_of last_digits
-no_order_of_that_name_keeps = record { replies_are_verdicts = refl; faults_are_judged = refl; asks_are_sent = refl; states_are_due = refl; statuses_are_due = refl; accounts_agree = refl; pending_is_unanswered = refl }
+no_order_of_that_name_keeps = record { replies_are_verdicts = refl; faults_are_judged = refl; asks_are_sent = refl; states_are_due = refl; statuses_are_due = refl; ids_are_due = refl; accounts_agree = refl; pending_is_unanswered = refl }
 
 -- a second Accepted is no lawful message
 abbrev pub accepted_again : History
@@ -230,7 +231,7 @@ accepted_again =
 
 accepted_again_keeps : Keeps terms accepted_again
 unfolding digits price quantity amount amount_of within scaled fraction worth worth_of last_digits
-accepted_again_keeps = record { replies_are_verdicts = refl; faults_are_judged = refl; asks_are_sent = refl; states_are_due = refl; statuses_are_due = refl; accounts_agree = refl; pending_is_unanswered = refl }
+accepted_again_keeps = record { replies_are_verdicts = refl; faults_are_judged = refl; asks_are_sent = refl; states_are_due = refl; statuses_are_due = refl; ids_are_due = refl; accounts_agree = refl; pending_is_unanswered = refl }
 
 -- a trade of more than is open is none
 abbrev pub executed_too_much : History
@@ -240,7 +241,7 @@ executed_too_much =
 
 executed_too_much_keeps : Keeps terms executed_too_much
 unfolding digits price quantity amount amount_of within scaled fraction worth worth_of last_digits
-executed_too_much_keeps = record { replies_are_verdicts = refl; faults_are_judged = refl; asks_are_sent = refl; states_are_due = refl; statuses_are_due = refl; accounts_agree = refl; pending_is_unanswered = refl }
+executed_too_much_keeps = record { replies_are_verdicts = refl; faults_are_judged = refl; asks_are_sent = refl; states_are_due = refl; statuses_are_due = refl; ids_are_due = refl; accounts_agree = refl; pending_is_unanswered = refl }
 
 -- the market rejects the cancel
 abbrev pub cancel_rejected : History
@@ -255,4 +256,25 @@ cancel_rejected =
 
 cancel_rejected_keeps : Keeps terms cancel_rejected
 unfolding digits price quantity amount amount_of within scaled fraction worth worth_of last_digits
-cancel_rejected_keeps = record { replies_are_verdicts = refl; faults_are_judged = refl; asks_are_sent = refl; states_are_due = refl; statuses_are_due = refl; accounts_agree = refl; pending_is_unanswered = refl }
+cancel_rejected_keeps = record { replies_are_verdicts = refl; faults_are_judged = refl; asks_are_sent = refl; states_are_due = refl; statuses_are_due = refl; ids_are_due = refl; accounts_agree = refl; pending_is_unanswered = refl }
+
+-- how refusals are told: of a new order whose ClOrdID comes again, and of a cancel of no order
+refused_order :
+    IsOrderRefusal
+    (message (codes "35=D|11=A1|54=1|55=INTC|38=300|40=2|44=23.45|59=0|528=P"))
+    6
+    (codes "duplicate ClOrdID")
+    2
+    (message (codes "35=8|37=2|11=A1|17=3|150=8|39=8|103=6|55=INTC|54=1|38=300|44=23.45|151=0|14=0|6=0|58=duplicate ClOrdID"))
+unfolding digits worth worth_of scaled fraction
+refused_order = record { kind = refl; order = refl; id = refl; exec_type = refl; status = refl; code = refl; why = refl; symbol = refl; side = refl; quantity = refl; price = refl; leaves = refl; cumulated = refl; average = refl }
+
+refused_cancel :
+    IsRequestRefusal
+    (message (codes "35=F|41=Q|11=A9"))
+    None
+    1
+    (codes "unknown order")
+    (message (codes "35=9|37=NONE|11=A9|41=Q|39=8|434=1|102=1|58=unknown order"))
+unfolding digits
+refused_cancel = record { kind = refl; order = refl; id = refl; old_id = refl; status = λ names_none. refl; response = refl; code = refl; why = refl }
