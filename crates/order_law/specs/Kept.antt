@@ -3,8 +3,9 @@ use Rattle.std.specs.Prelude.{◌≡◌, ◌&&◌, ℕ, Bool, true, bytes_eq, Li
 use Rattle.std.specs.List.{flat_map, list_all}
 use Rattle.order_law.specs.Messages.{Message, text, number, is}
 use Rattle.order_law.specs.Asks.{Ask, ask_of_bytes}
-use Rattle.order_law.specs.Life.{Life, is_closed}
-use Rattle.order_law.specs.Reading.{Reading, reading, is_report_on}
+use Rattle.order_law.specs.declared.account.Account.{Account}
+use Rattle.order_law.specs.Life.{account_of}
+use Rattle.order_law.specs.Reading.{reading, is_report_on, account_read}
 use Rattle.order_law.specs.Verdicts.{Verdict, Accepted, Refused, Up, Down, Ended, Faulted}
 use Rattle.order_law.specs.Chain.{chain, has_pending_cancel, has_pending_replace}
 use Rattle.order_law.specs.Lawful.{judgement}
@@ -124,26 +125,12 @@ ids terms h = flat_map (λ (e : Entry). ids_on e.order (old_ids e.client (accept
 
 -- ---- both sides
 
--- what reports and messages say alike of an order
-pub record Account : Type 0 where
-  pub side : ℕ
-  pub unfilled : ℕ
-  pub executed : ℕ
-  pub cancelled : ℕ
-  pub value : ℕ
-  pub is_closed : Bool
-
-abbrev account_read : Reading → Account
-account_read x = record { side = x.side; unfilled = x.unfilled; executed = x.executed; cancelled = x.cancelled; value = x.value; is_closed = x.is_closed }
-
-abbrev account_lived : Life → Account
-account_lived l = record { side = l.side; unfilled = l.unfilled; executed = l.executed; cancelled = l.cancelled; value = l.value; is_closed = is_closed l.stage }
-
+-- what reports and messages say alike of each order
 abbrev pub accounts_read : List Terms → History → List Account
 accounts_read terms h = map (λ (e : Entry). account_read (reading e.order (issued e.client h))) (new_orders terms h)
 
 abbrev pub accounts_lived : List Terms → History → List Account
-accounts_lived terms h = map (λ (e : Entry). account_lived (life_in terms h e)) (new_orders terms h)
+accounts_lived terms h = map (λ (e : Entry). account_of (life_in terms h e)) (new_orders terms h)
 
 -- whether a replace, and whether a cancel, waits for its answer
 pub record Waits : Type 0 where

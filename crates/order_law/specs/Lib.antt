@@ -1,6 +1,7 @@
 pub mod Messages
 pub mod Asks
 pub mod Life
+pub mod Growth
 pub mod Reading
 pub mod Chain
 pub mod Verdicts

@@ -3,17 +3,10 @@ use Rattle.std.specs.Prelude.{map, ℕ, Bool, true, false, not, ◌&&◌, ◌+�
 use Rattle.std.specs.List.{list_any, find}
 use Rattle.ouch_codec.specs.Parts.{type_of}
 use Rattle.ouch_codec.specs.FromMarket as heard
-
--- a trade by its match number, in shares and 1/10,000. One that was broken stays, so that its number isn't used again.
-pub record Trade : Type 0 where
-  pub match_number : ℕ
-  pub shares : ℕ
-  pub price : ℕ
-  pub is_broken : Bool
-
--- not answered by the market yet, then in its book, then over
-pub data Stage : Type 0 where
-  Waiting Working Closed : Stage
+use Rattle.order_law.specs.declared.account.Account.{Account}
+use Rattle.order_law.specs.declared.life.Stage.{Stage}
+use Rattle.order_law.specs.declared.life.Stage.TheVariants.{Waiting, Working, Closed}
+use Rattle.order_law.specs.declared.life.Trade.{Trade}
 
 pub record Life : Type 0 where
   -- the byte that FIX writes
@@ -111,18 +104,42 @@ is_type letter m = type_of m == slice_index letter 0
 abbrev pub is_dead_state : List ℕ → Bool
 is_dead_state m = heard.state m == slice_index (codes "D") 0
 
+abbrev pub after_accepted : Life → List ℕ → Life
+after_accepted l m = if is_live l (heard.token m) && is_waiting l.stage then opened (heard.shares m) (is_dead_state m) l else l
+
+abbrev pub after_replaced : Life → List ℕ → Life
+after_replaced l m =
+    if is_live l (heard.previous_token m)
+    then opened (heard.shares m) (is_dead_state m) (record l { tokens = heard.token m ∷ l.tokens })
+    else l
+
+abbrev pub after_executed : Life → List ℕ → Life
+after_executed l m = if is_live l (heard.token m) then traded (heard.executed_match m) (heard.executed_shares m) (heard.executed_price m) l else l
+
+abbrev pub after_canceled : Life → List ℕ → Life
+after_canceled l m = if is_live l (heard.token m) then decreased (heard.decrement m) l else l
+
+abbrev pub after_broken : Life → List ℕ → Life
+after_broken l m = if is_of l (heard.token m) then broken (heard.broken_match m) l else l
+
+abbrev pub after_rejected : Life → List ℕ → Life
+after_rejected l m = if is_live l (heard.token m) && is_waiting l.stage then record l { stage = Closed } else l
+
 -- What a message makes of an order. Rejected of a replacement, Cancel Pending and Cancel Reject make nothing of it.
 abbrev pub after : Life → List ℕ → Life
 after l m =
-    if is_type (codes "A") m then (if is_live l (heard.token m) && is_waiting l.stage then opened (heard.shares m) (is_dead_state m) l else l)
-    else (if is_type (codes "U") m then (if is_live l (heard.previous_token m) then opened (heard.shares m) (is_dead_state m) (record l { tokens = heard.token m ∷ l.tokens }) else l)
-    else (if is_type (codes "E") m then (if is_live l (heard.token m) then traded (heard.executed_match m) (heard.executed_shares m) (heard.executed_price m) l else l)
-    else (if is_type (codes "C") m then (if is_live l (heard.token m) then decreased (heard.decrement m) l else l)
-    else (if is_type (codes "B") m then (if is_of l (heard.token m) then broken (heard.broken_match m) l else l)
-    else (if is_type (codes "J") m then (if is_live l (heard.token m) && is_waiting l.stage then record l { stage = Closed } else l)
-    else l)))))
+    if is_type (codes "A") m then after_accepted l m
+    else (if is_type (codes "U") m then after_replaced l m
+    else (if is_type (codes "E") m then after_executed l m
+    else (if is_type (codes "C") m then after_canceled l m
+    else (if is_type (codes "B") m then after_broken l m
+    else (if is_type (codes "J") m then after_rejected l m else l)))))
 
 -- the order whose first token is `root`, after these messages, the newest first
 abbrev pub life : List ℕ → ℕ → List (List ℕ) → Life
 life root side [] = born root side
 life root side (m ∷ earlier) = after (life root side earlier) m
+
+-- its side and its quantities
+abbrev pub account_of : Life → Account
+account_of l = record { side = l.side; unfilled = l.unfilled; executed = l.executed; cancelled = l.cancelled; value = l.value; is_closed = is_closed l.stage }

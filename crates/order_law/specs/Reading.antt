@@ -3,6 +3,7 @@
 use Rattle.std.specs.Prelude.{ℕ, Bool, true, false, ◌&&◌, ◌||◌, ◌+◌, ◌-◌, ◌*◌, ◌==◌, List, [], ◌∷◌, Option, Some, None, if◌then◌else◌, bytes_eq, codes, unwrap_or}
 use Rattle.std.specs.List.{find}
 use Rattle.fixed_point.specs.Decimal.{worth}
+use Rattle.order_law.specs.declared.account.Account.{Account}
 use Rattle.order_law.specs.Messages.{Message, text, number, is, is_one_of, character}
 
 -- a fill by its ExecID (17), in shares and 1/10,000
@@ -89,3 +90,7 @@ is_report_on order r = is_report r && is 37 order r
 abbrev pub reading : List ℕ → List Message → Reading
 reading order [] = unread
 reading order (r ∷ earlier) = if is_report_on order r then told (reading order earlier) r else reading order earlier
+
+-- its side and its quantities
+abbrev pub account_read : Reading → Account
+account_read x = record { side = x.side; unfilled = x.unfilled; executed = x.executed; cancelled = x.cancelled; value = x.value; is_closed = x.is_closed }

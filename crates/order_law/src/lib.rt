@@ -1,6 +1,17 @@
 //! What the order level promises, as definitions over lists: what a message asks, which verdict it gets, what the market's
 //! messages and the reports say of an order, and the headline that links them.
 //!
-//! There is no code here yet: contracts of the crates above cite `specs/`. `specs/Exchanges.antt`, `VerdictRows.antt` and
-//! `MarketRows.antt` are exchanges that are written down, on which the definitions are computed with every check.
+//! Contracts of the crates above cite `specs/`. `specs/Exchanges.antt`, `VerdictRows.antt` and `MarketRows.antt` are
+//! exchanges that are written down, on which the definitions are computed with every check. `life_of` is one of the
+//! definitions, run: the life of an order from the market's messages.
 #![tactic(auto)]
+
+mod account;
+mod life;
+mod part;
+
+pub use account::Account;
+pub use life::{Life, Stage, Trade, life_of};
+
+#[cfg(test)]
+mod tests;
