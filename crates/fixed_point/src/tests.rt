@@ -115,3 +115,10 @@ fn ranges_and_numbers(rt: HostRuntime) {
         [1, 2, 3]
     );
 }
+
+#[test]
+fn shares_in_range(rt: HostRuntime) {
+    assert_eq!(rt; Shares::new(Shares::LEAST).count(), 1);
+    assert_eq!(rt; Shares::new(Shares::MOST).count(), 999_999);
+    assert_eq!(rt; Shares::of(300), Some(Shares::new(300)));
+}

@@ -3,7 +3,7 @@
 use crate::{
     Accepted, Cancel, DecodeRefusal, EnterOrder, Inbound, OrderState, Outbound, Side, decode,
 };
-use wire_law::FixedWire;
+use wire_law::{FixedWire, are_printable, are_visible, is_printable, is_visible};
 
 const ENTER_ORDER_BYTES: [u8; 49] = [
     0x4f, // type
@@ -178,4 +178,28 @@ fn refusals_have_numbers(rt: HostRuntime) {
     assert_eq!(rt; DecodeRefusal::Length.number(), 1);
     assert_eq!(rt; DecodeRefusal::Type.number(), 2);
     assert_eq!(rt; DecodeRefusal::Field.number(), 3);
+}
+
+#[test]
+fn bytes_of_texts(rt: HostRuntime) {
+    for (byte, printable, visible) in [
+        (31, false, false),
+        (b' ', true, false),
+        (b'!', true, true),
+        (b'~', true, true),
+        (127, false, false),
+    ] {
+        assert_eq!(rt; is_printable(byte), printable);
+        assert_eq!(rt; is_visible(byte), visible);
+    }
+    for (text, printable, visible) in [
+        (b"".as_slice(), true, true),
+        (b"INTC", true, true),
+        (b"IN TC", true, false),
+        (b"INTC\x7f", false, false),
+        (b"\tINTC", false, false),
+    ] {
+        assert_eq!(rt; are_printable(text), printable);
+        assert_eq!(rt; are_visible(text), visible);
+    }
 }

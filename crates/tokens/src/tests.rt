@@ -29,3 +29,13 @@ fn what_is_no_token(rt: HostRuntime) {
         assert_eq!(rt; Token::number(text), None);
     }
 }
+
+#[test]
+fn tokens_of_two_numbers(rt: HostRuntime) -> Result<(), Fail> {
+    one_number_a_token();
+    let first = Token::of(1)?;
+    for number in [2, 10, 11, Token::MOST] {
+        assert_ne!(rt; Token::of(number)?.bytes(), first.bytes());
+    }
+    Ok(())
+}
