@@ -106,10 +106,10 @@ is_out_of_range (Err OutOfRange) = true
 abbrev is_other : ℕ → List (List ℕ) → Message → Bool
 is_other tag wanted m = has tag m && not (is_one_of tag wanted m)
 
-abbrev duplicate_row : List Message → Message → Row
-duplicate_row sent m = row (is_used (text 11 m) sent) 6 (codes "duplicate ClOrdID")
+abbrev duplicate_row : Bool → Row
+duplicate_row is_used_id = row is_used_id 6 (codes "duplicate ClOrdID")
 
-abbrev port_rows : Port → List Row
+abbrev pub port_rows : Port → List Row
 port_rows port =
     row (is_ended port) 2 (codes "market session ended")
     ∷ row (is_faulted port) 2 (codes "port fault " ++ decimal (fault_of port))
@@ -142,20 +142,30 @@ price_rows m =
 abbrev pub open_orders : List Message → ℕ
 open_orders sent = length (filter (λ order. not (reading order sent).is_closed) (orders sent))
 
--- The table of a new order. `sent` is what its client was sent, `given` how many tokens are given.
-abbrev pub new_order_rows : List Message → Port → ℕ → Message → List Row
-new_order_rows sent port given m =
-    duplicate_row sent m
-    ∷ port_rows port
-    ++ row (not (is_one_of 54 sides m)) 11 (codes "side")
+-- the rows of a new order on what it says itself
+abbrev pub field_rows : Message → List Row
+field_rows m =
+    row (not (is_one_of 54 sides m)) 11 (codes "side")
     ∷ row (not (is_symbol (text 55 m))) 1 (codes "symbol")
     ∷ type_rows 11 m
     ++ row (is_other 528 capacities m) 11 (codes "capacity")
     ∷ quantity_rows 13 m
     ++ price_rows m
-    ++ row (nat_le most_open (open_orders sent)) 3 (codes "too many open orders")
+
+-- The table of a new order: whether its id is used, how its port stands, how many orders of its client are open, and how
+-- many tokens are given.
+abbrev pub rows_of_new : Bool → Port → ℕ → ℕ → Message → List Row
+rows_of_new is_used_id port open_now given m =
+    duplicate_row is_used_id
+    ∷ port_rows port
+    ++ field_rows m
+    ++ row (nat_le most_open open_now) 3 (codes "too many open orders")
     ∷ row (nat_le last_token given) 99 (codes "no token left")
     ∷ []
+
+-- the same, of a client that was sent these
+abbrev pub new_order_rows : List Message → Port → ℕ → Message → List Row
+new_order_rows sent port given m = rows_of_new (is_used (text 11 m) sent) port (open_orders sent) given m
 
 abbrev pub verdict_of_new : List Message → Port → ℕ → Message → Verdict
 verdict_of_new sent port given m = first_row (new_order_rows sent port given m)
@@ -201,7 +211,7 @@ named_rows (Some n) port given m =
 
 -- The table of a cancel or replace. `named` is the order that its 41 names.
 abbrev pub request_rows : List Message → Option Named → Port → ℕ → Message → List Row
-request_rows sent named port given m = duplicate_row sent m ∷ named_rows named port given m
+request_rows sent named port given m = duplicate_row (is_used (text 11 m) sent) ∷ named_rows named port given m
 
 abbrev pub verdict_of_request : List Message → Option Named → Port → ℕ → Message → Verdict
 verdict_of_request sent named port given m = first_row (request_rows sent named port given m)
