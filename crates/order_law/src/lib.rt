@@ -8,10 +8,15 @@
 
 mod account;
 mod life;
+mod message;
 mod part;
+mod reading;
+mod reading_fault;
 
 pub use account::Account;
 pub use life::{Life, Stage, Trade, life_of};
+pub use reading::{Reading, reading_of};
+pub use reading_fault::ReadingFault;
 
 #[cfg(test)]
 mod tests;
