@@ -1,4 +1,4 @@
-use Rattle.std.proofs.Common.{◌≡◌, get_or, arith}
+use Rattle.std.proofs.Common.{arith}
 use Rattle.std.proofs.lemmas.Result.{err_from_is_err_and}
 use Rattle.order_law.proofs.Numbers.{next_number, next_number-le}
 use Rattle.order_law.proofs.message.number_of.Goals as goal

@@ -1,4 +1,3 @@
-use Rattle.std.proofs.Common.{◌≡◌, ◌<◌, ◌^◌, subst}
 use Rattle.order_law.specs.Messages.{text}
 use Rattle.fixed_point.specs.Decimal.{worth}
 use Rattle.order_law.proofs.Numbers.{counted_ok, counted_none, counted_large}

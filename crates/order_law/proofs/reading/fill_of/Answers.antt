@@ -1,4 +1,4 @@
-use Rattle.std.proofs.Common.{◌≡◌, ℕ, List, bytes_eq, true, false, Some, get_or, sym, ap, ◌∙◌, arith}
+use Rattle.std.proofs.Common.{◌≡◌, ℕ, List, bytes_eq, Some, sym, ap, ◌∙◌, arith}
 use Rattle.order_law.specs.Reading.{Fill}
 use Rattle.order_law.proofs.Lists.{found_here, none_more}
 use Rattle.order_law.proofs.reading.fill_of.Goals as goal

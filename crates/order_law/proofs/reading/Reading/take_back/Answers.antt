@@ -1,6 +1,4 @@
-use Rattle.std.proofs.Common.{◌≡◌, ◌<◌, ◌^◌, ◌-◌, ◌*◌, ℕ, List, bytes_eq, Some, None, refl, ap, ◌∙◌, arith}
-use Rattle.std.specs.List.{find}
-use Rattle.order_law.specs.Messages.{text}
+use Rattle.std.proofs.Common.{◌≡◌, ◌-◌, ◌*◌, refl, ap, ◌∙◌, arith}
 use Rattle.order_law.specs.Reading.{Fill, Reading}
 use Rattle.order_law.proofs.reading.Reading.take_back.Goals as goal
 
