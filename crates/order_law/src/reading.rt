@@ -52,6 +52,7 @@ pub struct Reading {
 }
 
 impl Model for Reading {
+    ghost use Rattle.order_law.specs.Held.{IsHeld};
     ghost use Rattle.order_law.specs.Reading as spec;
 
     ghost Value = { spec.Reading };
@@ -67,6 +68,18 @@ impl Model for Reading {
       is_accepted = x.is_accepted;
       is_closed = x.is_closed;
     } };
+
+    ghost invariant = { λ x. IsHeld (record {
+      side = x.side;
+      total = x.total;
+      unfilled = x.unfilled;
+      executed = x.executed;
+      cancelled = x.cancelled;
+      value = x.value;
+      fills = x.fills.items;
+      is_accepted = x.is_accepted;
+      is_closed = x.is_closed;
+    }) };
 }
 
 impl Reading {
@@ -86,7 +99,8 @@ impl Reading {
 
     /// What is read before any report.
     fn unread(alloc: Global) -> Reading
-        ensures { result ≡ spec.unread }
+        ensures nothing { result ≡ spec.unread }
+        ensures held { IsHeld result }
     {
         Reading {
             side: 0,
@@ -190,6 +204,7 @@ impl Reading {
         }) }
         ensures large { IsErrOf result ReadingFault.TooLarge
             → (if self.old.is_closed then self.old.total else messages.number 38 report.now) < 2 ^ 128 → ⊥ }
+        ensures held { OnOk result (IsHeld self.new) }
     {
         if !self.is_closed {
             self.total = number(report, 38)?;
@@ -202,6 +217,7 @@ impl Reading {
     fn hear(&mut self, alloc: Global, report: &Fields) -> Result<(), ReadingFault>
         ensures told { OnOk result (self.new ≡ spec.told self.old report.now) }
         ensures large { IsErrOf result ReadingFault.TooLarge → IsHeld (spec.told self.old report.now) → ⊥ }
+        ensures held { OnOk result (IsHeld self.new) }
     {
         if is(report, 150, b"0") || is(report, 150, b"5") {
             self.open(report)?;
@@ -230,6 +246,7 @@ impl Reading {
 /// Source: FIX 4.4 Volume 4, "Execution Report".
 pub fn reading_of(alloc: Global, order: &[u8], reports: &[Fields]) -> Result<Reading, ReadingFault>
     ensures reading { IfOk result (λ reading. reading ≡ spec.reading order.now (reverse reports.now)) }
+    ensures held { OnOk result (StaysHeld order.now (reverse reports.now)) }
     ensures large { IsErrOf result ReadingFault.TooLarge → StaysHeld order.now (reverse reports.now) → ⊥ }
 {
     let mut reading = Reading::unread(alloc);

@@ -13,4 +13,4 @@ returns-in_err-hear-clause-large c = λ large stays.
     let held = held_after c.args.order.now c.args.reports.now c.loop-report.report-index report (omega arith) c.report-item.is (sym c.if-is_report_on.ensures) stays in
     let is_err = err_from_is_err_and c.from_residual.result c.from_residual.ensures.1 in
     let same : c.in_err-hear.field-0.0 ≡ TooLarge = cc (is_err.1, is_err.2, large) in
-    c.in_err-hear.ensures.large (ap Err same) (subst (λ (x : Reading). IsHeld (told x report)) (sym c.loop-report.invariant) held)
+    c.in_err-hear.ensures.large (ap Err same) (subst (λ (x : Reading). IsHeld (told x report)) (sym c.loop-report.invariant.reading) held)
