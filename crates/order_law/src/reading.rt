@@ -240,8 +240,8 @@ impl Reading {
 /// What a client has read of the order with this OrderID after these reports, the oldest first. A message that isn't a
 /// report on the order changes nothing, and no report is judged: what doesn't read well is taken as it is.
 ///
-/// Quantities are in shares, prices in 1/10,000. `TooLarge`: after one of the reports, what was read has a number that is
-/// larger than its integer holds, 32 bits for what is open and 128 bits for every other.
+/// Quantities are in shares, prices in 1/10,000. `TooLarge` just where, after one of the reports, what was read has a number
+/// that is larger than its integer holds, 32 bits for what is open and 128 bits for every other; or else `NoMemory`.
 ///
 /// Source: FIX 4.4 Volume 4, "Execution Report".
 pub fn reading_of(alloc: Global, order: &[u8], reports: &[Fields]) -> Result<Reading, ReadingFault>
