@@ -3,3 +3,4 @@ pub mod Examples
 pub mod Price
 pub mod Refusal
 pub mod Steps
+pub mod Worth

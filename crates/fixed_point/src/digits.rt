@@ -1,6 +1,6 @@
 //! Digits, and the numbers that they make.
 
-ghost use Rattle.std.specs.Prelude.{◌≡◌, ◌^◌, ◌≤◌, ◌==◌, IfSome};
+ghost use Rattle.std.specs.Prelude.{◌≡◌, ◌^◌, ◌≤◌, ◌<◌, ◌+◌, ◌*◌, ◌==◌, IfSome, SomeIff, length};
 ghost use Rattle.std.specs.List.{list_all};
 ghost use Rattle.fixed_point.specs.Decimal as decimal;
 ghost use Rattle.fixed_point.specs.Steps as steps;
@@ -20,6 +20,19 @@ pub fn read_on(start: u64, digits: &[u8]) -> Option<u64>
             return None;
         }
         number = (10 * number + u64::from(*byte - b'0')).min(TOO_LARGE);
+    }
+    Some(number)
+}
+
+/// The number that these digits make behind those of `start`; `None` for 2^128 and more.
+pub fn exact_on(start: u128, digits: &[u8]) -> Option<u128>
+    ensures { let number = start * 10 ^ length digits.now + decimal.value digits.now in
+        SomeIff result (number < 2 ^ 128) number }
+{
+    let mut number = start;
+    for byte in digits {
+        let digit = u128::from(byte.saturating_sub(b'0'));
+        number = number.checked_mul(10)?.checked_add(digit)?;
     }
     Some(number)
 }

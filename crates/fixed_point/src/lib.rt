@@ -16,6 +16,7 @@ mod price4;
 mod printing;
 mod refusal;
 mod shares;
+mod worth;
 
 pub use averaging::average;
 pub use laws::{printed_denotes, printed_reads_back, said_in_range};
@@ -24,6 +25,7 @@ pub use price4::Price4;
 pub use printing::print_price;
 pub use refusal::DecimalRefusal;
 pub use shares::Shares;
+pub use worth::{WorthRefusal, parse_worth};
 
 #[cfg(test)]
 mod tests;

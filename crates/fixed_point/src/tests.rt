@@ -1,4 +1,5 @@
 use super::DecimalRefusal::{NotExact, NotFloat, OutOfRange};
+use super::WorthRefusal::{NoWorth, TooLarge};
 use super::*;
 use std::test::Fail;
 
@@ -38,6 +39,33 @@ fn what_a_quantity_says(rt: HostRuntime) {
         (b"-0".as_slice(), 0, Ok(0)),
     ] {
         assert_eq!(rt; parse_qty(text, least), said);
+    }
+}
+
+#[test]
+fn what_a_text_is_worth(rt: HostRuntime) {
+    for (text, worth) in [
+        (b"1000000.5".as_slice(), Ok(10_000_005_000)),
+        (b".5000".as_slice(), Ok(5_000)),
+        (b"-0.0".as_slice(), Ok(0)),
+        (b"-0.5".as_slice(), Err(NoWorth)),
+        (b"0.00001".as_slice(), Err(NoWorth)),
+        (b"".as_slice(), Err(NoWorth)),
+        (b"1e2".as_slice(), Err(NoWorth)),
+        (
+            b"34028236692093846346337460743176821.1455".as_slice(),
+            Ok(u128::MAX),
+        ),
+        (
+            b"34028236692093846346337460743176821.1456".as_slice(),
+            Err(TooLarge),
+        ),
+        (
+            b"-34028236692093846346337460743176821.1456".as_slice(),
+            Err(NoWorth),
+        ),
+    ] {
+        assert_eq!(rt; parse_worth(text), worth);
     }
 }
 
@@ -88,6 +116,9 @@ fn what_a_refusal_prints(rt: HostRuntime) -> Result<(), Fail> {
         (NotExact, "not exact"),
         (OutOfRange, "out of range"),
     ] {
+        assert_eq!(rt; format!(in rt.alloc(); "{refusal}")?.as_str(), text);
+    }
+    for (refusal, text) in [(NoWorth, "no worth"), (TooLarge, "too large")] {
         assert_eq!(rt; format!(in rt.alloc(); "{refusal}")?.as_str(), text);
     }
     Ok(())

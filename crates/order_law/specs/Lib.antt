@@ -3,6 +3,7 @@ pub mod Asks
 pub mod Life
 pub mod Growth
 pub mod Reading
+pub mod Held
 pub mod Chain
 pub mod Verdicts
 pub mod History
