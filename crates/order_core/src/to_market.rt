@@ -1,16 +1,21 @@
 //! What a new order asks, in the market's words, or the first reason why it can't be asked.
 
-ghost use Rattle.std.specs.Prelude.{◌≡◌, ◌-◌, ◌++◌, ◌∷◌, [], true, false, length, replicate, unwrap_or, is_ok, Ok, Some, IfSome, MatchOption, MatchResult};
+ghost use Rattle.std.specs.Prelude.{◌≡◌, ℕ, ◌-◌, List, ◌++◌, ◌∷◌, [], Option, true, false, length, replicate, unwrap_or, is_ok, Ok, Some, IfSome, MatchOption, MatchResult};
 ghost use Rattle.wire_law.specs.Printable.{is_printable, ArePrintable};
 ghost use Rattle.fixed_point.specs.Decimal as decimal;
 ghost use Rattle.fix_types.specs.NewOrder.{new_order_fields};
 ghost use Rattle.fix_types.specs.Slots.{char_text};
 ghost use Rattle.ouch_codec.specs.Letters.{side_letter};
+ghost use Rattle.ouch_codec.specs.Layout.{spelled};
+ghost use Rattle.ouch_codec.specs.Layouts as layouts;
+ghost use Rattle.ouch_codec.specs.Rows.{enter_order_row};
 ghost use Rattle.order_law.specs.Asks.{side_of_letter, life_time_of_seconds};
+ghost use Rattle.order_law.specs.Headline.{Says};
+ghost use Rattle.order_law.specs.Messages.{Message};
 ghost use Rattle.order_law.specs.Verdicts.{Accepted, first_row, field_rows, sides, life_times, capacities, is_symbol};
 ghost use Rattle.order_core.specs.FieldRows.{is_among, is_other, is_no_minimum, price_rows};
 ghost use Rattle.order_core.specs.FieldRows as fields;
-ghost use Rattle.order_core.specs.NewAsks.{AsksAs};
+ghost use Rattle.order_core.specs.NewAsks.{AsksAs, asked_with, standing_of};
 ghost use Rattle.order_core.specs.Refusals.{refused_by};
 
 mod new_ask;
@@ -62,7 +67,16 @@ pub fn ask_of(order: &NewOrder, terms: &ClientTerms) -> Result<NewAsk, Refusal>
 }
 
 /// The message that asks it.
-pub fn enter_order(ask: &NewAsk, token: Token, terms: &ClientTerms) -> EnterOrder {
+pub fn enter_order(ask: &NewAsk, token: Token, terms: &ClientTerms) -> EnterOrder
+    ensures token { result.token ≡ token }
+    ensures side { result.side ≡ ask.now.side }
+    ensures shares { result.shares ≡ ask.now.shares }
+    ensures stock { result.stock ≡ ask.now.stock }
+    ensures price { result.price ≡ ask.now.price }
+    ensures says { (m : Message) → AsksAs ask.now terms.now.capacity m → (order : List ℕ) (order_of : List ℕ → Option ℕ)
+        → Says (standing_of terms.now) order_of (asked_with order token terms.now.capacity m)
+            (spelled layouts.enter_order (enter_order_row result)) }
+{
     EnterOrder {
         token: token.bytes(),
         side: ask.side,
