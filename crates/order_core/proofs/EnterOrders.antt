@@ -1,7 +1,7 @@
 -- What an Enter Order that is made of an ask asks by its layout.
-use Rattle.std.proofs.Common.{◌≡◌, Bool, true, ℕ, List, [], ◌∷◌, refl, sym, ap, ◌∙◌, arith}
+use Rattle.std.proofs.Common.{◌≡◌, true, ℕ, List, [], ◌∷◌, refl, ap, ◌∙◌, arith}
 use Rattle.std.proofs.lemmas.Bool.Decides.{nat_tests}
-use Rattle.std.specs.Prelude.{Option, Some, codes, bytes_eq, ◌==◌, ◌&&◌, if◌then◌else◌}
+use Rattle.std.specs.Prelude.{Option, Some, bytes_eq, ◌==◌}
 use Rattle.ouch_codec.specs.declared.inbound.enter_order.EnterOrder.{EnterOrder}
 use Rattle.ouch_codec.specs.Letters.{side_letter}
 use Rattle.ouch_codec.specs.Parts.{unpadded}
@@ -12,7 +12,7 @@ use Rattle.ouch_codec.specs.EnterOrderParts.{SaysEnterOrder, SaysEnterOrder-writ
 use Rattle.order_law.specs.Headline.{Says}
 use Rattle.ouch_codec.specs.ToMarket as said
 use Rattle.order_law.specs.Messages.{Message, text, character}
-use Rattle.order_law.specs.Asks.{ask_of_bytes, asked_by_new, Ask, New, LifeTime, side_of_letter, life_time_of_seconds, total_of, limit_of, minimum_of, display_of, life_time_of, capacity_of}
+use Rattle.order_law.specs.Asks.{ask_of_bytes, asked_by_new, side_of_letter, life_time_of_seconds, total_of, limit_of, minimum_of, display_of, life_time_of, capacity_of}
 use Rattle.order_core.specs.declared.client_terms.ClientTerms.{ClientTerms}
 use Rattle.order_core.specs.declared.to_market.new_ask.NewAsk.{NewAsk}
 use Rattle.order_core.specs.NewAsks.{AsksAs, standing_of, asked_with}

@@ -1,11 +1,9 @@
 -- What a new order's fields are read as, and the rows on them.
-use Rattle.std.proofs.Common.{◌≡◌, Bool, true, false, ℕ, List, [], ◌∷◌, refl, ap, ◌∙◌}
-use Rattle.std.specs.Prelude.{◌&&◌, not, nat_le, Option, Some, None, Result, Ok, Err, is_some, is_ok, unwrap_or, bytes_eq, codes, slice_index, if◌then◌else◌}
+use Rattle.std.proofs.Common.{◌≡◌, Bool, ℕ, List, [], ◌∷◌, refl, ap, ◌∙◌}
+use Rattle.std.specs.Prelude.{◌&&◌, not, Option, Some, None, is_some, is_ok, unwrap_or, bytes_eq, codes, slice_index, if◌then◌else◌}
 use Rattle.std.specs.List.{list_any}
 use Rattle.std.specs.Result.{result_unwrap_or}
 use Rattle.fixed_point.specs.Decimal.{price, quantity}
-use Rattle.fixed_point.specs.declared.refusal.DecimalRefusal.{DecimalRefusal}
-use Rattle.fixed_point.specs.declared.refusal.DecimalRefusal.TheVariants.{NotFloat, NotExact, OutOfRange}
 use Rattle.fix_fields.specs.Field.{first_value}
 use Rattle.fix_types.specs.declared.new_order.NewOrder.{NewOrder}
 use Rattle.fix_types.specs.Slots.{char_text}
@@ -13,10 +11,10 @@ use Rattle.fix_types.specs.NewOrder.{new_order_slots, new_order_fields}
 use Rattle.fix_types.proofs.Lookups.{first_value-fields_of}
 use Rattle.fix_types.proofs.Written.{value_is}
 use Rattle.order_law.specs.Messages.{Message, has, text, is, is_one_of, character}
-use Rattle.order_law.specs.Asks.{LifeTime, Day, Immediate, total_of, limit_of, minimum_of, display_of, life_time_of, capacity_of}
+use Rattle.order_law.specs.Asks.{Day, Immediate, total_of, limit_of, minimum_of, display_of, life_time_of, capacity_of}
 use Rattle.order_law.specs.Verdicts.{Row, field_rows, sides, life_times, capacities, is_symbol, is_minimum}
 use Rattle.order_core.specs.declared.refusal.Refusal.TheVariants as refusals
-use Rattle.order_core.specs.FieldRows.{is_among, is_other, life_time, display, minimum, is_up_to, is_no_minimum, is_out_of_range, row, rows_of}
+use Rattle.order_core.specs.FieldRows.{is_among, is_other, life_time, display, minimum, is_no_minimum, is_out_of_range, row, rows_of}
 
 -- the value of each tag
 pub side-value : (m : NewOrder) → first_value 54 (new_order_fields m) ≡ Some (m.side ∷ [])

@@ -1,6 +1,6 @@
 -- The verdict of the rows on a new order's fields, one row after another.
-use Rattle.std.proofs.Common.{◌≡◌, Bool, true, false, ℕ, ◌-◌, List, [], ◌∷◌, ◌++◌, length, replicate, refl, sym, ap, ◌∙◌}
-use Rattle.std.specs.Prelude.{◌&&◌, nat_le, is_ok, bytes_eq, codes, Result, Ok, Option, Some, unwrap_or}
+use Rattle.std.proofs.Common.{◌≡◌, true, false, ℕ, ◌-◌, List, [], ◌∷◌, ◌++◌, length, replicate, refl, sym, ap, ◌∙◌}
+use Rattle.std.specs.Prelude.{◌&&◌, nat_le, is_ok, bytes_eq, codes, Result, Ok, Some, unwrap_or}
 use Rattle.std.specs.List.{list_all}
 use Rattle.std.specs.Result.{result_unwrap_or}
 use Rattle.wire_law.specs.Printable.{is_visible}
@@ -9,10 +9,10 @@ use Rattle.fixed_point.specs.declared.refusal.DecimalRefusal.{DecimalRefusal}
 use Rattle.fix_types.specs.declared.new_order.NewOrder.{NewOrder}
 use Rattle.fix_types.specs.Slots.{char_text}
 use Rattle.fix_types.specs.NewOrder.{new_order_fields}
-use Rattle.order_law.specs.Verdicts.{Verdict, Accepted, first_row, field_rows, sides, life_times, capacities, is_symbol}
+use Rattle.order_law.specs.Verdicts.{first_row, field_rows, sides, life_times, capacities, is_symbol}
 use Rattle.order_core.specs.declared.refusal.Refusal.TheVariants as refusals
 use Rattle.order_core.specs.Refusals.{refused_by}
-use Rattle.order_core.specs.FieldRows.{is_among, is_other, is_no_minimum, price_rows, amount_rows, rows_of}
+use Rattle.order_core.specs.FieldRows.{is_among, is_other, is_no_minimum, price_rows, amount_rows}
 use Rattle.order_core.specs.FieldRows.{life_time, display, minimum}
 use Rattle.order_core.specs.NewAsks.{AsksAs}
 use Rattle.order_core.specs.declared.to_market.new_ask.NewAsk.{NewAsk}

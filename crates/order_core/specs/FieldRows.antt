@@ -1,5 +1,6 @@
--- The rows of a new order on its fields, each over the field alone.
-use Rattle.std.specs.Prelude.{ℕ, Bool, true, false, not, ◌&&◌, nat_le, List, [], ◌∷◌, Option, Some, None, Result, Ok, Err, is_some, is_ok, unwrap_or, if◌then◌else◌, bytes_eq, codes}
+-- The rows of a new order on its fields, each over the field alone, and what a field that is refused by none says.
+-- `proofs/Fields.antt` has that they are the rows of `order_law` on the message's tags, and say what the message asks.
+use Rattle.std.specs.Prelude.{ℕ, Bool, true, false, not, ◌&&◌, nat_le, List, [], ◌∷◌, Option, Some, None, Result, Ok, Err, is_some, is_ok, unwrap_or, slice_index, if◌then◌else◌, bytes_eq, codes}
 use Rattle.std.specs.List.{list_any}
 use Rattle.std.specs.Result.{result_unwrap_or}
 use Rattle.fixed_point.specs.Decimal.{price, quantity}
@@ -8,10 +9,13 @@ use Rattle.fixed_point.specs.declared.refusal.DecimalRefusal.TheVariants.{NotFlo
 use Rattle.fix_types.specs.declared.new_order.NewOrder.{NewOrder}
 use Rattle.fix_types.specs.Slots.{char_text}
 use Rattle.order_law.specs.Asks.{LifeTime, Day, Immediate}
-use Rattle.order_law.specs.Verdicts.{Row, Verdict, Refused, first_row, sides, life_times, capacities, is_symbol}
+use Rattle.order_law.specs.Verdicts.{Row, sides, life_times, capacities, is_symbol}
 use Rattle.order_core.specs.declared.refusal.Refusal.{Refusal}
 use Rattle.order_core.specs.declared.refusal.Refusal.TheVariants as refusals
 use Rattle.order_core.specs.Refusals.{code_of, words_of}
+
+abbrev letter : List ℕ → ℕ
+letter name = slice_index name 0
 
 -- a value is one of these
 abbrev pub is_among : List (List ℕ) → List ℕ → Bool
@@ -29,8 +33,8 @@ life_time (Some value) = if bytes_eq value (codes "3") then Immediate else Day
 
 -- 18=6 isn't displayed
 abbrev pub display : Option (List ℕ) → ℕ
-display None = 89
-display (Some value) = if bytes_eq value (codes "6") then 80 else 89
+display None = letter (codes "Y")
+display (Some value) = if bytes_eq value (codes "6") then letter (codes "P") else letter (codes "Y")
 
 -- 110, where it is there
 abbrev pub minimum : Option (List ℕ) → ℕ
@@ -47,6 +51,7 @@ abbrev pub is_no_minimum : ℕ → Option (List ℕ) → Bool
 is_no_minimum total None = false
 is_no_minimum total (Some value) = not (is_up_to total (quantity 0 value))
 
+-- a price that was refused by its range
 abbrev pub is_out_of_range : Result ℕ DecimalRefusal → Bool
 is_out_of_range (Ok n) = false
 is_out_of_range (Err NotFloat) = false

@@ -1,6 +1,6 @@
 //! What a new order asks, in the market's words, or the first reason why it can't be asked.
 
-ghost use Rattle.std.specs.Prelude.{◌≡◌, ℕ, ◌-◌, List, ◌++◌, ◌∷◌, [], Option, true, false, length, replicate, unwrap_or, is_ok, Ok, Some, IfSome, MatchOption, MatchResult};
+ghost use Rattle.std.specs.Prelude.{◌≡◌, ℕ, ◌-◌, List, ◌++◌, ◌∷◌, [], Option, true, false, length, replicate, unwrap_or, codes, is_ok, Ok, Some, IfSome, MatchOption, MatchResult};
 ghost use Rattle.wire_law.specs.Printable.{is_printable, ArePrintable};
 ghost use Rattle.fixed_point.specs.Decimal as decimal;
 ghost use Rattle.fix_types.specs.NewOrder.{new_order_fields};
@@ -20,13 +20,12 @@ ghost use Rattle.order_core.specs.Refusals.{refused_by};
 
 mod new_ask;
 
-pub use new_ask::NewAsk;
-
 use crate::client_terms::ClientTerms;
 use crate::refusal::Refusal;
 use fix_fields::Text;
 use fix_types::{Character, FloatText, NewOrder};
 use fixed_point::{DecimalRefusal, Price4, Shares, parse_price, parse_qty};
+pub use new_ask::NewAsk;
 use ouch_codec::{EnterOrder, Side};
 use tokens::Token;
 use wire_law::{are_visible, padded};
@@ -42,7 +41,7 @@ const IMMEDIATE: u32 = 0;
 pub fn ask_of(order: &NewOrder, terms: &ClientTerms) -> Result<NewAsk, Refusal>
     ensures { MatchResult result
         (λ ask. (first_row (field_rows (new_order_fields order.now)) ≡ Accepted)
-            × AsksAs ask terms.now.capacity (new_order_fields order.now))
+        × AsksAs ask terms.now.capacity (new_order_fields order.now))
         (λ refusal. first_row (field_rows (new_order_fields order.now)) ≡ refused_by refusal) }
 {
     let side = side_of(order.side).ok_or(Refusal::Side)?;
@@ -75,7 +74,7 @@ pub fn enter_order(ask: &NewAsk, token: Token, terms: &ClientTerms) -> EnterOrde
     ensures price { result.price ≡ ask.now.price }
     ensures says { (m : Message) → AsksAs ask.now terms.now.capacity m → (order : List ℕ) (order_of : List ℕ → Option ℕ)
         → Says (standing_of terms.now) order_of (asked_with order token terms.now.capacity m)
-            (spelled layouts.enter_order (enter_order_row result)) }
+        (spelled layouts.enter_order (enter_order_row result)) }
 {
     EnterOrder {
         token: token.bytes(),
@@ -141,7 +140,7 @@ fn time_in_force_of(time_in_force: Option<Character>) -> Option<u32>
     ensures { MatchOption result
         (is_other life_times (char_text time_in_force) ≡ true)
         (λ seconds. (is_other life_times (char_text time_in_force) ≡ false)
-            × (life_time_of_seconds seconds ≡ Some (fields.life_time (char_text time_in_force)))) }
+        × (life_time_of_seconds seconds ≡ Some (fields.life_time (char_text time_in_force)))) }
 {
     let Some(time_in_force) = time_in_force else {
         return Some(DAY);
@@ -156,8 +155,8 @@ fn time_in_force_of(time_in_force: Option<Character>) -> Option<u32>
 /// ExecInst (18): 6 participate don't initiate, which is displayed as post-only; missing, displayed.
 fn display_of(exec_inst: &Option<Text>) -> Option<u8>
     ensures row { MatchOption result
-        (is_other ((54 ∷ []) ∷ []) exec_inst.now ≡ true)
-        (λ display. (is_other ((54 ∷ []) ∷ []) exec_inst.now ≡ false) × (display ≡ fields.display exec_inst.now)) }
+        (is_other (codes "6" ∷ []) exec_inst.now ≡ true)
+        (λ display. (is_other (codes "6" ∷ []) exec_inst.now ≡ false) × (display ≡ fields.display exec_inst.now)) }
     ensures printable { IfSome result (λ display. is_printable display ≡ true) }
 {
     let Some(exec_inst) = exec_inst else {
@@ -174,7 +173,7 @@ fn capacity_of(order_capacity: Option<Character>, terms: &ClientTerms) -> Option
     ensures row { MatchOption result
         (is_other capacities (char_text order_capacity) ≡ true)
         (λ capacity. (is_other capacities (char_text order_capacity) ≡ false)
-            × (capacity ≡ unwrap_or order_capacity terms.now.capacity)) }
+        × (capacity ≡ unwrap_or order_capacity terms.now.capacity)) }
     ensures printable { IfSome result (λ capacity. is_printable capacity ≡ true) }
 {
     let Some(order_capacity) = order_capacity else {

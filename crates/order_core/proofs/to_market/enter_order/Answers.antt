@@ -1,13 +1,5 @@
-use Rattle.std.proofs.Common.{rules, ◌≡◌, ℕ, List, refl, ◌∙◌}
-use Rattle.std.specs.Prelude.{Option}
+use Rattle.std.proofs.Common.{rules, refl}
 use Rattle.ouch_codec.specs.declared.inbound.enter_order.EnterOrder.{EnterOrder}
-use Rattle.ouch_codec.specs.Layout.{spelled}
-use Rattle.ouch_codec.specs.Layouts as layouts
-use Rattle.ouch_codec.specs.Rows.{enter_order_row}
-use Rattle.ouch_codec.specs.EnterOrderParts.{SaysEnterOrder, SaysEnterOrder-written}
-use Rattle.order_law.specs.Headline.{Says}
-use Rattle.order_law.specs.Messages.{Message}
-use Rattle.order_core.specs.NewAsks.{AsksAs, asked_with, standing_of}
 use Rattle.order_core.proofs.EnterOrders.{Enters, says_what_is_asked}
 use Rattle.order_core.proofs.to_market.enter_order.Goals as goal
 
