@@ -1,7 +1,11 @@
 -- What an ask is to a new order, and what the market is asked by it.
 use Rattle.std.specs.Prelude.{◌≡◌, ℕ, ◌-◌, List, ◌++◌, length, replicate, Some}
+use Rattle.ouch_codec.specs.declared.inbound.enter_order.EnterOrder.{EnterOrder}
+use Rattle.ouch_codec.specs.Layout.{spelled}
+use Rattle.ouch_codec.specs.Layouts.{enter_order}
 use Rattle.ouch_codec.specs.Letters.{side_letter}
 use Rattle.ouch_codec.specs.Parts.{unpadded}
+use Rattle.ouch_codec.specs.Rows.{enter_order_row}
 use Rattle.order_law.specs.Messages.{Message, text, character}
 use Rattle.order_law.specs.Asks.{Standing, total_of, limit_of, minimum_of, display_of, life_time_of, capacity_of, asked_by_new, side_of_letter, life_time_of_seconds}
 use Rattle.order_law.specs.History.{Asked, SaysNew}
@@ -27,3 +31,7 @@ standing_of terms = record { firm = terms.firm; customer = terms.customer }
 -- what an accepted new order asks of the market, by a token of its own
 abbrev pub asked_with : List ℕ → List ℕ → ℕ → Message → Asked
 asked_with order token own m = record { order = order; said = SaysNew token; ask = Some (asked_by_new own m) }
+
+-- the bytes that an Enter Order is written as
+abbrev pub enter_bytes : EnterOrder → List ℕ
+enter_bytes enter = spelled enter_order (enter_order_row enter)

@@ -1,21 +1,18 @@
 //! What a new order asks, in the market's words, or the first reason why it can't be asked.
 
-ghost use Rattle.std.specs.Prelude.{◌≡◌, ℕ, ◌-◌, List, ◌++◌, ◌∷◌, [], Option, true, false, length, replicate, unwrap_or, codes, is_ok, Ok, Some, IfSome, MatchOption, MatchResult};
+ghost use Rattle.std.specs.Prelude.{◌≡◌, ℕ, ◌-◌, List, ◌++◌, ◌∷◌, [], Option, true, false, length, replicate, unwrap_or, codes, is_ok, Ok, Some, IfSome, IfOk, MatchOption, MatchResult};
 ghost use Rattle.wire_law.specs.Printable.{is_printable, ArePrintable};
 ghost use Rattle.fixed_point.specs.Decimal as decimal;
 ghost use Rattle.fix_types.specs.NewOrder.{new_order_fields};
 ghost use Rattle.fix_types.specs.Slots.{char_text};
 ghost use Rattle.ouch_codec.specs.Letters.{side_letter};
-ghost use Rattle.ouch_codec.specs.Layout.{spelled};
-ghost use Rattle.ouch_codec.specs.Layouts as layouts;
-ghost use Rattle.ouch_codec.specs.Rows.{enter_order_row};
 ghost use Rattle.order_law.specs.Asks.{side_of_letter, life_time_of_seconds};
 ghost use Rattle.order_law.specs.Headline.{Says};
 ghost use Rattle.order_law.specs.Messages.{Message};
 ghost use Rattle.order_law.specs.Verdicts.{Accepted, first_row, field_rows, sides, life_times, capacities, is_symbol};
 ghost use Rattle.order_core.specs.FieldRows.{is_among, is_other, is_no_minimum, price_rows};
 ghost use Rattle.order_core.specs.FieldRows as fields;
-ghost use Rattle.order_core.specs.NewAsks.{AsksAs, asked_with, standing_of};
+ghost use Rattle.order_core.specs.NewAsks.{AsksAs, asked_with, enter_bytes, standing_of};
 ghost use Rattle.order_core.specs.Refusals.{refused_by};
 
 mod new_ask;
@@ -39,10 +36,10 @@ const IMMEDIATE: u32 = 0;
 
 /// What a new order asks, or the first of the table's rows on its fields that holds.
 pub fn ask_of(order: &NewOrder, terms: &ClientTerms) -> Result<NewAsk, Refusal>
-    ensures { MatchResult result
-        (λ ask. (first_row (field_rows (new_order_fields order.now)) ≡ Accepted)
-        × AsksAs ask terms.now.capacity (new_order_fields order.now))
+    ensures verdict { MatchResult result
+        (λ ask. first_row (field_rows (new_order_fields order.now)) ≡ Accepted)
         (λ refusal. first_row (field_rows (new_order_fields order.now)) ≡ refused_by refusal) }
+    ensures asks { IfOk result (λ ask. AsksAs ask terms.now.capacity (new_order_fields order.now)) }
 {
     let side = side_of(order.side).ok_or(Refusal::Side)?;
     let stock = stock_of(&order.symbol).ok_or(Refusal::Symbol)?;
@@ -73,8 +70,7 @@ pub fn enter_order(ask: &NewAsk, token: Token, terms: &ClientTerms) -> EnterOrde
     ensures stock { result.stock ≡ ask.now.stock }
     ensures price { result.price ≡ ask.now.price }
     ensures says { (m : Message) → AsksAs ask.now terms.now.capacity m → (order : List ℕ) (order_of : List ℕ → Option ℕ)
-        → Says (standing_of terms.now) order_of (asked_with order token terms.now.capacity m)
-        (spelled layouts.enter_order (enter_order_row result)) }
+        → Says (standing_of terms.now) order_of (asked_with order token terms.now.capacity m) (enter_bytes result) }
 {
     EnterOrder {
         token: token.bytes(),
