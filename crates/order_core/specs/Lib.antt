@@ -1,1 +1,4 @@
 pub mod State
+pub mod Refusals
+pub mod FieldRows
+pub mod NewAsks

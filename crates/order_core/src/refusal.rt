@@ -1,7 +1,8 @@
 //! The table of verdicts on a new order: a row each, in the order in which they are judged.
 
-ghost use Rattle.std.specs.Prelude.{IfOk};
+ghost use Rattle.std.specs.Prelude.{◌≡◌, ◌++◌, IfOk, codes, decimal};
 ghost use Rattle.fix_fields.specs.Field.{IsValue};
+ghost use Rattle.order_core.specs.Refusals.{code_of, words_of, fixed_words};
 
 use fix_fields::Text;
 use itoa::Buffer;
@@ -49,7 +50,9 @@ pub enum Refusal {
 impl Refusal {
     /// OrdRejReason (103): 1 unknown symbol, 2 exchange closed, 3 order exceeds limit, 6 duplicate order, 11
     /// unsupported order characteristic, 13 incorrect quantity, 99 other.
-    pub fn code(self) -> u64 {
+    pub fn code(self) -> u64
+        ensures { result ≡ code_of self }
+    {
         match self {
             Refusal::DuplicateClOrdId => 6,
             Refusal::PortEnded | Refusal::PortFaulted(_) => 2,
@@ -69,7 +72,9 @@ impl Refusal {
     }
 
     /// Text (58).
-    pub fn text(self, alloc: Global) -> Result<Text, AllocError> {
+    pub fn text(self, alloc: Global) -> Result<Text, AllocError>
+        ensures { IfOk result (λ text. text ≡ words_of self) }
+    {
         match self {
             Refusal::PortFaulted(number) => fault_text(alloc, number),
             _ => Text::copied(alloc, self.words()),
@@ -78,7 +83,8 @@ impl Refusal {
 
     /// The words of a row; of a fault without its number.
     fn words(self) -> &'static [u8]
-        ensures { IsValue result.now }
+        ensures words { result.now ≡ fixed_words self }
+        ensures value { IsValue result.now }
     {
         match self {
             Refusal::DuplicateClOrdId => b"duplicate ClOrdID",
@@ -102,7 +108,9 @@ impl Refusal {
 }
 
 /// `port fault` and the number of the fault.
-fn fault_text(alloc: Global, number: u8) -> Result<Text, AllocError> {
+fn fault_text(alloc: Global, number: u8) -> Result<Text, AllocError>
+    ensures { IfOk result (λ text. text ≡ codes "port fault " ++ decimal number) }
+{
     let mut buffer = Buffer::new();
     let mut text = Vec::from_slice(alloc, b"port fault ")?;
     text.extend_from_slice(buffer.format(number).as_bytes())?;

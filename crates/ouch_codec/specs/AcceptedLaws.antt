@@ -7,7 +7,7 @@ use Rattle.ouch_codec.specs.Rows.{accepted_row}
 use Rattle.ouch_codec.specs.LayoutLaws.{length-spelled, IsMessage-spelled, same_message}
 
 -- each value of its row is one that the field can say
-abbrev known : (m : Accepted) → AreValues accepted (accepted_row m)
+abbrev pub known : (m : Accepted) → AreValues accepted (accepted_row m)
 known m =
     tt
     ⨾ m.timestamp_set

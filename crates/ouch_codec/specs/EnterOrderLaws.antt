@@ -7,7 +7,7 @@ use Rattle.ouch_codec.specs.Rows.{enter_order_row}
 use Rattle.ouch_codec.specs.LayoutLaws.{length-spelled, IsMessage-spelled, same_message}
 
 -- each value of its row is one that the field can say
-abbrev known : (m : EnterOrder) → AreValues enter_order (enter_order_row m)
+abbrev pub known : (m : EnterOrder) → AreValues enter_order (enter_order_row m)
 known m =
     tt
     ⨾ m.token_set

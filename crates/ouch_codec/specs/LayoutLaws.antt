@@ -21,7 +21,8 @@ intended_shares_pass n most = grind (arith, nat_tests)
 same_byte : (n : ℕ) → (n == n) ≡ true
 same_byte n = grind (arith, nat_tests)
 
-length-field : (kind : Kind) (v : Value kind) → IsValue kind v → length (field kind v) ≡ width kind
+-- a field takes as many bytes as its kind says
+pub length-field : (kind : Kind) (v : Value kind) → IsValue kind v → length (field kind v) ≡ width kind
 length-field (Constant byte) v known = refl
 length-field SideLetter v known = refl
 length-field OrderStateLetter v known = refl

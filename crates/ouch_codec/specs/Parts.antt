@@ -11,13 +11,18 @@ bytes_at offset count message = take count (drop offset message)
 abbrev pub number_at : ℕ → ℕ → List ℕ → ℕ
 number_at offset count message = fold (λ n byte. 256 * n + byte) 0 (bytes_at offset count message)
 
-abbrev without_spaces : List ℕ → List ℕ
+-- a text without the spaces in front of it
+abbrev pub without_spaces : List ℕ → List ℕ
 without_spaces [] = []
 without_spaces (byte ∷ bytes) = if byte == 32 then without_spaces bytes else (byte ∷ bytes)
 
+-- a text without the spaces behind it
+abbrev pub unpadded : List ℕ → List ℕ
+unpadded text = reverse (without_spaces (reverse text))
+
 -- its text, without the spaces behind it
 abbrev pub text_at : ℕ → ℕ → List ℕ → List ℕ
-text_at offset count message = reverse (without_spaces (reverse (bytes_at offset count message)))
+text_at offset count message = unpadded (bytes_at offset count message)
 
 -- its one byte
 abbrev pub byte_at : ℕ → List ℕ → ℕ

@@ -1,0 +1,138 @@
+-- What a new order's fields are read as, and the rows on them.
+use Rattle.std.proofs.Common.{◌≡◌, Bool, ℕ, List, [], ◌∷◌, refl, ap, ◌∙◌}
+use Rattle.std.specs.Prelude.{◌&&◌, not, Option, Some, None, is_some, is_ok, unwrap_or, bytes_eq, codes, slice_index, if◌then◌else◌}
+use Rattle.std.specs.List.{list_any}
+use Rattle.std.specs.Result.{result_unwrap_or}
+use Rattle.fixed_point.specs.Decimal.{price, quantity}
+use Rattle.fix_fields.specs.Field.{first_value}
+use Rattle.fix_types.specs.declared.new_order.NewOrder.{NewOrder}
+use Rattle.fix_types.specs.Slots.{char_text}
+use Rattle.fix_types.specs.NewOrder.{new_order_slots, new_order_fields}
+use Rattle.fix_types.proofs.Lookups.{first_value-fields_of}
+use Rattle.fix_types.proofs.Written.{value_is}
+use Rattle.order_law.specs.Messages.{Message, has, text, is, is_one_of, character}
+use Rattle.order_law.specs.Asks.{Day, Immediate, total_of, limit_of, minimum_of, display_of, life_time_of, capacity_of}
+use Rattle.order_law.specs.Verdicts.{Row, field_rows, sides, life_times, capacities, is_symbol, is_minimum}
+use Rattle.order_core.specs.declared.refusal.Refusal.TheVariants as refusals
+use Rattle.order_core.specs.FieldRows.{is_among, is_other, life_time, display, minimum, is_no_minimum, is_out_of_range, row, rows_of}
+
+-- the value of each tag
+pub side-value : (m : NewOrder) → first_value 54 (new_order_fields m) ≡ Some (m.side ∷ [])
+side-value m = first_value-fields_of 54 (new_order_slots m)
+
+pub symbol-value : (m : NewOrder) → first_value 55 (new_order_fields m) ≡ Some m.symbol
+symbol-value m = first_value-fields_of 55 (new_order_slots m)
+
+pub quantity-value : (m : NewOrder) → first_value 38 (new_order_fields m) ≡ Some m.order_qty
+quantity-value m = first_value-fields_of 38 (new_order_slots m)
+
+pub type-value : (m : NewOrder) → first_value 40 (new_order_fields m) ≡ Some (m.ord_type ∷ [])
+type-value m = first_value-fields_of 40 (new_order_slots m)
+
+pub price-value : (m : NewOrder) → first_value 44 (new_order_fields m) ≡ m.price
+price-value m = value_is 44 m m.price refl
+
+pub life_time-value : (m : NewOrder) → first_value 59 (new_order_fields m) ≡ char_text m.time_in_force
+life_time-value m = value_is 59 m (char_text m.time_in_force) refl
+
+pub instruction-value : (m : NewOrder) → first_value 18 (new_order_fields m) ≡ m.exec_inst
+instruction-value m = value_is 18 m m.exec_inst refl
+
+pub capacity-value : (m : NewOrder) → first_value 528 (new_order_fields m) ≡ char_text m.order_capacity
+capacity-value m = value_is 528 m (char_text m.order_capacity) refl
+
+pub minimum-value : (m : NewOrder) → first_value 110 (new_order_fields m) ≡ m.min_qty
+minimum-value m = value_is 110 m m.min_qty refl
+
+-- the tests on a value that may be missing
+other_test : (wanted : List (List ℕ)) (v : Option (List ℕ)) → (is_some v && not (list_any (λ wanted_text. bytes_eq (unwrap_or v []) wanted_text) wanted)) ≡ is_other wanted v
+other_test wanted None = refl
+other_test wanted (Some value) = refl
+
+other-same : (tag : ℕ) (wanted : List (List ℕ)) (m : Message) (v : Option (List ℕ)) → first_value tag m ≡ v → (has tag m && not (is_one_of tag wanted m)) ≡ is_other wanted v
+other-same tag wanted m v e = rw e (other_test wanted v)
+
+no_minimum : (total : ℕ) (v : Option (List ℕ)) (m : Message) → first_value 110 m ≡ v → total_of m ≡ total → (has 110 m && not (is_minimum m)) ≡ is_no_minimum total v
+no_minimum total None m e t = rw e refl
+no_minimum total (Some value) m e t = rw (e, t) refl
+
+-- the rows as a table of their tests
+unfoldable table : (side symbol type life instruction capacity quantity minimum missing inexact outside : Bool) → List Row
+table side symbol type life instruction capacity quantity minimum missing inexact outside =
+    row side refusals.Side
+    ∷ row symbol refusals.Symbol
+    ∷ row type refusals.OrderType
+    ∷ row life refusals.TimeInForce
+    ∷ row instruction refusals.ExecutionInstruction
+    ∷ row capacity refusals.Capacity
+    ∷ row quantity refusals.Quantity
+    ∷ row minimum refusals.MinimumQuantity
+    ∷ row missing refusals.PriceMissing
+    ∷ row inexact refusals.PriceNotExact
+    ∷ row outside refusals.PriceOutOfRange
+    ∷ []
+
+as_table : (m : Message) → field_rows m ≡ table (not (is_one_of 54 sides m)) (not (is_symbol (text 55 m))) (not (is 40 (codes "2") m)) (has 59 m && not (is_one_of 59 life_times m)) (has 18 m && not (is_one_of 18 (codes "6" ∷ []) m)) (has 528 m && not (is_one_of 528 capacities m)) (not (is_ok (quantity 1 (text 38 m)))) (has 110 m && not (is_minimum m)) (not (has 44 m)) (not (is_ok (price (text 44 m))) && not (is_out_of_range (price (text 44 m)))) (is_out_of_range (price (text 44 m)))
+unfolding table
+as_table m = refl
+
+table_of : (m : NewOrder) → table (not (is_among sides (m.side ∷ []))) (not (is_symbol m.symbol)) (not (bytes_eq (m.ord_type ∷ []) (codes "2"))) (is_other life_times (char_text m.time_in_force)) (is_other (codes "6" ∷ []) m.exec_inst) (is_other capacities (char_text m.order_capacity)) (not (is_ok (quantity 1 m.order_qty))) (is_no_minimum (result_unwrap_or (quantity 1 m.order_qty) 0) m.min_qty) (not (is_some m.price)) (not (is_ok (price (unwrap_or m.price []))) && not (is_out_of_range (price (unwrap_or m.price [])))) (is_out_of_range (price (unwrap_or m.price []))) ≡ rows_of m
+unfolding table
+table_of m = refl
+
+-- a field that is always there
+text_there : (tag : ℕ) (m : Message) (value : List ℕ) → first_value tag m ≡ Some value → text tag m ≡ value
+text_there tag m value e = ap (λ (v : Option (List ℕ)). unwrap_or v []) e
+
+pub total_of-fields : (m : NewOrder) → total_of (new_order_fields m) ≡ result_unwrap_or (quantity 1 m.order_qty) 0
+total_of-fields m = ap (λ (t : List ℕ). result_unwrap_or (quantity 1 t) 0) (text_there 38 (new_order_fields m) m.order_qty (quantity-value m))
+
+-- the rows on a message are those on its fields
+pub field_rows-fields : (m : NewOrder) → field_rows (new_order_fields m) ≡ rows_of m
+field_rows-fields m =
+    let fs : Message = new_order_fields m in
+    let side : not (is_one_of 54 sides fs) ≡ not (is_among sides (m.side ∷ [])) = ap (λ (t : List ℕ). not (is_among sides t)) (text_there 54 fs _ (side-value m)) in
+    let symbol : not (is_symbol (text 55 fs)) ≡ not (is_symbol m.symbol) = ap (λ (t : List ℕ). not (is_symbol t)) (text_there 55 fs _ (symbol-value m)) in
+    let type : not (is 40 (codes "2") fs) ≡ not (bytes_eq (m.ord_type ∷ []) (codes "2")) = ap (λ (t : List ℕ). not (bytes_eq t (codes "2"))) (text_there 40 fs _ (type-value m)) in
+    let quantity_there : not (is_ok (quantity 1 (text 38 fs))) ≡ not (is_ok (quantity 1 m.order_qty)) = ap (λ (t : List ℕ). not (is_ok (quantity 1 t))) (text_there 38 fs _ (quantity-value m)) in
+    let missing : not (has 44 fs) ≡ not (is_some m.price) = ap (λ (v : Option (List ℕ)). not (is_some v)) (price-value m) in
+    let text_of_price : text 44 fs ≡ unwrap_or m.price [] = ap (λ (v : Option (List ℕ)). unwrap_or v []) (price-value m) in
+    as_table fs
+    ∙ rw (side, symbol, type, other-same 59 life_times fs _ (life_time-value m), other-same 18 (codes "6" ∷ []) fs _ (instruction-value m), other-same 528 capacities fs _ (capacity-value m), quantity_there, no_minimum _ m.min_qty fs (minimum-value m) (total_of-fields m), missing, text_of_price) (table_of m)
+
+pub character-fields : (m : NewOrder) → character 54 (new_order_fields m) ≡ m.side
+character-fields m = ap (λ (t : List ℕ). slice_index t 0) (text_there 54 (new_order_fields m) _ (side-value m))
+
+pub symbol-fields : (m : NewOrder) → text 55 (new_order_fields m) ≡ m.symbol
+symbol-fields m = text_there 55 (new_order_fields m) m.symbol (symbol-value m)
+
+pub limit_of-fields : (m : NewOrder) → limit_of (new_order_fields m) ≡ result_unwrap_or (price (unwrap_or m.price [])) 0
+limit_of-fields m = ap (λ (v : Option (List ℕ)). result_unwrap_or (price (unwrap_or v [])) 0) (price-value m)
+
+life_time_test : (v : Option (List ℕ)) → (if bytes_eq (unwrap_or v []) (codes "3") then Immediate else Day) ≡ life_time v
+life_time_test None = refl
+life_time_test (Some value) = refl
+
+pub life_time_of-fields : (m : NewOrder) → life_time_of (new_order_fields m) ≡ life_time (char_text m.time_in_force)
+life_time_of-fields m = ap (λ (v : Option (List ℕ)). if bytes_eq (unwrap_or v []) (codes "3") then Immediate else Day) (life_time-value m) ∙ life_time_test (char_text m.time_in_force)
+
+display_test : (v : Option (List ℕ)) → (if bytes_eq (unwrap_or v []) (codes "6") then 80 else 89) ≡ display v
+display_test None = refl
+display_test (Some value) = refl
+
+pub display_of-fields : (m : NewOrder) → display_of (new_order_fields m) ≡ display m.exec_inst
+display_of-fields m = ap (λ (v : Option (List ℕ)). if bytes_eq (unwrap_or v []) (codes "6") then 80 else 89) (instruction-value m) ∙ display_test m.exec_inst
+
+capacity_test : (own : ℕ) (c : Option ℕ) → (if is_some (char_text c) then slice_index (unwrap_or (char_text c) []) 0 else own) ≡ unwrap_or c own
+capacity_test own None = refl
+capacity_test own (Some byte) = refl
+
+pub capacity_of-fields : (own : ℕ) (m : NewOrder) → capacity_of own (new_order_fields m) ≡ unwrap_or m.order_capacity own
+capacity_of-fields own m = ap (λ (v : Option (List ℕ)). if is_some v then slice_index (unwrap_or v []) 0 else own) (capacity-value m) ∙ capacity_test own m.order_capacity
+
+minimum_test : (v : Option (List ℕ)) → (if is_some v then result_unwrap_or (quantity 0 (unwrap_or v [])) 0 else 0) ≡ minimum v
+minimum_test None = refl
+minimum_test (Some value) = refl
+
+pub minimum_of-fields : (m : NewOrder) → minimum_of (new_order_fields m) ≡ minimum m.min_qty
+minimum_of-fields m = ap (λ (v : Option (List ℕ)). if is_some v then result_unwrap_or (quantity 0 (unwrap_or v [])) 0 else 0) (minimum-value m) ∙ minimum_test m.min_qty

@@ -1,0 +1,58 @@
+-- What the bytes of an Enter Order say, by the offsets of its layout, are the fields that it was made of.
+use Rattle.std.proofs.Common.{◌≡◌, ℕ, true, List, arith}
+use Rattle.std.specs.Prelude.{codes, slice_index}
+use Rattle.ouch_codec.specs.declared.inbound.enter_order.EnterOrder.{EnterOrder}
+use Rattle.ouch_codec.specs.Letters.{side_letter}
+use Rattle.ouch_codec.specs.Layout.{is_message, spelled}
+use Rattle.ouch_codec.specs.Layouts.{enter_order}
+use Rattle.ouch_codec.specs.Rows.{enter_order_row}
+use Rattle.ouch_codec.specs.EnterOrderLaws.{known, IsMessage-enter_order}
+use Rattle.ouch_codec.specs.MessageLaws.{is_message-passes}
+use Rattle.ouch_codec.specs.Parts.{bytes_at, type_of, unpadded}
+use Rattle.ouch_codec.specs.PartLaws.{bytes_at-spelled, byte_at-one, number_at-four, text_at-unpadded, offset_of, width_of, part}
+use Rattle.ouch_codec.specs.ToMarket as said
+
+-- these bytes are an Enter Order that says the fields of this one
+pub record SaysEnterOrder (m : EnterOrder) (bytes : List ℕ) : Type 0 where
+  pub is_one : is_message enter_order bytes ≡ true
+  pub type : type_of bytes ≡ slice_index (codes "O") 0
+  pub token : said.token bytes ≡ m.token
+  pub side : said.enter_side bytes ≡ side_letter m.side
+  pub shares : said.enter_shares bytes ≡ m.shares
+  pub stock : said.enter_stock bytes ≡ unpadded m.stock
+  pub price : said.enter_price bytes ≡ m.price
+  pub time_in_force : said.enter_time_in_force bytes ≡ m.time_in_force
+  pub firm : said.enter_firm bytes ≡ m.firm
+  pub display : said.enter_display bytes ≡ m.display
+  pub capacity : said.enter_capacity bytes ≡ m.capacity
+  pub sweep : said.enter_sweep bytes ≡ m.intermarket_sweep
+  pub minimum : said.enter_minimum bytes ≡ m.minimum_quantity
+  pub cross : said.enter_cross bytes ≡ m.cross_type
+  pub customer : said.enter_customer bytes ≡ m.customer_type
+
+-- what it is written as
+abbrev written : EnterOrder → List ℕ
+written m = spelled enter_order (enter_order_row m)
+
+at_place : (m : EnterOrder) (place : ℕ) → bytes_at (offset_of enter_order place) (width_of enter_order place) (written m) ≡ part enter_order (enter_order_row m) place
+at_place m place = bytes_at-spelled enter_order (enter_order_row m) place (known m)
+
+-- an Enter Order is written as bytes that say it
+pub SaysEnterOrder-written : (m : EnterOrder) → SaysEnterOrder m (spelled enter_order (enter_order_row m))
+SaysEnterOrder-written m = record {
+  is_one = is_message-passes enter_order (written m) (IsMessage-enter_order m);
+  type = byte_at-one 0 _ (written m) (at_place m 0);
+  token = at_place m 1;
+  side = byte_at-one 15 _ (written m) (at_place m 2);
+  shares = number_at-four 16 m.shares (written m) (omega (arith, m.shares_set.1)) (at_place m 3);
+  stock = text_at-unpadded 20 8 (written m) m.stock (at_place m 4);
+  price = number_at-four 28 m.price (written m) m.price_set (at_place m 5);
+  time_in_force = number_at-four 32 m.time_in_force (written m) m.time_in_force_set (at_place m 6);
+  firm = at_place m 7;
+  display = byte_at-one 40 _ (written m) (at_place m 8);
+  capacity = byte_at-one 41 _ (written m) (at_place m 9);
+  sweep = byte_at-one 42 _ (written m) (at_place m 10);
+  minimum = number_at-four 43 m.minimum_quantity (written m) m.minimum_quantity_set (at_place m 11);
+  cross = byte_at-one 47 _ (written m) (at_place m 12);
+  customer = byte_at-one 48 _ (written m) (at_place m 13);
+}
