@@ -1,4 +1,8 @@
 pub mod State
+pub mod Seen
+pub mod Meets
+pub mod Opening
 pub mod Refusals
 pub mod FieldRows
 pub mod NewAsks
+pub mod Amounts

@@ -1,29 +1,20 @@
--- What callers see of the order machine.
-use Rattle.std.specs.Prelude.{◌≡◌, ℕ, ◌+◌, ◌<◌, ◌≤◌, ◌^◌, vec_len}
-use Rattle.order_core.specs.declared.order_core.OrderCore.{OrderCore}
+-- What callers see of the order machine: its table.
+use Rattle.std.specs.Prelude.{ℕ, ◌+◌, ◌<◌, ◌≤◌, ◌^◌, length}
+use Rattle.order_machine.specs.Table.{State}
 
 -- how many clients there are
-abbrev pub clients : OrderCore → ℕ
-clients core = vec_len core.terms
+abbrev pub clients : State → ℕ
+clients s = length s.terms
 
 -- a client's number: from 1, in the order of the terms
-pub record IsClient (core : OrderCore) (client : ℕ) : Type 0 where
+pub record IsClient (s : State) (client : ℕ) : Type 0 where
   pub from_one : 1 ≤ client
-  pub known : client ≤ clients core
+  pub known : client ≤ clients s
 
 -- how many numbers were given, to orders, reports and tokens together
-abbrev pub issued : OrderCore → ℕ
-issued core = core.order_ids + core.exec_ids + core.tokens
+abbrev pub issued : State → ℕ
+issued s = s.order_ids + s.exec_ids + s.tokens
 
 -- numbers are left for one call more, and for far more than any day has
-abbrev pub HasRoom : OrderCore → Type 0
-HasRoom core = issued core < 2 ^ 60
-
--- the same orders, used ids and numbers
-pub record IsUnchanged (old new : OrderCore) : Type 0 where
-  pub terms : new.terms.items ≡ old.terms.items
-  pub orders : new.orders.items ≡ old.orders.items
-  pub used : new.used.items ≡ old.used.items
-  pub order_ids : new.order_ids ≡ old.order_ids
-  pub exec_ids : new.exec_ids ≡ old.exec_ids
-  pub tokens : new.tokens ≡ old.tokens
+abbrev pub HasRoom : State → Type 0
+HasRoom s = issued s < 2 ^ 60

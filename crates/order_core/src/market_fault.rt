@@ -2,6 +2,7 @@
 
 ghost use Rattle.std.specs.Prelude.{◌≡◌};
 ghost use Rattle.order_core.specs.declared.market_fault.MarketFault.TheVariants.{NoMemory};
+ghost use Rattle.order_core.specs.Seen.{number_of};
 
 use std::alloc::{AllocError, AllocFailed};
 use thiserror::Error;
@@ -23,7 +24,9 @@ pub enum MarketFault {
 
 impl MarketFault {
     /// The number of the fault, 1 to 4; 0 for `NoMemory`, which is no fault of the market's.
-    pub fn number(self) -> u8 {
+    pub fn number(self) -> u8
+        ensures { result ≡ number_of self }
+    {
         match self {
             MarketFault::NoMemory => 0,
             MarketFault::Undecodable => 1,

@@ -3,7 +3,10 @@
 mod accepted;
 mod new_order;
 
-ghost use Rattle.std.specs.Prelude.{◌≡◌, ◌≤◌, ◌+◌, length, IfOk, OnErr};
+ghost use Rattle.std.specs.Prelude.{◌≡◌, ◌≤◌, ◌+◌, Some, length, map, IfOk, OnErr};
+ghost use Rattle.order_machine.specs.Machine.{Given};
+ghost use Rattle.order_core.specs.Meets.{IsFaultOf};
+ghost use Rattle.order_core.specs.Opening.{fault_of_refusal};
 
 use crate::client_terms::ClientTerms;
 use crate::market_fault::MarketFault;
@@ -13,6 +16,7 @@ use crate::port_state::PortState;
 use fix_types::AppMsg;
 use ouch_codec::{DecodeRefusal, Outbound, decode};
 use std::alloc::{AllocError, Global};
+use std::marker::Model;
 
 /// The orders of all clients, and what is promised of them.
 ///
@@ -31,13 +35,35 @@ pub struct OrderCore {
     tokens: u64,
 }
 
+impl Model for OrderCore {
+    ghost use Rattle.std.specs.Prelude.{map};
+    ghost use Rattle.order_machine.specs.Table as table;
+    ghost use Rattle.order_core.specs.Seen.{terms_seen};
+
+    ghost Value = { table.State };
+
+    ghost view = { λ c. record {
+      terms = map terms_seen c.terms.items;
+      orders = c.orders.items;
+      used = c.used.items;
+      order_ids = c.order_ids;
+      exec_ids = c.exec_ids;
+      tokens = c.tokens;
+    } };
+}
+
 impl OrderCore {
-    ghost use Rattle.order_core.specs.State.{clients, IsClient, issued, HasRoom, IsUnchanged};
+    ghost use Rattle.order_machine.specs.Table.{empty};
+    ghost use Rattle.order_machine.specs.Machine.{market_step};
+    ghost use Rattle.order_core.specs.Seen.{terms_seen};
+    ghost use Rattle.order_core.specs.Meets.{MeetsMarket};
+    ghost use Rattle.order_core.specs.State.{clients, IsClient, issued, HasRoom};
 
     /// The machine of these clients, with no orders.
     pub fn new(alloc: Global, terms: &[ClientTerms]) -> Result<OrderCore, AllocError>
         ensures clients { IfOk result (λ core. clients core ≡ length terms.now) }
         ensures issued { IfOk result (λ core. issued core ≡ 0) }
+        ensures empty { IfOk result (λ core. core ≡ empty (map terms_seen terms.now)) }
     {
         Ok(OrderCore {
             terms: Vec::from_slice(alloc, terms)?,
@@ -64,7 +90,7 @@ impl OrderCore {
         requires room { HasRoom self.old }
         ensures clients { clients self.new ≡ clients self.old }
         ensures issued { issued self.new ≤ issued self.old + 3 }
-        ensures err { OnErr result (IsUnchanged self.old self.new) }
+        ensures err { OnErr result (self.new ≡ self.old) }
     {
         match message {
             AppMsg::New(order) => self.new_order(alloc, client, order, port),
@@ -83,15 +109,25 @@ impl OrderCore {
         payload: &[u8],
     ) -> Result<MarketOut, MarketFault>
         requires room { HasRoom self.old }
+        ensures meets { MeetsMarket (market_step self.old port payload.now) result self.new }
         ensures clients { clients self.new ≡ clients self.old }
         ensures issued { issued self.new ≤ issued self.old + 3 }
-        ensures err { OnErr result (IsUnchanged self.old self.new) }
+        ensures err { OnErr result (self.new ≡ self.old) }
     {
         match decode(payload) {
-            Err(DecodeRefusal::Type) => Err(MarketFault::OutsideProfile),
-            Err(_) => Err(MarketFault::Undecodable),
+            Err(refusal) => Err(fault_of(refusal)),
             Ok(Outbound::Skipped) => Ok(MarketOut::nothing(alloc)),
             Ok(Outbound::Accepted(accepted)) => self.accepted(alloc, port, &accepted),
         }
+    }
+}
+
+/// The fault of bytes that are refused.
+fn fault_of(refusal: DecodeRefusal) -> MarketFault
+    ensures { (g : Given) → g.fault ≡ Some (fault_of_refusal refusal) → IsFaultOf g result }
+{
+    match refusal {
+        DecodeRefusal::Type => MarketFault::OutsideProfile,
+        DecodeRefusal::Length | DecodeRefusal::Field => MarketFault::Undecodable,
     }
 }

@@ -1,21 +1,13 @@
 //! The list of orders, and the ids that clients have used.
 
-ghost use Rattle.std.specs.Prelude.{◌<◌, vec_len, IfSome};
+ghost use Rattle.std.specs.Prelude.{◌≡◌, ◌<◌, None, Some, length, slice_get, MatchOption};
+ghost use Rattle.std.specs.List.{find, position, position_or_len};
+ghost use Rattle.order_machine.specs.Table as table;
 
 use fix_fields::Text;
 use fix_types::{Character, ClOrdId};
-use ouch_codec::Side;
-
-/// How far an order has come.
-#[derive(Clone, Copy, Debug, PartialEq, Eq)]
-pub enum Stage {
-    /// Asked of the market, which hasn't answered.
-    Waiting,
-    /// On the market's book.
-    Open,
-    /// Nothing of it is open, for good.
-    Closed,
-}
+use order_law::Stage;
+use std::marker::Model;
 
 /// An accepted order.
 #[derive(Debug, Drop)]
@@ -30,12 +22,11 @@ pub struct Order {
     pub cl_ord_id: ClOrdId,
     /// The market's name for it.
     pub token: [u8; 14],
-    /// Symbol (55), and the same as the market has it.
+    /// Symbol (55).
     pub symbol: Text,
-    pub stock: [u8; 8],
-    /// Side (54), and the same as the market has it.
+    /// Side (54).
     pub side: Character,
-    pub market_side: Side,
+    /// How far it has come.
     pub stage: Stage,
     /// OrderQty (38), in shares.
     pub quantity: u32,
@@ -45,6 +36,26 @@ pub struct Order {
     pub leaves: u32,
 }
 
+impl Model for Order {
+    ghost use Rattle.order_machine.specs.Table as table;
+
+    ghost Value = { table.Order };
+
+    ghost view = { λ o. record {
+      client = o.client;
+      port = o.port;
+      order_id = o.order_id;
+      cl_ord_id = o.cl_ord_id;
+      token = o.token;
+      symbol = o.symbol;
+      side = o.side;
+      stage = o.stage;
+      quantity = o.quantity;
+      price = o.price;
+      leaves = o.leaves;
+    } };
+}
+
 /// An id that a client has used.
 #[derive(Debug, Drop)]
 pub struct UsedId {
@@ -52,35 +63,71 @@ pub struct UsedId {
     pub cl_ord_id: ClOrdId,
 }
 
+impl Model for UsedId {
+    ghost use Rattle.order_machine.specs.Table as table;
+
+    ghost Value = { table.UsedId };
+
+    ghost view = { λ u. record { client = u.client; cl_ord_id = u.cl_ord_id } };
+}
+
 /// Whether a client has used an id.
-pub fn is_used(used: &[UsedId], client: u16, cl_ord_id: &ClOrdId) -> bool {
-    for id in used {
-        if id.client == client && id.cl_ord_id.as_slice() == cl_ord_id.as_slice() {
-            return true;
-        }
-    }
-    false
+pub fn is_used(used: &[UsedId], client: u16, cl_ord_id: &ClOrdId) -> bool
+    ensures { result ≡ table.has_used used.now client cl_ord_id.now }
+{
+    used.iter().any(|id| is_same_id(client, cl_ord_id, id))
+}
+
+/// Whether a used id is the client's and this one.
+fn is_same_id(client: u16, cl_ord_id: &ClOrdId, used: &UsedId) -> bool
+    ensures { result ≡ table.is_same_id client cl_ord_id.now used.now }
+{
+    used.client == client && used.cl_ord_id.as_slice() == cl_ord_id.as_slice()
 }
 
 /// How many orders of a client aren't closed.
-pub fn open_count(orders: &[Order], client: u16) -> usize {
-    let mut count = 0usize;
-    for order in orders {
-        if order.client == client && order.stage != Stage::Closed {
-            count += 1;
-        }
-    }
-    count
+pub fn open_count(orders: &[Order], client: u16) -> usize
+    ensures { result ≡ table.open_count orders.now client }
+{
+    orders.iter().filter(|order| is_open_of(client, order)).count()
 }
 
-/// The place of the order of a port with this token.
-pub fn place_of(orders: &Vec<Order>, port: u16, token: &[u8; 14]) -> Option<usize>
-    ensures { IfSome result (λ place. place < vec_len orders.now) }
+/// Whether an order is the client's and not closed.
+fn is_open_of(client: u16, order: &Order) -> bool
+    ensures { result ≡ table.is_open_of client order.now }
 {
-    for (place, order) in orders.iter().enumerate() {
-        if order.port == port && order.token == *token {
-            return Some(place);
-        }
-    }
-    None
+    order.client == client && order.stage != Stage::Closed
+}
+
+/// The place of the order that a port has this token for.
+pub fn place_of(orders: &[Order], port: u16, token: &[u8; 14]) -> Option<usize>
+    ensures { MatchOption result
+        (find (table.goes_by port token.now) orders.now ≡ None)
+        (λ place. (place ≡ position_or_len (table.goes_by port token.now) orders.now)
+        × (place < length orders.now)
+        × (find (table.goes_by port token.now) orders.now ≡ slice_get orders.now place)) }
+{
+    first_by(orders, port, token)
+}
+
+/// The first place of such an order.
+fn first_by(orders: &[Order], port: u16, token: &[u8; 14]) -> Option<usize>
+    ensures { result ≡ position (table.goes_by port token.now) orders.now }
+{
+    orders.iter().position(|order| goes_by(port, token, order))
+}
+
+/// Whether a port has the token for an order.
+fn goes_by(port: u16, token: &[u8; 14], order: &Order) -> bool
+    ensures { result ≡ table.goes_by port token.now order.now }
+{
+    order.port == port && order.token == *token
+}
+
+/// The order at a place.
+pub fn order_at(orders: &[Order], place: usize) -> &Order
+    requires { place < length orders.now }
+    ensures { slice_get orders.now place ≡ Some result.now }
+{
+    &orders[place]
 }

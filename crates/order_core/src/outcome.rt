@@ -1,5 +1,7 @@
 //! What a step gives.
 
+ghost use Rattle.std.specs.Prelude.{◌≡◌, [], None};
+
 use fix_types::AppBody;
 use ouch_codec::Inbound;
 use std::alloc::Global;
@@ -23,7 +25,10 @@ pub struct MarketOut {
 
 impl MarketOut {
     /// No bodies, for nobody.
-    pub fn nothing(alloc: Global) -> MarketOut {
+    pub fn nothing(alloc: Global) -> MarketOut
+        ensures client { result.client ≡ None }
+        ensures bodies { result.bodies.items ≡ [] }
+    {
         MarketOut {
             client: None,
             bodies: Vec::new(alloc),

@@ -2,7 +2,11 @@
 
 ghost use Rattle.std.specs.Prelude.{◌≡◌, IfOk, decimal};
 ghost use Rattle.fixed_point.specs.Price as spec;
+ghost use Rattle.order_machine.specs.Machine.{report_of, refusal_of};
+ghost use Rattle.order_core.specs.Refusals.{code_of, words_of};
+ghost use Rattle.order_core.specs.Amounts.{with_amounts};
 
+use crate::orders::Order;
 use crate::refusal::Refusal;
 use fix_fields::Text;
 use fix_types::{Character, ClOrdId, ExecType, FloatText, NewOrder, OrdStatus, Report};
@@ -10,19 +14,9 @@ use fixed_point::print_price;
 use itoa::Buffer;
 use std::alloc::{AllocError, Global};
 
-/// An order as a report shows it.
+/// What a report says of an order in numbers.
 #[derive(Clone, Copy, Debug)]
-pub struct Shown<'a> {
-    /// OrderID (37).
-    pub order_id: u64,
-    /// ClOrdID (11).
-    pub cl_ord_id: &'a ClOrdId,
-    /// OrdStatus (39).
-    pub status: OrdStatus,
-    /// Symbol (55).
-    pub symbol: &'a Text,
-    /// Side (54).
-    pub side: Character,
+pub struct Amounts {
     /// OrderQty (38), in shares.
     pub quantity: u32,
     /// Price (44), in 1/10,000.
@@ -31,13 +25,17 @@ pub struct Shown<'a> {
     pub leaves: u32,
 }
 
-/// The report of what happened to an order of which nothing is executed.
+/// The report of what happened to an order of which nothing is executed, and which has these amounts then.
 pub fn report(
     alloc: Global,
     exec_id: u64,
     exec_type: ExecType,
-    order: Shown<'_>,
-) -> Result<Report, AllocError> {
+    ord_status: OrdStatus,
+    order: &Order,
+    amounts: Amounts,
+) -> Result<Report, AllocError>
+    ensures { IfOk result (λ r. r ≡ report_of exec_id exec_type ord_status (with_amounts amounts order.now)) }
+{
     Ok(Report {
         order_id: order.order_id,
         cl_ord_id: ClOrdId::copied(alloc, order.cl_ord_id.as_slice())?,
@@ -45,16 +43,16 @@ pub fn report(
         exec_id,
         exec_ref_id: None,
         exec_type,
-        ord_status: order.status,
+        ord_status,
         ord_rej_reason: None,
         exec_restatement_reason: None,
         symbol: Text::copied(alloc, order.symbol.as_slice())?,
         side: order.side,
-        order_qty: number_text(alloc, u64::from(order.quantity))?,
-        price: Some(price_text(alloc, order.price)?),
+        order_qty: number_text(alloc, u64::from(amounts.quantity))?,
+        price: Some(price_text(alloc, amounts.price)?),
         last_qty: None,
         last_px: None,
-        leaves_qty: u64::from(order.leaves),
+        leaves_qty: u64::from(amounts.leaves),
         cum_qty: 0,
         avg_px: number_text(alloc, 0)?,
         text: None,
@@ -68,7 +66,9 @@ pub fn refusal_report(
     exec_id: u64,
     order: &NewOrder,
     refusal: Refusal,
-) -> Result<Report, AllocError> {
+) -> Result<Report, AllocError>
+    ensures { IfOk result (λ r. r ≡ refusal_of order_id exec_id (code_of refusal) (words_of refusal) order.now) }
+{
     Ok(Report {
         order_id,
         cl_ord_id: ClOrdId::copied(alloc, order.cl_ord_id.as_slice())?,
@@ -93,7 +93,9 @@ pub fn refusal_report(
 }
 
 /// A price as the client wrote it, where there is one.
-fn own_price(alloc: Global, price: &Option<FloatText>) -> Result<Option<Text>, AllocError> {
+fn own_price(alloc: Global, price: &Option<FloatText>) -> Result<Option<Text>, AllocError>
+    ensures { IfOk result (λ own. own ≡ price.now) }
+{
     match price {
         None => Ok(None),
         Some(price) => Ok(Some(Text::copied(alloc, price.as_slice())?)),

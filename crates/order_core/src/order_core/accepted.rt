@@ -1,18 +1,32 @@
 //! Accepted: the market took a new order.
 
-ghost use Rattle.std.specs.Prelude.{◌≡◌, ◌≤◌, ◌+◌, ◌<◌, ◌^◌, vec_len, OnErr};
+ghost use Rattle.std.specs.Prelude.{◌≡◌, ◌≤◌, ◌+◌, ◌<◌, ◌^◌, ◌∷◌, [], ◌&&◌, Some, length, bytes_eq, slice_get, slice_set, IfOk, OnErr, MatchResult};
+ghost use Rattle.fix_types.specs.declared.exec_type.ExecType.TheVariants as kinds;
+ghost use Rattle.fix_types.specs.declared.ord_status.OrdStatus.TheVariants as statuses;
+ghost use Rattle.ouch_codec.specs.Letters.{side_letter};
+ghost use Rattle.ouch_codec.specs.Parts.{unpadded};
+ghost use Rattle.order_law.specs.Asks.{side_of_letter};
+ghost use Rattle.order_machine.specs.Table as table;
+ghost use Rattle.order_machine.specs.Machine.{closed, is_side, report_of};
+ghost use Rattle.order_core.specs.Opening.{may_take, taken};
 
 use super::OrderCore;
 use crate::market_fault::MarketFault;
-use crate::orders::{Order, Stage, place_of};
+use crate::orders::{Order, order_at, place_of};
 use crate::outcome::MarketOut;
-use crate::to_client::{Shown, report};
-use fix_types::{AppBody, ExecType, OrdStatus};
-use ouch_codec::{Accepted, OrderState};
+use crate::to_client::{Amounts, report};
+use fix_fields::Text;
+use fix_types::{AppBody, Character, ExecType, OrdStatus, Report};
+use order_law::Stage;
+use ouch_codec::{Accepted, OrderState, Side};
 use std::alloc::{AllocError, Global};
 
 impl OrderCore {
-    ghost use Rattle.order_core.specs.State.{clients, issued, HasRoom, IsUnchanged};
+    ghost use Rattle.std.specs.Prelude.{IfOk, MatchResult, slice_get, Some};
+    ghost use Rattle.order_machine.specs.Table as table;
+    ghost use Rattle.order_core.specs.State.{clients, issued, HasRoom};
+    ghost use Rattle.order_core.specs.Meets.{GivesMarket, MeetsMarket};
+    ghost use Rattle.order_core.specs.Opening.{taken_live, taken_dead, taken_step};
 
     /// Lawful for an order that waits, with the side and stock that it asked: the order is open with the shares and
     /// the price given, and reported as new. Where its state is dead, all of it is cancelled at once, which a second
@@ -26,25 +40,79 @@ impl OrderCore {
         message: &Accepted,
     ) -> Result<MarketOut, MarketFault>
         requires { HasRoom self.old }
+        ensures meets { MeetsMarket (taken_step self.old port message.now) result self.new }
         ensures clients { clients self.new ≡ clients self.old }
         ensures issued { issued self.new ≤ issued self.old + 3 }
-        ensures err { OnErr result (IsUnchanged self.old self.new) }
+        ensures err { OnErr result (self.new ≡ self.old) }
     {
         let Some(place) = place_of(&self.orders, port, &message.token) else {
             return Err(MarketFault::UnknownToken);
         };
-        let order = &self.orders[place];
-        if !is_lawful(order, message) {
+        if !may_open(order_at(&self.orders, place), message) {
             return Err(MarketFault::NotLawful);
         }
+        match message.order_state {
+            OrderState::Live => Ok(self.accepted_live(alloc, place, message)?),
+            OrderState::Dead => Ok(self.accepted_dead(alloc, place, message)?),
+        }
+    }
+
+    /// The order at a place is on the market's book.
+    #[tactic(auto, unfolding(order_machine::specs::Machine::reported))]
+    fn accepted_live(
+        &mut self,
+        alloc: Global,
+        place: usize,
+        message: &Accepted,
+    ) -> Result<MarketOut, AllocError>
+        requires room { HasRoom self.old }
+        requires place { place < length self.old.orders }
+        ensures meets { IfOk result (λ out. (o : table.Order) → slice_get self.old.orders place ≡ Some o
+            → GivesMarket (taken_live self.old place o message.now) out self.new) }
+        ensures clients { clients self.new ≡ clients self.old }
+        ensures issued { issued self.new ≤ issued self.old + 3 }
+        ensures err { OnErr result (self.new ≡ self.old) }
+    {
+        let order = order_at(&self.orders, place);
         let client = order.client;
         let exec_id = self.exec_ids + 1;
-        let bodies = bodies_of(alloc, exec_id, order, message)?;
+        let new = new_report(alloc, exec_id, order, message)?;
+        let mut bodies = Vec::with_capacity(alloc, 1)?;
+        bodies.push(AppBody::Report(new))?;
         open_order(&mut self.orders, place, message);
-        self.exec_ids = match message.order_state {
-            OrderState::Live => exec_id,
-            OrderState::Dead => exec_id + 1,
-        };
+        self.exec_ids = exec_id;
+        Ok(MarketOut {
+            client: Some(client),
+            bodies,
+        })
+    }
+
+    /// The order at a place was taken and cancelled at once.
+    #[tactic(auto, unfolding(order_machine::specs::Machine::reported))]
+    fn accepted_dead(
+        &mut self,
+        alloc: Global,
+        place: usize,
+        message: &Accepted,
+    ) -> Result<MarketOut, AllocError>
+        requires room { HasRoom self.old }
+        requires place { place < length self.old.orders }
+        ensures meets { IfOk result (λ out. (o : table.Order) → slice_get self.old.orders place ≡ Some o
+            → GivesMarket (taken_dead self.old place o message.now) out self.new) }
+        ensures clients { clients self.new ≡ clients self.old }
+        ensures issued { issued self.new ≤ issued self.old + 3 }
+        ensures err { OnErr result (self.new ≡ self.old) }
+    {
+        let order = order_at(&self.orders, place);
+        let client = order.client;
+        let exec_id = self.exec_ids + 1;
+        let new = new_report(alloc, exec_id, order, message)?;
+        let canceled = canceled_report(alloc, exec_id + 1, order, message)?;
+        let mut bodies = Vec::with_capacity(alloc, 2)?;
+        bodies.push(AppBody::Report(new))?;
+        bodies.push(AppBody::Report(canceled))?;
+        close_order(&mut self.orders, place, message);
+        self.exec_ids = exec_id + 1;
         Ok(MarketOut {
             client: Some(client),
             bodies,
@@ -53,62 +121,106 @@ impl OrderCore {
 }
 
 /// Whether an order waits for a message like this.
-fn is_lawful(order: &Order, message: &Accepted) -> bool {
+fn may_open(order: &Order, message: &Accepted) -> bool
+    ensures { result ≡ may_take order.now message.now }
+{
     order.stage == Stage::Waiting
-        && order.market_side == message.side
-        && order.stock == message.stock
+        && (is_stock(&message.stock, &order.symbol) && is_same_side(order.side, message.side))
 }
 
-/// The reports that the message causes: new, and canceled where it is dead on arrival.
-fn bodies_of(
+/// Whether a stock is this symbol.
+fn is_stock(stock: &[u8; 8], symbol: &Text) -> bool
+    ensures { result ≡ bytes_eq (unpadded stock.now) symbol.now }
+{
+    trimmed(stock) == symbol.as_slice()
+}
+
+/// A text without the spaces behind it.
+fn trimmed(text: &[u8]) -> &[u8]
+    ensures { result.now ≡ unpadded text.now }
+{
+    match text {
+        [front @ .., b' '] => trimmed(front),
+        _ => text,
+    }
+}
+
+/// Whether FIX's side is the market's.
+fn is_same_side(side: Character, of_market: Side) -> bool
+    ensures { result ≡ is_side side (side_of_letter (side_letter of_market)) }
+{
+    let byte = match of_market {
+        Side::Buy => b'1',
+        Side::Sell => b'2',
+        Side::SellShort => b'5',
+        Side::SellShortExempt => b'6',
+    };
+    byte == side.byte()
+}
+
+/// The report that an order is new, with the market's terms.
+fn new_report(
     alloc: Global,
     exec_id: u64,
     order: &Order,
     message: &Accepted,
-) -> Result<Vec<AppBody>, AllocError>
-    requires { exec_id < 2 ^ 61 }
+) -> Result<Report, AllocError>
+    ensures { IfOk result (λ r. r ≡ report_of exec_id kinds.New statuses.New (taken order.now message.now)) }
 {
-    let mut bodies = Vec::with_capacity(alloc, 2)?;
-    let new = shown(order, message, OrdStatus::New, message.shares);
-    let report_of_new = report(alloc, exec_id, ExecType::New, new)?;
-    bodies.push(AppBody::Report(report_of_new))?;
-    if message.order_state == OrderState::Dead {
-        let canceled = shown(order, message, OrdStatus::Canceled, 0);
-        let report_of_cancel = report(alloc, exec_id + 1, ExecType::Canceled, canceled)?;
-        bodies.push(AppBody::Report(report_of_cancel))?;
-    }
-    Ok(bodies)
-}
-
-/// The order as the market has it, with this status and so many shares open.
-fn shown<'a>(order: &'a Order, message: &Accepted, status: OrdStatus, leaves: u32) -> Shown<'a> {
-    Shown {
-        order_id: order.order_id,
-        cl_ord_id: &order.cl_ord_id,
-        status,
-        symbol: &order.symbol,
-        side: order.side,
+    let amounts = Amounts {
         quantity: message.shares,
         price: message.price,
-        leaves,
-    }
+        leaves: message.shares,
+    };
+    report(alloc, exec_id, ExecType::New, OrdStatus::New, order, amounts)
+}
+
+/// The report that all of an order with the market's terms is cancelled.
+fn canceled_report(
+    alloc: Global,
+    exec_id: u64,
+    order: &Order,
+    message: &Accepted,
+) -> Result<Report, AllocError>
+    ensures { IfOk result (λ r. r ≡ report_of exec_id kinds.Canceled statuses.Canceled (closed (taken order.now message.now))) }
+{
+    let amounts = Amounts {
+        quantity: message.shares,
+        price: message.price,
+        leaves: 0,
+    };
+    report(
+        alloc,
+        exec_id,
+        ExecType::Canceled,
+        OrdStatus::Canceled,
+        order,
+        amounts,
+    )
 }
 
 /// Puts the market's terms into the order at a place.
 fn open_order(orders: &mut Vec<Order>, place: usize, message: &Accepted)
-    requires { place < vec_len orders.old }
+    requires { place < length orders.old.items }
+    ensures { (o : table.Order) → slice_get orders.old.items place ≡ Some o
+        → orders.new.items ≡ slice_set orders.old.items place (taken o message.now) }
 {
     let order = &mut orders[place];
     order.quantity = message.shares;
     order.price = message.price;
-    match message.order_state {
-        OrderState::Live => {
-            order.stage = Stage::Open;
-            order.leaves = message.shares;
-        }
-        OrderState::Dead => {
-            order.stage = Stage::Closed;
-            order.leaves = 0;
-        }
-    }
+    order.stage = Stage::Working;
+    order.leaves = message.shares;
+}
+
+/// Puts the market's terms into the order at a place, of which nothing is open.
+fn close_order(orders: &mut Vec<Order>, place: usize, message: &Accepted)
+    requires { place < length orders.old.items }
+    ensures { (o : table.Order) → slice_get orders.old.items place ≡ Some o
+        → orders.new.items ≡ slice_set orders.old.items place (closed (taken o message.now)) }
+{
+    let order = &mut orders[place];
+    order.quantity = message.shares;
+    order.price = message.price;
+    order.stage = Stage::Closed;
+    order.leaves = 0;
 }

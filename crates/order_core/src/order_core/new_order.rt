@@ -1,17 +1,30 @@
 //! A new order: its verdict, and what either verdict does.
 
-ghost use Rattle.std.specs.Prelude.{◌≡◌, ◌≤◌, ◌+◌, ◌<◌, ◌^◌, ◌++◌, ◌∷◌, [], vec_len, vec_capacity, OnErr};
+ghost use Rattle.std.specs.Prelude.{◌≡◌, ◌≤◌, ◌+◌, ◌<◌, ◌^◌, ◌++◌, ◌∷◌, [], ℕ, List, Option, true, false, nat_le, slice_get, Some, length, map, vec_len, vec_capacity, IfOk, OnErr, MatchResult};
+ghost use Rattle.tokens.specs.TokenText.{token_text};
+ghost use Rattle.fix_types.specs.declared.exec_type.ExecType.TheVariants as kinds;
+ghost use Rattle.fix_types.specs.declared.ord_status.OrdStatus.TheVariants as statuses;
+ghost use Rattle.ouch_codec.specs.Inbound.{inbound_bytes};
+ghost use Rattle.order_law.specs.Asks.{Standing};
+ghost use Rattle.order_law.specs.Headline.{Says, Sends};
+ghost use Rattle.order_law.specs.History.{Asked, terms_of};
+ghost use Rattle.order_law.specs.Verdicts.{Accepted, first_row, port_rows, last_token};
+ghost use Rattle.order_machine.specs.Machine.{report_of};
+ghost use Rattle.order_core.specs.NewAsks.{enter_bytes};
+ghost use Rattle.order_core.specs.Refusals.{refused_by};
+ghost use Rattle.order_core.specs.Seen.{port_seen, terms_seen};
 
 use super::OrderCore;
 use crate::client_terms::ClientTerms;
-use crate::orders::{Order, Stage, UsedId, is_used, open_count};
+use crate::orders::{Order, UsedId, is_used, open_count};
 use crate::outcome::CoreOut;
 use crate::port_state::PortState;
 use crate::refusal::Refusal;
-use crate::to_client::{Shown, refusal_report, report};
+use crate::to_client::{Amounts, refusal_report, report};
 use crate::to_market::{ask_of, enter_order, refuse_if};
 use fix_fields::Text;
 use fix_types::{AppBody, ClOrdId, ExecType, NewOrder, OrdStatus, Report};
+use order_law::Stage;
 use ouch_codec::{EnterOrder, Inbound};
 use std::alloc::{AllocError, Global};
 use tokens::Token;
@@ -20,7 +33,7 @@ use tokens::Token;
 const MOST_OPEN: usize = 10_000;
 
 impl OrderCore {
-    ghost use Rattle.order_core.specs.State.{clients, IsClient, issued, HasRoom, IsUnchanged};
+    ghost use Rattle.order_core.specs.State.{clients, IsClient, issued, HasRoom};
 
     /// A new order of a client.
     pub(super) fn new_order(
@@ -34,9 +47,9 @@ impl OrderCore {
         requires room { HasRoom self.old }
         ensures clients { clients self.new ≡ clients self.old }
         ensures issued { issued self.new ≤ issued self.old + 3 }
-        ensures err { OnErr result (IsUnchanged self.old self.new) }
+        ensures err { OnErr result (self.new ≡ self.old) }
     {
-        let terms = self.terms[client as usize - 1];
+        let terms = terms_at(&self.terms, client);
         match self.verdict(client, order, &terms, port) {
             Err(refusal) => self.refuse(alloc, client, order, refusal),
             Ok(enter) => self.accept(alloc, client, order, terms.port, enter, port),
@@ -53,11 +66,11 @@ impl OrderCore {
     ) -> Result<EnterOrder, Refusal>
         requires { HasRoom self.now }
     {
-        let is_duplicate = is_used(self.used.as_slice(), client, &order.cl_ord_id);
+        let is_duplicate = is_used(&self.used, client, &order.cl_ord_id);
         refuse_if(is_duplicate, Refusal::DuplicateClOrdId)?;
         refuse_port(port)?;
         let ask = ask_of(order, terms)?;
-        let open = open_count(self.orders.as_slice(), client);
+        let open = open_count(&self.orders, client);
         refuse_if(open >= MOST_OPEN, Refusal::TooManyOpenOrders)?;
         let token = next_token(self.tokens)?;
         Ok(enter_order(&ask, token, terms))
@@ -74,7 +87,7 @@ impl OrderCore {
         requires { HasRoom self.old }
         ensures clients { clients self.new ≡ clients self.old }
         ensures issued { issued self.new ≤ issued self.old + 3 }
-        ensures err { OnErr result (IsUnchanged self.old self.new) }
+        ensures err { OnErr result (self.new ≡ self.old) }
     {
         let order_id = self.order_ids + 1;
         let exec_id = self.exec_ids + 1;
@@ -103,7 +116,7 @@ impl OrderCore {
         requires { HasRoom self.old }
         ensures clients { clients self.new ≡ clients self.old }
         ensures issued { issued self.new ≤ issued self.old + 3 }
-        ensures err { OnErr result (IsUnchanged self.old self.new) }
+        ensures err { OnErr result (self.new ≡ self.old) }
     {
         let order_id = self.order_ids + 1;
         let exec_id = self.exec_ids + 1;
@@ -122,8 +135,29 @@ impl OrderCore {
     }
 }
 
+/// The terms of a client.
+fn terms_at(terms: &[ClientTerms], client: u16) -> ClientTerms
+    requires from_one { 1 ≤ client }
+    requires known { client ≤ length terms.now }
+    ensures { terms_of (map terms_seen terms.now) client ≡ terms_seen result }
+{
+    terms_in(terms, client as usize - 1)
+}
+
+/// The terms at a place.
+fn terms_in(terms: &[ClientTerms], place: usize) -> ClientTerms
+    requires { place < length terms.now }
+    ensures { slice_get terms.now place ≡ Some result }
+{
+    terms[place]
+}
+
 /// The rows of the table on the port.
-fn refuse_port(port: PortState) -> Result<(), Refusal> {
+fn refuse_port(port: PortState) -> Result<(), Refusal>
+    ensures { MatchResult result
+        (λ nothing. first_row (port_rows (port_seen port)) ≡ Accepted)
+        (λ refusal. first_row (port_rows (port_seen port)) ≡ refused_by refusal) }
+{
     match port {
         PortState::Waiting | PortState::Up => Ok(()),
         PortState::Ended => Err(Refusal::PortEnded),
@@ -134,6 +168,9 @@ fn refuse_port(port: PortState) -> Result<(), Refusal> {
 /// The token after so many.
 fn next_token(tokens: u64) -> Result<Token, Refusal>
     requires { tokens < 2 ^ 60 }
+    ensures { MatchResult result
+        (λ token. (nat_le last_token tokens ≡ false) × (token ≡ token_text (tokens + 1)))
+        (λ refusal. (nat_le last_token tokens ≡ true) × (refusal ≡ Refusal.NoTokenLeft)) }
 {
     match Token::of(tokens + 1) {
         Ok(token) => Ok(token),
@@ -157,9 +194,7 @@ fn order_of(
         cl_ord_id: ClOrdId::copied(alloc, order.cl_ord_id.as_slice())?,
         token: enter.token,
         symbol: Text::copied(alloc, order.symbol.as_slice())?,
-        stock: enter.stock,
         side: order.side,
-        market_side: enter.side,
         stage: Stage::Waiting,
         quantity: enter.shares,
         price: enter.price,
@@ -168,22 +203,28 @@ fn order_of(
 }
 
 /// The report that an order waits for the market.
-fn pending_report(alloc: Global, exec_id: u64, order: &Order) -> Result<Report, AllocError> {
-    let shown = Shown {
-        order_id: order.order_id,
-        cl_ord_id: &order.cl_ord_id,
-        status: OrdStatus::PendingNew,
-        symbol: &order.symbol,
-        side: order.side,
+fn pending_report(alloc: Global, exec_id: u64, order: &Order) -> Result<Report, AllocError>
+    ensures { IfOk result (λ r. r ≡ report_of exec_id kinds.PendingNew statuses.PendingNew order.now) }
+{
+    let amounts = Amounts {
         quantity: order.quantity,
         price: order.price,
         leaves: order.leaves,
     };
-    report(alloc, exec_id, ExecType::PendingNew, shown)
+    report(
+        alloc,
+        exec_id,
+        ExecType::PendingNew,
+        OrdStatus::PendingNew,
+        order,
+        amounts,
+    )
 }
 
 /// A list of one body.
-fn one_body(alloc: Global, body: AppBody) -> Result<Vec<AppBody>, AllocError> {
+fn one_body(alloc: Global, body: AppBody) -> Result<Vec<AppBody>, AllocError>
+    ensures { IfOk result (λ bodies. bodies.items ≡ body ∷ []) }
+{
     let mut bodies = Vec::with_capacity(alloc, 1)?;
     bodies.push(body)?;
     Ok(bodies)
@@ -194,10 +235,15 @@ fn sends_of(
     alloc: Global,
     enter: EnterOrder,
     state: PortState,
-) -> Result<Vec<Inbound>, AllocError> {
+) -> Result<Vec<Inbound>, AllocError>
+    ensures { IfOk result (λ sends. (standing : Standing) (order_of : List ℕ → Option ℕ) (asked : Asked)
+        → Says standing order_of asked (enter_bytes enter)
+        → Sends (port_seen state) (Says standing order_of) (asked ∷ []) (map inbound_bytes sends.items)) }
+{
     let mut sends = Vec::new(alloc);
-    if state == PortState::Up {
-        sends.push(Inbound::Enter(enter))?;
+    match state {
+        PortState::Up => sends.push(Inbound::Enter(enter))?,
+        PortState::Waiting | PortState::Ended | PortState::Faulted(_) => {}
     }
     Ok(sends)
 }
