@@ -6,3 +6,5 @@ pub mod Terms
 pub mod Places
 pub mod Opening
 pub mod Carried
+pub mod Sent
+pub mod NewVerdict

@@ -1,6 +1,8 @@
 -- When the code's outcome is what the table's machine gives.
 use Rattle.std.specs.Prelude.{◌≡◌, ℕ, ◌+◌, List, [], ◌∷◌, Option, Some, None, Result, MatchResult, map}
 use Rattle.tokens.specs.TokenText.{token_text}
+use Rattle.fix_types.specs.declared.application.AppMsg.{AppMsg}
+use Rattle.fix_types.specs.declared.application.AppMsg.TheVariants.{New}
 use Rattle.fix_types.specs.declared.new_order.NewOrder.{NewOrder}
 use Rattle.fix_types.specs.NewOrder.{new_order_fields}
 use Rattle.ouch_codec.specs.declared.inbound.enter_order.EnterOrder.{EnterOrder}
@@ -24,10 +26,14 @@ pub record GivesClient (standing : Standing) (port : Port) (g : Given) (out : Co
   pub bodies : out.bodies.items ≡ map body g.bodies
   pub sends : (order_of : List ℕ → Option ℕ) → Sends port (Says standing order_of) g.asks (map inbound_bytes out.sends.items)
 
--- a client's call
+-- a client's new order
 abbrev pub MeetsClient : State → ℕ → NewOrder → Port → CoreOut → State → Type 0
 MeetsClient old client d port out new =
     GivesClient (terms_of old.terms client).standing port (client_step old client d port) out new
+
+-- a client's message
+abbrev pub MeetsMessage : State → ℕ → AppMsg → Port → CoreOut → State → Type 0
+MeetsMessage old client (New d) port out new = MeetsClient old client d port out new
 
 -- clients are told what the machine gives, and the table is the machine's
 pub record GivesMarket (g : Given) (out : MarketOut) (new : State) : Type 0 where

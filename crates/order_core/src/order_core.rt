@@ -55,8 +55,8 @@ impl Model for OrderCore {
 impl OrderCore {
     ghost use Rattle.order_machine.specs.Table.{empty};
     ghost use Rattle.order_machine.specs.Machine.{market_step};
-    ghost use Rattle.order_core.specs.Seen.{terms_seen};
-    ghost use Rattle.order_core.specs.Meets.{MeetsMarket};
+    ghost use Rattle.order_core.specs.Seen.{port_seen, terms_seen};
+    ghost use Rattle.order_core.specs.Meets.{MeetsMarket, MeetsMessage};
     ghost use Rattle.order_core.specs.State.{clients, IsClient, issued, HasRoom};
 
     /// The machine of these clients, with no orders.
@@ -88,6 +88,7 @@ impl OrderCore {
     ) -> Result<CoreOut, AllocError>
         requires client { IsClient self.old client }
         requires room { HasRoom self.old }
+        ensures meets { IfOk result (λ out. MeetsMessage self.old client message.now (port_seen port) out self.new) }
         ensures clients { clients self.new ≡ clients self.old }
         ensures issued { issued self.new ≤ issued self.old + 3 }
         ensures err { OnErr result (self.new ≡ self.old) }

@@ -33,6 +33,15 @@ use tokens::Token;
 const MOST_OPEN: usize = 10_000;
 
 impl OrderCore {
+    ghost use Rattle.std.specs.Prelude.{IfOk, MatchResult};
+    ghost use Rattle.order_law.specs.Asks.{Standing};
+    ghost use Rattle.order_law.specs.History.{terms_of};
+    ghost use Rattle.order_law.specs.Verdicts.{Accepted, Port};
+    ghost use Rattle.order_machine.specs.Machine as machine;
+    ghost use Rattle.order_machine.specs.Machine.{verdict_in};
+    ghost use Rattle.order_core.specs.Meets.{AsksNext, GivesClient, MeetsClient};
+    ghost use Rattle.order_core.specs.Refusals.{code_of, refused_by, words_of};
+    ghost use Rattle.order_core.specs.Seen.{port_seen, terms_seen};
     ghost use Rattle.order_core.specs.State.{clients, IsClient, issued, HasRoom};
 
     /// A new order of a client.
@@ -45,6 +54,7 @@ impl OrderCore {
     ) -> Result<CoreOut, AllocError>
         requires client { IsClient self.old client }
         requires room { HasRoom self.old }
+        ensures meets { IfOk result (λ out. MeetsClient self.old client order.now (port_seen port) out self.new) }
         ensures clients { clients self.new ≡ clients self.old }
         ensures issued { issued self.new ≤ issued self.old + 3 }
         ensures err { OnErr result (self.new ≡ self.old) }
@@ -64,7 +74,12 @@ impl OrderCore {
         terms: &ClientTerms,
         port: PortState,
     ) -> Result<EnterOrder, Refusal>
-        requires { HasRoom self.now }
+        requires room { HasRoom self.now }
+        requires terms { terms_of self.now.terms client ≡ terms_seen terms.now }
+        ensures verdict { MatchResult result
+            (λ enter. verdict_in self.now client (port_seen port) order.now ≡ Accepted)
+            (λ refusal. verdict_in self.now client (port_seen port) order.now ≡ refused_by refusal) }
+        ensures asks { IfOk result (λ enter. AsksNext self.now client order.now enter) }
     {
         let is_duplicate = is_used(&self.used, client, &order.cl_ord_id);
         refuse_if(is_duplicate, Refusal::DuplicateClOrdId)?;
@@ -77,6 +92,7 @@ impl OrderCore {
     }
 
     /// Refuses a new order, in one report.
+    #[tactic(auto, unfolding(order_machine::specs::Machine::refuse), using(crate::proofs::Sent::nothing_sent))]
     fn refuse(
         &mut self,
         alloc: Global,
@@ -85,6 +101,8 @@ impl OrderCore {
         refusal: Refusal,
     ) -> Result<CoreOut, AllocError>
         requires { HasRoom self.old }
+        ensures meets { IfOk result (λ out. (standing : Standing) (port : Port)
+            → GivesClient standing port (machine.refuse self.old client order.now (code_of refusal) (words_of refusal)) out self.new) }
         ensures clients { clients self.new ≡ clients self.old }
         ensures issued { issued self.new ≤ issued self.old + 3 }
         ensures err { OnErr result (self.new ≡ self.old) }
@@ -104,6 +122,7 @@ impl OrderCore {
     }
 
     /// Accepts a new order: reports it as pending, and asks it of the market where the port is up.
+    #[tactic(auto, unfolding(order_machine::specs::Machine::accept))]
     fn accept(
         &mut self,
         alloc: Global,
@@ -113,14 +132,17 @@ impl OrderCore {
         enter: EnterOrder,
         state: PortState,
     ) -> Result<CoreOut, AllocError>
-        requires { HasRoom self.old }
+        requires room { HasRoom self.old }
+        requires port { port ≡ (terms_of self.old.terms client).port }
+        requires enter { AsksNext self.old client order.now enter }
+        ensures meets { IfOk result (λ out. GivesClient (terms_of self.old.terms client).standing (port_seen state)
+            (machine.accept self.old client order.now) out self.new) }
         ensures clients { clients self.new ≡ clients self.old }
         ensures issued { issued self.new ≤ issued self.old + 3 }
         ensures err { OnErr result (self.new ≡ self.old) }
     {
-        let order_id = self.order_ids + 1;
         let exec_id = self.exec_ids + 1;
-        let accepted = order_of(alloc, client, port, order_id, order, &enter)?;
+        let accepted = self.order_of(alloc, client, port, order, &enter)?;
         let report = pending_report(alloc, exec_id, &accepted)?;
         let bodies = one_body(alloc, AppBody::Report(report))?;
         let sends = sends_of(alloc, enter, state)?;
@@ -128,10 +150,39 @@ impl OrderCore {
         self.used.reserve(1)?;
         self.orders.push(accepted)?;
         push_used(&mut self.used, UsedId { client, cl_ord_id });
-        self.order_ids = order_id;
+        self.order_ids += 1;
         self.exec_ids = exec_id;
         self.tokens += 1;
         Ok(CoreOut { bodies, sends })
+    }
+
+    /// The order that then waits for the market.
+    fn order_of(
+        &self,
+        alloc: Global,
+        client: u16,
+        port: u16,
+        order: &NewOrder,
+        enter: &EnterOrder,
+    ) -> Result<Order, AllocError>
+        requires room { HasRoom self.now }
+        requires port { port ≡ (terms_of self.now.terms client).port }
+        requires enter { AsksNext self.now client order.now enter.now }
+        ensures { IfOk result (λ o. o ≡ machine.order_of self.now client order.now) }
+    {
+        Ok(Order {
+            client,
+            port,
+            order_id: self.order_ids + 1,
+            cl_ord_id: ClOrdId::copied(alloc, order.cl_ord_id.as_slice())?,
+            token: enter.token,
+            symbol: Text::copied(alloc, order.symbol.as_slice())?,
+            side: order.side,
+            stage: Stage::Waiting,
+            quantity: enter.shares,
+            price: enter.price,
+            leaves: enter.shares,
+        })
     }
 }
 
@@ -176,30 +227,6 @@ fn next_token(tokens: u64) -> Result<Token, Refusal>
         Ok(token) => Ok(token),
         Err(_) => Err(Refusal::NoTokenLeft),
     }
-}
-
-/// The order that waits for the market after its message.
-fn order_of(
-    alloc: Global,
-    client: u16,
-    port: u16,
-    order_id: u64,
-    order: &NewOrder,
-    enter: &EnterOrder,
-) -> Result<Order, AllocError> {
-    Ok(Order {
-        client,
-        port,
-        order_id,
-        cl_ord_id: ClOrdId::copied(alloc, order.cl_ord_id.as_slice())?,
-        token: enter.token,
-        symbol: Text::copied(alloc, order.symbol.as_slice())?,
-        side: order.side,
-        stage: Stage::Waiting,
-        quantity: enter.shares,
-        price: enter.price,
-        leaves: enter.shares,
-    })
 }
 
 /// The report that an order waits for the market.

@@ -1,0 +1,36 @@
+-- What is sent of an ask.
+use Rattle.std.proofs.Common.{◌≡◌, ℕ, ◌+◌, List, [], refl, sym, subst₂, ◌∙◌, decimal}
+use Rattle.std.specs.Prelude.{Option}
+use Rattle.tokens.specs.TokenText.{token_text}
+use Rattle.fix_types.specs.declared.new_order.NewOrder.{NewOrder}
+use Rattle.fix_types.specs.NewOrder.{new_order_fields}
+use Rattle.ouch_codec.specs.declared.inbound.enter_order.EnterOrder.{EnterOrder}
+use Rattle.order_law.specs.Headline.{Says, Sends}
+use Rattle.order_law.specs.History.{Asked, Terms, terms_of}
+use Rattle.order_law.specs.Verdicts.{Port, Down, Up, Ended, Faulted}
+use Rattle.order_machine.specs.Table.{State}
+use Rattle.order_core.specs.declared.client_terms.ClientTerms.{ClientTerms}
+use Rattle.order_core.specs.declared.to_market.new_ask.NewAsk.{NewAsk}
+use Rattle.order_core.specs.Meets.{AsksNext}
+use Rattle.order_core.specs.NewAsks.{AsksAs, asked_with, enter_bytes, standing_of}
+use Rattle.order_core.specs.Seen.{terms_seen}
+
+-- where nothing is asked, nothing is sent, however the port stands
+pub nothing_sent : (port : Port) (P : Asked → List ℕ → Type 0) → Sends port P [] []
+nothing_sent Down P = refl
+nothing_sent Up P = tt
+nothing_sent Ended P = refl
+nothing_sent (Faulted n) P = refl
+
+-- an Enter Order that is made of what an order asks is the next one of its client
+pub asks_next : (s : State) (client : ℕ) (d : NewOrder) (terms : ClientTerms) (token : List ℕ) (ask : NewAsk) (enter : EnterOrder)
+    → terms_of s.terms client ≡ terms_seen terms → token ≡ token_text (s.tokens + 1) → AsksAs ask terms.capacity (new_order_fields d)
+    → enter.token ≡ token → enter.shares ≡ ask.shares → enter.price ≡ ask.price
+    → ((order : List ℕ) (order_of : List ℕ → Option ℕ) → Says (standing_of terms) order_of (asked_with order token terms.capacity (new_order_fields d)) (enter_bytes enter))
+    → AsksNext s client d enter
+asks_next s client d terms token ask enter known next asks enter_token enter_shares enter_price says = record {
+  token = enter_token ∙ next;
+  shares = enter_shares ∙ asks.shares;
+  price = enter_price ∙ asks.price;
+  says = λ order_of. subst₂ (λ (t : Terms) (k : List ℕ). Says t.standing order_of (asked_with (decimal (s.order_ids + 1)) k t.capacity (new_order_fields d)) (enter_bytes enter)) (sym known) next (says (decimal (s.order_ids + 1)) order_of);
+}
