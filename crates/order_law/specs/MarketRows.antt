@@ -5,7 +5,7 @@ use Rattle.fixed_point.specs.Decimal.{price, quantity, amount, amount_of, within
 use Rattle.tokens.specs.TokenText.{last_digits}
 use Rattle.order_law.specs.Lawful.{judgement, bytes_fault, token_fault, row_fault, type_fault}
 use Rattle.order_law.specs.History.{History}
-use Rattle.order_law.specs.Transcript.{terms, accepted_message, replaced_message, executed_message, canceled_message, broken_message, rejected_message, cancel_reject_message, cancel_pending_message, sold_message}
+use Rattle.order_law.specs.Transcript.{terms, accepted_message, replaced_message, replaced_as, executed_message, canceled_message, broken_message, rejected_message, cancel_reject_message, cancel_pending_message, sold_message}
 use Rattle.order_law.specs.Exchanges.{entered_and_accepted, filled, closed_by_the_market, broken_after_it_is_filled, replace_rejected, replace_pending, only_entered}
 
 -- the fault of a payload of port 1 after a history
@@ -32,6 +32,8 @@ faults :
     × (fault only_entered (sold_message 1 300) ≡ Some row_fault)  -- another side
     × (fault only_entered (accepted_message 1 200 (codes "INTC    ") (codes "L")) ≡ None)  -- other shares than asked are the market's to say
     × (fault replace_pending (replaced_message 2 1 500 (codes "L")) ≡ None)  -- lawful
+    × (fault replace_pending (replaced_as (codes "S") (codes "INTC    ") 2 1 500 (codes "L")) ≡ Some row_fault)  -- another side
+    × (fault replace_pending (replaced_as (codes "B") (codes "MSFT    ") 2 1 500 (codes "L")) ≡ Some row_fault)  -- another stock
     × (fault replace_pending (replaced_message 3 1 500 (codes "L")) ≡ Some token_fault)  -- the new token isn't given
     × (fault replace_pending (replaced_message 2 3 500 (codes "L")) ≡ Some token_fault)  -- the previous token isn't given
     × (fault replace_pending (replaced_message 1 2 500 (codes "L")) ≡ Some row_fault)  -- the previous token isn't live
@@ -60,4 +62,4 @@ faults :
     × (fault only_entered (cancel_pending_message 1) ≡ None)  -- any token of the port
     × (fault only_entered (cancel_pending_message 2) ≡ Some token_fault)  -- a token that isn't given
 unfolding digits price quantity amount amount_of within scaled fraction worth worth_of last_digits
-faults = (refl, refl, refl, refl, refl, refl, refl, refl, refl, refl, refl, refl, refl, refl, refl, refl, refl, refl, refl, refl, refl, refl, refl, refl, refl, refl, refl, refl, refl, refl, refl, refl, refl, refl, refl, refl, refl, refl, refl, refl, refl, refl, refl, refl, refl)
+faults = (refl, refl, refl, refl, refl, refl, refl, refl, refl, refl, refl, refl, refl, refl, refl, refl, refl, refl, refl, refl, refl, refl, refl, refl, refl, refl, refl, refl, refl, refl, refl, refl, refl, refl, refl, refl, refl, refl, refl, refl, refl, refl, refl, refl, refl, refl, refl)
