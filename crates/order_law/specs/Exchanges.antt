@@ -259,6 +259,25 @@ cancel_rejected_keeps : Keeps terms cancel_rejected
 unfolding digits price quantity amount amount_of within scaled fraction worth worth_of last_digits
 cancel_rejected_keeps = record { replies_are_verdicts = refl; faults_are_judged = refl; asks_are_sent = refl; states_are_due = refl; statuses_are_due = refl; ids_are_due = refl; accounts_agree = refl; pending_is_unanswered = refl }
 
+-- a replace is asked before the market's Accepted, which comes then
+abbrev pub replace_asked_while_waiting : History
+replace_asked_while_waiting =
+    asked (codes "35=G|41=A1|11=A2|38=500|40=2|44=23.45")
+    (codes "35=8|37=1|11=A2|41=A1|17=2|150=E|39=E|55=INTC|54=1|38=300|44=23.45|151=300|14=0|6=0")
+    (replace_message 1 2 500 ∷ [])
+    ∷ only_entered
+
+abbrev pub accepted_with_a_replace_pending : History
+accepted_with_a_replace_pending =
+    heard (accepted_message 1 300 (codes "INTC    ") (codes "L"))
+    (message (codes "35=8|37=1|11=A1|17=3|150=0|39=E|55=INTC|54=1|38=300|44=23.45|151=300|14=0|6=0")
+    ∷ [])
+    ∷ replace_asked_while_waiting
+
+accepted_with_a_replace_pending_keeps : Keeps terms accepted_with_a_replace_pending
+unfolding digits price quantity amount amount_of within scaled fraction worth worth_of last_digits
+accepted_with_a_replace_pending_keeps = record { replies_are_verdicts = refl; faults_are_judged = refl; asks_are_sent = refl; states_are_due = refl; statuses_are_due = refl; ids_are_due = refl; accounts_agree = refl; pending_is_unanswered = refl }
+
 -- a second order, of another side and stock; a replace of the first, and a cancel: four messages are unanswered
 abbrev pub four_unanswered : History
 four_unanswered =
