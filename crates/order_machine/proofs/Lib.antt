@@ -11,3 +11,4 @@ pub mod Shares
 pub mod Market
 pub mod Accepted
 pub mod Runs
+pub mod Faults
