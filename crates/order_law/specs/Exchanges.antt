@@ -3,8 +3,9 @@ use Rattle.std.specs.Prelude.{[], ◌∷◌, None, codes, refl}
 use Rattle.std.specs.Fmt.{digits}
 use Rattle.fixed_point.specs.Decimal.{price, quantity, amount, amount_of, within, scaled, fraction, worth, worth_of}
 use Rattle.tokens.specs.TokenText.{last_digits}
+use Rattle.order_law.specs.Verdicts.{Up, Down, Ended, Faulted}
 use Rattle.order_law.specs.History.{History}
-use Rattle.order_law.specs.Transcript.{terms, message, asked, heard, faulted, enter_message, replace_message, cancel_message, accepted_message, replaced_message, executed_message, canceled_message, broken_message, rejected_message, cancel_reject_message}
+use Rattle.order_law.specs.Transcript.{terms, message, asked, asked_by, heard, heard_on, faulted, faulted_on, enter_message, enter_sale_message, replace_message, cancel_message, accepted_message, replaced_message, executed_message, canceled_message, broken_message, rejected_message, cancel_reject_message}
 use Rattle.order_law.specs.Kept.{Keeps}
 use Rattle.order_law.specs.Headline.{IsOrderRefusal, IsRequestRefusal}
 
@@ -257,6 +258,133 @@ cancel_rejected =
 cancel_rejected_keeps : Keeps terms cancel_rejected
 unfolding digits price quantity amount amount_of within scaled fraction worth worth_of last_digits
 cancel_rejected_keeps = record { replies_are_verdicts = refl; faults_are_judged = refl; asks_are_sent = refl; states_are_due = refl; statuses_are_due = refl; ids_are_due = refl; accounts_agree = refl; pending_is_unanswered = refl }
+
+-- a replace is asked before the market's Accepted, which comes then
+abbrev pub replace_asked_while_waiting : History
+replace_asked_while_waiting =
+    asked (codes "35=G|41=A1|11=A2|38=500|40=2|44=23.45")
+    (codes "35=8|37=1|11=A2|41=A1|17=2|150=E|39=E|55=INTC|54=1|38=300|44=23.45|151=300|14=0|6=0")
+    (replace_message 1 2 500 ∷ [])
+    ∷ only_entered
+
+abbrev pub accepted_with_a_replace_pending : History
+accepted_with_a_replace_pending =
+    heard (accepted_message 1 300 (codes "INTC    ") (codes "L"))
+    (message (codes "35=8|37=1|11=A1|17=3|150=0|39=E|55=INTC|54=1|38=300|44=23.45|151=300|14=0|6=0")
+    ∷ [])
+    ∷ replace_asked_while_waiting
+
+accepted_with_a_replace_pending_keeps : Keeps terms accepted_with_a_replace_pending
+unfolding digits price quantity amount amount_of within scaled fraction worth worth_of last_digits
+accepted_with_a_replace_pending_keeps = record { replies_are_verdicts = refl; faults_are_judged = refl; asks_are_sent = refl; states_are_due = refl; statuses_are_due = refl; ids_are_due = refl; accounts_agree = refl; pending_is_unanswered = refl }
+
+-- a second order, of another side and stock; a replace of the first, and a cancel: four messages are unanswered
+abbrev pub four_unanswered : History
+four_unanswered =
+    asked (codes "35=F|41=A2|11=A3")
+    (codes "35=8|37=1|11=A3|41=A2|17=5|150=6|39=6|55=INTC|54=1|38=300|44=23.45|151=300|14=0|6=0")
+    (cancel_message 1 ∷ cancel_message 3 ∷ [])
+    ∷ asked (codes "35=G|41=A1|11=A2|38=500|40=2|44=23.45")
+    (codes "35=8|37=1|11=A2|41=A1|17=4|150=E|39=E|55=INTC|54=1|38=300|44=23.45|151=300|14=0|6=0")
+    (replace_message 1 3 500 ∷ [])
+    ∷ asked (codes "35=D|11=B1|54=2|55=MSFT|38=10|40=2|44=1.5|59=3")
+    (codes "35=8|37=2|11=B1|17=3|150=A|39=A|55=MSFT|54=2|38=10|44=1.5|151=10|14=0|6=0")
+    (enter_sale_message 2 ∷ [])
+    ∷ entered_and_accepted
+
+four_unanswered_keeps : Keeps terms four_unanswered
+unfolding digits price quantity amount amount_of within scaled fraction worth worth_of last_digits
+four_unanswered_keeps = record { replies_are_verdicts = refl; faults_are_judged = refl; asks_are_sent = refl; states_are_due = refl; statuses_are_due = refl; ids_are_due = refl; accounts_agree = refl; pending_is_unanswered = refl }
+
+-- a cancel while the port is down: it is accepted, and nothing is sent
+abbrev pub cancelled_while_down : History
+cancelled_while_down =
+    asked_by 1 Down (codes "35=F|41=A1|11=A2")
+    (codes "35=8|37=1|11=A2|41=A1|17=3|150=6|39=6|55=INTC|54=1|38=300|44=23.45|151=300|14=0|6=0")
+    ([])
+    ∷ entered_and_accepted
+
+cancelled_while_down_keeps : Keeps terms cancelled_while_down
+unfolding digits price quantity amount amount_of within scaled fraction worth worth_of last_digits
+cancelled_while_down_keeps = record { replies_are_verdicts = refl; faults_are_judged = refl; asks_are_sent = refl; states_are_due = refl; statuses_are_due = refl; ids_are_due = refl; accounts_agree = refl; pending_is_unanswered = refl }
+
+-- a port whose market session ended refuses orders
+abbrev pub ordered_after_the_end : History
+ordered_after_the_end =
+    asked_by 1 Ended (codes "35=D|11=A1|54=1|55=INTC|38=300|40=2|44=23.45|59=0|528=P")
+    (codes "35=8|37=1|11=A1|17=1|150=8|39=8|103=2|55=INTC|54=1|38=300|44=23.45|151=0|14=0|6=0|58=market session ended")
+    ([])
+    ∷ []
+
+ordered_after_the_end_keeps : Keeps terms ordered_after_the_end
+unfolding digits price quantity amount amount_of within scaled fraction worth worth_of last_digits
+ordered_after_the_end_keeps = record { replies_are_verdicts = refl; faults_are_judged = refl; asks_are_sent = refl; states_are_due = refl; statuses_are_due = refl; ids_are_due = refl; accounts_agree = refl; pending_is_unanswered = refl }
+
+-- port 1 faults by a token that isn't given, and refuses orders from then on; port 2 takes them
+abbrev pub ordered_on_a_faulted_port : History
+ordered_on_a_faulted_port =
+    asked_by 3 Up (codes "35=D|11=A1|54=1|55=INTC|38=300|40=2|44=23.45|59=0|528=P")
+    (codes "35=8|37=2|11=A1|17=2|150=A|39=A|55=INTC|54=1|38=300|44=23.45|151=300|14=0|6=0")
+    (enter_message 1 300 ∷ [])
+    ∷ asked_by 1 (Faulted 2) (codes "35=D|11=A1|54=1|55=INTC|38=300|40=2|44=23.45|59=0|528=P")
+    (codes "35=8|37=1|11=A1|17=1|150=8|39=8|103=2|55=INTC|54=1|38=300|44=23.45|151=0|14=0|6=0|58=port fault 2")
+    ([])
+    ∷ faulted (canceled_message 9 100 (codes "U")) 2
+    ∷ []
+
+ordered_on_a_faulted_port_keeps : Keeps terms ordered_on_a_faulted_port
+unfolding digits price quantity amount amount_of within scaled fraction worth worth_of last_digits
+ordered_on_a_faulted_port_keeps = record { replies_are_verdicts = refl; faults_are_judged = refl; asks_are_sent = refl; states_are_due = refl; statuses_are_due = refl; ids_are_due = refl; accounts_agree = refl; pending_is_unanswered = refl }
+
+-- port 1 faults with an order on it, which can't be cancelled then; an order on port 2 is accepted and filled
+abbrev pub filled_beside_a_faulted_port : History
+filled_beside_a_faulted_port =
+    heard_on 2 3 (executed_message 2 300 234500 7)
+    (message (codes "35=8|37=2|11=A1|17=5|150=F|39=2|55=INTC|54=1|38=300|44=23.45|32=300|31=23.45|151=0|14=300|6=23.45")
+    ∷ [])
+    ∷ heard_on 2 3 (accepted_message 2 300 (codes "INTC    ") (codes "L"))
+    (message (codes "35=8|37=2|11=A1|17=4|150=0|39=0|55=INTC|54=1|38=300|44=23.45|151=300|14=0|6=0")
+    ∷ [])
+    ∷ asked_by 3 Up (codes "35=D|11=A1|54=1|55=INTC|38=300|40=2|44=23.45|59=0|528=P")
+    (codes "35=8|37=2|11=A1|17=3|150=A|39=A|55=INTC|54=1|38=300|44=23.45|151=300|14=0|6=0")
+    (enter_message 2 300 ∷ [])
+    ∷ asked_by 1 (Faulted 2) (codes "35=F|41=A1|11=A2")
+    (codes "35=9|37=1|11=A2|41=A1|39=0|434=1|102=2|58=port fault 2")
+    ([])
+    ∷ faulted (canceled_message 9 100 (codes "U")) 2
+    ∷ entered_and_accepted
+
+filled_beside_a_faulted_port_keeps : Keeps terms filled_beside_a_faulted_port
+unfolding digits price quantity amount amount_of within scaled fraction worth worth_of last_digits
+filled_beside_a_faulted_port_keeps = record { replies_are_verdicts = refl; faults_are_judged = refl; asks_are_sent = refl; states_are_due = refl; statuses_are_due = refl; ids_are_due = refl; accounts_agree = refl; pending_is_unanswered = refl }
+
+-- port 2 faults by a token of port 1, whose order is accepted after it
+abbrev pub accepted_beside_a_faulted_port : History
+accepted_beside_a_faulted_port =
+    heard (accepted_message 1 300 (codes "INTC    ") (codes "L"))
+    (message (codes "35=8|37=1|11=A1|17=2|150=0|39=0|55=INTC|54=1|38=300|44=23.45|151=300|14=0|6=0")
+    ∷ [])
+    ∷ faulted_on 2 (accepted_message 1 300 (codes "INTC    ") (codes "L")) 2
+    ∷ only_entered
+
+accepted_beside_a_faulted_port_keeps : Keeps terms accepted_beside_a_faulted_port
+unfolding digits price quantity amount amount_of within scaled fraction worth worth_of last_digits
+accepted_beside_a_faulted_port_keeps = record { replies_are_verdicts = refl; faults_are_judged = refl; asks_are_sent = refl; states_are_due = refl; statuses_are_due = refl; ids_are_due = refl; accounts_agree = refl; pending_is_unanswered = refl }
+
+-- two clients have the same ClOrdID, each its own; the first then cancels an order that isn't one
+abbrev pub two_clients : History
+two_clients =
+    asked (codes "35=F|41=Q|11=A9")
+    (codes "35=9|37=NONE|11=A9|41=Q|39=8|434=1|102=1|58=unknown order")
+    ([])
+    ∷ asked_by 2 Up (codes "35=D|11=A1|54=1|55=INTC|38=300|40=2|44=23.45|59=0|528=P")
+    (codes "35=8|37=2|11=A1|17=2|150=A|39=A|55=INTC|54=1|38=300|44=23.45|151=300|14=0|6=0")
+    (enter_message 2 300 ∷ [])
+    ∷ only_entered
+
+two_clients_keeps : Keeps terms two_clients
+unfolding digits price quantity amount amount_of within scaled fraction worth worth_of last_digits
+two_clients_keeps = record { replies_are_verdicts = refl; faults_are_judged = refl; asks_are_sent = refl; states_are_due = refl; statuses_are_due = refl; ids_are_due = refl; accounts_agree = refl; pending_is_unanswered = refl }
 
 -- how refusals are told: of a new order whose ClOrdID comes again, and of a cancel of no order
 refused_order :

@@ -12,5 +12,6 @@ pub mod Headline
 pub mod Transcript
 pub mod Kept
 pub mod Exchanges
+pub mod Outstanding
 pub mod VerdictRows
 pub mod MarketRows

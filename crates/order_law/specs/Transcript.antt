@@ -6,7 +6,7 @@ use Rattle.std.specs.Str.Parse.{digits_value}
 use Rattle.fix_fields.specs.Field.{Field}
 use Rattle.tokens.specs.TokenText.{token_text}
 use Rattle.order_law.specs.Messages.{Message}
-use Rattle.order_law.specs.Verdicts.{Up}
+use Rattle.order_law.specs.Verdicts.{Port, Up}
 use Rattle.order_law.specs.History.{Terms, Came, Heard, Turn}
 
 -- ---- FIX
@@ -56,8 +56,12 @@ accepted_message token shares stock state = header (codes "A") token ++ codes "B
 abbrev pub sold_message : ℕ → ℕ → List ℕ
 sold_message token shares = header (codes "A") token ++ codes "S" ++ opening shares (codes "INTC    ") (codes "L") ++ codes "N"
 
+-- a Replaced that says this side and stock
+abbrev pub replaced_as : List ℕ → List ℕ → ℕ → ℕ → ℕ → List ℕ → List ℕ
+replaced_as side stock token previous shares state = header (codes "U") token ++ side ++ opening shares stock state ++ token_text previous ++ codes "N"
+
 abbrev pub replaced_message : ℕ → ℕ → ℕ → List ℕ → List ℕ
-replaced_message token previous shares state = header (codes "U") token ++ codes "B" ++ opening shares (codes "INTC    ") state ++ token_text previous ++ codes "N"
+replaced_message token previous shares state = replaced_as (codes "B") (codes "INTC    ") token previous shares state
 
 abbrev pub executed_message : ℕ → ℕ → ℕ → ℕ → List ℕ
 executed_message token shares price match_number = header (codes "E") token ++ four shares ++ four price ++ codes "R" ++ eight match_number
@@ -83,6 +87,11 @@ abbrev pub enter_message : ℕ → ℕ → List ℕ
 enter_message token shares =
     codes "O" ++ token_text token ++ codes "B" ++ four shares ++ codes "INTC    " ++ four 234500 ++ four 99998 ++ codes "FIRMYPN" ++ four 0 ++ codes "NR"
 
+-- sells 10 MSFT at 1.5, immediate or cancel, as agent
+abbrev pub enter_sale_message : ℕ → List ℕ
+enter_sale_message token =
+    codes "O" ++ token_text token ++ codes "S" ++ four 10 ++ codes "MSFT    " ++ four 15000 ++ four 0 ++ codes "FIRMYAN" ++ four 0 ++ codes "NR"
+
 abbrev pub replace_message : ℕ → ℕ → ℕ → List ℕ
 replace_message from to shares =
     codes "U" ++ token_text from ++ token_text to ++ four shares ++ four 234500 ++ four 99998 ++ codes "YN" ++ four 0
@@ -99,13 +108,25 @@ client_on port = record { port = port; capacity = slice_index (codes "A") 0; sta
 abbrev pub terms : List Terms
 terms = client_on 1 ∷ client_on 1 ∷ client_on 2 ∷ []
 
--- client 1 is told one thing by a message of its own, with its port up
-abbrev pub asked : List ℕ → List ℕ → List (List ℕ) → Turn
-asked text body sends = record { event = Came 1 (message text) Up; client = 1; bodies = message body ∷ []; sends = sends; fault = None }
+-- a client is told one thing by a message of its own, with its port standing so
+abbrev pub asked_by : ℕ → Port → List ℕ → List ℕ → List (List ℕ) → Turn
+asked_by client port text body sends = record { event = Came client (message text) port; client = client; bodies = message body ∷ []; sends = sends; fault = None }
 
--- client 1 is told these by a payload of port 1; a fault tells nobody anything
+-- client 1, with its port up
+abbrev pub asked : List ℕ → List ℕ → List (List ℕ) → Turn
+asked text body sends = asked_by 1 Up text body sends
+
+-- a client is told these by a payload of a port
+abbrev pub heard_on : ℕ → ℕ → List ℕ → List Message → Turn
+heard_on port client payload bodies = record { event = Heard port payload; client = client; bodies = bodies; sends = []; fault = None }
+
+-- client 1, by a payload of port 1
 abbrev pub heard : List ℕ → List Message → Turn
-heard payload bodies = record { event = Heard 1 payload; client = 1; bodies = bodies; sends = []; fault = None }
+heard payload bodies = heard_on 1 1 payload bodies
+
+-- a payload of a port that is a fault, which tells nobody anything
+abbrev pub faulted_on : ℕ → List ℕ → ℕ → Turn
+faulted_on port payload n = record { event = Heard port payload; client = 1; bodies = []; sends = []; fault = Some n }
 
 abbrev pub faulted : List ℕ → ℕ → Turn
-faulted payload n = record { event = Heard 1 payload; client = 1; bodies = []; sends = []; fault = Some n }
+faulted payload n = faulted_on 1 payload n

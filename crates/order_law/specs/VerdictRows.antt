@@ -1,9 +1,9 @@
 -- Each row of the tables of verdicts, where it alone holds, computed.
-use Rattle.std.specs.Prelude.{◌≡◌, ℕ, List, [], ◌∷◌, codes, refl, Some}
+use Rattle.std.specs.Prelude.{◌≡◌, ℕ, false, List, [], ◌∷◌, codes, refl, Some}
 use Rattle.std.specs.Fmt.{digits}
 use Rattle.fixed_point.specs.Decimal.{price, quantity, amount, amount_of, within, scaled, fraction, worth, worth_of}
 use Rattle.tokens.specs.TokenText.{last_digits}
-use Rattle.order_law.specs.Verdicts.{Up, Down, Ended, Faulted, Verdict, Accepted, Refused, verdict_of_new, verdict_of_request, Named, open_orders}
+use Rattle.order_law.specs.Verdicts.{Up, Down, Ended, Faulted, Verdict, Accepted, Refused, first_row, rows_of_new, verdict_of_new, verdict_of_request, Named, open_orders}
 use Rattle.order_law.specs.Reading.{unread}
 use Rattle.order_law.specs.Chain.{unchained}
 use Rattle.order_law.specs.History.{History, issued, accepted, verdict}
@@ -47,12 +47,14 @@ of_new_orders :
 unfolding digits price quantity amount amount_of within scaled fraction worth worth_of last_digits
 of_new_orders = (refl, refl, refl, refl, refl, refl, refl, refl, refl, refl, refl, refl, refl, refl, refl, refl, refl, refl, refl, refl, refl, refl, refl, refl, refl)
 
--- the orders that count for the limit of open ones
+-- the limit of open orders, and which orders count for it
 of_open_orders :
-    (open_orders (issued 1 entered_and_accepted) ≡ 1)  -- it is open
+    (first_row (rows_of_new false Up 9999 0 (message usual)) ≡ Accepted)  -- one may be opened yet
+    × (first_row (rows_of_new false Up 10000 0 (message usual)) ≡ Refused 3 (codes "too many open orders"))
+    × (open_orders (issued 1 entered_and_accepted) ≡ 1)  -- it is open
     × (open_orders (issued 1 filled) ≡ 0)  -- it is closed
 unfolding digits price quantity amount amount_of within scaled fraction worth worth_of last_digits
-of_open_orders = (refl, refl)
+of_open_orders = (refl, refl, refl, refl)
 
 -- the verdict of a cancel or replace of client 1 after a history, with its port up
 abbrev of_request : History → List ℕ → Verdict

@@ -1,7 +1,7 @@
 -- What an event makes of the table, and what it gives: a row for each outcome.
 --
 -- Nobody has to believe it: the code meets it by equality, and the headline is a theorem about its runs.
-use Rattle.std.specs.Prelude.{ℕ, ◌+◌, ◌==◌, Bool, true, false, ◌&&◌, List, [], ◌∷◌, ◌++◌, length, Option, Some, None, if◌then◌else◌, bytes_eq, codes, decimal, slice_set}
+use Rattle.std.specs.Prelude.{ℕ, ◌+◌, ◌==◌, Bool, false, ◌&&◌, List, [], ◌∷◌, ◌++◌, length, Option, Some, None, if◌then◌else◌, bytes_eq, codes, decimal, slice_set}
 use Rattle.std.specs.List.{find, position_or_len}
 use Rattle.fixed_point.specs.Price.{price_text}
 use Rattle.tokens.specs.TokenText.{token_text}
@@ -16,11 +16,10 @@ use Rattle.ouch_codec.specs.Layout.{is_message}
 use Rattle.ouch_codec.specs.Layouts as layouts
 use Rattle.ouch_codec.specs.FromMarket as heard
 use Rattle.order_law.specs.declared.life.Stage.TheVariants.{Waiting, Working, Closed}
-use Rattle.order_law.specs.Messages.{Message}
 use Rattle.order_law.specs.Asks.{asked_by_new, limit_of, side_of_letter, total_of}
 use Rattle.order_law.specs.Life.{is_dead_state, is_type, is_waiting}
 use Rattle.order_law.specs.Verdicts.{Port, Verdict, Accepted, Refused, first_row, rows_of_new}
-use Rattle.order_law.specs.History.{Terms, terms_of, Asked, SaysNew}
+use Rattle.order_law.specs.History.{terms_of, Asked, SaysNew}
 use Rattle.order_law.specs.Lawful.{bytes_fault, row_fault, token_fault, type_fault}
 use Rattle.order_machine.specs.Table.{Order, State, UsedId, goes_by, has_used, open_count}
 

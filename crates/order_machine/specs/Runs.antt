@@ -1,12 +1,10 @@
 -- Which table a run of turns leaves.
-use Rattle.std.specs.Prelude.{◌≡◌, ℕ, ◌==◌, Bool, false, List, [], ◌∷◌, map, Option, codes, slice_index}
+use Rattle.std.specs.Prelude.{◌≡◌, ℕ, ◌==◌, Bool, false, List, [], ◌∷◌, map, Option, codes}
 use Rattle.std.specs.List.{list_any}
-use Rattle.fix_types.specs.NewOrder.{IsNewOrder, new_order_fields}
+use Rattle.fix_types.specs.NewOrder.{new_order_fields}
 use Rattle.fix_types.specs.declared.new_order.NewOrder.{NewOrder}
-use Rattle.fix_types.specs.declared.report.Report.{Report}
 use Rattle.fix_types.specs.Report.{report_fields}
 use Rattle.ouch_codec.specs.Parts.{type_of}
-use Rattle.order_law.specs.Messages.{Message}
 use Rattle.order_law.specs.Verdicts.{Port}
 use Rattle.order_law.specs.History.{Terms, terms_of, Event, Came, Heard, History, Turn}
 use Rattle.order_law.specs.Headline.{Says, Sends}

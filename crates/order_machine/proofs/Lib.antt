@@ -1,0 +1,14 @@
+pub mod Texts
+pub mod Lists
+pub mod Seen
+pub mod Fits
+pub mod Own
+pub mod Linked
+pub mod Steps
+pub mod Turns
+pub mod Headline
+pub mod Shares
+pub mod Market
+pub mod Accepted
+pub mod Runs
+pub mod Faults
