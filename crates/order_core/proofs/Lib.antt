@@ -8,3 +8,5 @@ pub mod Opening
 pub mod Carried
 pub mod Sent
 pub mod NewVerdict
+pub mod Turns
+pub mod Histories

@@ -6,3 +6,5 @@ pub mod Refusals
 pub mod FieldRows
 pub mod NewAsks
 pub mod Amounts
+pub mod Turns
+pub mod Runs

@@ -33,7 +33,7 @@ abbrev pub taken_dead : State → ℕ → Order → Accepted → Given
 taken_dead s place o m =
     reported s place (closed (taken o m))
     (report_of (s.exec_ids + 1) kinds.New statuses.New (taken o m)
-      ∷ report_of (s.exec_ids + 2) kinds.Canceled statuses.Canceled (closed (taken o m)) ∷ [])
+    ∷ report_of (s.exec_ids + 2) kinds.Canceled statuses.Canceled (closed (taken o m)) ∷ [])
     (s.exec_ids + 2)
 
 abbrev pub taken_as : OrderState → State → ℕ → Order → Accepted → Given

@@ -13,6 +13,7 @@ mod orders;
 mod outcome;
 mod port_state;
 mod refusal;
+mod runs;
 mod to_client;
 mod to_market;
 
@@ -21,3 +22,4 @@ pub use market_fault::MarketFault;
 pub use order_core::OrderCore;
 pub use outcome::{CoreOut, MarketOut};
 pub use port_state::PortState;
+pub use runs::{Event, Outcome, run, step};

@@ -3,7 +3,7 @@
 mod accepted;
 mod new_order;
 
-ghost use Rattle.std.specs.Prelude.{◌≡◌, ◌≤◌, ◌+◌, Some, length, map, IfOk, OnErr};
+ghost use Rattle.std.specs.Prelude.{◌≡◌, ◌≤◌, ◌+◌, Some, length, map, IfOk, OnErr, ◌<◌, ◌^◌, ◌∷◌, [], List};
 ghost use Rattle.order_machine.specs.Machine.{Given};
 ghost use Rattle.order_core.specs.Meets.{IsFaultOf};
 ghost use Rattle.order_core.specs.Opening.{fault_of_refusal};
@@ -53,17 +53,21 @@ impl Model for OrderCore {
 }
 
 impl OrderCore {
-    ghost use Rattle.order_machine.specs.Table.{empty};
+    ghost use Rattle.order_law.specs.Headline.{Headline};
+    ghost use Rattle.order_law.specs.History.{History, Terms};
     ghost use Rattle.order_machine.specs.Machine.{market_step};
+    ghost use Rattle.order_machine.specs.Runs.{IsServed, Leaves};
     ghost use Rattle.order_core.specs.Seen.{port_seen, terms_seen};
     ghost use Rattle.order_core.specs.Meets.{MeetsMarket, MeetsMessage};
     ghost use Rattle.order_core.specs.State.{clients, IsClient, issued, HasRoom};
+    ghost use Rattle.order_core.specs.Turns.{IsTurn, client_turn, market_turn};
 
     /// The machine of these clients, with no orders.
+    #[tactic(auto, unfolding(order_machine::specs::Runs::Leaves))]
     pub fn new(alloc: Global, terms: &[ClientTerms]) -> Result<OrderCore, AllocError>
         ensures clients { IfOk result (λ core. clients core ≡ length terms.now) }
         ensures issued { IfOk result (λ core. issued core ≡ 0) }
-        ensures empty { IfOk result (λ core. core ≡ empty (map terms_seen terms.now)) }
+        ensures leaves { IfOk result (λ core. Leaves (map terms_seen terms.now) [] core) }
     {
         Ok(OrderCore {
             terms: Vec::from_slice(alloc, terms)?,
@@ -88,6 +92,51 @@ impl OrderCore {
     ) -> Result<CoreOut, AllocError>
         requires client { IsClient self.old client }
         requires room { HasRoom self.old }
+        ensures leaves { IfOk result (λ out. (terms : List Terms) (before : History) → Leaves terms before self.old
+            → Leaves terms (client_turn client message.now port out ∷ before) self.new) }
+        ensures headline { IfOk result (λ out. (terms : List Terms) (before : History) → length before < 2 ^ 58
+            → Leaves terms before self.old → Headline terms (client_turn client message.now port out ∷ before)) }
+        ensures clients { clients self.new ≡ clients self.old }
+        ensures issued { issued self.new ≤ issued self.old + 3 }
+        ensures err { OnErr result (self.new ≡ self.old) }
+    {
+        self.client_step(alloc, client, message, port)
+    }
+
+    /// Steps a payload that a market port's session gave.
+    ///
+    /// Any fault leaves the machine as it was. The faults, the first that holds: `OutsideProfile` (a type that isn't
+    /// handled), `Undecodable` (another length than its type's, a field outside its set, or no byte at all),
+    /// `UnknownToken` (no order of this port has it), `NotLawful` (it doesn't fit what the order is waiting for).
+    pub fn market(
+        &mut self,
+        alloc: Global,
+        port: u16,
+        payload: &[u8],
+    ) -> Result<MarketOut, MarketFault>
+        requires room { HasRoom self.old }
+        ensures leaves { IsTurn result → IsServed payload.now → (terms : List Terms) (before : History)
+            → Leaves terms before self.old → Leaves terms (market_turn port payload.now result ∷ before) self.new }
+        ensures headline { IsTurn result → IsServed payload.now → (terms : List Terms) (before : History)
+            → length before < 2 ^ 58 → Leaves terms before self.old
+            → Headline terms (market_turn port payload.now result ∷ before) }
+        ensures clients { clients self.new ≡ clients self.old }
+        ensures issued { issued self.new ≤ issued self.old + 3 }
+        ensures err { OnErr result (self.new ≡ self.old) }
+    {
+        self.market_step(alloc, port, payload)
+    }
+
+    /// The step of a client's message, by the table.
+    fn client_step(
+        &mut self,
+        alloc: Global,
+        client: u16,
+        message: &AppMsg,
+        port: PortState,
+    ) -> Result<CoreOut, AllocError>
+        requires client { IsClient self.old client }
+        requires room { HasRoom self.old }
         ensures meets { IfOk result (λ out. MeetsMessage self.old client message.now (port_seen port) out self.new) }
         ensures clients { clients self.new ≡ clients self.old }
         ensures issued { issued self.new ≤ issued self.old + 3 }
@@ -98,12 +147,8 @@ impl OrderCore {
         }
     }
 
-    /// Steps a payload that a market port's session gave.
-    ///
-    /// Any fault leaves the machine as it was. The faults, the first that holds: `OutsideProfile` (a type that isn't
-    /// handled), `Undecodable` (another length than its type's, a field outside its set, or no byte at all),
-    /// `UnknownToken` (no order of this port has it), `NotLawful` (it doesn't fit what the order is waiting for).
-    pub fn market(
+    /// The step of a payload, by the table.
+    fn market_step(
         &mut self,
         alloc: Global,
         port: u16,

@@ -1,16 +1,11 @@
-use Rattle.std.proofs.Common.{ap}
-use Rattle.order_machine.specs.Machine.{Given, market_step}
-use Rattle.order_core.proofs.Carried.{carried}
-use Rattle.order_core.proofs.Opening.{accepted_bytes_step, decoded, refused_step}
+use Rattle.std.proofs.Common.{◌∷◌, arith}
+use Rattle.order_machine.proofs.Runs.{Leaves-headline}
+use Rattle.order_core.specs.Turns.{market_turn}
+use Rattle.order_core.proofs.Turns.{Leaves-market}
 use Rattle.order_core.proofs.order_core.OrderCore.market.Goals as goal
 
-pub returns-in-Err-clause-meets : goal.returns-in-Err-clause-meets
-returns-in-Err-clause-meets c =
-    let step = market_step c.args.self.now c.args.port c.args.payload.now in
-    c.fault_of.ensures step (ap (λ (g : Given). g.fault) (refused_step c.args.self.now c.args.port c.args.payload.now c.in-Err.refusal c.in-Err.ensures))
+pub returns-clause-leaves : goal.returns-clause-leaves
+returns-clause-leaves c = λ turn served terms before leaves. Leaves-market terms before c.args.self.now c.args.port c.args.payload.now c.market_step.result c.market_step.new.self c.market_step.ensures.meets c.market_step.ensures.err turn served leaves
 
-pub returns-in-Ok-Accepted-clause-meets : goal.returns-in-Ok-Accepted-clause-meets
-returns-in-Ok-Accepted-clause-meets c =
-    let message = c.in-Ok-Accepted.accepted in
-    let bytes = decoded c.args.payload.now c.in-Ok-Accepted.field-0 message c.in-Ok-Accepted.ensures c.in-Ok-Accepted.field-0-is in
-    carried _ _ c.accepted.result c.accepted.new.self (accepted_bytes_step c.args.self.now c.args.port message c.args.payload.now bytes) c.accepted.ensures.meets
+pub returns-clause-headline : goal.returns-clause-headline
+returns-clause-headline c = λ turn served terms before short leaves. Leaves-headline terms (market_turn c.args.port c.args.payload.now c.market_step.result ∷ before) c.market_step.new.self (omega arith) (Leaves-market terms before c.args.self.now c.args.port c.args.payload.now c.market_step.result c.market_step.new.self c.market_step.ensures.meets c.market_step.ensures.err turn served leaves)

@@ -1,0 +1,144 @@
+//! Whole runs: what comes of a list of events, from no order on.
+
+ghost use Rattle.std.specs.Prelude.{◌≡◌, ◌≤◌, ◌<◌, ◌+◌, ◌^◌, ◌∷◌, true, List, length, map, IfOk, OnOk};
+ghost use Rattle.order_law.specs.Headline.{Headline};
+ghost use Rattle.order_law.specs.History.{Came, Heard, History, Terms};
+ghost use Rattle.order_machine.specs.Runs.{IsServed, Leaves};
+ghost use Rattle.order_core.specs.Runs.{AreKnown, AreServed, history, is_known, is_served, outcome_turn, turn_of};
+ghost use Rattle.order_core.specs.Seen.{port_seen, terms_seen};
+ghost use Rattle.order_core.specs.State.{clients, issued, HasRoom, IsClient};
+ghost use Rattle.order_core.specs.Turns.{message_fields};
+
+use crate::client_terms::ClientTerms;
+use crate::market_fault::MarketFault;
+use crate::order_core::OrderCore;
+use crate::port_state::PortState;
+use fix_types::{AppBody, AppMsg};
+use ouch_codec::Inbound;
+use std::alloc::{AllocError, Global};
+
+/// What comes to the order level.
+#[derive(Debug, Drop)]
+pub enum Event {
+    /// A message of a client, whose port stands so.
+    Came {
+        client: u16,
+        message: AppMsg,
+        port: PortState,
+    },
+    /// A payload that the session of a port gave.
+    Heard {
+        port: u16,
+        payload: Vec<u8>,
+    },
+}
+
+/// What came of an event.
+#[derive(Debug, Drop)]
+pub struct Outcome {
+    /// Whom the bodies are for; `None` where there are none.
+    pub client: Option<u16>,
+    /// For that client, in order.
+    pub bodies: Vec<AppBody>,
+    /// For the client's port, in order.
+    pub sends: Vec<Inbound>,
+    /// The number of the fault that a payload is, 1 to 4.
+    pub fault: Option<u8>,
+}
+
+/// Steps an event. `AllocError` leaves the machine as it was.
+pub fn step(core: &mut OrderCore, alloc: Global, event: &Event) -> Result<Outcome, AllocError>
+    requires client { is_known (clients core.old) event.now ≡ true }
+    requires room { HasRoom core.old }
+    ensures leaves { IfOk result (λ outcome. is_served event.now ≡ true → (terms : List Terms) (before : History)
+        → Leaves terms before core.old → Leaves terms (turn_of event.now outcome ∷ before) core.new) }
+    ensures clients { clients core.new ≡ clients core.old }
+    ensures issued { issued core.new ≤ issued core.old + 3 }
+{
+    match event {
+        Event::Came {
+            client,
+            message,
+            port,
+        } => client_outcome(core, alloc, *client, message, *port),
+        Event::Heard { port, payload } => market_outcome(core, alloc, *port, payload.as_slice()),
+    }
+}
+
+/// What comes of a client's message.
+fn client_outcome(
+    core: &mut OrderCore,
+    alloc: Global,
+    client: u16,
+    message: &AppMsg,
+    port: PortState,
+) -> Result<Outcome, AllocError>
+    requires client { IsClient core.old client }
+    requires room { HasRoom core.old }
+    ensures leaves { IfOk result (λ outcome. (terms : List Terms) (before : History) → Leaves terms before core.old
+        → Leaves terms (outcome_turn (Came client (message_fields message.now) (port_seen port)) outcome ∷ before) core.new) }
+    ensures clients { clients core.new ≡ clients core.old }
+    ensures issued { issued core.new ≤ issued core.old + 3 }
+{
+    let out = core.client(alloc, client, message, port)?;
+    Ok(Outcome {
+        client: Some(client),
+        bodies: out.bodies,
+        sends: out.sends,
+        fault: None,
+    })
+}
+
+/// What comes of a payload.
+fn market_outcome(
+    core: &mut OrderCore,
+    alloc: Global,
+    port: u16,
+    payload: &[u8],
+) -> Result<Outcome, AllocError>
+    requires room { HasRoom core.old }
+    ensures leaves { IfOk result (λ outcome. IsServed payload.now → (terms : List Terms) (before : History)
+        → Leaves terms before core.old
+        → Leaves terms (outcome_turn (Heard port payload.now) outcome ∷ before) core.new) }
+    ensures clients { clients core.new ≡ clients core.old }
+    ensures issued { issued core.new ≤ issued core.old + 3 }
+{
+    match core.market(alloc, port, payload) {
+        Ok(out) => Ok(Outcome {
+            client: out.client,
+            bodies: out.bodies,
+            sends: Vec::new(alloc),
+            fault: None,
+        }),
+        Err(MarketFault::NoMemory) => Err(AllocError),
+        Err(fault) => Ok(Outcome {
+            client: None,
+            bodies: Vec::new(alloc),
+            sends: Vec::new(alloc),
+            fault: Some(fault.number()),
+        }),
+    }
+}
+
+/// What comes of these events, one after another from no order on, for clients with these terms.
+///
+/// After each of them the headline holds of all turns so far. The payloads have types that are served.
+pub fn run(
+    alloc: Global,
+    terms: &[ClientTerms],
+    events: &[Event],
+) -> Result<Vec<Outcome>, AllocError>
+    requires clients { AreKnown (length terms.now) events.now }
+    requires short { length events.now < 2 ^ 57 }
+    ensures count { IfOk result (λ outcomes. length outcomes.items ≡ length events.now) }
+    ensures headline { AreServed events.now
+        → IfOk result (λ outcomes. Headline (map terms_seen terms.now) (history events.now outcomes.items)) }
+{
+    let mut core = OrderCore::new(alloc, terms)?;
+    let mut outcomes = Vec::new(alloc);
+    for event in events {
+        let outcome = step(&mut core, alloc, event)?;
+        outcomes.push(outcome)?;
+    }
+    Ok(outcomes)
+}
