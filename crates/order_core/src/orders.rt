@@ -89,7 +89,10 @@ fn is_same_id(client: u16, cl_ord_id: &ClOrdId, used: &UsedId) -> bool
 pub fn open_count(orders: &[Order], client: u16) -> usize
     ensures { result ≡ table.open_count orders.now client }
 {
-    orders.iter().filter(|order| is_open_of(client, order)).count()
+    orders
+        .iter()
+        .filter(|order| is_open_of(client, order))
+        .count()
 }
 
 /// Whether an order is the client's and not closed.

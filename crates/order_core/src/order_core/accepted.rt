@@ -172,7 +172,14 @@ fn new_report(
         price: message.price,
         leaves: message.shares,
     };
-    report(alloc, exec_id, ExecType::New, OrdStatus::New, order, amounts)
+    report(
+        alloc,
+        exec_id,
+        ExecType::New,
+        OrdStatus::New,
+        order,
+        amounts,
+    )
 }
 
 /// The report that all of an order with the market's terms is cancelled.

@@ -258,11 +258,7 @@ fn one_body(alloc: Global, body: AppBody) -> Result<Vec<AppBody>, AllocError>
 }
 
 /// What goes out now: the message, where the port is up.
-fn sends_of(
-    alloc: Global,
-    enter: EnterOrder,
-    state: PortState,
-) -> Result<Vec<Inbound>, AllocError>
+fn sends_of(alloc: Global, enter: EnterOrder, state: PortState) -> Result<Vec<Inbound>, AllocError>
     ensures { IfOk result (λ sends. (standing : Standing) (order_of : List ℕ → Option ℕ) (asked : Asked)
         → Says standing order_of asked (enter_bytes enter)
         → Sends (port_seen state) (Says standing order_of) (asked ∷ []) (map inbound_bytes sends.items)) }
