@@ -3,7 +3,7 @@ use Rattle.std.proofs.Common.{◌≡◌, ◌≢◌, ℕ, ◌-◌, ◌≤◌, Boo
 use Rattle.std.proofs.lemmas.Bool.Decides.{nat_tests}
 use Rattle.std.proofs.lemmas.List.{length-drop}
 use Rattle.std.specs.List.{find, position_or_len}
-use Rattle.std.specs.Prelude.{Option, Some, None, Ok, MatchOption, unwrap_or, ◌==◌, codes, slice_get, slice_index, if◌then◌else◌}
+use Rattle.std.specs.Prelude.{Option, Some, None, Ok, MatchOption, ◌==◌, codes, slice_index, if◌then◌else◌}
 use Rattle.ouch_codec.specs.declared.order_state.OrderState.{OrderState}
 use Rattle.ouch_codec.specs.declared.order_state.OrderState.TheVariants.{Live, Dead}
 use Rattle.ouch_codec.specs.declared.outbound.accepted.Accepted.{Accepted}
@@ -55,10 +55,6 @@ empty_test : (e k a w : Bool) (s : State) (g : Given) → e ≡ true → by_test
 unfolding by_tests
 empty_test e k a w s g he = rw he refl
 
-skipped_test : (e k a w : Bool) (s : State) (g : Given) → e ≡ false → k ≡ true → by_tests e k a w s g ≡ silent s
-unfolding by_tests
-skipped_test e k a w s g he hk = rw (he, hk) refl
-
 type_test : (e k a w : Bool) (s : State) (g : Given) → e ≡ false → k ≡ false → a ≡ false → by_tests e k a w s g ≡ faulty s type_fault
 unfolding by_tests
 type_test e k a w s g he hk ha = rw (he, hk, ha) refl
@@ -103,13 +99,6 @@ decoded bytes outbound m decodes is_accepted = subst (λ (o : Outbound). Decodes
 
 pub accepted_bytes_step : (s : State) (port : ℕ) (m : Accepted) (bytes : List ℕ) → bytes ≡ spelled layouts.accepted (accepted_row m) → market_step s port bytes ≡ taken_step s port m
 accepted_bytes_step s port m bytes e = ap (λ (payload : List ℕ). market_step s port payload) e ∙ said_step s port m (spelled layouts.accepted (accepted_row m)) (SaysAccepted-written m)
-
--- `T` comes to nothing
-pub skipped_step : (s : State) (port : ℕ) (bytes : List ℕ) → slice_get bytes 0 ≡ Some 84 → market_step s port bytes ≡ silent s
-skipped_step s port [] e = absurd cc
-skipped_step s port (b ∷ bs) e =
-    let is_t : b ≡ 84 = ap (λ (o : Option ℕ). unwrap_or o 0) e in
-    as_tests s port (b ∷ bs) ∙ skipped_test _ _ _ _ s _ (not_empty b bs) (same b 84 is_t)
 
 length_of_message : (kinds : List Kind) (bs : List ℕ) → IsMessage kinds bs → length bs ≡ total kinds
 length_of_message [] bs h = ap (λ (l : List ℕ). length l) h

@@ -1,8 +1,8 @@
 -- A client's terms, by its number.
-use Rattle.std.proofs.Common.{◌≡◌, ℕ, zero, suc, ◌+◌, ◌-◌, ◌≤◌, false, List, [], ◌∷◌, map, refl, ap, sym, ◌∙◌, arith}
+use Rattle.std.proofs.Common.{◌≡◌, ℕ, zero, suc, ◌+◌, ◌-◌, ◌≤◌, false, List, [], ◌∷◌, map, ap, ◌∙◌, arith}
 use Rattle.std.proofs.lemmas.Bool.Decides.{nat_tests}
-use Rattle.std.specs.Prelude.{Option, Some, None, slice_get, unwrap_or, ◌==◌}
-use Rattle.order_law.specs.History.{Terms, terms_of}
+use Rattle.std.specs.Prelude.{Option, Some, slice_get, unwrap_or, ◌==◌}
+use Rattle.order_law.specs.History.{terms_of}
 use Rattle.order_core.specs.declared.client_terms.ClientTerms.{ClientTerms}
 use Rattle.order_core.specs.Seen.{terms_seen}
 

@@ -1,5 +1,5 @@
 -- When the code's outcome is what the table's machine gives.
-use Rattle.std.specs.Prelude.{◌≡◌, ℕ, ◌+◌, List, [], ◌∷◌, Option, Some, None, Result, MatchResult, map}
+use Rattle.std.specs.Prelude.{◌≡◌, ℕ, ◌+◌, List, Option, Some, None, Result, MatchResult, map}
 use Rattle.tokens.specs.TokenText.{token_text}
 use Rattle.fix_types.specs.declared.application.AppMsg.{AppMsg}
 use Rattle.fix_types.specs.declared.application.AppMsg.TheVariants.{New}

@@ -1,5 +1,5 @@
 -- How the code's values are seen by the law.
-use Rattle.std.specs.Prelude.{ℕ, List, [], Option, Some, None, map, ◌≡◌}
+use Rattle.std.specs.Prelude.{ℕ, Option, Some, None}
 use Rattle.fix_types.specs.declared.application.AppBody.{AppBody}
 use Rattle.fix_types.specs.declared.application.AppBody.TheVariants as bodies
 use Rattle.fix_types.specs.declared.report.Report.{Report}
