@@ -6,6 +6,5 @@ mod market;
 mod memory;
 mod open_orders;
 mod running;
-mod session_ended;
 mod streams;
 mod verdicts;
