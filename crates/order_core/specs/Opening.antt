@@ -10,7 +10,7 @@ use Rattle.ouch_codec.specs.declared.refusal.DecodeRefusal.{DecodeRefusal}
 use Rattle.ouch_codec.specs.declared.refusal.DecodeRefusal.TheVariants as refusals
 use Rattle.ouch_codec.specs.Letters.{side_letter}
 use Rattle.ouch_codec.specs.Parts.{unpadded}
-use Rattle.order_law.specs.declared.life.Stage.TheVariants.{Working}
+use Rattle.order_law.specs.declared.stage.Stage.TheVariants.{Working}
 use Rattle.order_law.specs.Asks.{side_of_letter}
 use Rattle.order_law.specs.Lawful.{bytes_fault, row_fault, token_fault, type_fault}
 use Rattle.order_law.specs.Life.{is_waiting}

@@ -1,6 +1,6 @@
 //! Whole runs: what comes of a list of events, from no order on.
 
-ghost use Rattle.std.specs.Prelude.{◌≡◌, ◌≤◌, ◌<◌, ◌+◌, ◌^◌, ◌∷◌, true, List, length, map, IfOk, OnOk};
+ghost use Rattle.std.specs.Prelude.{◌≡◌, ◌≤◌, ◌<◌, ◌+◌, ◌^◌, ◌∷◌, true, List, length, map, IfOk, OnErr};
 ghost use Rattle.order_law.specs.Headline.{Headline};
 ghost use Rattle.order_law.specs.History.{Came, Heard, History, Terms};
 ghost use Rattle.order_machine.specs.Runs.{IsServed, Leaves};
@@ -54,6 +54,7 @@ pub fn step(core: &mut OrderCore, alloc: Global, event: &Event) -> Result<Outcom
         → Leaves terms before core.old → Leaves terms (turn_of event.now outcome ∷ before) core.new) }
     ensures clients { clients core.new ≡ clients core.old }
     ensures issued { issued core.new ≤ issued core.old + 3 }
+    ensures err { OnErr result (core.new ≡ core.old) }
 {
     match event {
         Event::Came {
@@ -79,6 +80,7 @@ fn client_outcome(
         → Leaves terms (outcome_turn (Came client (message_fields message.now) (port_seen port)) outcome ∷ before) core.new) }
     ensures clients { clients core.new ≡ clients core.old }
     ensures issued { issued core.new ≤ issued core.old + 3 }
+    ensures err { OnErr result (core.new ≡ core.old) }
 {
     let out = core.client(alloc, client, message, port)?;
     Ok(Outcome {
@@ -102,6 +104,7 @@ fn market_outcome(
         → Leaves terms (outcome_turn (Heard port payload.now) outcome ∷ before) core.new) }
     ensures clients { clients core.new ≡ clients core.old }
     ensures issued { issued core.new ≤ issued core.old + 3 }
+    ensures err { OnErr result (core.new ≡ core.old) }
 {
     match core.market(alloc, port, payload) {
         Ok(out) => Ok(Outcome {

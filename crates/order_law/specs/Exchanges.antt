@@ -5,7 +5,7 @@ use Rattle.fixed_point.specs.Decimal.{price, quantity, amount, amount_of, within
 use Rattle.tokens.specs.TokenText.{last_digits}
 use Rattle.order_law.specs.Verdicts.{Up, Down, Ended, Faulted}
 use Rattle.order_law.specs.History.{History}
-use Rattle.order_law.specs.Transcript.{terms, message, asked, asked_by, heard, heard_on, faulted, faulted_on, enter_message, enter_sale_message, replace_message, cancel_message, accepted_message, replaced_message, executed_message, canceled_message, broken_message, rejected_message, cancel_reject_message}
+use Rattle.order_law.specs.Transcript.{terms, message, asked, asked_by, heard, heard_on, faulted, faulted_on, enter_as, enter_message, enter_sale_message, replace_message, cancel_message, accepted_message, replaced_message, executed_message, canceled_message, broken_message, rejected_message, cancel_reject_message}
 use Rattle.order_law.specs.Kept.{Keeps}
 use Rattle.order_law.specs.Headline.{IsOrderRefusal, IsRequestRefusal}
 
@@ -27,7 +27,7 @@ entered_and_accepted =
 
 entered_and_accepted_keeps : Keeps terms entered_and_accepted
 unfolding digits price quantity amount amount_of within scaled fraction worth worth_of last_digits
-entered_and_accepted_keeps = record { replies_are_verdicts = refl; faults_are_judged = refl; asks_are_sent = refl; states_are_due = refl; statuses_are_due = refl; ids_are_due = refl; accounts_agree = refl; pending_is_unanswered = refl }
+entered_and_accepted_keeps = record { replies_are_verdicts = refl; faults_are_judged = refl; asks_are_sent = refl; tokens_are_due = refl; states_are_due = refl; statuses_are_due = refl; ids_are_due = refl; accounts_agree = refl; pending_is_unanswered = refl }
 
 -- then a replace by 500 is asked
 abbrev pub replace_pending : History
@@ -50,7 +50,7 @@ filled =
 
 filled_keeps : Keeps terms filled
 unfolding digits price quantity amount amount_of within scaled fraction worth worth_of last_digits
-filled_keeps = record { replies_are_verdicts = refl; faults_are_judged = refl; asks_are_sent = refl; states_are_due = refl; statuses_are_due = refl; ids_are_due = refl; accounts_agree = refl; pending_is_unanswered = refl }
+filled_keeps = record { replies_are_verdicts = refl; faults_are_judged = refl; asks_are_sent = refl; tokens_are_due = refl; states_are_due = refl; statuses_are_due = refl; ids_are_due = refl; accounts_agree = refl; pending_is_unanswered = refl }
 
 -- it fills while a cancel is pending, which then is too late
 abbrev pub filled_while_cancel_pending : History
@@ -66,7 +66,7 @@ filled_while_cancel_pending =
 
 filled_while_cancel_pending_keeps : Keeps terms filled_while_cancel_pending
 unfolding digits price quantity amount amount_of within scaled fraction worth worth_of last_digits
-filled_while_cancel_pending_keeps = record { replies_are_verdicts = refl; faults_are_judged = refl; asks_are_sent = refl; states_are_due = refl; statuses_are_due = refl; ids_are_due = refl; accounts_agree = refl; pending_is_unanswered = refl }
+filled_while_cancel_pending_keeps = record { replies_are_verdicts = refl; faults_are_judged = refl; asks_are_sent = refl; tokens_are_due = refl; states_are_due = refl; statuses_are_due = refl; ids_are_due = refl; accounts_agree = refl; pending_is_unanswered = refl }
 
 -- it is replaced, and a trade crosses the replace; then a total that isn't above what is executed, and one that is
 abbrev pub replaced_after_a_trade : History
@@ -87,7 +87,7 @@ replaced_after_a_trade =
 
 replaced_after_a_trade_keeps : Keeps terms replaced_after_a_trade
 unfolding digits price quantity amount amount_of within scaled fraction worth worth_of last_digits
-replaced_after_a_trade_keeps = record { replies_are_verdicts = refl; faults_are_judged = refl; asks_are_sent = refl; states_are_due = refl; statuses_are_due = refl; ids_are_due = refl; accounts_agree = refl; pending_is_unanswered = refl }
+replaced_after_a_trade_keeps = record { replies_are_verdicts = refl; faults_are_judged = refl; asks_are_sent = refl; tokens_are_due = refl; states_are_due = refl; statuses_are_due = refl; ids_are_due = refl; accounts_agree = refl; pending_is_unanswered = refl }
 
 -- a cancel while a replace is pending asks for both tokens
 abbrev pub cancelled_across_a_replace : History
@@ -99,7 +99,7 @@ cancelled_across_a_replace =
 
 cancelled_across_a_replace_keeps : Keeps terms cancelled_across_a_replace
 unfolding digits price quantity amount amount_of within scaled fraction worth worth_of last_digits
-cancelled_across_a_replace_keeps = record { replies_are_verdicts = refl; faults_are_judged = refl; asks_are_sent = refl; states_are_due = refl; statuses_are_due = refl; ids_are_due = refl; accounts_agree = refl; pending_is_unanswered = refl }
+cancelled_across_a_replace_keeps = record { replies_are_verdicts = refl; faults_are_judged = refl; asks_are_sent = refl; tokens_are_due = refl; states_are_due = refl; statuses_are_due = refl; ids_are_due = refl; accounts_agree = refl; pending_is_unanswered = refl }
 
 -- the replace is answered, then the cancel
 abbrev pub cancelled_after_it_is_replaced : History
@@ -114,7 +114,7 @@ cancelled_after_it_is_replaced =
 
 cancelled_after_it_is_replaced_keeps : Keeps terms cancelled_after_it_is_replaced
 unfolding digits price quantity amount amount_of within scaled fraction worth worth_of last_digits
-cancelled_after_it_is_replaced_keeps = record { replies_are_verdicts = refl; faults_are_judged = refl; asks_are_sent = refl; states_are_due = refl; statuses_are_due = refl; ids_are_due = refl; accounts_agree = refl; pending_is_unanswered = refl }
+cancelled_after_it_is_replaced_keeps = record { replies_are_verdicts = refl; faults_are_judged = refl; asks_are_sent = refl; tokens_are_due = refl; states_are_due = refl; statuses_are_due = refl; ids_are_due = refl; accounts_agree = refl; pending_is_unanswered = refl }
 
 -- it fills while both are pending: each is too late, in order of acceptance
 abbrev pub filled_across_replace_and_cancel : History
@@ -128,7 +128,7 @@ filled_across_replace_and_cancel =
 
 filled_across_replace_and_cancel_keeps : Keeps terms filled_across_replace_and_cancel
 unfolding digits price quantity amount amount_of within scaled fraction worth worth_of last_digits
-filled_across_replace_and_cancel_keeps = record { replies_are_verdicts = refl; faults_are_judged = refl; asks_are_sent = refl; states_are_due = refl; statuses_are_due = refl; ids_are_due = refl; accounts_agree = refl; pending_is_unanswered = refl }
+filled_across_replace_and_cancel_keeps = record { replies_are_verdicts = refl; faults_are_judged = refl; asks_are_sent = refl; tokens_are_due = refl; states_are_due = refl; statuses_are_due = refl; ids_are_due = refl; accounts_agree = refl; pending_is_unanswered = refl }
 
 -- the market cancels it while a replace is pending
 abbrev pub closed_by_the_market : History
@@ -141,7 +141,7 @@ closed_by_the_market =
 
 closed_by_the_market_keeps : Keeps terms closed_by_the_market
 unfolding digits price quantity amount amount_of within scaled fraction worth worth_of last_digits
-closed_by_the_market_keeps = record { replies_are_verdicts = refl; faults_are_judged = refl; asks_are_sent = refl; states_are_due = refl; statuses_are_due = refl; ids_are_due = refl; accounts_agree = refl; pending_is_unanswered = refl }
+closed_by_the_market_keeps = record { replies_are_verdicts = refl; faults_are_judged = refl; asks_are_sent = refl; tokens_are_due = refl; states_are_due = refl; statuses_are_due = refl; ids_are_due = refl; accounts_agree = refl; pending_is_unanswered = refl }
 
 -- the market rejects the replace
 abbrev pub replace_rejected : History
@@ -153,7 +153,7 @@ replace_rejected =
 
 replace_rejected_keeps : Keeps terms replace_rejected
 unfolding digits price quantity amount amount_of within scaled fraction worth worth_of last_digits
-replace_rejected_keeps = record { replies_are_verdicts = refl; faults_are_judged = refl; asks_are_sent = refl; states_are_due = refl; statuses_are_due = refl; ids_are_due = refl; accounts_agree = refl; pending_is_unanswered = refl }
+replace_rejected_keeps = record { replies_are_verdicts = refl; faults_are_judged = refl; asks_are_sent = refl; tokens_are_due = refl; states_are_due = refl; statuses_are_due = refl; ids_are_due = refl; accounts_agree = refl; pending_is_unanswered = refl }
 
 -- its ClOrdID comes again, and then the market takes 100 away
 abbrev pub asked_twice : History
@@ -168,7 +168,7 @@ asked_twice =
 
 asked_twice_keeps : Keeps terms asked_twice
 unfolding digits price quantity amount amount_of within scaled fraction worth worth_of last_digits
-asked_twice_keeps = record { replies_are_verdicts = refl; faults_are_judged = refl; asks_are_sent = refl; states_are_due = refl; statuses_are_due = refl; ids_are_due = refl; accounts_agree = refl; pending_is_unanswered = refl }
+asked_twice_keeps = record { replies_are_verdicts = refl; faults_are_judged = refl; asks_are_sent = refl; tokens_are_due = refl; states_are_due = refl; statuses_are_due = refl; ids_are_due = refl; accounts_agree = refl; pending_is_unanswered = refl }
 
 -- a trade of the filled order is broken, and can't be broken again
 abbrev pub broken_after_it_is_filled : History
@@ -181,7 +181,7 @@ broken_after_it_is_filled =
 
 broken_after_it_is_filled_keeps : Keeps terms broken_after_it_is_filled
 unfolding digits price quantity amount amount_of within scaled fraction worth worth_of last_digits
-broken_after_it_is_filled_keeps = record { replies_are_verdicts = refl; faults_are_judged = refl; asks_are_sent = refl; states_are_due = refl; statuses_are_due = refl; ids_are_due = refl; accounts_agree = refl; pending_is_unanswered = refl }
+broken_after_it_is_filled_keeps = record { replies_are_verdicts = refl; faults_are_judged = refl; asks_are_sent = refl; tokens_are_due = refl; states_are_due = refl; statuses_are_due = refl; ids_are_due = refl; accounts_agree = refl; pending_is_unanswered = refl }
 
 -- it is dead as it is accepted
 abbrev pub dead_as_it_is_accepted : History
@@ -194,7 +194,7 @@ dead_as_it_is_accepted =
 
 dead_as_it_is_accepted_keeps : Keeps terms dead_as_it_is_accepted
 unfolding digits price quantity amount amount_of within scaled fraction worth worth_of last_digits
-dead_as_it_is_accepted_keeps = record { replies_are_verdicts = refl; faults_are_judged = refl; asks_are_sent = refl; states_are_due = refl; statuses_are_due = refl; ids_are_due = refl; accounts_agree = refl; pending_is_unanswered = refl }
+dead_as_it_is_accepted_keeps = record { replies_are_verdicts = refl; faults_are_judged = refl; asks_are_sent = refl; tokens_are_due = refl; states_are_due = refl; statuses_are_due = refl; ids_are_due = refl; accounts_agree = refl; pending_is_unanswered = refl }
 
 -- the market rejects it while a cancel is pending
 abbrev pub rejected_while_cancel_pending : History
@@ -210,7 +210,7 @@ rejected_while_cancel_pending =
 
 rejected_while_cancel_pending_keeps : Keeps terms rejected_while_cancel_pending
 unfolding digits price quantity amount amount_of within scaled fraction worth worth_of last_digits
-rejected_while_cancel_pending_keeps = record { replies_are_verdicts = refl; faults_are_judged = refl; asks_are_sent = refl; states_are_due = refl; statuses_are_due = refl; ids_are_due = refl; accounts_agree = refl; pending_is_unanswered = refl }
+rejected_while_cancel_pending_keeps = record { replies_are_verdicts = refl; faults_are_judged = refl; asks_are_sent = refl; tokens_are_due = refl; states_are_due = refl; statuses_are_due = refl; ids_are_due = refl; accounts_agree = refl; pending_is_unanswered = refl }
 
 -- a cancel of no order
 abbrev pub no_order_of_that_name : History
@@ -222,7 +222,7 @@ no_order_of_that_name =
 
 no_order_of_that_name_keeps : Keeps terms no_order_of_that_name
 unfolding digits price quantity amount amount_of within scaled fraction worth worth_of last_digits
-no_order_of_that_name_keeps = record { replies_are_verdicts = refl; faults_are_judged = refl; asks_are_sent = refl; states_are_due = refl; statuses_are_due = refl; ids_are_due = refl; accounts_agree = refl; pending_is_unanswered = refl }
+no_order_of_that_name_keeps = record { replies_are_verdicts = refl; faults_are_judged = refl; asks_are_sent = refl; tokens_are_due = refl; states_are_due = refl; statuses_are_due = refl; ids_are_due = refl; accounts_agree = refl; pending_is_unanswered = refl }
 
 -- a second Accepted is no lawful message
 abbrev pub accepted_again : History
@@ -232,7 +232,7 @@ accepted_again =
 
 accepted_again_keeps : Keeps terms accepted_again
 unfolding digits price quantity amount amount_of within scaled fraction worth worth_of last_digits
-accepted_again_keeps = record { replies_are_verdicts = refl; faults_are_judged = refl; asks_are_sent = refl; states_are_due = refl; statuses_are_due = refl; ids_are_due = refl; accounts_agree = refl; pending_is_unanswered = refl }
+accepted_again_keeps = record { replies_are_verdicts = refl; faults_are_judged = refl; asks_are_sent = refl; tokens_are_due = refl; states_are_due = refl; statuses_are_due = refl; ids_are_due = refl; accounts_agree = refl; pending_is_unanswered = refl }
 
 -- a trade of more than is open is none
 abbrev pub executed_too_much : History
@@ -242,7 +242,7 @@ executed_too_much =
 
 executed_too_much_keeps : Keeps terms executed_too_much
 unfolding digits price quantity amount amount_of within scaled fraction worth worth_of last_digits
-executed_too_much_keeps = record { replies_are_verdicts = refl; faults_are_judged = refl; asks_are_sent = refl; states_are_due = refl; statuses_are_due = refl; ids_are_due = refl; accounts_agree = refl; pending_is_unanswered = refl }
+executed_too_much_keeps = record { replies_are_verdicts = refl; faults_are_judged = refl; asks_are_sent = refl; tokens_are_due = refl; states_are_due = refl; statuses_are_due = refl; ids_are_due = refl; accounts_agree = refl; pending_is_unanswered = refl }
 
 -- the market rejects the cancel
 abbrev pub cancel_rejected : History
@@ -257,7 +257,7 @@ cancel_rejected =
 
 cancel_rejected_keeps : Keeps terms cancel_rejected
 unfolding digits price quantity amount amount_of within scaled fraction worth worth_of last_digits
-cancel_rejected_keeps = record { replies_are_verdicts = refl; faults_are_judged = refl; asks_are_sent = refl; states_are_due = refl; statuses_are_due = refl; ids_are_due = refl; accounts_agree = refl; pending_is_unanswered = refl }
+cancel_rejected_keeps = record { replies_are_verdicts = refl; faults_are_judged = refl; asks_are_sent = refl; tokens_are_due = refl; states_are_due = refl; statuses_are_due = refl; ids_are_due = refl; accounts_agree = refl; pending_is_unanswered = refl }
 
 -- a replace is asked before the market's Accepted, which comes then
 abbrev pub replace_asked_while_waiting : History
@@ -276,7 +276,7 @@ accepted_with_a_replace_pending =
 
 accepted_with_a_replace_pending_keeps : Keeps terms accepted_with_a_replace_pending
 unfolding digits price quantity amount amount_of within scaled fraction worth worth_of last_digits
-accepted_with_a_replace_pending_keeps = record { replies_are_verdicts = refl; faults_are_judged = refl; asks_are_sent = refl; states_are_due = refl; statuses_are_due = refl; ids_are_due = refl; accounts_agree = refl; pending_is_unanswered = refl }
+accepted_with_a_replace_pending_keeps = record { replies_are_verdicts = refl; faults_are_judged = refl; asks_are_sent = refl; tokens_are_due = refl; states_are_due = refl; statuses_are_due = refl; ids_are_due = refl; accounts_agree = refl; pending_is_unanswered = refl }
 
 -- a second order, of another side and stock; a replace of the first, and a cancel: four messages are unanswered
 abbrev pub four_unanswered : History
@@ -294,7 +294,7 @@ four_unanswered =
 
 four_unanswered_keeps : Keeps terms four_unanswered
 unfolding digits price quantity amount amount_of within scaled fraction worth worth_of last_digits
-four_unanswered_keeps = record { replies_are_verdicts = refl; faults_are_judged = refl; asks_are_sent = refl; states_are_due = refl; statuses_are_due = refl; ids_are_due = refl; accounts_agree = refl; pending_is_unanswered = refl }
+four_unanswered_keeps = record { replies_are_verdicts = refl; faults_are_judged = refl; asks_are_sent = refl; tokens_are_due = refl; states_are_due = refl; statuses_are_due = refl; ids_are_due = refl; accounts_agree = refl; pending_is_unanswered = refl }
 
 -- a cancel while the port is down: it is accepted, and nothing is sent
 abbrev pub cancelled_while_down : History
@@ -306,7 +306,7 @@ cancelled_while_down =
 
 cancelled_while_down_keeps : Keeps terms cancelled_while_down
 unfolding digits price quantity amount amount_of within scaled fraction worth worth_of last_digits
-cancelled_while_down_keeps = record { replies_are_verdicts = refl; faults_are_judged = refl; asks_are_sent = refl; states_are_due = refl; statuses_are_due = refl; ids_are_due = refl; accounts_agree = refl; pending_is_unanswered = refl }
+cancelled_while_down_keeps = record { replies_are_verdicts = refl; faults_are_judged = refl; asks_are_sent = refl; tokens_are_due = refl; states_are_due = refl; statuses_are_due = refl; ids_are_due = refl; accounts_agree = refl; pending_is_unanswered = refl }
 
 -- a port whose market session ended refuses orders
 abbrev pub ordered_after_the_end : History
@@ -318,7 +318,7 @@ ordered_after_the_end =
 
 ordered_after_the_end_keeps : Keeps terms ordered_after_the_end
 unfolding digits price quantity amount amount_of within scaled fraction worth worth_of last_digits
-ordered_after_the_end_keeps = record { replies_are_verdicts = refl; faults_are_judged = refl; asks_are_sent = refl; states_are_due = refl; statuses_are_due = refl; ids_are_due = refl; accounts_agree = refl; pending_is_unanswered = refl }
+ordered_after_the_end_keeps = record { replies_are_verdicts = refl; faults_are_judged = refl; asks_are_sent = refl; tokens_are_due = refl; states_are_due = refl; statuses_are_due = refl; ids_are_due = refl; accounts_agree = refl; pending_is_unanswered = refl }
 
 -- port 1 faults by a token that isn't given, and refuses orders from then on; port 2 takes them
 abbrev pub ordered_on_a_faulted_port : History
@@ -334,7 +334,7 @@ ordered_on_a_faulted_port =
 
 ordered_on_a_faulted_port_keeps : Keeps terms ordered_on_a_faulted_port
 unfolding digits price quantity amount amount_of within scaled fraction worth worth_of last_digits
-ordered_on_a_faulted_port_keeps = record { replies_are_verdicts = refl; faults_are_judged = refl; asks_are_sent = refl; states_are_due = refl; statuses_are_due = refl; ids_are_due = refl; accounts_agree = refl; pending_is_unanswered = refl }
+ordered_on_a_faulted_port_keeps = record { replies_are_verdicts = refl; faults_are_judged = refl; asks_are_sent = refl; tokens_are_due = refl; states_are_due = refl; statuses_are_due = refl; ids_are_due = refl; accounts_agree = refl; pending_is_unanswered = refl }
 
 -- port 1 faults with an order on it, which can't be cancelled then; an order on port 2 is accepted and filled
 abbrev pub filled_beside_a_faulted_port : History
@@ -356,7 +356,7 @@ filled_beside_a_faulted_port =
 
 filled_beside_a_faulted_port_keeps : Keeps terms filled_beside_a_faulted_port
 unfolding digits price quantity amount amount_of within scaled fraction worth worth_of last_digits
-filled_beside_a_faulted_port_keeps = record { replies_are_verdicts = refl; faults_are_judged = refl; asks_are_sent = refl; states_are_due = refl; statuses_are_due = refl; ids_are_due = refl; accounts_agree = refl; pending_is_unanswered = refl }
+filled_beside_a_faulted_port_keeps = record { replies_are_verdicts = refl; faults_are_judged = refl; asks_are_sent = refl; tokens_are_due = refl; states_are_due = refl; statuses_are_due = refl; ids_are_due = refl; accounts_agree = refl; pending_is_unanswered = refl }
 
 -- port 2 faults by a token of port 1, whose order is accepted after it
 abbrev pub accepted_beside_a_faulted_port : History
@@ -369,7 +369,7 @@ accepted_beside_a_faulted_port =
 
 accepted_beside_a_faulted_port_keeps : Keeps terms accepted_beside_a_faulted_port
 unfolding digits price quantity amount amount_of within scaled fraction worth worth_of last_digits
-accepted_beside_a_faulted_port_keeps = record { replies_are_verdicts = refl; faults_are_judged = refl; asks_are_sent = refl; states_are_due = refl; statuses_are_due = refl; ids_are_due = refl; accounts_agree = refl; pending_is_unanswered = refl }
+accepted_beside_a_faulted_port_keeps = record { replies_are_verdicts = refl; faults_are_judged = refl; asks_are_sent = refl; tokens_are_due = refl; states_are_due = refl; statuses_are_due = refl; ids_are_due = refl; accounts_agree = refl; pending_is_unanswered = refl }
 
 -- two clients have the same ClOrdID, each its own; the first then cancels an order that isn't one
 abbrev pub two_clients : History
@@ -384,7 +384,95 @@ two_clients =
 
 two_clients_keeps : Keeps terms two_clients
 unfolding digits price quantity amount amount_of within scaled fraction worth worth_of last_digits
-two_clients_keeps = record { replies_are_verdicts = refl; faults_are_judged = refl; asks_are_sent = refl; states_are_due = refl; statuses_are_due = refl; ids_are_due = refl; accounts_agree = refl; pending_is_unanswered = refl }
+two_clients_keeps = record { replies_are_verdicts = refl; faults_are_judged = refl; asks_are_sent = refl; tokens_are_due = refl; states_are_due = refl; statuses_are_due = refl; ids_are_due = refl; accounts_agree = refl; pending_is_unanswered = refl }
+
+-- a cancel under the id of the pending replace is refused, and the replace stays pending
+abbrev pub asked_under_a_pending_id : History
+asked_under_a_pending_id =
+    asked (codes "35=F|41=A1|11=A2")
+    (codes "35=9|37=1|11=A2|41=A1|39=E|434=1|102=6|58=duplicate ClOrdID")
+    ([])
+    ∷ replace_pending
+
+asked_under_a_pending_id_keeps : Keeps terms asked_under_a_pending_id
+unfolding digits price quantity amount amount_of within scaled fraction worth worth_of last_digits
+asked_under_a_pending_id_keeps = record { replies_are_verdicts = refl; faults_are_judged = refl; asks_are_sent = refl; tokens_are_due = refl; states_are_due = refl; statuses_are_due = refl; ids_are_due = refl; accounts_agree = refl; pending_is_unanswered = refl }
+
+-- sold, sold short, and sold short as exempt
+abbrev pub sold_in_each_way : History
+sold_in_each_way =
+    asked (codes "35=D|11=A3|54=6|55=INTC|38=300|40=2|44=23.45|528=P")
+    (codes "35=8|37=3|11=A3|17=3|150=A|39=A|55=INTC|54=6|38=300|44=23.45|151=300|14=0|6=0")
+    (enter_as (codes "E") 3 300 ∷ [])
+    ∷ asked (codes "35=D|11=A2|54=5|55=INTC|38=300|40=2|44=23.45|528=P")
+    (codes "35=8|37=2|11=A2|17=2|150=A|39=A|55=INTC|54=5|38=300|44=23.45|151=300|14=0|6=0")
+    (enter_as (codes "T") 2 300 ∷ [])
+    ∷ asked (codes "35=D|11=A1|54=2|55=INTC|38=300|40=2|44=23.45|528=P")
+    (codes "35=8|37=1|11=A1|17=1|150=A|39=A|55=INTC|54=2|38=300|44=23.45|151=300|14=0|6=0")
+    (enter_as (codes "S") 1 300 ∷ [])
+    ∷ []
+
+sold_in_each_way_keeps : Keeps terms sold_in_each_way
+unfolding digits price quantity amount amount_of within scaled fraction worth worth_of last_digits
+sold_in_each_way_keeps = record { replies_are_verdicts = refl; faults_are_judged = refl; asks_are_sent = refl; tokens_are_due = refl; states_are_due = refl; statuses_are_due = refl; ids_are_due = refl; accounts_agree = refl; pending_is_unanswered = refl }
+
+-- the trade of the first token is broken while the next replace is pending
+abbrev pub broken_after_it_is_replaced : History
+broken_after_it_is_replaced =
+    heard (broken_message 1 7 (codes "E"))
+    (message (codes "35=8|37=1|11=A2|17=7|19=4|150=H|39=E|55=INTC|54=1|38=400|44=23.45|151=400|14=0|6=0|58=E")
+    ∷ [])
+    ∷ replaced_after_a_trade
+
+broken_after_it_is_replaced_keeps : Keeps terms broken_after_it_is_replaced
+unfolding digits price quantity amount amount_of within scaled fraction worth worth_of last_digits
+broken_after_it_is_replaced_keeps = record { replies_are_verdicts = refl; faults_are_judged = refl; asks_are_sent = refl; tokens_are_due = refl; states_are_due = refl; statuses_are_due = refl; ids_are_due = refl; accounts_agree = refl; pending_is_unanswered = refl }
+
+-- a replaced order that is dead at once
+abbrev pub dead_as_it_is_replaced : History
+dead_as_it_is_replaced =
+    heard (replaced_message 2 1 500 (codes "D"))
+    (message (codes "35=8|37=1|11=A2|41=A1|17=4|150=5|39=0|55=INTC|54=1|38=500|44=23.45|151=500|14=0|6=0")
+    ∷ message (codes "35=8|37=1|11=A2|17=5|150=4|39=4|55=INTC|54=1|38=500|44=23.45|151=0|14=0|6=0")
+    ∷ [])
+    ∷ replace_pending
+
+dead_as_it_is_replaced_keeps : Keeps terms dead_as_it_is_replaced
+unfolding digits price quantity amount amount_of within scaled fraction worth worth_of last_digits
+dead_as_it_is_replaced_keeps = record { replies_are_verdicts = refl; faults_are_judged = refl; asks_are_sent = refl; tokens_are_due = refl; states_are_due = refl; statuses_are_due = refl; ids_are_due = refl; accounts_agree = refl; pending_is_unanswered = refl }
+
+-- the order after a cancel, which had no token, has the next one
+abbrev pub ordered_after_a_cancel : History
+ordered_after_a_cancel =
+    asked (codes "35=D|11=A3|54=1|55=INTC|38=300|40=2|44=23.45|528=P")
+    (codes "35=8|37=2|11=A3|17=5|150=A|39=A|55=INTC|54=1|38=300|44=23.45|151=300|14=0|6=0")
+    (enter_message 2 300 ∷ [])
+    ∷ filled_while_cancel_pending
+
+ordered_after_a_cancel_keeps : Keeps terms ordered_after_a_cancel
+unfolding digits price quantity amount amount_of within scaled fraction worth worth_of last_digits
+ordered_after_a_cancel_keeps = record { replies_are_verdicts = refl; faults_are_judged = refl; asks_are_sent = refl; tokens_are_due = refl; states_are_due = refl; statuses_are_due = refl; ids_are_due = refl; accounts_agree = refl; pending_is_unanswered = refl }
+
+-- a replace of the first client is answered, after the second gave its cancel the same id
+abbrev pub two_clients_with_the_same_ids : History
+two_clients_with_the_same_ids =
+    heard (replaced_message 2 1 500 (codes "L"))
+    (message (codes "35=8|37=1|11=A2|41=A1|17=7|150=5|39=0|55=INTC|54=1|38=500|44=23.45|151=500|14=0|6=0")
+    ∷ [])
+    ∷ asked_by 2 Up (codes "35=F|41=A3|11=A2")
+    (codes "35=8|37=2|11=A2|41=A3|17=6|150=6|39=6|55=INTC|54=1|38=300|44=23.45|151=300|14=0|6=0")
+    (cancel_message 3 ∷ cancel_message 4 ∷ [])
+    ∷ asked_by 2 Up (codes "35=G|41=A1|11=A3|38=400|40=2|44=23.45")
+    (codes "35=8|37=2|11=A3|41=A1|17=5|150=E|39=E|55=INTC|54=1|38=300|44=23.45|151=300|14=0|6=0")
+    (replace_message 3 4 400 ∷ [])
+    ∷ asked_by 2 Up (codes "35=D|11=A1|54=1|55=INTC|38=300|40=2|44=23.45|59=0|528=P")
+    (codes "35=8|37=2|11=A1|17=4|150=A|39=A|55=INTC|54=1|38=300|44=23.45|151=300|14=0|6=0")
+    (enter_message 3 300 ∷ [])
+    ∷ replace_pending
+
+two_clients_with_the_same_ids_keeps : Keeps terms two_clients_with_the_same_ids
+unfolding digits price quantity amount amount_of within scaled fraction worth worth_of last_digits
+two_clients_with_the_same_ids_keeps = record { replies_are_verdicts = refl; faults_are_judged = refl; asks_are_sent = refl; tokens_are_due = refl; states_are_due = refl; statuses_are_due = refl; ids_are_due = refl; accounts_agree = refl; pending_is_unanswered = refl }
 
 -- how refusals are told: of a new order whose ClOrdID comes again, and of a cancel of no order
 refused_order :

@@ -91,7 +91,7 @@ abbrev is_replace_of : List ℕ → Entry → Bool
 is_replace_of order e = bytes_eq e.order order && is_replace e.message
 
 -- what stands of an order
-abbrev standing_of : List Terms → List Message → List Entry → List ℕ → Option Named
+abbrev pub standing_of : List Terms → List Message → List Entry → List ℕ → Option Named
 standing_of terms sent entries order = option_map (λ (e : Entry). record {
   side = text 54 e.message;
   symbol = text 55 e.message;

@@ -1,15 +1,16 @@
 -- The promises of the headline on a history that is written down, as equations that can be computed.
-use Rattle.std.specs.Prelude.{◌≡◌, ◌&&◌, ℕ, Bool, true, bytes_eq, List, [], ◌∷◌, ◌++◌, map, filter, Option, None, if◌then◌else◌, codes}
+use Rattle.std.specs.Prelude.{◌≡◌, ◌&&◌, ℕ, Bool, true, bytes_eq, List, [], ◌∷◌, ◌++◌, map, filter, Option, Some, None, if◌then◌else◌, codes}
 use Rattle.std.specs.List.{flat_map, list_all}
+use Rattle.ouch_codec.specs.ToMarket as said
 use Rattle.order_law.specs.Messages.{Message, text, number, is}
 use Rattle.order_law.specs.Asks.{Ask, ask_of_bytes}
 use Rattle.order_law.specs.declared.account.Account.{Account}
-use Rattle.order_law.specs.Life.{account_of}
+use Rattle.order_law.specs.Life.{account_of, is_type}
 use Rattle.order_law.specs.Reading.{reading, is_report_on, account_read}
 use Rattle.order_law.specs.Verdicts.{Verdict, Accepted, Refused, Up, Down, Ended, Faulted}
 use Rattle.order_law.specs.Chain.{chain, has_pending_cancel, has_pending_replace}
 use Rattle.order_law.specs.Lawful.{judgement}
-use Rattle.order_law.specs.History.{Terms, terms_of, Event, Came, Heard, Turn, History, Entry, Asked, issued, handled, accepted, verdict, entry_at, asks_of, is_new_order, outstanding}
+use Rattle.order_law.specs.History.{Terms, terms_of, Event, Came, Heard, Turn, History, Entry, Asked, Said, SaysNew, SaysReplace, SaysCancel, issued, handled, accepted, verdict, entry_at, asks_of, is_new_order, outstanding}
 use Rattle.order_law.specs.Headline.{State, stated, due_after, is_reject_on, life_in, order_number, is_outstanding, is_replace_said, is_cancel_said, has_due_ids, is_id_of, old_ids}
 
 -- ---- replies
@@ -51,6 +52,13 @@ judgements terms (t ∷ before) = judgement_in terms t.event before ∷ judgemen
 
 -- ---- asks
 
+-- the type and tokens of a message to the market
+abbrev said_of : List ℕ → Option Said
+said_of m =
+    if is_type (codes "O") m then Some (SaysNew (said.token m))
+    else (if is_type (codes "U") m then Some (SaysReplace (said.token m) (said.replacement_token m))
+    else (if is_type (codes "X") m then Some (SaysCancel (said.token m)) else None))
+
 abbrev sent_asks_in : List Terms → Turn → History → List (Option Ask)
 sent_asks_in terms t before = by_event t.event
   where
@@ -59,22 +67,31 @@ sent_asks_in terms t before = by_event t.event
         map (ask_of_bytes (terms_of terms client).standing (order_number terms (terms_of terms client).port (accepted terms (t ∷ before)))) t.sends
     by_event (Heard port m) = []
 
-abbrev due_asks_in : List Terms → Event → History → List (Option Ask)
-due_asks_in terms (Came client m Up) before =
-    map (λ (a : Asked). a.ask)
-    (asks_of terms (terms_of terms client).port (entry_at terms (Came client m Up) before) (accepted terms before) (issued client before) (handled (terms_of terms client).port before))
-due_asks_in terms (Came client m Down) before = []
-due_asks_in terms (Came client m Ended) before = []
-due_asks_in terms (Came client m (Faulted n)) before = []
-due_asks_in terms (Heard port m) before = []
+-- what a turn has to ask at once
+abbrev due_in : List Terms → Event → History → List Asked
+due_in terms (Came client m Up) before =
+    asks_of terms (terms_of terms client).port (entry_at terms (Came client m Up) before) (accepted terms before) (issued client before) (handled (terms_of terms client).port before)
+due_in terms (Came client m Down) before = []
+due_in terms (Came client m Ended) before = []
+due_in terms (Came client m (Faulted n)) before = []
+due_in terms (Heard port m) before = []
 
 abbrev pub sent_asks : List Terms → History → List (Option Ask)
 sent_asks terms [] = []
 sent_asks terms (t ∷ before) = sent_asks_in terms t before ++ sent_asks terms before
 
+abbrev due_list : List Terms → History → List Asked
+due_list terms [] = []
+due_list terms (t ∷ before) = due_in terms t.event before ++ due_list terms before
+
 abbrev pub due_asks : List Terms → History → List (Option Ask)
-due_asks terms [] = []
-due_asks terms (t ∷ before) = due_asks_in terms t.event before ++ due_asks terms before
+due_asks terms h = map (λ (a : Asked). a.ask) (due_list terms h)
+
+abbrev pub sent_tokens : History → List (Option Said)
+sent_tokens h = flat_map (λ (t : Turn). map said_of t.sends) h
+
+abbrev pub due_tokens : List Terms → History → List (Option Said)
+due_tokens terms h = map (λ (a : Asked). Some a.said) (due_list terms h)
 
 -- ---- reports
 
@@ -154,12 +171,18 @@ unanswered terms h = map (λ (e : Entry). waits e) (new_orders terms h)
 
 -- ---- a history
 
+-- what is found after each turn
+abbrev pub after_each : {A : Type 0} → (History → List A) → History → List A
+after_each found [] = []
+after_each found (t ∷ before) = found (t ∷ before) ++ after_each found before
+
 pub record Keeps (terms : List Terms) (h : History) : Type 0 where
   pub replies_are_verdicts : replies h ≡ verdicts terms h
   pub faults_are_judged : map (λ (t : Turn). t.fault) h ≡ judgements terms h
   pub asks_are_sent : sent_asks terms h ≡ due_asks terms h
+  pub tokens_are_due : sent_tokens h ≡ due_tokens terms h
   pub states_are_due : states terms h ≡ due_states terms h
   pub statuses_are_due : statuses terms h ≡ due_statuses terms h
   pub ids_are_due : list_all (λ is_due. is_due) (ids terms h) ≡ true
-  pub accounts_agree : accounts_read terms h ≡ accounts_lived terms h
-  pub pending_is_unanswered : pending terms h ≡ unanswered terms h
+  pub accounts_agree : after_each (accounts_read terms) h ≡ after_each (accounts_lived terms) h
+  pub pending_is_unanswered : after_each (pending terms) h ≡ after_each (unanswered terms) h

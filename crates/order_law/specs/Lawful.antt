@@ -11,7 +11,7 @@ use Rattle.ouch_codec.specs.FromMarket as heard
 use Rattle.order_law.specs.Messages.{text, character}
 use Rattle.order_law.specs.Asks.{side_of_letter}
 use Rattle.order_law.specs.Life.{Life, is_of, is_live, is_closed, is_waiting, is_working, stands_as, is_type}
-use Rattle.order_law.specs.declared.life.Trade.{Trade}
+use Rattle.order_law.specs.declared.trade.Trade.{Trade}
 use Rattle.order_law.specs.Chain.{chain}
 use Rattle.order_law.specs.History.{Terms, terms_of, History, Entry, issued, handled, accepted, life_of, new_of, pending_tokens, token_of}
 

@@ -1,9 +1,7 @@
 pub mod Messages
 pub mod Asks
 pub mod Life
-pub mod Growth
 pub mod Reading
-pub mod Held
 pub mod Chain
 pub mod Verdicts
 pub mod History
@@ -13,5 +11,7 @@ pub mod Transcript
 pub mod Kept
 pub mod Exchanges
 pub mod Outstanding
+pub mod Misstated
+pub mod AskRows
 pub mod VerdictRows
 pub mod MarketRows

@@ -4,9 +4,9 @@ use Rattle.std.specs.List.{list_any, find}
 use Rattle.ouch_codec.specs.Parts.{type_of}
 use Rattle.ouch_codec.specs.FromMarket as heard
 use Rattle.order_law.specs.declared.account.Account.{Account}
-use Rattle.order_law.specs.declared.life.Stage.{Stage}
-use Rattle.order_law.specs.declared.life.Stage.TheVariants.{Waiting, Working, Closed}
-use Rattle.order_law.specs.declared.life.Trade.{Trade}
+use Rattle.order_law.specs.declared.stage.Stage.{Stage}
+use Rattle.order_law.specs.declared.stage.Stage.TheVariants.{Waiting, Working, Closed}
+use Rattle.order_law.specs.declared.trade.Trade.{Trade}
 
 pub record Life : Type 0 where
   -- the byte that FIX writes

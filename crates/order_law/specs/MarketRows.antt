@@ -1,20 +1,16 @@
 -- Each row of the table of market messages, where it alone fails, computed.
-use Rattle.std.specs.Prelude.{◌≡◌, ℕ, List, [], ◌∷◌, ◌++◌, codes, refl, Option, Some, None, take}
+use Rattle.std.specs.Prelude.{◌≡◌, ℕ, List, [], ◌++◌, codes, refl, Option, Some, None, take}
 use Rattle.std.specs.Fmt.{digits}
 use Rattle.fixed_point.specs.Decimal.{price, quantity, amount, amount_of, within, scaled, fraction, worth, worth_of}
 use Rattle.tokens.specs.TokenText.{last_digits}
 use Rattle.order_law.specs.Lawful.{judgement, bytes_fault, token_fault, row_fault, type_fault}
 use Rattle.order_law.specs.History.{History}
-use Rattle.order_law.specs.Transcript.{terms, accepted_message, replaced_message, replaced_as, executed_message, canceled_message, broken_message, rejected_message, cancel_reject_message, cancel_pending_message, sold_message, heard}
-use Rattle.order_law.specs.Exchanges.{entered_and_accepted, filled, closed_by_the_market, broken_after_it_is_filled, replace_rejected, replace_pending, replace_asked_while_waiting, replaced_after_a_trade, only_entered}
+use Rattle.order_law.specs.Transcript.{terms, accepted_message, replaced_message, replaced_as, executed_message, canceled_message, broken_message, rejected_message, cancel_reject_message, cancel_pending_message, sold_message}
+use Rattle.order_law.specs.Exchanges.{entered_and_accepted, filled, closed_by_the_market, broken_after_it_is_filled, replace_rejected, replace_pending, replace_asked_while_waiting, replaced_after_a_trade, broken_after_it_is_replaced, only_entered}
 
 -- the fault of a payload of port 1 after a history
 abbrev fault : History → List ℕ → Option ℕ
 fault h payload = judgement terms 1 payload h
-
--- the trade that came before the replace is broken
-abbrev broken_after_it_is_replaced : History
-broken_after_it_is_replaced = heard (broken_message 1 7 (codes "E")) [] ∷ replaced_after_a_trade
 
 -- payloads of port 1
 faults :

@@ -83,9 +83,13 @@ cancel_reject_message token = header (codes "I") token
 
 -- ---- towards the market
 
+-- with this side, at 23.45 for the day, as principal
+abbrev pub enter_as : List ℕ → ℕ → ℕ → List ℕ
+enter_as side token shares =
+    codes "O" ++ token_text token ++ side ++ four shares ++ codes "INTC    " ++ four 234500 ++ four 99998 ++ codes "FIRMYPN" ++ four 0 ++ codes "NR"
+
 abbrev pub enter_message : ℕ → ℕ → List ℕ
-enter_message token shares =
-    codes "O" ++ token_text token ++ codes "B" ++ four shares ++ codes "INTC    " ++ four 234500 ++ four 99998 ++ codes "FIRMYPN" ++ four 0 ++ codes "NR"
+enter_message token shares = enter_as (codes "B") token shares
 
 -- sells 10 MSFT at 1.5, immediate or cancel, as agent
 abbrev pub enter_sale_message : ℕ → List ℕ

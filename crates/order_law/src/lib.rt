@@ -2,21 +2,14 @@
 //! messages and the reports say of an order, and the headline that links them.
 //!
 //! Contracts of the crates above cite `specs/`. `specs/Exchanges.antt`, `VerdictRows.antt` and `MarketRows.antt` are
-//! exchanges that are written down, on which the definitions are computed with every check. `life_of` and `reading_of` are
-//! two of the definitions, run: the life of an order from the market's messages, and its reading from a client's reports.
+//! exchanges that are written down, on which the definitions are computed with every check. In Rust there are only the types
+//! that definitions and code share; `order_accounts` runs two of the definitions.
 #![tactic(auto)]
 
 mod account;
-mod life;
-mod message;
-mod part;
-mod reading;
-mod reading_fault;
+mod stage;
+mod trade;
 
 pub use account::Account;
-pub use life::{Life, Stage, Trade, life_of};
-pub use reading::{Reading, reading_of};
-pub use reading_fault::ReadingFault;
-
-#[cfg(test)]
-mod tests;
+pub use stage::Stage;
+pub use trade::Trade;

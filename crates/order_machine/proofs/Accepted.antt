@@ -10,8 +10,8 @@ use Rattle.ouch_codec.specs.Layout.{is_message}
 use Rattle.ouch_codec.specs.Layouts as layouts
 use Rattle.ouch_codec.specs.Parts.{type_of}
 use Rattle.ouch_codec.specs.FromMarket as heard
-use Rattle.order_law.specs.declared.life.Stage.{Stage}
-use Rattle.order_law.specs.declared.life.Stage.TheVariants.{Waiting, Working, Closed}
+use Rattle.order_law.specs.declared.stage.Stage.{Stage}
+use Rattle.order_law.specs.declared.stage.Stage.TheVariants.{Waiting, Working, Closed}
 use Rattle.order_law.specs.Messages.{Message, character}
 use Rattle.order_law.specs.Life.{Life, after, is_dead_state, is_type, is_waiting, life}
 use Rattle.order_law.specs.Chain.{is_used}

@@ -8,7 +8,7 @@ use Rattle.fix_types.specs.declared.ord_status.OrdStatus.TheVariants as statuses
 use Rattle.fix_types.specs.declared.ord_status.OrdStatus.{OrdStatus}
 use Rattle.fix_types.specs.Letters.{status_letter}
 use Rattle.fix_types.specs.Report.{report_fields}
-use Rattle.order_law.specs.declared.life.Stage.TheVariants.{Waiting, Working, Closed}
+use Rattle.order_law.specs.declared.stage.Stage.TheVariants.{Waiting, Working, Closed}
 use Rattle.order_law.specs.Messages.{Message, text}
 use Rattle.order_law.specs.Asks.{total_of}
 use Rattle.order_law.specs.Chain.{chain}

@@ -7,8 +7,8 @@ use Rattle.fixed_point.specs.Decimal.{fraction, quantity, scaled, worth, worth_o
 use Rattle.fix_types.specs.declared.ord_status.OrdStatus.{OrdStatus}
 use Rattle.fix_types.specs.declared.exec_type.ExecType.{ExecType}
 use Rattle.fix_types.specs.Report.{report_fields}
-use Rattle.order_law.specs.declared.life.Stage.{Stage}
-use Rattle.order_law.specs.declared.life.Stage.TheVariants.{Waiting, Working, Closed}
+use Rattle.order_law.specs.declared.stage.Stage.{Stage}
+use Rattle.order_law.specs.declared.stage.Stage.TheVariants.{Waiting, Working, Closed}
 use Rattle.order_law.specs.Messages.{Message, is}
 use Rattle.order_law.specs.Life.{Life, is_closed, is_waiting}
 use Rattle.order_law.specs.Reading.{Reading, is_report, is_report_on, price_in, reading, unread}

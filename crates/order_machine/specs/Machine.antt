@@ -15,7 +15,7 @@ use Rattle.fix_types.specs.NewOrder.{new_order_fields}
 use Rattle.ouch_codec.specs.Layout.{is_message}
 use Rattle.ouch_codec.specs.Layouts as layouts
 use Rattle.ouch_codec.specs.FromMarket as heard
-use Rattle.order_law.specs.declared.life.Stage.TheVariants.{Waiting, Working, Closed}
+use Rattle.order_law.specs.declared.stage.Stage.TheVariants.{Waiting, Working, Closed}
 use Rattle.order_law.specs.Asks.{asked_by_new, limit_of, side_of_letter, total_of}
 use Rattle.order_law.specs.Life.{is_dead_state, is_type, is_waiting}
 use Rattle.order_law.specs.Verdicts.{Port, Verdict, Accepted, Refused, first_row, rows_of_new}

@@ -1,7 +1,7 @@
 -- The table of orders: what the gateway keeps so that it can answer.
 use Rattle.std.specs.Prelude.{ℕ, Bool, ◌&&◌, ◌==◌, not, List, [], bytes_eq}
 use Rattle.std.specs.List.{list_any, count_by}
-use Rattle.order_law.specs.declared.life.Stage.{Stage}
+use Rattle.order_law.specs.declared.stage.Stage.{Stage}
 use Rattle.order_law.specs.Life.{is_closed}
 use Rattle.order_law.specs.History.{Terms}
 

@@ -1,7 +1,0 @@
-use Rattle.std.proofs.Common.{◌≡◌, take, None}
-use Rattle.std.specs.List.{find}
-use Rattle.order_law.specs.Life.{stands_as}
-use Rattle.order_law.proofs.life.standing.Given as goal
-
-abbrev pub invariant-loop-trade : goal.invariant-loop-trade
-invariant-loop-trade l = find (stands_as l.match_number) (take l.trade-index l.trades) ≡ None
