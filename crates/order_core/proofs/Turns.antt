@@ -1,5 +1,5 @@
 -- A call that meets the machine leads on, as a turn.
-use Rattle.std.proofs.Common.{◌≡◌, ℕ, List, [], ◌∷◌, map, refl, sym, ap, ◌∙◌, subst, Some, None, Option, Result, Ok, Err}
+use Rattle.std.proofs.Common.{◌≡◌, ℕ, List, [], ◌∷◌, map, refl, sym, ap, ◌∙◌, Some, None, Result, Ok, Err}
 use Rattle.std.specs.Prelude.{MatchResult}
 use Rattle.fix_types.specs.declared.application.AppMsg.{AppMsg}
 use Rattle.fix_types.specs.declared.application.AppMsg.TheVariants as messages
@@ -9,7 +9,7 @@ use Rattle.fix_types.specs.Report.{report_fields}
 use Rattle.order_law.specs.Verdicts.{Accepted, Refused, Verdict}
 use Rattle.order_law.specs.History.{History, Terms}
 use Rattle.order_machine.specs.Table.{State}
-use Rattle.order_machine.specs.Machine.{Given, accept, by_verdict, client_step, faulty, market_step, refuse, verdict_in}
+use Rattle.order_machine.specs.Machine.{Given, accept, by_verdict, client_step, market_step, refuse, verdict_in}
 use Rattle.order_machine.specs.Runs.{IsServed, Leaves}
 use Rattle.order_machine.proofs.Faults.{market-alone}
 use Rattle.order_machine.proofs.Runs.{Leaves-more}
@@ -18,7 +18,7 @@ use Rattle.order_core.specs.declared.market_fault.MarketFault.TheVariants as fau
 use Rattle.order_core.specs.declared.outcome.CoreOut.{CoreOut}
 use Rattle.order_core.specs.declared.outcome.MarketOut.{MarketOut}
 use Rattle.order_core.specs.declared.port_state.PortState.{PortState}
-use Rattle.order_core.specs.Meets.{GivesMarket, IsFaultOf, MeetsMarket, MeetsMessage}
+use Rattle.order_core.specs.Meets.{GivesMarket, MeetsMarket, MeetsMessage}
 use Rattle.order_core.specs.Seen.{body, number_of, port_seen}
 use Rattle.order_core.specs.Turns.{IsTurn, body_fields, client_turn, fault_turn, market_turn, told_turn}
 

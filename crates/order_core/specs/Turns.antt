@@ -1,5 +1,5 @@
 -- Calls of the order machine as turns of a history.
-use Rattle.std.specs.Prelude.{◌≡◌, ℕ, List, [], ◌∷◌, Option, Some, None, map, Result, Ok, Err}
+use Rattle.std.specs.Prelude.{ℕ, List, [], Some, None, map, Result, Ok, Err}
 use Rattle.fix_types.specs.declared.application.AppBody.{AppBody}
 use Rattle.fix_types.specs.declared.application.AppBody.TheVariants as bodies
 use Rattle.fix_types.specs.declared.application.AppMsg.{AppMsg}
@@ -8,10 +8,7 @@ use Rattle.fix_types.specs.NewOrder.{new_order_fields}
 use Rattle.fix_types.specs.Report.{report_fields}
 use Rattle.ouch_codec.specs.Inbound.{inbound_bytes}
 use Rattle.order_law.specs.Messages.{Message}
-use Rattle.order_law.specs.Verdicts.{Port}
-use Rattle.order_law.specs.History.{Came, Heard, History, Turn}
-use Rattle.order_machine.specs.Table.{State}
-use Rattle.order_machine.specs.Runs.{IsServed}
+use Rattle.order_law.specs.History.{Came, Heard, Turn}
 use Rattle.order_core.specs.declared.market_fault.MarketFault.{MarketFault}
 use Rattle.order_core.specs.declared.market_fault.MarketFault.TheVariants as faults
 use Rattle.order_core.specs.declared.outcome.CoreOut.{CoreOut}

@@ -23,3 +23,6 @@ pub use order_core::OrderCore;
 pub use outcome::{CoreOut, MarketOut};
 pub use port_state::PortState;
 pub use runs::{Event, Outcome, run, step};
+
+#[cfg(test)]
+mod tests;
