@@ -3,7 +3,7 @@
 ghost use Rattle.std.specs.Prelude.{◌≡◌, ◌≤◌, ◌<◌, ◌+◌, ◌^◌, ◌∷◌, true, List, length, map, IfOk, OnErr};
 ghost use Rattle.order_law.specs.Headline.{Headline};
 ghost use Rattle.order_law.specs.History.{Came, Heard, History, Terms};
-ghost use Rattle.order_machine.specs.Runs.{IsServed, Leaves};
+ghost use Rattle.order_machine.specs.Runs.{IsRun, IsServed, Leaves};
 ghost use Rattle.order_core.specs.Runs.{AreKnown, AreServed, history, is_known, is_served, outcome_turn, turn_of};
 ghost use Rattle.order_core.specs.Seen.{port_seen, terms_seen};
 ghost use Rattle.order_core.specs.State.{clients, issued, HasRoom, IsClient};
@@ -125,7 +125,8 @@ fn market_outcome(
 
 /// What comes of these events, one after another from no order on, for clients with these terms.
 ///
-/// After each of them the headline holds of all turns so far. The payloads have types that are served.
+/// Each outcome is just what the table's machine gives, and after each of them the headline holds of all turns so far. The
+/// payloads have types that are served.
 pub fn run(
     alloc: Global,
     terms: &[ClientTerms],
@@ -134,6 +135,8 @@ pub fn run(
     requires clients { AreKnown (length terms.now) events.now }
     requires short { length events.now < 2 ^ 57 }
     ensures count { IfOk result (λ outcomes. length outcomes.items ≡ length events.now) }
+    ensures exact { AreServed events.now
+        → IfOk result (λ outcomes. IsRun (map terms_seen terms.now) (history events.now outcomes.items)) }
     ensures headline { AreServed events.now
         → IfOk result (λ outcomes. Headline (map terms_seen terms.now) (history events.now outcomes.items)) }
 {

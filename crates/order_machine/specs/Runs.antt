@@ -50,3 +50,7 @@ Leads old (Heard port m) t s = IsServed m × MeetsMarket old port m t s
 unfoldable pub Leaves : List Terms → History → State → Type 0
 Leaves terms [] s = s ≡ empty terms
 Leaves terms (t ∷ before) s = (old : State) × Leaves terms before old × Leads old t.event t s
+
+-- the turns leave some table: each of them is just what the machine gives
+abbrev pub IsRun : List Terms → History → Type 0
+IsRun terms h = (s : State) × Leaves terms h s

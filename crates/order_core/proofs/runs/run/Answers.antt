@@ -35,6 +35,10 @@ loop-event-preserved c = record {
   issued = omega (arith, c.step.ensures.issued, c.loop-event.invariant.issued);
 }
 
+pub returns-clause-exact : goal.returns-clause-exact
+returns-clause-exact c = λ served.
+    (c.loop-event.core, (rw (take_all c.loop-event.event-index c.args.events.now (omega arith)) at c.loop-event.invariant.leaves served))
+
 pub returns-clause-headline : goal.returns-clause-headline
 returns-clause-headline c = λ served.
     let l = rw (take_all c.loop-event.event-index c.args.events.now (omega arith)) at c.loop-event.invariant.leaves served in
