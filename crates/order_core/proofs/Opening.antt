@@ -23,14 +23,14 @@ use Rattle.order_law.specs.Lawful.{bytes_fault, row_fault, type_fault}
 use Rattle.order_law.specs.Life.{is_type}
 use Rattle.order_machine.specs.Table.{Order, State, goes_by}
 use Rattle.order_machine.specs.Machine.{Given, accepted_by, accepted_step, faulty, market_step, silent}
-use Rattle.order_core.specs.Opening.{fault_of_refusal, may_take, taken_as, taken_by, taken_dead, taken_live, taken_step}
+use Rattle.order_core.specs.Opening.{fault_of_refusal, may_take, taken_as, taken_by, taken_step}
 
 accepted_by-taken : (s : State) (place : ℕ) (o : Option Order) (m : Accepted) (bytes : List ℕ) → SaysAccepted m bytes → accepted_by s place bytes o ≡ taken_by s place m o
 accepted_by-taken s place None m bytes says = refl
 accepted_by-taken s place (Some o) m bytes says = rw (says.side, says.shares, says.stock, says.price, says.state) (by_state m.order_state)
   where
     by_state : (state : OrderState)
-        → (if may_take o m then (if order_state_letter state == slice_index (codes "D") 0 then taken_dead s place o m else taken_live s place o m) else faulty s row_fault)
+        → (if may_take o m then (if order_state_letter state == slice_index (codes "D") 0 then taken_as Dead s place o m else taken_as Live s place o m) else faulty s row_fault)
         ≡ (if may_take o m then taken_as state s place o m else faulty s row_fault)
     by_state Live = refl
     by_state Dead = refl

@@ -1,8 +1,9 @@
 -- What an Accepted makes of the table, by its fields. `proofs/Opening.antt` has that the machine makes the same of its bytes.
-use Rattle.std.specs.Prelude.{ℕ, ◌+◌, ◌&&◌, Bool, [], ◌∷◌, Option, Some, None, if◌then◌else◌, bytes_eq}
+use Rattle.std.specs.Prelude.{ℕ, ◌+◌, ◌&&◌, Bool, List, [], ◌∷◌, length, Option, Some, None, if◌then◌else◌, bytes_eq}
 use Rattle.std.specs.List.{find, position_or_len}
 use Rattle.fix_types.specs.declared.exec_type.ExecType.TheVariants as kinds
 use Rattle.fix_types.specs.declared.ord_status.OrdStatus.TheVariants as statuses
+use Rattle.fix_types.specs.declared.report.Report.{Report}
 use Rattle.ouch_codec.specs.declared.order_state.OrderState.{OrderState}
 use Rattle.ouch_codec.specs.declared.order_state.OrderState.TheVariants.{Live, Dead}
 use Rattle.ouch_codec.specs.declared.outbound.accepted.Accepted.{Accepted}
@@ -25,20 +26,21 @@ may_take o m = is_waiting o.stage && (bytes_eq (unpadded m.stock) o.symbol && is
 abbrev pub taken : Order → Accepted → Order
 taken o m = record o { stage = Working; quantity = m.shares; price = m.price; leaves = m.shares }
 
-abbrev pub taken_live : State → ℕ → Order → Accepted → Given
-taken_live s place o m =
-    reported s place (taken o m) (report_of (s.exec_ids + 1) kinds.New statuses.New (taken o m) ∷ []) (s.exec_ids + 1)
+-- how the order is left, by the state that the market gives
+abbrev pub left_as : OrderState → Order → Order
+left_as Live o = o
+left_as Dead o = closed o
 
-abbrev pub taken_dead : State → ℕ → Order → Accepted → Given
-taken_dead s place o m =
-    reported s place (closed (taken o m))
-    (report_of (s.exec_ids + 1) kinds.New statuses.New (taken o m)
-    ∷ report_of (s.exec_ids + 2) kinds.Canceled statuses.Canceled (closed (taken o m)) ∷ [])
-    (s.exec_ids + 2)
+-- what its client is told, after so many reports
+abbrev pub told_of : OrderState → ℕ → Order → List Report
+told_of Live issued o = report_of (issued + 1) kinds.New statuses.New o ∷ []
+told_of Dead issued o =
+    report_of (issued + 1) kinds.New statuses.New o ∷ report_of (issued + 2) kinds.Canceled statuses.Canceled (closed o) ∷ []
 
 abbrev pub taken_as : OrderState → State → ℕ → Order → Accepted → Given
-taken_as Live s place o m = taken_live s place o m
-taken_as Dead s place o m = taken_dead s place o m
+taken_as state s place o m =
+    reported s place (left_as state (taken o m)) (told_of state s.exec_ids (taken o m))
+    (s.exec_ids + length (told_of state s.exec_ids (taken o m)))
 
 abbrev pub taken_by : State → ℕ → Accepted → Option Order → Given
 taken_by s place m None = faulty s token_fault

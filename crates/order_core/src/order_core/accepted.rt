@@ -1,6 +1,6 @@
 //! Accepted: the market took a new order.
 
-ghost use Rattle.std.specs.Prelude.{◌≡◌, ◌≤◌, ◌+◌, ◌<◌, ◌^◌, ◌∷◌, [], ◌&&◌, Some, length, bytes_eq, slice_get, slice_set, IfOk, OnErr, MatchResult};
+ghost use Rattle.std.specs.Prelude.{◌≡◌, ◌≤◌, ◌+◌, ◌<◌, ◌^◌, ◌∷◌, [], ◌&&◌, Some, length, map, bytes_eq, slice_get, slice_set, IfOk, OnErr, MatchResult};
 ghost use Rattle.fix_types.specs.declared.exec_type.ExecType.TheVariants as kinds;
 ghost use Rattle.fix_types.specs.declared.ord_status.OrdStatus.TheVariants as statuses;
 ghost use Rattle.ouch_codec.specs.Letters.{side_letter};
@@ -8,7 +8,8 @@ ghost use Rattle.ouch_codec.specs.Parts.{unpadded};
 ghost use Rattle.order_law.specs.Asks.{side_of_letter};
 ghost use Rattle.order_machine.specs.Table as table;
 ghost use Rattle.order_machine.specs.Machine.{closed, is_side, report_of};
-ghost use Rattle.order_core.specs.Opening.{may_take, taken};
+ghost use Rattle.order_core.specs.Opening.{left_as, may_take, taken, told_of};
+ghost use Rattle.order_core.specs.Seen.{body};
 
 use super::OrderCore;
 use crate::market_fault::MarketFault;
@@ -26,7 +27,7 @@ impl OrderCore {
     ghost use Rattle.order_machine.specs.Table as table;
     ghost use Rattle.order_core.specs.State.{clients, issued, HasRoom};
     ghost use Rattle.order_core.specs.Meets.{GivesMarket, MeetsMarket};
-    ghost use Rattle.order_core.specs.Opening.{taken_live, taken_dead, taken_step};
+    ghost use Rattle.order_core.specs.Opening.{taken_as, taken_step};
 
     /// Lawful for an order that waits, with the side and stock that it asked: the order is open with the shares and
     /// the price given, and reported as new. Where its state is dead, all of it is cancelled at once, which a second
@@ -51,73 +52,61 @@ impl OrderCore {
         if !may_open(order_at(&self.orders, place), message) {
             return Err(MarketFault::NotLawful);
         }
-        match message.order_state {
-            OrderState::Live => Ok(self.accepted_live(alloc, place, message)?),
-            OrderState::Dead => Ok(self.accepted_dead(alloc, place, message)?),
+        Ok(self.open(alloc, place, message)?)
+    }
+
+    /// The order at a place is the market's.
+    #[tactic(auto, unfolding(order_machine::specs::Machine::reported))]
+    fn open(
+        &mut self,
+        alloc: Global,
+        place: usize,
+        message: &Accepted,
+    ) -> Result<MarketOut, AllocError>
+        requires room { HasRoom self.old }
+        requires place { place < length self.old.orders }
+        ensures meets { IfOk result (λ out. (o : table.Order) → slice_get self.old.orders place ≡ Some o
+            → GivesMarket (taken_as message.now.order_state self.old place o message.now) out self.new) }
+        ensures clients { clients self.new ≡ clients self.old }
+        ensures issued { issued self.new ≤ issued self.old + 3 }
+        ensures err { OnErr result (self.new ≡ self.old) }
+    {
+        let order = order_at(&self.orders, place);
+        let client = order.client;
+        let bodies = opening_bodies(alloc, self.exec_ids, order, message)?;
+        take_terms(&mut self.orders, place, message);
+        self.exec_ids += bodies.len() as u64;
+        Ok(MarketOut {
+            client: Some(client),
+            bodies,
+        })
+    }
+}
+
+/// What the client of an order is told of its Accepted, after so many reports.
+fn opening_bodies(
+    alloc: Global,
+    issued: u64,
+    order: &Order,
+    message: &Accepted,
+) -> Result<Vec<AppBody>, AllocError>
+    requires { issued < 2 ^ 60 }
+    ensures told { IfOk result (λ bodies. bodies.items ≡ map body (told_of message.now.order_state issued (taken order.now message.now))) }
+    ensures count { IfOk result (λ bodies. length bodies.items
+        ≡ length (told_of message.now.order_state issued (taken order.now message.now))) }
+    ensures most { IfOk result (λ bodies. length bodies.items ≤ 2) }
+{
+    let mut bodies = Vec::with_capacity(alloc, 2)?;
+    let new = new_report(alloc, issued + 1, order, message)?;
+    bodies.push(AppBody::Report(new))?;
+    match message.order_state {
+        OrderState::Live => {}
+        OrderState::Dead => {
+            let canceled = canceled_report(alloc, issued + 2, order, message)?;
+            bodies.push(AppBody::Report(canceled))?;
         }
     }
-
-    /// The order at a place is on the market's book.
-    #[tactic(auto, unfolding(order_machine::specs::Machine::reported))]
-    fn accepted_live(
-        &mut self,
-        alloc: Global,
-        place: usize,
-        message: &Accepted,
-    ) -> Result<MarketOut, AllocError>
-        requires room { HasRoom self.old }
-        requires place { place < length self.old.orders }
-        ensures meets { IfOk result (λ out. (o : table.Order) → slice_get self.old.orders place ≡ Some o
-            → GivesMarket (taken_live self.old place o message.now) out self.new) }
-        ensures clients { clients self.new ≡ clients self.old }
-        ensures issued { issued self.new ≤ issued self.old + 3 }
-        ensures err { OnErr result (self.new ≡ self.old) }
-    {
-        let order = order_at(&self.orders, place);
-        let client = order.client;
-        let exec_id = self.exec_ids + 1;
-        let new = new_report(alloc, exec_id, order, message)?;
-        let mut bodies = Vec::with_capacity(alloc, 1)?;
-        bodies.push(AppBody::Report(new))?;
-        open_order(&mut self.orders, place, message);
-        self.exec_ids = exec_id;
-        Ok(MarketOut {
-            client: Some(client),
-            bodies,
-        })
-    }
-
-    /// The order at a place was taken and cancelled at once.
-    #[tactic(auto, unfolding(order_machine::specs::Machine::reported))]
-    fn accepted_dead(
-        &mut self,
-        alloc: Global,
-        place: usize,
-        message: &Accepted,
-    ) -> Result<MarketOut, AllocError>
-        requires room { HasRoom self.old }
-        requires place { place < length self.old.orders }
-        ensures meets { IfOk result (λ out. (o : table.Order) → slice_get self.old.orders place ≡ Some o
-            → GivesMarket (taken_dead self.old place o message.now) out self.new) }
-        ensures clients { clients self.new ≡ clients self.old }
-        ensures issued { issued self.new ≤ issued self.old + 3 }
-        ensures err { OnErr result (self.new ≡ self.old) }
-    {
-        let order = order_at(&self.orders, place);
-        let client = order.client;
-        let exec_id = self.exec_ids + 1;
-        let new = new_report(alloc, exec_id, order, message)?;
-        let canceled = canceled_report(alloc, exec_id + 1, order, message)?;
-        let mut bodies = Vec::with_capacity(alloc, 2)?;
-        bodies.push(AppBody::Report(new))?;
-        bodies.push(AppBody::Report(canceled))?;
-        close_order(&mut self.orders, place, message);
-        self.exec_ids = exec_id + 1;
-        Ok(MarketOut {
-            client: Some(client),
-            bodies,
-        })
-    }
+    Ok(bodies)
 }
 
 /// Whether an order waits for a message like this.
@@ -206,28 +195,23 @@ fn canceled_report(
     )
 }
 
-/// Puts the market's terms into the order at a place.
-fn open_order(orders: &mut Vec<Order>, place: usize, message: &Accepted)
+/// Puts the market's terms into the order at a place, of which nothing is open where it is dead.
+fn take_terms(orders: &mut Vec<Order>, place: usize, message: &Accepted)
     requires { place < length orders.old.items }
     ensures { (o : table.Order) → slice_get orders.old.items place ≡ Some o
-        → orders.new.items ≡ slice_set orders.old.items place (taken o message.now) }
+        → orders.new.items ≡ slice_set orders.old.items place (left_as message.now.order_state (taken o message.now)) }
 {
     let order = &mut orders[place];
     order.quantity = message.shares;
     order.price = message.price;
-    order.stage = Stage::Working;
-    order.leaves = message.shares;
-}
-
-/// Puts the market's terms into the order at a place, of which nothing is open.
-fn close_order(orders: &mut Vec<Order>, place: usize, message: &Accepted)
-    requires { place < length orders.old.items }
-    ensures { (o : table.Order) → slice_get orders.old.items place ≡ Some o
-        → orders.new.items ≡ slice_set orders.old.items place (closed (taken o message.now)) }
-{
-    let order = &mut orders[place];
-    order.quantity = message.shares;
-    order.price = message.price;
-    order.stage = Stage::Closed;
-    order.leaves = 0;
+    match message.order_state {
+        OrderState::Live => {
+            order.stage = Stage::Working;
+            order.leaves = message.shares;
+        }
+        OrderState::Dead => {
+            order.stage = Stage::Closed;
+            order.leaves = 0;
+        }
+    }
 }
