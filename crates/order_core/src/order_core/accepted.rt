@@ -91,7 +91,8 @@ fn opening_bodies(
     message: &Accepted,
 ) -> Result<Vec<AppBody>, AllocError>
     requires { issued < 2 ^ 60 }
-    ensures told { IfOk result (λ bodies. bodies.items ≡ map body (told_of message.now.order_state issued (taken order.now message.now))) }
+    ensures told { IfOk result (λ bodies. bodies.items
+        ≡ map body (told_of message.now.order_state issued (taken order.now message.now))) }
     ensures count { IfOk result (λ bodies. length bodies.items
         ≡ length (told_of message.now.order_state issued (taken order.now message.now))) }
     ensures most { IfOk result (λ bodies. length bodies.items ≤ 2) }
