@@ -1,5 +1,5 @@
 -- What came of a list of events of the order level: what was accepted, is asked of the market and is outstanding.
-use Rattle.std.specs.Prelude.{ℕ, ◌+◌, ◌-◌, ◌==◌, Bool, false, not, ◌&&◌, ◌||◌, List, [], ◌∷◌, ◌++◌, reverse, map, filter, Option, Some, None, if◌then◌else◌, bytes_eq, codes, decimal, option_map, option_and_then, unwrap_or, is_some, option_to_list}
+use Rattle.std.specs.Prelude.{ℕ, ◌+◌, ◌-◌, ◌==◌, Bool, true, false, not, ◌&&◌, ◌||◌, List, [], ◌∷◌, ◌++◌, reverse, map, filter, Option, Some, None, if◌then◌else◌, bytes_eq, codes, decimal, option_map, option_and_then, unwrap_or, is_some, option_to_list}
 use Rattle.std.specs.List.{find, filter_map, count_by}
 use Rattle.std.specs.Str.Parse.{digits_value}
 use Rattle.tokens.specs.TokenText.{token_text}
@@ -176,8 +176,21 @@ pub data Said : Type 0 where
   SaysReplace : (from to : List ℕ) → Said
   SaysCancel : (token : List ℕ) → Said
 
+abbrev pub is_replace_said : Said → Bool
+is_replace_said (SaysNew token) = false
+is_replace_said (SaysReplace from to) = true
+is_replace_said (SaysCancel token) = false
+
+abbrev pub is_cancel_said : Said → Bool
+is_cancel_said (SaysNew token) = false
+is_cancel_said (SaysReplace from to) = false
+is_cancel_said (SaysCancel token) = true
+
+-- one message that the market is asked, and what it has to ask
 pub record Asked : Type 0 where
   pub order : List ℕ
+  -- the ClOrdID (11) of the accepted message that asks
+  pub id : List ℕ
   pub said : Said
   pub ask : Option Ask
 
@@ -196,7 +209,7 @@ asks terms e entries sent messages =
     request = asked_by_request (digits_value 10 e.order) e.message
 
     asked : Said → Option Ask → Asked
-    asked what ask = record { order = e.order; said = what; ask = ask }
+    asked what ask = record { order = e.order; id = text 11 e.message; said = what; ask = ask }
 
 -- of a port: nothing where the client is on another one
 abbrev pub asks_of : List Terms → ℕ → Option Entry → List Entry → List Message → List (List ℕ) → List Asked

@@ -30,7 +30,7 @@ abbrev pub type_fault : ℕ
 type_fault = 4
 
 -- the types of the profile, each with its layout
-abbrev profile : List (ℕ × List Kind)
+abbrev pub profile : List (ℕ × List Kind)
 profile =
     (slice_index (codes "S") 0, layouts.system_event)
     ∷ (slice_index (codes "A") 0, layouts.accepted)
@@ -44,7 +44,7 @@ profile =
     ∷ []
 
 -- an accepted message of a client of this port has the token
-abbrev has_token : List Terms → ℕ → List ℕ → Entry → Bool
+abbrev pub has_token : List Terms → ℕ → List ℕ → Entry → Bool
 has_token terms port token e =
     is_some e.token && ((terms_of terms e.client).port == port && bytes_eq (token_of e) token)
 
@@ -60,7 +60,7 @@ abbrev pub is_known_token : List Terms → ℕ → List Entry → List ℕ → B
 is_known_token terms port entries token = is_some (order_of_token terms port entries token)
 
 -- side and stock as the new order has them
-abbrev same_terms : List ℕ → Entry → Bool
+abbrev pub same_terms : List ℕ → Entry → Bool
 same_terms m new = bytes_eq (heard.stock m) (text 55 new.message) && is_side (side_of_letter (heard.side m))
   where
     is_side : Option ℕ → Bool
@@ -68,27 +68,56 @@ same_terms m new = bytes_eq (heard.stock m) (text 55 new.message) && is_side (si
     is_side (Some side) = side == character 54 new.message
 
 -- so many shares may leave what is open
-abbrev may_leave : ℕ → Life → Bool
+abbrev pub may_leave : ℕ → Life → Bool
 may_leave shares l = nat_le 1 shares && nat_le shares l.unfilled
 
 -- the order is in the book under the token
-abbrev works_as : Life → List ℕ → Bool
+abbrev pub works_as : Life → List ℕ → Bool
 works_as l token = is_live l token && is_working l.stage
 
--- the condition of the message's type, of an order with this life and these tokens of pending replaces
+-- What each message may be said of: an order with this life, and these tokens of its pending replaces.
+
+abbrev pub accepted_may : List ℕ → Life → Entry → Bool
+accepted_may m l new = is_live l (heard.token m) && (is_waiting l.stage && same_terms m new)
+
+abbrev pub replaced_may : List ℕ → Life → Entry → List (List ℕ) → Bool
+replaced_may m l new pending =
+    works_as l (heard.previous_token m) && (list_any (bytes_eq (heard.token m)) pending && same_terms m new)
+
+abbrev pub canceled_may : List ℕ → Life → Bool
+canceled_may m l = works_as l (heard.token m) && may_leave (heard.decrement m) l
+
+abbrev pub executed_may : List ℕ → Life → Bool
+executed_may m l =
+    works_as l (heard.token m)
+    && (may_leave (heard.executed_shares m) l && not (list_any (λ (t : Trade). t.match_number == heard.executed_match m) l.trades))
+
+abbrev pub broken_may : List ℕ → Life → Bool
+broken_may m l = is_of l (heard.token m) && list_any (stands_as (heard.broken_match m)) l.trades
+
+-- of the new order while it waits, or of a pending replace
+abbrev pub rejected_may : List ℕ → Life → List (List ℕ) → Bool
+rejected_may m l pending =
+    (is_live l (heard.token m) && is_waiting l.stage)
+    || (list_any (bytes_eq (heard.token m)) pending && not (is_closed l.stage))
+
+abbrev pub cancel_reject_may : List ℕ → Life → Bool
+cancel_reject_may m l = works_as l (heard.token m)
+
+-- by the message's type: a line for each row. A Cancel Pending may be said of any.
 abbrev pub row_holds : List ℕ → Life → Entry → List (List ℕ) → Bool
 row_holds m l new pending =
-    if is_type (codes "A") m then is_live l (heard.token m) && (is_waiting l.stage && same_terms m new)
-    else (if is_type (codes "U") m then works_as l (heard.previous_token m) && (list_any (bytes_eq (heard.token m)) pending && same_terms m new)
-    else (if is_type (codes "C") m then works_as l (heard.token m) && may_leave (heard.decrement m) l
-    else (if is_type (codes "E") m then works_as l (heard.token m) && (may_leave (heard.executed_shares m) l && not (list_any (λ (t : Trade). t.match_number == heard.executed_match m) l.trades))
-    else (if is_type (codes "B") m then is_of l (heard.token m) && list_any (stands_as (heard.broken_match m)) l.trades
-    else (if is_type (codes "J") m then (is_live l (heard.token m) && is_waiting l.stage) || (list_any (bytes_eq (heard.token m)) pending && not (is_closed l.stage))
-    else (if is_type (codes "I") m then works_as l (heard.token m)
+    if is_type (codes "A") m then accepted_may m l new
+    else (if is_type (codes "U") m then replaced_may m l new pending
+    else (if is_type (codes "C") m then canceled_may m l
+    else (if is_type (codes "E") m then executed_may m l
+    else (if is_type (codes "B") m then broken_may m l
+    else (if is_type (codes "J") m then rejected_may m l pending
+    else (if is_type (codes "I") m then cancel_reject_may m l
     else true))))))
 
 -- the order that a message is on goes by this token: of a Replaced the previous one
-abbrev order_token : List ℕ → List ℕ
+abbrev pub order_token : List ℕ → List ℕ
 order_token m = if is_type (codes "U") m then heard.previous_token m else heard.token m
 
 -- The fault of a payload, if it is one. `T` is passed over, whatever its bytes; a System Event has no token.

@@ -1,7 +1,7 @@
 -- What a client reads in the reports of one order, FIX alone. (FIX 4.4 Volume 4, "Execution Report"; Appendix D,
 -- "Order State Change Matrices".)
-use Rattle.std.specs.Prelude.{ℕ, Bool, true, false, ◌&&◌, ◌||◌, ◌+◌, ◌-◌, ◌*◌, ◌==◌, List, [], ◌∷◌, Option, Some, None, if◌then◌else◌, bytes_eq, codes, unwrap_or}
-use Rattle.std.specs.List.{find}
+use Rattle.std.specs.Prelude.{ℕ, Bool, true, false, ◌&&◌, ◌||◌, ◌+◌, ◌-◌, ◌*◌, ◌/◌, ◌==◌, List, [], ◌∷◌, Option, Some, None, if◌then◌else◌, bytes_eq, codes, unwrap_or}
+use Rattle.std.specs.List.{find, list_any}
 use Rattle.fixed_point.specs.Decimal.{worth}
 use Rattle.order_law.specs.declared.account.Account.{Account}
 use Rattle.order_law.specs.Messages.{Message, text, number, is, is_one_of, character}
@@ -76,8 +76,8 @@ abbrev restated : Message → Reading → Reading
 restated r x = record x { side = character 54 r; total = if x.is_closed then x.total else number 38 r }
 
 -- what a report makes of what was read before
-abbrev pub told : Reading → Message → Reading
-told x r = restated r (by_exec_type r x)
+abbrev pub with_report : Reading → Message → Reading
+with_report x r = restated r (by_exec_type r x)
 
 abbrev pub is_report : Message → Bool
 is_report r = is 35 (codes "8") r
@@ -89,7 +89,15 @@ is_report_on order r = is_report r && is 37 order r
 -- what the client has read of an order, by its OrderID (37), in these reports, the newest first
 abbrev pub reading : List ℕ → List Message → Reading
 reading order [] = unread
-reading order (r ∷ earlier) = if is_report_on order r then told (reading order earlier) r else reading order earlier
+reading order (r ∷ earlier) = if is_report_on order r then with_report (reading order earlier) r else reading order earlier
+
+-- the market rejected the order: a report on it has 150=8
+abbrev pub is_refused_order : List ℕ → List Message → Bool
+is_refused_order order sent = list_any (λ r. is_report_on order r && is 150 (codes "8") r) sent
+
+-- AvgPx (6), in 1/10,000 and rounded down, of so much value in so many shares
+abbrev pub average_of : ℕ → ℕ → ℕ
+average_of value executed = if executed == 0 then 0 else value / executed
 
 -- its side and its quantities
 abbrev pub account_read : Reading → Account

@@ -1,14 +1,47 @@
--- Exchanges in which one report says what isn't due, computed: the promise on it doesn't hold.
-use Rattle.std.specs.Prelude.{◌≡◌, ℕ, Bool, true, false, List, [], ◌∷◌, map, codes, refl}
-use Rattle.std.specs.Fmt.{digits}
-use Rattle.std.specs.List.{list_all}
+-- Reports that say what isn't due, computed: what the headline asks of reports, apart from what is told, refuses each.
+use Rattle.std.specs.Prelude.{◌≡◌, ◌&&◌, ℕ, Bool, true, false, List, [], ◌∷◌, filter, map, bytes_eq, codes, refl, if◌then◌else◌}
+use Rattle.std.specs.Fmt.{digits, decimal}
+use Rattle.std.specs.List.{list_all, flat_map}
 use Rattle.fixed_point.specs.Decimal.{price, quantity, amount, amount_of, within, scaled, fraction, worth, worth_of}
+use Rattle.fixed_point.specs.Price.{price_text}
 use Rattle.tokens.specs.TokenText.{last_digits}
-use Rattle.order_law.specs.Headline.{State}
-use Rattle.order_law.specs.History.{History, Turn}
-use Rattle.order_law.specs.Transcript.{terms, message, asked, heard, replace_message, cancel_message, replaced_message, executed_message, canceled_message, broken_message}
-use Rattle.order_law.specs.Kept.{ids, states, due_states}
-use Rattle.order_law.specs.Exchanges.{entered_and_accepted, replace_pending, filled, cancelled_across_a_replace}
+use Rattle.order_law.specs.Messages.{Message, text}
+use Rattle.order_law.specs.Reading.{is_report_on}
+use Rattle.order_law.specs.Chain.{chain}
+use Rattle.order_law.specs.History.{History, Terms, Turn, Entry, accepted, issued, is_new_order}
+use Rattle.order_law.specs.Headline.{State, stated, due_after, is_reject_on, is_answer_to, has_due_ids, old_ids}
+use Rattle.order_examples.specs.Transcript.{terms, message, asked, heard, replace_message, cancel_message, replaced_message, executed_message, canceled_message, broken_message}
+use Rattle.order_examples.specs.Exchanges.{entered_and_accepted, replace_pending, filled, cancelled_across_a_replace}
+
+abbrev new_orders : List Terms → History → List Entry
+new_orders terms h = filter (λ e. is_new_order e.message) (accepted terms h)
+
+abbrev stated_on : List ℕ → List Message → List State
+stated_on order [] = []
+stated_on order (r ∷ earlier) = if is_report_on order r then stated r ∷ stated_on order earlier else stated_on order earlier
+
+abbrev due_on : List ℕ → Message → List Message → List State
+due_on order new [] = []
+due_on order new (r ∷ earlier) =
+    if is_report_on order r then due_after order new (r ∷ earlier) ∷ due_on order new earlier else due_on order new earlier
+
+abbrev states : List Terms → History → List State
+states terms h = flat_map (λ (e : Entry). stated_on e.order (issued e.client h)) (new_orders terms h)
+
+abbrev due_states : List Terms → History → List State
+due_states terms h = flat_map (λ (e : Entry). due_on e.order e.message (issued e.client h)) (new_orders terms h)
+
+-- each report on the order has the ids that are due, and each reject of a pending request the id that this named
+abbrev ids_on : List ℕ → (List ℕ → List ℕ) → List Message → List Bool
+ids_on order old_id [] = []
+ids_on order old_id (r ∷ earlier) =
+    if is_report_on order r then has_due_ids r (chain order earlier) (chain order (r ∷ earlier)) old_id ∷ ids_on order old_id earlier
+    else (if is_reject_on order r && is_answer_to (chain order earlier).pending r
+    then bytes_eq (text 41 r) (old_id (text 11 r)) ∷ ids_on order old_id earlier
+    else ids_on order old_id earlier)
+
+abbrev ids : List Terms → History → List Bool
+ids terms h = flat_map (λ (e : Entry). ids_on e.order (old_ids e.client (accepted terms h)) (issued e.client h)) (new_orders terms h)
 
 abbrev ids_are_due : History → Bool
 ids_are_due h = list_all (λ is_due. is_due) (ids terms h)
@@ -45,7 +78,7 @@ misnamed :
     × (ids_are_due (told_by_canceled (codes "35=8|37=1|11=A2|41=A1|150=4|39=4|55=INTC|54=1|38=300|151=0|14=0|6=0|58=U") ∷ cancelled_across_a_replace) ≡ false)
     × (ids_are_due (told_by_canceled (codes "35=8|37=1|11=A1|150=4|39=4|55=INTC|54=1|38=300|151=0|14=0|6=0|58=U") ∷ entered_and_accepted) ≡ true)
     × (ids_are_due (told_by_canceled (codes "35=8|37=1|11=A1|41=A1|150=4|39=4|55=INTC|54=1|38=300|151=0|14=0|6=0|58=U") ∷ entered_and_accepted) ≡ false)
-unfolding digits price quantity amount amount_of within scaled fraction worth worth_of last_digits
+unfolding digits price quantity amount amount_of within scaled fraction worth worth_of last_digits price_text
 misnamed = (refl, refl, refl, refl, refl, refl, refl, refl, refl, refl, refl, refl, refl, refl)
 
 -- OrderQty (38) of a closed order stays, though a report says another
@@ -57,7 +90,7 @@ broken_with_another_total =
     ∷ filled
 
 totals :
-    (map (λ (s : State). s.total) (states terms broken_with_another_total) ≡ 200 ∷ 300 ∷ 300 ∷ 300 ∷ 300 ∷ [])
-    × (map (λ (s : State). s.total) (due_states terms broken_with_another_total) ≡ 300 ∷ 300 ∷ 300 ∷ 300 ∷ 300 ∷ [])
-unfolding digits price quantity amount amount_of within scaled fraction worth worth_of last_digits
+    (map (λ (s : State). s.total) (states terms broken_with_another_total) ≡ decimal 200 ∷ decimal 300 ∷ decimal 300 ∷ decimal 300 ∷ decimal 300 ∷ [])
+    × (map (λ (s : State). s.total) (due_states terms broken_with_another_total) ≡ decimal 300 ∷ decimal 300 ∷ decimal 300 ∷ decimal 300 ∷ decimal 300 ∷ [])
+unfolding digits price quantity amount amount_of within scaled fraction worth worth_of last_digits price_text
 totals = (refl, refl)

@@ -4,8 +4,8 @@ use Rattle.std.specs.Fmt.{digits}
 use Rattle.fixed_point.specs.Decimal.{price, quantity, amount, amount_of, within, scaled, fraction, worth, worth_of}
 use Rattle.tokens.specs.TokenText.{token_text, last_digits}
 use Rattle.order_law.specs.History.{History, Asked, Said, SaysNew, SaysReplace, SaysCancel, outstanding}
-use Rattle.order_law.specs.Transcript.{terms, heard, faulted, accepted_message, replaced_message, rejected_message, canceled_message, cancel_reject_message}
-use Rattle.order_law.specs.Exchanges.{only_entered, entered_and_accepted, four_unanswered, cancelled_while_down, filled_while_cancel_pending, ordered_on_a_faulted_port, two_clients}
+use Rattle.order_examples.specs.Transcript.{terms, heard, faulted, accepted_message, replaced_message, rejected_message, canceled_message, cancel_reject_message}
+use Rattle.order_examples.specs.Exchanges.{only_entered, entered_and_accepted, four_unanswered, cancelled_while_down, filled_while_cancel_pending, ordered_on_a_faulted_port, two_clients}
 
 -- by types and tokens, in the order in which it was asked
 abbrev unanswered_on : ℕ → History → List Said

@@ -5,8 +5,8 @@ use Rattle.fixed_point.specs.Decimal.{price, quantity, amount, amount_of, within
 use Rattle.tokens.specs.TokenText.{last_digits}
 use Rattle.order_law.specs.Lawful.{judgement, bytes_fault, token_fault, row_fault, type_fault}
 use Rattle.order_law.specs.History.{History}
-use Rattle.order_law.specs.Transcript.{terms, accepted_message, replaced_message, replaced_as, executed_message, canceled_message, broken_message, rejected_message, cancel_reject_message, cancel_pending_message, sold_message}
-use Rattle.order_law.specs.Exchanges.{entered_and_accepted, filled, closed_by_the_market, broken_after_it_is_filled, replace_rejected, replace_pending, replace_asked_while_waiting, replaced_after_a_trade, broken_after_it_is_replaced, only_entered}
+use Rattle.order_examples.specs.Transcript.{terms, accepted_message, replaced_message, replaced_as, executed_message, canceled_message, broken_message, rejected_message, cancel_reject_message, cancel_pending_message, sold_message}
+use Rattle.order_examples.specs.Exchanges.{entered_and_accepted, filled, closed_by_the_market, broken_after_it_is_filled, replace_rejected, replace_pending, replace_asked_while_waiting, replaced_after_a_trade, broken_after_it_is_replaced, only_entered}
 
 -- the fault of a payload of port 1 after a history
 abbrev fault : History → List ℕ → Option ℕ

@@ -7,8 +7,8 @@ use Rattle.order_law.specs.Verdicts.{Port, Up, Down, Ended, Faulted, Verdict, Ac
 use Rattle.order_law.specs.Reading.{unread}
 use Rattle.order_law.specs.Chain.{unchained}
 use Rattle.order_law.specs.History.{History, issued, accepted, verdict, standing_of}
-use Rattle.order_law.specs.Transcript.{terms, message}
-use Rattle.order_law.specs.Exchanges.{entered_and_accepted, filled, replace_pending, cancelled_across_a_replace, replaced_after_a_trade, four_unanswered}
+use Rattle.order_examples.specs.Transcript.{terms, message}
+use Rattle.order_examples.specs.Exchanges.{entered_and_accepted, filled, replace_pending, cancelled_across_a_replace, replaced_after_a_trade, four_unanswered}
 
 -- the verdict of a new order with its port up
 abbrev of_new : List ℕ → Verdict

@@ -1,13 +1,8 @@
--- Exchanges that are written down, each with the promises of the headline, computed. The newest turn is first.
-use Rattle.std.specs.Prelude.{[], ◌∷◌, None, codes, refl}
-use Rattle.std.specs.Fmt.{digits}
-use Rattle.fixed_point.specs.Decimal.{price, quantity, amount, amount_of, within, scaled, fraction, worth, worth_of}
-use Rattle.tokens.specs.TokenText.{last_digits}
+-- Exchanges that are written down. The newest turn is first.
+use Rattle.std.specs.Prelude.{[], ◌∷◌, codes}
 use Rattle.order_law.specs.Verdicts.{Up, Down, Ended, Faulted}
 use Rattle.order_law.specs.History.{History}
-use Rattle.order_law.specs.Transcript.{terms, message, asked, asked_by, heard, heard_on, faulted, faulted_on, enter_as, enter_message, enter_sale_message, replace_message, cancel_message, accepted_message, replaced_message, executed_message, canceled_message, broken_message, rejected_message, cancel_reject_message}
-use Rattle.order_law.specs.Kept.{Keeps}
-use Rattle.order_law.specs.Headline.{IsOrderRefusal, IsRequestRefusal}
+use Rattle.order_examples.specs.Transcript.{message, asked, asked_by, heard, heard_on, faulted, faulted_on, enter_as, enter_message, enter_sale_message, replace_message, cancel_message, accepted_message, accepted_at, replaced_message, replaced_at, executed_message, canceled_message, broken_message, rejected_message, cancel_reject_message}
 
 -- an order of 300 at 23.45 is entered
 abbrev pub only_entered : History
@@ -24,10 +19,6 @@ entered_and_accepted =
     (message (codes "35=8|37=1|11=A1|17=2|150=0|39=0|55=INTC|54=1|38=300|44=23.45|151=300|14=0|6=0")
     ∷ [])
     ∷ only_entered
-
-entered_and_accepted_keeps : Keeps terms entered_and_accepted
-unfolding digits price quantity amount amount_of within scaled fraction worth worth_of last_digits
-entered_and_accepted_keeps = record { replies_are_verdicts = refl; faults_are_judged = refl; asks_are_sent = refl; tokens_are_due = refl; states_are_due = refl; statuses_are_due = refl; ids_are_due = refl; accounts_agree = refl; pending_is_unanswered = refl }
 
 -- then a replace by 500 is asked
 abbrev pub replace_pending : History
@@ -48,10 +39,6 @@ filled =
     ∷ [])
     ∷ entered_and_accepted
 
-filled_keeps : Keeps terms filled
-unfolding digits price quantity amount amount_of within scaled fraction worth worth_of last_digits
-filled_keeps = record { replies_are_verdicts = refl; faults_are_judged = refl; asks_are_sent = refl; tokens_are_due = refl; states_are_due = refl; statuses_are_due = refl; ids_are_due = refl; accounts_agree = refl; pending_is_unanswered = refl }
-
 -- it fills while a cancel is pending, which then is too late
 abbrev pub filled_while_cancel_pending : History
 filled_while_cancel_pending =
@@ -63,10 +50,6 @@ filled_while_cancel_pending =
     (codes "35=8|37=1|11=A2|41=A1|17=3|150=6|39=6|55=INTC|54=1|38=300|44=23.45|151=300|14=0|6=0")
     (cancel_message 1 ∷ [])
     ∷ entered_and_accepted
-
-filled_while_cancel_pending_keeps : Keeps terms filled_while_cancel_pending
-unfolding digits price quantity amount amount_of within scaled fraction worth worth_of last_digits
-filled_while_cancel_pending_keeps = record { replies_are_verdicts = refl; faults_are_judged = refl; asks_are_sent = refl; tokens_are_due = refl; states_are_due = refl; statuses_are_due = refl; ids_are_due = refl; accounts_agree = refl; pending_is_unanswered = refl }
 
 -- it is replaced, and a trade crosses the replace; then a total that isn't above what is executed, and one that is
 abbrev pub replaced_after_a_trade : History
@@ -85,10 +68,6 @@ replaced_after_a_trade =
     ∷ [])
     ∷ replace_pending
 
-replaced_after_a_trade_keeps : Keeps terms replaced_after_a_trade
-unfolding digits price quantity amount amount_of within scaled fraction worth worth_of last_digits
-replaced_after_a_trade_keeps = record { replies_are_verdicts = refl; faults_are_judged = refl; asks_are_sent = refl; tokens_are_due = refl; states_are_due = refl; statuses_are_due = refl; ids_are_due = refl; accounts_agree = refl; pending_is_unanswered = refl }
-
 -- a cancel while a replace is pending asks for both tokens
 abbrev pub cancelled_across_a_replace : History
 cancelled_across_a_replace =
@@ -96,10 +75,6 @@ cancelled_across_a_replace =
     (codes "35=8|37=1|11=A3|41=A2|17=4|150=6|39=6|55=INTC|54=1|38=300|44=23.45|151=300|14=0|6=0")
     (cancel_message 1 ∷ cancel_message 2 ∷ [])
     ∷ replace_pending
-
-cancelled_across_a_replace_keeps : Keeps terms cancelled_across_a_replace
-unfolding digits price quantity amount amount_of within scaled fraction worth worth_of last_digits
-cancelled_across_a_replace_keeps = record { replies_are_verdicts = refl; faults_are_judged = refl; asks_are_sent = refl; tokens_are_due = refl; states_are_due = refl; statuses_are_due = refl; ids_are_due = refl; accounts_agree = refl; pending_is_unanswered = refl }
 
 -- the replace is answered, then the cancel
 abbrev pub cancelled_after_it_is_replaced : History
@@ -112,10 +87,6 @@ cancelled_after_it_is_replaced =
     ∷ [])
     ∷ cancelled_across_a_replace
 
-cancelled_after_it_is_replaced_keeps : Keeps terms cancelled_after_it_is_replaced
-unfolding digits price quantity amount amount_of within scaled fraction worth worth_of last_digits
-cancelled_after_it_is_replaced_keeps = record { replies_are_verdicts = refl; faults_are_judged = refl; asks_are_sent = refl; tokens_are_due = refl; states_are_due = refl; statuses_are_due = refl; ids_are_due = refl; accounts_agree = refl; pending_is_unanswered = refl }
-
 -- it fills while both are pending: each is too late, in order of acceptance
 abbrev pub filled_across_replace_and_cancel : History
 filled_across_replace_and_cancel =
@@ -126,10 +97,6 @@ filled_across_replace_and_cancel =
     ∷ [])
     ∷ cancelled_across_a_replace
 
-filled_across_replace_and_cancel_keeps : Keeps terms filled_across_replace_and_cancel
-unfolding digits price quantity amount amount_of within scaled fraction worth worth_of last_digits
-filled_across_replace_and_cancel_keeps = record { replies_are_verdicts = refl; faults_are_judged = refl; asks_are_sent = refl; tokens_are_due = refl; states_are_due = refl; statuses_are_due = refl; ids_are_due = refl; accounts_agree = refl; pending_is_unanswered = refl }
-
 -- the market cancels it while a replace is pending
 abbrev pub closed_by_the_market : History
 closed_by_the_market =
@@ -139,10 +106,6 @@ closed_by_the_market =
     ∷ [])
     ∷ replace_pending
 
-closed_by_the_market_keeps : Keeps terms closed_by_the_market
-unfolding digits price quantity amount amount_of within scaled fraction worth worth_of last_digits
-closed_by_the_market_keeps = record { replies_are_verdicts = refl; faults_are_judged = refl; asks_are_sent = refl; tokens_are_due = refl; states_are_due = refl; statuses_are_due = refl; ids_are_due = refl; accounts_agree = refl; pending_is_unanswered = refl }
-
 -- the market rejects the replace
 abbrev pub replace_rejected : History
 replace_rejected =
@@ -150,10 +113,6 @@ replace_rejected =
     (message (codes "35=9|37=1|11=A2|41=A1|39=0|434=2|102=2|58=X")
     ∷ [])
     ∷ replace_pending
-
-replace_rejected_keeps : Keeps terms replace_rejected
-unfolding digits price quantity amount amount_of within scaled fraction worth worth_of last_digits
-replace_rejected_keeps = record { replies_are_verdicts = refl; faults_are_judged = refl; asks_are_sent = refl; tokens_are_due = refl; states_are_due = refl; statuses_are_due = refl; ids_are_due = refl; accounts_agree = refl; pending_is_unanswered = refl }
 
 -- its ClOrdID comes again, and then the market takes 100 away
 abbrev pub asked_twice : History
@@ -166,10 +125,6 @@ asked_twice =
     ([])
     ∷ entered_and_accepted
 
-asked_twice_keeps : Keeps terms asked_twice
-unfolding digits price quantity amount amount_of within scaled fraction worth worth_of last_digits
-asked_twice_keeps = record { replies_are_verdicts = refl; faults_are_judged = refl; asks_are_sent = refl; tokens_are_due = refl; states_are_due = refl; statuses_are_due = refl; ids_are_due = refl; accounts_agree = refl; pending_is_unanswered = refl }
-
 -- a trade of the filled order is broken, and can't be broken again
 abbrev pub broken_after_it_is_filled : History
 broken_after_it_is_filled =
@@ -179,10 +134,6 @@ broken_after_it_is_filled =
     ∷ [])
     ∷ filled
 
-broken_after_it_is_filled_keeps : Keeps terms broken_after_it_is_filled
-unfolding digits price quantity amount amount_of within scaled fraction worth worth_of last_digits
-broken_after_it_is_filled_keeps = record { replies_are_verdicts = refl; faults_are_judged = refl; asks_are_sent = refl; tokens_are_due = refl; states_are_due = refl; statuses_are_due = refl; ids_are_due = refl; accounts_agree = refl; pending_is_unanswered = refl }
-
 -- it is dead as it is accepted
 abbrev pub dead_as_it_is_accepted : History
 dead_as_it_is_accepted =
@@ -191,10 +142,6 @@ dead_as_it_is_accepted =
     ∷ message (codes "35=8|37=1|11=A1|17=3|150=4|39=4|55=INTC|54=1|38=300|44=23.45|151=0|14=0|6=0")
     ∷ [])
     ∷ only_entered
-
-dead_as_it_is_accepted_keeps : Keeps terms dead_as_it_is_accepted
-unfolding digits price quantity amount amount_of within scaled fraction worth worth_of last_digits
-dead_as_it_is_accepted_keeps = record { replies_are_verdicts = refl; faults_are_judged = refl; asks_are_sent = refl; tokens_are_due = refl; states_are_due = refl; statuses_are_due = refl; ids_are_due = refl; accounts_agree = refl; pending_is_unanswered = refl }
 
 -- the market rejects it while a cancel is pending
 abbrev pub rejected_while_cancel_pending : History
@@ -208,10 +155,6 @@ rejected_while_cancel_pending =
     (cancel_message 1 ∷ [])
     ∷ only_entered
 
-rejected_while_cancel_pending_keeps : Keeps terms rejected_while_cancel_pending
-unfolding digits price quantity amount amount_of within scaled fraction worth worth_of last_digits
-rejected_while_cancel_pending_keeps = record { replies_are_verdicts = refl; faults_are_judged = refl; asks_are_sent = refl; tokens_are_due = refl; states_are_due = refl; statuses_are_due = refl; ids_are_due = refl; accounts_agree = refl; pending_is_unanswered = refl }
-
 -- a cancel of no order
 abbrev pub no_order_of_that_name : History
 no_order_of_that_name =
@@ -220,29 +163,17 @@ no_order_of_that_name =
     ([])
     ∷ []
 
-no_order_of_that_name_keeps : Keeps terms no_order_of_that_name
-unfolding digits price quantity amount amount_of within scaled fraction worth worth_of last_digits
-no_order_of_that_name_keeps = record { replies_are_verdicts = refl; faults_are_judged = refl; asks_are_sent = refl; tokens_are_due = refl; states_are_due = refl; statuses_are_due = refl; ids_are_due = refl; accounts_agree = refl; pending_is_unanswered = refl }
-
 -- a second Accepted is no lawful message
 abbrev pub accepted_again : History
 accepted_again =
     faulted (accepted_message 1 300 (codes "INTC    ") (codes "L")) 3
     ∷ entered_and_accepted
 
-accepted_again_keeps : Keeps terms accepted_again
-unfolding digits price quantity amount amount_of within scaled fraction worth worth_of last_digits
-accepted_again_keeps = record { replies_are_verdicts = refl; faults_are_judged = refl; asks_are_sent = refl; tokens_are_due = refl; states_are_due = refl; statuses_are_due = refl; ids_are_due = refl; accounts_agree = refl; pending_is_unanswered = refl }
-
 -- a trade of more than is open is none
 abbrev pub executed_too_much : History
 executed_too_much =
     faulted (executed_message 1 301 234500 7) 3
     ∷ entered_and_accepted
-
-executed_too_much_keeps : Keeps terms executed_too_much
-unfolding digits price quantity amount amount_of within scaled fraction worth worth_of last_digits
-executed_too_much_keeps = record { replies_are_verdicts = refl; faults_are_judged = refl; asks_are_sent = refl; tokens_are_due = refl; states_are_due = refl; statuses_are_due = refl; ids_are_due = refl; accounts_agree = refl; pending_is_unanswered = refl }
 
 -- the market rejects the cancel
 abbrev pub cancel_rejected : History
@@ -254,10 +185,6 @@ cancel_rejected =
     (codes "35=8|37=1|11=A2|41=A1|17=3|150=6|39=6|55=INTC|54=1|38=300|44=23.45|151=300|14=0|6=0")
     (cancel_message 1 ∷ [])
     ∷ entered_and_accepted
-
-cancel_rejected_keeps : Keeps terms cancel_rejected
-unfolding digits price quantity amount amount_of within scaled fraction worth worth_of last_digits
-cancel_rejected_keeps = record { replies_are_verdicts = refl; faults_are_judged = refl; asks_are_sent = refl; tokens_are_due = refl; states_are_due = refl; statuses_are_due = refl; ids_are_due = refl; accounts_agree = refl; pending_is_unanswered = refl }
 
 -- a replace is asked before the market's Accepted, which comes then
 abbrev pub replace_asked_while_waiting : History
@@ -274,10 +201,6 @@ accepted_with_a_replace_pending =
     ∷ [])
     ∷ replace_asked_while_waiting
 
-accepted_with_a_replace_pending_keeps : Keeps terms accepted_with_a_replace_pending
-unfolding digits price quantity amount amount_of within scaled fraction worth worth_of last_digits
-accepted_with_a_replace_pending_keeps = record { replies_are_verdicts = refl; faults_are_judged = refl; asks_are_sent = refl; tokens_are_due = refl; states_are_due = refl; statuses_are_due = refl; ids_are_due = refl; accounts_agree = refl; pending_is_unanswered = refl }
-
 -- a second order, of another side and stock; a replace of the first, and a cancel: four messages are unanswered
 abbrev pub four_unanswered : History
 four_unanswered =
@@ -292,10 +215,6 @@ four_unanswered =
     (enter_sale_message 2 ∷ [])
     ∷ entered_and_accepted
 
-four_unanswered_keeps : Keeps terms four_unanswered
-unfolding digits price quantity amount amount_of within scaled fraction worth worth_of last_digits
-four_unanswered_keeps = record { replies_are_verdicts = refl; faults_are_judged = refl; asks_are_sent = refl; tokens_are_due = refl; states_are_due = refl; statuses_are_due = refl; ids_are_due = refl; accounts_agree = refl; pending_is_unanswered = refl }
-
 -- a cancel while the port is down: it is accepted, and nothing is sent
 abbrev pub cancelled_while_down : History
 cancelled_while_down =
@@ -304,10 +223,6 @@ cancelled_while_down =
     ([])
     ∷ entered_and_accepted
 
-cancelled_while_down_keeps : Keeps terms cancelled_while_down
-unfolding digits price quantity amount amount_of within scaled fraction worth worth_of last_digits
-cancelled_while_down_keeps = record { replies_are_verdicts = refl; faults_are_judged = refl; asks_are_sent = refl; tokens_are_due = refl; states_are_due = refl; statuses_are_due = refl; ids_are_due = refl; accounts_agree = refl; pending_is_unanswered = refl }
-
 -- a port whose market session ended refuses orders
 abbrev pub ordered_after_the_end : History
 ordered_after_the_end =
@@ -315,10 +230,6 @@ ordered_after_the_end =
     (codes "35=8|37=1|11=A1|17=1|150=8|39=8|103=2|55=INTC|54=1|38=300|44=23.45|151=0|14=0|6=0|58=market session ended")
     ([])
     ∷ []
-
-ordered_after_the_end_keeps : Keeps terms ordered_after_the_end
-unfolding digits price quantity amount amount_of within scaled fraction worth worth_of last_digits
-ordered_after_the_end_keeps = record { replies_are_verdicts = refl; faults_are_judged = refl; asks_are_sent = refl; tokens_are_due = refl; states_are_due = refl; statuses_are_due = refl; ids_are_due = refl; accounts_agree = refl; pending_is_unanswered = refl }
 
 -- port 1 faults by a token that isn't given, and refuses orders from then on; port 2 takes them
 abbrev pub ordered_on_a_faulted_port : History
@@ -331,10 +242,6 @@ ordered_on_a_faulted_port =
     ([])
     ∷ faulted (canceled_message 9 100 (codes "U")) 2
     ∷ []
-
-ordered_on_a_faulted_port_keeps : Keeps terms ordered_on_a_faulted_port
-unfolding digits price quantity amount amount_of within scaled fraction worth worth_of last_digits
-ordered_on_a_faulted_port_keeps = record { replies_are_verdicts = refl; faults_are_judged = refl; asks_are_sent = refl; tokens_are_due = refl; states_are_due = refl; statuses_are_due = refl; ids_are_due = refl; accounts_agree = refl; pending_is_unanswered = refl }
 
 -- port 1 faults with an order on it, which can't be cancelled then; an order on port 2 is accepted and filled
 abbrev pub filled_beside_a_faulted_port : History
@@ -354,10 +261,6 @@ filled_beside_a_faulted_port =
     ∷ faulted (canceled_message 9 100 (codes "U")) 2
     ∷ entered_and_accepted
 
-filled_beside_a_faulted_port_keeps : Keeps terms filled_beside_a_faulted_port
-unfolding digits price quantity amount amount_of within scaled fraction worth worth_of last_digits
-filled_beside_a_faulted_port_keeps = record { replies_are_verdicts = refl; faults_are_judged = refl; asks_are_sent = refl; tokens_are_due = refl; states_are_due = refl; statuses_are_due = refl; ids_are_due = refl; accounts_agree = refl; pending_is_unanswered = refl }
-
 -- port 2 faults by a token of port 1, whose order is accepted after it
 abbrev pub accepted_beside_a_faulted_port : History
 accepted_beside_a_faulted_port =
@@ -366,10 +269,6 @@ accepted_beside_a_faulted_port =
     ∷ [])
     ∷ faulted_on 2 (accepted_message 1 300 (codes "INTC    ") (codes "L")) 2
     ∷ only_entered
-
-accepted_beside_a_faulted_port_keeps : Keeps terms accepted_beside_a_faulted_port
-unfolding digits price quantity amount amount_of within scaled fraction worth worth_of last_digits
-accepted_beside_a_faulted_port_keeps = record { replies_are_verdicts = refl; faults_are_judged = refl; asks_are_sent = refl; tokens_are_due = refl; states_are_due = refl; statuses_are_due = refl; ids_are_due = refl; accounts_agree = refl; pending_is_unanswered = refl }
 
 -- two clients have the same ClOrdID, each its own; the first then cancels an order that isn't one
 abbrev pub two_clients : History
@@ -382,10 +281,6 @@ two_clients =
     (enter_message 2 300 ∷ [])
     ∷ only_entered
 
-two_clients_keeps : Keeps terms two_clients
-unfolding digits price quantity amount amount_of within scaled fraction worth worth_of last_digits
-two_clients_keeps = record { replies_are_verdicts = refl; faults_are_judged = refl; asks_are_sent = refl; tokens_are_due = refl; states_are_due = refl; statuses_are_due = refl; ids_are_due = refl; accounts_agree = refl; pending_is_unanswered = refl }
-
 -- a cancel under the id of the pending replace is refused, and the replace stays pending
 abbrev pub asked_under_a_pending_id : History
 asked_under_a_pending_id =
@@ -393,10 +288,6 @@ asked_under_a_pending_id =
     (codes "35=9|37=1|11=A2|41=A1|39=E|434=1|102=6|58=duplicate ClOrdID")
     ([])
     ∷ replace_pending
-
-asked_under_a_pending_id_keeps : Keeps terms asked_under_a_pending_id
-unfolding digits price quantity amount amount_of within scaled fraction worth worth_of last_digits
-asked_under_a_pending_id_keeps = record { replies_are_verdicts = refl; faults_are_judged = refl; asks_are_sent = refl; tokens_are_due = refl; states_are_due = refl; statuses_are_due = refl; ids_are_due = refl; accounts_agree = refl; pending_is_unanswered = refl }
 
 -- sold, sold short, and sold short as exempt
 abbrev pub sold_in_each_way : History
@@ -412,10 +303,6 @@ sold_in_each_way =
     (enter_as (codes "S") 1 300 ∷ [])
     ∷ []
 
-sold_in_each_way_keeps : Keeps terms sold_in_each_way
-unfolding digits price quantity amount amount_of within scaled fraction worth worth_of last_digits
-sold_in_each_way_keeps = record { replies_are_verdicts = refl; faults_are_judged = refl; asks_are_sent = refl; tokens_are_due = refl; states_are_due = refl; statuses_are_due = refl; ids_are_due = refl; accounts_agree = refl; pending_is_unanswered = refl }
-
 -- the trade of the first token is broken while the next replace is pending
 abbrev pub broken_after_it_is_replaced : History
 broken_after_it_is_replaced =
@@ -423,10 +310,6 @@ broken_after_it_is_replaced =
     (message (codes "35=8|37=1|11=A2|17=7|19=4|150=H|39=E|55=INTC|54=1|38=400|44=23.45|151=400|14=0|6=0|58=E")
     ∷ [])
     ∷ replaced_after_a_trade
-
-broken_after_it_is_replaced_keeps : Keeps terms broken_after_it_is_replaced
-unfolding digits price quantity amount amount_of within scaled fraction worth worth_of last_digits
-broken_after_it_is_replaced_keeps = record { replies_are_verdicts = refl; faults_are_judged = refl; asks_are_sent = refl; tokens_are_due = refl; states_are_due = refl; statuses_are_due = refl; ids_are_due = refl; accounts_agree = refl; pending_is_unanswered = refl }
 
 -- a replaced order that is dead at once
 abbrev pub dead_as_it_is_replaced : History
@@ -437,10 +320,6 @@ dead_as_it_is_replaced =
     ∷ [])
     ∷ replace_pending
 
-dead_as_it_is_replaced_keeps : Keeps terms dead_as_it_is_replaced
-unfolding digits price quantity amount amount_of within scaled fraction worth worth_of last_digits
-dead_as_it_is_replaced_keeps = record { replies_are_verdicts = refl; faults_are_judged = refl; asks_are_sent = refl; tokens_are_due = refl; states_are_due = refl; statuses_are_due = refl; ids_are_due = refl; accounts_agree = refl; pending_is_unanswered = refl }
-
 -- the order after a cancel, which had no token, has the next one
 abbrev pub ordered_after_a_cancel : History
 ordered_after_a_cancel =
@@ -448,10 +327,6 @@ ordered_after_a_cancel =
     (codes "35=8|37=2|11=A3|17=5|150=A|39=A|55=INTC|54=1|38=300|44=23.45|151=300|14=0|6=0")
     (enter_message 2 300 ∷ [])
     ∷ filled_while_cancel_pending
-
-ordered_after_a_cancel_keeps : Keeps terms ordered_after_a_cancel
-unfolding digits price quantity amount amount_of within scaled fraction worth worth_of last_digits
-ordered_after_a_cancel_keeps = record { replies_are_verdicts = refl; faults_are_judged = refl; asks_are_sent = refl; tokens_are_due = refl; states_are_due = refl; statuses_are_due = refl; ids_are_due = refl; accounts_agree = refl; pending_is_unanswered = refl }
 
 -- a replace of the first client is answered, after the second gave its cancel the same id
 abbrev pub two_clients_with_the_same_ids : History
@@ -470,27 +345,59 @@ two_clients_with_the_same_ids =
     (enter_message 3 300 ∷ [])
     ∷ replace_pending
 
-two_clients_with_the_same_ids_keeps : Keeps terms two_clients_with_the_same_ids
-unfolding digits price quantity amount amount_of within scaled fraction worth worth_of last_digits
-two_clients_with_the_same_ids_keeps = record { replies_are_verdicts = refl; faults_are_judged = refl; asks_are_sent = refl; tokens_are_due = refl; states_are_due = refl; statuses_are_due = refl; ids_are_due = refl; accounts_agree = refl; pending_is_unanswered = refl }
+-- a cancel under the ClOrdID of the pending replace that it names: its reject has its own 41, and answers nothing
+abbrev pub cancelled_under_a_pending_id : History
+cancelled_under_a_pending_id =
+    heard (replaced_message 2 1 500 (codes "L"))
+    (message (codes "35=8|37=1|11=A2|41=A1|17=4|150=5|39=0|55=INTC|54=1|38=500|44=23.45|151=500|14=0|6=0")
+    ∷ [])
+    ∷ asked (codes "35=F|41=A2|11=A2")
+    (codes "35=9|37=1|11=A2|41=A2|39=E|434=1|102=6|58=duplicate ClOrdID")
+    ([])
+    ∷ replace_pending
 
--- how refusals are told: of a new order whose ClOrdID comes again, and of a cancel of no order
-refused_order :
-    IsOrderRefusal
-    (message (codes "35=D|11=A1|54=1|55=INTC|38=300|40=2|44=23.45|59=0|528=P"))
-    6
-    (codes "duplicate ClOrdID")
-    2
-    (message (codes "35=8|37=2|11=A1|17=3|150=8|39=8|103=6|55=INTC|54=1|38=300|44=23.45|151=0|14=0|6=0|58=duplicate ClOrdID"))
-unfolding digits worth worth_of scaled fraction
-refused_order = record { kind = refl; order = refl; id = refl; exec_type = refl; status = refl; code = refl; why = refl; symbol = refl; side = refl; quantity = refl; price = refl; leaves = refl; cumulated = refl; average = refl }
+-- at prices that the market says, with two trades; after it is cancelled both are broken, and 38 stays
+abbrev pub at_other_prices : History
+at_other_prices =
+    asked (codes "35=F|41=A2|11=A3")
+    (codes "35=9|37=1|11=A3|41=A2|39=4|434=1|102=0|58=too late")
+    []
+    ∷ heard (broken_message 1 8 (codes "E"))
+    (message (codes "35=8|37=1|11=A2|17=9|19=6|150=H|39=4|55=INTC|54=1|38=400|44=25.5|151=0|14=0|6=0|58=E")
+    ∷ [])
+    ∷ heard (broken_message 2 7 (codes "E"))
+    (message (codes "35=8|37=1|11=A2|17=8|19=5|150=H|39=4|55=INTC|54=1|38=400|44=25.5|151=0|14=50|6=25|58=E")
+    ∷ [])
+    ∷ heard (canceled_message 2 250 (codes "U"))
+    (message (codes "35=8|37=1|11=A2|17=7|150=4|39=4|55=INTC|54=1|38=400|44=25.5|151=0|14=150|6=25.3333|58=U")
+    ∷ [])
+    ∷ heard (executed_message 2 50 250000 8)
+    (message (codes "35=8|37=1|11=A2|17=6|150=F|39=1|55=INTC|54=1|38=400|44=25.5|32=50|31=25|151=250|14=150|6=25.3333")
+    ∷ [])
+    ∷ heard (executed_message 2 100 255000 7)
+    (message (codes "35=8|37=1|11=A2|17=5|150=F|39=1|55=INTC|54=1|38=400|44=25.5|32=100|31=25.5|151=300|14=100|6=25.5")
+    ∷ [])
+    ∷ heard (replaced_at 255000 2 1 400)
+    (message (codes "35=8|37=1|11=A2|41=A1|17=4|150=5|39=0|55=INTC|54=1|38=400|44=25.5|151=400|14=0|6=0")
+    ∷ [])
+    ∷ asked (codes "35=G|41=A1|11=A2|38=500|40=2|44=23.45")
+    (codes "35=8|37=1|11=A2|41=A1|17=3|150=E|39=E|55=INTC|54=1|38=300|44=24|151=300|14=0|6=0")
+    (replace_message 1 2 500 ∷ [])
+    ∷ heard (accepted_at 240000 1 300)
+    (message (codes "35=8|37=1|11=A1|17=2|150=0|39=0|55=INTC|54=1|38=300|44=24|151=300|14=0|6=0")
+    ∷ [])
+    ∷ only_entered
 
-refused_cancel :
-    IsRequestRefusal
-    (message (codes "35=F|41=Q|11=A9"))
-    None
-    1
-    (codes "unknown order")
-    (message (codes "35=9|37=NONE|11=A9|41=Q|39=8|434=1|102=1|58=unknown order"))
-unfolding digits
-refused_cancel = record { kind = refl; order = refl; id = refl; old_id = refl; status = λ names_none. refl; response = refl; code = refl; why = refl }
+-- it is refused, and requests on it then
+abbrev pub asked_after_it_is_refused : History
+asked_after_it_is_refused =
+    asked (codes "35=G|41=A1|11=A1|38=1|40=2|44=1")
+    (codes "35=9|37=1|11=A1|41=A1|39=8|434=2|102=6|58=duplicate ClOrdID")
+    []
+    ∷ asked (codes "35=F|41=A1|11=A2")
+    (codes "35=9|37=1|11=A2|41=A1|39=8|434=1|102=0|58=too late")
+    []
+    ∷ heard (rejected_message 1 (codes "T"))
+    (message (codes "35=8|37=1|11=A1|17=2|150=8|39=8|103=99|55=INTC|54=1|38=300|44=23.45|151=0|14=0|6=0|58=T")
+    ∷ [])
+    ∷ only_entered

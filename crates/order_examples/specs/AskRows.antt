@@ -6,7 +6,7 @@ use Rattle.std.specs.Int.{w32, to_be_bytes}
 use Rattle.fixed_point.specs.Decimal.{price, quantity, amount, amount_of, within, scaled, fraction}
 use Rattle.tokens.specs.TokenText.{token_text, last_digits}
 use Rattle.order_law.specs.Asks.{Ask, New, Change, Stop, Limits, LifeTime, Day, Immediate, Standing, asked_by_new, asked_by_request, ask_of_bytes}
-use Rattle.order_law.specs.Transcript.{message, accepted_message}
+use Rattle.order_examples.specs.Transcript.{message, accepted_message}
 
 abbrev letter : List ℕ → ℕ
 letter name = slice_index name 0

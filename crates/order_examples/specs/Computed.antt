@@ -1,0 +1,88 @@
+-- What an exchange that is written down has to be, as equations that can be computed: each turn tells what is told, has the
+-- fault that is judged, and sends messages that ask what is asked.
+use Rattle.std.specs.Prelude.{◌≡◌, ℕ, List, [], ◌∷◌, ◌++◌, map, Option, Some, None, if◌then◌else◌, codes}
+use Rattle.std.specs.List.{flat_map}
+use Rattle.ouch_codec.specs.ToMarket as said
+use Rattle.order_law.specs.Asks.{Ask, ask_of_bytes}
+use Rattle.order_law.specs.Life.{is_type}
+use Rattle.order_law.specs.Verdicts.{Up, Down, Ended, Faulted}
+use Rattle.order_law.specs.History.{terms_of, Event, Came, Heard, Turn, History, Asked, Said, SaysNew, SaysReplace, SaysCancel, issued, handled, accepted, entry_at, asks_of}
+use Rattle.order_law.specs.Lawful.{judgement}
+use Rattle.order_law.specs.Told.{Told, told}
+use Rattle.order_law.specs.Headline.{order_number, said_in}
+use Rattle.order_examples.specs.Transcript.{terms}
+
+-- ---- what is told
+
+-- by the law, each turn after those before it
+abbrev pub told_by_law : History → List Told
+told_by_law [] = []
+told_by_law (t ∷ before) = told terms t.event before ∷ told_by_law before
+
+-- as it is written down
+abbrev pub told_in : History → List Told
+told_in h = map said_in h
+
+-- ---- faults
+
+abbrev judged : Event → History → Option ℕ
+judged (Came client m port) before = None
+judged (Heard port m) before = judgement terms port m before
+
+abbrev pub faults_by_law : History → List (Option ℕ)
+faults_by_law [] = []
+faults_by_law (t ∷ before) = judged t.event before ∷ faults_by_law before
+
+abbrev pub faults_in : History → List (Option ℕ)
+faults_in h = map (λ (t : Turn). t.fault) h
+
+-- ---- asks
+
+-- the type and tokens of a message to the market
+abbrev said_of : List ℕ → Option Said
+said_of m =
+    if is_type (codes "O") m then Some (SaysNew (said.token m))
+    else (if is_type (codes "U") m then Some (SaysReplace (said.token m) (said.replacement_token m))
+    else (if is_type (codes "X") m then Some (SaysCancel (said.token m)) else None))
+
+abbrev sent_asks_in : Turn → History → List (Option Ask)
+sent_asks_in t before = by_event t.event
+  where
+    by_event : Event → List (Option Ask)
+    by_event (Came client m port) =
+        map (ask_of_bytes (terms_of terms client).standing (order_number terms (terms_of terms client).port (accepted terms (t ∷ before)))) t.sends
+    by_event (Heard port m) = []
+
+-- what a turn has to ask at once
+abbrev due_in : Event → History → List Asked
+due_in (Came client m Up) before =
+    asks_of terms (terms_of terms client).port (entry_at terms (Came client m Up) before) (accepted terms before) (issued client before) (handled (terms_of terms client).port before)
+due_in (Came client m Down) before = []
+due_in (Came client m Ended) before = []
+due_in (Came client m (Faulted n)) before = []
+due_in (Heard port m) before = []
+
+abbrev pub sent_asks : History → List (Option Ask)
+sent_asks [] = []
+sent_asks (t ∷ before) = sent_asks_in t before ++ sent_asks before
+
+abbrev due_list : History → List Asked
+due_list [] = []
+due_list (t ∷ before) = due_in t.event before ++ due_list before
+
+abbrev pub due_asks : History → List (Option Ask)
+due_asks h = map (λ (a : Asked). a.ask) (due_list h)
+
+abbrev pub sent_tokens : History → List (Option Said)
+sent_tokens h = flat_map (λ (t : Turn). map said_of t.sends) h
+
+abbrev pub due_tokens : History → List (Option Said)
+due_tokens h = map (λ (a : Asked). Some a.said) (due_list h)
+
+-- ---- an exchange
+
+pub record IsLawful (h : History) : Type 0 where
+  pub tells : told_by_law h ≡ told_in h
+  pub faults : faults_by_law h ≡ faults_in h
+  pub asks : sent_asks h ≡ due_asks h
+  pub tokens : sent_tokens h ≡ due_tokens h

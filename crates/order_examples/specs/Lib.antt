@@ -1,0 +1,9 @@
+pub mod Transcript
+pub mod Exchanges
+pub mod Computed
+pub mod Lawful
+pub mod Outstanding
+pub mod Misstated
+pub mod AskRows
+pub mod VerdictRows
+pub mod MarketRows

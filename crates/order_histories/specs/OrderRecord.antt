@@ -1,0 +1,181 @@
+-- An order as one record: what its client's reports, the market's messages and the requests so far come to, and what one
+-- more message makes of it. Nobody has to believe it: it is a step of the proof, and everything in it is read from the lists.
+use Rattle.std.specs.Prelude.{ℕ, ◌+◌, ◌-◌, ◌*◌, ◌==◌, Bool, true, false, not, ◌&&◌, List, [], ◌∷◌, ◌++◌, map, filter, Option, Some, None, option_map, option_to_list, if◌then◌else◌, bytes_eq, codes, decimal}
+use Rattle.std.specs.List.{find, list_any}
+use Rattle.std.specs.Str.Parse.{digits_value}
+use Rattle.ouch_codec.specs.FromMarket as heard
+use Rattle.order_law.specs.declared.stage.Stage.{Stage}
+use Rattle.order_law.specs.declared.stage.Stage.TheVariants.{Waiting, Working, Closed}
+use Rattle.order_law.specs.declared.trade.Trade.{Trade}
+use Rattle.order_law.specs.Messages.{Message, text, character}
+use Rattle.order_law.specs.Asks.{asked_by_new, asked_by_request, limit_of, total_of}
+use Rattle.order_law.specs.Life.{Life, is_closed, is_waiting, first_token}
+use Rattle.order_law.specs.Reading.{Fill, Reading}
+use Rattle.order_law.specs.Chain.{Chain, Request}
+use Rattle.order_law.specs.History.{Terms, terms_of, Entry, token_of, Asked, Said, SaysNew, SaysReplace, SaysCancel}
+use Rattle.order_law.specs.Told.{Shown, leaves_at}
+
+-- a trade, and the number of the report that told it
+pub record ToldTrade : Type 0 where
+  pub trade : Trade
+  pub number : ℕ
+
+-- a pending cancel, and the tokens whose Cancel Order isn't answered
+pub record Cancelling : Type 0 where
+  pub request : Entry
+  pub tokens : List (List ℕ)
+
+pub record OrderRecord : Type 0 where
+  -- its accepted new order
+  pub new : Entry
+  pub stage : Stage
+  -- the market rejected it
+  pub is_refused : Bool
+  -- ClOrdID (11), OrderQty (38), Price (44)
+  pub id : List ℕ
+  pub total : ℕ
+  pub price : ℕ
+  pub unfilled : ℕ
+  pub executed : ℕ
+  pub cancelled : ℕ
+  pub value : ℕ
+  -- the tokens that it has had live, the live one first
+  pub tokens : List (List ℕ)
+  pub trades : List ToldTrade
+  -- at most one request of each kind is pending, and a replace was accepted before a cancel
+  pub replace : Option Entry
+  pub cancel : Option Cancelling
+
+-- ---- as the lists have it
+
+-- what the market's messages come to
+abbrev pub lived : OrderRecord → Life
+lived o = record {
+  side = character 54 o.new.message;
+  tokens = o.tokens;
+  stage = o.stage;
+  unfilled = o.unfilled;
+  executed = o.executed;
+  cancelled = o.cancelled;
+  value = o.value;
+  trades = map (λ (t : ToldTrade). t.trade) o.trades;
+}
+
+abbrev pub fill_of : ToldTrade → Fill
+fill_of t = record { exec_id = decimal t.number; shares = t.trade.shares; price = t.trade.price }
+
+-- what the reports come to
+abbrev pub read : OrderRecord → Reading
+read o = record {
+  side = character 54 o.new.message;
+  total = o.total;
+  unfilled = o.unfilled;
+  executed = o.executed;
+  cancelled = o.cancelled;
+  value = o.value;
+  fills = map fill_of o.trades;
+  is_accepted = not (is_waiting o.stage) && not o.is_refused;
+  is_closed = is_closed o.stage;
+}
+
+abbrev replace_request : Option Entry → List Request
+replace_request None = []
+replace_request (Some q) = record { id = text 11 q.message; is_replace = true } ∷ []
+
+abbrev cancel_request : Option Cancelling → List Request
+cancel_request None = []
+cancel_request (Some c) = record { id = text 11 c.request.message; is_replace = false } ∷ []
+
+abbrev pub chained : OrderRecord → Chain
+chained o = record { current = o.id; pending = replace_request o.replace ++ cancel_request o.cancel }
+
+abbrev cancel_entry : Option Cancelling → List Entry
+cancel_entry None = []
+cancel_entry (Some c) = c.request ∷ []
+
+-- the pending requests, in order of acceptance
+abbrev pub pending : OrderRecord → List Entry
+pending o = option_to_list o.replace ++ cancel_entry o.cancel
+
+-- LeavesQty (151)
+abbrev pub leaves : OrderRecord → ℕ
+leaves o = leaves_at o.stage (total_of o.new.message) o.unfilled
+
+-- as a body shows it
+abbrev pub shown_as : OrderRecord → Shown
+shown_as o = record {
+  order = o.new.order;
+  id = o.id;
+  symbol = text 55 o.new.message;
+  side = text 54 o.new.message;
+  total = o.total;
+  price = o.price;
+  leaves = leaves o;
+  executed = o.executed;
+  value = o.value;
+  stage = o.stage;
+  is_refused = o.is_refused;
+  pending = pending o;
+}
+
+abbrev pub live_token : OrderRecord → List ℕ
+live_token o = first_token o.tokens
+
+abbrev new_asked : List Terms → Entry → Stage → List Asked
+new_asked terms new Waiting = record { order = new.order; id = text 11 new.message; said = SaysNew (token_of new); ask = Some (asked_by_new (terms_of terms new.client).capacity new.message) } ∷ []
+new_asked terms new Working = []
+new_asked terms new Closed = []
+
+abbrev replace_asked : Entry → List ℕ → Option Entry → List Asked
+replace_asked new live None = []
+replace_asked new live (Some q) = record { order = new.order; id = text 11 q.message; said = SaysReplace live (token_of q); ask = asked_by_request (digits_value 10 new.order) q.message } ∷ []
+
+abbrev pub cancel_of : Entry → Entry → List ℕ → Asked
+cancel_of new q token = record { order = new.order; id = text 11 q.message; said = SaysCancel token; ask = asked_by_request (digits_value 10 new.order) q.message }
+
+abbrev cancel_asked : Entry → Option Cancelling → List Asked
+cancel_asked new None = []
+cancel_asked new (Some c) = map (λ token. cancel_of new c.request token) c.tokens
+
+-- what of it is outstanding, in order
+abbrev pub asked_as : List Terms → OrderRecord → List Asked
+asked_as terms o = new_asked terms o.new o.stage ++ (replace_asked o.new (live_token o) o.replace ++ cancel_asked o.new o.cancel)
+
+-- ---- what changes it
+
+-- accepted, it waits for the market
+abbrev pub entered : Entry → OrderRecord
+entered new = record {
+  new = new;
+  stage = Waiting;
+  is_refused = false;
+  id = text 11 new.message;
+  total = total_of new.message;
+  price = limit_of new.message;
+  unfilled = 0;
+  executed = 0;
+  cancelled = 0;
+  value = 0;
+  tokens = token_of new ∷ [];
+  trades = [];
+  replace = None;
+  cancel = None;
+}
+
+-- in the book with the shares and price of an Accepted or Replaced
+abbrev pub opened : List ℕ → OrderRecord → OrderRecord
+opened m o = record o { stage = Working; unfilled = heard.shares m; total = o.executed + heard.shares m; price = heard.price m }
+
+-- nothing is open any more
+abbrev pub gone : OrderRecord → OrderRecord
+gone o = record o { stage = Closed; unfilled = 0; cancelled = o.cancelled + o.unfilled }
+
+abbrev pub without_replace : OrderRecord → OrderRecord
+without_replace o = record o { replace = None }
+
+abbrev pub without_cancel : OrderRecord → OrderRecord
+without_cancel o = record o { cancel = None }
+
+-- no request is pending
+abbrev pub unasked : OrderRecord → OrderRecord
+unasked o = record o { replace = None; cancel = None }

@@ -1,0 +1,471 @@
+-- What an event tells, read from the turns before it: whom, and each body, field by field, in the order of the standard.
+-- (FIX 4.4 Volume 4, "Execution Report" and "Order Cancel Reject"; OUCH 4.2, "Outbound Messages".)
+--
+-- Nothing here is a table or a counter: an order is shown as the lists of turns have it, and a row says which bodies a
+-- message of its type leads to.
+use Rattle.std.specs.Prelude.{ℕ, Bool, true, false, not, ◌&&◌, ◌||◌, ◌+◌, ◌/◌, ◌==◌, List, [], ◌∷◌, ◌++◌, map, filter, Option, Some, None, option_map, unwrap_or, if◌then◌else◌, bytes_eq, codes, decimal, is_some}
+use Rattle.std.specs.List.{find, filter_map, count_by, list_any}
+use Rattle.fix_fields.specs.Field.{first_value}
+use Rattle.fixed_point.specs.Price.{price_text}
+use Rattle.ouch_codec.specs.FromMarket as heard
+use Rattle.order_law.specs.declared.stage.Stage.{Stage}
+use Rattle.order_law.specs.declared.stage.Stage.TheVariants.{Waiting, Working, Closed}
+use Rattle.order_law.specs.declared.trade.Trade.{Trade}
+use Rattle.order_law.specs.Messages.{Message, text}
+use Rattle.order_law.specs.Asks.{total_of, limit_of}
+use Rattle.order_law.specs.Life.{Life, after, is_live, is_waiting, is_closed, is_dead_state, is_type, stands_as}
+use Rattle.order_law.specs.Reading.{reading, Fill, is_report, is_refused_order, average_of}
+use Rattle.order_law.specs.Chain.{Request, chain, named}
+use Rattle.order_law.specs.Verdicts.{Port, Verdict, Accepted, Refused, is_replace}
+use Rattle.order_law.specs.History.{Terms, terms_of, Event, Came, Heard, History, issued, handled, accepted, numbered, Entry, entry_at, new_of, by_id, token_of, life_of, verdict, is_new_order, Asked, is_cancel_said, outstanding, answers}
+use Rattle.order_law.specs.Lawful.{judgement, order_of_token}
+
+-- what one event tells
+pub record Told : Type 0 where
+  -- 0 for nobody
+  pub client : ℕ
+  pub bodies : List Message
+
+abbrev pub nobody : Told
+nobody = record { client = 0; bodies = [] }
+
+-- ---- an order as a body shows it
+
+pub record Shown : Type 0 where
+  -- OrderID (37), ClOrdID (11), Symbol (55), Side (54)
+  pub order : List ℕ
+  pub id : List ℕ
+  pub symbol : List ℕ
+  pub side : List ℕ
+  -- OrderQty (38), LeavesQty (151), CumQty (14) in shares, Price (44) in 1/10,000
+  pub total : ℕ
+  pub price : ℕ
+  pub leaves : ℕ
+  pub executed : ℕ
+  -- shares times price of the trades that stand: AvgPx (6) is their average
+  pub value : ℕ
+  pub stage : Stage
+  -- the market rejected it
+  pub is_refused : Bool
+  -- the accepted requests that aren't answered, in order of acceptance
+  pub pending : List Entry
+
+-- as its accepted message has it
+abbrev pub newly_shown : Entry → Shown
+newly_shown new = record {
+  order = new.order;
+  id = text 11 new.message;
+  symbol = text 55 new.message;
+  side = text 54 new.message;
+  total = total_of new.message;
+  price = limit_of new.message;
+  leaves = total_of new.message;
+  executed = 0;
+  value = 0;
+  stage = Waiting;
+  is_refused = false;
+  pending = [];
+}
+
+-- the message puts the order into the book: an Accepted of it, or a Replaced of its live token
+abbrev pub opens : Life → List ℕ → Bool
+opens l m =
+    (is_type (codes "A") m && is_live l (heard.token m))
+    || (is_type (codes "U") m && is_live l (heard.previous_token m))
+
+-- Price (44): that of the Accepted or the last Replaced, and before them the order's own
+abbrev pub price_after : Entry → List Entry → List (List ℕ) → ℕ
+price_after new entries [] = limit_of new.message
+price_after new entries (m ∷ earlier) =
+    if opens (life_of new.order entries earlier) m then heard.price m else price_after new entries earlier
+
+-- LeavesQty (151): all of it before the market's answer, what is open in the book, nothing once it is closed
+abbrev pub leaves_at : Stage → ℕ → ℕ → ℕ
+leaves_at Waiting asked unfilled = asked
+leaves_at Working asked unfilled = unfilled
+leaves_at Closed asked unfilled = 0
+
+-- an accepted new order after these turns. Once it is closed, 38 stays as it was told last.
+abbrev pub shown : List Terms → History → Entry → Shown
+shown terms before new = record {
+  order = new.order;
+  id = (chain new.order sent).current;
+  symbol = text 55 new.message;
+  side = text 54 new.message;
+  total = if is_closed l.stage then (reading new.order sent).total else l.executed + leaves;
+  price = price_after new (accepted terms before) messages;
+  leaves = leaves;
+  executed = l.executed;
+  value = l.value;
+  stage = l.stage;
+  is_refused = is_refused_order new.order sent;
+  pending = filter_map (λ (q : Request). by_id new.client q.id (accepted terms before)) (chain new.order sent).pending;
+}
+  where
+    sent : List Message
+    sent = issued new.client before
+
+    messages : List (List ℕ)
+    messages = handled (terms_of terms new.client).port before
+
+    l : Life
+    l = life_of new.order (accepted terms before) messages
+
+    leaves : ℕ
+    leaves = leaves_at l.stage (total_of new.message) l.unfilled
+
+-- ---- what changes it
+
+-- in the book as an Accepted or Replaced says, be it dead at once or not
+abbrev pub opened : List ℕ → Shown → Shown
+opened m s = record s { stage = Working; leaves = heard.shares m; total = s.executed + heard.shares m; price = heard.price m }
+
+abbrev pub closed : Shown → Shown
+closed s = record s { stage = Closed; leaves = 0 }
+
+-- with the quantities of this life; where it closes, 38 stays
+abbrev pub lived : Life → Shown → Shown
+lived l s = record s {
+  stage = l.stage;
+  leaves = l.unfilled;
+  executed = l.executed;
+  value = l.value;
+  total = if is_closed l.stage then s.total else l.executed + l.unfilled;
+}
+
+abbrev pub is_cancel : Entry → Bool
+is_cancel q = not (is_replace q.message)
+
+-- the replace that asked for this token
+abbrev pub has_token : List ℕ → Entry → Bool
+has_token token q = is_replace q.message && bytes_eq (token_of q) token
+
+-- a cancel is answered; the replace of a token is answered; an accepted request is pending
+abbrev pub without_cancel : Shown → Shown
+without_cancel s = record s { pending = filter (λ (q : Entry). is_replace q.message) s.pending }
+
+abbrev pub without_replace : List ℕ → Shown → Shown
+without_replace token s = record s { pending = filter (λ (q : Entry). not (has_token token q)) s.pending }
+
+abbrev pub with_request : Entry → Shown → Shown
+with_request q s = record s { pending = s.pending ++ q ∷ [] }
+
+-- ---- fields
+
+abbrev pub field : ℕ → List ℕ → Message
+field tag value = record { tag = tag; value = value } ∷ []
+
+-- a field that stands where there is a value
+abbrev pub optional : ℕ → Option (List ℕ) → Message
+optional tag None = []
+optional tag (Some value) = field tag value
+
+-- a body of these fields, one after another
+abbrev pub in_order : List Message → Message
+in_order [] = []
+in_order (fields ∷ more) = fields ++ in_order more
+
+-- OrdStatus (39) by the stage, where nothing before it holds
+abbrev pub status_in : Shown → Stage → List ℕ
+status_in s Closed = if s.executed == s.total then codes "2" else codes "4"
+status_in s Waiting = codes "A"
+status_in s Working = if s.executed == 0 then codes "0" else codes "1"
+
+-- OrdStatus (39), the first that holds. (FIX 4.4 Volume 6, OrdStatus, with its order of precedence.)
+abbrev pub status_of : Shown → List ℕ
+status_of s =
+    if s.is_refused then codes "8"
+    else (if list_any is_cancel s.pending then codes "6"
+    else (if list_any (λ (q : Entry). is_replace q.message) s.pending then codes "E" else status_in s s.stage))
+
+-- what a report says beside its order
+pub record Occasion : Type 0 where
+  -- ExecType (150)
+  pub exec_type : List ℕ
+  -- the request that it is on, whose own 11 and 41 it has
+  pub request : Option Entry
+  -- ExecRefID (19)
+  pub broken : Option (List ℕ)
+  -- OrdRejReason (103)
+  pub code : Option (List ℕ)
+  -- ExecRestatementReason (378)
+  pub restated : Option (List ℕ)
+  -- LastQty (32) in shares, LastPx (31) in 1/10,000
+  pub shares : Option ℕ
+  pub at : Option ℕ
+  -- Text (58)
+  pub why : Option (List ℕ)
+
+-- nothing but its ExecType
+abbrev pub plain : List ℕ → Occasion
+plain exec_type = record { exec_type = exec_type; request = None; broken = None; code = None; restated = None; shares = None; at = None; why = None }
+
+-- on a request
+abbrev pub on_request : List ℕ → Entry → Occasion
+on_request exec_type q = record (plain exec_type) { request = Some q }
+
+-- a report on an order, with the ExecID (17) of this number
+abbrev pub report : ℕ → Occasion → Shown → Message
+report number o s = in_order (
+    field 35 (codes "8")
+    ∷ field 37 s.order
+    ∷ field 11 (unwrap_or (option_map (λ (q : Entry). text 11 q.message) o.request) s.id)
+    ∷ optional 41 (option_map (λ (q : Entry). text 41 q.message) o.request)
+    ∷ field 17 (decimal number)
+    ∷ optional 19 o.broken
+    ∷ field 150 o.exec_type
+    ∷ field 39 (status_of s)
+    ∷ optional 103 o.code
+    ∷ optional 378 o.restated
+    ∷ field 55 s.symbol
+    ∷ field 54 s.side
+    ∷ field 38 (decimal s.total)
+    ∷ field 44 (price_text s.price)
+    ∷ optional 32 (option_map (λ n. decimal n) o.shares)
+    ∷ optional 31 (option_map (λ n. price_text n) o.at)
+    ∷ field 151 (decimal s.leaves)
+    ∷ field 14 (decimal s.executed)
+    ∷ field 6 (price_text (average_of s.value s.executed))
+    ∷ optional 58 o.why
+    ∷ [])
+
+-- a report that refuses a new order, with the order's own texts: nothing of it is open or executed
+abbrev pub refusal : ℕ → ℕ → Message → ℕ → List ℕ → Message
+refusal number order m code why = in_order (
+    field 35 (codes "8")
+    ∷ field 37 (decimal order)
+    ∷ field 11 (text 11 m)
+    ∷ field 17 (decimal number)
+    ∷ field 150 (codes "8")
+    ∷ field 39 (codes "8")
+    ∷ field 103 (decimal code)
+    ∷ field 55 (text 55 m)
+    ∷ field 54 (text 54 m)
+    ∷ field 38 (text 38 m)
+    ∷ optional 44 (first_value 44 m)
+    ∷ field 151 (codes "0")
+    ∷ field 14 (codes "0")
+    ∷ field 6 (codes "0")
+    ∷ field 58 why
+    ∷ [])
+
+-- CxlRejResponseTo (434): 1 to a cancel, 2 to a replace
+abbrev responds_to : Message → List ℕ
+responds_to m = if is_replace m then codes "2" else codes "1"
+
+-- a reject of a request, with the OrderID and status of its order
+abbrev pub reject : List ℕ → List ℕ → Message → ℕ → List ℕ → Message
+reject order status m code why = in_order (
+    field 35 (codes "9")
+    ∷ field 37 order
+    ∷ field 11 (text 11 m)
+    ∷ field 41 (text 41 m)
+    ∷ field 39 status
+    ∷ field 434 (responds_to m)
+    ∷ field 102 (decimal code)
+    ∷ field 58 why
+    ∷ [])
+
+-- of a pending request, which it answers: the order is shown without it
+abbrev pub answered_no : Shown → Entry → ℕ → List ℕ → Message
+answered_no s q code why = reject s.order (status_of s) q.message code why
+
+-- ---- a client's message
+
+-- how many reports were issued, of all clients
+abbrev pub reports_in : History → ℕ
+reports_in [] = 0
+reports_in (t ∷ before) = count_by is_report t.bodies + reports_in before
+
+abbrev pub accepted_new : ℕ → Entry → List Message
+accepted_new number new = report number (plain (codes "A")) (newly_shown new) ∷ []
+
+abbrev pub accepted_replace : ℕ → Entry → Shown → List Message
+accepted_replace number q s = report number (on_request (codes "E") q) (with_request q s) ∷ []
+
+abbrev pub accepted_cancel : ℕ → Entry → Shown → List Message
+accepted_cancel number q s = report number (on_request (codes "6") q) (with_request q s) ∷ []
+
+abbrev pub accepted_request : ℕ → Entry → Option Shown → List Message
+accepted_request number q None = []
+accepted_request number q (Some s) = if is_replace q.message then accepted_replace number q s else accepted_cancel number q s
+
+-- 37 and 39 are those of the order that 41 names, or `NONE` and 8
+abbrev pub refused_request : Message → Option Shown → ℕ → List ℕ → List Message
+refused_request m None code why = reject (codes "NONE") (codes "8") m code why ∷ []
+refused_request m (Some s) code why = reject s.order (status_of s) m code why ∷ []
+
+-- ---- the market's messages, each with the order as it was before, and how many reports were issued
+
+-- each is too late, in order; its own body doesn't count it as pending any more
+abbrev pub each_too_late : Shown → List Entry → List Message
+each_too_late s [] = []
+each_too_late s (q ∷ qs) = answered_no (record s { pending = qs }) q 0 (codes "too late") ∷ each_too_late s qs
+
+abbrev pub too_late : Shown → List Message
+too_late s = each_too_late s s.pending
+
+-- all that was open is cancelled: 150=4, which answers a pending cancel; then what is too late
+abbrev pub cancelled : ℕ → Option (List ℕ) → Shown → List Message
+cancelled number why s = report number occasion (without_cancel s) ∷ too_late (without_cancel s)
+  where
+    occasion : Occasion
+    occasion = record (plain (codes "4")) { request = find is_cancel s.pending; why = why }
+
+-- the last message of a pending cancel is answered, and the order isn't closed
+abbrev pub cancel_rejected : Bool → Shown → List Message
+cancel_rejected is_last s =
+    if is_last
+    then map (λ (q : Entry). answered_no (without_cancel s) q 2 (codes "cancel rejected by market")) (filter is_cancel s.pending)
+    else []
+
+-- dead at once, it is cancelled without a reason
+abbrev pub where_dead : ℕ → List ℕ → Shown → List Message → List Message
+where_dead number m s alive = if is_dead_state m then cancelled number None (closed s) else alive
+
+-- Accepted: 150=0
+abbrev pub told_accepted : ℕ → List ℕ → Shown → List Message
+told_accepted reports m s =
+    report (reports + 1) (plain (codes "0")) (opened m s)
+    ∷ where_dead (reports + 2) m (opened m s) []
+
+-- in the book under the replace's token and its ClOrdID, and the replace is answered
+abbrev pub renamed : List ℕ → Entry → Shown → Shown
+renamed m q s = opened m (record (without_replace (heard.token m) s) { id = text 11 q.message })
+
+-- Replaced: 150=5
+abbrev pub told_replaced : ℕ → List ℕ → Bool → Shown → List Message
+told_replaced reports m is_last s = by_request (find (has_token (heard.token m)) s.pending)
+  where
+    by_request : Option Entry → List Message
+    by_request None = []
+    by_request (Some q) =
+        report (reports + 1) (on_request (codes "5") q) (renamed m q s)
+        ∷ where_dead (reports + 2) m (renamed m q s) (cancel_rejected is_last (renamed m q s))
+
+-- Canceled: 150=D, or 150=4 where nothing is left
+abbrev pub told_canceled : ℕ → List ℕ → Life → Shown → List Message
+told_canceled reports m l s =
+    if is_closed l.stage then cancelled (reports + 1) (Some reason) (lived l s)
+    else report (reports + 1) restated (lived l s) ∷ []
+  where
+    reason : List ℕ
+    reason = heard.cancel_reason m ∷ []
+
+    restated : Occasion
+    restated = record (plain (codes "D")) { restated = Some (codes "5"); why = Some reason }
+
+-- Executed: 150=F, and what is too late where nothing is left
+abbrev pub told_executed : ℕ → List ℕ → Life → Shown → List Message
+told_executed reports m l s =
+    report (reports + 1) trade (lived l s)
+    ∷ (if is_closed l.stage then too_late (lived l s) else [])
+  where
+    trade : Occasion
+    trade = record (plain (codes "F")) { shares = Some (heard.executed_shares m); at = Some (heard.executed_price m) }
+
+-- The ExecID (17) under which a trade that stands was told: the trades of an order and the fills that its client read are
+-- told one for one.
+abbrev pub exec_id_of : ℕ → List Trade → List Fill → Option (List ℕ)
+exec_id_of match_number [] fills = None
+exec_id_of match_number (t ∷ trades) [] = None
+exec_id_of match_number (t ∷ trades) (f ∷ fills) =
+    if stands_as match_number t then Some f.exec_id else exec_id_of match_number trades fills
+
+-- Broken Trade: 150=H, with the ExecID of the trade
+abbrev pub told_broken : ℕ → List ℕ → Option (List ℕ) → Life → Shown → List Message
+told_broken reports m exec_id l s = report (reports + 1) occasion (lived l s) ∷ []
+  where
+    occasion : Occasion
+    occasion = record (plain (codes "H")) { broken = exec_id; why = Some (heard.broken_reason m ∷ []) }
+
+-- Rejected of the new order: 150=8
+abbrev pub told_refused : ℕ → List ℕ → Shown → List Message
+told_refused reports m s = report (reports + 1) occasion refused ∷ too_late refused
+  where
+    refused : Shown
+    refused = record (closed s) { is_refused = true }
+
+    occasion : Occasion
+    occasion = record (plain (codes "8")) { code = Some (codes "99"); why = Some (heard.reject_reason m ∷ []) }
+
+-- Rejected of a replace: its 9
+abbrev pub told_not_replaced : List ℕ → Bool → Shown → List Message
+told_not_replaced m is_last s =
+    map (λ (q : Entry). answered_no rest q 2 (heard.reject_reason m ∷ [])) (filter (has_token (heard.token m)) s.pending)
+    ++ cancel_rejected is_last rest
+  where
+    rest : Shown
+    rest = without_replace (heard.token m) s
+
+-- ---- all of it
+
+abbrev pub is_cancel_of : List ℕ → Asked → Bool
+is_cancel_of order a = bytes_eq a.order order && is_cancel_said a.said
+
+-- cancels of an order were unanswered, and after this message none is
+abbrev pub answers_last_cancel : List ℕ → List ℕ → List Asked → Bool
+answers_last_cancel order m asked =
+    list_any (is_cancel_of order) asked
+    && not (list_any (λ (a : Asked). is_cancel_of order a && not (answers m a.said)) asked)
+
+-- A lawful message on an order, by its type: a line for each row. `l` is the order's life before it, `is_last` whether it
+-- answers the last message of a pending cancel.
+abbrev pub told_by_type : ℕ → List ℕ → Life → Bool → List Fill → Shown → List Message
+told_by_type reports m l is_last fills s =
+    if is_type (codes "A") m then told_accepted reports m s
+    else (if is_type (codes "U") m then told_replaced reports m is_last s
+    else (if is_type (codes "C") m then told_canceled reports m (after l m) s
+    else (if is_type (codes "E") m then told_executed reports m (after l m) s
+    else (if is_type (codes "B") m then told_broken reports m (exec_id_of (heard.broken_match m) l.trades fills) (after l m) s
+    else (if is_type (codes "J") m then (if is_waiting l.stage && is_live l (heard.token m) then told_refused reports m s else told_not_replaced m is_last s)
+    else (if is_type (codes "I") m then cancel_rejected is_last s
+    else []))))))
+
+-- bodies are for the order's client, and where there are none nobody is told anything
+abbrev pub to_client_of : Entry → List Message → Told
+to_client_of new [] = nobody
+to_client_of new (r ∷ rs) = record { client = new.client; bodies = r ∷ rs }
+
+-- a payload on a new order's order
+abbrev pub told_on : List Terms → ℕ → List ℕ → History → Option Entry → Told
+told_on terms port m before None = nobody
+told_on terms port m before (Some new) =
+    to_client_of new (told_by_type (reports_in before) m
+    (life_of new.order (accepted terms before) (handled port before))
+    (answers_last_cancel new.order m (outstanding terms port before))
+    (reading new.order (issued new.client before)).fills
+    (shown terms before new))
+
+-- a payload that is a fault, and one without a token (T, S), tells nobody anything
+abbrev pub told_by_market : List Terms → ℕ → List ℕ → History → Told
+told_by_market terms port m before =
+    if is_some (judgement terms port m before) || (is_type (codes "T") m || is_type (codes "S") m) then nobody
+    else told_on terms port m before (order_of_token terms port (accepted terms before) (heard.token m))
+
+-- the order of an OrderID, if there is one
+abbrev pub shown_in : List Terms → History → Option (List ℕ) → Option Shown
+shown_in terms before None = None
+shown_in terms before (Some order) = option_map (λ (new : Entry). shown terms before new) (new_of order (accepted terms before))
+
+-- what was accepted, as what
+abbrev pub told_accepted_as : List Terms → Message → History → Option Entry → List Message
+told_accepted_as terms m before None = []
+told_accepted_as terms m before (Some e) =
+    if is_new_order m then accepted_new (reports_in before + 1) e
+    else accepted_request (reports_in before + 1) e (shown_in terms before (Some e.order))
+
+-- a client's message, by its verdict
+abbrev pub told_by_verdict : List Terms → ℕ → Message → Port → History → Verdict → List Message
+told_by_verdict terms client m port before Accepted = told_accepted_as terms m before (entry_at terms (Came client m port) before)
+told_by_verdict terms client m port before (Refused code why) =
+    if is_new_order m then refusal (reports_in before + 1) (numbered before + 1) m code why ∷ []
+    else refused_request m (shown_in terms before (named (text 41 m) (issued client before))) code why
+
+-- what an event tells after these turns
+abbrev pub told : List Terms → Event → History → Told
+told terms (Came client m port) before = record {
+  client = client;
+  bodies = told_by_verdict terms client m port before (verdict terms (issued client before) (accepted terms before) port m);
+}
+told terms (Heard port m) before = told_by_market terms port m before
