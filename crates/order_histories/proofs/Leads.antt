@@ -53,7 +53,7 @@ pub record AreNamed (old_id : List ℕ → List ℕ) (o : OrderRecord) : Type 0 
   pub replace : (q : Entry) → o.replace ≡ Some q → text 41 q.message ≡ old_id (text 11 q.message)
   pub cancel : (c : Cancelling) → o.cancel ≡ Some c → text 41 c.request.message ≡ old_id (text 11 c.request.message)
 
-same_some : {A : Type 0} (a b : A) → ◌≡◌ {A = Option A} (Some a) (Some b) → a ≡ b
+pub same_some : {A : Type 0} (a b : A) → ◌≡◌ {A = Option A} (Some a) (Some b) → a ≡ b
 same_some a b e = cc
 
 -- ---- a request is answered by a reject

@@ -5,3 +5,11 @@ pub mod Reports
 pub mod Sound
 pub mod Rejects
 pub mod Leads
+pub mod Moves
+pub mod Executed
+pub mod Asked
+pub mod Canceled
+pub mod Accepted
+pub mod Broken
+pub mod Rejected
+pub mod Replaced

@@ -12,7 +12,7 @@ use Rattle.order_law.specs.Asks.{asked_by_new, asked_by_request, limit_of, total
 use Rattle.order_law.specs.Life.{Life, is_closed, is_waiting, first_token}
 use Rattle.order_law.specs.Reading.{Fill, Reading}
 use Rattle.order_law.specs.Chain.{Chain, Request}
-use Rattle.order_law.specs.History.{Terms, terms_of, Entry, token_of, Asked, Said, SaysNew, SaysReplace, SaysCancel}
+use Rattle.order_law.specs.History.{Terms, terms_of, Entry, token_of, Asked, Said, SaysNew, SaysReplace, SaysCancel, answers}
 use Rattle.order_law.specs.Told.{Shown, leaves_at}
 
 -- a trade, and the number of the report that told it
@@ -89,7 +89,7 @@ cancel_request (Some c) = record { id = text 11 c.request.message; is_replace = 
 abbrev pub chained : OrderRecord → Chain
 chained o = record { current = o.id; pending = replace_request o.replace ++ cancel_request o.cancel }
 
-abbrev cancel_entry : Option Cancelling → List Entry
+abbrev pub cancel_entry : Option Cancelling → List Entry
 cancel_entry None = []
 cancel_entry (Some c) = c.request ∷ []
 
@@ -121,19 +121,19 @@ shown_as o = record {
 abbrev pub live_token : OrderRecord → List ℕ
 live_token o = first_token o.tokens
 
-abbrev new_asked : List Terms → Entry → Stage → List Asked
+abbrev pub new_asked : List Terms → Entry → Stage → List Asked
 new_asked terms new Waiting = record { order = new.order; id = text 11 new.message; said = SaysNew (token_of new); ask = Some (asked_by_new (terms_of terms new.client).capacity new.message) } ∷ []
 new_asked terms new Working = []
 new_asked terms new Closed = []
 
-abbrev replace_asked : Entry → List ℕ → Option Entry → List Asked
+abbrev pub replace_asked : Entry → List ℕ → Option Entry → List Asked
 replace_asked new live None = []
 replace_asked new live (Some q) = record { order = new.order; id = text 11 q.message; said = SaysReplace live (token_of q); ask = asked_by_request (digits_value 10 new.order) q.message } ∷ []
 
 abbrev pub cancel_of : Entry → Entry → List ℕ → Asked
 cancel_of new q token = record { order = new.order; id = text 11 q.message; said = SaysCancel token; ask = asked_by_request (digits_value 10 new.order) q.message }
 
-abbrev cancel_asked : Entry → Option Cancelling → List Asked
+abbrev pub cancel_asked : Entry → Option Cancelling → List Asked
 cancel_asked new None = []
 cancel_asked new (Some c) = map (λ token. cancel_of new c.request token) c.tokens
 
@@ -179,3 +179,16 @@ without_cancel o = record o { cancel = None }
 -- no request is pending
 abbrev pub unasked : OrderRecord → OrderRecord
 unasked o = record o { replace = None; cancel = None }
+
+-- the tokens whose Cancel Order a message doesn't answer
+abbrev pub kept : List ℕ → List (List ℕ) → List (List ℕ)
+kept m tokens = filter (λ token. not (answers m (SaysCancel token))) tokens
+
+abbrev pub with_tokens : Entry → List (List ℕ) → Option Cancelling
+with_tokens q [] = None
+with_tokens q (token ∷ tokens) = Some (record { request = q; tokens = token ∷ tokens })
+
+-- a pending cancel after a message: it is answered where none of its messages is left
+abbrev pub still_cancelling : List ℕ → Option Cancelling → Option Cancelling
+still_cancelling m None = None
+still_cancelling m (Some c) = with_tokens c.request (kept m c.tokens)

@@ -1,0 +1,123 @@
+-- Accepted: the order is in the book, or dead at once.
+use Rattle.std.proofs.Common.{◌≡◌, ◌≢◌, ℕ, suc, zero, ◌+◌, ◌-◌, ◌*◌, ◌<◌, ◌≤◌, ◌^◌, Bool, true, false, List, [], ◌∷◌, ◌++◌, map, refl, sym, ap, ◌∙◌, subst, arith, decimal, codes, bytes_eq, Option, Some, None, eqb-true}
+use Rattle.std.specs.Prelude.{◌&&◌, ◌||◌, ◌==◌, not, if◌then◌else◌, unwrap_or, is_some, filter}
+use Rattle.ouch_codec.specs.Parts.{type_of}
+use Rattle.ouch_codec.specs.FromMarket as heard
+use Rattle.order_law.specs.declared.stage.Stage.{Stage}
+use Rattle.order_law.specs.declared.stage.Stage.TheVariants.{Waiting, Working, Closed}
+use Rattle.order_law.specs.Messages.{Message, text}
+use Rattle.order_law.specs.Life.{after, first_token, is_closed, is_dead_state, is_live, is_waiting}
+use Rattle.order_law.specs.Chain.{chain}
+use Rattle.order_law.specs.History.{Asked, Entry, Said, SaysCancel, SaysNew, SaysReplace, Terms, answers, token_of}
+use Rattle.order_law.specs.Told.{Occasion, Shown, cancelled, opens, plain, report, told_by_type}
+use Rattle.order_law.specs.Told as told
+use Rattle.order_law.specs.Headline.{has_due_ids}
+use Rattle.order_histories.specs.OrderRecord.{Cancelling, OrderRecord, asked_as, cancel_asked, chained, fill_of, gone, kept, leaves, live_token, lived, new_asked, opened, replace_asked, shown_as, still_cancelling, unasked, with_tokens}
+use Rattle.order_histories.proofs.Texts.{eq-same}
+use Rattle.order_histories.proofs.Due.{IsSound, Reads}
+use Rattle.order_histories.proofs.Reports.{Tells, new-Reads, report-tells}
+use Rattle.order_histories.proofs.Sound.{opened-sound}
+use Rattle.order_histories.proofs.Leads.{AreApart, AreNamed, Leads, cancelled-leads, leads-more, leads-one}
+use Rattle.order_histories.proofs.Moves.{AreNumbered, Keeps, Moves, answers_last, filter-all, unanswered}
+use Rattle.order_histories.proofs.Asked.{asked-parts}
+use Rattle.order_histories.proofs.Executed.{AreNumbered-more}
+use Rattle.order_histories.proofs.Canceled.{over-keeps}
+
+-- with the same tokens a pending cancel is as it was
+pub same-cancel : (c : Option Cancelling) (m : List ℕ) → ((x : Cancelling) → c ≡ Some x → x.tokens ≢ []) → ((x : Cancelling) → c ≡ Some x → kept m x.tokens ≡ x.tokens) → still_cancelling m c ≡ c
+same-cancel None m left same = refl
+same-cancel (Some c) m left same = rw (same c refl) (by_tokens c.tokens refl (left c refl))
+  where
+    by_tokens : (tokens : List (List ℕ)) → c.tokens ≡ tokens → c.tokens ≢ [] → with_tokens c.request tokens ≡ Some c
+    by_tokens [] e some = absurd (some e)
+    by_tokens (token ∷ tokens) e some = ap (λ ts. Some (record { request = c.request; tokens = ts })) (sym e)
+
+module _ (terms : List Terms) (old_id : List ℕ → List ℕ) (sent : List Message) (reports limit more : ℕ) (m : List ℕ) (o : OrderRecord)
+    (type : type_of m ≡ 65) (live : is_live (lived o) (heard.token m) ≡ true) (waits : o.stage ≡ Waiting)
+    (shares : heard.shares m ≤ more) (more_small : more < 10 ^ 63) (limit_small : limit < 10 ^ 63)
+    (keeps : Keeps reports limit o) (named : AreNamed old_id o) (reads : Reads sent o) where
+  live_order : o.is_refused ≡ false
+  live_order = by_flag o.is_refused refl
+    where
+      by_flag : (b : Bool) → o.is_refused ≡ b → o.is_refused ≡ false
+      by_flag true e = absurd (let x : Waiting ≡ Closed = sym waits ∙ keeps.sound.refused e in cc)
+      by_flag false e = e
+
+  abbrev p : OrderRecord
+  p = opened m o
+
+  sound : IsSound p
+  sound = opened-sound m o live_order keeps.sound
+
+  apart : AreApart p
+  apart = record { requests = keeps.apart.requests; current = keeps.apart.current }
+
+  named' : AreNamed old_id p
+  named' = record { replace = named.replace; cancel = named.cancel }
+
+  new-ids : has_due_ids (report (reports + 1) (plain (codes "0")) (shown_as p)) (chain o.new.order sent) (chained p) old_id ≡ true
+  new-ids = let id = eq-same o.id in rw id refl
+
+  new-tells : Tells old_id sent (report (reports + 1) (plain (codes "0")) (shown_as p)) p
+  new-tells = report-tells (reports + 1) (plain (codes "0")) p old_id sent sound
+      (new-Reads (reports + 1) m o sent waits live_order (omega (arith, shares, more_small)) (omega (arith, keeps.small, shares, more_small, limit_small)) reads) new-ids
+
+  own : bytes_eq (heard.token m) (token_of o.new) ≡ true
+  own = subst (λ (ts : List (List ℕ)). bytes_eq (heard.token m) (first_token ts) ≡ true) (keeps.first waits) live
+
+  price_now : (if opens (lived o) m then heard.price m else o.price) ≡ heard.price m
+  price_now = rw (type, live) refl
+
+  live-bodies : is_dead_state m ≡ false → told_by_type reports m (lived o) (answers_last m (asked_as terms o)) (map fill_of o.trades) (shown_as o) ≡ report (reports + 1) (plain (codes "0")) (shown_as p) ∷ []
+  live-bodies alive = rw (type, alive) refl
+
+  dead-bodies : is_dead_state m ≡ true → told_by_type reports m (lived o) (answers_last m (asked_as terms o)) (map fill_of o.trades) (shown_as o) ≡ report (reports + 1) (plain (codes "0")) (shown_as p) ∷ cancelled (reports + 2) None (told.closed (shown_as p))
+  dead-bodies dead = rw (type, dead) refl
+
+  live-lives : is_dead_state m ≡ false → after (lived o) m ≡ lived p
+  live-lives alive = rw (type, live, waits, alive) refl
+
+  dead-lives : is_dead_state m ≡ true → after (lived o) m ≡ lived (unasked (gone p))
+  dead-lives dead = rw (type, live, waits, dead) refl
+
+  live-asked : unanswered m (asked_as terms o) ≡ asked_as terms p
+  live-asked = asked-parts terms m o ∙ rw (same-cancel o.cancel m keeps.left (λ c is_c. rw type (filter-all c.tokens)), waits, type, own) (by_replace o.replace)
+    where
+      by_replace : (r : Option Entry) → unanswered m (replace_asked o.new (live_token o) r) ++ cancel_asked o.new o.cancel ≡ replace_asked o.new (live_token o) r ++ cancel_asked o.new o.cancel
+      by_replace None = refl
+      by_replace (Some q) = rw type refl
+
+  pub live-moves : is_dead_state m ≡ false → Moves terms old_id sent reports limit more m o p
+  live-moves alive = record {
+    same = refl;
+    lives = live-lives alive;
+    leads = subst (λ (bodies : List Message). Leads o.new old_id sent bodies p) (sym (live-bodies alive)) (leads-one old_id sent _ p new-tells);
+    asked = λ e. live-asked;
+    price = price_now;
+    keeps = record {
+      sound = sound;
+      apart = apart;
+      first = λ e. absurd (cc);
+      over_replace = λ e. absurd (cc);
+      over_cancel = λ e. absurd (cc);
+      left = keeps.left;
+      idle = λ e. absurd (cc);
+      rejected = keeps.rejected;
+      none_waiting = λ e. absurd (cc);
+      none_closed = λ e. absurd (cc);
+      small = omega (arith, keeps.small, shares);
+      numbered = AreNumbered-more reports (reports + 2) o.trades (omega arith) keeps.numbered;
+    };
+  }
+
+  pub dead-moves : is_dead_state m ≡ true → Moves terms old_id sent reports limit more m o (unasked (gone p))
+  dead-moves dead = record {
+    same = refl;
+    lives = dead-lives dead;
+    leads = subst (λ (bodies : List Message). Leads o.new old_id sent bodies (unasked (gone p))) (sym (dead-bodies dead))
+        (leads-more old_id sent _ _ p (unasked (gone p)) new-tells
+        (cancelled-leads old_id (reports + 2) None p refl _ o.replace o.cancel sound apart named' new-tells.reads));
+    asked = λ e. absurd (cc);
+    price = price_now;
+    keeps = over-keeps reports limit more o (unasked (gone p)) refl refl refl refl keeps.rejected refl (omega (arith, keeps.small)) keeps.numbered;
+  }

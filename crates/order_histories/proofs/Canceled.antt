@@ -1,0 +1,137 @@
+-- Canceled: a part of what is open, or all of it.
+use Rattle.std.proofs.Common.{◌≡◌, ◌≢◌, ℕ, suc, zero, ◌+◌, ◌-◌, ◌*◌, ◌<◌, ◌≤◌, ◌^◌, Bool, true, false, List, [], ◌∷◌, ◌++◌, map, refl, sym, ap, ◌∙◌, subst, arith, decimal, codes, bytes_eq, Option, Some, None, eqb-true}
+use Rattle.std.specs.Prelude.{◌&&◌, ◌||◌, ◌==◌, not, if◌then◌else◌, unwrap_or, is_some, filter}
+use Rattle.ouch_codec.specs.Parts.{type_of}
+use Rattle.ouch_codec.specs.FromMarket as heard
+use Rattle.order_law.specs.declared.stage.Stage.{Stage}
+use Rattle.order_law.specs.declared.stage.Stage.TheVariants.{Waiting, Working, Closed}
+use Rattle.order_law.specs.Messages.{Message, text}
+use Rattle.order_law.specs.Life.{after, is_closed, is_live, is_waiting}
+use Rattle.order_law.specs.Chain.{chain}
+use Rattle.order_law.specs.History.{Asked, Entry, Said, SaysCancel, SaysNew, SaysReplace, Terms, answers, token_of}
+use Rattle.order_law.specs.Told.{Occasion, Shown, cancelled, opens, plain, report, told_by_type}
+use Rattle.order_law.specs.Told as told
+use Rattle.order_law.specs.Headline.{has_due_ids}
+use Rattle.order_histories.specs.OrderRecord.{Cancelling, OrderRecord, asked_as, chained, fill_of, gone, leaves, lived, shown_as, unasked}
+use Rattle.order_histories.proofs.Texts.{eq-same}
+use Rattle.order_histories.proofs.Due.{IsSound, Reads}
+use Rattle.order_histories.proofs.Reports.{Tells, reduced, report-tells, restated-Reads}
+use Rattle.order_histories.proofs.Sound.{reduced-sound}
+use Rattle.order_histories.proofs.Leads.{AreApart, AreNamed, Leads, cancelled-leads, leads-one}
+use Rattle.order_histories.proofs.Moves.{AreNumbered, Keeps, Moves, answers_last, unanswered}
+use Rattle.order_histories.proofs.Executed.{AreNumbered-more, unanswered-same}
+
+-- an order of which nothing is open or asked any more keeps what it has to
+pub over-keeps : (reports limit more : ℕ) (o p : OrderRecord) → p.stage ≡ Closed → p.replace ≡ None → p.cancel ≡ None → p.trades ≡ o.trades → (p.is_refused ≡ true → o.trades ≡ []) → p.unfilled ≡ 0 → p.executed ≤ limit + more → AreNumbered reports o.trades
+    → Keeps (reports + 2) (limit + more) p
+over-keeps reports limit more o p over no_r no_c same rejected none small numbered = record {
+  sound = record {
+    total = λ e. absurd (let x : is_closed Closed ≡ false = ap is_closed (sym over) ∙ e in cc);
+    refused = λ e. over;
+    replaces = λ q e. absurd (let x : ◌≡◌ {A = Option Entry} None (Some q) = sym no_r ∙ e in cc);
+    cancels = λ c e. absurd (let x : ◌≡◌ {A = Option Cancelling} None (Some c) = sym no_c ∙ e in cc);
+  };
+  apart = record {
+    requests = λ q c is_q is_c. absurd (let x : ◌≡◌ {A = Option Entry} None (Some q) = sym no_r ∙ is_q in cc);
+    current = λ q is_q. absurd (let x : ◌≡◌ {A = Option Entry} None (Some q) = sym no_r ∙ is_q in cc);
+  };
+  first = λ e. absurd (let x : Closed ≡ Waiting = sym over ∙ e in cc);
+  over_replace = λ e. no_r;
+  over_cancel = λ e. no_c;
+  left = λ c e. absurd (let x : ◌≡◌ {A = Option Cancelling} None (Some c) = sym no_c ∙ e in cc);
+  idle = λ e. absurd (let x : Closed ≡ Waiting = sym over ∙ e in cc);
+  rejected = λ e. same ∙ rejected e;
+  none_waiting = λ e. none;
+  none_closed = λ e. none;
+  small = rw over (omega (arith, small));
+  numbered = rw same (AreNumbered-more reports (reports + 2) o.trades (omega arith) numbered);
+}
+
+module _ (terms : List Terms) (old_id : List ℕ → List ℕ) (sent : List Message) (reports limit more : ℕ) (m : List ℕ) (o : OrderRecord)
+    (type : type_of m ≡ 67) (live : is_live (lived o) (heard.token m) ≡ true) (works : o.stage ≡ Working)
+    (some : 1 ≤ heard.decrement m) (few : heard.decrement m ≤ o.unfilled) (limit_small : limit < 10 ^ 63)
+    (keeps : Keeps reports limit o) (named : AreNamed old_id o) (reads : Reads sent o) where
+  in_book : leaves o ≡ o.unfilled
+  in_book = rw works refl
+
+  small : o.executed + o.unfilled < 10 ^ 64
+  small = omega (arith, keeps.small, in_book, limit_small)
+
+  answers_none : (said : Said) → answers m said ≡ false
+  answers_none (SaysNew token) = rw type refl
+  answers_none (SaysReplace from to) = rw type refl
+  answers_none (SaysCancel token) = rw type refl
+
+  same_price : (if opens (lived o) m then heard.price m else o.price) ≡ o.price
+  same_price = rw type refl
+
+  abbrev reason : List ℕ
+  reason = heard.cancel_reason m ∷ []
+
+  abbrev restated : Occasion
+  restated = record (plain (codes "D")) { restated = Some (codes "5"); why = Some reason }
+
+  module _ (rest : (o.unfilled - heard.decrement m == 0) ≡ false) where
+    abbrev p : OrderRecord
+    p = reduced (heard.decrement m) o
+
+    part-lives : after (lived o) m ≡ lived p
+    part-lives = rw (type, live, rest) refl
+
+    part-bodies : told_by_type reports m (lived o) (answers_last m (asked_as terms o)) (map fill_of o.trades) (shown_as o) ≡ report (reports + 1) restated (shown_as p) ∷ []
+    part-bodies = rw (part-lives, type, works) refl
+
+    part-ids : has_due_ids (report (reports + 1) restated (shown_as p)) (chain o.new.order sent) (chained p) old_id ≡ true
+    part-ids = let id = eq-same o.id in rw id refl
+
+    pub part-moves : Moves terms old_id sent reports limit more m o p
+    part-moves = record {
+      same = refl;
+      lives = part-lives;
+      leads = subst (λ (bodies : List Message). Leads o.new old_id sent bodies p) (sym part-bodies)
+          (leads-one old_id sent _ p (report-tells (reports + 1) restated p old_id sent (reduced-sound (heard.decrement m) o works keeps.sound)
+          (restated-Reads (reports + 1) (heard.decrement m) (codes "5") reason o sent works few (omega (arith, small)) small reads) part-ids));
+      asked = λ e. unanswered-same terms m o answers_none;
+      price = same_price;
+      keeps = record {
+        sound = reduced-sound (heard.decrement m) o works keeps.sound;
+        apart = record { requests = keeps.apart.requests; current = keeps.apart.current };
+        first = keeps.first;
+        over_replace = keeps.over_replace;
+        over_cancel = keeps.over_cancel;
+        left = keeps.left;
+        idle = keeps.idle;
+        rejected = keeps.rejected;
+        none_waiting = λ e. absurd (let x : Working ≡ Waiting = sym works ∙ e in cc);
+        none_closed = λ e. absurd (let x : Working ≡ Closed = sym works ∙ e in cc);
+        small = bound;
+        numbered = AreNumbered-more reports (reports + 2) o.trades (omega arith) keeps.numbered;
+      };
+    }
+      where
+        bound : p.executed + leaves p ≤ limit + more
+        bound = rw works (omega (arith, keeps.small, in_book, few))
+
+  module _ (none : (o.unfilled - heard.decrement m == 0) ≡ true) where
+    nothing_left : o.unfilled - heard.decrement m ≡ 0
+    nothing_left = eqb-true (o.unfilled - heard.decrement m) 0 none
+
+    all_of_it : heard.decrement m ≡ o.unfilled
+    all_of_it = omega (arith, nothing_left, few)
+
+    all-lives : after (lived o) m ≡ lived (unasked (gone o))
+    all-lives = rw (type, live, none, nothing_left, all_of_it) refl
+
+    all-bodies : told_by_type reports m (lived o) (answers_last m (asked_as terms o)) (map fill_of o.trades) (shown_as o) ≡ cancelled (reports + 1) (Some reason) (told.closed (shown_as o))
+    all-bodies = rw (all-lives, type) refl
+
+    pub all-moves : Moves terms old_id sent reports limit more m o (unasked (gone o))
+    all-moves = record {
+      same = refl;
+      lives = all-lives;
+      leads = subst (λ (bodies : List Message). Leads o.new old_id sent bodies (unasked (gone o))) (sym all-bodies)
+          (cancelled-leads old_id (reports + 1) (Some reason) o works sent o.replace o.cancel keeps.sound keeps.apart named reads);
+      asked = λ e. absurd (cc);
+      price = same_price;
+      keeps = over-keeps reports limit more o (unasked (gone o)) refl refl refl refl keeps.rejected refl (omega (arith, keeps.small)) keeps.numbered;
+    }

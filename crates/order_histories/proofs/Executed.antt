@@ -1,0 +1,147 @@
+-- Executed: a trade, which may leave nothing open.
+use Rattle.std.proofs.Common.{◌≡◌, ◌≢◌, ℕ, suc, zero, ◌+◌, ◌-◌, ◌*◌, ◌<◌, ◌≤◌, ◌^◌, Bool, true, false, List, [], ◌∷◌, ◌++◌, map, refl, sym, ap, ◌∙◌, subst, arith, decimal, codes, bytes_eq, Option, Some, None, eqb-true}
+use Rattle.std.specs.Prelude.{◌&&◌, ◌||◌, ◌==◌, not, if◌then◌else◌, unwrap_or, is_some, filter}
+use Rattle.std.specs.List.{find, list_any}
+use Rattle.ouch_codec.specs.Parts.{type_of}
+use Rattle.ouch_codec.specs.FromMarket as heard
+use Rattle.order_law.specs.declared.stage.Stage.{Stage}
+use Rattle.order_law.specs.declared.stage.Stage.TheVariants.{Waiting, Working, Closed}
+use Rattle.order_law.specs.declared.trade.Trade.{Trade}
+use Rattle.order_law.specs.Messages.{Message, text}
+use Rattle.order_law.specs.Life.{after, is_closed, is_live, is_waiting}
+use Rattle.order_law.specs.Chain.{chain}
+use Rattle.order_law.specs.History.{Asked, Entry, Said, SaysCancel, Terms, answers, is_cancel_said, token_of}
+use Rattle.order_law.specs.Told.{Shown, opens, report, told_by_type, too_late}
+use Rattle.order_law.specs.Headline.{has_due_ids}
+use Rattle.order_histories.specs.OrderRecord.{Cancelling, OrderRecord, ToldTrade, asked_as, chained, fill_of, kept, leaves, lived, shown_as, unasked}
+use Rattle.order_histories.proofs.Texts.{eq-same}
+use Rattle.order_histories.proofs.Due.{IsSound, Reads}
+use Rattle.order_histories.proofs.Reports.{Tells, filled, filled-Reads, report-tells, trade_occasion, traded, traded-Reads}
+use Rattle.order_histories.proofs.Sound.{filled-sound, traded-sound}
+use Rattle.order_histories.proofs.Leads.{AreApart, AreNamed, Leads, at, leads-more, leads-one, too_late-leads}
+use Rattle.order_histories.proofs.Moves.{AreNumbered, Keeps, Moves, answers_last, filter-all, unanswered, unanswered-cancels}
+
+-- under rising numbers
+pub AreNumbered-more : (n k : ℕ) (ts : List ToldTrade) → n ≤ k → AreNumbered n ts → AreNumbered k ts
+AreNumbered-more n k [] more a = tt
+AreNumbered-more n k (t ∷ ts) more a = (a.0, omega (arith, a.1), a.2)
+
+-- a message that answers nothing leaves all that is asked
+pub unanswered-same : (terms : List Terms) (m : List ℕ) (o : OrderRecord) → ((said : Said) → answers m said ≡ false) → unanswered m (asked_as terms o) ≡ asked_as terms o
+unanswered-same terms m o none = same (asked_as terms o)
+  where
+    same : (asked : List Asked) → unanswered m asked ≡ asked
+    same [] = refl
+    same (a ∷ asked) = rw (none a.said) (ap (λ xs. a ∷ xs) (same asked))
+
+module _ (terms : List Terms) (old_id : List ℕ → List ℕ) (sent : List Message) (reports limit more : ℕ) (m : List ℕ) (o : OrderRecord)
+    (type : type_of m ≡ 69) (live : is_live (lived o) (heard.token m) ≡ true) (works : o.stage ≡ Working)
+    (some : 1 ≤ heard.executed_shares m) (few : heard.executed_shares m ≤ o.unfilled) (price_small : heard.executed_price m < 2 ^ 128) (limit_small : limit < 10 ^ 63)
+    (keeps : Keeps reports limit o) (named : AreNamed old_id o) (reads : Reads sent o) where
+  abbrev trade : Trade
+  trade = record { match_number = heard.executed_match m; shares = heard.executed_shares m; price = heard.executed_price m; is_broken = false }
+
+  in_book : leaves o ≡ o.unfilled
+  in_book = rw works refl
+
+  small : o.executed + o.unfilled < 10 ^ 64
+  small = omega (arith, keeps.small, in_book, limit_small)
+
+  answers_none : (said : Said) → answers m said ≡ false
+  answers_none (Rattle.order_law.specs.History.SaysNew token) = rw type refl
+  answers_none (Rattle.order_law.specs.History.SaysReplace from to) = rw type refl
+  answers_none (SaysCancel token) = rw type refl
+
+  same_price : (if opens (lived o) m then heard.price m else o.price) ≡ o.price
+  same_price = rw type refl
+
+  live_order : o.is_refused ≡ false
+  live_order = by_flag o.is_refused refl
+    where
+      by_flag : (b : Bool) → o.is_refused ≡ b → o.is_refused ≡ false
+      by_flag true e = absurd (let x : Working ≡ Closed = sym works ∙ keeps.sound.refused e in cc)
+      by_flag false e = e
+
+  trade-ids : (n : ℕ) (p : OrderRecord) → p.id ≡ o.id → has_due_ids (report n (trade_occasion trade) (shown_as p)) (chain o.new.order sent) (chained p) old_id ≡ true
+  trade-ids n p same = let id = eq-same p.id in rw id refl
+
+  module _ (rest : (o.unfilled - heard.executed_shares m == 0) ≡ false) where
+    abbrev p : OrderRecord
+    p = traded (reports + 1) trade o
+
+    part-lives : after (lived o) m ≡ lived p
+    part-lives = rw (type, live, rest) refl
+
+    part-bodies : told_by_type reports m (lived o) (answers_last m (asked_as terms o)) (map fill_of o.trades) (shown_as o) ≡ report (reports + 1) (trade_occasion trade) (shown_as p) ∷ []
+    part-bodies = rw (part-lives, type, works) refl
+
+    pub part-moves : Moves terms old_id sent reports limit more m o p
+    part-moves = record {
+      same = refl;
+      lives = part-lives;
+      leads = subst (λ (bodies : List Message). Leads o.new old_id sent bodies p) (sym part-bodies)
+          (leads-one old_id sent _ p (report-tells (reports + 1) (trade_occasion trade) p old_id sent (traded-sound (reports + 1) trade o works keeps.sound)
+          (traded-Reads (reports + 1) trade o sent works few rest price_small small reads) (trade-ids (reports + 1) p refl)));
+      asked = λ e. unanswered-same terms m o answers_none;
+      price = same_price;
+      keeps = record {
+        sound = traded-sound (reports + 1) trade o works keeps.sound;
+        apart = record { requests = keeps.apart.requests; current = keeps.apart.current };
+        first = λ e. absurd (let x : Working ≡ Waiting = sym works ∙ e in cc);
+        over_replace = λ e. absurd (let x : Working ≡ Closed = sym works ∙ e in cc);
+        over_cancel = λ e. absurd (let x : Working ≡ Closed = sym works ∙ e in cc);
+        left = keeps.left;
+        idle = λ e. absurd (let x : Working ≡ Waiting = sym works ∙ e in cc);
+        none_waiting = λ e. absurd (let x : Working ≡ Waiting = sym works ∙ e in cc);
+        none_closed = λ e. absurd (let x : Working ≡ Closed = sym works ∙ e in cc);
+        rejected = λ e. absurd (let x : true ≡ false = sym e ∙ live_order in cc);
+        small = bound;
+        numbered = (omega arith, omega arith, AreNumbered-more reports (reports + 1 - 1) o.trades (omega arith) keeps.numbered);
+      };
+    }
+      where
+        bound : p.executed + leaves p ≤ limit + more
+        bound = rw works (omega (arith, keeps.small, in_book, few))
+
+  module _ (none : (o.unfilled - heard.executed_shares m == 0) ≡ true) where
+    abbrev f : OrderRecord
+    f = filled (reports + 1) trade o
+
+    all-lives : after (lived o) m ≡ lived (unasked f)
+    all-lives = rw (type, live, none) refl
+
+    nothing_left : o.unfilled - heard.executed_shares m ≡ 0
+    nothing_left = eqb-true (o.unfilled - heard.executed_shares m) 0 none
+
+    all-bodies : told_by_type reports m (lived o) (answers_last m (asked_as terms o)) (map fill_of o.trades) (shown_as o) ≡ report (reports + 1) (trade_occasion trade) (shown_as f) ∷ too_late (shown_as f)
+    all-bodies = rw (all-lives, type, nothing_left) refl
+
+    first-tells : Tells old_id sent (report (reports + 1) (trade_occasion trade) (shown_as f)) f
+    first-tells = report-tells (reports + 1) (trade_occasion trade) f old_id sent (filled-sound (reports + 1) trade o keeps.sound)
+        (filled-Reads (reports + 1) trade o sent works few price_small small reads) (trade-ids (reports + 1) f refl)
+
+    pub all-moves : Moves terms old_id sent reports limit more m o (unasked f)
+    all-moves = record {
+      same = refl;
+      lives = all-lives;
+      leads = subst (λ (bodies : List Message). Leads o.new old_id sent bodies (unasked f)) (sym all-bodies)
+          (leads-more old_id sent _ _ f (unasked f) first-tells
+          (too_late-leads old_id f o.replace o.cancel _ (filled-sound (reports + 1) trade o keeps.sound)
+          (record { requests = keeps.apart.requests; current = keeps.apart.current }) (record { replace = named.replace; cancel = named.cancel }) first-tells.reads));
+      asked = λ e. absurd (cc);
+      price = same_price;
+      keeps = record {
+        sound = record { total = λ e. absurd (cc); refused = λ e. refl; replaces = λ q e. absurd (cc); cancels = λ c e. absurd (cc) };
+        apart = record { requests = λ q c is_q is_c. absurd (cc); current = λ q is_q. absurd (cc) };
+        first = λ e. absurd (cc);
+        over_replace = λ e. refl;
+        over_cancel = λ e. refl;
+        left = λ c e. absurd (cc);
+        idle = λ e. absurd (cc);
+        none_waiting = λ e. absurd (cc);
+        none_closed = λ e. nothing_left;
+        rejected = λ e. absurd (let x : true ≡ false = sym e ∙ live_order in cc);
+        small = omega (arith, keeps.small, in_book, few);
+        numbered = (omega arith, omega arith, AreNumbered-more reports (reports + 1 - 1) o.trades (omega arith) keeps.numbered);
+      };
+    }

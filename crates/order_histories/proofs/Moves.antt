@@ -1,0 +1,70 @@
+-- What a message of the market makes of an order: life, bodies, what is outstanding, price, each as the lists have it.
+use Rattle.std.proofs.Common.{◌≡◌, ◌≢◌, ℕ, suc, zero, ◌+◌, ◌-◌, ◌*◌, ◌<◌, ◌≤◌, ◌^◌, Bool, true, false, List, [], ◌∷◌, ◌++◌, map, refl, sym, ap, ◌∙◌, subst, arith, decimal, codes, bytes_eq, Option, Some, None}
+use Rattle.std.specs.Prelude.{◌&&◌, ◌||◌, ◌==◌, not, if◌then◌else◌, unwrap_or, is_some, filter}
+use Rattle.std.specs.List.{find, list_any}
+use Rattle.ouch_codec.specs.Parts.{type_of}
+use Rattle.ouch_codec.specs.FromMarket as heard
+use Rattle.order_law.specs.declared.stage.Stage.{Stage}
+use Rattle.order_law.specs.declared.stage.Stage.TheVariants.{Waiting, Working, Closed}
+use Rattle.order_law.specs.declared.trade.Trade.{Trade}
+use Rattle.order_law.specs.Messages.{Message, text}
+use Rattle.order_law.specs.Life.{after, is_closed, is_live, is_waiting}
+use Rattle.order_law.specs.Reading.{Fill}
+use Rattle.order_law.specs.History.{Asked, Entry, Said, SaysCancel, Terms, answers, is_cancel_said, token_of}
+use Rattle.order_law.specs.Told.{opens, told_by_type}
+use Rattle.order_histories.specs.OrderRecord.{Cancelling, OrderRecord, ToldTrade, asked_as, cancel_of, fill_of, kept, leaves, lived, shown_as, still_cancelling}
+use Rattle.order_histories.proofs.Due.{IsSound}
+use Rattle.order_histories.proofs.Leads.{AreApart, AreNamed, Leads}
+
+-- trades were told under rising numbers, the newest first
+abbrev pub AreNumbered : ℕ → List ToldTrade → Type 0
+AreNumbered reports [] = Unit {0}
+AreNumbered reports (t ∷ ts) = (1 ≤ t.number) × (t.number ≤ reports) × AreNumbered (t.number - 1) ts
+
+-- what each order keeps from turn to turn: so many reports were issued, and no order comes to more shares than the limit
+pub record Keeps (reports limit : ℕ) (o : OrderRecord) : Type 0 where
+  pub sound : IsSound o
+  pub apart : AreApart o
+  pub first : o.stage ≡ Waiting → o.tokens ≡ token_of o.new ∷ []
+  pub over_replace : o.stage ≡ Closed → o.replace ≡ None
+  pub over_cancel : o.stage ≡ Closed → o.cancel ≡ None
+  pub left : (c : Cancelling) → o.cancel ≡ Some c → c.tokens ≢ []
+  pub idle : o.stage ≡ Waiting → o.trades ≡ []
+  pub rejected : o.is_refused ≡ true → o.trades ≡ []
+  pub none_waiting : o.stage ≡ Waiting → o.unfilled ≡ 0
+  pub none_closed : o.stage ≡ Closed → o.unfilled ≡ 0
+  pub small : o.executed + leaves o ≤ limit
+  pub numbered : AreNumbered reports o.trades
+
+-- a message answers the last Cancel Order of what is asked for an order
+abbrev pub answers_last : List ℕ → List Asked → Bool
+answers_last m asked =
+    list_any (λ (a : Asked). is_cancel_said a.said) asked
+    && not (list_any (λ (a : Asked). is_cancel_said a.said && not (answers m a.said)) asked)
+
+abbrev pub unanswered : List ℕ → List Asked → List Asked
+unanswered m asked = filter (λ (a : Asked). not (answers m a.said)) asked
+
+-- a message makes this of an order
+pub record Moves (terms : List Terms) (old_id : List ℕ → List ℕ) (sent : List Message) (reports limit more : ℕ) (m : List ℕ) (o p : OrderRecord) : Type 0 where
+  pub same : p.new ≡ o.new
+  pub lives : after (lived o) m ≡ lived p
+  pub leads : Leads o.new old_id sent (told_by_type reports m (lived o) (answers_last m (asked_as terms o)) (map fill_of o.trades) (shown_as o)) p
+  pub asked : is_closed p.stage ≡ false → unanswered m (asked_as terms o) ≡ asked_as terms p
+  pub price : (if opens (lived o) m then heard.price m else o.price) ≡ p.price
+  pub keeps : Keeps (reports + 2) (limit + more) p
+
+-- ---- what is asked
+
+pub filter-all : {A : Type 0} (xs : List A) → filter (λ (x : A). true) xs ≡ xs
+filter-all [] = refl
+filter-all (x ∷ xs) = ap (λ ys. x ∷ ys) (filter-all xs)
+
+pub unanswered-cancels : (m : List ℕ) (new q : Entry) (tokens : List (List ℕ)) → unanswered m (map (λ token. cancel_of new q token) tokens) ≡ map (λ token. cancel_of new q token) (kept m tokens)
+unanswered-cancels m new q [] = refl
+unanswered-cancels m new q (token ∷ tokens) = by_test (answers m (SaysCancel token)) (unanswered-cancels m new q tokens)
+  where
+    by_test : (b : Bool) → unanswered m (map (λ token. cancel_of new q token) tokens) ≡ map (λ token. cancel_of new q token) (kept m tokens)
+        → (if not b then cancel_of new q token ∷ unanswered m (map (λ token. cancel_of new q token) tokens) else unanswered m (map (λ token. cancel_of new q token) tokens)) ≡ map (λ token. cancel_of new q token) (if not b then token ∷ kept m tokens else kept m tokens)
+    by_test true e = e
+    by_test false e = ap (λ xs. cancel_of new q token ∷ xs) e

@@ -1,0 +1,120 @@
+-- Rejected: of the new order, or of a replace; Cancel Reject; and what changes no order.
+use Rattle.std.proofs.Common.{◌≡◌, ◌≢◌, ℕ, suc, zero, ◌+◌, ◌-◌, ◌*◌, ◌<◌, ◌≤◌, ◌^◌, Bool, true, false, List, [], ◌∷◌, ◌++◌, map, refl, sym, ap, ◌∙◌, subst, arith, decimal, codes, bytes_eq, Option, Some, None, eqb-true}
+use Rattle.std.specs.Prelude.{◌&&◌, ◌||◌, ◌==◌, not, if◌then◌else◌, unwrap_or, is_some, filter}
+use Rattle.std.specs.List.{find, list_any}
+use Rattle.ouch_codec.specs.Parts.{type_of}
+use Rattle.ouch_codec.specs.FromMarket as heard
+use Rattle.order_law.specs.declared.stage.Stage.{Stage}
+use Rattle.order_law.specs.declared.stage.Stage.TheVariants.{Waiting, Working, Closed}
+use Rattle.order_law.specs.Messages.{Message, text}
+use Rattle.order_law.specs.Life.{after, first_token, is_closed, is_dead_state, is_live, is_waiting}
+use Rattle.order_law.specs.Chain.{chain}
+use Rattle.order_law.specs.Verdicts.{is_replace}
+use Rattle.order_law.specs.History.{Asked, Entry, Said, SaysCancel, SaysNew, SaysReplace, Terms, answers, token_of}
+use Rattle.order_law.specs.Told.{Occasion, Shown, answered_no, cancelled, cancel_rejected, on_request, opens, plain, report, told_by_type, too_late}
+use Rattle.order_law.specs.Told as told
+use Rattle.order_law.specs.Headline.{has_due_ids}
+use Rattle.order_histories.specs.OrderRecord.{Cancelling, OrderRecord, asked_as, cancel_asked, chained, fill_of, gone, kept, leaves, live_token, lived, new_asked, replace_asked, shown_as, still_cancelling, unasked, with_tokens}
+use Rattle.order_histories.proofs.Texts.{eq-is, eq-same, eq-true}
+use Rattle.order_histories.proofs.Due.{IsSound, Reads}
+use Rattle.order_histories.proofs.Leads.{AreApart, AreApart-rest, AreNamed, AreNamed-rest, Leads, at, cancelled-leads, leads-more, leads-none, leads-one, replace-answered, too_late-leads, turned}
+use Rattle.order_histories.proofs.Moves.{AreNumbered, Keeps, Moves, answers_last, filter-all, unanswered}
+use Rattle.order_histories.proofs.Asked.{asked-parts, cancel-goes_on, last-is, last_of, still-left, still-request}
+use Rattle.order_histories.proofs.Executed.{AreNumbered-more, unanswered-same}
+use Rattle.order_histories.proofs.Canceled.{over-keeps}
+use Rattle.order_histories.proofs.Reports.{Tells, refused, refused-Reads, refused_occasion, report-tells}
+use Rattle.order_histories.proofs.Rejects.{not_used-2}
+use Rattle.order_histories.proofs.Sound.{refused-sound, without_replace-sound}
+
+-- ---- of the new order
+
+module _ (terms : List Terms) (old_id : List ℕ → List ℕ) (sent : List Message) (reports limit more : ℕ) (m : List ℕ) (o : OrderRecord)
+    (type : type_of m ≡ 74) (live : is_live (lived o) (heard.token m) ≡ true) (waits : o.stage ≡ Waiting)
+    (keeps : Keeps reports limit o) (named : AreNamed old_id o) (reads : Reads sent o) where
+  abbrev reason : List ℕ
+  reason = heard.reject_reason m ∷ []
+
+  abbrev f : OrderRecord
+  f = refused o
+
+  refused-lives : after (lived o) m ≡ lived (unasked f)
+  refused-lives = rw (type, live, waits) refl
+
+  refused-bodies : told_by_type reports m (lived o) (answers_last m (asked_as terms o)) (map fill_of o.trades) (shown_as o) ≡ report (reports + 1) (refused_occasion reason) (shown_as f) ∷ too_late (shown_as f)
+  refused-bodies = rw (type, live, waits) refl
+
+  refused-ids : has_due_ids (report (reports + 1) (refused_occasion reason) (shown_as f)) (chain o.new.order sent) (chained f) old_id ≡ true
+  refused-ids = let id = eq-same o.id in rw id refl
+
+  refused-tells : Tells old_id sent (report (reports + 1) (refused_occasion reason) (shown_as f)) f
+  refused-tells = report-tells (reports + 1) (refused_occasion reason) f old_id sent (refused-sound o keeps.sound) (refused-Reads (reports + 1) reason o sent waits reads) refused-ids
+
+  pub refused-moves : Moves terms old_id sent reports limit more m o (unasked f)
+  refused-moves = record {
+    same = refl;
+    lives = refused-lives;
+    leads = subst (λ (bodies : List Message). Leads o.new old_id sent bodies (unasked f)) (sym refused-bodies)
+        (leads-more old_id sent _ _ f (unasked f) refused-tells
+        (too_late-leads old_id f o.replace o.cancel _ (refused-sound o keeps.sound)
+        (record { requests = keeps.apart.requests; current = keeps.apart.current }) (record { replace = named.replace; cancel = named.cancel }) refused-tells.reads));
+    asked = λ e. absurd (cc);
+    price = rw type refl;
+    keeps = over-keeps reports limit more o (unasked f) refl refl refl refl (λ e. keeps.idle waits) (keeps.none_waiting waits) (omega (arith, keeps.small)) keeps.numbered;
+  }
+
+-- ---- what changes nothing but the requests
+
+-- an order that keeps what it has to goes on without a replace, and with what is left of a cancel
+pub asked-keeps : (reports limit more : ℕ) (m : List ℕ) (o : OrderRecord) (r : Option Entry) → ((q : Entry) → r ≡ Some q → o.replace ≡ Some q) → (o.stage ≢ Closed) → Keeps reports limit o → Keeps (reports + 2) (limit + more) (at o r (still_cancelling m o.cancel))
+asked-keeps reports limit more m o r same is_live k = record {
+  sound = record {
+    total = k.sound.total;
+    refused = k.sound.refused;
+    replaces = λ q e. k.sound.replaces q (same q e);
+    cancels = λ c e. (let was = still-request m o.cancel c e in ap (λ (x : Entry). is_replace x.message) was.2 ∙ k.sound.cancels was.0 was.1);
+  };
+  apart = record {
+    requests = λ q c is_q is_c. (let was = still-request m o.cancel c is_c in ap (λ (x : Entry). bytes_eq (text 11 x.message) (text 11 q.message)) was.2 ∙ k.apart.requests q was.0 (same q is_q) was.1);
+    current = λ q is_q. k.apart.current q (same q is_q);
+  };
+  first = k.first;
+  over_replace = λ e. absurd (is_live e);
+  over_cancel = λ e. absurd (is_live e);
+  left = λ c e. still-left m o.cancel c e;
+  idle = k.idle;
+  rejected = k.rejected;
+  none_waiting = k.none_waiting;
+  none_closed = k.none_closed;
+  small = omega (arith, k.small);
+  numbered = AreNumbered-more reports (reports + 2) o.trades (omega arith) k.numbered;
+}
+
+-- ---- Cancel Reject
+
+module _ (terms : List Terms) (old_id : List ℕ → List ℕ) (sent : List Message) (reports limit more : ℕ) (m : List ℕ) (o : OrderRecord)
+    (type : type_of m ≡ 73) (works : o.stage ≡ Working)
+    (keeps : Keeps reports limit o) (named : AreNamed old_id o) (reads : Reads sent o) where
+  abbrev pub cancel_reject_leaves : OrderRecord
+  cancel_reject_leaves = at o o.replace (still_cancelling m o.cancel)
+
+  cancel_reject-bodies : told_by_type reports m (lived o) (answers_last m (asked_as terms o)) (map fill_of o.trades) (shown_as o) ≡ cancel_rejected (last_of m o.cancel) (shown_as o)
+  cancel_reject-bodies = rw (last-is terms m o keeps.left, type) refl
+
+  cancel_reject-asked : unanswered m (asked_as terms o) ≡ asked_as terms cancel_reject_leaves
+  cancel_reject-asked = asked-parts terms m o ∙ rw works (by_replace o.replace)
+    where
+      by_replace : (r : Option Entry) → unanswered m (replace_asked o.new (live_token o) r) ++ cancel_asked o.new (still_cancelling m o.cancel) ≡ replace_asked o.new (live_token o) r ++ cancel_asked o.new (still_cancelling m o.cancel)
+      by_replace None = refl
+      by_replace (Some q) = rw type refl
+
+  pub cancel_reject-moves : Moves terms old_id sent reports limit more m o cancel_reject_leaves
+  cancel_reject-moves = record {
+    same = refl;
+    lives = rw type refl;
+    leads = subst (λ (bodies : List Message). Leads o.new old_id sent bodies cancel_reject_leaves) (sym cancel_reject-bodies)
+        (cancel-goes_on old_id m o o.replace o.cancel sent keeps.sound keeps.apart named reads);
+    asked = λ e. cancel_reject-asked;
+    price = rw type refl;
+    keeps = asked-keeps reports limit more m o o.replace (λ q e. e) (λ e. (let x : Working ≡ Closed = sym works ∙ e in cc)) keeps;
+  }
+

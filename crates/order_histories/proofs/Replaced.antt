@@ -1,0 +1,273 @@
+-- Replaced, and Rejected of a replace: the pending replace is answered.
+use Rattle.std.proofs.Common.{◌≡◌, ◌≢◌, ℕ, suc, zero, ◌+◌, ◌-◌, ◌*◌, ◌<◌, ◌≤◌, ◌^◌, Bool, true, false, List, [], ◌∷◌, ◌++◌, map, refl, sym, ap, ◌∙◌, subst, arith, decimal, codes, bytes_eq, Option, Some, None, eqb-true}
+use Rattle.std.specs.Prelude.{◌&&◌, ◌||◌, ◌==◌, not, if◌then◌else◌, unwrap_or, is_some, filter}
+use Rattle.std.specs.List.{find, list_any}
+use Rattle.ouch_codec.specs.Parts.{type_of}
+use Rattle.ouch_codec.specs.FromMarket as heard
+use Rattle.order_law.specs.declared.stage.Stage.{Stage}
+use Rattle.order_law.specs.declared.stage.Stage.TheVariants.{Waiting, Working, Closed}
+use Rattle.order_law.specs.Messages.{Message, text}
+use Rattle.order_law.specs.Life.{Life, after, first_token, is_closed, is_dead_state, is_live, is_waiting}
+use Rattle.order_law.specs.Reading.{Fill}
+use Rattle.order_law.specs.Chain.{chain}
+use Rattle.order_law.specs.Verdicts.{is_replace}
+use Rattle.order_law.specs.History.{Asked, Entry, Said, SaysCancel, SaysNew, SaysReplace, Terms, answers, token_of}
+use Rattle.order_law.specs.Told.{Occasion, Shown, answered_no, cancelled, cancel_rejected, on_request, opens, plain, report, told_by_type, too_late}
+use Rattle.order_law.specs.Told as told
+use Rattle.order_law.specs.Headline.{has_due_ids}
+use Rattle.order_histories.specs.OrderRecord.{Cancelling, OrderRecord, asked_as, cancel_asked, cancel_entry, chained, fill_of, gone, kept, leaves, live_token, lived, new_asked, replace_asked, shown_as, still_cancelling, unasked, with_tokens}
+use Rattle.order_histories.proofs.Texts.{eq-is, eq-same, eq-true}
+use Rattle.order_histories.proofs.Due.{IsSound, Reads}
+use Rattle.order_histories.proofs.Leads.{AreApart, AreApart-rest, AreNamed, AreNamed-rest, Leads, at, cancelled-leads, leads-more, leads-none, leads-one, replace-answered, too_late-leads, turned}
+use Rattle.order_histories.proofs.Moves.{AreNumbered, Keeps, Moves, answers_last, filter-all, unanswered}
+use Rattle.order_histories.proofs.Asked.{asked-parts, cancel-goes_on, last-is, last_of, still-left, still-request}
+use Rattle.order_histories.proofs.Executed.{AreNumbered-more, unanswered-same}
+use Rattle.order_histories.proofs.Canceled.{over-keeps}
+use Rattle.order_histories.proofs.Reports.{Tells, replaced, replaced-Reads, report-tells}
+use Rattle.order_histories.proofs.Rejects.{not_used-2}
+use Rattle.order_histories.proofs.Sound.{replaced-sound, without_replace-sound}
+use Rattle.order_histories.proofs.Rejected.{asked-keeps}
+
+-- an order whose replace is pending is that order
+with-replace : (o : OrderRecord) (q : Entry) → o.replace ≡ Some q → o ≡ at o (Some q) o.cancel
+with-replace o q is_q = ap (λ (r : Option Entry). at o r o.cancel) is_q
+
+-- ---- the row, step by step
+
+not_replaced-row : (reports : ℕ) (m : List ℕ) (l : Life) (last : Bool) (fills : List Fill) (s : Shown) → type_of m ≡ 74 → (is_waiting l.stage && is_live l (heard.token m)) ≡ false
+    → told_by_type reports m l last fills s ≡ told.told_not_replaced m last s
+not_replaced-row reports m l last fills s type off = rw (type, off) refl
+
+not_replaced-told : (m : List ℕ) (last : Bool) (s t : Shown) (q : Entry) → filter (told.has_token (heard.token m)) s.pending ≡ q ∷ [] → told.without_replace (heard.token m) s ≡ t
+    → told.told_not_replaced m last s ≡ answered_no t q 2 (heard.reject_reason m ∷ []) ∷ cancel_rejected last t
+not_replaced-told m last s t q one rest =
+    ap (λ (qs : List Entry). map (λ (x : Entry). answered_no (told.without_replace (heard.token m) s) x 2 (heard.reject_reason m ∷ [])) qs ++ cancel_rejected last (told.without_replace (heard.token m) s)) one
+    ∙ ap (λ (x : Shown). answered_no x q 2 (heard.reject_reason m ∷ []) ∷ cancel_rejected last x) rest
+
+replaced-row : (reports : ℕ) (m : List ℕ) (l : Life) (last : Bool) (fills : List Fill) (s : Shown) → type_of m ≡ 85 → told_by_type reports m l last fills s ≡ told.told_replaced reports m last s
+replaced-row reports m l last fills s type = rw type refl
+
+replaced-told : (reports : ℕ) (m : List ℕ) (last : Bool) (s t : Shown) (q : Entry) → find (told.has_token (heard.token m)) s.pending ≡ Some q → told.renamed m q s ≡ t
+    → told.told_replaced reports m last s ≡ report (reports + 1) (on_request (codes "5") q) t ∷ told.where_dead (reports + 2) m t (cancel_rejected last t)
+replaced-told reports m last s t q found is_t =
+    let first : told.told_replaced reports m last s ≡ report (reports + 1) (on_request (codes "5") q) (told.renamed m q s) ∷ told.where_dead (reports + 2) m (told.renamed m q s) (cancel_rejected last (told.renamed m q s)) = rw found refl in
+    first ∙ ap (λ (x : Shown). report (reports + 1) (on_request (codes "5") q) x ∷ told.where_dead (reports + 2) m x (cancel_rejected last x)) is_t
+
+-- the pending replace of a token, beside a pending cancel
+module _ (m : List ℕ) (q : Entry) (kind : is_replace q.message ≡ true) (token : heard.token m ≡ token_of q) where
+  own-token : told.has_token (heard.token m) q ≡ true
+  own-token = let own = eq-same (token_of q) in rw (kind, token, own) refl
+
+  other-token : (d : Cancelling) → is_replace d.request.message ≡ false → told.has_token (heard.token m) d.request ≡ false
+  other-token d no_replace = rw no_replace refl
+
+  one-replace : (k : Option Cancelling) → ((d : Cancelling) → k ≡ Some d → is_replace d.request.message ≡ false) → filter (told.has_token (heard.token m)) (q ∷ cancel_entry k) ≡ q ∷ []
+  one-replace None cancels = let own = own-token in rw own refl
+  one-replace (Some d) cancels = let own = own-token in let other = other-token d (cancels d refl) in rw (own, other) refl
+
+  no-replace : (k : Option Cancelling) → ((d : Cancelling) → k ≡ Some d → is_replace d.request.message ≡ false) → filter (λ (x : Entry). not (told.has_token (heard.token m) x)) (q ∷ cancel_entry k) ≡ cancel_entry k
+  no-replace None cancels = let own = own-token in rw own refl
+  no-replace (Some d) cancels = let own = own-token in let other = other-token d (cancels d refl) in rw (own, other) refl
+
+  found-replace : (k : Option Cancelling) → find (told.has_token (heard.token m)) (q ∷ cancel_entry k) ≡ Some q
+  found-replace k = let own = own-token in rw own refl
+
+-- ---- Rejected of a replace
+
+module _ (terms : List Terms) (old_id : List ℕ → List ℕ) (sent : List Message) (reports limit more : ℕ) (m : List ℕ) (b : OrderRecord) (q : Entry) (c : Option Cancelling)
+    (type : type_of m ≡ 74) (still : b.stage ≢ Closed) (not_first : (is_waiting b.stage && is_live (lived b) (heard.token m)) ≡ false)
+    (token : heard.token m ≡ token_of q)
+    (keeps : Keeps reports limit (at b (Some q) c)) (named : AreNamed old_id (at b (Some q) c)) (reads : Reads sent (at b (Some q) c)) where
+  abbrev reason : List ℕ
+  reason = heard.reject_reason m ∷ []
+
+  abbrev o : OrderRecord
+  o = at b (Some q) c
+
+  abbrev p : OrderRecord
+  p = at b None (still_cancelling m c)
+
+  kind : is_replace q.message ≡ true
+  kind = keeps.sound.replaces q refl
+
+  not_replaced-bodies : told_by_type reports m (lived o) (answers_last m (asked_as terms o)) (map fill_of b.trades) (shown_as o) ≡ answered_no (shown_as (at b None c)) q 2 reason ∷ cancel_rejected (last_of m c) (shown_as (at b None c))
+  not_replaced-bodies =
+      not_replaced-row reports m (lived o) (answers_last m (asked_as terms o)) (map fill_of b.trades) (shown_as o) type not_first
+      ∙ ap (λ (last : Bool). told.told_not_replaced m last (shown_as o)) (last-is terms m o keeps.left)
+      ∙ not_replaced-told m (last_of m c) (shown_as o) (shown_as (at b None c)) q (one-replace m q kind token c keeps.sound.cancels)
+      (ap (λ (ps : List Entry). record (shown_as (at b None c)) { pending = ps }) (no-replace m q kind token c keeps.sound.cancels))
+
+  flip-and : (x y : Bool) → (x && y) ≡ false → (y && x) ≡ false
+  flip-and true y e = rw e refl
+  flip-and false true e = refl
+  flip-and false false e = refl
+
+  not_replaced-lives : after (lived o) m ≡ lived p
+  not_replaced-lives = let off = flip-and (is_waiting b.stage) (is_live (lived b) (heard.token m)) not_first in rw (type, off) refl
+
+  not_replaced-asked : unanswered m (asked_as terms o) ≡ asked_as terms p
+  not_replaced-asked = asked-parts terms m o ∙ by_stage b.stage refl
+    where
+      own : bytes_eq (token_of q) (token_of q) ≡ true
+      own = eq-same (token_of q)
+
+      by_stage : (s : Stage) → b.stage ≡ s → unanswered m (new_asked terms b.new b.stage) ++ (unanswered m (replace_asked b.new (live_token o) (Some q)) ++ cancel_asked b.new (still_cancelling m c)) ≡ asked_as terms p
+      by_stage Waiting e =
+          let root : bytes_eq (heard.token m) (token_of b.new) ≡ false = subst (λ (ts : List (List ℕ)). bytes_eq (heard.token m) (first_token ts) ≡ false) (keeps.first e) (rw e at not_first) in
+          rw (e, type, root, token, own) refl
+      by_stage Working e = rw (e, type, token, own) refl
+      by_stage Closed e = absurd (still e)
+
+  not_replaced-leads : Leads b.new old_id sent (told_by_type reports m (lived o) (answers_last m (asked_as terms o)) (map fill_of b.trades) (shown_as o)) p
+  not_replaced-leads =
+      let first = replace-answered old_id reason 2 not_used-2 b sent q c keeps.sound keeps.apart named reads in
+      subst (λ (bodies : List Message). Leads b.new old_id sent bodies p) (sym not_replaced-bodies)
+      (leads-more old_id sent _ _ (at b None c) p first
+      (cancel-goes_on old_id m b None c _ (without_replace-sound o keeps.sound) (AreApart-rest b (Some q) c keeps.apart) (AreNamed-rest old_id b (Some q) c named) first.reads))
+
+  not_replaced-moves : Moves terms old_id sent reports limit more m o p
+  not_replaced-moves = record {
+    same = refl;
+    lives = not_replaced-lives;
+    leads = not_replaced-leads;
+    asked = λ e. not_replaced-asked;
+    price = rw type refl;
+    keeps = asked-keeps reports limit more m o None (λ x e. absurd (cc)) still keeps;
+  }
+
+pub not_replaced : (terms : List Terms) (old_id : List ℕ → List ℕ) (sent : List Message) (reports limit more : ℕ) (m : List ℕ) (o : OrderRecord) (q : Entry)
+    → type_of m ≡ 74 → o.stage ≢ Closed → (is_waiting o.stage && is_live (lived o) (heard.token m)) ≡ false → o.replace ≡ Some q → heard.token m ≡ token_of q
+    → Keeps reports limit o → AreNamed old_id o → Reads sent o → Moves terms old_id sent reports limit more m o (at o None (still_cancelling m o.cancel))
+not_replaced terms old_id sent reports limit more m o q type still not_first is_q token keeps named reads =
+    let same = with-replace o q is_q in
+    subst (λ (x : OrderRecord). Moves terms old_id sent reports limit more m x (at o None (still_cancelling m o.cancel))) (sym same)
+    (not_replaced-moves terms old_id sent reports limit more m o q o.cancel type still not_first token
+    (subst (λ (x : OrderRecord). Keeps reports limit x) same keeps) (subst (λ (x : OrderRecord). AreNamed old_id x) same named) (subst (λ (x : OrderRecord). Reads sent x) same reads))
+
+-- ---- Replaced
+
+module _ (terms : List Terms) (old_id : List ℕ → List ℕ) (sent : List Message) (reports limit more : ℕ) (m : List ℕ) (b : OrderRecord) (q : Entry) (c : Option Cancelling)
+    (type : type_of m ≡ 85) (works : b.stage ≡ Working) (live : is_live (lived b) (heard.previous_token m) ≡ true)
+    (token : heard.token m ≡ token_of q)
+    (shares : heard.shares m ≤ more) (more_small : more < 10 ^ 63) (limit_small : limit < 10 ^ 63)
+    (keeps : Keeps reports limit (at b (Some q) c)) (named : AreNamed old_id (at b (Some q) c)) (reads : Reads sent (at b (Some q) c)) where
+  abbrev u : OrderRecord
+  u = at b (Some q) c
+
+  live_order : b.is_refused ≡ false
+  live_order = by_flag b.is_refused refl
+    where
+      by_flag : (f : Bool) → b.is_refused ≡ f → b.is_refused ≡ false
+      by_flag true e = absurd (let x : Working ≡ Closed = sym works ∙ keeps.sound.refused e in cc)
+      by_flag false e = e
+
+  -- with its replace done, before a cancel is looked at
+  abbrev r : OrderRecord
+  r = replaced m q u
+
+  abbrev alive_then : OrderRecord
+  alive_then = at r None (still_cancelling m c)
+
+  in_book : leaves b ≡ b.unfilled
+  in_book = rw works refl
+
+  sound : IsSound r
+  sound = replaced-sound m q u live_order keeps.sound
+
+  apart : AreApart r
+  apart = record { requests = λ x d e. absurd (cc); current = λ x e. absurd (cc) }
+
+  named' : AreNamed old_id r
+  named' = record { replace = λ x e. absurd (cc); cancel = named.cancel }
+
+  replaced-ids : (k : Option Cancelling) → k ≡ c → has_due_ids (report (reports + 1) (on_request (codes "5") q) (shown_as r)) (chained (at b (Some q) k)) (chained r) old_id ≡ true
+  replaced-ids None e = let id = eq-same (text 11 q.message) in let old = eq-same (old_id (text 11 q.message)) in rw (id, named.replace q refl, old) refl
+  replaced-ids (Some d) e = let id = eq-same (text 11 q.message) in let old = eq-same (old_id (text 11 q.message)) in rw (id, named.replace q refl, old) refl
+
+  replaced-tells : Tells old_id sent (report (reports + 1) (on_request (codes "5") q) (shown_as r)) r
+  replaced-tells = report-tells (reports + 1) (on_request (codes "5") q) r old_id sent sound
+      (replaced-Reads (reports + 1) m q u sent works live_order refl (λ d is_d. keeps.apart.requests q d refl is_d) (omega (arith, shares, more_small)) (omega (arith, keeps.small, shares, more_small, limit_small)) reads)
+      (rw reads.chained_so (replaced-ids c refl))
+
+  is_one : is_replace q.message ≡ true
+  is_one = keeps.sound.replaces q refl
+
+  bodies : told_by_type reports m (lived u) (answers_last m (asked_as terms u)) (map fill_of b.trades) (shown_as u) ≡ report (reports + 1) (on_request (codes "5") q) (shown_as r) ∷ told.where_dead (reports + 2) m (shown_as r) (cancel_rejected (last_of m c) (shown_as r))
+  bodies =
+      replaced-row reports m (lived u) (answers_last m (asked_as terms u)) (map fill_of b.trades) (shown_as u) type
+      ∙ ap (λ (last : Bool). told.told_replaced reports m last (shown_as u)) (last-is terms m u keeps.left)
+      ∙ replaced-told reports m (last_of m c) (shown_as u) (shown_as r) q (found-replace m q is_one token c)
+      (ap (λ (ps : List Entry). record (shown_as r) { pending = ps }) (no-replace m q is_one token c keeps.sound.cancels))
+
+  alive-bodies : is_dead_state m ≡ false → told_by_type reports m (lived u) (answers_last m (asked_as terms u)) (map fill_of b.trades) (shown_as u) ≡ report (reports + 1) (on_request (codes "5") q) (shown_as r) ∷ cancel_rejected (last_of m c) (shown_as r)
+  alive-bodies alive = bodies ∙ rw alive refl
+
+  dead-bodies : is_dead_state m ≡ true → told_by_type reports m (lived u) (answers_last m (asked_as terms u)) (map fill_of b.trades) (shown_as u) ≡ report (reports + 1) (on_request (codes "5") q) (shown_as r) ∷ cancelled (reports + 2) None (told.closed (shown_as r))
+  dead-bodies dead = bodies ∙ rw dead refl
+
+  price_now : (if opens (lived u) m then heard.price m else u.price) ≡ heard.price m
+  price_now = rw (type, live) refl
+
+  alive-asked : unanswered m (asked_as terms u) ≡ asked_as terms alive_then
+  alive-asked = asked-parts terms m u ∙ (let own = eq-same (token_of q) in rw (works, type, token, own) refl)
+
+  alive-moves : is_dead_state m ≡ false → Moves terms old_id sent reports limit more m u alive_then
+  alive-moves alive = record {
+    same = refl;
+    lives = rw (type, live, alive) refl;
+    leads = subst (λ (bodies : List Message). Leads b.new old_id sent bodies alive_then) (sym (alive-bodies alive))
+        (leads-more old_id sent _ _ r alive_then replaced-tells (cancel-goes_on old_id m r None c _ sound apart named' replaced-tells.reads));
+    asked = λ e. alive-asked;
+    price = price_now;
+    keeps = record {
+      sound = record { total = λ e. refl; refused = λ e. absurd (let x : true ≡ false = sym e ∙ live_order in cc); replaces = λ x e. absurd (cc); cancels = λ d e. (let was = still-request m c d e in ap (λ (x : Entry). is_replace x.message) was.2 ∙ keeps.sound.cancels was.0 was.1) };
+      apart = record { requests = λ x d e. absurd (cc); current = λ x e. absurd (cc) };
+      first = λ e. absurd (cc);
+      over_replace = λ e. absurd (cc);
+      over_cancel = λ e. absurd (cc);
+      left = λ d e. still-left m c d e;
+      idle = λ e. absurd (cc);
+      rejected = keeps.rejected;
+      none_waiting = λ e. absurd (cc);
+      none_closed = λ e. absurd (cc);
+      small = omega (arith, keeps.small, in_book, shares);
+      numbered = AreNumbered-more reports (reports + 2) b.trades (omega arith) keeps.numbered;
+    };
+  }
+
+  dead-moves : is_dead_state m ≡ true → Moves terms old_id sent reports limit more m u (unasked (gone r))
+  dead-moves dead = record {
+    same = refl;
+    lives = rw (type, live, dead) refl;
+    leads = subst (λ (bodies : List Message). Leads b.new old_id sent bodies (unasked (gone r))) (sym (dead-bodies dead))
+        (leads-more old_id sent _ _ r (unasked (gone r)) replaced-tells
+        (cancelled-leads old_id (reports + 2) None r refl _ None c sound apart named' replaced-tells.reads));
+    asked = λ e. absurd (cc);
+    price = price_now;
+    keeps = over-keeps reports limit more b (unasked (gone r)) refl refl refl refl keeps.rejected refl (omega (arith, keeps.small)) keeps.numbered;
+  }
+
+module _ (terms : List Terms) (old_id : List ℕ → List ℕ) (sent : List Message) (reports limit more : ℕ) (m : List ℕ) (o : OrderRecord) (q : Entry)
+    (type : type_of m ≡ 85) (works : o.stage ≡ Working) (live : is_live (lived o) (heard.previous_token m) ≡ true) (is_q : o.replace ≡ Some q)
+    (token : heard.token m ≡ token_of q)
+    (shares : heard.shares m ≤ more) (more_small : more < 10 ^ 63) (limit_small : limit < 10 ^ 63)
+    (keeps : Keeps reports limit o) (named : AreNamed old_id o) (reads : Reads sent o) where
+  same : o ≡ at o (Some q) o.cancel
+  same = with-replace o q is_q
+
+  keeps' : Keeps reports limit (at o (Some q) o.cancel)
+  keeps' = subst (λ (x : OrderRecord). Keeps reports limit x) same keeps
+
+  named'' : AreNamed old_id (at o (Some q) o.cancel)
+  named'' = subst (λ (x : OrderRecord). AreNamed old_id x) same named
+
+  reads' : Reads sent (at o (Some q) o.cancel)
+  reads' = subst (λ (x : OrderRecord). Reads sent x) same reads
+
+  pub replaced_live : is_dead_state m ≡ false → Moves terms old_id sent reports limit more m o (at (replaced m q o) None (still_cancelling m o.cancel))
+  replaced_live alive = subst (λ (x : OrderRecord). Moves terms old_id sent reports limit more m x (at (replaced m q o) None (still_cancelling m o.cancel))) (sym same)
+      (alive-moves terms old_id sent reports limit more m o q o.cancel type works live token shares more_small limit_small keeps' named'' reads' alive)
+
+  pub replaced_dead : is_dead_state m ≡ true → Moves terms old_id sent reports limit more m o (unasked (gone (replaced m q o)))
+  replaced_dead dead = subst (λ (x : OrderRecord). Moves terms old_id sent reports limit more m x (unasked (gone (replaced m q o)))) (sym same)
+      (dead-moves terms old_id sent reports limit more m o q o.cancel type works live token shares more_small limit_small keeps' named'' reads' dead)
