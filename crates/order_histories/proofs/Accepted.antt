@@ -18,7 +18,7 @@ use Rattle.order_histories.proofs.Due.{IsSound, Reads}
 use Rattle.order_histories.proofs.Reports.{Tells, new-Reads, report-tells}
 use Rattle.order_histories.proofs.Sound.{opened-sound}
 use Rattle.order_histories.proofs.Leads.{AreApart, AreNamed, Leads, cancelled-leads, leads-more, leads-one}
-use Rattle.order_histories.proofs.Moves.{AreNumbered, Keeps, Moves, answers_last, filter-all, unanswered}
+use Rattle.order_histories.proofs.Moves.{AreNumbered, Keeps, Moves, Of-unasked, answers_last, filter-all, unanswered}
 use Rattle.order_histories.proofs.Asked.{asked-parts}
 use Rattle.order_histories.proofs.Executed.{AreNumbered-more}
 use Rattle.order_histories.proofs.Canceled.{over-keeps}
@@ -32,7 +32,7 @@ same-cancel (Some c) m left same = rw (same c refl) (by_tokens c.tokens refl (le
     by_tokens [] e some = absurd (some e)
     by_tokens (token ∷ tokens) e some = ap (λ ts. Some (record { request = c.request; tokens = ts })) (sym e)
 
-module _ (terms : List Terms) (old_id : List ℕ → List ℕ) (sent : List Message) (reports limit more : ℕ) (m : List ℕ) (o : OrderRecord)
+module _ (P : List ℕ → Type 0) (Q : Entry → Type 0) (R : List ℕ → Type 0) (terms : List Terms) (old_id : List ℕ → List ℕ) (sent : List Message) (reports limit more : ℕ) (m : List ℕ) (o : OrderRecord)
     (type : type_of m ≡ 65) (live : is_live (lived o) (heard.token m) ≡ true) (waits : o.stage ≡ Waiting)
     (shares : heard.shares m ≤ more) (more_small : more < 10 ^ 63) (limit_small : limit < 10 ^ 63)
     (keeps : Keeps reports limit o) (named : AreNamed old_id o) (reads : Reads sent o) where
@@ -87,14 +87,15 @@ module _ (terms : List Terms) (old_id : List ℕ → List ℕ) (sent : List Mess
       by_replace None = refl
       by_replace (Some q) = rw type refl
 
-  pub live-moves : is_dead_state m ≡ false → Moves terms old_id sent reports limit more m o p
+  pub live-moves : is_dead_state m ≡ false → Moves P Q R terms old_id sent reports limit more m o p
   live-moves alive = record {
     same = refl;
+    kept = λ k. record { live = k.live; replace = k.replace; cancel = k.cancel; id = k.id };
     lives = live-lives alive;
     leads = subst (λ (bodies : List Message). Leads o.new old_id sent bodies p) (sym (live-bodies alive)) (leads-one old_id sent _ p new-tells);
     asked = λ e. live-asked;
     price = price_now;
-    keeps = record {
+    keeps = λ after later. record {
       sound = sound;
       apart = apart;
       first = λ e. absurd (cc);
@@ -106,18 +107,19 @@ module _ (terms : List Terms) (old_id : List ℕ → List ℕ) (sent : List Mess
       none_waiting = λ e. absurd (cc);
       none_closed = λ e. absurd (cc);
       small = omega (arith, keeps.small, shares);
-      numbered = AreNumbered-more reports (reports + 2) o.trades (omega arith) keeps.numbered;
+      numbered = AreNumbered-more reports after o.trades (omega (arith, later)) keeps.numbered;
     };
   }
 
-  pub dead-moves : is_dead_state m ≡ true → Moves terms old_id sent reports limit more m o (unasked (gone p))
+  pub dead-moves : is_dead_state m ≡ true → Moves P Q R terms old_id sent reports limit more m o (unasked (gone p))
   dead-moves dead = record {
     same = refl;
+    kept = Of-unasked P Q R o (unasked (gone p)) refl refl refl refl;
     lives = dead-lives dead;
     leads = subst (λ (bodies : List Message). Leads o.new old_id sent bodies (unasked (gone p))) (sym (dead-bodies dead))
         (leads-more old_id sent _ _ p (unasked (gone p)) new-tells
         (cancelled-leads old_id (reports + 2) None p refl _ o.replace o.cancel sound apart named' new-tells.reads));
     asked = λ e. absurd (cc);
     price = price_now;
-    keeps = over-keeps reports limit more o (unasked (gone p)) refl refl refl refl keeps.rejected refl (omega (arith, keeps.small)) keeps.numbered;
+    keeps = λ after later. over-keeps reports limit more after o (unasked (gone p)) (omega (arith, later)) refl refl refl refl keeps.rejected refl (omega (arith, keeps.small)) keeps.numbered;
   }

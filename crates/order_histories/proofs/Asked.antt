@@ -98,13 +98,13 @@ asked-parts terms m o =
     ∙ ap (λ xs. unanswered m (replace_asked o.new (live_token o) o.replace) ++ xs) (cancels-left m o.new o.cancel))
 
 -- what a pending cancel keeps through a message
-pub still-request : (m : List ℕ) (c : Option Cancelling) (x : Cancelling) → still_cancelling m c ≡ Some x → (y : Cancelling) × (c ≡ Some y) × (x.request ≡ y.request)
+pub still-request : (m : List ℕ) (c : Option Cancelling) (x : Cancelling) → still_cancelling m c ≡ Some x → (y : Cancelling) × (c ≡ Some y) × (x.request ≡ y.request) × (x.tokens ≡ kept m y.tokens)
 still-request m None x e = absurd (cc)
-still-request m (Some c) x e = by_tokens (kept m c.tokens) e
+still-request m (Some c) x e = by_tokens (kept m c.tokens) refl e
   where
-    by_tokens : (tokens : List (List ℕ)) → with_tokens c.request tokens ≡ Some x → (y : Cancelling) × (◌≡◌ {A = Option Cancelling} (Some c) (Some y)) × (x.request ≡ y.request)
-    by_tokens [] e = absurd (cc)
-    by_tokens (token ∷ tokens) e = (c, refl, ap (λ (k : Cancelling). k.request) (sym (same_some (record { request = c.request; tokens = token ∷ tokens }) x e)))
+    by_tokens : (tokens : List (List ℕ)) → kept m c.tokens ≡ tokens → with_tokens c.request tokens ≡ Some x → (y : Cancelling) × (◌≡◌ {A = Option Cancelling} (Some c) (Some y)) × (x.request ≡ y.request) × (x.tokens ≡ kept m y.tokens)
+    by_tokens [] is e = absurd (cc)
+    by_tokens (token ∷ tokens) is e = let same = same_some (record { request = c.request; tokens = token ∷ tokens }) x e in (c, refl, ap (λ (k : Cancelling). k.request) (sym same), ap (λ (k : Cancelling). k.tokens) (sym same) ∙ sym is)
 
 pub still-left : (m : List ℕ) (c : Option Cancelling) (x : Cancelling) → still_cancelling m c ≡ Some x → x.tokens ≢ []
 still-left m None x e = absurd (cc)

@@ -82,7 +82,7 @@ shown-broken t o Waiting e off none = absurd (cc)
 shown-broken t o Working e off none = rw e refl
 shown-broken t o Closed e off none = let left = none e in rw (e, left) refl
 
-module _ (terms : List Terms) (old_id : List ℕ → List ℕ) (sent : List Message) (reports limit more : ℕ) (m : List ℕ) (o : OrderRecord)
+module _ (P : List ℕ → Type 0) (Q : Entry → Type 0) (R : List ℕ → Type 0) (terms : List Terms) (old_id : List ℕ → List ℕ) (sent : List Message) (reports limit more : ℕ) (m : List ℕ) (o : OrderRecord)
     (type : type_of m ≡ 66) (own : is_of (lived o) (heard.token m) ≡ true) (stands : list_any (stands_as (heard.broken_match m)) (lived o).trades ≡ true)
     (reports_small : reports < 10 ^ 64) (limit_small : limit < 10 ^ 63)
     (keeps : Keeps reports limit o) (named : AreNamed old_id o) (reads : Reads sent o) where
@@ -134,16 +134,17 @@ module _ (terms : List Terms) (old_id : List ℕ → List ℕ) (sent : List Mess
   broken-ids : has_due_ids (report (reports + 1) (broken_occasion t reason) (shown_as p)) (chain o.new.order sent) (chained p) old_id ≡ true
   broken-ids = let id = eq-same o.id in rw id refl
 
-  pub broken-moves : Moves terms old_id sent reports limit more m o p
+  pub broken-moves : Moves P Q R terms old_id sent reports limit more m o p
   broken-moves = record {
     same = refl;
+    kept = λ k. record { live = k.live; replace = k.replace; cancel = k.cancel; id = k.id };
     lives = broken-lives;
     leads = subst (λ (bodies : List Message). Leads o.new old_id sent bodies p) (sym broken-bodies)
         (leads-one old_id sent _ p (report-tells (reports + 1) (broken_occasion t reason) p old_id sent (broken-sound t o accepted keeps.sound)
         (broken-Reads (reports + 1) t reason o sent found.fill (omega (arith, keeps.small, limit_small)) live_order accepted reads) broken-ids));
     asked = λ e. unanswered-same terms m o answers_none;
     price = rw type refl;
-    keeps = record {
+    keeps = λ after later. record {
       sound = broken-sound t o accepted keeps.sound;
       apart = record { requests = keeps.apart.requests; current = keeps.apart.current };
       first = keeps.first;
@@ -155,6 +156,6 @@ module _ (terms : List Terms) (old_id : List ℕ → List ℕ) (sent : List Mess
       none_waiting = λ e. absurd (let x : is_waiting Waiting ≡ false = ap is_waiting (sym e) ∙ accepted in cc);
       none_closed = keeps.none_closed;
       small = omega (arith, keeps.small);
-      numbered = AreNumbered-more reports (reports + 2) (map (mark t.trade.match_number) o.trades) (omega arith) (AreNumbered-marked t.trade.match_number reports o.trades keeps.numbered);
+      numbered = AreNumbered-more reports after (map (mark t.trade.match_number) o.trades) (omega (arith, later)) (AreNumbered-marked t.trade.match_number reports o.trades keeps.numbered);
     };
   }

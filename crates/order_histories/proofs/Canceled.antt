@@ -18,13 +18,13 @@ use Rattle.order_histories.proofs.Due.{IsSound, Reads}
 use Rattle.order_histories.proofs.Reports.{Tells, reduced, report-tells, restated-Reads}
 use Rattle.order_histories.proofs.Sound.{reduced-sound}
 use Rattle.order_histories.proofs.Leads.{AreApart, AreNamed, Leads, cancelled-leads, leads-one}
-use Rattle.order_histories.proofs.Moves.{AreNumbered, Keeps, Moves, answers_last, unanswered}
+use Rattle.order_histories.proofs.Moves.{AreNumbered, Keeps, Moves, Of-unasked, answers_last, unanswered}
 use Rattle.order_histories.proofs.Executed.{AreNumbered-more, unanswered-same}
 
 -- an order of which nothing is open or asked any more keeps what it has to
-pub over-keeps : (reports limit more : ℕ) (o p : OrderRecord) → p.stage ≡ Closed → p.replace ≡ None → p.cancel ≡ None → p.trades ≡ o.trades → (p.is_refused ≡ true → o.trades ≡ []) → p.unfilled ≡ 0 → p.executed ≤ limit + more → AreNumbered reports o.trades
-    → Keeps (reports + 2) (limit + more) p
-over-keeps reports limit more o p over no_r no_c same rejected none small numbered = record {
+pub over-keeps : (reports limit more after : ℕ) (o p : OrderRecord) → reports ≤ after → p.stage ≡ Closed → p.replace ≡ None → p.cancel ≡ None → p.trades ≡ o.trades → (p.is_refused ≡ true → o.trades ≡ []) → p.unfilled ≡ 0 → p.executed ≤ limit + more → AreNumbered reports o.trades
+    → Keeps after (limit + more) p
+over-keeps reports limit more after o p later over no_r no_c same rejected none small numbered = record {
   sound = record {
     total = λ e. absurd (let x : is_closed Closed ≡ false = ap is_closed (sym over) ∙ e in cc);
     refused = λ e. over;
@@ -44,10 +44,10 @@ over-keeps reports limit more o p over no_r no_c same rejected none small number
   none_waiting = λ e. none;
   none_closed = λ e. none;
   small = rw over (omega (arith, small));
-  numbered = rw same (AreNumbered-more reports (reports + 2) o.trades (omega arith) numbered);
+  numbered = rw same (AreNumbered-more reports after o.trades later numbered);
 }
 
-module _ (terms : List Terms) (old_id : List ℕ → List ℕ) (sent : List Message) (reports limit more : ℕ) (m : List ℕ) (o : OrderRecord)
+module _ (P : List ℕ → Type 0) (Q : Entry → Type 0) (R : List ℕ → Type 0) (terms : List Terms) (old_id : List ℕ → List ℕ) (sent : List Message) (reports limit more : ℕ) (m : List ℕ) (o : OrderRecord)
     (type : type_of m ≡ 67) (live : is_live (lived o) (heard.token m) ≡ true) (works : o.stage ≡ Working)
     (some : 1 ≤ heard.decrement m) (few : heard.decrement m ≤ o.unfilled) (limit_small : limit < 10 ^ 63)
     (keeps : Keeps reports limit o) (named : AreNamed old_id o) (reads : Reads sent o) where
@@ -84,16 +84,17 @@ module _ (terms : List Terms) (old_id : List ℕ → List ℕ) (sent : List Mess
     part-ids : has_due_ids (report (reports + 1) restated (shown_as p)) (chain o.new.order sent) (chained p) old_id ≡ true
     part-ids = let id = eq-same o.id in rw id refl
 
-    pub part-moves : Moves terms old_id sent reports limit more m o p
+    pub part-moves : Moves P Q R terms old_id sent reports limit more m o p
     part-moves = record {
       same = refl;
+      kept = λ k. record { live = k.live; replace = k.replace; cancel = k.cancel; id = k.id };
       lives = part-lives;
       leads = subst (λ (bodies : List Message). Leads o.new old_id sent bodies p) (sym part-bodies)
           (leads-one old_id sent _ p (report-tells (reports + 1) restated p old_id sent (reduced-sound (heard.decrement m) o works keeps.sound)
           (restated-Reads (reports + 1) (heard.decrement m) (codes "5") reason o sent works few (omega (arith, small)) small reads) part-ids));
       asked = λ e. unanswered-same terms m o answers_none;
       price = same_price;
-      keeps = record {
+      keeps = λ after later. record {
         sound = reduced-sound (heard.decrement m) o works keeps.sound;
         apart = record { requests = keeps.apart.requests; current = keeps.apart.current };
         first = keeps.first;
@@ -105,7 +106,7 @@ module _ (terms : List Terms) (old_id : List ℕ → List ℕ) (sent : List Mess
         none_waiting = λ e. absurd (let x : Working ≡ Waiting = sym works ∙ e in cc);
         none_closed = λ e. absurd (let x : Working ≡ Closed = sym works ∙ e in cc);
         small = bound;
-        numbered = AreNumbered-more reports (reports + 2) o.trades (omega arith) keeps.numbered;
+        numbered = AreNumbered-more reports after o.trades (omega (arith, later)) keeps.numbered;
       };
     }
       where
@@ -125,13 +126,14 @@ module _ (terms : List Terms) (old_id : List ℕ → List ℕ) (sent : List Mess
     all-bodies : told_by_type reports m (lived o) (answers_last m (asked_as terms o)) (map fill_of o.trades) (shown_as o) ≡ cancelled (reports + 1) (Some reason) (told.closed (shown_as o))
     all-bodies = rw (all-lives, type) refl
 
-    pub all-moves : Moves terms old_id sent reports limit more m o (unasked (gone o))
+    pub all-moves : Moves P Q R terms old_id sent reports limit more m o (unasked (gone o))
     all-moves = record {
       same = refl;
+      kept = Of-unasked P Q R o (unasked (gone o)) refl refl refl refl;
       lives = all-lives;
       leads = subst (λ (bodies : List Message). Leads o.new old_id sent bodies (unasked (gone o))) (sym all-bodies)
           (cancelled-leads old_id (reports + 1) (Some reason) o works sent o.replace o.cancel keeps.sound keeps.apart named reads);
       asked = λ e. absurd (cc);
       price = same_price;
-      keeps = over-keeps reports limit more o (unasked (gone o)) refl refl refl refl keeps.rejected refl (omega (arith, keeps.small)) keeps.numbered;
+      keeps = λ after later. over-keeps reports limit more after o (unasked (gone o)) (omega (arith, later)) refl refl refl refl keeps.rejected refl (omega (arith, keeps.small)) keeps.numbered;
     }

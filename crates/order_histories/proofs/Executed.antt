@@ -1,7 +1,9 @@
 -- Executed: a trade, which may leave nothing open.
 use Rattle.std.proofs.Common.{◌≡◌, ◌≢◌, ℕ, suc, zero, ◌+◌, ◌-◌, ◌*◌, ◌<◌, ◌≤◌, ◌^◌, Bool, true, false, List, [], ◌∷◌, ◌++◌, map, refl, sym, ap, ◌∙◌, subst, arith, decimal, codes, bytes_eq, Option, Some, None, eqb-true}
 use Rattle.std.specs.Prelude.{◌&&◌, ◌||◌, ◌==◌, not, if◌then◌else◌, unwrap_or, is_some, filter}
-use Rattle.std.specs.List.{find, list_any}
+use Rattle.std.specs.List.{count_by, find, list_any}
+use Rattle.std.proofs.lemmas.List.Sums.{sum_by-append}
+use Rattle.order_law.specs.Reading.{is_report}
 use Rattle.ouch_codec.specs.Parts.{type_of}
 use Rattle.ouch_codec.specs.FromMarket as heard
 use Rattle.order_law.specs.declared.stage.Stage.{Stage}
@@ -19,7 +21,10 @@ use Rattle.order_histories.proofs.Due.{IsSound, Reads}
 use Rattle.order_histories.proofs.Reports.{Tells, filled, filled-Reads, report-tells, trade_occasion, traded, traded-Reads}
 use Rattle.order_histories.proofs.Sound.{filled-sound, traded-sound}
 use Rattle.order_histories.proofs.Leads.{AreApart, AreNamed, Leads, at, leads-more, leads-one, too_late-leads}
-use Rattle.order_histories.proofs.Moves.{AreNumbered, Keeps, Moves, answers_last, filter-all, unanswered, unanswered-cancels}
+use Rattle.order_histories.proofs.Moves.{AreNumbered, Keeps, Moves, Of-unasked, answers_last, filter-all, unanswered, unanswered-cancels}
+
+pub count-more : {X : Type 0} (p : X → Bool) (x : X) (xs : List X) → count_by p (x ∷ xs) ≡ (if p x then 1 else 0) + count_by p xs
+count-more {X = X} p x xs = sum_by-append (λ (y : X). if p y then 1 else 0) (x ∷ []) xs ∙ omega arith
 
 -- under rising numbers
 pub AreNumbered-more : (n k : ℕ) (ts : List ToldTrade) → n ≤ k → AreNumbered n ts → AreNumbered k ts
@@ -34,7 +39,7 @@ unanswered-same terms m o none = same (asked_as terms o)
     same [] = refl
     same (a ∷ asked) = rw (none a.said) (ap (λ xs. a ∷ xs) (same asked))
 
-module _ (terms : List Terms) (old_id : List ℕ → List ℕ) (sent : List Message) (reports limit more : ℕ) (m : List ℕ) (o : OrderRecord)
+module _ (P : List ℕ → Type 0) (Q : Entry → Type 0) (R : List ℕ → Type 0) (terms : List Terms) (old_id : List ℕ → List ℕ) (sent : List Message) (reports limit more : ℕ) (m : List ℕ) (o : OrderRecord)
     (type : type_of m ≡ 69) (live : is_live (lived o) (heard.token m) ≡ true) (works : o.stage ≡ Working)
     (some : 1 ≤ heard.executed_shares m) (few : heard.executed_shares m ≤ o.unfilled) (price_small : heard.executed_price m < 2 ^ 128) (limit_small : limit < 10 ^ 63)
     (keeps : Keeps reports limit o) (named : AreNamed old_id o) (reads : Reads sent o) where
@@ -65,6 +70,12 @@ module _ (terms : List Terms) (old_id : List ℕ → List ℕ) (sent : List Mess
   trade-ids : (n : ℕ) (p : OrderRecord) → p.id ≡ o.id → has_due_ids (report n (trade_occasion trade) (shown_as p)) (chain o.new.order sent) (chained p) old_id ≡ true
   trade-ids n p same = let id = eq-same p.id in rw id refl
 
+  -- with a report more, its number is among those that were given
+  one_more : (last : ℕ) (rs : List Message) (s : Shown) {bodies : List Message} → bodies ≡ report (reports + 1) (trade_occasion trade) s ∷ rs → count_by is_report bodies + reports ≤ last → reports + 1 ≤ last
+  one_more last rs s {bodies = bodies} same later =
+      let more_reports : count_by is_report bodies ≡ 1 + count_by is_report rs = ap (count_by is_report) same ∙ count-more is_report (report (reports + 1) (trade_occasion trade) s) rs in
+      omega (arith, more_reports, later)
+
   module _ (rest : (o.unfilled - heard.executed_shares m == 0) ≡ false) where
     abbrev p : OrderRecord
     p = traded (reports + 1) trade o
@@ -75,16 +86,17 @@ module _ (terms : List Terms) (old_id : List ℕ → List ℕ) (sent : List Mess
     part-bodies : told_by_type reports m (lived o) (answers_last m (asked_as terms o)) (map fill_of o.trades) (shown_as o) ≡ report (reports + 1) (trade_occasion trade) (shown_as p) ∷ []
     part-bodies = rw (part-lives, type, works) refl
 
-    pub part-moves : Moves terms old_id sent reports limit more m o p
+    pub part-moves : Moves P Q R terms old_id sent reports limit more m o p
     part-moves = record {
       same = refl;
+      kept = λ k. record { live = k.live; replace = k.replace; cancel = k.cancel; id = k.id };
       lives = part-lives;
       leads = subst (λ (bodies : List Message). Leads o.new old_id sent bodies p) (sym part-bodies)
           (leads-one old_id sent _ p (report-tells (reports + 1) (trade_occasion trade) p old_id sent (traded-sound (reports + 1) trade o works keeps.sound)
           (traded-Reads (reports + 1) trade o sent works few rest price_small small reads) (trade-ids (reports + 1) p refl)));
       asked = λ e. unanswered-same terms m o answers_none;
       price = same_price;
-      keeps = record {
+      keeps = λ after later. record {
         sound = traded-sound (reports + 1) trade o works keeps.sound;
         apart = record { requests = keeps.apart.requests; current = keeps.apart.current };
         first = λ e. absurd (let x : Working ≡ Waiting = sym works ∙ e in cc);
@@ -96,7 +108,7 @@ module _ (terms : List Terms) (old_id : List ℕ → List ℕ) (sent : List Mess
         none_closed = λ e. absurd (let x : Working ≡ Closed = sym works ∙ e in cc);
         rejected = λ e. absurd (let x : true ≡ false = sym e ∙ live_order in cc);
         small = bound;
-        numbered = (omega arith, omega arith, AreNumbered-more reports (reports + 1 - 1) o.trades (omega arith) keeps.numbered);
+        numbered = (omega arith, omega (arith, one_more after _ (shown_as p) part-bodies later), AreNumbered-more reports (reports + 1 - 1) o.trades (omega arith) keeps.numbered);
       };
     }
       where
@@ -120,9 +132,10 @@ module _ (terms : List Terms) (old_id : List ℕ → List ℕ) (sent : List Mess
     first-tells = report-tells (reports + 1) (trade_occasion trade) f old_id sent (filled-sound (reports + 1) trade o keeps.sound)
         (filled-Reads (reports + 1) trade o sent works few price_small small reads) (trade-ids (reports + 1) f refl)
 
-    pub all-moves : Moves terms old_id sent reports limit more m o (unasked f)
+    pub all-moves : Moves P Q R terms old_id sent reports limit more m o (unasked f)
     all-moves = record {
       same = refl;
+      kept = Of-unasked P Q R o (unasked f) refl refl refl refl;
       lives = all-lives;
       leads = subst (λ (bodies : List Message). Leads o.new old_id sent bodies (unasked f)) (sym all-bodies)
           (leads-more old_id sent _ _ f (unasked f) first-tells
@@ -130,7 +143,7 @@ module _ (terms : List Terms) (old_id : List ℕ → List ℕ) (sent : List Mess
           (record { requests = keeps.apart.requests; current = keeps.apart.current }) (record { replace = named.replace; cancel = named.cancel }) first-tells.reads));
       asked = λ e. absurd (cc);
       price = same_price;
-      keeps = record {
+      keeps = λ after later. record {
         sound = record { total = λ e. absurd (cc); refused = λ e. refl; replaces = λ q e. absurd (cc); cancels = λ c e. absurd (cc) };
         apart = record { requests = λ q c is_q is_c. absurd (cc); current = λ q is_q. absurd (cc) };
         first = λ e. absurd (cc);
@@ -142,6 +155,6 @@ module _ (terms : List Terms) (old_id : List ℕ → List ℕ) (sent : List Mess
         none_closed = λ e. nothing_left;
         rejected = λ e. absurd (let x : true ≡ false = sym e ∙ live_order in cc);
         small = omega (arith, keeps.small, in_book, few);
-        numbered = (omega arith, omega arith, AreNumbered-more reports (reports + 1 - 1) o.trades (omega arith) keeps.numbered);
+        numbered = (omega arith, omega (arith, one_more after _ (shown_as f) all-bodies later), AreNumbered-more reports (reports + 1 - 1) o.trades (omega arith) keeps.numbered);
       };
     }

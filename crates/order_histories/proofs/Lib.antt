@@ -1,4 +1,5 @@
 pub mod Texts
+pub mod Lists
 pub mod Bodies
 pub mod Due
 pub mod Reports
@@ -13,3 +14,5 @@ pub mod Accepted
 pub mod Broken
 pub mod Rejected
 pub mod Replaced
+pub mod Judged
+pub mod Row

@@ -1,7 +1,7 @@
 -- What a message of the market makes of an order: life, bodies, what is outstanding, price, each as the lists have it.
 use Rattle.std.proofs.Common.{◌≡◌, ◌≢◌, ℕ, suc, zero, ◌+◌, ◌-◌, ◌*◌, ◌<◌, ◌≤◌, ◌^◌, Bool, true, false, List, [], ◌∷◌, ◌++◌, map, refl, sym, ap, ◌∙◌, subst, arith, decimal, codes, bytes_eq, Option, Some, None}
 use Rattle.std.specs.Prelude.{◌&&◌, ◌||◌, ◌==◌, not, if◌then◌else◌, unwrap_or, is_some, filter}
-use Rattle.std.specs.List.{find, list_any}
+use Rattle.std.specs.List.{count_by, find, list_any}
 use Rattle.ouch_codec.specs.Parts.{type_of}
 use Rattle.ouch_codec.specs.FromMarket as heard
 use Rattle.order_law.specs.declared.stage.Stage.{Stage}
@@ -9,9 +9,10 @@ use Rattle.order_law.specs.declared.stage.Stage.TheVariants.{Waiting, Working, C
 use Rattle.order_law.specs.declared.trade.Trade.{Trade}
 use Rattle.order_law.specs.Messages.{Message, text}
 use Rattle.order_law.specs.Life.{after, is_closed, is_live, is_waiting}
-use Rattle.order_law.specs.Reading.{Fill}
+use Rattle.order_law.specs.Reading.{Fill, is_report}
 use Rattle.order_law.specs.History.{Asked, Entry, Said, SaysCancel, Terms, answers, is_cancel_said, token_of}
 use Rattle.order_law.specs.Told.{opens, told_by_type}
+use Rattle.order_law.specs.Headline.{Each}
 use Rattle.order_histories.specs.OrderRecord.{Cancelling, OrderRecord, ToldTrade, asked_as, cancel_of, fill_of, kept, leaves, lived, shown_as, still_cancelling}
 use Rattle.order_histories.proofs.Due.{IsSound}
 use Rattle.order_histories.proofs.Leads.{AreApart, AreNamed, Leads}
@@ -45,14 +46,31 @@ answers_last m asked =
 abbrev pub unanswered : List ℕ → List Asked → List Asked
 unanswered m asked = filter (λ (a : Asked). not (answers m a.said)) asked
 
+-- what is said of each token of an order, of each pending request and of each id that it goes by
+pub record Of (P : List ℕ → Type 0) (Q : Entry → Type 0) (R : List ℕ → Type 0) (o : OrderRecord) : Type 0 where
+  pub live : Each P o.tokens
+  pub replace : (q : Entry) → o.replace ≡ Some q → P (token_of q) × Q q × R (text 11 q.message)
+  pub cancel : (c : Cancelling) → o.cancel ≡ Some c → Each P c.tokens × Q c.request × R (text 11 c.request.message)
+  pub id : R o.id
+
+-- of an order without requests
+pub Of-unasked : (P : List ℕ → Type 0) (Q : Entry → Type 0) (R : List ℕ → Type 0) (o p : OrderRecord) → p.tokens ≡ o.tokens → p.id ≡ o.id → p.replace ≡ None → p.cancel ≡ None → Of P Q R o → Of P Q R p
+Of-unasked P Q R o p same same_id no_r no_c k = record {
+  live = subst (λ (ts : List (List ℕ)). Each P ts) (sym same) k.live;
+  replace = λ q e. absurd (let x : ◌≡◌ {A = Option Entry} None (Some q) = sym no_r ∙ e in cc);
+  cancel = λ c e. absurd (let x : ◌≡◌ {A = Option Cancelling} None (Some c) = sym no_c ∙ e in cc);
+  id = subst R (sym same_id) k.id;
+}
+
 -- a message makes this of an order
-pub record Moves (terms : List Terms) (old_id : List ℕ → List ℕ) (sent : List Message) (reports limit more : ℕ) (m : List ℕ) (o p : OrderRecord) : Type 0 where
+pub record Moves (P : List ℕ → Type 0) (Q : Entry → Type 0) (R : List ℕ → Type 0) (terms : List Terms) (old_id : List ℕ → List ℕ) (sent : List Message) (reports limit more : ℕ) (m : List ℕ) (o p : OrderRecord) : Type 0 where
   pub same : p.new ≡ o.new
+  pub kept : Of P Q R o → Of P Q R p
   pub lives : after (lived o) m ≡ lived p
   pub leads : Leads o.new old_id sent (told_by_type reports m (lived o) (answers_last m (asked_as terms o)) (map fill_of o.trades) (shown_as o)) p
   pub asked : is_closed p.stage ≡ false → unanswered m (asked_as terms o) ≡ asked_as terms p
   pub price : (if opens (lived o) m then heard.price m else o.price) ≡ p.price
-  pub keeps : Keeps (reports + 2) (limit + more) p
+  pub keeps : (after : ℕ) → count_by is_report (told_by_type reports m (lived o) (answers_last m (asked_as terms o)) (map fill_of o.trades) (shown_as o)) + reports ≤ after → Keeps after (limit + more) p
 
 -- ---- what is asked
 

@@ -13,12 +13,13 @@ use Rattle.order_law.specs.Verdicts.{is_replace}
 use Rattle.order_law.specs.History.{Asked, Entry, Said, SaysCancel, SaysNew, SaysReplace, Terms, answers, token_of}
 use Rattle.order_law.specs.Told.{Occasion, Shown, answered_no, cancelled, cancel_rejected, on_request, opens, plain, report, told_by_type, too_late}
 use Rattle.order_law.specs.Told as told
-use Rattle.order_law.specs.Headline.{has_due_ids}
+use Rattle.order_law.specs.Headline.{Each, has_due_ids}
+use Rattle.order_histories.proofs.Lists.{Each-filter}
 use Rattle.order_histories.specs.OrderRecord.{Cancelling, OrderRecord, asked_as, cancel_asked, chained, fill_of, gone, kept, leaves, live_token, lived, new_asked, replace_asked, shown_as, still_cancelling, unasked, with_tokens}
 use Rattle.order_histories.proofs.Texts.{eq-is, eq-same, eq-true}
 use Rattle.order_histories.proofs.Due.{IsSound, Reads}
 use Rattle.order_histories.proofs.Leads.{AreApart, AreApart-rest, AreNamed, AreNamed-rest, Leads, at, cancelled-leads, leads-more, leads-none, leads-one, replace-answered, too_late-leads, turned}
-use Rattle.order_histories.proofs.Moves.{AreNumbered, Keeps, Moves, answers_last, filter-all, unanswered}
+use Rattle.order_histories.proofs.Moves.{AreNumbered, Keeps, Moves, Of-unasked, answers_last, filter-all, unanswered}
 use Rattle.order_histories.proofs.Asked.{asked-parts, cancel-goes_on, last-is, last_of, still-left, still-request}
 use Rattle.order_histories.proofs.Executed.{AreNumbered-more, unanswered-same}
 use Rattle.order_histories.proofs.Canceled.{over-keeps}
@@ -28,7 +29,7 @@ use Rattle.order_histories.proofs.Sound.{refused-sound, without_replace-sound}
 
 -- ---- of the new order
 
-module _ (terms : List Terms) (old_id : List ℕ → List ℕ) (sent : List Message) (reports limit more : ℕ) (m : List ℕ) (o : OrderRecord)
+module _ (P : List ℕ → Type 0) (Q : Entry → Type 0) (R : List ℕ → Type 0) (terms : List Terms) (old_id : List ℕ → List ℕ) (sent : List Message) (reports limit more : ℕ) (m : List ℕ) (o : OrderRecord)
     (type : type_of m ≡ 74) (live : is_live (lived o) (heard.token m) ≡ true) (waits : o.stage ≡ Waiting)
     (keeps : Keeps reports limit o) (named : AreNamed old_id o) (reads : Reads sent o) where
   abbrev reason : List ℕ
@@ -49,9 +50,10 @@ module _ (terms : List Terms) (old_id : List ℕ → List ℕ) (sent : List Mess
   refused-tells : Tells old_id sent (report (reports + 1) (refused_occasion reason) (shown_as f)) f
   refused-tells = report-tells (reports + 1) (refused_occasion reason) f old_id sent (refused-sound o keeps.sound) (refused-Reads (reports + 1) reason o sent waits reads) refused-ids
 
-  pub refused-moves : Moves terms old_id sent reports limit more m o (unasked f)
+  pub refused-moves : Moves P Q R terms old_id sent reports limit more m o (unasked f)
   refused-moves = record {
     same = refl;
+    kept = Of-unasked P Q R o (unasked f) refl refl refl refl;
     lives = refused-lives;
     leads = subst (λ (bodies : List Message). Leads o.new old_id sent bodies (unasked f)) (sym refused-bodies)
         (leads-more old_id sent _ _ f (unasked f) refused-tells
@@ -59,14 +61,14 @@ module _ (terms : List Terms) (old_id : List ℕ → List ℕ) (sent : List Mess
         (record { requests = keeps.apart.requests; current = keeps.apart.current }) (record { replace = named.replace; cancel = named.cancel }) refused-tells.reads));
     asked = λ e. absurd (cc);
     price = rw type refl;
-    keeps = over-keeps reports limit more o (unasked f) refl refl refl refl (λ e. keeps.idle waits) (keeps.none_waiting waits) (omega (arith, keeps.small)) keeps.numbered;
+    keeps = λ after later. over-keeps reports limit more after o (unasked f) (omega (arith, later)) refl refl refl refl (λ e. keeps.idle waits) (keeps.none_waiting waits) (omega (arith, keeps.small)) keeps.numbered;
   }
 
 -- ---- what changes nothing but the requests
 
 -- an order that keeps what it has to goes on without a replace, and with what is left of a cancel
-pub asked-keeps : (reports limit more : ℕ) (m : List ℕ) (o : OrderRecord) (r : Option Entry) → ((q : Entry) → r ≡ Some q → o.replace ≡ Some q) → (o.stage ≢ Closed) → Keeps reports limit o → Keeps (reports + 2) (limit + more) (at o r (still_cancelling m o.cancel))
-asked-keeps reports limit more m o r same is_live k = record {
+pub asked-keeps : (reports limit more after : ℕ) → reports ≤ after → (m : List ℕ) (o : OrderRecord) (r : Option Entry) → ((q : Entry) → r ≡ Some q → o.replace ≡ Some q) → (o.stage ≢ Closed) → Keeps reports limit o → Keeps after (limit + more) (at o r (still_cancelling m o.cancel))
+asked-keeps reports limit more after later m o r same is_live k = record {
   sound = record {
     total = k.sound.total;
     refused = k.sound.refused;
@@ -86,12 +88,23 @@ asked-keeps reports limit more m o r same is_live k = record {
   none_waiting = k.none_waiting;
   none_closed = k.none_closed;
   small = omega (arith, k.small);
-  numbered = AreNumbered-more reports (reports + 2) o.trades (omega arith) k.numbered;
+  numbered = AreNumbered-more reports after o.trades later k.numbered;
 }
+
+-- what is said of a pending cancel stays said of what is left of it
+pub still-of : (P : List ℕ → Type 0) (Q : Entry → Type 0) (R : List ℕ → Type 0) (m : List ℕ) (c : Option Cancelling) → ((x : Cancelling) → c ≡ Some x → Each P x.tokens × Q x.request × R (text 11 x.request.message))
+    → (y : Cancelling) → still_cancelling m c ≡ Some y → Each P y.tokens × Q y.request × R (text 11 y.request.message)
+still-of P Q R m c said y e =
+    let was = still-request m c y e in
+    let k = said was.0 was.1 in (
+      subst (λ (ts : List (List ℕ)). Each P ts) (sym was.3) (Each-filter P (λ token. not (answers m (SaysCancel token))) was.0.tokens k.0),
+      subst Q (sym was.2) k.1,
+      subst (λ (x : Entry). R (text 11 x.message)) (sym was.2) k.2,
+    )
 
 -- ---- Cancel Reject
 
-module _ (terms : List Terms) (old_id : List ℕ → List ℕ) (sent : List Message) (reports limit more : ℕ) (m : List ℕ) (o : OrderRecord)
+module _ (P : List ℕ → Type 0) (Q : Entry → Type 0) (R : List ℕ → Type 0) (terms : List Terms) (old_id : List ℕ → List ℕ) (sent : List Message) (reports limit more : ℕ) (m : List ℕ) (o : OrderRecord)
     (type : type_of m ≡ 73) (works : o.stage ≡ Working)
     (keeps : Keeps reports limit o) (named : AreNamed old_id o) (reads : Reads sent o) where
   abbrev pub cancel_reject_leaves : OrderRecord
@@ -107,14 +120,15 @@ module _ (terms : List Terms) (old_id : List ℕ → List ℕ) (sent : List Mess
       by_replace None = refl
       by_replace (Some q) = rw type refl
 
-  pub cancel_reject-moves : Moves terms old_id sent reports limit more m o cancel_reject_leaves
+  pub cancel_reject-moves : Moves P Q R terms old_id sent reports limit more m o cancel_reject_leaves
   cancel_reject-moves = record {
     same = refl;
+    kept = λ k. record { live = k.live; replace = k.replace; cancel = λ c e. still-of P Q R m o.cancel k.cancel c e; id = k.id };
     lives = rw type refl;
     leads = subst (λ (bodies : List Message). Leads o.new old_id sent bodies cancel_reject_leaves) (sym cancel_reject-bodies)
         (cancel-goes_on old_id m o o.replace o.cancel sent keeps.sound keeps.apart named reads);
     asked = λ e. cancel_reject-asked;
     price = rw type refl;
-    keeps = asked-keeps reports limit more m o o.replace (λ q e. e) (λ e. (let x : Working ≡ Closed = sym works ∙ e in cc)) keeps;
+    keeps = λ after later. asked-keeps reports limit more after (omega (arith, later)) m o o.replace (λ q e. e) (λ e. (let x : Working ≡ Closed = sym works ∙ e in cc)) keeps;
   }
 

@@ -26,7 +26,7 @@ use Rattle.order_histories.proofs.Canceled.{over-keeps}
 use Rattle.order_histories.proofs.Reports.{Tells, replaced, replaced-Reads, report-tells}
 use Rattle.order_histories.proofs.Rejects.{not_used-2}
 use Rattle.order_histories.proofs.Sound.{replaced-sound, without_replace-sound}
-use Rattle.order_histories.proofs.Rejected.{asked-keeps}
+use Rattle.order_histories.proofs.Rejected.{asked-keeps, still-of}
 
 -- an order whose replace is pending is that order
 with-replace : (o : OrderRecord) (q : Entry) → o.replace ≡ Some q → o ≡ at o (Some q) o.cancel
@@ -74,7 +74,7 @@ module _ (m : List ℕ) (q : Entry) (kind : is_replace q.message ≡ true) (toke
 
 -- ---- Rejected of a replace
 
-module _ (terms : List Terms) (old_id : List ℕ → List ℕ) (sent : List Message) (reports limit more : ℕ) (m : List ℕ) (b : OrderRecord) (q : Entry) (c : Option Cancelling)
+module _ (P : List ℕ → Type 0) (Q : Entry → Type 0) (R : List ℕ → Type 0) (terms : List Terms) (old_id : List ℕ → List ℕ) (sent : List Message) (reports limit more : ℕ) (m : List ℕ) (b : OrderRecord) (q : Entry) (c : Option Cancelling)
     (type : type_of m ≡ 74) (still : b.stage ≢ Closed) (not_first : (is_waiting b.stage && is_live (lived b) (heard.token m)) ≡ false)
     (token : heard.token m ≡ token_of q)
     (keeps : Keeps reports limit (at b (Some q) c)) (named : AreNamed old_id (at b (Some q) c)) (reads : Reads sent (at b (Some q) c)) where
@@ -125,28 +125,29 @@ module _ (terms : List Terms) (old_id : List ℕ → List ℕ) (sent : List Mess
       (leads-more old_id sent _ _ (at b None c) p first
       (cancel-goes_on old_id m b None c _ (without_replace-sound o keeps.sound) (AreApart-rest b (Some q) c keeps.apart) (AreNamed-rest old_id b (Some q) c named) first.reads))
 
-  not_replaced-moves : Moves terms old_id sent reports limit more m o p
+  not_replaced-moves : Moves P Q R terms old_id sent reports limit more m o p
   not_replaced-moves = record {
     same = refl;
+    kept = λ k. record { live = k.live; replace = λ x e. absurd (cc); cancel = λ d e. still-of P Q R m c k.cancel d e; id = k.id };
     lives = not_replaced-lives;
     leads = not_replaced-leads;
     asked = λ e. not_replaced-asked;
     price = rw type refl;
-    keeps = asked-keeps reports limit more m o None (λ x e. absurd (cc)) still keeps;
+    keeps = λ after later. asked-keeps reports limit more after (omega (arith, later)) m o None (λ x e. absurd (cc)) still keeps;
   }
 
-pub not_replaced : (terms : List Terms) (old_id : List ℕ → List ℕ) (sent : List Message) (reports limit more : ℕ) (m : List ℕ) (o : OrderRecord) (q : Entry)
+pub not_replaced : (P : List ℕ → Type 0) (Q : Entry → Type 0) (R : List ℕ → Type 0) (terms : List Terms) (old_id : List ℕ → List ℕ) (sent : List Message) (reports limit more : ℕ) (m : List ℕ) (o : OrderRecord) (q : Entry)
     → type_of m ≡ 74 → o.stage ≢ Closed → (is_waiting o.stage && is_live (lived o) (heard.token m)) ≡ false → o.replace ≡ Some q → heard.token m ≡ token_of q
-    → Keeps reports limit o → AreNamed old_id o → Reads sent o → Moves terms old_id sent reports limit more m o (at o None (still_cancelling m o.cancel))
-not_replaced terms old_id sent reports limit more m o q type still not_first is_q token keeps named reads =
+    → Keeps reports limit o → AreNamed old_id o → Reads sent o → Moves P Q R terms old_id sent reports limit more m o (at o None (still_cancelling m o.cancel))
+not_replaced P Q R terms old_id sent reports limit more m o q type still not_first is_q token keeps named reads =
     let same = with-replace o q is_q in
-    subst (λ (x : OrderRecord). Moves terms old_id sent reports limit more m x (at o None (still_cancelling m o.cancel))) (sym same)
-    (not_replaced-moves terms old_id sent reports limit more m o q o.cancel type still not_first token
+    subst (λ (x : OrderRecord). Moves P Q R terms old_id sent reports limit more m x (at o None (still_cancelling m o.cancel))) (sym same)
+    (not_replaced-moves P Q R terms old_id sent reports limit more m o q o.cancel type still not_first token
     (subst (λ (x : OrderRecord). Keeps reports limit x) same keeps) (subst (λ (x : OrderRecord). AreNamed old_id x) same named) (subst (λ (x : OrderRecord). Reads sent x) same reads))
 
 -- ---- Replaced
 
-module _ (terms : List Terms) (old_id : List ℕ → List ℕ) (sent : List Message) (reports limit more : ℕ) (m : List ℕ) (b : OrderRecord) (q : Entry) (c : Option Cancelling)
+module _ (P : List ℕ → Type 0) (Q : Entry → Type 0) (R : List ℕ → Type 0) (terms : List Terms) (old_id : List ℕ → List ℕ) (sent : List Message) (reports limit more : ℕ) (m : List ℕ) (b : OrderRecord) (q : Entry) (c : Option Cancelling)
     (type : type_of m ≡ 85) (works : b.stage ≡ Working) (live : is_live (lived b) (heard.previous_token m) ≡ true)
     (token : heard.token m ≡ token_of q)
     (shares : heard.shares m ≤ more) (more_small : more < 10 ^ 63) (limit_small : limit < 10 ^ 63)
@@ -211,15 +212,16 @@ module _ (terms : List Terms) (old_id : List ℕ → List ℕ) (sent : List Mess
   alive-asked : unanswered m (asked_as terms u) ≡ asked_as terms alive_then
   alive-asked = asked-parts terms m u ∙ (let own = eq-same (token_of q) in rw (works, type, token, own) refl)
 
-  alive-moves : is_dead_state m ≡ false → Moves terms old_id sent reports limit more m u alive_then
+  alive-moves : is_dead_state m ≡ false → Moves P Q R terms old_id sent reports limit more m u alive_then
   alive-moves alive = record {
     same = refl;
+    kept = λ k. record { live = (subst P (sym token) (k.replace q refl).0, k.live); replace = λ x e. absurd (cc); cancel = λ d e. still-of P Q R m c k.cancel d e; id = (k.replace q refl).2 };
     lives = rw (type, live, alive) refl;
     leads = subst (λ (bodies : List Message). Leads b.new old_id sent bodies alive_then) (sym (alive-bodies alive))
         (leads-more old_id sent _ _ r alive_then replaced-tells (cancel-goes_on old_id m r None c _ sound apart named' replaced-tells.reads));
     asked = λ e. alive-asked;
     price = price_now;
-    keeps = record {
+    keeps = λ after later. record {
       sound = record { total = λ e. refl; refused = λ e. absurd (let x : true ≡ false = sym e ∙ live_order in cc); replaces = λ x e. absurd (cc); cancels = λ d e. (let was = still-request m c d e in ap (λ (x : Entry). is_replace x.message) was.2 ∙ keeps.sound.cancels was.0 was.1) };
       apart = record { requests = λ x d e. absurd (cc); current = λ x e. absurd (cc) };
       first = λ e. absurd (cc);
@@ -231,23 +233,24 @@ module _ (terms : List Terms) (old_id : List ℕ → List ℕ) (sent : List Mess
       none_waiting = λ e. absurd (cc);
       none_closed = λ e. absurd (cc);
       small = omega (arith, keeps.small, in_book, shares);
-      numbered = AreNumbered-more reports (reports + 2) b.trades (omega arith) keeps.numbered;
+      numbered = AreNumbered-more reports after b.trades (omega (arith, later)) keeps.numbered;
     };
   }
 
-  dead-moves : is_dead_state m ≡ true → Moves terms old_id sent reports limit more m u (unasked (gone r))
+  dead-moves : is_dead_state m ≡ true → Moves P Q R terms old_id sent reports limit more m u (unasked (gone r))
   dead-moves dead = record {
     same = refl;
+    kept = λ k. record { live = (subst P (sym token) (k.replace q refl).0, k.live); replace = λ x e. absurd (cc); cancel = λ d e. absurd (cc); id = (k.replace q refl).2 };
     lives = rw (type, live, dead) refl;
     leads = subst (λ (bodies : List Message). Leads b.new old_id sent bodies (unasked (gone r))) (sym (dead-bodies dead))
         (leads-more old_id sent _ _ r (unasked (gone r)) replaced-tells
         (cancelled-leads old_id (reports + 2) None r refl _ None c sound apart named' replaced-tells.reads));
     asked = λ e. absurd (cc);
     price = price_now;
-    keeps = over-keeps reports limit more b (unasked (gone r)) refl refl refl refl keeps.rejected refl (omega (arith, keeps.small)) keeps.numbered;
+    keeps = λ after later. over-keeps reports limit more after b (unasked (gone r)) (omega (arith, later)) refl refl refl refl keeps.rejected refl (omega (arith, keeps.small)) keeps.numbered;
   }
 
-module _ (terms : List Terms) (old_id : List ℕ → List ℕ) (sent : List Message) (reports limit more : ℕ) (m : List ℕ) (o : OrderRecord) (q : Entry)
+module _ (P : List ℕ → Type 0) (Q : Entry → Type 0) (R : List ℕ → Type 0) (terms : List Terms) (old_id : List ℕ → List ℕ) (sent : List Message) (reports limit more : ℕ) (m : List ℕ) (o : OrderRecord) (q : Entry)
     (type : type_of m ≡ 85) (works : o.stage ≡ Working) (live : is_live (lived o) (heard.previous_token m) ≡ true) (is_q : o.replace ≡ Some q)
     (token : heard.token m ≡ token_of q)
     (shares : heard.shares m ≤ more) (more_small : more < 10 ^ 63) (limit_small : limit < 10 ^ 63)
@@ -264,10 +267,10 @@ module _ (terms : List Terms) (old_id : List ℕ → List ℕ) (sent : List Mess
   reads' : Reads sent (at o (Some q) o.cancel)
   reads' = subst (λ (x : OrderRecord). Reads sent x) same reads
 
-  pub replaced_live : is_dead_state m ≡ false → Moves terms old_id sent reports limit more m o (at (replaced m q o) None (still_cancelling m o.cancel))
-  replaced_live alive = subst (λ (x : OrderRecord). Moves terms old_id sent reports limit more m x (at (replaced m q o) None (still_cancelling m o.cancel))) (sym same)
-      (alive-moves terms old_id sent reports limit more m o q o.cancel type works live token shares more_small limit_small keeps' named'' reads' alive)
+  pub replaced_live : is_dead_state m ≡ false → Moves P Q R terms old_id sent reports limit more m o (at (replaced m q o) None (still_cancelling m o.cancel))
+  replaced_live alive = subst (λ (x : OrderRecord). Moves P Q R terms old_id sent reports limit more m x (at (replaced m q o) None (still_cancelling m o.cancel))) (sym same)
+      (alive-moves P Q R terms old_id sent reports limit more m o q o.cancel type works live token shares more_small limit_small keeps' named'' reads' alive)
 
-  pub replaced_dead : is_dead_state m ≡ true → Moves terms old_id sent reports limit more m o (unasked (gone (replaced m q o)))
-  replaced_dead dead = subst (λ (x : OrderRecord). Moves terms old_id sent reports limit more m x (unasked (gone (replaced m q o)))) (sym same)
-      (dead-moves terms old_id sent reports limit more m o q o.cancel type works live token shares more_small limit_small keeps' named'' reads' dead)
+  pub replaced_dead : is_dead_state m ≡ true → Moves P Q R terms old_id sent reports limit more m o (unasked (gone (replaced m q o)))
+  replaced_dead dead = subst (λ (x : OrderRecord). Moves P Q R terms old_id sent reports limit more m x (unasked (gone (replaced m q o)))) (sym same)
+      (dead-moves P Q R terms old_id sent reports limit more m o q o.cancel type works live token shares more_small limit_small keeps' named'' reads' dead)

@@ -120,27 +120,30 @@ row_holds m l new pending =
 abbrev pub order_token : List ℕ → List ℕ
 order_token m = if is_type (codes "U") m then heard.previous_token m else heard.token m
 
--- The fault of a payload, if it is one. `T` is passed over, whatever its bytes; a System Event has no token.
+-- of the order that it is on, by its row
+abbrev pub judged_on : List Terms → ℕ → List ℕ → History → Option Entry → Option ℕ
+judged_on terms port m before None = Some token_fault
+judged_on terms port m before (Some new) =
+    if row_holds m (life_of new.order (accepted terms before) (handled port before)) new
+    (pending_tokens new.client (chain new.order (issued new.client before)) (accepted terms before))
+    then None else Some row_fault
+
+-- its tokens are known, and it is lawful of its order
+abbrev pub judged_tokens : List Terms → ℕ → List ℕ → History → Option ℕ
+judged_tokens terms port m before =
+    if is_known_token terms port (accepted terms before) (heard.token m)
+    then judged_on terms port m before (order_of_token terms port (accepted terms before) (order_token m))
+    else Some token_fault
+
+-- it is a message of its type. A System Event has no token.
+abbrev pub judged_bytes : List Terms → ℕ → List ℕ → History → Option (List Kind) → Option ℕ
+judged_bytes terms port m before None = Some type_fault
+judged_bytes terms port m before (Some layout) =
+    if not (is_message layout m) then Some bytes_fault
+    else (if is_type (codes "S") m then None else judged_tokens terms port m before)
+
+-- The fault of a payload, if it is one. `T` is passed over, whatever its bytes.
 abbrev pub judgement : List Terms → ℕ → List ℕ → History → Option ℕ
 judgement terms port m before =
     if length m == 0 then Some bytes_fault
-    else (if is_type (codes "T") m then None else by_layout (layout_in profile (type_of m)))
-  where
-    by_order : Option Entry → Option ℕ
-    by_order None = Some token_fault
-    by_order (Some new) =
-        if row_holds m (life_of new.order (accepted terms before) (handled port before)) new
-        (pending_tokens new.client (chain new.order (issued new.client before)) (accepted terms before))
-        then None else Some row_fault
-
-    by_tokens : Option ℕ
-    by_tokens =
-        if is_known_token terms port (accepted terms before) (heard.token m)
-        then by_order (order_of_token terms port (accepted terms before) (order_token m))
-        else Some token_fault
-
-    by_layout : Option (List Kind) → Option ℕ
-    by_layout None = Some type_fault
-    by_layout (Some layout) =
-        if not (is_message layout m) then Some bytes_fault
-        else (if is_type (codes "S") m then None else by_tokens)
+    else (if is_type (codes "T") m then None else judged_bytes terms port m before (layout_in profile (type_of m)))
