@@ -90,7 +90,7 @@ module _ (P : List ℕ → Type 0) (Q : Entry → Type 0) (R : List ℕ → Type
   pub live-moves : is_dead_state m ≡ false → Moves P Q R terms old_id sent reports limit more m o p
   live-moves alive = record {
     same = refl;
-    kept = λ k. record { live = k.live; replace = k.replace; cancel = k.cancel; id = k.id };
+    kept = λ k. record { front = k.front; live = k.live; replace = k.replace; cancel = k.cancel; id = k.id };
     lives = live-lives alive;
     leads = subst (λ (bodies : List Message). Leads o.new old_id sent bodies p) (sym (live-bodies alive)) (leads-one old_id sent _ p new-tells);
     asked = λ e. live-asked;

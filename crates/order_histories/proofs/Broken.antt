@@ -137,7 +137,7 @@ module _ (P : List ℕ → Type 0) (Q : Entry → Type 0) (R : List ℕ → Type
   pub broken-moves : Moves P Q R terms old_id sent reports limit more m o p
   broken-moves = record {
     same = refl;
-    kept = λ k. record { live = k.live; replace = k.replace; cancel = k.cancel; id = k.id };
+    kept = λ k. record { front = k.front; live = k.live; replace = k.replace; cancel = k.cancel; id = k.id };
     lives = broken-lives;
     leads = subst (λ (bodies : List Message). Leads o.new old_id sent bodies p) (sym broken-bodies)
         (leads-one old_id sent _ p (report-tells (reports + 1) (broken_occasion t reason) p old_id sent (broken-sound t o accepted keeps.sound)

@@ -89,7 +89,7 @@ module _ (P : List ℕ → Type 0) (Q : Entry → Type 0) (R : List ℕ → Type
     pub part-moves : Moves P Q R terms old_id sent reports limit more m o p
     part-moves = record {
       same = refl;
-      kept = λ k. record { live = k.live; replace = k.replace; cancel = k.cancel; id = k.id };
+      kept = λ k. record { front = k.front; live = k.live; replace = k.replace; cancel = k.cancel; id = k.id };
       lives = part-lives;
       leads = subst (λ (bodies : List Message). Leads o.new old_id sent bodies p) (sym part-bodies)
           (leads-one old_id sent _ p (report-tells (reports + 1) (trade_occasion trade) p old_id sent (traded-sound (reports + 1) trade o works keeps.sound)

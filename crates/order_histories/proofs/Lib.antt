@@ -16,3 +16,6 @@ pub mod Rejected
 pub mod Replaced
 pub mod Judged
 pub mod Row
+pub mod Addressed
+pub mod Fits
+pub mod Deaf

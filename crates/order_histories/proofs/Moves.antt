@@ -8,12 +8,12 @@ use Rattle.order_law.specs.declared.stage.Stage.{Stage}
 use Rattle.order_law.specs.declared.stage.Stage.TheVariants.{Waiting, Working, Closed}
 use Rattle.order_law.specs.declared.trade.Trade.{Trade}
 use Rattle.order_law.specs.Messages.{Message, text}
-use Rattle.order_law.specs.Life.{after, is_closed, is_live, is_waiting}
+use Rattle.order_law.specs.Life.{after, first_token, is_closed, is_live, is_waiting}
 use Rattle.order_law.specs.Reading.{Fill, is_report}
 use Rattle.order_law.specs.History.{Asked, Entry, Said, SaysCancel, Terms, answers, is_cancel_said, token_of}
 use Rattle.order_law.specs.Told.{opens, told_by_type}
 use Rattle.order_law.specs.Headline.{Each}
-use Rattle.order_histories.specs.OrderRecord.{Cancelling, OrderRecord, ToldTrade, asked_as, cancel_of, fill_of, kept, leaves, lived, shown_as, still_cancelling}
+use Rattle.order_histories.specs.OrderRecord.{Cancelling, OrderRecord, ToldTrade, asked_as, cancel_of, fill_of, kept, leaves, live_token, lived, shown_as, still_cancelling}
 use Rattle.order_histories.proofs.Due.{IsSound}
 use Rattle.order_histories.proofs.Leads.{AreApart, AreNamed, Leads}
 
@@ -48,6 +48,7 @@ unanswered m asked = filter (λ (a : Asked). not (answers m a.said)) asked
 
 -- what is said of each token of an order, of each pending request and of each id that it goes by
 pub record Of (P : List ℕ → Type 0) (Q : Entry → Type 0) (R : List ℕ → Type 0) (o : OrderRecord) : Type 0 where
+  pub front : P (live_token o)
   pub live : Each P o.tokens
   pub replace : (q : Entry) → o.replace ≡ Some q → P (token_of q) × Q q × R (text 11 q.message)
   pub cancel : (c : Cancelling) → o.cancel ≡ Some c → Each P c.tokens × Q c.request × R (text 11 c.request.message)
@@ -56,6 +57,7 @@ pub record Of (P : List ℕ → Type 0) (Q : Entry → Type 0) (R : List ℕ →
 -- of an order without requests
 pub Of-unasked : (P : List ℕ → Type 0) (Q : Entry → Type 0) (R : List ℕ → Type 0) (o p : OrderRecord) → p.tokens ≡ o.tokens → p.id ≡ o.id → p.replace ≡ None → p.cancel ≡ None → Of P Q R o → Of P Q R p
 Of-unasked P Q R o p same same_id no_r no_c k = record {
+  front = subst (λ (ts : List (List ℕ)). P (first_token ts)) (sym same) k.front;
   live = subst (λ (ts : List (List ℕ)). Each P ts) (sym same) k.live;
   replace = λ q e. absurd (let x : ◌≡◌ {A = Option Entry} None (Some q) = sym no_r ∙ e in cc);
   cancel = λ c e. absurd (let x : ◌≡◌ {A = Option Cancelling} None (Some c) = sym no_c ∙ e in cc);

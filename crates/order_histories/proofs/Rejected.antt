@@ -123,7 +123,7 @@ module _ (P : List ℕ → Type 0) (Q : Entry → Type 0) (R : List ℕ → Type
   pub cancel_reject-moves : Moves P Q R terms old_id sent reports limit more m o cancel_reject_leaves
   cancel_reject-moves = record {
     same = refl;
-    kept = λ k. record { live = k.live; replace = k.replace; cancel = λ c e. still-of P Q R m o.cancel k.cancel c e; id = k.id };
+    kept = λ k. record { front = k.front; live = k.live; replace = k.replace; cancel = λ c e. still-of P Q R m o.cancel k.cancel c e; id = k.id };
     lives = rw type refl;
     leads = subst (λ (bodies : List Message). Leads o.new old_id sent bodies cancel_reject_leaves) (sym cancel_reject-bodies)
         (cancel-goes_on old_id m o o.replace o.cancel sent keeps.sound keeps.apart named reads);

@@ -128,7 +128,7 @@ module _ (P : List ℕ → Type 0) (Q : Entry → Type 0) (R : List ℕ → Type
   not_replaced-moves : Moves P Q R terms old_id sent reports limit more m o p
   not_replaced-moves = record {
     same = refl;
-    kept = λ k. record { live = k.live; replace = λ x e. absurd (cc); cancel = λ d e. still-of P Q R m c k.cancel d e; id = k.id };
+    kept = λ k. record { front = k.front; live = k.live; replace = λ x e. absurd (cc); cancel = λ d e. still-of P Q R m c k.cancel d e; id = k.id };
     lives = not_replaced-lives;
     leads = not_replaced-leads;
     asked = λ e. not_replaced-asked;
@@ -215,7 +215,7 @@ module _ (P : List ℕ → Type 0) (Q : Entry → Type 0) (R : List ℕ → Type
   alive-moves : is_dead_state m ≡ false → Moves P Q R terms old_id sent reports limit more m u alive_then
   alive-moves alive = record {
     same = refl;
-    kept = λ k. record { live = (subst P (sym token) (k.replace q refl).0, k.live); replace = λ x e. absurd (cc); cancel = λ d e. still-of P Q R m c k.cancel d e; id = (k.replace q refl).2 };
+    kept = λ k. record { front = subst P (sym token) (k.replace q refl).0; live = (subst P (sym token) (k.replace q refl).0, k.live); replace = λ x e. absurd (cc); cancel = λ d e. still-of P Q R m c k.cancel d e; id = (k.replace q refl).2 };
     lives = rw (type, live, alive) refl;
     leads = subst (λ (bodies : List Message). Leads b.new old_id sent bodies alive_then) (sym (alive-bodies alive))
         (leads-more old_id sent _ _ r alive_then replaced-tells (cancel-goes_on old_id m r None c _ sound apart named' replaced-tells.reads));
@@ -240,7 +240,7 @@ module _ (P : List ℕ → Type 0) (Q : Entry → Type 0) (R : List ℕ → Type
   dead-moves : is_dead_state m ≡ true → Moves P Q R terms old_id sent reports limit more m u (unasked (gone r))
   dead-moves dead = record {
     same = refl;
-    kept = λ k. record { live = (subst P (sym token) (k.replace q refl).0, k.live); replace = λ x e. absurd (cc); cancel = λ d e. absurd (cc); id = (k.replace q refl).2 };
+    kept = λ k. record { front = subst P (sym token) (k.replace q refl).0; live = (subst P (sym token) (k.replace q refl).0, k.live); replace = λ x e. absurd (cc); cancel = λ d e. absurd (cc); id = (k.replace q refl).2 };
     lives = rw (type, live, dead) refl;
     leads = subst (λ (bodies : List Message). Leads b.new old_id sent bodies (unasked (gone r))) (sym (dead-bodies dead))
         (leads-more old_id sent _ _ r (unasked (gone r)) replaced-tells
