@@ -19,3 +19,6 @@ pub mod Row
 pub mod Addressed
 pub mod Fits
 pub mod Deaf
+pub mod Agreeing
+pub mod Holds
+pub mod Hearing

@@ -1,0 +1,193 @@
+-- A message of the market keeps what every told history keeps, and each order true.
+use Rattle.std.proofs.Common.{◌≡◌, ◌≢◌, ℕ, suc, ◌+◌, ◌*◌, ◌<◌, ◌≤◌, ◌^◌, Bool, true, false, List, [], ◌∷◌, ◌++◌, length, map, reverse, refl, sym, ap, ◌∙◌, subst, arith, decimal, codes, bytes_eq, Option, Some, None, eqb-true, eq-eqb, ne_eqb}
+use Rattle.std.specs.Prelude.{◌&&◌, ◌||◌, ◌==◌, not, if◌then◌else◌, is_some, filter}
+use Rattle.std.specs.List.{count_by, find, list_any}
+use Rattle.tokens.specs.TokenText.{token_text}
+use Rattle.ouch_codec.specs.FromMarket as heard
+use Rattle.ouch_codec.specs.Parts.{type_of}
+use Rattle.order_law.specs.Messages.{Message, character, is}
+use Rattle.order_law.specs.Life.{Life, after, born, is_closed, is_live, is_of, is_type, life}
+use Rattle.order_law.specs.Reading.{is_report}
+use Rattle.order_law.specs.Chain.{chain, is_used, orders}
+use Rattle.order_law.specs.History.{Asked, Entry, Heard, History, Terms, Turn, accepted, answers, given, handled, is_new_order, issued, life_of, new_of, numbered, outstanding, pending_tokens, terms_of, token_of}
+use Rattle.order_law.specs.Lawful.{has_token, is_known_token, judgement, order_of_token, order_token}
+use Rattle.order_law.specs.Told.{Told, answers_last_cancel, nobody, opens, price_after, reports_in, told, told_by_type, told_on, to_client_of}
+use Rattle.order_law.specs.Headline.{Each, IsTrueToMarket, ReadsWell, old_ids, said_in}
+use Rattle.order_histories.specs.OrderRecord.{Cancelling, OrderRecord, ToldTrade, asked_as, fill_of, lived, read, shown_as}
+use Rattle.order_histories.proofs.Texts.{and-parts, eq-decimal_other, eq-is, eq-other, eq-same, token-same}
+use Rattle.order_histories.proofs.Lists.{Each-map, Each-filter, found-passes}
+use Rattle.order_histories.proofs.Due.{IsUnread, IsUnread-others, Others, Reads, Reads-others, ReadsWell-others}
+use Rattle.order_histories.proofs.Executed.{AreNumbered-more, count-more}
+use Rattle.order_histories.proofs.Leads.{Leads, onto, same_some}
+use Rattle.order_histories.proofs.Moves.{Keeps, Moves, Of, answers_last, unanswered}
+use Rattle.order_histories.proofs.Addressed.{IsOn, on-others, onto-reverse, orders-onto, others-onto, told-on, used-onto}
+use Rattle.order_histories.proofs.Fits.{Fits, IsFound, IsHome, IsUsed, life-of, named, own, own-after, shown-is, tokens-are}
+use Rattle.order_histories.proofs.Deaf.{IsDeaf}
+use Rattle.order_histories.proofs.Agreeing.{agree-so, pending-of}
+use Rattle.order_histories.proofs.Holds.{FitsIn, HasRecord, Holds, IsEntry, Keeps-more, Of-used, news, orders_of, port_of, quiet-Fits, record-of, true-of, each-find}
+use Rattle.order_histories.proofs.Deaf.{apart-home, other-deaf, tokenless-deaf}
+use Rattle.order_histories.proofs.Judged.{IsLawful, accepted-shares, lawful, replaced-shares}
+use Rattle.order_histories.proofs.Row.{replacement-is, replacements, row-moves}
+use Rattle.order_law.specs.declared.stage.Stage.{Stage}
+use Rattle.order_law.specs.declared.stage.Stage.TheVariants.{Waiting, Working, Closed}
+use Rattle.order_law.specs.History.{Said, SaysCancel, SaysNew, SaysReplace}
+
+append-nothing : {A : Type 0} (xs : List A) → xs ++ [] ≡ xs
+append-nothing [] = refl
+append-nothing (x ∷ xs) = ap (λ ys. x ∷ ys) (append-nothing xs)
+
+-- nothing is asked of an order that is closed
+closed-asked : (terms : List Terms) (reports limit : ℕ) (o : OrderRecord) → Keeps reports limit o → is_closed o.stage ≡ true → asked_as terms o ≡ []
+closed-asked terms reports limit o k over = by_stage o.stage refl over
+  where
+    by_stage : (s : Stage) → o.stage ≡ s → is_closed s ≡ true → asked_as terms o ≡ []
+    by_stage Waiting e over = absurd (cc)
+    by_stage Working e over = absurd (cc)
+    by_stage Closed e over = rw (k.over_replace e, k.over_cancel e, e) refl
+
+abbrev pub heard_turn : ℕ → List ℕ → ℕ → List Message → List (List ℕ) → Option ℕ → Turn
+heard_turn port m client bodies sends fault = record { event = Heard port m; client = client; bodies = bodies; sends = sends; fault = fault }
+
+pub numbered-heard : (port : ℕ) (m : List ℕ) (client : ℕ) (bodies : List Message) (sends : List (List ℕ)) (fault : Option ℕ) (before : History) → numbered (heard_turn port m client bodies sends fault ∷ before) ≡ 0 + numbered before
+numbered-heard port m client bodies sends fault before = count-more _ (heard_turn port m client bodies sends fault) before
+
+-- ---- a payload that is handled
+
+module _ (terms : List Terms) (before : History) (port : ℕ) (m : List ℕ) (client : ℕ) (bodies : List Message) (sends : List (List ℕ)) (H : Holds terms before) where
+  abbrev t : Turn
+  t = heard_turn port m client bodies sends None
+
+  -- what is then asked for an order
+  asked-now : (k : List ℕ) (p : ℕ) (c : Bool) → is_closed (life_of k (accepted terms before) (handled p (t ∷ before))).stage ≡ c → own k (outstanding terms p (t ∷ before)) ≡ (if c then [] else unanswered m (own k (outstanding terms p before)))
+  asked-now k p c is_c = ap (own k) (append-nothing (filter still (outstanding terms p before))) ∙ own-after k (accepted terms before) (handled p (t ∷ before)) m c is_c (outstanding terms p before)
+    where
+      still : Asked → Bool
+      still a = not (answers m a.said || is_closed (life_of a.order (accepted terms before) (handled p (t ∷ before))).stage)
+
+  asked-as : (o p : OrderRecord) (port' : ℕ) → own o.new.order (outstanding terms port' before) ≡ asked_as terms o → life_of o.new.order (accepted terms before) (handled port' (t ∷ before)) ≡ lived p
+      → (is_closed p.stage ≡ true → asked_as terms p ≡ []) → (is_closed p.stage ≡ false → unanswered m (asked_as terms o) ≡ asked_as terms p) → own o.new.order (outstanding terms port' (t ∷ before)) ≡ asked_as terms p
+  asked-as o p port' was lives over goes_on = asked-now o.new.order port' (is_closed p.stage) (ap (λ (l : Life). is_closed l.stage) lives) ∙ by_closed (is_closed p.stage) refl
+    where
+      by_closed : (c : Bool) → is_closed p.stage ≡ c → (if c then [] else unanswered m (own o.new.order (outstanding terms port' before))) ≡ asked_as terms p
+      by_closed true e = sym (over e)
+      by_closed false e = ap (unanswered m) was ∙ goes_on e
+
+  -- an order that hears nothing of it
+  module _ (o : OrderRecord) (f : FitsIn terms before o) (deaf : IsDeaf terms m o) where
+    abbrev p : ℕ
+    p = port_of terms o.new
+
+    same-life : (b : Bool) → life (token_of o.new) (character 54 o.new.message) (if b && true then m ∷ handled p before else handled p before) ≡ life (token_of o.new) (character 54 o.new.message) (handled p before)
+    same-life true = ap (λ (l : Life). after l m) f.lives ∙ deaf.lives ∙ sym f.lives
+    same-life false = refl
+
+    same-price : (b : Bool) → price_after o.new (accepted terms before) (if b && true then m ∷ handled p before else handled p before) ≡ price_after o.new (accepted terms before) (handled p before)
+    same-price true = let none : opens (life_of o.new.order (accepted terms before) (handled p before)) m ≡ false = ap (λ (l : Life). opens l m) (life-of terms (accepted terms before) (numbered before) (issued o.new.client before) (handled p before) (outstanding terms p before) (reports_in before) (1_000_000 * length before) o f) ∙ deaf.opens_none in rw none refl
+    same-price false = refl
+
+    same-asked : own o.new.order (outstanding terms p (t ∷ before)) ≡ own o.new.order (outstanding terms p before)
+    same-asked =
+        asked-as o o p f.asked_so (rw f.known (same-life (port == p) ∙ f.lives)) (closed-asked terms (reports_in before) (1_000_000 * length before) o f.keeps) (λ e. deaf.asked) ∙ sym f.asked_so
+
+    pub deaf-fits : Reads (issued o.new.client (t ∷ before)) o → ((id : List ℕ) → is_used id (issued o.new.client before) ≡ true → is_used id (issued o.new.client (t ∷ before)) ≡ true) → FitsIn terms (t ∷ before) o
+    deaf-fits reads used = quiet-Fits terms (accepted terms before) (numbered before) (numbered (t ∷ before)) (issued o.new.client before) (issued o.new.client (t ∷ before)) (handled p before) (handled p (t ∷ before)) (outstanding terms p before) (outstanding terms p (t ∷ before))
+        (reports_in before) (reports_in (t ∷ before)) (1_000_000 * length before) (1_000_000 * length (t ∷ before)) o f same_count reads used (same-life (port == p)) (same-price (port == p)) same-asked (omega arith) (omega arith)
+      where
+        same_count : numbered before ≤ numbered (t ∷ before)
+        same_count = omega (arith, numbered-heard port m client bodies sends None before)
+
+-- a message whose type is none of these changes no order
+module _ (m : List ℕ) (a : is_type (codes "A") m ≡ false) (u : is_type (codes "U") m ≡ false) (c : is_type (codes "C") m ≡ false) (e : is_type (codes "E") m ≡ false) (b : is_type (codes "B") m ≡ false) (j : is_type (codes "J") m ≡ false) (i : is_type (codes "I") m ≡ false) where
+  pub tokenless-life : (l : Life) → after l m ≡ l
+  tokenless-life l = rw (a, u, e, c, b, j) refl
+
+  tokenless-answers : (said : Said) → answers m said ≡ false
+  tokenless-answers (SaysNew token) = rw (a, j) refl
+  tokenless-answers (SaysReplace from to) = rw (u, j) refl
+  tokenless-answers (SaysCancel token) = rw (u, j, i) refl
+
+-- ---- nobody is told anything
+
+module _ (terms : List Terms) (before : History) (port : ℕ) (m : List ℕ) (sends : List (List ℕ)) (fault : Option ℕ) (H : Holds terms before) where
+  abbrev quiet : Turn
+  quiet = heard_turn port m 0 [] sends fault
+
+  pub same-issued : (c : ℕ) → issued c (quiet ∷ before) ≡ issued c before
+  same-issued c = by_test (0 == c)
+    where
+      by_test : (b : Bool) → (if b then reverse [] ++ issued c before else issued c before) ≡ issued c before
+      by_test true = refl
+      by_test false = refl
+
+  same-reads : (o : OrderRecord) → FitsIn terms before o → Reads (issued o.new.client (quiet ∷ before)) o
+  same-reads o f = subst (λ (xs : List Message). Reads xs o) (sym (same-issued o.new.client)) f.reads
+
+  same-used : (c : ℕ) (id : List ℕ) → is_used id (issued c before) ≡ true → is_used id (issued c (quiet ∷ before)) ≡ true
+  same-used c id e = ap (is_used id) (same-issued c) ∙ e
+
+  -- where each order stays as it is
+  pub quiet-Holds : ((o : OrderRecord) → FitsIn terms before o → FitsIn terms (quiet ∷ before) o)
+      → ((n p side : ℕ) → given (accepted terms before) < n → n ≤ 9_999_999_999_999 → life (token_text n) side (handled p (quiet ∷ before)) ≡ born (token_text n) side)
+      → ((n p : ℕ) → numbered before < n → n < 10 ^ 64 → own (decimal n) (outstanding terms p (quiet ∷ before)) ≡ [])
+      → Holds terms (quiet ∷ before) × Each (IsTrueToMarket terms quiet before) (news (accepted terms before))
+  quiet-Holds same unborn unasked = (
+    record {
+      entries = Each-map (IsEntry terms (accepted terms before) (numbered before)) (IsEntry terms (accepted terms before) (numbered (quiet ∷ before))) (accepted terms before)
+          (λ e i. record { new = i.new; found = i.found; same_client = i.same_client; is_given = i.is_given; number = i.number; order_is = i.order_is; is_numbered = omega (arith, i.is_numbered, count) }) H.entries;
+      short = H.short;
+      records = records;
+      listed = λ c. ap orders (same-issued c) ∙ H.listed c;
+      unread = λ n c above small. subst (λ (xs : List Message). IsUnread (decimal n) xs) (sym (same-issued c)) (H.unread n c (omega (arith, above, count)) small);
+      unborn = unborn;
+      unasked = λ n p above small. unasked n p (omega (arith, above, count)) small;
+      few = omega (arith, H.few, count);
+    },
+    Each-map (HasRecord terms (quiet ∷ before)) (IsTrueToMarket terms quiet before) (news (accepted terms before)) (λ e r. true-of terms quiet before e r (λ mine. tt)) records,
+  )
+    where
+      count : numbered (quiet ∷ before) ≡ 0 + numbered before
+      count = numbered-heard port m 0 [] sends fault before
+
+      records : Each (HasRecord terms (quiet ∷ before)) (news (accepted terms before))
+      records = Each-map (HasRecord terms before) (HasRecord terms (quiet ∷ before)) (news (accepted terms before)) (λ e r. record { order = r.order; same = r.same; fits = same r.order r.fits }) H.records
+
+-- a payload that is a fault
+pub fault-Holds : (terms : List Terms) (before : History) (port : ℕ) (m : List ℕ) (sends : List (List ℕ)) (n : ℕ) → Holds terms before → Holds terms (heard_turn port m 0 [] sends (Some n) ∷ before) × Each (IsTrueToMarket terms (heard_turn port m 0 [] sends (Some n)) before) (news (accepted terms before))
+fault-Holds terms before port m sends n H = quiet-Holds terms before port m sends (Some n) H same (λ k p side above most. ap (life (token_text k) side) (same-handled p) ∙ H.unborn k p side above most) (λ k p above small. ap (own (decimal k)) (append-nothing (outstanding terms p before)) ∙ H.unasked k p above small)
+  where
+    q : Turn
+    q = heard_turn port m 0 [] sends (Some n)
+
+    same-handled : (p : ℕ) → handled p (q ∷ before) ≡ handled p before
+    same-handled p = by_test (port == p)
+      where
+        by_test : (b : Bool) → (if b && false then m ∷ handled p before else handled p before) ≡ handled p before
+        by_test true = refl
+        by_test false = refl
+
+    same : (o : OrderRecord) → FitsIn terms before o → FitsIn terms (q ∷ before) o
+    same o f = quiet-Fits terms (accepted terms before) (numbered before) (numbered (q ∷ before)) (issued o.new.client before) (issued o.new.client (q ∷ before)) (handled (port_of terms o.new) before) (handled (port_of terms o.new) (q ∷ before))
+        (outstanding terms (port_of terms o.new) before) (outstanding terms (port_of terms o.new) (q ∷ before)) (reports_in before) (reports_in (q ∷ before)) (1_000_000 * length before) (1_000_000 * length (q ∷ before)) o f
+        (omega (arith, numbered-heard port m 0 [] sends (Some n) before)) (same-reads terms before port m sends (Some n) H o f) (same-used terms before port m sends (Some n) H o.new.client)
+        (ap (life (token_of o.new) (character 54 o.new.message)) (same-handled (port_of terms o.new))) (ap (price_after o.new (accepted terms before)) (same-handled (port_of terms o.new)))
+        (ap (own o.new.order) (append-nothing (outstanding terms (port_of terms o.new) before))) (omega arith) (omega arith)
+
+-- a payload without a token
+pub tokenless-Holds : (terms : List Terms) (before : History) (port : ℕ) (m : List ℕ) (sends : List (List ℕ)) → Holds terms before
+    → is_type (codes "A") m ≡ false → is_type (codes "U") m ≡ false → is_type (codes "C") m ≡ false → is_type (codes "E") m ≡ false → is_type (codes "B") m ≡ false → is_type (codes "J") m ≡ false → is_type (codes "I") m ≡ false
+    → Holds terms (heard_turn port m 0 [] sends None ∷ before) × Each (IsTrueToMarket terms (heard_turn port m 0 [] sends None) before) (news (accepted terms before))
+tokenless-Holds terms before port m sends H a u c e b j i = quiet-Holds terms before port m sends None H
+    (λ o f. deaf-fits terms before port m 0 [] sends H o f (tokenless-deaf terms m o a u c e b j i) (same-reads terms before port m sends None H o f) (same-used terms before port m sends None H o.new.client))
+    (λ k p side above most. same-life k p side above most (port == p))
+    (λ k p above small. asked-now terms before port m 0 [] sends H (decimal k) p (is_closed (life_of (decimal k) (accepted terms before) (handled p (q ∷ before))).stage) refl ∙ by_closed k p above small (is_closed (life_of (decimal k) (accepted terms before) (handled p (q ∷ before))).stage))
+  where
+    q : Turn
+    q = heard_turn port m 0 [] sends None
+
+    same-life : (k p side : ℕ) → given (accepted terms before) < k → k ≤ 9_999_999_999_999 → (f : Bool) → life (token_text k) side (if f && true then m ∷ handled p before else handled p before) ≡ born (token_text k) side
+    same-life k p side above most true = ap (λ (l : Life). after l m) (H.unborn k p side above most) ∙ tokenless-life m a u c e b j i (born (token_text k) side)
+    same-life k p side above most false = H.unborn k p side above most
+
+    by_closed : (k p : ℕ) → numbered before < k → k < 10 ^ 64 → (f : Bool) → (if f then [] else unanswered m (own (decimal k) (outstanding terms p before))) ≡ []
+    by_closed k p above small true = refl
+    by_closed k p above small false = rw (H.unasked k p above small) refl
