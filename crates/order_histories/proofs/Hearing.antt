@@ -37,7 +37,7 @@ append-nothing [] = refl
 append-nothing (x ∷ xs) = ap (λ ys. x ∷ ys) (append-nothing xs)
 
 -- nothing is asked of an order that is closed
-closed-asked : (terms : List Terms) (reports limit : ℕ) (o : OrderRecord) → Keeps reports limit o → is_closed o.stage ≡ true → asked_as terms o ≡ []
+pub closed-asked : (terms : List Terms) (reports limit : ℕ) (o : OrderRecord) → Keeps reports limit o → is_closed o.stage ≡ true → asked_as terms o ≡ []
 closed-asked terms reports limit o k over = by_stage o.stage refl over
   where
     by_stage : (s : Stage) → o.stage ≡ s → is_closed s ≡ true → asked_as terms o ≡ []
@@ -58,13 +58,13 @@ module _ (terms : List Terms) (before : History) (port : ℕ) (m : List ℕ) (cl
   t = heard_turn port m client bodies sends None
 
   -- what is then asked for an order
-  asked-now : (k : List ℕ) (p : ℕ) (c : Bool) → is_closed (life_of k (accepted terms before) (handled p (t ∷ before))).stage ≡ c → own k (outstanding terms p (t ∷ before)) ≡ (if c then [] else unanswered m (own k (outstanding terms p before)))
+  pub asked-now : (k : List ℕ) (p : ℕ) (c : Bool) → is_closed (life_of k (accepted terms before) (handled p (t ∷ before))).stage ≡ c → own k (outstanding terms p (t ∷ before)) ≡ (if c then [] else unanswered m (own k (outstanding terms p before)))
   asked-now k p c is_c = ap (own k) (append-nothing (filter still (outstanding terms p before))) ∙ own-after k (accepted terms before) (handled p (t ∷ before)) m c is_c (outstanding terms p before)
     where
       still : Asked → Bool
       still a = not (answers m a.said || is_closed (life_of a.order (accepted terms before) (handled p (t ∷ before))).stage)
 
-  asked-as : (o p : OrderRecord) (port' : ℕ) → own o.new.order (outstanding terms port' before) ≡ asked_as terms o → life_of o.new.order (accepted terms before) (handled port' (t ∷ before)) ≡ lived p
+  pub asked-as : (o p : OrderRecord) (port' : ℕ) → own o.new.order (outstanding terms port' before) ≡ asked_as terms o → life_of o.new.order (accepted terms before) (handled port' (t ∷ before)) ≡ lived p
       → (is_closed p.stage ≡ true → asked_as terms p ≡ []) → (is_closed p.stage ≡ false → unanswered m (asked_as terms o) ≡ asked_as terms p) → own o.new.order (outstanding terms port' (t ∷ before)) ≡ asked_as terms p
   asked-as o p port' was lives over goes_on = asked-now o.new.order port' (is_closed p.stage) (ap (λ (l : Life). is_closed l.stage) lives) ∙ by_closed (is_closed p.stage) refl
     where

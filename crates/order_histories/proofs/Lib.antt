@@ -22,3 +22,4 @@ pub mod Deaf
 pub mod Agreeing
 pub mod Holds
 pub mod Hearing
+pub mod Lawfully

@@ -1,0 +1,399 @@
+-- A lawful message on an order keeps what every told history keeps, and each order true.
+use Rattle.std.proofs.Common.{◌≡◌, ◌≢◌, ℕ, suc, ◌+◌, ◌*◌, ◌<◌, ◌≤◌, ◌^◌, Bool, true, false, List, [], ◌∷◌, ◌++◌, length, map, reverse, refl, sym, ap, ◌∙◌, subst, arith, decimal, codes, bytes_eq, Option, Some, None, eqb-true, eq-eqb, ne_eqb}
+use Rattle.std.specs.Prelude.{◌&&◌, ◌||◌, ◌==◌, not, if◌then◌else◌, is_some, filter}
+use Rattle.std.specs.List.{count_by, find, list_any}
+use Rattle.tokens.specs.TokenText.{token_text}
+use Rattle.ouch_codec.specs.FromMarket as heard
+use Rattle.ouch_codec.specs.Parts.{type_of}
+use Rattle.order_law.specs.Messages.{Message, character, is}
+use Rattle.order_law.specs.Life.{Life, after, born, is_closed, is_live, is_of, is_type, life}
+use Rattle.order_law.specs.Reading.{is_report}
+use Rattle.order_law.specs.Chain.{chain, is_used, orders}
+use Rattle.order_law.specs.History.{Asked, Entry, Heard, History, Terms, Turn, accepted, answers, given, handled, is_new_order, issued, life_of, new_of, numbered, outstanding, pending_tokens, terms_of, token_of}
+use Rattle.order_law.specs.Lawful.{has_token, is_known_token, judgement, order_of_token, order_token}
+use Rattle.order_law.specs.Told.{Told, answers_last_cancel, nobody, opens, price_after, reports_in, told, told_by_type, told_on, to_client_of}
+use Rattle.order_law.specs.Headline.{Each, IsTrueToMarket, ReadsWell, old_ids, said_in}
+use Rattle.order_histories.specs.OrderRecord.{Cancelling, OrderRecord, ToldTrade, asked_as, fill_of, lived, read, shown_as}
+use Rattle.order_histories.proofs.Texts.{and-parts, eq-decimal_other, eq-is, eq-other, eq-same, token-same}
+use Rattle.order_histories.proofs.Lists.{Each-map, Each-filter, found-passes}
+use Rattle.order_histories.proofs.Due.{IsUnread, IsUnread-others, Others, Reads, Reads-others, ReadsWell-others}
+use Rattle.order_histories.proofs.Executed.{AreNumbered-more, count-more}
+use Rattle.order_histories.proofs.Leads.{Leads, onto, same_some}
+use Rattle.order_histories.proofs.Moves.{Keeps, Moves, Of, answers_last, unanswered}
+use Rattle.order_histories.proofs.Addressed.{IsOn, on-others, onto-reverse, orders-onto, others-onto, told-on, used-onto}
+use Rattle.order_histories.proofs.Fits.{Fits, IsFound, IsHome, IsUsed, life-of, named, own, own-after, shown-is, tokens-are}
+use Rattle.order_histories.proofs.Deaf.{IsDeaf}
+use Rattle.order_histories.proofs.Agreeing.{agree-so, pending-of}
+use Rattle.std.proofs.Common.{ℕ}
+use Rattle.order_histories.proofs.Holds.{FitsIn, HasRecord, Holds, IsEntry, Keeps-more, Of-used, news, orders_of, port_of, quiet-Fits, record-of, true-of, each-find}
+use Rattle.order_histories.proofs.Deaf.{apart-home, other-deaf}
+use Rattle.order_histories.proofs.Judged.{IsLawful, accepted-shares, lawful, replaced-shares}
+use Rattle.order_histories.proofs.Row.{replacement-is, replacements, row-moves}
+use Rattle.order_histories.proofs.Hearing.{asked-as, asked-now, closed-asked, deaf-fits, heard_turn, numbered-heard}
+use Rattle.order_law.specs.Life.{is_waiting}
+use Rattle.order_law.specs.Lawful.{replaced_may, row_holds, same_terms, works_as}
+use Rattle.order_law.specs.Reading.{Reading, reading, Fill}
+use Rattle.order_law.specs.Told.{Shown, shown}
+use Rattle.order_law.specs.History.{is_cancel_said}
+use Rattle.std.specs.Prelude.{unwrap_or}
+use Rattle.order_histories.proofs.Texts.{eq-true}
+
+-- ---- whose order a token is
+
+pub record IsToken (terms : List Terms) (before : History) (port : ℕ) (token : List ℕ) (new : Entry) : Type 0 where
+  pub entry : Entry
+  pub found : new_of entry.order (accepted terms before) ≡ Some new
+  pub on_port : port_of terms new ≡ port
+  pub number : ℕ
+  pub is_text : token ≡ token_text number
+  pub is_given : number ≤ given (accepted terms before)
+  pub order : ℕ
+  pub order_is : new.order ≡ decimal order
+  pub is_numbered : order ≤ numbered before
+
+token-number : (e : Entry) → is_some e.token ≡ true → (n : ℕ) × (e.token ≡ Some n)
+token-number e some = by_token e.token refl some
+  where
+    by_token : (x : Option ℕ) → e.token ≡ x → is_some x ≡ true → (n : ℕ) × (e.token ≡ Some n)
+    by_token None is some = absurd (cc)
+    by_token (Some n) is some = (n, is)
+
+pub token-of : (terms : List Terms) (before : History) (port : ℕ) (token : List ℕ) (new : Entry) → Holds terms before → order_of_token terms port (accepted terms before) token ≡ Some new → IsToken terms before port token new
+token-of terms before port token new H on = by_found (find (has_token terms port token) (accepted terms before)) refl on
+  where
+    entry-token : (e : Entry) → new_of e.order (accepted terms before) ≡ Some new → has_token terms port token e ≡ true → IsEntry terms (accepted terms before) (numbered before) e → IsToken terms before port token new
+    entry-token e found has i =
+        let parts = and-parts (is_some e.token) ((terms_of terms e.client).port == port && bytes_eq (token_of e) token) has in
+        let rest = and-parts ((terms_of terms e.client).port == port) (bytes_eq (token_of e) token) parts.1 in
+        let n = token-number e parts.0 in
+        let same_new : i.new ≡ new = same_some i.new new (sym i.found ∙ found) in
+        let own_order : new.order ≡ e.order = eq-is new.order e.order (and-parts (bytes_eq new.order e.order) (is_new_order new.message) (found-passes (λ (x : Entry). bytes_eq x.order e.order && is_new_order x.message) (accepted terms before) new found)).0 in
+        record {
+          entry = e;
+          found = found;
+          on_port = ap (λ (x : Entry). (terms_of terms x.client).port) (sym same_new) ∙ ap (λ (c : ℕ). (terms_of terms c).port) i.same_client ∙ eqb-true (terms_of terms e.client).port port rest.0;
+          number = n.0;
+          is_text = sym (eq-is (token_of e) token rest.1) ∙ ap (λ (x : Option ℕ). token_text (unwrap_or x 0)) n.1;
+          is_given = (i.is_given n.0 n.1).1;
+          order = i.number;
+          order_is = own_order ∙ i.order_is;
+          is_numbered = i.is_numbered;
+        }
+
+    by_found : (x : Option Entry) → find (has_token terms port token) (accepted terms before) ≡ x → order_of_token terms port (accepted terms before) token ≡ Some new → IsToken terms before port token new
+    by_found None f on = absurd (let x : ◌≡◌ {A = Option Entry} None (Some new) = rw f at on in cc)
+    by_found (Some e) f on = entry-token e (rw f at on) (found-passes (has_token terms port token) (accepted terms before) e f) (each-find (IsEntry terms (accepted terms before) (numbered before)) (has_token terms port token) (accepted terms before) e H.entries f)
+
+-- ---- cancels of an order, among all that is asked
+
+any-own : (P : Asked → Bool) (k : List ℕ) (asked : List Asked) → list_any (λ (a : Asked). bytes_eq a.order k && P a) asked ≡ list_any P (own k asked)
+any-own P k [] = refl
+any-own P k (a ∷ asked) = by_test (bytes_eq a.order k) (any-own P k asked)
+  where
+    by_test : (b : Bool) → list_any (λ (a : Asked). bytes_eq a.order k && P a) asked ≡ list_any P (own k asked) → ((b && P a) || list_any (λ (a : Asked). bytes_eq a.order k && P a) asked) ≡ list_any P (if b then a ∷ own k asked else own k asked)
+    by_test true e = ap (λ (r : Bool). P a || r) e
+    by_test false e = e
+
+and-assoc : (a b c : Bool) → ((a && b) && c) ≡ (a && (b && c))
+and-assoc true b c = refl
+and-assoc false b c = refl
+
+any-same : (P Q : Asked → Bool) (xs : List Asked) → ((a : Asked) → P a ≡ Q a) → list_any P xs ≡ list_any Q xs
+any-same P Q [] same = refl
+any-same P Q (x ∷ xs) same = rw (same x, any-same P Q xs same) refl
+
+last-cancel : (k : List ℕ) (m : List ℕ) (asked : List Asked) → answers_last_cancel k m asked ≡ answers_last m (own k asked)
+last-cancel k m asked =
+    let first = any-own (λ (a : Asked). is_cancel_said a.said) k asked in
+    let second = any-same (λ (a : Asked). (bytes_eq a.order k && is_cancel_said a.said) && not (answers m a.said)) (λ (a : Asked). bytes_eq a.order k && (is_cancel_said a.said && not (answers m a.said))) asked (λ a. and-assoc (bytes_eq a.order k) (is_cancel_said a.said) (not (answers m a.said))) ∙ any-own (λ (a : Asked). is_cancel_said a.said && not (answers m a.said)) k asked in
+    rw (first, second) refl
+
+-- ---- what is issued
+
+abbrev issued_then : ℕ → List Message → ℕ → List Message → List Message
+issued_then client bodies c sent = if client == c then reverse bodies ++ sent else sent
+
+pub record IsIssued (new : Entry) (bodies B : List Message) (client : ℕ) : Type 0 where
+  pub all : bodies ≡ B
+  pub mine : (sent : List Message) → issued_then client bodies new.client sent ≡ onto B sent
+  pub others : (c : ℕ) → new.client ≢ c → (sent : List Message) → issued_then client bodies c sent ≡ sent
+
+told-issued : (new : Entry) (B : List Message) (client : ℕ) (bodies : List Message) → to_client_of new B ≡ record { client = client; bodies = bodies } → IsIssued new bodies B client
+told-issued new [] client bodies e =
+    let none : bodies ≡ [] = ap (λ (x : Told). x.bodies) (sym e) in
+    record { all = none; mine = λ sent. rw none (nothing (client == new.client) sent); others = λ c apart sent. rw none (nothing (client == c) sent) }
+  where
+    nothing : (b : Bool) (sent : List Message) → (if b then reverse [] ++ sent else sent) ≡ sent
+    nothing true sent = refl
+    nothing false sent = refl
+told-issued new (r ∷ rs) client bodies e =
+    let all : bodies ≡ r ∷ rs = ap (λ (x : Told). x.bodies) (sym e) in
+    let to : client ≡ new.client = ap (λ (x : Told). x.client) (sym e) in
+    record {
+      all = all;
+      mine = λ sent. rw (eq-eqb client new.client to, all) (onto-reverse (r ∷ rs) sent);
+      others = λ c apart sent. rw (ne_eqb client c (λ same. apart (sym to ∙ same))) refl;
+    }
+
+-- ---- the turn
+
+module _ (terms : List Terms) (before : History) (port : ℕ) (m : List ℕ) (client : ℕ) (bodies : List Message) (sends : List (List ℕ)) (H : Holds terms before)
+    (no_t : is_type (codes "T") m ≡ false) (no_s : is_type (codes "S") m ≡ false) (judged : judgement terms port m before ≡ None)
+    (tells : told terms (Heard port m) before ≡ record { client = client; bodies = bodies })
+    (price_small : heard.executed_price m < 2 ^ 128) (short : length before < 2 ^ 59) (reports_small : reports_in before < 10 ^ 64)
+    (l : IsLawful terms port m before) (o : OrderRecord) (f : FitsIn terms before o) (own_port : port_of terms o.new ≡ port) (same_new : o.new ≡ l.new) where
+  abbrev t : Turn
+  t = heard_turn port m client bodies sends None
+
+  abbrev A : List Entry
+  A = accepted terms before
+
+  lived-on : life_of o.new.order A (handled port before) ≡ lived o
+  lived-on = subst (λ (p : ℕ). life_of o.new.order A (handled p before) ≡ lived o) own_port (life-of terms A (numbered before) (issued o.new.client before) (handled (port_of terms o.new) before) (outstanding terms (port_of terms o.new) before) (reports_in before) (1_000_000 * length before) o f)
+
+  row : row_holds m (lived o) o.new (replacements o.replace) ≡ true
+  row =
+      let first : row_holds m (life_of o.new.order A (handled port before)) o.new (pending_tokens o.new.client (chain o.new.order (issued o.new.client before)) A) ≡ true = subst (λ (e : Entry). row_holds m (life_of e.order A (handled port before)) e (pending_tokens e.client (chain e.order (issued e.client before)) A) ≡ true) (sym same_new) l.row in
+      let second : row_holds m (lived o) o.new (pending_tokens o.new.client (chain o.new.order (issued o.new.client before)) A) ≡ true = ap (λ (x : Life). row_holds m x o.new (pending_tokens o.new.client (chain o.new.order (issued o.new.client before)) A)) (sym lived-on) ∙ first in
+      let tokens : pending_tokens o.new.client (chain o.new.order (issued o.new.client before)) A ≡ replacements o.replace = ap (λ (y : Rattle.order_law.specs.Chain.Chain). pending_tokens o.new.client y A) f.reads.chained_so ∙ tokens-are terms A (numbered before) (issued o.new.client before) (handled (port_of terms o.new) before) (outstanding terms (port_of terms o.new) before) (reports_in before) (1_000_000 * length before) o f in
+      ap (λ (ts : List (List ℕ)). row_holds m (lived o) o.new ts) (sym tokens) ∙ second
+
+  -- the order that the message is on, by its own token
+  on' : order_of_token terms port A (heard.token m) ≡ Some o.new
+  on' = by_u (is_type (codes "U") m) refl
+    where
+      by_u : (b : Bool) → is_type (codes "U") m ≡ b → order_of_token terms port A (heard.token m) ≡ Some o.new
+      by_u false u =
+          let same : order_token m ≡ heard.token m = rw u refl in
+          ap (order_of_token terms port A) (sym same) ∙ l.on ∙ ap Some (sym same_new)
+      by_u true u =
+          let type : type_of m ≡ 85 = eqb-true (type_of m) 85 u in
+          let may : replaced_may m (lived o) o.new (replacements o.replace) ≡ true = rw type at row in
+          let parts = and-parts (works_as (lived o) (heard.previous_token m)) (list_any (bytes_eq (heard.token m)) (replacements o.replace) && same_terms m o.new) may in
+          let asked = replacement-is o.replace (heard.token m) (and-parts (list_any (bytes_eq (heard.token m)) (replacements o.replace)) (same_terms m o.new) parts.1).0 in
+          let home = (f.holds.replace asked.0 asked.1).0 in
+          ap (order_of_token terms port A) asked.2 ∙ subst (λ (p : ℕ). order_of_token terms p A (token_of asked.0) ≡ Some o.new) own_port home.mine
+
+  own-token : IsToken terms before port (heard.token m) o.new
+  own-token = token-of terms before port (heard.token m) o.new H on'
+
+  abbrev B : List Message
+  B = told_by_type (reports_in before) m (lived o) (answers_last m (asked_as terms o)) (map fill_of o.trades) (shown_as o)
+
+  asked-own : answers_last_cancel o.new.order m (outstanding terms port before) ≡ answers_last m (asked_as terms o)
+  asked-own = last-cancel o.new.order m (outstanding terms port before) ∙ ap (answers_last m) (subst (λ (p : ℕ). own o.new.order (outstanding terms p before) ≡ asked_as terms o) own_port f.asked_so)
+
+  fills-own : (reading o.new.order (issued o.new.client before)).fills ≡ map fill_of o.trades
+  fills-own = ap (λ (x : Reading). x.fills) f.reads.read_so
+
+  shown-own : shown terms before o.new ≡ shown_as o
+  shown-own = shown-is terms before (numbered before) (outstanding terms (port_of terms o.new) before) (reports_in before) (1_000_000 * length before) o f
+
+  told-all : told_by_type (reports_in before) m (life_of o.new.order A (handled port before)) (answers_last_cancel o.new.order m (outstanding terms port before)) (reading o.new.order (issued o.new.client before)).fills (shown terms before o.new) ≡ B
+  told-all =
+      ap (λ (x : Life). told_by_type (reports_in before) m x (answers_last_cancel o.new.order m (outstanding terms port before)) (reading o.new.order (issued o.new.client before)).fills (shown terms before o.new)) lived-on
+      ∙ ap (λ (b : Bool). told_by_type (reports_in before) m (lived o) b (reading o.new.order (issued o.new.client before)).fills (shown terms before o.new)) asked-own
+      ∙ ap (λ (fs : List Fill). told_by_type (reports_in before) m (lived o) (answers_last m (asked_as terms o)) fs (shown terms before o.new)) fills-own
+      ∙ ap (λ (s : Shown). told_by_type (reports_in before) m (lived o) (answers_last m (asked_as terms o)) (map fill_of o.trades) s) shown-own
+
+  told-to : to_client_of o.new B ≡ record { client = client; bodies = bodies }
+  told-to =
+      let on_order : told_on terms port m before (order_of_token terms port A (heard.token m)) ≡ to_client_of o.new B = ap (told_on terms port m before) on' ∙ ap (to_client_of o.new) told-all in
+      let by_row : told terms (Heard port m) before ≡ told_on terms port m before (order_of_token terms port A (heard.token m)) = rw (judged, no_t, no_s) refl in
+      sym on_order ∙ sym by_row ∙ tells
+
+  said : IsIssued o.new bodies B client
+  said = told-issued o.new B client bodies told-to
+
+  issued-mine : issued o.new.client (t ∷ before) ≡ onto B (issued o.new.client before)
+  issued-mine = said.mine (issued o.new.client before)
+
+  issued-other : (c : ℕ) → o.new.client ≢ c → issued c (t ∷ before) ≡ issued c before
+  issued-other c apart = said.others c apart (issued c before)
+
+  on-order : Each (IsOn o.new.order) B
+  on-order = told-on (reports_in before) m (lived o) (answers_last m (asked_as terms o)) (map fill_of o.trades) (shown_as o)
+
+  -- ---- the order itself
+
+  abbrev Homes : List ℕ → Type 0
+  Homes = IsHome terms A o.new
+
+  abbrev MovesTo : OrderRecord → Type 0
+  MovesTo p = Moves Homes (IsFound A o.new) (IsUsed (issued o.new.client before)) terms (old_ids o.new.client A) (issued o.new.client before) (reports_in before) (1_000_000 * length before) 1_000_000 m o p
+
+  moves : (p : OrderRecord) × MovesTo p
+  moves = row-moves Homes (IsFound A o.new) (IsUsed (issued o.new.client before)) terms (old_ids o.new.client A) (issued o.new.client before) (reports_in before) (1_000_000 * length before) m o
+      (λ type. omega (arith, accepted-shares terms port m before type l)) (λ type. omega (arith, replaced-shares terms port m before type l)) price_small reports_small (omega arith) row f.keeps
+      (named terms A (numbered before) (issued o.new.client before) (handled (port_of terms o.new) before) (outstanding terms (port_of terms o.new) before) (reports_in before) (1_000_000 * length before) o f) f.reads
+
+  handled-own : handled (port_of terms o.new) (t ∷ before) ≡ m ∷ handled (port_of terms o.new) before
+  handled-own = rw (eq-eqb port (port_of terms o.new) (sym own_port)) refl
+
+  count-same : numbered (t ∷ before) ≡ 0 + numbered before
+  count-same = numbered-heard port m client bodies sends None before
+
+  module _ (q : OrderRecord) (M : MovesTo (record q { new = o.new })) where
+    abbrev p : OrderRecord
+    p = record q { new = o.new }
+
+    life-now : life_of o.new.order A (handled (port_of terms o.new) (t ∷ before)) ≡ lived p
+    life-now = rw f.known (ap (life (token_of o.new) (character 54 o.new.message)) handled-own ∙ ap (λ (x : Life). after x m) f.lives ∙ M.lives)
+
+    reports-now : count_by is_report B + reports_in before ≤ reports_in (t ∷ before)
+    reports-now = let same : count_by is_report bodies ≡ count_by is_report B = ap (count_by is_report) said.all in omega (arith, same)
+
+    keeps-now : Keeps (reports_in (t ∷ before)) (1_000_000 * length (t ∷ before)) p
+    keeps-now = Keeps-more (reports_in (t ∷ before)) (1_000_000 * length before + 1_000_000) (reports_in (t ∷ before)) (1_000_000 * length (t ∷ before)) p (omega arith) (omega arith) (M.keeps (reports_in (t ∷ before)) reports-now)
+
+    moved-fits : FitsIn terms (t ∷ before) p
+    moved-fits = record {
+      reads = subst (λ (xs : List Message). Reads xs p) (sym issued-mine) M.leads.reads;
+      lives = ap (life (token_of o.new) (character 54 o.new.message)) handled-own ∙ ap (λ (x : Life). after x m) f.lives ∙ M.lives;
+      priced = ap (price_after o.new A) handled-own
+          ∙ ap (λ (x : Life). if opens x m then heard.price m else price_after o.new A (handled (port_of terms o.new) before)) (life-of terms A (numbered before) (issued o.new.client before) (handled (port_of terms o.new) before) (outstanding terms (port_of terms o.new) before) (reports_in before) (1_000_000 * length before) o f)
+          ∙ ap (λ (n : ℕ). if opens (lived o) m then heard.price m else n) f.priced ∙ M.price;
+      asked_so = asked-as terms before port m client bodies sends H o p (port_of terms o.new) f.asked_so life-now (λ e. closed-asked terms (reports_in (t ∷ before)) (1_000_000 * length (t ∷ before)) p keeps-now e) M.asked;
+      keeps = keeps-now;
+      holds = Of-used Homes (IsFound A o.new) (IsUsed (issued o.new.client before)) (IsUsed (issued o.new.client (t ∷ before))) p
+          (λ id used. subst (λ (xs : List Message). is_used id xs ≡ true) (sym issued-mine) (used-onto id B (issued o.new.client before) used)) (M.kept f.holds);
+      known = f.known;
+      is_new = f.is_new;
+      number = f.number;
+      order_is = f.order_is;
+      is_numbered = omega (arith, f.is_numbered, count-same);
+    }
+
+    own-record : HasRecord terms (t ∷ before) o.new
+    own-record = record { order = p; same = refl; fits = moved-fits }
+
+    own-well : ReadsWell o.new.order o.new.message (old_ids o.new.client (accepted terms (t ∷ before))) (issued o.new.client before) bodies
+    own-well = subst (λ (xs : List Message). ReadsWell o.new.order o.new.message (old_ids o.new.client A) (issued o.new.client before) xs) (sym said.all) M.leads.well
+
+  -- ---- other orders
+
+  previous-on : is_type (codes "U") m ≡ true → order_of_token terms port A (heard.previous_token m) ≡ Some o.new
+  previous-on u = let same : order_token m ≡ heard.previous_token m = rw u refl in ap (order_of_token terms port A) (sym same) ∙ l.on ∙ ap Some (sym same_new)
+
+  -- what holds of a client's list and stays so with bodies on this order holds after the turn
+  issued-keeps : (P : List Message → Type 0) (c : ℕ) (k : List ℕ) → bytes_eq o.new.order k ≡ false → ((r : Message) (xs : List Message) → is 37 k r ≡ false → P xs → P (r ∷ xs)) → P (issued c before) → P (issued c (t ∷ before))
+  issued-keeps P c k apart more old = by_client (o.new.client == c) refl
+    where
+      by_client : (b : Bool) → (o.new.client == c) ≡ b → P (issued c (t ∷ before))
+      by_client true e =
+          let same : o.new.client ≡ c = eqb-true o.new.client c e in
+          subst (λ (d : ℕ). P (issued d (t ∷ before))) same (subst P (sym issued-mine) (others-onto k B (issued o.new.client before) (on-others o.new.order k B apart on-order) P more (subst (λ (d : ℕ). P (issued d before)) (sym same) old)))
+      by_client false e = subst P (sym (issued-other c (λ same. (let yes_it : (o.new.client == c) ≡ true = eq-eqb o.new.client c same in let x : true ≡ false = sym yes_it ∙ e in cc)))) old
+
+  module _ (x : OrderRecord) (g : FitsIn terms before x) (apart : bytes_eq o.new.order x.new.order ≡ false) where
+    other-reads : Reads (issued x.new.client (t ∷ before)) x
+    other-reads = issued-keeps (λ xs. Reads xs x) x.new.client x.new.order apart (λ r xs off reads. Reads-others x (r ∷ []) xs (off, tt) reads) g.reads
+
+    other-used : (id : List ℕ) → is_used id (issued x.new.client before) ≡ true → is_used id (issued x.new.client (t ∷ before)) ≡ true
+    other-used id used = issued-keeps (λ xs. is_used id xs ≡ true) x.new.client x.new.order apart (λ r xs off e. rw e (Rattle.order_histories.proofs.Texts.or-true (is 11 id r))) used
+
+    other-fits : FitsIn terms (t ∷ before) x
+    other-fits = deaf-fits terms before port m client bodies sends H x g
+        (other-deaf terms A (issued x.new.client before) m x g.holds g.keeps.first g.keeps.left (apart-home terms A port (heard.token m) o.new x.new on' apart) (λ u. apart-home terms A port (heard.previous_token m) o.new x.new (previous-on u) apart))
+        other-reads other-used
+
+    other-well : ReadsWell x.new.order x.new.message (old_ids x.new.client (accepted terms (t ∷ before))) (issued x.new.client before) bodies
+    other-well = ReadsWell-others x.new.order x.new.message (old_ids x.new.client A) (issued x.new.client before) bodies (subst (Others x.new.order) (sym said.all) (on-others o.new.order x.new.order B apart on-order))
+
+  -- ---- numbers that aren't given yet
+
+  fresh-order : (n : ℕ) → numbered before < n → n < 10 ^ 64 → bytes_eq o.new.order (decimal n) ≡ false
+  fresh-order n above small = rw f.order_is (eq-decimal_other f.number n (λ same. (omega (arith, same, f.is_numbered, above))) (omega (arith, f.is_numbered, above, small)) small)
+
+  fresh-token : (n : ℕ) → given A < n → n ≤ 9_999_999_999_999 → (token : List ℕ) → IsToken terms before port token o.new → bytes_eq token (token_text n) ≡ false
+  fresh-token n above most token k = eq-other token (token_text n) (λ same. (let alike : k.number ≡ n = token-same k.number n (omega (arith, k.is_given, H.short)) most (sym k.is_text ∙ same) in omega (arith, alike, k.is_given, above)))
+
+  born-on : (n side : ℕ) → given A < n → n ≤ 9_999_999_999_999 → after (born (token_text n) side) m ≡ born (token_text n) side
+  born-on n side above most = by_u (is_type (codes "U") m) refl
+    where
+      own_off : bytes_eq (heard.token m) (token_text n) ≡ false
+      own_off = fresh-token n above most (heard.token m) own-token
+
+      both : {X : Type 0} (b : Bool) (y z w : X) → y ≡ w → z ≡ w → (if b then y else z) ≡ w
+      both true y z w e e' = e
+      both false y z w e e' = e'
+
+      by_u : (b : Bool) → is_type (codes "U") m ≡ b → after (born (token_text n) side) m ≡ born (token_text n) side
+      by_u true u =
+          let type : type_of m ≡ 85 = eqb-true (type_of m) 85 u in
+          let off = fresh-token n above most (heard.previous_token m) (token-of terms before port (heard.previous_token m) o.new H (previous-on u)) in
+          rw (type, off) refl
+      by_u false u =
+          rw (u, own_off) (both (is_type (codes "A") m) _ _ (born (token_text n) side) refl
+          (both (is_type (codes "E") m) _ _ (born (token_text n) side) refl
+          (both (is_type (codes "C") m) _ _ (born (token_text n) side) refl
+          (both (is_type (codes "B") m) _ _ (born (token_text n) side) refl
+          (both (is_type (codes "J") m) _ _ (born (token_text n) side) refl refl)))))
+
+  still-unborn : (n p side : ℕ) → given A < n → n ≤ 9_999_999_999_999 → life (token_text n) side (handled p (t ∷ before)) ≡ born (token_text n) side
+  still-unborn n p side above most = by_port (port == p)
+    where
+      by_port : (b : Bool) → life (token_text n) side (if b && true then m ∷ handled p before else handled p before) ≡ born (token_text n) side
+      by_port true = ap (λ (x : Life). after x m) (H.unborn n p side above most) ∙ born-on n side above most
+      by_port false = H.unborn n p side above most
+
+  still-unasked : (n p : ℕ) → numbered before < n → n < 10 ^ 64 → own (decimal n) (outstanding terms p (t ∷ before)) ≡ []
+  still-unasked n p above small = asked-now terms before port m client bodies sends H (decimal n) p (is_closed (life_of (decimal n) A (handled p (t ∷ before))).stage) refl ∙ by_closed (is_closed (life_of (decimal n) A (handled p (t ∷ before))).stage)
+    where
+      by_closed : (b : Bool) → (if b then [] else unanswered m (own (decimal n) (outstanding terms p before))) ≡ []
+      by_closed true = refl
+      by_closed false = rw (H.unasked n p above small) refl
+
+  -- ---- all of it
+
+  abbrev Both : Entry → Type 0
+  Both e = HasRecord terms (t ∷ before) e × IsTrueToMarket terms t before e
+
+  each-order : (e : Entry) → HasRecord terms before e → Both e
+  each-order e r = by_order (bytes_eq o.new.order r.order.new.order) refl
+    where
+      back : moves.0 ≡ record moves.0 { new = o.new }
+      back = ap (λ (x : Entry). record moves.0 { new = x }) moves.1.same
+
+      M : MovesTo (record moves.0 { new = o.new })
+      M = subst MovesTo back moves.1
+
+      mine : HasRecord terms (t ∷ before) o.new
+      mine = own-record moves.0 M
+
+      by_order : (b : Bool) → bytes_eq o.new.order r.order.new.order ≡ b → Both e
+      by_order true same =
+          let orders_same : o.new.order ≡ r.order.new.order = eq-is o.new.order r.order.new.order same in
+          let it : o.new ≡ e = same_some o.new r.order.new (sym f.known ∙ ap (λ (k : List ℕ). new_of k A) orders_same ∙ r.fits.known) ∙ r.same in
+          subst Both it (mine, true-of terms t before o.new mine (λ own_turn. own-well moves.0 M))
+      by_order false apart =
+          let has : HasRecord terms (t ∷ before) e = record { order = r.order; same = r.same; fits = other-fits r.order r.fits apart } in
+          (has, true-of terms t before e has (λ own_turn. subst (λ (x : Entry). ReadsWell x.order x.message (old_ids x.client (accepted terms (t ∷ before))) (issued x.client before) bodies) r.same (other-well r.order r.fits apart)))
+
+  all-orders : Each Both (news A)
+  all-orders = Each-map (HasRecord terms before) Both (news A) each-order H.records
+
+  pub lawful-Holds : Holds terms (t ∷ before) × Each (IsTrueToMarket terms t before) (news A)
+  lawful-Holds = (
+    record {
+      entries = Each-map (IsEntry terms A (numbered before)) (IsEntry terms A (numbered (t ∷ before))) A
+          (λ e i. record { new = i.new; found = i.found; same_client = i.same_client; is_given = i.is_given; number = i.number; order_is = i.order_is; is_numbered = omega (arith, i.is_numbered, count-same) }) H.entries;
+      short = H.short;
+      records = Each-map Both (HasRecord terms (t ∷ before)) (news A) (λ e b. b.0) all-orders;
+      listed = same-orders;
+      unread = λ n c above small. issued-keeps (λ xs. IsUnread (decimal n) xs) c (decimal n) (fresh-order n (omega (arith, above, count-same)) small) (λ r xs off u. IsUnread-others (decimal n) (r ∷ []) xs (off, tt) u) (H.unread n c (omega (arith, above, count-same)) small);
+      unborn = still-unborn;
+      unasked = λ n p above small. still-unasked n p (omega (arith, above, count-same)) small;
+      few = omega (arith, H.few, count-same);
+    },
+    Each-map Both (IsTrueToMarket terms t before) (news A) (λ e b. b.1) all-orders,
+  )
+    where
+      same-orders : (c : ℕ) → orders (issued c (t ∷ before)) ≡ orders_of c A
+      same-orders c = by_client (o.new.client == c) refl
+        where
+          by_client : (b : Bool) → (o.new.client == c) ≡ b → orders (issued c (t ∷ before)) ≡ orders_of c A
+          by_client true e =
+              let same : o.new.client ≡ c = eqb-true o.new.client c e in
+              subst (λ (d : ℕ). orders (issued d (t ∷ before)) ≡ orders_of d A) same (ap orders issued-mine ∙ orders-onto o.new.order B (issued o.new.client before) on-order ∙ H.listed o.new.client)
+          by_client false e = ap orders (issued-other c (λ same. (let yes_it : (o.new.client == c) ≡ true = eq-eqb o.new.client c same in let x : true ≡ false = sym yes_it ∙ e in cc))) ∙ H.listed c
