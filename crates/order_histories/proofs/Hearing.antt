@@ -24,7 +24,7 @@ use Rattle.order_histories.proofs.Addressed.{IsOn, on-others, onto-reverse, orde
 use Rattle.order_histories.proofs.Fits.{Fits, IsFound, IsHome, IsUsed, life-of, named, own, own-after, shown-is, tokens-are}
 use Rattle.order_histories.proofs.Deaf.{IsDeaf}
 use Rattle.order_histories.proofs.Agreeing.{agree-so, pending-of}
-use Rattle.order_histories.proofs.Holds.{FitsIn, HasRecord, Holds, IsEntry, Keeps-more, Of-used, news, orders_of, port_of, quiet-Fits, record-of, true-of, each-find}
+use Rattle.order_histories.proofs.Holds.{FitsIn, HasRecord, Holds, IsEntry, Keeps-more, Of-used, PassesOver, news, orders_of, port_of, quiet-Fits, record-of, true-of, each-find}
 use Rattle.order_histories.proofs.Deaf.{apart-home, other-deaf, tokenless-deaf}
 use Rattle.order_histories.proofs.Judged.{IsLawful, accepted-shares, lawful, replaced-shares}
 use Rattle.order_histories.proofs.Row.{replacement-is, replacements, row-moves}
@@ -32,7 +32,7 @@ use Rattle.order_law.specs.declared.stage.Stage.{Stage}
 use Rattle.order_law.specs.declared.stage.Stage.TheVariants.{Waiting, Working, Closed}
 use Rattle.order_law.specs.History.{Said, SaysCancel, SaysNew, SaysReplace}
 
-append-nothing : {A : Type 0} (xs : List A) → xs ++ [] ≡ xs
+pub append-nothing : {A : Type 0} (xs : List A) → xs ++ [] ≡ xs
 append-nothing [] = refl
 append-nothing (x ∷ xs) = ap (λ ys. x ∷ ys) (append-nothing xs)
 
@@ -127,7 +127,7 @@ module _ (terms : List Terms) (before : History) (port : ℕ) (m : List ℕ) (se
 
   -- where each order stays as it is
   pub quiet-Holds : ((o : OrderRecord) → FitsIn terms before o → FitsIn terms (quiet ∷ before) o)
-      → ((n p side : ℕ) → given (accepted terms before) < n → n ≤ 9_999_999_999_999 → life (token_text n) side (handled p (quiet ∷ before)) ≡ born (token_text n) side)
+      → ((n p side : ℕ) → given (accepted terms before) < n → n ≤ 9_999_999_999_999 → Each (PassesOver (token_text n) side) (handled p (quiet ∷ before)))
       → ((n p : ℕ) → numbered before < n → n < 10 ^ 64 → own (decimal n) (outstanding terms p (quiet ∷ before)) ≡ [])
       → Holds terms (quiet ∷ before) × Each (IsTrueToMarket terms quiet before) (news (accepted terms before))
   quiet-Holds same unborn unasked = (
@@ -153,7 +153,7 @@ module _ (terms : List Terms) (before : History) (port : ℕ) (m : List ℕ) (se
 
 -- a payload that is a fault
 pub fault-Holds : (terms : List Terms) (before : History) (port : ℕ) (m : List ℕ) (sends : List (List ℕ)) (n : ℕ) → Holds terms before → Holds terms (heard_turn port m 0 [] sends (Some n) ∷ before) × Each (IsTrueToMarket terms (heard_turn port m 0 [] sends (Some n)) before) (news (accepted terms before))
-fault-Holds terms before port m sends n H = quiet-Holds terms before port m sends (Some n) H same (λ k p side above most. ap (life (token_text k) side) (same-handled p) ∙ H.unborn k p side above most) (λ k p above small. ap (own (decimal k)) (append-nothing (outstanding terms p before)) ∙ H.unasked k p above small)
+fault-Holds terms before port m sends n H = quiet-Holds terms before port m sends (Some n) H same (λ k p side above most. subst (Each (PassesOver (token_text k) side)) (sym (same-handled p)) (H.unborn k p side above most)) (λ k p above small. ap (own (decimal k)) (append-nothing (outstanding terms p before)) ∙ H.unasked k p above small)
   where
     q : Turn
     q = heard_turn port m 0 [] sends (Some n)
@@ -184,8 +184,8 @@ tokenless-Holds terms before port m sends H a u c e b j i = quiet-Holds terms be
     q : Turn
     q = heard_turn port m 0 [] sends None
 
-    same-life : (k p side : ℕ) → given (accepted terms before) < k → k ≤ 9_999_999_999_999 → (f : Bool) → life (token_text k) side (if f && true then m ∷ handled p before else handled p before) ≡ born (token_text k) side
-    same-life k p side above most true = ap (λ (l : Life). after l m) (H.unborn k p side above most) ∙ tokenless-life m a u c e b j i (born (token_text k) side)
+    same-life : (k p side : ℕ) → given (accepted terms before) < k → k ≤ 9_999_999_999_999 → (f : Bool) → Each (PassesOver (token_text k) side) (if f && true then m ∷ handled p before else handled p before)
+    same-life k p side above most true = ((tokenless-life m a u c e b j i (born (token_text k) side), rw (a, u) refl), H.unborn k p side above most)
     same-life k p side above most false = H.unborn k p side above most
 
     by_closed : (k p : ℕ) → numbered before < k → k < 10 ^ 64 → (f : Bool) → (if f then [] else unanswered m (own (decimal k) (outstanding terms p before))) ≡ []

@@ -52,13 +52,17 @@ news entries = filter (λ (e : Entry). is_new_order e.message) entries
 abbrev pub orders_of : ℕ → List Entry → List (List ℕ)
 orders_of client entries = map (λ (e : Entry). e.order) (filter (λ (e : Entry). e.client == client) (news entries))
 
+-- a message is nothing to an order that no message has been on
+abbrev pub PassesOver : List ℕ → ℕ → List ℕ → Type 0
+PassesOver root side m = (after (born root side) m ≡ born root side) × (opens (born root side) m ≡ false)
+
 pub record Holds (terms : List Terms) (h : History) : Type 0 where
   pub entries : Each (IsEntry terms (accepted terms h) (numbered h)) (accepted terms h)
   pub short : given (accepted terms h) ≤ 9_999_999_999_999
   pub records : Each (HasRecord terms h) (news (accepted terms h))
   pub listed : (c : ℕ) → orders (issued c h) ≡ orders_of c (accepted terms h)
   pub unread : (n c : ℕ) → numbered h < n → n < 10 ^ 64 → IsUnread (decimal n) (issued c h)
-  pub unborn : (n p side : ℕ) → given (accepted terms h) < n → n ≤ 9_999_999_999_999 → life (token_text n) side (handled p h) ≡ born (token_text n) side
+  pub unborn : (n p side : ℕ) → given (accepted terms h) < n → n ≤ 9_999_999_999_999 → Each (PassesOver (token_text n) side) (handled p h)
   pub unasked : (n p : ℕ) → numbered h < n → n < 10 ^ 64 → own (decimal n) (outstanding terms p h) ≡ []
   pub few : numbered h ≤ length h
 

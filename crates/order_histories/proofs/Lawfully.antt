@@ -25,7 +25,7 @@ use Rattle.order_histories.proofs.Fits.{Fits, IsFound, IsHome, IsUsed, life-of, 
 use Rattle.order_histories.proofs.Deaf.{IsDeaf}
 use Rattle.order_histories.proofs.Agreeing.{agree-so, pending-of}
 use Rattle.std.proofs.Common.{ℕ}
-use Rattle.order_histories.proofs.Holds.{FitsIn, HasRecord, Holds, IsEntry, Keeps-more, Of-used, news, orders_of, port_of, quiet-Fits, record-of, true-of, each-find}
+use Rattle.order_histories.proofs.Holds.{FitsIn, HasRecord, Holds, IsEntry, Keeps-more, Of-used, PassesOver, news, orders_of, port_of, quiet-Fits, record-of, true-of, each-find}
 use Rattle.order_histories.proofs.Deaf.{apart-home, other-deaf}
 use Rattle.order_histories.proofs.Judged.{IsLawful, accepted-shares, lawful, replaced-shares}
 use Rattle.order_histories.proofs.Row.{replacement-is, replacements, row-moves}
@@ -330,11 +330,24 @@ module _ (terms : List Terms) (before : History) (port : ℕ) (m : List ℕ) (cl
           (both (is_type (codes "B") m) _ _ (born (token_text n) side) refl
           (both (is_type (codes "J") m) _ _ (born (token_text n) side) refl refl)))))
 
-  still-unborn : (n p side : ℕ) → given A < n → n ≤ 9_999_999_999_999 → life (token_text n) side (handled p (t ∷ before)) ≡ born (token_text n) side
+  opens-none : (n side : ℕ) → given A < n → n ≤ 9_999_999_999_999 → opens (born (token_text n) side) m ≡ false
+  opens-none n side above most = by_u (is_type (codes "U") m) refl
+    where
+      own_off : bytes_eq (heard.token m) (token_text n) ≡ false
+      own_off = fresh-token n above most (heard.token m) own-token
+
+      by_u : (b : Bool) → is_type (codes "U") m ≡ b → opens (born (token_text n) side) m ≡ false
+      by_u true u =
+          let type : type_of m ≡ 85 = eqb-true (type_of m) 85 u in
+          let off = fresh-token n above most (heard.previous_token m) (token-of terms before port (heard.previous_token m) o.new H (previous-on u)) in
+          rw (type, off) refl
+      by_u false u = rw (u, own_off, Rattle.order_histories.proofs.Texts.and-false (is_type (codes "A") m)) refl
+
+  still-unborn : (n p side : ℕ) → given A < n → n ≤ 9_999_999_999_999 → Each (PassesOver (token_text n) side) (handled p (t ∷ before))
   still-unborn n p side above most = by_port (port == p)
     where
-      by_port : (b : Bool) → life (token_text n) side (if b && true then m ∷ handled p before else handled p before) ≡ born (token_text n) side
-      by_port true = ap (λ (x : Life). after x m) (H.unborn n p side above most) ∙ born-on n side above most
+      by_port : (b : Bool) → Each (PassesOver (token_text n) side) (if b && true then m ∷ handled p before else handled p before)
+      by_port true = ((born-on n side above most, opens-none n side above most), H.unborn n p side above most)
       by_port false = H.unborn n p side above most
 
   still-unasked : (n p : ℕ) → numbered before < n → n < 10 ^ 64 → own (decimal n) (outstanding terms p (t ∷ before)) ≡ []

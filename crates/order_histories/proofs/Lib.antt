@@ -23,3 +23,6 @@ pub mod Agreeing
 pub mod Holds
 pub mod Hearing
 pub mod Lawfully
+pub mod Pushing
+pub mod Verdicts
+pub mod Coming
