@@ -111,3 +111,161 @@ module _ (terms : List Terms) (before : History) (client : ℕ) (m : Message) (p
       },
       rw none true-still,
     )
+
+-- ---- what an accepted message asks is of its order
+
+asks-order : (terms : List Terms) (e : Entry) (entries : List Entry) (sent : List Message) (messages : List (List ℕ)) → Each (λ (a : Asked). a.order ≡ e.order) (asks terms e entries sent messages)
+asks-order terms e entries sent messages = by_kind (is_new_order e.message) (is_replace e.message)
+  where
+    live_one : List ℕ
+    live_one = Rattle.order_law.specs.Life.live (life_of e.order entries messages)
+
+    request : Option Rattle.order_law.specs.Asks.Ask
+    request = Rattle.order_law.specs.Asks.asked_by_request (Rattle.std.specs.Str.Parse.digits_value 10 e.order) e.message
+
+    each-cancel : (ts : List (List ℕ)) → Each (λ (a : Asked). a.order ≡ e.order) (map (λ token. record { order = e.order; id = text 11 e.message; said = Rattle.order_law.specs.History.SaysCancel token; ask = request }) ts)
+    each-cancel [] = tt
+    each-cancel (token ∷ ts) = (refl, each-cancel ts)
+
+    by_kind : (n g : Bool) → Each (λ (a : Asked). a.order ≡ e.order)
+        (if n then record { order = e.order; id = text 11 e.message; said = Rattle.order_law.specs.History.SaysNew (token_of e); ask = Some (Rattle.order_law.specs.Asks.asked_by_new (terms_of terms e.client).capacity e.message) } ∷ []
+        else (if g then record { order = e.order; id = text 11 e.message; said = Rattle.order_law.specs.History.SaysReplace live_one (token_of e); ask = request } ∷ []
+        else map (λ token. record { order = e.order; id = text 11 e.message; said = Rattle.order_law.specs.History.SaysCancel token; ask = request }) (live_one ∷ Rattle.order_law.specs.History.pending_tokens e.client (chain e.order sent) entries)))
+    by_kind true g = (refl, tt)
+    by_kind false true = (refl, tt)
+    by_kind false false = (refl, each-cancel (Rattle.order_law.specs.History.pending_tokens e.client (chain e.order sent) entries))
+
+own-none : (order k : List ℕ) (asked : List Asked) → Each (λ (a : Asked). a.order ≡ order) asked → bytes_eq order k ≡ false → own k asked ≡ []
+own-none order k [] each apart = refl
+own-none order k (a ∷ asked) each apart = rw (each.0, apart) (own-none order k asked each.1 apart)
+
+own-append : (k : List ℕ) (xs ys : List Asked) → own k (xs ++ ys) ≡ own k xs ++ own k ys
+own-append k [] ys = refl
+own-append k (a ∷ xs) ys = by_test (bytes_eq a.order k) (own-append k xs ys)
+  where
+    by_test : (b : Bool) → own k (xs ++ ys) ≡ own k xs ++ own k ys → (if b then a ∷ own k (xs ++ ys) else own k (xs ++ ys)) ≡ (if b then a ∷ own k xs else own k xs) ++ own k ys
+    by_test true e = ap (λ zs. a ∷ zs) e
+    by_test false e = e
+
+-- ---- a message that is accepted
+
+module _ (terms : List Terms) (before : History) (client : ℕ) (m : Message) (port : Port) (r : Message) (sends : List (List ℕ)) (H : Holds terms before)
+    (en : Entry) (taken : entry_at terms (Came client m port) before ≡ Some en) (own_client : en.client ≡ client) (next : IsNext terms before en)
+    (addressed : text 37 r ≡ en.order) where
+  abbrev u : Turn
+  u = coming_turn client m port (r ∷ []) sends
+
+  abbrev E : List Entry
+  E = accepted terms before
+
+  abbrev asked-next : ℕ → List Asked
+  asked-next p = outstanding terms p before ++ asks_of terms p (Some en) E (issued client before) (handled p before)
+
+  none-else : (p : ℕ) (k : List ℕ) → bytes_eq en.order k ≡ false → own k (asked-next p) ≡ own k (outstanding terms p before)
+  none-else p k apart = own-append k (outstanding terms p before) (asks_of terms p (Some en) E (issued client before) (handled p before)) ∙ rw (by_port ((terms_of terms en.client).port == p)) (append-nothing (own k (outstanding terms p before)))
+    where
+      by_port : (b : Bool) → own k (if b then asks terms en E (issued client before) (handled p before) else []) ≡ []
+      by_port true = own-none en.order k (asks terms en E (issued client before) (handled p before)) (asks-order terms en E (issued client before) (handled p before)) apart
+      by_port false = refl
+
+  off-other : (k : List ℕ) → bytes_eq en.order k ≡ false → is 37 k r ≡ false
+  off-other k apart = rw addressed apart
+
+  beside-fits : (x : OrderRecord) → FitsIn terms before x → bytes_eq en.order x.new.order ≡ false → FitsIn terms (u ∷ before) x
+  beside-fits x f apart = rw taken (pushed-Fits terms before en H next (numbered (u ∷ before)) (issued x.new.client (u ∷ before)) (asked-next (port_of terms x.new)) (reports_in (u ∷ before)) (1_000_000 * length (u ∷ before)) x f
+      (count-now terms before client m port r sends H)
+      (issued-now terms before client m port r sends H (λ xs. Reads xs x) x.new.client (λ mine. Reads-others x (r ∷ []) (issued x.new.client before) (off-other x.new.order apart, tt) f.reads) f.reads)
+      (used-now terms before client m port r sends H x.new.client) (none-else (port_of terms x.new) x.new.order apart) (omega arith) (omega arith))
+
+  module _ (own_new : Entry) (found : new_of en.order (en ∷ E) ≡ Some own_new) (its_client : own_new.client ≡ en.client) (n : ℕ) (order_is : en.order ≡ decimal n) (is_few : n ≤ numbered (u ∷ before)) (small : n < 10 ^ 64)
+      (mine : HasRecord terms (u ∷ before) own_new)
+      (own_well : ReadsWell own_new.order own_new.message (old_ids own_new.client (accepted terms (u ∷ before))) (issued own_new.client before) (r ∷ []))
+      (enters_own : (is_report r && is 150 (codes "A") r) ≡ is_new_order en.message) where
+    abbrev Both : Entry → Type 0
+    Both e = HasRecord terms (u ∷ before) e × IsTrueToMarket terms u before e
+
+    own-both : Both own_new
+    own-both = (mine, true-of terms u before own_new mine (λ own_turn. own_well))
+
+    each-order : (e : Entry) → HasRecord terms before e → Both e
+    each-order e h = by_order (bytes_eq en.order h.order.new.order) refl
+      where
+        by_order : (b : Bool) → bytes_eq en.order h.order.new.order ≡ b → Both e
+        by_order true same =
+            let orders_same : en.order ≡ h.order.new.order = eq-is en.order h.order.new.order same in
+            let kept : new_of h.order.new.order (en ∷ E) ≡ Some h.order.new = new-kept terms before en H next h.order.new.order h.fits.number h.fits.order_is h.fits.is_numbered ∙ h.fits.known in
+            let it : own_new ≡ e = same_some own_new h.order.new (sym found ∙ ap (λ (k : List ℕ). new_of k (en ∷ E)) orders_same ∙ kept) ∙ h.same in
+            subst Both it own-both
+        by_order false apart =
+            let has : HasRecord terms (u ∷ before) e = record { order = h.order; same = h.same; fits = beside-fits h.order h.fits apart } in
+            (has, true-of terms u before e has (λ own_turn. subst (λ (x : Entry). ReadsWell x.order x.message (old_ids x.client (accepted terms (u ∷ before))) (issued x.client before) (r ∷ [])) h.same
+            (ReadsWell-others h.order.new.order h.order.new.message (old_ids h.order.new.client (accepted terms (u ∷ before))) (issued h.order.new.client before) (r ∷ []) (off-other h.order.new.order apart, tt))))
+
+    old-both : Each Both (news E)
+    old-both = Each-map (HasRecord terms before) Both (news E) each-order H.records
+
+    all-both : Each Both (news (en ∷ E))
+    all-both = by_new (is_new_order en.message) refl
+      where
+        by_new : (b : Bool) → is_new_order en.message ≡ b → Each Both (if b then en ∷ news E else news E)
+        by_new true new =
+            let own = eq-same en.order in
+            let it : own_new ≡ en = same_some own_new en (sym found ∙ rw (own, new) refl) in
+            (subst Both it own-both, old-both)
+        by_new false old = old-both
+
+    same-orders : (c : ℕ) → orders (issued c (u ∷ before)) ≡ orders_of c (en ∷ E)
+    same-orders c = by_new (is_new_order en.message) refl (en.client == c) refl
+      where
+        by_new : (b : Bool) → is_new_order en.message ≡ b → (d : Bool) → (en.client == c) ≡ d → orders (issued c (u ∷ before)) ≡ orders_of c (en ∷ E)
+        by_new false old d is_d = rw old (issued-now terms before client m port r sends H (λ xs. orders xs ≡ orders_of c E) c (λ own_c. (let off : (is_report r && is 150 (codes "A") r) ≡ false = enters_own ∙ old in rw off (H.listed c))) (H.listed c))
+        by_new true new true is_d =
+            let on : (is_report r && is 150 (codes "A") r) ≡ true = enters_own ∙ new in
+            let here : client ≡ c = sym own_client ∙ eqb-true en.client c is_d in
+            let all : issued c (u ∷ before) ≡ r ∷ issued c before = rw (eq-eqb client c here) refl in
+            rw (new, is_d, all) (rw on (ap (λ ks. text 37 r ∷ ks) (H.listed c) ∙ ap (λ k. k ∷ orders_of c E) addressed))
+        by_new true new false is_d =
+            let apart : client ≢ c = λ same. (let x : (en.client == c) ≡ true = eq-eqb en.client c (own_client ∙ same) in let y : true ≡ false = sym x ∙ is_d in cc) in
+            let none : issued c (u ∷ before) ≡ issued c before = rw (ne_eqb client c apart) refl in
+            rw (new, is_d, none) (H.listed c)
+
+    entry-new : IsEntry terms (en ∷ E) (numbered (u ∷ before)) en
+    entry-new = record {
+      new = own_new;
+      found = found;
+      same_client = its_client;
+      is_given = λ j is_j. (omega (arith, next.token j is_j), token-few j is_j);
+      number = n;
+      order_is = order_is;
+      is_numbered = is_few;
+    }
+      where
+        one_if : (b : Bool) → b ≡ true → ◌≡◌ {A = ℕ} (if b then 1 else 0) 1
+        one_if true h = refl
+        one_if false h = absurd (cc)
+
+        token-few : (j : ℕ) → en.token ≡ Some j → j ≤ given (en ∷ E)
+        token-few j is_j = omega (arith, next.token j is_j, count-more (λ (e : Entry). is_some e.token) en E, one_if (is_some en.token) (rw is_j refl))
+
+    room-now : given (en ∷ E) ≤ 9_999_999_999_999
+    room-now = omega (arith, next.room, count-more (λ (e : Entry). is_some e.token) en E, one-at-most (is_some en.token))
+
+    pub taken-Holds : Holds terms (u ∷ before) × Each (IsTrueToMarket terms u before) (news (accepted terms (u ∷ before)))
+    taken-Holds = (
+      record {
+        entries = rw taken (entry-new, Each-map (IsEntry terms E (numbered before)) (IsEntry terms (en ∷ E) (numbered (u ∷ before))) E (entry-kept terms before en H next (numbered (u ∷ before)) (count-now terms before client m port r sends H)) H.entries);
+        short = rw taken room-now;
+        records = rw taken (Each-map Both (HasRecord terms (u ∷ before)) (news (en ∷ E)) (λ e b. b.0) all-both);
+        listed = λ c. rw taken (same-orders c);
+        unread = λ k c above k_small. issued-now terms before client m port r sends H (λ xs. IsUnread (decimal k) xs) c
+            (λ own_c. IsUnread-others (decimal k) (r ∷ []) (issued c before) (off-other (decimal k) (fresh k above k_small), tt) (H.unread k c (omega (arith, above, count-now terms before client m port r sends H)) k_small))
+            (H.unread k c (omega (arith, above, count-now terms before client m port r sends H)) k_small);
+        unborn = λ k p side above most. (let more : given (en ∷ E) < k = rw taken at above in H.unborn k p side (omega (arith, more, given-less terms before en H next)) most);
+        unasked = λ k p above k_small. rw taken (none-else p (decimal k) (fresh k above k_small) ∙ H.unasked k p (omega (arith, above, count-now terms before client m port r sends H)) k_small);
+        few = few-now terms before client m port r sends H;
+      },
+      rw taken (Each-map Both (IsTrueToMarket terms u before) (news (en ∷ E)) (λ e b. b.1) all-both),
+    )
+      where
+        fresh : (k : ℕ) → numbered (u ∷ before) < k → k < 10 ^ 64 → bytes_eq en.order (decimal k) ≡ false
+        fresh k above k_small = rw order_is (eq-decimal_other n k (λ same. (omega (arith, same, is_few, above))) small k_small)
