@@ -139,7 +139,7 @@ own-none : (order k : List ℕ) (asked : List Asked) → Each (λ (a : Asked). a
 own-none order k [] each apart = refl
 own-none order k (a ∷ asked) each apart = rw (each.0, apart) (own-none order k asked each.1 apart)
 
-own-append : (k : List ℕ) (xs ys : List Asked) → own k (xs ++ ys) ≡ own k xs ++ own k ys
+pub own-append : (k : List ℕ) (xs ys : List Asked) → own k (xs ++ ys) ≡ own k xs ++ own k ys
 own-append k [] ys = refl
 own-append k (a ∷ xs) ys = by_test (bytes_eq a.order k) (own-append k xs ys)
   where

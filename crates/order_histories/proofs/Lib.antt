@@ -26,3 +26,4 @@ pub mod Lawfully
 pub mod Pushing
 pub mod Verdicts
 pub mod Coming
+pub mod Came
