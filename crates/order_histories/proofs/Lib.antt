@@ -27,3 +27,4 @@ pub mod Pushing
 pub mod Verdicts
 pub mod Coming
 pub mod Came
+pub mod Requested

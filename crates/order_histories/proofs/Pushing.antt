@@ -114,7 +114,7 @@ module _ (terms : List Terms) (before : History) (en : Entry) (H : Holds terms b
   }
 
   -- the same messages came to the same price
-  price-kept : (new : Entry) → new_of new.order (en ∷ A) ≡ new_of new.order A → (ms : List (List ℕ)) → price_after new (en ∷ A) ms ≡ price_after new A ms
+  pub price-kept : (new : Entry) → new_of new.order (en ∷ A) ≡ new_of new.order A → (ms : List (List ℕ)) → price_after new (en ∷ A) ms ≡ price_after new A ms
   price-kept new same [] = refl
   price-kept new same (m ∷ ms) = rw (same, price-kept new same ms) refl
 
