@@ -28,3 +28,4 @@ pub mod Verdicts
 pub mod Coming
 pub mod Came
 pub mod Requested
+pub mod Truth

@@ -68,7 +68,7 @@ named-member terms h P c k (e ∷ es) each found = by_client (e.client == c) ref
     by_client false is_c f later = later f
 
 -- what may not wait: no cancel is pending, and of a replace no replace
-no-cancel : (o : OrderRecord) → has_pending_cancel (chained o) ≡ false → o.cancel ≡ None
+pub no-cancel : (o : OrderRecord) → has_pending_cancel (chained o) ≡ false → o.cancel ≡ None
 no-cancel o none = by_requests o.replace o.cancel refl refl
   where
     by_requests : (r : Option Entry) (c : Option Cancelling) → o.replace ≡ r → o.cancel ≡ c → o.cancel ≡ None
@@ -77,14 +77,14 @@ no-cancel o none = by_requests o.replace o.cancel refl refl
     by_requests (Some q) None is_r is_c = is_c
     by_requests (Some q) (Some c) is_r is_c = absurd (let x : true ≡ false = rw (is_r, is_c) at none in cc)
 
-no-replace : (o : OrderRecord) → has_pending_replace (chained o) ≡ false → o.replace ≡ None
+pub no-replace : (o : OrderRecord) → has_pending_replace (chained o) ≡ false → o.replace ≡ None
 no-replace o none = by_requests o.replace refl
   where
     by_requests : (r : Option Entry) → o.replace ≡ r → o.replace ≡ None
     by_requests None is_r = is_r
     by_requests (Some q) is_r = absurd (let x : true ≡ false = rw is_r at none in cc)
 
-or-both : (a b : Bool) → (a || b) ≡ false → (a ≡ false) × (b ≡ false)
+pub or-both : (a b : Bool) → (a || b) ≡ false → (a ≡ false) × (b ≡ false)
 or-both true b e = absurd (cc)
 or-both false b e = (refl, e)
 
@@ -122,7 +122,7 @@ module _ (terms : List Terms) (before : History) (m : Message) (port : Port) (se
   shown-so : shown_in terms before (Some o.new.order) ≡ Some (shown_as o)
   shown-so = let known = f.known in rw known (ap Some (shown-is terms before (numbered before) (outstanding terms (port_of terms o.new) before) (reports_in before) (1_000_000 * length before) o f))
 
-  told-so : told_by_verdict terms client m port before (verdict terms (issued client before) A port m) ≡ told.accepted_request (reports_in before + 1) en (Some (shown_as o))
+  pub told-so : told_by_verdict terms client m port before (verdict terms (issued client before) A port m) ≡ told.accepted_request (reports_in before + 1) en (Some (shown_as o))
   told-so = ap (told_by_verdict terms client m port before) v ∙ ap (told_accepted_as terms m before) taken ∙ rw no_new (ap (told.accepted_request (reports_in before + 1) en) shown-so)
 
   small_total : o.total < 10 ^ 64
@@ -219,7 +219,7 @@ module _ (terms : List Terms) (before : History) (m : Message) (port : Port) (se
     abbrev e_report : Message
     e_report = report (reports_in before + 1) (on_request (codes "E") en) (shown_as g)
 
-    replace-told : told.accepted_request (reports_in before + 1) en (Some (shown_as o)) ≡ e_report ∷ []
+    pub replace-told : told.accepted_request (reports_in before + 1) en (Some (shown_as o)) ≡ e_report ∷ []
     replace-told = accept-replace (reports_in before + 1) en (shown_as o) kind ∙ (ap (λ (ps : List Entry). report (reports_in before + 1) (on_request (codes "E") en) (record (shown_as g) { pending = ps }) ∷ []) pending-so)
       where
         pending-so : (Rattle.order_histories.specs.OrderRecord.pending o ++ en ∷ []) ≡ Rattle.order_histories.specs.OrderRecord.pending g
@@ -278,7 +278,7 @@ module _ (terms : List Terms) (before : History) (m : Message) (port : Port) (se
     abbrev c_report : Message
     c_report = report (reports_in before + 1) (on_request (codes "6") en) (shown_as k_order)
 
-    cancel-told : told.accepted_request (reports_in before + 1) en (Some (shown_as o)) ≡ c_report ∷ []
+    pub cancel-told : told.accepted_request (reports_in before + 1) en (Some (shown_as o)) ≡ c_report ∷ []
     cancel-told = accept-cancel (reports_in before + 1) en (shown_as o) kind ∙ (ap (λ (ps : List Entry). report (reports_in before + 1) (on_request (codes "6") en) (record (shown_as k_order) { pending = ps }) ∷ []) (pending-so o.replace refl))
       where
         pending-so : (x : Option Entry) → o.replace ≡ x → (Rattle.order_histories.specs.OrderRecord.pending o ++ en ∷ []) ≡ Rattle.order_histories.specs.OrderRecord.pending k_order

@@ -1,1 +1,2 @@
 pub mod OrderRecord
+pub mod Told

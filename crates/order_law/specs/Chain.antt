@@ -60,7 +60,7 @@ abbrev pub orders : List Message → List (List ℕ)
 orders sent = map (text 37) (filter (λ r. is_report r && is 150 (codes "A") r) sent)
 
 -- an order goes by this id: it is the current one, or that of a pending request
-abbrev goes_by : List ℕ → Chain → Bool
+abbrev pub goes_by : List ℕ → Chain → Bool
 goes_by id x = bytes_eq x.current id || list_any (λ q. bytes_eq q.id id) x.pending
 
 -- the order that a 41 names

@@ -1,0 +1,178 @@
+-- In every told history each order is true to the market, after each turn.
+use Rattle.std.proofs.Common.{◌≡◌, ◌≢◌, ℕ, suc, ◌+◌, ◌*◌, ◌<◌, ◌≤◌, ◌^◌, Bool, true, false, List, [], ◌∷◌, ◌++◌, length, map, reverse, refl, sym, ap, ◌∙◌, subst, arith, decimal, codes, bytes_eq, Option, Some, None, eqb-true, eq-eqb, ne_eqb}
+use Rattle.std.specs.Prelude.{◌&&◌, ◌||◌, ◌==◌, not, if◌then◌else◌, is_some, filter}
+use Rattle.std.specs.List.{count_by, find, list_any}
+use Rattle.tokens.specs.TokenText.{token_text}
+use Rattle.ouch_codec.specs.FromMarket as heard
+use Rattle.ouch_codec.specs.Parts.{type_of}
+use Rattle.order_law.specs.Messages.{Message, character, is}
+use Rattle.order_law.specs.Life.{Life, after, born, is_closed, is_live, is_of, is_type, life}
+use Rattle.order_law.specs.Reading.{is_report}
+use Rattle.order_law.specs.Chain.{chain, is_used, orders}
+use Rattle.order_law.specs.History.{Asked, Entry, Heard, History, Terms, Turn, accepted, answers, given, handled, is_new_order, issued, life_of, new_of, numbered, outstanding, pending_tokens, terms_of, token_of}
+use Rattle.order_law.specs.Lawful.{has_token, is_known_token, judgement, order_of_token, order_token}
+use Rattle.order_law.specs.Told.{Told, answers_last_cancel, nobody, opens, price_after, reports_in, told, told_by_type, told_on, to_client_of}
+use Rattle.order_law.specs.Headline.{Each, IsTrueToMarket, ReadsWell, old_ids, said_in}
+use Rattle.order_histories.specs.OrderRecord.{Cancelling, OrderRecord, ToldTrade, asked_as, fill_of, lived, read, shown_as}
+use Rattle.order_histories.proofs.Texts.{and-parts, eq-decimal_other, eq-is, eq-other, eq-same, token-same}
+use Rattle.order_histories.proofs.Lists.{Each-map, Each-filter, found-passes}
+use Rattle.order_histories.proofs.Due.{IsUnread, IsUnread-others, Others, Reads, Reads-others, ReadsWell-others}
+use Rattle.order_histories.proofs.Executed.{AreNumbered-more, count-more}
+use Rattle.order_histories.proofs.Leads.{Leads, onto, same_some}
+use Rattle.order_histories.proofs.Moves.{Keeps, Moves, Of, answers_last, unanswered}
+use Rattle.order_histories.proofs.Addressed.{IsOn, on-others, onto-reverse, orders-onto, others-onto, told-on, used-onto}
+use Rattle.order_histories.proofs.Fits.{Fits, IsFound, IsHome, IsUsed, life-of, named, own, own-after, shown-is, tokens-are}
+use Rattle.order_histories.proofs.Deaf.{IsDeaf}
+use Rattle.order_histories.proofs.Agreeing.{agree-so, pending-of}
+use Rattle.order_histories.specs.Told.{AreBytes, IsTold, IsToldTurn, fault_of}
+use Rattle.std.specs.Prelude.{nat_lt, take, drop, fold, option_and_then, option_map}
+use Rattle.std.specs.List.{list_all}
+use Rattle.std.proofs.lemmas.Bool.Decides.{nat_tests}
+use Rattle.order_histories.proofs.Holds.{FitsIn, HasRecord, Holds, IsEntry, PassesOver, news, orders_of, port_of, record-of}
+use Rattle.order_histories.proofs.Hearing.{fault-Holds, heard_turn, tokenless-Holds}
+use Rattle.order_histories.proofs.Lawfully.{IsToken, lawful-Holds, token-of}
+use Rattle.order_histories.proofs.Judged.{IsLawful, lawful}
+use Rattle.order_histories.proofs.Coming.{coming_turn}
+use Rattle.order_histories.proofs.Came.{known-refused, new-refused, new-taken, unknown-refused}
+use Rattle.order_histories.proofs.Requested as requested
+use Rattle.order_histories.proofs.Verdicts.{NewSays, RequestSays, named-is, new-says, request-says}
+use Rattle.order_law.specs.Messages.{text}
+use Rattle.order_law.specs.Chain.{Chain, goes_by, named as named_order, has_pending_cancel, has_pending_replace}
+use Rattle.order_law.specs.Reading.{Reading}
+use Rattle.order_law.specs.Verdicts.{Accepted, Port, Refused, Verdict, is_replace, verdict_of_request, Named}
+use Rattle.order_law.specs.History.{Came, Event, entry_at, standing_of, verdict}
+use Rattle.order_law.specs.Told.{Shown, refused_request, reject, shown, shown_in, status_of, told_by_verdict}
+use Rattle.order_histories.specs.OrderRecord.{chained}
+
+abbrev pub AllTrue : List Terms → Turn → History → Type 0
+AllTrue terms t before = Each (IsTrueToMarket terms t before) (news (accepted terms (t ∷ before)))
+
+abbrev pub Next : List Terms → Turn → History → Type 0
+Next terms t before = Holds terms (t ∷ before) × AllTrue terms t before
+
+-- ---- a payload
+
+below : (byte : ℕ) → nat_lt byte 256 ≡ true → byte < 256
+below byte e = grind (arith, nat_tests)
+
+bytes-drop : (k : ℕ) (bs : List ℕ) → AreBytes bs → AreBytes (drop k bs)
+bytes-drop ℕ.zero bs e = e
+bytes-drop (suc k) [] e = e
+bytes-drop (suc k) (b ∷ bs) e = bytes-drop k bs (and-parts (nat_lt b 256) (list_all (λ byte. nat_lt byte 256) bs) e).1
+
+four-small : (bs : List ℕ) → AreBytes bs → fold (λ n byte. 256 * n + byte) 0 (take 4 bs) < 2 ^ 32
+four-small [] e = omega arith
+four-small (a ∷ []) e = let x = below a (and-parts (nat_lt a 256) true e).0 in omega arith
+four-small (a ∷ b ∷ []) e =
+    let p = and-parts (nat_lt a 256) (nat_lt b 256 && true) e in
+    let x = below a p.0 in let y = below b (and-parts (nat_lt b 256) true p.1).0 in omega arith
+four-small (a ∷ b ∷ c ∷ []) e =
+    let p = and-parts (nat_lt a 256) (nat_lt b 256 && (nat_lt c 256 && true)) e in
+    let q = and-parts (nat_lt b 256) (nat_lt c 256 && true) p.1 in
+    let x = below a p.0 in let y = below b q.0 in let z = below c (and-parts (nat_lt c 256) true q.1).0 in omega arith
+four-small (a ∷ b ∷ c ∷ d ∷ bs) e =
+    let p = and-parts (nat_lt a 256) (nat_lt b 256 && (nat_lt c 256 && (nat_lt d 256 && list_all (λ byte. nat_lt byte 256) bs))) e in
+    let q = and-parts (nat_lt b 256) (nat_lt c 256 && (nat_lt d 256 && list_all (λ byte. nat_lt byte 256) bs)) p.1 in
+    let r = and-parts (nat_lt c 256) (nat_lt d 256 && list_all (λ byte. nat_lt byte 256) bs) q.1 in
+    let x = below a p.0 in let y = below b q.0 in let z = below c r.0 in let w = below d (and-parts (nat_lt d 256) (list_all (λ byte. nat_lt byte 256) bs) r.1).0 in omega arith
+
+price-small : (m : List ℕ) → AreBytes m → heard.executed_price m < 2 ^ 128
+price-small m e = let x : heard.executed_price m < 2 ^ 32 = four-small (drop 27 m) (bytes-drop 27 m e) in omega arith
+
+-- a turn of a port by its parts
+module _ (terms : List Terms) (before : History) (port : ℕ) (m : List ℕ) (client : ℕ) (bodies : List Message) (sends : List (List ℕ)) (H : Holds terms before)
+    (bytes : AreBytes m) (tells : told terms (Heard port m) before ≡ record { client = client; bodies = bodies }) (short : length before < 2 ^ 59) (reports_small : reports_in before < 10 ^ 64) where
+  told-nobody : told terms (Heard port m) before ≡ nobody → (fault : Option ℕ) → Next terms (heard_turn port m 0 [] sends fault) before → Next terms (heard_turn port m client bodies sends fault) before
+  told-nobody none fault next =
+      let same : nobody ≡ record { client = client; bodies = bodies } = sym none ∙ tells in
+      subst (λ (x : Told). Next terms (heard_turn port m x.client x.bodies sends fault) before) same next
+
+  types-off : (letter : List ℕ) (n : ℕ) → Bool
+  types-off letter n = true
+
+  skipped : (type : ℕ) → type_of m ≡ type → is_type (codes "A") m ≡ false → is_type (codes "U") m ≡ false → is_type (codes "C") m ≡ false → is_type (codes "E") m ≡ false → is_type (codes "B") m ≡ false → is_type (codes "J") m ≡ false → is_type (codes "I") m ≡ false
+      → told terms (Heard port m) before ≡ nobody → Next terms (heard_turn port m client bodies sends None) before
+  skipped type is_type' a u c e b j i none = told-nobody none None (tokenless-Holds terms before port m sends H a u c e b j i)
+
+  handled-next : judgement terms port m before ≡ None → (t s : Bool) → is_type (codes "T") m ≡ t → is_type (codes "S") m ≡ s → Next terms (heard_turn port m client bodies sends None) before
+  handled-next judged true s is_t is_s =
+      let type : type_of m ≡ 84 = eqb-true (type_of m) 84 is_t in
+      skipped 84 type (rw type refl) (rw type refl) (rw type refl) (rw type refl) (rw type refl) (rw type refl) (rw type refl) (rw (judged, is_t) refl)
+  handled-next judged false true is_t is_s =
+      let type : type_of m ≡ 83 = eqb-true (type_of m) 83 is_s in
+      skipped 83 type (rw type refl) (rw type refl) (rw type refl) (rw type refl) (rw type refl) (rw type refl) (rw type refl) (rw (judged, is_t, is_s) refl)
+  handled-next judged false false is_t is_s =
+      let l = lawful terms port m before is_t is_s judged in
+      let token = token-of terms before port (order_token m) l.new H l.on in
+      let r = record-of terms before token.entry.order (accepted terms before) l.new H.records token.found in
+      lawful-Holds terms before port m client bodies sends H is_t is_s judged tells (price-small m bytes) short reports_small l r.order r.fits (ap (port_of terms) r.same ∙ token.on_port) r.same
+
+  heard-next : (fault : Option ℕ) → fault ≡ judgement terms port m before → Next terms (heard_turn port m client bodies sends fault) before
+  heard-next None judged = handled-next (sym judged) (is_type (codes "T") m) (is_type (codes "S") m) refl refl
+  heard-next (Some n) judged = told-nobody (rw (sym judged) refl) (Some n) (fault-Holds terms before port m sends n H)
+
+-- ---- a client's message
+
+module _ (terms : List Terms) (before : History) (client : ℕ) (m : Message) (port : Port) (sends : List (List ℕ)) (H : Holds terms before) (short : length before < 2 ^ 59) where
+  abbrev A : List Entry
+  A = accepted terms before
+
+  abbrev Comes : List Message → Type 0
+  Comes bodies = Next terms (coming_turn client m port bodies sends) before
+
+  -- the order that a request names
+  named-record : (id k : List ℕ) → named_order id (issued client before) ≡ Some k → (e : Entry) × HasRecord terms before e × (e.order ≡ k) × (e.client ≡ client)
+  named-record id k named =
+      requested.named-member terms before (λ order. goes_by id (chain order (issued client before))) client k (news A) H.records
+      (ap (λ (ks : List (List ℕ)). find (λ order. goes_by id (chain order (issued client before))) ks) (sym (H.listed client)) ∙ named)
+
+  -- a request that is refused, by what it names
+  refused-request : (code : ℕ) (why : List ℕ) → verdict terms (issued client before) A port m ≡ Refused code why → is_new_order m ≡ false
+      → (x : Option (List ℕ)) → named_order (text 41 m) (issued client before) ≡ x → Comes (refused_request m (shown_in terms before x) code why)
+  refused-request code why v old None named = unknown-refused terms before client m port sends H short code why v old
+  refused-request code why v old (Some k) named =
+      let found = named-record (text 41 m) k named in
+      let known : new_of k A ≡ Some found.0 = subst (λ (i : List ℕ). new_of i A ≡ Some found.0) found.2 (subst (λ (e : Entry). new_of e.order A ≡ Some e) found.1.same found.1.fits.known) in
+      rw known (known-refused terms before client m port sends H short code why v old found.0 found.1)
+
+abbrev RequestOf : List Terms → History → Message → Port → ℕ → Type 0
+RequestOf terms before m port client = RequestSays (issued client before) (option_and_then (standing_of terms (issued client before) (accepted terms before)) (named_order (text 41 m) (issued client before))) (given (accepted terms before)) m
+
+-- a request that is accepted, on its order
+module _ (terms : List Terms) (before : History) (m : Message) (port : Port) (sends : List (List ℕ)) (H : Holds terms before) (short : length before < 2 ^ 59) (o : OrderRecord) (f : FitsIn terms before o)
+    (v : verdict terms (issued o.new.client before) (accepted terms before) port m ≡ Accepted) (old : is_new_order m ≡ false)
+    (named : named_order (text 41 m) (issued o.new.client before) ≡ Some o.new.order) (says : RequestOf terms before m port o.new.client)
+    (reading_so : says.n.reading ≡ Rattle.order_law.specs.Reading.reading o.new.order (issued o.new.client before)) (chain_so : says.n.chain ≡ chain o.new.order (issued o.new.client before)) where
+  lives_on : is_closed o.stage ≡ false
+  lives_on = ap (λ (x : Reading). x.is_closed) (sym (reading_so ∙ f.reads.read_so)) ∙ says.lives
+
+  may-ask : (Rattle.order_law.specs.Verdicts.has_to_wait (is_replace m) (chained o)) ≡ false
+  may-ask = ap (Rattle.order_law.specs.Verdicts.has_to_wait (is_replace m)) (sym (chain_so ∙ f.reads.chained_so)) ∙ says.may
+
+  parts : (has_pending_cancel (chained o) ≡ false) × ((is_replace m && has_pending_replace (chained o)) ≡ false)
+  parts = requested.or-both (has_pending_cancel (chained o)) (is_replace m && has_pending_replace (chained o)) may-ask
+
+  no_c : o.cancel ≡ None
+  no_c = requested.no-cancel o parts.0
+
+  abbrev Comes' : List Message → Type 0
+  Comes' bodies = Next terms (coming_turn o.new.client m port bodies sends) before
+
+  -- a cancel takes no token, but one is never the last
+  accepted-request : given (accepted terms before) + 1 ≤ 9_999_999_999_999 → Comes' (told_by_verdict terms o.new.client m port before (verdict terms (issued o.new.client before) (accepted terms before) port m))
+  accepted-request room = by_kind (is_replace m) refl
+    where
+      token : Option ℕ
+      token = if is_replace m then Some (given (accepted terms before) + 1) else None
+
+      told-as : told_by_verdict terms o.new.client m port before (verdict terms (issued o.new.client before) (accepted terms before) port m) ≡ Rattle.order_law.specs.Told.accepted_request (reports_in before + 1) (record { client = o.new.client; message = m; order = o.new.order; token = token }) (Some (shown_as o))
+      told-as = requested.told-so terms before m port sends H short o f v old named says.unused lives_on no_c room token refl
+
+      by_kind : (b : Bool) → is_replace m ≡ b → Comes' (told_by_verdict terms o.new.client m port before (verdict terms (issued o.new.client before) (accepted terms before) port m))
+      by_kind true kind =
+          let no_r = requested.no-replace o (ap (λ (x : Bool). x && has_pending_replace (chained o)) (sym kind) ∙ parts.1) in
+          subst Comes' (sym (told-as ∙ requested.replace-told terms before m port sends H short o f v old named says.unused lives_on no_c room token refl kind no_r))
+          (requested.replace-Holds terms before m port sends H short o f v old named says.unused lives_on no_c room token refl kind no_r)
+      by_kind false kind =
+          subst Comes' (sym (told-as ∙ requested.cancel-told terms before m port sends H short o f v old named says.unused lives_on no_c room token refl kind))
+          (requested.cancel-Holds terms before m port sends H short o f v old named says.unused lives_on no_c room token refl kind)
