@@ -172,7 +172,7 @@ module _ (terms : List Terms) (before : History) (client : ℕ) (m : Message) (p
   abbrev w : Turn
   w = coming_turn client m port (a ∷ []) sends
 
-  taken-new : entry_at terms (Came client m port) before ≡ Some en
+  pub taken-new : entry_at terms (Came client m port) before ≡ Some en
   taken-new = rw (v, new) refl
 
   says-new : NewSays (issued client before) (given D) m
@@ -182,7 +182,7 @@ module _ (terms : List Terms) (before : History) (client : ℕ) (m : Message) (p
   next-new = record {
     order = λ e. refl;
     token = λ n e. sym (same_some (given D + 1) n e);
-    room = omega (arith, says-new.token);
+    room = λ n e. (let it : given D + 1 ≡ n = same_some (given D + 1) n e in omega (arith, says-new.token, it));
     unused = says-new.unused;
     few = omega (arith, H.few);
   }

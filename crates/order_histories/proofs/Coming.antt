@@ -112,6 +112,10 @@ module _ (terms : List Terms) (before : History) (client : ℕ) (m : Message) (p
       rw none true-still,
     )
 
+none-if : (b : Bool) → b ≡ false → ◌≡◌ {A = ℕ} (if b then 1 else 0) 0
+none-if true h = absurd (cc)
+none-if false h = refl
+
 -- ---- what an accepted message asks is of its order
 
 asks-order : (terms : List Terms) (e : Entry) (entries : List Entry) (sent : List Message) (messages : List (List ℕ)) → Each (λ (a : Asked). a.order ≡ e.order) (asks terms e entries sent messages)
@@ -248,7 +252,11 @@ module _ (terms : List Terms) (before : History) (client : ℕ) (m : Message) (p
         token-few j is_j = omega (arith, next.token j is_j, count-more (λ (e : Entry). is_some e.token) en E, one_if (is_some en.token) (rw is_j refl))
 
     room-now : given (en ∷ E) ≤ 9_999_999_999_999
-    room-now = omega (arith, next.room, count-more (λ (e : Entry). is_some e.token) en E, one-at-most (is_some en.token))
+    room-now = by_token en.token refl
+      where
+        by_token : (x : Option ℕ) → en.token ≡ x → given (en ∷ E) ≤ 9_999_999_999_999
+        by_token None is_x = omega (arith, H.short, count-more (λ (e : Entry). is_some e.token) en E, none-if (is_some en.token) (rw is_x refl))
+        by_token (Some j) is_x = omega (arith, next.room j is_x, next.token j is_x, count-more (λ (e : Entry). is_some e.token) en E, one-at-most (is_some en.token))
 
     pub taken-Holds : Holds terms (u ∷ before) × Each (IsTrueToMarket terms u before) (news (accepted terms (u ∷ before)))
     taken-Holds = (

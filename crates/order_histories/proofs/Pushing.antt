@@ -34,7 +34,7 @@ use Rattle.order_histories.proofs.Lists.{none-found}
 pub record IsNext (terms : List Terms) (before : History) (en : Entry) : Type 0 where
   pub order : is_new_order en.message ≡ true → en.order ≡ decimal (numbered before + 1)
   pub token : (n : ℕ) → en.token ≡ Some n → n ≡ given (accepted terms before) + 1
-  pub room : given (accepted terms before) + 1 ≤ 9_999_999_999_999
+  pub room : (n : ℕ) → en.token ≡ Some n → n ≤ 9_999_999_999_999
   pub unused : is_used (Rattle.order_law.specs.Messages.text 11 en.message) (issued en.client before) ≡ false
   pub few : numbered before + 1 < 10 ^ 64
 
@@ -63,7 +63,7 @@ module _ (terms : List Terms) (before : History) (en : Entry) (H : Holds terms b
       other-token None is_x = refl
       other-token (Some j) is_x =
           let fresh = next.token j is_x in
-          let other : bytes_eq (token_text j) token ≡ false = eq-other (token_text j) token (λ same. (let alike : j ≡ n = token-same j n (omega (arith, fresh, next.room)) (omega (arith, few, next.room)) (same ∙ is) in omega (arith, alike, fresh, few))) in
+          let other : bytes_eq (token_text j) token ≡ false = eq-other (token_text j) token (λ same. (let alike : j ≡ n = token-same j n (next.room j is_x) (omega (arith, few, H.short)) (same ∙ is) in omega (arith, alike, fresh, few))) in
           rw (other, and-false ((terms_of terms en.client).port == port)) refl
 
       none : has_token terms port token en ≡ false
@@ -149,7 +149,7 @@ module _ (terms : List Terms) (before : History) (en : Entry) (H : Holds terms b
           off e i (Some j) is_x =
               let few = (i.is_given j is_x).1 in
               let fresh = next.token n is in
-              let other : bytes_eq (token_text j) (token_text n) ≡ false = eq-other (token_text j) (token_text n) (λ same. (let alike : j ≡ n = token-same j n (omega (arith, few, next.room)) (omega (arith, fresh, next.room)) same in omega (arith, alike, few, fresh))) in
+              let other : bytes_eq (token_text j) (token_text n) ≡ false = eq-other (token_text j) (token_text n) (λ same. (let alike : j ≡ n = token-same j n (omega (arith, few, H.short)) (next.room n is) same in omega (arith, alike, few, fresh))) in
               rw (is_x, other, and-false ((terms_of terms e.client).port == port)) refl
 
   -- an order beside it

@@ -102,7 +102,7 @@ module _ (terms : List Terms) (before : History) (m : Message) (port : Port) (se
     (v : verdict terms (issued o.new.client before) (accepted terms before) port m ≡ Accepted) (no_new : is_new_order m ≡ false)
     (is_named : named_order (text 41 m) (issued o.new.client before) ≡ Some o.new.order)
     (unused : is_used (text 11 m) (issued o.new.client before) ≡ false) (lives_on : is_closed o.stage ≡ false) (no_c : o.cancel ≡ None)
-    (room : given (accepted terms before) + 1 ≤ 9_999_999_999_999)
+    (room : is_replace m ≡ true → given (accepted terms before) < 9_999_999_999_999)
     (next_token : Option ℕ) (token_is : next_token ≡ (if is_replace m then Some (given (accepted terms before) + 1) else None)) where
   abbrev client : ℕ
   client = o.new.client
@@ -144,7 +144,7 @@ module _ (terms : List Terms) (before : History) (m : Message) (port : Port) (se
   next-en = record {
     order = λ e. absurd (let x : true ≡ false = sym e ∙ no_new in cc);
     token = λ n e. by_kind (is_replace m) refl n (sym token_is ∙ e);
-    room = room;
+    room = λ n e. by_room (is_replace m) refl n (sym token_is ∙ e);
     unused = unused;
     few = omega (arith, H.few);
   }
@@ -152,6 +152,10 @@ module _ (terms : List Terms) (before : History) (m : Message) (port : Port) (se
       by_kind : (b : Bool) → is_replace m ≡ b → (n : ℕ) → (if b then Some (given A + 1) else None) ≡ Some n → n ≡ given A + 1
       by_kind true is_g n e = sym (same_some (given A + 1) n e)
       by_kind false is_f n e = absurd (cc)
+
+      by_room : (b : Bool) → is_replace m ≡ b → (n : ℕ) → (if b then Some (given A + 1) else None) ≡ Some n → n ≤ 9_999_999_999_999
+      by_room true is_g n e = let it : given A + 1 ≡ n = same_some (given A + 1) n e in omega (arith, room is_g, it)
+      by_room false is_f n e = absurd (cc)
 
   asks-own : (asked : List Asked) → asks terms en A (issued client before) (handled (port_of terms o.new) before) ≡ asked → own o.new.order asked ≡ asked
       → own o.new.order (outstanding terms (port_of terms o.new) before ++ asks_of terms (port_of terms o.new) (Some en) A (issued client before) (handled (port_of terms o.new) before)) ≡ asked_as terms o ++ asked

@@ -33,7 +33,8 @@ use Rattle.order_histories.proofs.Hearing.{fault-Holds, heard_turn, tokenless-Ho
 use Rattle.order_histories.proofs.Lawfully.{IsToken, lawful-Holds, token-of}
 use Rattle.order_histories.proofs.Judged.{IsLawful, lawful}
 use Rattle.order_histories.proofs.Coming.{coming_turn}
-use Rattle.order_histories.proofs.Came.{known-refused, new-refused, new-taken, unknown-refused}
+use Rattle.order_histories.proofs.Came.{known-refused, new-refused, new-taken, taken-new, unknown-refused}
+use Rattle.order_law.specs.Told.{told_accepted_as}
 use Rattle.order_histories.proofs.Requested as requested
 use Rattle.order_histories.proofs.Verdicts.{NewSays, RequestSays, named-is, new-says, request-says}
 use Rattle.order_law.specs.Messages.{text}
@@ -86,9 +87,6 @@ module _ (terms : List Terms) (before : History) (port : ℕ) (m : List ℕ) (cl
   told-nobody none fault next =
       let same : nobody ≡ record { client = client; bodies = bodies } = sym none ∙ tells in
       subst (λ (x : Told). Next terms (heard_turn port m x.client x.bodies sends fault) before) same next
-
-  types-off : (letter : List ℕ) (n : ℕ) → Bool
-  types-off letter n = true
 
   skipped : (type : ℕ) → type_of m ≡ type → is_type (codes "A") m ≡ false → is_type (codes "U") m ≡ false → is_type (codes "C") m ≡ false → is_type (codes "E") m ≡ false → is_type (codes "B") m ≡ false → is_type (codes "J") m ≡ false → is_type (codes "I") m ≡ false
       → told terms (Heard port m) before ≡ nobody → Next terms (heard_turn port m client bodies sends None) before
@@ -158,21 +156,112 @@ module _ (terms : List Terms) (before : History) (m : Message) (port : Port) (se
   abbrev Comes' : List Message → Type 0
   Comes' bodies = Next terms (coming_turn o.new.client m port bodies sends) before
 
-  -- a cancel takes no token, but one is never the last
-  accepted-request : given (accepted terms before) + 1 ≤ 9_999_999_999_999 → Comes' (told_by_verdict terms o.new.client m port before (verdict terms (issued o.new.client before) (accepted terms before) port m))
-  accepted-request room = by_kind (is_replace m) refl
+  accepted-request : Comes' (told_by_verdict terms o.new.client m port before (verdict terms (issued o.new.client before) (accepted terms before) port m))
+  accepted-request = by_kind (is_replace m) refl
     where
       token : Option ℕ
       token = if is_replace m then Some (given (accepted terms before) + 1) else None
 
       told-as : told_by_verdict terms o.new.client m port before (verdict terms (issued o.new.client before) (accepted terms before) port m) ≡ Rattle.order_law.specs.Told.accepted_request (reports_in before + 1) (record { client = o.new.client; message = m; order = o.new.order; token = token }) (Some (shown_as o))
-      told-as = requested.told-so terms before m port sends H short o f v old named says.unused lives_on no_c room token refl
+      told-as = requested.told-so terms before m port sends H short o f v old named says.unused lives_on no_c says.token token refl
 
       by_kind : (b : Bool) → is_replace m ≡ b → Comes' (told_by_verdict terms o.new.client m port before (verdict terms (issued o.new.client before) (accepted terms before) port m))
       by_kind true kind =
           let no_r = requested.no-replace o (ap (λ (x : Bool). x && has_pending_replace (chained o)) (sym kind) ∙ parts.1) in
-          subst Comes' (sym (told-as ∙ requested.replace-told terms before m port sends H short o f v old named says.unused lives_on no_c room token refl kind no_r))
-          (requested.replace-Holds terms before m port sends H short o f v old named says.unused lives_on no_c room token refl kind no_r)
+          subst Comes' (sym (told-as ∙ requested.replace-told terms before m port sends H short o f v old named says.unused lives_on no_c says.token token refl kind no_r))
+          (requested.replace-Holds terms before m port sends H short o f v old named says.unused lives_on no_c says.token token refl kind no_r)
       by_kind false kind =
-          subst Comes' (sym (told-as ∙ requested.cancel-told terms before m port sends H short o f v old named says.unused lives_on no_c room token refl kind))
-          (requested.cancel-Holds terms before m port sends H short o f v old named says.unused lives_on no_c room token refl kind)
+          subst Comes' (sym (told-as ∙ requested.cancel-told terms before m port sends H short o f v old named says.unused lives_on no_c says.token token refl kind))
+          (requested.cancel-Holds terms before m port sends H short o f v old named says.unused lives_on no_c says.token token refl kind)
+
+-- ---- a client's message, by its verdict
+
+-- an accepted request on the order that it names
+request-next : (terms : List Terms) (before : History) (client : ℕ) (m : Message) (port : Port) (sends : List (List ℕ)) → Holds terms before → length before < 2 ^ 59 → (o : OrderRecord) → FitsIn terms before o → o.new.client ≡ client → (k : List ℕ) → o.new.order ≡ k
+    → verdict terms (issued client before) (accepted terms before) port m ≡ Accepted → is_new_order m ≡ false → named_order (text 41 m) (issued client before) ≡ Some k → (says : RequestOf terms before m port client)
+    → says.n.reading ≡ Rattle.order_law.specs.Reading.reading k (issued client before) → says.n.chain ≡ chain k (issued client before)
+    → Next terms (coming_turn client m port (told_by_verdict terms client m port before (verdict terms (issued client before) (accepted terms before) port m)) sends) before
+request-next terms before client m port sends H short o f mine k is_k =
+    subst (λ (c : ℕ). verdict terms (issued c before) (accepted terms before) port m ≡ Accepted → is_new_order m ≡ false → named_order (text 41 m) (issued c before) ≡ Some k → (says : RequestOf terms before m port c)
+    → says.n.reading ≡ Rattle.order_law.specs.Reading.reading k (issued c before) → says.n.chain ≡ chain k (issued c before)
+    → Next terms (coming_turn c m port (told_by_verdict terms c m port before (verdict terms (issued c before) (accepted terms before) port m)) sends) before) mine
+    (subst (λ (i : List ℕ). verdict terms (issued o.new.client before) (accepted terms before) port m ≡ Accepted → is_new_order m ≡ false → named_order (text 41 m) (issued o.new.client before) ≡ Some i → (says : RequestOf terms before m port o.new.client)
+    → says.n.reading ≡ Rattle.order_law.specs.Reading.reading i (issued o.new.client before) → says.n.chain ≡ chain i (issued o.new.client before)
+    → Next terms (coming_turn o.new.client m port (told_by_verdict terms o.new.client m port before (verdict terms (issued o.new.client before) (accepted terms before) port m)) sends) before) is_k
+    (λ v old named says reading_so chain_so. accepted-request terms before m port sends H short o f v old named says reading_so chain_so))
+
+module _ (terms : List Terms) (before : History) (client : ℕ) (m : Message) (port : Port) (sends : List (List ℕ)) (H : Holds terms before) (short : length before < 2 ^ 59) where
+  abbrev ComesBy : List Message → Type 0
+  ComesBy bodies = Next terms (coming_turn client m port bodies sends) before
+
+  on-order : verdict terms (issued client before) (accepted terms before) port m ≡ Accepted → is_new_order m ≡ false → RequestOf terms before m port client → ComesBy (told_by_verdict terms client m port before (verdict terms (issued client before) (accepted terms before) port m))
+  on-order v old says =
+      let named = named-is terms (issued client before) (accepted terms before) (text 41 m) says.n says.is_n in
+      let found = named-record terms before client m port sends H short (text 41 m) named.0 named.1 in
+      request-next terms before client m port sends H short found.1.order found.1.fits (ap (λ (e : Entry). e.client) found.1.same ∙ found.3) named.0 (ap (λ (e : Entry). e.order) found.1.same ∙ found.2) v old named.1 says named.2 named.3
+
+  own-verdict : is_new_order m ≡ false → verdict terms (issued client before) (accepted terms before) port m ≡ Accepted
+      → verdict_of_request (issued client before) (option_and_then (standing_of terms (issued client before) (accepted terms before)) (named_order (text 41 m) (issued client before))) port (given (accepted terms before)) m ≡ Accepted
+  own-verdict old v = rw old at v
+
+  new-told : is_new_order m ≡ true → verdict terms (issued client before) (accepted terms before) port m ≡ Accepted
+      → told_by_verdict terms client m port before Accepted ≡ Rattle.order_law.specs.Told.accepted_new (reports_in before + 1) (record { client = client; message = m; order = decimal (numbered before + 1); token = Some (given (accepted terms before) + 1) })
+  new-told new v = ap (told_accepted_as terms m before) (taken-new terms before client m port sends H short v new) ∙ rw new refl
+
+  refusal-told : (code : ℕ) (why : List ℕ) → is_new_order m ≡ true → told_by_verdict terms client m port before (Refused code why) ≡ Rattle.order_law.specs.Told.refusal (reports_in before + 1) (numbered before + 1) m code why ∷ []
+  refusal-told code why new = rw new refl
+
+  reject-told : (code : ℕ) (why : List ℕ) → is_new_order m ≡ false → told_by_verdict terms client m port before (Refused code why) ≡ refused_request m (shown_in terms before (named_order (text 41 m) (issued client before))) code why
+  reject-told code why old = rw old refl
+
+  pub came-next : ComesBy (told_by_verdict terms client m port before (verdict terms (issued client before) (accepted terms before) port m))
+  came-next = by_new (is_new_order m) refl (verdict terms (issued client before) (accepted terms before) port m) refl
+    where
+      by_new : (b : Bool) → is_new_order m ≡ b → (w : Verdict) → verdict terms (issued client before) (accepted terms before) port m ≡ w → ComesBy (told_by_verdict terms client m port before w)
+      by_new true new Accepted v = subst ComesBy (sym (new-told new v)) (new-taken terms before client m port sends H short v new)
+      by_new true new (Refused code why) v = subst ComesBy (sym (refusal-told code why new)) (new-refused terms before client m port sends H short code why v new)
+      by_new false old Accepted v = subst (λ (w : Verdict). ComesBy (told_by_verdict terms client m port before w)) v
+          (on-order v old (request-says (issued client before) (option_and_then (standing_of terms (issued client before) (accepted terms before)) (named_order (text 41 m) (issued client before))) port (given (accepted terms before)) m (own-verdict old v)))
+      by_new false old (Refused code why) v = subst ComesBy (sym (reject-told code why old)) (refused-request terms before client m port sends H short code why v old (named_order (text 41 m) (issued client before)) refl)
+
+-- ---- every told history
+
+empty-Holds : (terms : List Terms) → Holds terms []
+empty-Holds terms = record {
+  entries = tt;
+  short = omega arith;
+  records = tt;
+  listed = λ c. refl;
+  unread = λ n c above small. record { read_not = refl; chained_not = refl; refused_not = refl };
+  unborn = λ n p side above most. tt;
+  unasked = λ n p above small. refl;
+  few = omega arith;
+}
+
+-- a turn by its parts
+same-turn : (t : Turn) (e : Event) (client : ℕ) (bodies : List Message) (fault : Option ℕ) → t.event ≡ e → t.client ≡ client → t.bodies ≡ bodies → t.fault ≡ fault
+    → record { event = e; client = client; bodies = bodies; sends = t.sends; fault = fault } ≡ t
+same-turn t e client bodies fault is_e is_client is_bodies is_fault = rw (sym is_e, sym is_client, sym is_bodies, sym is_fault) refl
+
+pub turn-next : (terms : List Terms) (t : Turn) (before : History) → Holds terms before → length before < 2 ^ 59 → reports_in before < 10 ^ 64 → IsToldTurn terms t before → Next terms t before
+turn-next terms t before H short reports_small told_turn = by_event t.event refl told_turn.bytes told_turn.tells told_turn.fault
+  where
+    by_event : (e : Event) → t.event ≡ e → Rattle.order_histories.specs.Told.IsEvent e → told terms e before ≡ said_in t → t.fault ≡ fault_of terms e before → Next terms t before
+    by_event (Came client m port) is_e bytes tells fault =
+        let is_client : t.client ≡ client = ap (λ (x : Told). x.client) (sym tells) in
+        let is_bodies : t.bodies ≡ told_by_verdict terms client m port before (verdict terms (issued client before) (accepted terms before) port m) = ap (λ (x : Told). x.bodies) (sym tells) in
+        subst (λ (x : Turn). Next terms x before) (same-turn t (Came client m port) client (told_by_verdict terms client m port before (verdict terms (issued client before) (accepted terms before) port m)) None is_e is_client is_bodies fault)
+        (came-next terms before client m port t.sends H short)
+    by_event (Heard port m) is_e bytes tells fault =
+        subst (λ (x : Turn). Next terms x before) (same-turn t (Heard port m) t.client t.bodies t.fault is_e refl refl refl)
+        (heard-next terms before port m t.client t.bodies t.sends H bytes tells short reports_small t.fault fault)
+
+pub run-Holds : (terms : List Terms) (h : History) → length h < 2 ^ 59 → reports_in h < 10 ^ 64 → IsTold terms h → Holds terms h
+run-Holds terms [] short reports_small t = empty-Holds terms
+run-Holds terms (t ∷ before) short reports_small t_told =
+    (turn-next terms t before (run-Holds terms before (omega arith) (omega arith) t_told.1) (omega arith) (omega arith) t_told.0).0
+
+-- in every told history each order is true to the market after the last turn
+pub orders-true : (terms : List Terms) (t : Turn) (before : History) → length (t ∷ before) < 2 ^ 59 → reports_in (t ∷ before) < 10 ^ 64 → IsTold terms (t ∷ before) → AllTrue terms t before
+orders-true terms t before short reports_small t_told =
+    (turn-next terms t before (run-Holds terms before (omega arith) (omega arith) t_told.1) (omega arith) (omega arith) t_told.0).1

@@ -1,0 +1,17 @@
+//! The law of told histories, for those who reason about runs.
+
+ghost use Rattle.std.specs.Prelude.{◌<◌, ◌^◌, ◌∷◌, List, filter, length};
+ghost use Rattle.order_law.specs.History.{Entry, History, Terms, Turn, accepted, is_new_order};
+ghost use Rattle.order_law.specs.Headline.{Each, IsTrueToMarket};
+ghost use Rattle.order_law.specs.Told.{reports_in};
+ghost use Rattle.order_histories.specs.Told.{IsTold};
+
+/// In every history whose turns tell what the law tells, with the faults that it judges, each accepted order is true to the
+/// market after the last turn: its reading and its life agree, its reports read well, and pending is outstanding. It does
+/// nothing: its contract is the law, for callers to cite.
+pub fn told_orders_are_true()
+    ensures {
+        (terms : List Terms) (t : Turn) (before : History) → length (t ∷ before) < 2 ^ 59 → reports_in (t ∷ before) < 10 ^ 64 → IsTold terms (t ∷ before)
+        → Each (IsTrueToMarket terms t before) (filter (λ (e : Entry). is_new_order e.message) (accepted terms (t ∷ before)))
+    }
+{}
