@@ -1,24 +1,23 @@
 -- Accepted: the order is in the book, or dead at once.
-use Rattle.std.proofs.Common.{◌≡◌, ◌≢◌, ℕ, suc, zero, ◌+◌, ◌-◌, ◌*◌, ◌<◌, ◌≤◌, ◌^◌, Bool, true, false, List, [], ◌∷◌, ◌++◌, map, refl, sym, ap, ◌∙◌, subst, arith, decimal, codes, bytes_eq, Option, Some, None, eqb-true}
-use Rattle.std.specs.Prelude.{◌&&◌, ◌||◌, ◌==◌, not, if◌then◌else◌, unwrap_or, is_some, filter}
+use Rattle.std.proofs.Common.{◌≡◌, ◌≢◌, ℕ, ◌+◌, ◌<◌, ◌≤◌, ◌^◌, Bool, true, false, List, [], ◌∷◌, ◌++◌, map, refl, sym, ap, ◌∙◌, subst, arith, codes, bytes_eq, Option, Some, None}
+use Rattle.std.specs.Prelude.{if◌then◌else◌}
 use Rattle.ouch_codec.specs.Parts.{type_of}
 use Rattle.ouch_codec.specs.FromMarket as heard
-use Rattle.order_law.specs.declared.stage.Stage.{Stage}
-use Rattle.order_law.specs.declared.stage.Stage.TheVariants.{Waiting, Working, Closed}
-use Rattle.order_law.specs.Messages.{Message, text}
-use Rattle.order_law.specs.Life.{after, first_token, is_closed, is_dead_state, is_live, is_waiting}
+use Rattle.order_law.specs.declared.stage.Stage.TheVariants.{Waiting, Closed}
+use Rattle.order_law.specs.Messages.{Message}
+use Rattle.order_law.specs.Life.{after, first_token, is_dead_state, is_live}
 use Rattle.order_law.specs.Chain.{chain}
-use Rattle.order_law.specs.History.{Asked, Entry, Said, SaysCancel, SaysNew, SaysReplace, Terms, answers, token_of}
+use Rattle.order_law.specs.History.{Entry, Terms, token_of}
 use Rattle.order_law.specs.Told.{Occasion, Shown, cancelled, opens, plain, report, told_by_type}
 use Rattle.order_law.specs.Told as told
 use Rattle.order_law.specs.Headline.{has_due_ids}
-use Rattle.order_histories.specs.OrderRecord.{Cancelling, OrderRecord, asked_as, cancel_asked, chained, fill_of, gone, kept, leaves, live_token, lived, new_asked, opened, replace_asked, shown_as, still_cancelling, unasked, with_tokens}
+use Rattle.order_histories.specs.OrderRecord.{Cancelling, OrderRecord, asked_as, cancel_asked, chained, fill_of, gone, kept, live_token, lived, opened, replace_asked, shown_as, still_cancelling, unasked, with_tokens}
 use Rattle.order_histories.proofs.Texts.{eq-same}
 use Rattle.order_histories.proofs.Due.{IsSound, Reads}
 use Rattle.order_histories.proofs.Reports.{Tells, new-Reads, report-tells}
 use Rattle.order_histories.proofs.Sound.{opened-sound}
 use Rattle.order_histories.proofs.Leads.{AreApart, AreNamed, Leads, cancelled-leads, leads-more, leads-one}
-use Rattle.order_histories.proofs.Moves.{AreNumbered, Keeps, Moves, Of-unasked, answers_last, filter-all, unanswered}
+use Rattle.order_histories.proofs.Moves.{Keeps, Moves, Of-unasked, answers_last, filter-all, unanswered}
 use Rattle.order_histories.proofs.Asked.{asked-parts}
 use Rattle.order_histories.proofs.Executed.{AreNumbered-more}
 use Rattle.order_histories.proofs.Canceled.{over-keeps}

@@ -1,5 +1,5 @@
 -- Each body that a message of the market leads to is on its order, and enters none.
-use Rattle.std.proofs.Common.{◌≡◌, ℕ, ◌+◌, Bool, true, false, List, [], ◌∷◌, ◌++◌, map, reverse, refl, sym, ap, ◌∙◌, codes, bytes_eq, Option, Some, None}
+use Rattle.std.proofs.Common.{◌≡◌, ℕ, ◌+◌, Bool, true, false, List, [], ◌∷◌, ◌++◌, map, reverse, refl, ap, ◌∙◌, codes, bytes_eq, Option, Some, None}
 use Rattle.std.specs.Prelude.{◌&&◌, ◌==◌, not, if◌then◌else◌, filter}
 use Rattle.std.specs.List.{find}
 use Rattle.std.proofs.Common.{append_assoc}

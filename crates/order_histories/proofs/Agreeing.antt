@@ -1,6 +1,6 @@
 -- An order that is as the lists have it: reports and messages agree on it, and what is pending is outstanding.
 use Rattle.std.proofs.Common.{◌≡◌, ◌≢◌, ℕ, Bool, true, false, List, [], ◌∷◌, ◌++◌, map, refl, sym, ap, ◌∙◌, bytes_eq, Option, Some, None}
-use Rattle.std.specs.Prelude.{◌&&◌, ◌==◌, not, if◌then◌else◌, filter}
+use Rattle.std.specs.Prelude.{◌&&◌, not, if◌then◌else◌, filter}
 use Rattle.std.specs.List.{filter_map}
 use Rattle.order_law.specs.declared.stage.Stage.{Stage}
 use Rattle.order_law.specs.declared.stage.Stage.TheVariants.{Waiting, Working, Closed}

@@ -1,11 +1,11 @@
 -- What stands in a report and in a reject, by tag.
-use Rattle.std.proofs.Common.{◌≡◌, ℕ, Bool, true, false, List, [], ◌∷◌, ◌++◌, refl, ap, ◌∙◌, sym, codes, decimal, Option, Some, None}
-use Rattle.std.specs.Prelude.{◌==◌, if◌then◌else◌, unwrap_or, option_map}
+use Rattle.std.proofs.Common.{◌≡◌, ℕ, false, List, [], ◌∷◌, ◌++◌, refl, ◌∙◌, decimal, Option, Some, None}
+use Rattle.std.specs.Prelude.{◌==◌, option_map}
 use Rattle.fix_fields.specs.Field.{first_value}
 use Rattle.fixed_point.specs.Price.{price_text}
 use Rattle.order_law.specs.Messages.{Message, text}
 use Rattle.order_law.specs.Reading.{average_of}
-use Rattle.order_law.specs.Headline.{State, stated}
+use Rattle.order_law.specs.Headline.{stated}
 use Rattle.order_law.specs.History.{Entry}
 use Rattle.order_law.specs.Told.{Occasion, Shown, field, optional, in_order, report, status_of}
 

@@ -1,26 +1,26 @@
 -- Broken Trade: a trade that stands is taken back.
-use Rattle.std.proofs.Common.{◌≡◌, ◌≢◌, ℕ, suc, zero, ◌+◌, ◌-◌, ◌*◌, ◌<◌, ◌≤◌, ◌^◌, Bool, true, false, List, [], ◌∷◌, ◌++◌, map, refl, sym, ap, ◌∙◌, subst, arith, decimal, codes, bytes_eq, Option, Some, None, eqb-true}
-use Rattle.std.specs.Prelude.{◌&&◌, ◌||◌, ◌==◌, not, if◌then◌else◌, unwrap_or, is_some, filter}
+use Rattle.std.proofs.Common.{◌≡◌, ℕ, ◌+◌, ◌-◌, ◌<◌, ◌≤◌, ◌^◌, Bool, true, false, List, [], ◌∷◌, map, refl, sym, ap, ◌∙◌, subst, arith, decimal, bytes_eq, Some, eqb-true}
+use Rattle.std.specs.Prelude.{◌&&◌, ◌||◌, ◌==◌, not}
 use Rattle.std.specs.List.{find, list_any}
 use Rattle.ouch_codec.specs.Parts.{type_of}
 use Rattle.ouch_codec.specs.FromMarket as heard
 use Rattle.order_law.specs.declared.stage.Stage.{Stage}
 use Rattle.order_law.specs.declared.stage.Stage.TheVariants.{Waiting, Working, Closed}
 use Rattle.order_law.specs.declared.trade.Trade.{Trade}
-use Rattle.order_law.specs.Messages.{Message, text}
-use Rattle.order_law.specs.Life.{after, is_closed, is_of, is_waiting, marked, stands_as}
+use Rattle.order_law.specs.Messages.{Message}
+use Rattle.order_law.specs.Life.{after, is_of, is_waiting, marked, stands_as}
 use Rattle.order_law.specs.Reading.{Fill}
 use Rattle.order_law.specs.Chain.{chain}
-use Rattle.order_law.specs.History.{Asked, Entry, Said, SaysCancel, SaysNew, SaysReplace, Terms, answers, token_of}
+use Rattle.order_law.specs.History.{Entry, Said, SaysCancel, SaysNew, SaysReplace, Terms, answers}
 use Rattle.order_law.specs.Told.{Shown, exec_id_of, opens, report, told_by_type}
 use Rattle.order_law.specs.Headline.{has_due_ids}
-use Rattle.order_histories.specs.OrderRecord.{Cancelling, OrderRecord, ToldTrade, asked_as, chained, fill_of, leaves, lived, shown_as}
+use Rattle.order_histories.specs.OrderRecord.{OrderRecord, ToldTrade, asked_as, chained, fill_of, lived, shown_as}
 use Rattle.order_histories.proofs.Texts.{and-parts, eq-decimal_other, eq-same}
-use Rattle.order_histories.proofs.Due.{IsSound, Reads}
+use Rattle.order_histories.proofs.Due.{Reads}
 use Rattle.order_histories.proofs.Reports.{broken, broken-Reads, broken_occasion, mark, report-tells}
 use Rattle.order_histories.proofs.Sound.{broken-sound}
-use Rattle.order_histories.proofs.Leads.{AreApart, AreNamed, Leads, leads-one}
-use Rattle.order_histories.proofs.Moves.{AreNumbered, Keeps, Moves, answers_last, unanswered}
+use Rattle.order_histories.proofs.Leads.{AreNamed, Leads, leads-one}
+use Rattle.order_histories.proofs.Moves.{AreNumbered, Keeps, Moves, answers_last}
 use Rattle.order_histories.proofs.Executed.{AreNumbered-more, unanswered-same}
 
 abbrev pub trade_of : ToldTrade → Trade

@@ -1,48 +1,33 @@
 -- Each client's message keeps what every told history keeps.
-use Rattle.std.proofs.Common.{◌≡◌, ◌≢◌, ℕ, suc, ◌+◌, ◌*◌, ◌<◌, ◌≤◌, ◌^◌, Bool, true, false, List, [], ◌∷◌, ◌++◌, length, map, reverse, refl, sym, ap, ◌∙◌, subst, arith, decimal, codes, bytes_eq, Option, Some, None, eqb-true, eq-eqb, ne_eqb}
-use Rattle.std.specs.Prelude.{◌&&◌, ◌||◌, ◌==◌, not, if◌then◌else◌, is_some, filter}
-use Rattle.std.specs.List.{count_by, find, list_any}
+use Rattle.std.proofs.Common.{◌≡◌, ℕ, ◌+◌, ◌*◌, ◌<◌, ◌≤◌, ◌^◌, Bool, true, false, List, [], ◌∷◌, ◌++◌, length, refl, sym, ap, ◌∙◌, subst, arith, decimal, codes, bytes_eq, Some, None, eq-eqb}
+use Rattle.std.specs.Prelude.{if◌then◌else◌}
 use Rattle.tokens.specs.TokenText.{token_text}
-use Rattle.ouch_codec.specs.FromMarket as heard
-use Rattle.ouch_codec.specs.Parts.{type_of}
 use Rattle.order_law.specs.Messages.{Message, character, is}
-use Rattle.order_law.specs.Life.{Life, after, born, is_closed, is_live, is_of, is_type, life}
-use Rattle.order_law.specs.Reading.{is_report}
-use Rattle.order_law.specs.Chain.{chain, is_used, orders}
-use Rattle.order_law.specs.History.{Asked, Entry, Heard, History, Terms, Turn, accepted, answers, given, handled, is_new_order, issued, life_of, new_of, numbered, outstanding, pending_tokens, terms_of, token_of}
-use Rattle.order_law.specs.Lawful.{has_token, is_known_token, judgement, order_of_token, order_token}
-use Rattle.order_law.specs.Told.{Told, answers_last_cancel, nobody, opens, price_after, reports_in, told, told_by_type, told_on, to_client_of}
-use Rattle.order_law.specs.Headline.{Each, IsTrueToMarket, ReadsWell, old_ids, said_in}
-use Rattle.order_histories.specs.OrderRecord.{Cancelling, OrderRecord, ToldTrade, asked_as, fill_of, lived, read, shown_as}
-use Rattle.order_histories.proofs.Texts.{and-parts, eq-decimal_other, eq-is, eq-other, eq-same, token-same}
-use Rattle.order_histories.proofs.Lists.{Each-map, Each-filter, found-passes}
-use Rattle.order_histories.proofs.Due.{IsUnread, IsUnread-others, Others, Reads, Reads-others, ReadsWell-others}
-use Rattle.order_histories.proofs.Executed.{AreNumbered-more, count-more}
-use Rattle.order_histories.proofs.Leads.{Leads, onto, same_some}
-use Rattle.order_histories.proofs.Moves.{Keeps, Moves, Of, answers_last, unanswered}
-use Rattle.order_histories.proofs.Addressed.{IsOn, on-others, onto-reverse, orders-onto, others-onto, told-on, used-onto}
-use Rattle.order_histories.proofs.Fits.{Fits, IsFound, IsHome, IsUsed, life-of, named, own, own-after, shown-is, tokens-are}
-use Rattle.order_histories.proofs.Deaf.{IsDeaf}
-use Rattle.order_histories.proofs.Agreeing.{agree-so, pending-of}
-use Rattle.order_histories.proofs.Holds.{HasRecord, Holds, IsEntry, FitsIn, Keeps-more, Of-used, PassesOver, each-find, news, orders_of, port_of, quiet-Fits, record-of, true-of}
-use Rattle.order_histories.proofs.Hearing.{append-nothing}
-use Rattle.order_histories.proofs.Reports.{Tells, asked_cancel-Reads, asked_replace-Reads, entered-Reads, report-tells, with_cancel, with_replace}
-use Rattle.order_histories.proofs.Sound.{entered-sound, with_cancel-sound, with_replace-sound}
+use Rattle.order_law.specs.Life.{Life, after, born, life}
+use Rattle.order_law.specs.Chain.{is_used}
+use Rattle.order_law.specs.History.{Entry, History, Terms, Turn, accepted, given, handled, is_new_order, issued, life_of, new_of, numbered, outstanding, token_of}
+use Rattle.order_law.specs.Told.{opens, price_after, reports_in}
+use Rattle.order_law.specs.Headline.{Each, IsTrueToMarket, old_ids}
+use Rattle.order_histories.specs.OrderRecord.{OrderRecord, asked_as, shown_as}
+use Rattle.order_histories.proofs.Texts.{eq-decimal_other, eq-is, eq-other, eq-same}
+use Rattle.order_histories.proofs.Due.{Reads, Reads-others, ReadsWell-others}
+use Rattle.order_histories.proofs.Leads.{same_some}
+use Rattle.order_histories.proofs.Moves.{Of}
+use Rattle.order_histories.proofs.Fits.{IsFound, IsHome, IsUsed, own, shown-is}
+use Rattle.order_histories.proofs.Holds.{HasRecord, Holds, FitsIn, PassesOver, news, port_of}
+use Rattle.order_histories.proofs.Reports.{Tells, entered-Reads, report-tells}
+use Rattle.order_histories.proofs.Sound.{entered-sound}
 use Rattle.order_histories.proofs.Rejects.{IsNotPending, refused-tells}
-use Rattle.order_histories.proofs.Texts.{and-false, or-true}
 use Rattle.order_law.specs.Messages.{text}
-use Rattle.order_law.specs.Asks.{limit_of, total_of}
-use Rattle.order_law.specs.Chain.{Chain, has_pending_cancel, has_pending_replace, Request}
-use Rattle.order_law.specs.Reading.{Reading}
+use Rattle.order_law.specs.Asks.{limit_of}
 use Rattle.order_law.specs.Verdicts.{Accepted, Port, Refused, Verdict, has_to_wait, is_replace}
-use Rattle.order_law.specs.History.{Came, asks, asks_of, entry_at, by_id, standing_of, verdict, Said, SaysNew, SaysReplace, SaysCancel}
+use Rattle.order_law.specs.History.{Came, asks_of, entry_at, standing_of, verdict}
 use Rattle.order_law.specs.Chain.{named as named_order}
-use Rattle.order_law.specs.Told.{Shown, accepted_new, newly_shown, on_request, plain, refusal, refused_request, reject, report, shown, shown_in, status_of, told_accepted_as, told_by_verdict}
-use Rattle.order_law.specs.Headline.{SaysOf, has_due_ids}
-use Rattle.std.specs.Prelude.{option_and_then, option_map}
-use Rattle.order_histories.specs.OrderRecord.{chained, entered, leaves, live_token}
-use Rattle.order_histories.proofs.Pushing.{IsNext, home-kept, new-kept, next-home}
-use Rattle.order_histories.proofs.Verdicts.{NewSays, RequestSays, named-is, new-says, none-apart, refused-unused, request-says}
+use Rattle.order_law.specs.Told.{Shown, newly_shown, plain, refusal, reject, report, shown, status_of}
+use Rattle.std.specs.Prelude.{option_and_then}
+use Rattle.order_histories.specs.OrderRecord.{entered}
+use Rattle.order_histories.proofs.Pushing.{IsNext, next-home}
+use Rattle.order_histories.proofs.Verdicts.{NewSays, new-says, none-apart, refused-unused}
 use Rattle.order_histories.proofs.Coming as coming
 use Rattle.order_histories.proofs.Coming.{IsTold, coming_turn, numbered-came}
 

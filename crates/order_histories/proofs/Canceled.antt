@@ -1,24 +1,23 @@
 -- Canceled: a part of what is open, or all of it.
-use Rattle.std.proofs.Common.{◌≡◌, ◌≢◌, ℕ, suc, zero, ◌+◌, ◌-◌, ◌*◌, ◌<◌, ◌≤◌, ◌^◌, Bool, true, false, List, [], ◌∷◌, ◌++◌, map, refl, sym, ap, ◌∙◌, subst, arith, decimal, codes, bytes_eq, Option, Some, None, eqb-true}
-use Rattle.std.specs.Prelude.{◌&&◌, ◌||◌, ◌==◌, not, if◌then◌else◌, unwrap_or, is_some, filter}
+use Rattle.std.proofs.Common.{◌≡◌, ℕ, ◌+◌, ◌-◌, ◌<◌, ◌≤◌, ◌^◌, true, false, List, [], ◌∷◌, map, refl, sym, ap, ◌∙◌, subst, arith, codes, Option, Some, None, eqb-true}
+use Rattle.std.specs.Prelude.{◌==◌, if◌then◌else◌}
 use Rattle.ouch_codec.specs.Parts.{type_of}
 use Rattle.ouch_codec.specs.FromMarket as heard
-use Rattle.order_law.specs.declared.stage.Stage.{Stage}
 use Rattle.order_law.specs.declared.stage.Stage.TheVariants.{Waiting, Working, Closed}
-use Rattle.order_law.specs.Messages.{Message, text}
-use Rattle.order_law.specs.Life.{after, is_closed, is_live, is_waiting}
+use Rattle.order_law.specs.Messages.{Message}
+use Rattle.order_law.specs.Life.{after, is_closed, is_live}
 use Rattle.order_law.specs.Chain.{chain}
-use Rattle.order_law.specs.History.{Asked, Entry, Said, SaysCancel, SaysNew, SaysReplace, Terms, answers, token_of}
+use Rattle.order_law.specs.History.{Entry, Said, SaysCancel, SaysNew, SaysReplace, Terms, answers}
 use Rattle.order_law.specs.Told.{Occasion, Shown, cancelled, opens, plain, report, told_by_type}
 use Rattle.order_law.specs.Told as told
 use Rattle.order_law.specs.Headline.{has_due_ids}
 use Rattle.order_histories.specs.OrderRecord.{Cancelling, OrderRecord, asked_as, chained, fill_of, gone, leaves, lived, shown_as, unasked}
 use Rattle.order_histories.proofs.Texts.{eq-same}
-use Rattle.order_histories.proofs.Due.{IsSound, Reads}
-use Rattle.order_histories.proofs.Reports.{Tells, reduced, report-tells, restated-Reads}
+use Rattle.order_histories.proofs.Due.{Reads}
+use Rattle.order_histories.proofs.Reports.{reduced, report-tells, restated-Reads}
 use Rattle.order_histories.proofs.Sound.{reduced-sound}
-use Rattle.order_histories.proofs.Leads.{AreApart, AreNamed, Leads, cancelled-leads, leads-one}
-use Rattle.order_histories.proofs.Moves.{AreNumbered, Keeps, Moves, Of-unasked, answers_last, unanswered}
+use Rattle.order_histories.proofs.Leads.{AreNamed, Leads, cancelled-leads, leads-one}
+use Rattle.order_histories.proofs.Moves.{AreNumbered, Keeps, Moves, Of-unasked, answers_last}
 use Rattle.order_histories.proofs.Executed.{AreNumbered-more, unanswered-same}
 
 -- an order of which nothing is open or asked any more keeps what it has to

@@ -1,20 +1,20 @@
 -- A message on one order changes no other, and one without a token changes none.
-use Rattle.std.proofs.Common.{◌≡◌, ◌≢◌, ℕ, ◌+◌, ◌*◌, ◌<◌, ◌≤◌, ◌^◌, Bool, true, false, List, [], ◌∷◌, ◌++◌, map, refl, sym, ap, ◌∙◌, subst, arith, decimal, codes, bytes_eq, Option, Some, None, eqb-true, eq-eqb, ne_eqb}
-use Rattle.std.specs.Prelude.{◌&&◌, ◌||◌, ◌==◌, not, if◌then◌else◌, is_some, unwrap_or, filter}
-use Rattle.std.specs.List.{find, list_any}
+use Rattle.std.proofs.Common.{◌≡◌, ◌≢◌, ℕ, Bool, true, false, List, [], ◌∷◌, refl, sym, ap, ◌∙◌, codes, bytes_eq, Option, Some, None, eqb-true, eq-eqb}
+use Rattle.std.specs.Prelude.{◌&&◌, ◌||◌, ◌==◌, if◌then◌else◌}
+use Rattle.std.specs.List.{list_any}
 use Rattle.ouch_codec.specs.FromMarket as heard
 use Rattle.order_law.specs.declared.stage.Stage.{Stage}
 use Rattle.order_law.specs.declared.stage.Stage.TheVariants.{Waiting, Working, Closed}
-use Rattle.order_law.specs.Messages.{Message, text}
+use Rattle.order_law.specs.Messages.{Message}
 use Rattle.order_law.specs.Life.{Life, after, first_token, is_live, is_of, is_type, is_waiting}
-use Rattle.order_law.specs.History.{Asked, Entry, Said, SaysCancel, SaysNew, SaysReplace, Terms, answers, terms_of, token_of}
+use Rattle.order_law.specs.History.{Entry, Said, SaysCancel, SaysNew, SaysReplace, Terms, answers, terms_of, token_of}
 use Rattle.order_law.specs.Lawful.{order_of_token}
 use Rattle.order_law.specs.Told.{opens}
 use Rattle.order_law.specs.Headline.{Each}
-use Rattle.order_histories.specs.OrderRecord.{Cancelling, OrderRecord, asked_as, cancel_asked, kept, live_token, lived, new_asked, replace_asked, still_cancelling}
+use Rattle.order_histories.specs.OrderRecord.{Cancelling, OrderRecord, asked_as, kept, live_token, lived, new_asked, replace_asked, still_cancelling}
 use Rattle.order_histories.proofs.Texts.{and-false, eq-other, eq-same}
 use Rattle.order_histories.proofs.Leads.{same_some}
-use Rattle.order_histories.proofs.Moves.{Keeps, Of, unanswered}
+use Rattle.order_histories.proofs.Moves.{Of, unanswered}
 use Rattle.order_histories.proofs.Asked.{asked-parts}
 use Rattle.order_histories.proofs.Accepted.{same-cancel}
 use Rattle.order_histories.proofs.Executed.{unanswered-same}

@@ -1,21 +1,19 @@
 -- What a client has read of an order, and that a report on it states what is due.
-use Rattle.std.proofs.Common.{◌≡◌, ◌≢◌, ℕ, ◌+◌, ◌<◌, ◌≤◌, ◌^◌, Bool, true, false, List, [], ◌∷◌, ◌++◌, refl, sym, ap, ◌∙◌, arith, decimal, codes, bytes_eq, Option, Some, None}
-use Rattle.std.specs.Prelude.{◌&&◌, ◌||◌, ◌==◌, not, if◌then◌else◌, unwrap_or, is_some}
-use Rattle.std.specs.List.{list_any}
-use Rattle.fixed_point.specs.Price.{price_text}
+use Rattle.std.proofs.Common.{◌≡◌, ◌≢◌, ℕ, ◌+◌, Bool, true, false, List, [], ◌∷◌, ◌++◌, refl, sym, ap, ◌∙◌, Option, Some, None}
+use Rattle.std.specs.Prelude.{not, if◌then◌else◌}
 use Rattle.order_law.specs.declared.stage.Stage.{Stage}
 use Rattle.order_law.specs.declared.stage.Stage.TheVariants.{Waiting, Working, Closed}
-use Rattle.order_law.specs.Messages.{Message, is, text}
+use Rattle.order_law.specs.Messages.{Message, is}
 use Rattle.order_law.specs.Life.{is_closed}
-use Rattle.order_law.specs.Reading.{Reading, average_of, is_refused_order, is_report, is_report_on, reading, unread}
-use Rattle.order_law.specs.Chain.{Chain, Request, chain, is_used, unchained}
+use Rattle.order_law.specs.Reading.{is_refused_order, is_report, is_report_on, reading, unread}
+use Rattle.order_law.specs.Chain.{chain, unchained}
 use Rattle.order_law.specs.Verdicts.{is_replace}
 use Rattle.order_law.specs.History.{Entry}
-use Rattle.order_law.specs.Told.{Occasion, Shown, report, status_of}
-use Rattle.order_law.specs.Headline.{ReadsWell, SaysOf, State, due, due_after, has_due_ids, is_answer_to, is_reject_on, leaves_of, stated, status, total_in}
+use Rattle.order_law.specs.Told.{Occasion, report, status_of}
+use Rattle.order_law.specs.Headline.{ReadsWell, due, is_reject_on, leaves_of, stated, status, total_in}
 use Rattle.order_histories.specs.OrderRecord.{Cancelling, OrderRecord, chained, leaves, read, shown_as}
-use Rattle.order_histories.proofs.Texts.{and-false, eq-same, or-true}
-use Rattle.order_histories.proofs.Bodies.{kind-in, stated-in}
+use Rattle.order_histories.proofs.Texts.{and-false}
+use Rattle.order_histories.proofs.Bodies.{stated-in}
 
 -- what was sent, the newest first, comes to this order
 pub record Reads (sent : List Message) (o : OrderRecord) : Type 0 where

@@ -1,27 +1,26 @@
 -- Executed: a trade, which may leave nothing open.
-use Rattle.std.proofs.Common.{◌≡◌, ◌≢◌, ℕ, suc, zero, ◌+◌, ◌-◌, ◌*◌, ◌<◌, ◌≤◌, ◌^◌, Bool, true, false, List, [], ◌∷◌, ◌++◌, map, refl, sym, ap, ◌∙◌, subst, arith, decimal, codes, bytes_eq, Option, Some, None, eqb-true}
-use Rattle.std.specs.Prelude.{◌&&◌, ◌||◌, ◌==◌, not, if◌then◌else◌, unwrap_or, is_some, filter}
-use Rattle.std.specs.List.{count_by, find, list_any}
+use Rattle.std.proofs.Common.{◌≡◌, ℕ, ◌+◌, ◌-◌, ◌<◌, ◌≤◌, ◌^◌, Bool, true, false, List, [], ◌∷◌, map, refl, sym, ap, ◌∙◌, subst, arith, eqb-true}
+use Rattle.std.specs.Prelude.{◌==◌, if◌then◌else◌}
+use Rattle.std.specs.List.{count_by}
 use Rattle.std.proofs.lemmas.List.Sums.{sum_by-append}
 use Rattle.order_law.specs.Reading.{is_report}
 use Rattle.ouch_codec.specs.Parts.{type_of}
 use Rattle.ouch_codec.specs.FromMarket as heard
-use Rattle.order_law.specs.declared.stage.Stage.{Stage}
 use Rattle.order_law.specs.declared.stage.Stage.TheVariants.{Waiting, Working, Closed}
 use Rattle.order_law.specs.declared.trade.Trade.{Trade}
-use Rattle.order_law.specs.Messages.{Message, text}
-use Rattle.order_law.specs.Life.{after, is_closed, is_live, is_waiting}
+use Rattle.order_law.specs.Messages.{Message}
+use Rattle.order_law.specs.Life.{after, is_live}
 use Rattle.order_law.specs.Chain.{chain}
 use Rattle.order_law.specs.History.{Asked, Entry, Said, SaysCancel, Terms, answers, is_cancel_said, token_of}
 use Rattle.order_law.specs.Told.{Shown, opens, report, told_by_type, too_late}
 use Rattle.order_law.specs.Headline.{has_due_ids}
-use Rattle.order_histories.specs.OrderRecord.{Cancelling, OrderRecord, ToldTrade, asked_as, chained, fill_of, kept, leaves, lived, shown_as, unasked}
+use Rattle.order_histories.specs.OrderRecord.{OrderRecord, ToldTrade, asked_as, chained, fill_of, leaves, lived, shown_as, unasked}
 use Rattle.order_histories.proofs.Texts.{eq-same}
-use Rattle.order_histories.proofs.Due.{IsSound, Reads}
+use Rattle.order_histories.proofs.Due.{Reads}
 use Rattle.order_histories.proofs.Reports.{Tells, filled, filled-Reads, report-tells, trade_occasion, traded, traded-Reads}
 use Rattle.order_histories.proofs.Sound.{filled-sound, traded-sound}
-use Rattle.order_histories.proofs.Leads.{AreApart, AreNamed, Leads, at, leads-more, leads-one, too_late-leads}
-use Rattle.order_histories.proofs.Moves.{AreNumbered, Keeps, Moves, Of-unasked, answers_last, filter-all, unanswered, unanswered-cancels}
+use Rattle.order_histories.proofs.Leads.{AreNamed, Leads, leads-more, leads-one, too_late-leads}
+use Rattle.order_histories.proofs.Moves.{AreNumbered, Keeps, Moves, Of-unasked, answers_last, unanswered}
 
 pub count-more : {X : Type 0} (p : X → Bool) (x : X) (xs : List X) → count_by p (x ∷ xs) ≡ (if p x then 1 else 0) + count_by p xs
 count-more {X = X} p x xs = sum_by-append (λ (y : X). if p y then 1 else 0) (x ∷ []) xs ∙ omega arith

@@ -1,24 +1,21 @@
 -- An order's record is as the lists of a history have it.
-use Rattle.std.proofs.Common.{◌≡◌, ◌≢◌, ℕ, ◌+◌, ◌*◌, ◌<◌, ◌≤◌, ◌^◌, Bool, true, false, List, [], ◌∷◌, ◌++◌, map, refl, sym, ap, ◌∙◌, subst, arith, decimal, codes, bytes_eq, Option, Some, None, eqb-true, eq-eqb, ne_eqb}
-use Rattle.std.specs.Prelude.{◌&&◌, ◌||◌, ◌==◌, not, if◌then◌else◌, is_some, unwrap_or, filter}
-use Rattle.std.specs.List.{filter_map, find, list_any}
+use Rattle.std.proofs.Common.{◌≡◌, ◌≢◌, ℕ, ◌+◌, ◌≤◌, Bool, true, false, List, [], ◌∷◌, refl, sym, ap, ◌∙◌, decimal, bytes_eq, Option, Some, None}
+use Rattle.std.specs.Prelude.{◌||◌, not, if◌then◌else◌, filter}
+use Rattle.std.specs.List.{filter_map}
 use Rattle.tokens.specs.TokenText.{token_text}
-use Rattle.ouch_codec.specs.FromMarket as heard
-use Rattle.order_law.specs.declared.stage.Stage.{Stage}
-use Rattle.order_law.specs.declared.stage.Stage.TheVariants.{Waiting, Working, Closed}
-use Rattle.order_law.specs.Messages.{Message, character, is, text}
+use Rattle.order_law.specs.Messages.{Message, character, text}
 use Rattle.order_law.specs.Asks.{total_of}
-use Rattle.order_law.specs.Life.{Life, after, first_token, is_closed, is_live, is_of, is_type, life}
+use Rattle.order_law.specs.Life.{Life, is_closed, life}
 use Rattle.order_law.specs.Reading.{Reading, is_refused_order, reading}
-use Rattle.order_law.specs.Chain.{Chain, Request, chain, is_used}
-use Rattle.order_law.specs.History.{Asked, Entry, History, Said, SaysCancel, SaysNew, SaysReplace, Terms, accepted, answers, by_id, given, handled, is_new_order, issued, life_of, new_of, pending_tokens, terms_of, token_of}
+use Rattle.order_law.specs.Chain.{Chain, Request, is_used}
+use Rattle.order_law.specs.History.{Asked, Entry, History, Terms, accepted, answers, by_id, given, handled, is_new_order, issued, life_of, new_of, pending_tokens, terms_of, token_of}
 use Rattle.order_law.specs.Lawful.{order_of_token}
 use Rattle.order_law.specs.Told.{Shown, opens, price_after, shown}
-use Rattle.order_law.specs.Headline.{Each, old_ids}
-use Rattle.order_histories.specs.OrderRecord.{Cancelling, OrderRecord, asked_as, cancel_asked, chained, leaves, live_token, lived, new_asked, pending, read, replace_asked, shown_as}
+use Rattle.order_law.specs.Headline.{old_ids}
+use Rattle.order_histories.specs.OrderRecord.{Cancelling, OrderRecord, asked_as, chained, leaves, lived, pending, read, shown_as}
 use Rattle.order_histories.proofs.Texts.{eq-is, eq-same}
 use Rattle.order_histories.proofs.Due.{Reads}
-use Rattle.order_histories.proofs.Leads.{AreNamed, same_some}
+use Rattle.order_histories.proofs.Leads.{AreNamed}
 use Rattle.order_histories.proofs.Moves.{Keeps, Of, unanswered}
 use Rattle.order_histories.proofs.Row.{replacements}
 

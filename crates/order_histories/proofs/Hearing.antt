@@ -1,33 +1,22 @@
 -- A message of the market keeps what every told history keeps, and each order true.
-use Rattle.std.proofs.Common.{◌≡◌, ◌≢◌, ℕ, suc, ◌+◌, ◌*◌, ◌<◌, ◌≤◌, ◌^◌, Bool, true, false, List, [], ◌∷◌, ◌++◌, length, map, reverse, refl, sym, ap, ◌∙◌, subst, arith, decimal, codes, bytes_eq, Option, Some, None, eqb-true, eq-eqb, ne_eqb}
-use Rattle.std.specs.Prelude.{◌&&◌, ◌||◌, ◌==◌, not, if◌then◌else◌, is_some, filter}
-use Rattle.std.specs.List.{count_by, find, list_any}
+use Rattle.std.proofs.Common.{◌≡◌, ℕ, ◌+◌, ◌*◌, ◌<◌, ◌≤◌, ◌^◌, Bool, true, false, List, [], ◌∷◌, ◌++◌, length, reverse, refl, sym, ap, ◌∙◌, subst, arith, decimal, codes, Option, Some, None}
+use Rattle.std.specs.Prelude.{◌&&◌, ◌||◌, ◌==◌, not, if◌then◌else◌, filter}
 use Rattle.tokens.specs.TokenText.{token_text}
-use Rattle.ouch_codec.specs.FromMarket as heard
-use Rattle.ouch_codec.specs.Parts.{type_of}
-use Rattle.order_law.specs.Messages.{Message, character, is}
-use Rattle.order_law.specs.Life.{Life, after, born, is_closed, is_live, is_of, is_type, life}
-use Rattle.order_law.specs.Reading.{is_report}
-use Rattle.order_law.specs.Chain.{chain, is_used, orders}
-use Rattle.order_law.specs.History.{Asked, Entry, Heard, History, Terms, Turn, accepted, answers, given, handled, is_new_order, issued, life_of, new_of, numbered, outstanding, pending_tokens, terms_of, token_of}
-use Rattle.order_law.specs.Lawful.{has_token, is_known_token, judgement, order_of_token, order_token}
-use Rattle.order_law.specs.Told.{Told, answers_last_cancel, nobody, opens, price_after, reports_in, told, told_by_type, told_on, to_client_of}
-use Rattle.order_law.specs.Headline.{Each, IsTrueToMarket, ReadsWell, old_ids, said_in}
-use Rattle.order_histories.specs.OrderRecord.{Cancelling, OrderRecord, ToldTrade, asked_as, fill_of, lived, read, shown_as}
-use Rattle.order_histories.proofs.Texts.{and-parts, eq-decimal_other, eq-is, eq-other, eq-same, token-same}
-use Rattle.order_histories.proofs.Lists.{Each-map, Each-filter, found-passes}
-use Rattle.order_histories.proofs.Due.{IsUnread, IsUnread-others, Others, Reads, Reads-others, ReadsWell-others}
-use Rattle.order_histories.proofs.Executed.{AreNumbered-more, count-more}
-use Rattle.order_histories.proofs.Leads.{Leads, onto, same_some}
-use Rattle.order_histories.proofs.Moves.{Keeps, Moves, Of, answers_last, unanswered}
-use Rattle.order_histories.proofs.Addressed.{IsOn, on-others, onto-reverse, orders-onto, others-onto, told-on, used-onto}
-use Rattle.order_histories.proofs.Fits.{Fits, IsFound, IsHome, IsUsed, life-of, named, own, own-after, shown-is, tokens-are}
+use Rattle.order_law.specs.Messages.{Message, character}
+use Rattle.order_law.specs.Life.{Life, after, born, is_closed, is_type, life}
+use Rattle.order_law.specs.Chain.{is_used, orders}
+use Rattle.order_law.specs.History.{Asked, Heard, History, Terms, Turn, accepted, answers, given, handled, issued, life_of, numbered, outstanding, token_of}
+use Rattle.order_law.specs.Told.{opens, price_after, reports_in}
+use Rattle.order_law.specs.Headline.{Each, IsTrueToMarket}
+use Rattle.order_histories.specs.OrderRecord.{OrderRecord, asked_as, lived}
+use Rattle.order_histories.proofs.Lists.{Each-map}
+use Rattle.order_histories.proofs.Due.{IsUnread, Reads}
+use Rattle.order_histories.proofs.Executed.{count-more}
+use Rattle.order_histories.proofs.Moves.{Keeps, unanswered}
+use Rattle.order_histories.proofs.Fits.{life-of, own, own-after}
 use Rattle.order_histories.proofs.Deaf.{IsDeaf}
-use Rattle.order_histories.proofs.Agreeing.{agree-so, pending-of}
-use Rattle.order_histories.proofs.Holds.{FitsIn, HasRecord, Holds, IsEntry, Keeps-more, Of-used, PassesOver, news, orders_of, port_of, quiet-Fits, record-of, true-of, each-find}
-use Rattle.order_histories.proofs.Deaf.{apart-home, other-deaf, tokenless-deaf}
-use Rattle.order_histories.proofs.Judged.{IsLawful, accepted-shares, lawful, replaced-shares}
-use Rattle.order_histories.proofs.Row.{replacement-is, replacements, row-moves}
+use Rattle.order_histories.proofs.Holds.{FitsIn, HasRecord, Holds, IsEntry, PassesOver, news, port_of, quiet-Fits, true-of}
+use Rattle.order_histories.proofs.Deaf.{tokenless-deaf}
 use Rattle.order_law.specs.declared.stage.Stage.{Stage}
 use Rattle.order_law.specs.declared.stage.Stage.TheVariants.{Waiting, Working, Closed}
 use Rattle.order_law.specs.History.{Said, SaysCancel, SaysNew, SaysReplace}

@@ -1,28 +1,20 @@
 -- What every told history keeps, and that each message of the market keeps it.
-use Rattle.std.proofs.Common.{◌≡◌, ◌≢◌, ℕ, suc, ◌+◌, ◌*◌, ◌<◌, ◌≤◌, ◌^◌, Bool, true, false, List, [], ◌∷◌, ◌++◌, length, map, reverse, refl, sym, ap, ◌∙◌, subst, arith, decimal, codes, bytes_eq, Option, Some, None, eqb-true, eq-eqb, ne_eqb}
-use Rattle.std.specs.Prelude.{◌&&◌, ◌||◌, ◌==◌, not, if◌then◌else◌, is_some, filter}
-use Rattle.std.specs.List.{count_by, find, list_any}
+use Rattle.std.proofs.Common.{◌≡◌, ℕ, ◌*◌, ◌<◌, ◌≤◌, ◌^◌, Bool, true, false, List, [], ◌∷◌, length, map, sym, ◌∙◌, subst, arith, decimal, bytes_eq, Some}
+use Rattle.std.specs.Prelude.{◌&&◌, ◌==◌, if◌then◌else◌, filter}
+use Rattle.std.specs.List.{find}
 use Rattle.tokens.specs.TokenText.{token_text}
-use Rattle.ouch_codec.specs.FromMarket as heard
-use Rattle.ouch_codec.specs.Parts.{type_of}
 use Rattle.order_law.specs.Messages.{Message, character, is}
-use Rattle.order_law.specs.Life.{Life, after, born, is_closed, is_live, is_of, is_type, life}
-use Rattle.order_law.specs.Reading.{is_report}
-use Rattle.order_law.specs.Chain.{chain, is_used, orders}
-use Rattle.order_law.specs.History.{Asked, Entry, Heard, History, Terms, Turn, accepted, answers, given, handled, is_new_order, issued, life_of, new_of, numbered, outstanding, pending_tokens, terms_of, token_of}
-use Rattle.order_law.specs.Lawful.{has_token, is_known_token, judgement, order_of_token, order_token}
-use Rattle.order_law.specs.Told.{Told, answers_last_cancel, nobody, opens, price_after, reports_in, told, told_by_type, told_on, to_client_of}
-use Rattle.order_law.specs.Headline.{Each, IsTrueToMarket, ReadsWell, old_ids, said_in}
-use Rattle.order_histories.specs.OrderRecord.{Cancelling, OrderRecord, ToldTrade, asked_as, fill_of, lived, read, shown_as}
-use Rattle.order_histories.proofs.Texts.{and-parts, eq-decimal_other, eq-is, eq-other, eq-same, token-same}
-use Rattle.order_histories.proofs.Lists.{Each-map, Each-filter, found-passes}
-use Rattle.order_histories.proofs.Due.{IsUnread, IsUnread-others, Others, Reads, Reads-others, ReadsWell-others}
-use Rattle.order_histories.proofs.Executed.{AreNumbered-more, count-more}
-use Rattle.order_histories.proofs.Leads.{Leads, onto, same_some}
-use Rattle.order_histories.proofs.Moves.{Keeps, Moves, Of, answers_last, unanswered}
-use Rattle.order_histories.proofs.Addressed.{IsOn, on-others, onto-reverse, orders-onto, others-onto, told-on, used-onto}
-use Rattle.order_histories.proofs.Fits.{Fits, IsFound, IsHome, IsUsed, life-of, named, own, own-after, shown-is, tokens-are}
-use Rattle.order_histories.proofs.Deaf.{IsDeaf}
+use Rattle.order_law.specs.Life.{after, born, life}
+use Rattle.order_law.specs.Chain.{is_used, orders}
+use Rattle.order_law.specs.History.{Asked, Entry, History, Terms, Turn, accepted, given, handled, is_new_order, issued, new_of, numbered, outstanding, terms_of, token_of}
+use Rattle.order_law.specs.Told.{opens, price_after, reports_in}
+use Rattle.order_law.specs.Headline.{Each, IsTrueToMarket, ReadsWell, old_ids}
+use Rattle.order_histories.specs.OrderRecord.{OrderRecord}
+use Rattle.order_histories.proofs.Due.{IsUnread, Reads}
+use Rattle.order_histories.proofs.Executed.{AreNumbered-more}
+use Rattle.order_histories.proofs.Leads.{same_some}
+use Rattle.order_histories.proofs.Moves.{Keeps, Of}
+use Rattle.order_histories.proofs.Fits.{Fits, IsFound, IsHome, IsUsed, own}
 use Rattle.order_histories.proofs.Agreeing.{agree-so, pending-of}
 
 -- an accepted message: its order's new order is the client's, its token is among those that were given

@@ -1,6 +1,6 @@
 -- What is known of a payload that is no fault.
-use Rattle.std.proofs.Common.{◌≡◌, ℕ, ◌+◌, ◌*◌, ◌≤◌, ◌<◌, Bool, true, false, List, [], ◌∷◌, length, take, drop, fold, refl, sym, ap, ◌∙◌, arith, codes, Option, Some, None, leb-true}
-use Rattle.std.specs.Prelude.{◌&&◌, ◌==◌, not, if◌then◌else◌, is_some, nat_le}
+use Rattle.std.proofs.Common.{◌≡◌, ℕ, ◌+◌, ◌*◌, ◌≤◌, Bool, true, false, List, [], ◌∷◌, length, take, drop, fold, refl, sym, ap, ◌∙◌, arith, codes, Option, Some, None, leb-true}
+use Rattle.std.specs.Prelude.{◌&&◌, ◌==◌, not, if◌then◌else◌, nat_le}
 use Rattle.std.specs.Int.{from_be_bytes, w32}
 use Rattle.std.proofs.lemmas.List.{drop-drop}
 use Rattle.ouch_codec.specs.declared.layout.Kind.{Kind}

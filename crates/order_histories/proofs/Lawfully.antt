@@ -1,36 +1,32 @@
 -- A lawful message on an order keeps what every told history keeps, and each order true.
-use Rattle.std.proofs.Common.{◌≡◌, ◌≢◌, ℕ, suc, ◌+◌, ◌*◌, ◌<◌, ◌≤◌, ◌^◌, Bool, true, false, List, [], ◌∷◌, ◌++◌, length, map, reverse, refl, sym, ap, ◌∙◌, subst, arith, decimal, codes, bytes_eq, Option, Some, None, eqb-true, eq-eqb, ne_eqb}
-use Rattle.std.specs.Prelude.{◌&&◌, ◌||◌, ◌==◌, not, if◌then◌else◌, is_some, filter}
+use Rattle.std.proofs.Common.{◌≡◌, ◌≢◌, ℕ, ◌+◌, ◌*◌, ◌<◌, ◌≤◌, ◌^◌, Bool, true, false, List, [], ◌∷◌, ◌++◌, length, map, reverse, refl, sym, ap, ◌∙◌, subst, arith, decimal, codes, bytes_eq, Option, Some, None, eqb-true, eq-eqb, ne_eqb}
+use Rattle.std.specs.Prelude.{◌&&◌, ◌||◌, ◌==◌, not, if◌then◌else◌, is_some}
 use Rattle.std.specs.List.{count_by, find, list_any}
 use Rattle.tokens.specs.TokenText.{token_text}
 use Rattle.ouch_codec.specs.FromMarket as heard
 use Rattle.ouch_codec.specs.Parts.{type_of}
 use Rattle.order_law.specs.Messages.{Message, character, is}
-use Rattle.order_law.specs.Life.{Life, after, born, is_closed, is_live, is_of, is_type, life}
+use Rattle.order_law.specs.Life.{Life, after, born, is_closed, is_type, life}
 use Rattle.order_law.specs.Reading.{is_report}
 use Rattle.order_law.specs.Chain.{chain, is_used, orders}
 use Rattle.order_law.specs.History.{Asked, Entry, Heard, History, Terms, Turn, accepted, answers, given, handled, is_new_order, issued, life_of, new_of, numbered, outstanding, pending_tokens, terms_of, token_of}
-use Rattle.order_law.specs.Lawful.{has_token, is_known_token, judgement, order_of_token, order_token}
-use Rattle.order_law.specs.Told.{Told, answers_last_cancel, nobody, opens, price_after, reports_in, told, told_by_type, told_on, to_client_of}
-use Rattle.order_law.specs.Headline.{Each, IsTrueToMarket, ReadsWell, old_ids, said_in}
-use Rattle.order_histories.specs.OrderRecord.{Cancelling, OrderRecord, ToldTrade, asked_as, fill_of, lived, read, shown_as}
+use Rattle.order_law.specs.Lawful.{has_token, judgement, order_of_token, order_token}
+use Rattle.order_law.specs.Told.{Told, answers_last_cancel, opens, price_after, reports_in, told, told_by_type, told_on, to_client_of}
+use Rattle.order_law.specs.Headline.{Each, IsTrueToMarket, ReadsWell, old_ids}
+use Rattle.order_histories.specs.OrderRecord.{OrderRecord, asked_as, fill_of, lived, shown_as}
 use Rattle.order_histories.proofs.Texts.{and-parts, eq-decimal_other, eq-is, eq-other, eq-same, token-same}
-use Rattle.order_histories.proofs.Lists.{Each-map, Each-filter, found-passes}
+use Rattle.order_histories.proofs.Lists.{Each-map, found-passes}
 use Rattle.order_histories.proofs.Due.{IsUnread, IsUnread-others, Others, Reads, Reads-others, ReadsWell-others}
-use Rattle.order_histories.proofs.Executed.{AreNumbered-more, count-more}
-use Rattle.order_histories.proofs.Leads.{Leads, onto, same_some}
-use Rattle.order_histories.proofs.Moves.{Keeps, Moves, Of, answers_last, unanswered}
+use Rattle.order_histories.proofs.Leads.{onto, same_some}
+use Rattle.order_histories.proofs.Moves.{Keeps, Moves, answers_last, unanswered}
 use Rattle.order_histories.proofs.Addressed.{IsOn, on-others, onto-reverse, orders-onto, others-onto, told-on, used-onto}
-use Rattle.order_histories.proofs.Fits.{Fits, IsFound, IsHome, IsUsed, life-of, named, own, own-after, shown-is, tokens-are}
-use Rattle.order_histories.proofs.Deaf.{IsDeaf}
-use Rattle.order_histories.proofs.Agreeing.{agree-so, pending-of}
+use Rattle.order_histories.proofs.Fits.{IsFound, IsHome, IsUsed, life-of, named, own, shown-is, tokens-are}
 use Rattle.std.proofs.Common.{ℕ}
-use Rattle.order_histories.proofs.Holds.{FitsIn, HasRecord, Holds, IsEntry, Keeps-more, Of-used, PassesOver, news, orders_of, port_of, quiet-Fits, record-of, true-of, each-find}
+use Rattle.order_histories.proofs.Holds.{FitsIn, HasRecord, Holds, IsEntry, Keeps-more, Of-used, PassesOver, news, orders_of, port_of, true-of, each-find}
 use Rattle.order_histories.proofs.Deaf.{apart-home, other-deaf}
-use Rattle.order_histories.proofs.Judged.{IsLawful, accepted-shares, lawful, replaced-shares}
+use Rattle.order_histories.proofs.Judged.{IsLawful, accepted-shares, replaced-shares}
 use Rattle.order_histories.proofs.Row.{replacement-is, replacements, row-moves}
 use Rattle.order_histories.proofs.Hearing.{asked-as, asked-now, closed-asked, deaf-fits, heard_turn, numbered-heard}
-use Rattle.order_law.specs.Life.{is_waiting}
 use Rattle.order_law.specs.Lawful.{replaced_may, row_holds, same_terms, works_as}
 use Rattle.order_law.specs.Reading.{Reading, reading, Fill}
 use Rattle.order_law.specs.Told.{Shown, shown}
@@ -140,7 +136,7 @@ told-issued new (r ∷ rs) client bodies e =
 module _ (terms : List Terms) (before : History) (port : ℕ) (m : List ℕ) (client : ℕ) (bodies : List Message) (sends : List (List ℕ)) (H : Holds terms before)
     (no_t : is_type (codes "T") m ≡ false) (no_s : is_type (codes "S") m ≡ false) (judged : judgement terms port m before ≡ None)
     (tells : told terms (Heard port m) before ≡ record { client = client; bodies = bodies })
-    (price_small : heard.executed_price m < 2 ^ 128) (short : length before < 2 ^ 59) (reports_small : reports_in before < 10 ^ 64)
+    (price_small : type_of m ≡ 69 → heard.executed_price m < 2 ^ 128) (short : length before < 2 ^ 59) (reports_small : reports_in before < 10 ^ 64)
     (l : IsLawful terms port m before) (o : OrderRecord) (f : FitsIn terms before o) (own_port : port_of terms o.new ≡ port) (same_new : o.new ≡ l.new) where
   abbrev t : Turn
   t = heard_turn port m client bodies sends None

@@ -1,17 +1,13 @@
 -- The bodies of a turn on an order, one after another: what its client has read after them, and that each reads well.
-use Rattle.std.proofs.Common.{◌≡◌, ℕ, ◌+◌, ◌-◌, ◌*◌, ◌<◌, ◌≤◌, ◌^◌, Bool, true, false, List, [], ◌∷◌, ◌++◌, map, refl, sym, ap, ◌∙◌, subst, arith, decimal, codes, bytes_eq, Option, Some, None}
-use Rattle.std.specs.Prelude.{◌&&◌, ◌||◌, ◌==◌, not, if◌then◌else◌, unwrap_or, is_some, filter}
-use Rattle.std.specs.List.{find, list_any}
-use Rattle.order_law.specs.declared.stage.Stage.TheVariants.{Waiting, Working, Closed}
-use Rattle.order_law.specs.Messages.{Message, is, text}
-use Rattle.order_law.specs.Life.{is_closed, is_waiting}
+use Rattle.std.proofs.Common.{◌≡◌, ℕ, true, false, List, [], ◌∷◌, refl, decimal, codes, bytes_eq, Option, Some, None}
+use Rattle.order_law.specs.declared.stage.Stage.TheVariants.{Working}
+use Rattle.order_law.specs.Messages.{Message, text}
 use Rattle.order_law.specs.Chain.{Chain, Request, chain}
-use Rattle.order_law.specs.Verdicts.{is_replace}
 use Rattle.order_law.specs.History.{Entry}
 use Rattle.order_law.specs.Told as told
 use Rattle.order_law.specs.Told.{Occasion, Shown, on_request, plain, report, answered_no, is_cancel}
-use Rattle.order_law.specs.Headline.{ReadsWell, SaysOf, has_due_ids, is_answer_to}
-use Rattle.order_histories.specs.OrderRecord.{Cancelling, OrderRecord, chained, gone, shown_as, unasked, without_cancel, without_replace}
+use Rattle.order_law.specs.Headline.{ReadsWell, has_due_ids}
+use Rattle.order_histories.specs.OrderRecord.{Cancelling, OrderRecord, chained, gone, shown_as, unasked}
 use Rattle.order_histories.proofs.Texts.{eq-same, eq-turned}
 use Rattle.order_histories.proofs.Due.{IsSound, Reads}
 use Rattle.order_histories.proofs.Reports.{Tells, all_cancelled, canceled-Reads, canceled_on-Reads, report-tells}

@@ -1,21 +1,18 @@
 -- What a message of the market makes of an order: life, bodies, what is outstanding, price, each as the lists have it.
-use Rattle.std.proofs.Common.{◌≡◌, ◌≢◌, ℕ, suc, zero, ◌+◌, ◌-◌, ◌*◌, ◌<◌, ◌≤◌, ◌^◌, Bool, true, false, List, [], ◌∷◌, ◌++◌, map, refl, sym, ap, ◌∙◌, subst, arith, decimal, codes, bytes_eq, Option, Some, None}
-use Rattle.std.specs.Prelude.{◌&&◌, ◌||◌, ◌==◌, not, if◌then◌else◌, unwrap_or, is_some, filter}
-use Rattle.std.specs.List.{count_by, find, list_any}
-use Rattle.ouch_codec.specs.Parts.{type_of}
+use Rattle.std.proofs.Common.{◌≡◌, ◌≢◌, ℕ, ◌+◌, ◌-◌, ◌≤◌, Bool, true, false, List, [], ◌∷◌, map, refl, sym, ap, ◌∙◌, subst, Option, Some, None}
+use Rattle.std.specs.Prelude.{◌&&◌, not, if◌then◌else◌, filter}
+use Rattle.std.specs.List.{count_by, list_any}
 use Rattle.ouch_codec.specs.FromMarket as heard
-use Rattle.order_law.specs.declared.stage.Stage.{Stage}
-use Rattle.order_law.specs.declared.stage.Stage.TheVariants.{Waiting, Working, Closed}
-use Rattle.order_law.specs.declared.trade.Trade.{Trade}
+use Rattle.order_law.specs.declared.stage.Stage.TheVariants.{Waiting, Closed}
 use Rattle.order_law.specs.Messages.{Message, text}
-use Rattle.order_law.specs.Life.{after, first_token, is_closed, is_live, is_waiting}
-use Rattle.order_law.specs.Reading.{Fill, is_report}
-use Rattle.order_law.specs.History.{Asked, Entry, Said, SaysCancel, Terms, answers, is_cancel_said, token_of}
+use Rattle.order_law.specs.Life.{after, first_token, is_closed}
+use Rattle.order_law.specs.Reading.{is_report}
+use Rattle.order_law.specs.History.{Asked, Entry, SaysCancel, Terms, answers, is_cancel_said, token_of}
 use Rattle.order_law.specs.Told.{opens, told_by_type}
 use Rattle.order_law.specs.Headline.{Each}
-use Rattle.order_histories.specs.OrderRecord.{Cancelling, OrderRecord, ToldTrade, asked_as, cancel_of, fill_of, kept, leaves, live_token, lived, shown_as, still_cancelling}
+use Rattle.order_histories.specs.OrderRecord.{Cancelling, OrderRecord, ToldTrade, asked_as, cancel_of, fill_of, kept, leaves, live_token, lived, shown_as}
 use Rattle.order_histories.proofs.Due.{IsSound}
-use Rattle.order_histories.proofs.Leads.{AreApart, AreNamed, Leads}
+use Rattle.order_histories.proofs.Leads.{AreApart, Leads}
 
 -- trades were told under rising numbers, the newest first
 abbrev pub AreNumbered : ℕ → List ToldTrade → Type 0

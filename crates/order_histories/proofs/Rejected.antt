@@ -1,31 +1,27 @@
 -- Rejected: of the new order, or of a replace; Cancel Reject; and what changes no order.
-use Rattle.std.proofs.Common.{◌≡◌, ◌≢◌, ℕ, suc, zero, ◌+◌, ◌-◌, ◌*◌, ◌<◌, ◌≤◌, ◌^◌, Bool, true, false, List, [], ◌∷◌, ◌++◌, map, refl, sym, ap, ◌∙◌, subst, arith, decimal, codes, bytes_eq, Option, Some, None, eqb-true}
-use Rattle.std.specs.Prelude.{◌&&◌, ◌||◌, ◌==◌, not, if◌then◌else◌, unwrap_or, is_some, filter}
-use Rattle.std.specs.List.{find, list_any}
+use Rattle.std.proofs.Common.{◌≡◌, ◌≢◌, ℕ, ◌+◌, ◌≤◌, true, List, [], ◌∷◌, ◌++◌, map, refl, sym, ap, ◌∙◌, subst, arith, bytes_eq, Option, Some, None}
+use Rattle.std.specs.Prelude.{not}
 use Rattle.ouch_codec.specs.Parts.{type_of}
 use Rattle.ouch_codec.specs.FromMarket as heard
-use Rattle.order_law.specs.declared.stage.Stage.{Stage}
 use Rattle.order_law.specs.declared.stage.Stage.TheVariants.{Waiting, Working, Closed}
 use Rattle.order_law.specs.Messages.{Message, text}
-use Rattle.order_law.specs.Life.{after, first_token, is_closed, is_dead_state, is_live, is_waiting}
+use Rattle.order_law.specs.Life.{after, is_live}
 use Rattle.order_law.specs.Chain.{chain}
 use Rattle.order_law.specs.Verdicts.{is_replace}
-use Rattle.order_law.specs.History.{Asked, Entry, Said, SaysCancel, SaysNew, SaysReplace, Terms, answers, token_of}
-use Rattle.order_law.specs.Told.{Occasion, Shown, answered_no, cancelled, cancel_rejected, on_request, opens, plain, report, told_by_type, too_late}
-use Rattle.order_law.specs.Told as told
+use Rattle.order_law.specs.History.{Entry, SaysCancel, Terms, answers}
+use Rattle.order_law.specs.Told.{cancel_rejected, report, told_by_type, too_late}
 use Rattle.order_law.specs.Headline.{Each, has_due_ids}
 use Rattle.order_histories.proofs.Lists.{Each-filter}
-use Rattle.order_histories.specs.OrderRecord.{Cancelling, OrderRecord, asked_as, cancel_asked, chained, fill_of, gone, kept, leaves, live_token, lived, new_asked, replace_asked, shown_as, still_cancelling, unasked, with_tokens}
-use Rattle.order_histories.proofs.Texts.{eq-is, eq-same, eq-true}
-use Rattle.order_histories.proofs.Due.{IsSound, Reads}
-use Rattle.order_histories.proofs.Leads.{AreApart, AreApart-rest, AreNamed, AreNamed-rest, Leads, at, cancelled-leads, leads-more, leads-none, leads-one, replace-answered, too_late-leads, turned}
-use Rattle.order_histories.proofs.Moves.{AreNumbered, Keeps, Moves, Of-unasked, answers_last, filter-all, unanswered}
+use Rattle.order_histories.specs.OrderRecord.{Cancelling, OrderRecord, asked_as, cancel_asked, chained, fill_of, live_token, lived, replace_asked, shown_as, still_cancelling, unasked}
+use Rattle.order_histories.proofs.Texts.{eq-same}
+use Rattle.order_histories.proofs.Due.{Reads}
+use Rattle.order_histories.proofs.Leads.{AreNamed, Leads, at, leads-more, too_late-leads}
+use Rattle.order_histories.proofs.Moves.{Keeps, Moves, Of-unasked, answers_last, unanswered}
 use Rattle.order_histories.proofs.Asked.{asked-parts, cancel-goes_on, last-is, last_of, still-left, still-request}
-use Rattle.order_histories.proofs.Executed.{AreNumbered-more, unanswered-same}
+use Rattle.order_histories.proofs.Executed.{AreNumbered-more}
 use Rattle.order_histories.proofs.Canceled.{over-keeps}
 use Rattle.order_histories.proofs.Reports.{Tells, refused, refused-Reads, refused_occasion, report-tells}
-use Rattle.order_histories.proofs.Rejects.{not_used-2}
-use Rattle.order_histories.proofs.Sound.{refused-sound, without_replace-sound}
+use Rattle.order_histories.proofs.Sound.{refused-sound}
 
 -- ---- of the new order
 

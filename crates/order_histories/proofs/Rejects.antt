@@ -1,15 +1,14 @@
 -- One more reject on an order: a request that it answers isn't pending any more, and it says what is due.
-use Rattle.std.proofs.Common.{◌≡◌, ℕ, Bool, true, false, List, [], ◌∷◌, ◌++◌, refl, sym, ap, ◌∙◌, decimal, codes, bytes_eq, Option, Some, None}
-use Rattle.std.specs.Prelude.{◌&&◌, ◌==◌, not, if◌then◌else◌, filter}
-use Rattle.std.specs.List.{list_any}
+use Rattle.std.proofs.Common.{◌≡◌, ℕ, Bool, true, false, List, ◌∷◌, refl, sym, decimal, codes, bytes_eq, Option, Some, None}
+use Rattle.std.specs.Prelude.{◌&&◌, not, filter}
 use Rattle.std.specs.Fmt.{digits}
-use Rattle.order_law.specs.Messages.{Message, is, text}
+use Rattle.order_law.specs.Messages.{Message, text}
 use Rattle.order_law.specs.Chain.{Chain, Request, chain}
 use Rattle.order_law.specs.History.{Entry}
 use Rattle.order_law.specs.Told.{answered_no, reject, status_of}
-use Rattle.order_law.specs.Headline.{due, due_after, is_answer_to, is_id_of}
+use Rattle.order_law.specs.Headline.{is_answer_to, is_id_of}
 use Rattle.order_histories.specs.OrderRecord.{Cancelling, OrderRecord, chained, shown_as, without_cancel, without_replace}
-use Rattle.order_histories.proofs.Texts.{and-false, eq-same}
+use Rattle.order_histories.proofs.Texts.{eq-same}
 use Rattle.order_histories.proofs.Due.{IsSound, Reads, status-now}
 use Rattle.order_histories.proofs.Reports.{Tells}
 

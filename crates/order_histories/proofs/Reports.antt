@@ -1,23 +1,22 @@
 -- One more report on an order: what its client has read with it, and that it says what is due.
 use Rattle.std.proofs.Common.{◌≡◌, ℕ, ◌+◌, ◌-◌, ◌*◌, ◌<◌, ◌≤◌, ◌^◌, Bool, true, false, List, [], ◌∷◌, ◌++◌, map, refl, sym, ap, ◌∙◌, arith, decimal, codes, bytes_eq, Option, Some, None}
-use Rattle.std.specs.Prelude.{◌&&◌, ◌||◌, ◌==◌, not, if◌then◌else◌, unwrap_or, is_some, filter}
-use Rattle.std.specs.List.{find, list_any}
+use Rattle.std.specs.Prelude.{◌==◌, not, if◌then◌else◌, filter}
+use Rattle.std.specs.List.{find}
 use Rattle.std.specs.Str.Parse.{digits_value}
-use Rattle.fixed_point.specs.Price.{price_text}
 use Rattle.fixed_point.proofs.Printed.{worth_of_price_text}
 use Rattle.ouch_codec.specs.FromMarket as heard
 use Rattle.order_law.specs.declared.stage.Stage.{Stage}
 use Rattle.order_law.specs.declared.stage.Stage.TheVariants.{Waiting, Working, Closed}
 use Rattle.order_law.specs.declared.trade.Trade.{Trade}
-use Rattle.order_law.specs.Messages.{Message, is, text}
+use Rattle.order_law.specs.Messages.{Message, text}
 use Rattle.order_law.specs.Asks.{total_of}
 use Rattle.order_law.specs.Life.{is_closed, is_waiting, marked}
-use Rattle.order_law.specs.Reading.{Fill, reading}
+use Rattle.order_law.specs.Reading.{Fill}
 use Rattle.order_law.specs.Chain.{Chain, Request, chain}
 use Rattle.order_law.specs.History.{Entry}
-use Rattle.order_law.specs.Told.{Occasion, Shown, on_request, plain, newly_shown, report}
+use Rattle.order_law.specs.Told.{Occasion, on_request, plain, newly_shown, report}
 use Rattle.order_law.specs.Headline.{SaysOf, has_due_ids}
-use Rattle.order_histories.specs.OrderRecord.{Cancelling, OrderRecord, ToldTrade, chained, entered, fill_of, gone, leaves, opened, read, shown_as, without_cancel}
+use Rattle.order_histories.specs.OrderRecord.{Cancelling, OrderRecord, ToldTrade, chained, entered, fill_of, gone, leaves, opened, shown_as, without_cancel}
 use Rattle.order_histories.proofs.Texts.{eq-same, number-decimal}
 use Rattle.order_histories.proofs.Due.{IsSound, IsUnread, Reads, state-due}
 

@@ -1,53 +1,43 @@
 -- A cancel or replace that is accepted keeps what every told history keeps.
-use Rattle.std.proofs.Common.{◌≡◌, ◌≢◌, ℕ, suc, ◌+◌, ◌*◌, ◌<◌, ◌≤◌, ◌^◌, Bool, true, false, List, [], ◌∷◌, ◌++◌, length, map, reverse, refl, sym, ap, ◌∙◌, subst, arith, decimal, codes, bytes_eq, Option, Some, None, eqb-true, eq-eqb, ne_eqb}
+use Rattle.std.proofs.Common.{◌≡◌, ◌≢◌, ℕ, ◌+◌, ◌*◌, ◌<◌, ◌≤◌, ◌^◌, Bool, true, false, List, [], ◌∷◌, ◌++◌, length, map, refl, sym, ap, ◌∙◌, subst, arith, codes, bytes_eq, Option, Some, None, eqb-true, eq-eqb}
 use Rattle.std.specs.Prelude.{◌&&◌, ◌||◌, ◌==◌, not, if◌then◌else◌, is_some, filter}
 use Rattle.std.specs.List.{count_by, find, list_any}
 use Rattle.tokens.specs.TokenText.{token_text}
-use Rattle.ouch_codec.specs.FromMarket as heard
-use Rattle.ouch_codec.specs.Parts.{type_of}
-use Rattle.order_law.specs.Messages.{Message, character, is}
+use Rattle.order_law.specs.Messages.{Message, is}
 use Rattle.order_law.specs.Life.{Life, after, born, is_closed, is_live, is_of, is_type, life}
 use Rattle.order_law.specs.Reading.{is_report}
-use Rattle.order_law.specs.Chain.{chain, is_used, orders}
-use Rattle.order_law.specs.History.{Asked, Entry, Heard, History, Terms, Turn, accepted, answers, given, handled, is_new_order, issued, life_of, new_of, numbered, outstanding, pending_tokens, terms_of, token_of}
-use Rattle.order_law.specs.Lawful.{has_token, is_known_token, judgement, order_of_token, order_token}
+use Rattle.order_law.specs.Chain.{chain, is_used}
+use Rattle.order_law.specs.History.{Asked, Entry, History, Terms, Turn, accepted, given, handled, is_new_order, issued, life_of, new_of, numbered, outstanding, pending_tokens, token_of}
 use Rattle.order_law.specs.Told.{Told, answers_last_cancel, nobody, opens, price_after, reports_in, told, told_by_type, told_on, to_client_of}
-use Rattle.order_law.specs.Headline.{Each, IsTrueToMarket, ReadsWell, old_ids, said_in}
+use Rattle.order_law.specs.Headline.{Each, IsTrueToMarket, old_ids}
 use Rattle.order_histories.specs.OrderRecord.{Cancelling, OrderRecord, ToldTrade, asked_as, fill_of, lived, read, shown_as}
-use Rattle.order_histories.proofs.Texts.{and-parts, eq-decimal_other, eq-is, eq-other, eq-same, token-same}
-use Rattle.order_histories.proofs.Lists.{Each-map, Each-filter, found-passes}
-use Rattle.order_histories.proofs.Due.{IsUnread, IsUnread-others, Others, Reads, Reads-others, ReadsWell-others}
-use Rattle.order_histories.proofs.Executed.{AreNumbered-more, count-more}
-use Rattle.order_histories.proofs.Leads.{Leads, onto, same_some}
-use Rattle.order_histories.proofs.Moves.{Keeps, Moves, Of, answers_last, unanswered}
-use Rattle.order_histories.proofs.Addressed.{IsOn, on-others, onto-reverse, orders-onto, others-onto, told-on, used-onto}
-use Rattle.order_histories.proofs.Fits.{Fits, IsFound, IsHome, IsUsed, life-of, named, own, own-after, shown-is, tokens-are}
-use Rattle.order_histories.proofs.Deaf.{IsDeaf}
-use Rattle.order_histories.proofs.Agreeing.{agree-so, pending-of}
-use Rattle.order_histories.proofs.Holds.{HasRecord, Holds, IsEntry, FitsIn, Keeps-more, Of-used, PassesOver, each-find, news, orders_of, port_of, quiet-Fits, record-of, true-of}
-use Rattle.order_histories.proofs.Reports.{Tells, asked_cancel-Reads, asked_replace-Reads, entered-Reads, report-tells, with_cancel, with_replace}
-use Rattle.order_histories.proofs.Sound.{entered-sound, with_cancel-sound, with_replace-sound}
+use Rattle.order_histories.proofs.Texts.{eq-other, eq-same}
+use Rattle.order_histories.proofs.Lists.{Each-map}
+use Rattle.order_histories.proofs.Due.{Reads}
+use Rattle.order_histories.proofs.Leads.{same_some}
+use Rattle.order_histories.proofs.Moves.{Keeps}
+use Rattle.order_histories.proofs.Fits.{IsFound, IsHome, life-of, own, shown-is, tokens-are}
+use Rattle.order_histories.proofs.Holds.{HasRecord, Holds, FitsIn, Keeps-more, news, port_of}
+use Rattle.order_histories.proofs.Reports.{Tells, asked_cancel-Reads, asked_replace-Reads, report-tells}
+use Rattle.order_histories.proofs.Sound.{with_cancel-sound, with_replace-sound}
 use Rattle.order_law.specs.Messages.{text}
-use Rattle.order_law.specs.Verdicts.{Accepted, Port, Refused, Verdict, has_to_wait, is_replace}
-use Rattle.order_law.specs.History.{Came, asks, asks_of, entry_at, by_id, standing_of, verdict, Said, SaysNew, SaysReplace, SaysCancel}
+use Rattle.order_law.specs.Verdicts.{Accepted, Port, is_replace}
+use Rattle.order_law.specs.History.{Came, asks, asks_of, entry_at, verdict}
 use Rattle.order_law.specs.Chain.{named as named_order}
 use Rattle.order_law.specs.Told.{Shown, accepted_new, newly_shown, on_request, plain, refusal, refused_request, reject, report, shown, shown_in, status_of, told_accepted_as, told_by_verdict}
 use Rattle.std.specs.Prelude.{option_and_then, option_map}
 use Rattle.order_histories.proofs.Pushing.{IsNext, home-kept, new-kept, next-home}
-use Rattle.order_histories.proofs.Verdicts.{NewSays, RequestSays, named-is, new-says, none-apart, refused-unused, request-says}
 use Rattle.order_histories.proofs.Coming as coming
 use Rattle.order_histories.proofs.Coming.{IsTold, coming_turn, numbered-came}
 use Rattle.order_law.specs.declared.stage.Stage.{Stage}
 use Rattle.order_law.specs.declared.stage.Stage.TheVariants.{Waiting, Working, Closed}
-use Rattle.order_law.specs.Chain.{Chain, Request, has_pending_cancel, has_pending_replace}
-use Rattle.order_law.specs.Reading.{Reading}
+use Rattle.order_law.specs.Chain.{Chain, has_pending_cancel, has_pending_replace}
 use Rattle.order_law.specs.Told as told
 use Rattle.order_law.specs.Headline.{has_due_ids}
 use Rattle.order_histories.specs.OrderRecord.{cancel_asked, cancel_of, chained, leaves, live_token, new_asked, replace_asked}
 use Rattle.order_histories.proofs.Row.{replacements}
 use Rattle.order_histories.proofs.Pushing.{found-kept, price-kept}
 use Rattle.order_histories.proofs.Leads.{at}
-use Rattle.order_law.specs.Headline.{SaysOf}
 use Rattle.std.proofs.Common.{◌⊎◌, inl, inr, ⊎_elim}
 use Rattle.order_law.specs.Told.{told_accepted_as, told_by_verdict}
 

@@ -1,25 +1,20 @@
 -- What a lawful message makes of the order that it is on, whatever its type.
-use Rattle.std.proofs.Common.{◌≡◌, ◌≢◌, ℕ, suc, zero, ◌+◌, ◌-◌, ◌*◌, ◌<◌, ◌≤◌, ◌^◌, Bool, true, false, List, [], ◌∷◌, ◌++◌, map, refl, sym, ap, ◌∙◌, subst, arith, decimal, codes, bytes_eq, Option, Some, None, eqb-true}
-use Rattle.std.specs.Prelude.{◌&&◌, ◌||◌, ◌==◌, not, if◌then◌else◌, unwrap_or, is_some, filter}
-use Rattle.std.specs.List.{find, list_any}
+use Rattle.std.proofs.Common.{◌≡◌, ◌≢◌, ℕ, ◌-◌, ◌<◌, ◌≤◌, ◌^◌, Bool, true, false, List, [], ◌∷◌, map, refl, sym, subst, arith, codes, bytes_eq, Option, Some, None, eqb-true}
+use Rattle.std.specs.Prelude.{◌&&◌, ◌||◌, ◌==◌, not}
+use Rattle.std.specs.List.{list_any}
 use Rattle.ouch_codec.specs.Parts.{type_of}
 use Rattle.ouch_codec.specs.FromMarket as heard
 use Rattle.order_law.specs.declared.stage.Stage.{Stage}
 use Rattle.order_law.specs.declared.stage.Stage.TheVariants.{Waiting, Working, Closed}
-use Rattle.order_law.specs.Messages.{Message, text}
-use Rattle.order_law.specs.Life.{after, first_token, is_closed, is_dead_state, is_live, is_waiting}
-use Rattle.order_law.specs.Chain.{chain}
-use Rattle.order_law.specs.Verdicts.{is_replace}
-use Rattle.order_law.specs.History.{Asked, Entry, Said, SaysCancel, SaysNew, SaysReplace, Terms, answers, token_of}
-use Rattle.order_law.specs.Told.{Occasion, Shown, answered_no, cancelled, cancel_rejected, on_request, opens, plain, report, told_by_type, too_late}
-use Rattle.order_law.specs.Told as told
-use Rattle.order_law.specs.Headline.{has_due_ids}
-use Rattle.order_histories.specs.OrderRecord.{Cancelling, OrderRecord, asked_as, cancel_asked, chained, fill_of, gone, kept, leaves, live_token, lived, new_asked, replace_asked, shown_as, still_cancelling, unasked, with_tokens}
-use Rattle.order_histories.proofs.Texts.{eq-is, eq-same, eq-true}
-use Rattle.order_histories.proofs.Due.{IsSound, Reads}
-use Rattle.order_histories.proofs.Leads.{AreApart, AreApart-rest, AreNamed, AreNamed-rest, Leads, at, cancelled-leads, leads-more, leads-none, leads-one, replace-answered, too_late-leads, turned}
-use Rattle.order_histories.proofs.Moves.{AreNumbered, Keeps, Moves, answers_last, filter-all, unanswered}
-use Rattle.order_histories.proofs.Asked.{asked-parts, cancel-goes_on, last-is, last_of, still-left, still-request}
+use Rattle.order_law.specs.Messages.{Message}
+use Rattle.order_law.specs.Life.{is_closed, is_dead_state, is_live, is_waiting}
+use Rattle.order_law.specs.History.{Entry, Said, SaysCancel, SaysNew, SaysReplace, Terms, answers, token_of}
+use Rattle.order_law.specs.Told.{told_by_type}
+use Rattle.order_histories.specs.OrderRecord.{OrderRecord, asked_as, fill_of, lived, shown_as}
+use Rattle.order_histories.proofs.Texts.{eq-is}
+use Rattle.order_histories.proofs.Due.{Reads}
+use Rattle.order_histories.proofs.Leads.{AreNamed, Leads, leads-none}
+use Rattle.order_histories.proofs.Moves.{Keeps, Moves, answers_last}
 use Rattle.order_histories.proofs.Executed.{AreNumbered-more, unanswered-same}
 use Rattle.order_histories.proofs.Canceled.{over-keeps}
 use Rattle.order_law.specs.Life.{is_of, is_type, is_working, stands_as}
@@ -28,7 +23,6 @@ use Rattle.std.specs.Prelude.{nat_le}
 use Rattle.std.proofs.Common.{leb-true}
 use Rattle.order_law.specs.declared.trade.Trade.{Trade}
 use Rattle.order_histories.proofs.Texts.{and-parts}
-use Rattle.order_histories.proofs.Moves.{Of}
 use Rattle.order_histories.proofs.Executed as executed
 use Rattle.order_histories.proofs.Canceled as canceled
 use Rattle.order_histories.proofs.Accepted as accepted
@@ -98,7 +92,7 @@ module _ (P : List ℕ → Type 0) (Q : Entry → Type 0) (R : List ℕ → Type
   }
 
 module _ (P : List ℕ → Type 0) (Q : Entry → Type 0) (R : List ℕ → Type 0) (terms : List Terms) (old_id : List ℕ → List ℕ) (sent : List Message) (reports limit : ℕ) (m : List ℕ) (o : OrderRecord)
-    (accepted_few : type_of m ≡ 65 → heard.shares m ≤ 1_000_000) (replaced_few : type_of m ≡ 85 → heard.shares m ≤ 1_000_000) (price_small : heard.executed_price m < 2 ^ 128)
+    (accepted_few : type_of m ≡ 65 → heard.shares m ≤ 1_000_000) (replaced_few : type_of m ≡ 85 → heard.shares m ≤ 1_000_000) (price_small : type_of m ≡ 69 → heard.executed_price m < 2 ^ 128)
     (reports_small : reports < 10 ^ 64) (limit_small : limit < 10 ^ 63)
     (row : row_holds m (lived o) o.new (replacements o.replace) ≡ true)
     (keeps : Keeps reports limit o) (named : AreNamed old_id o) (reads : Reads sent o) where
@@ -149,8 +143,8 @@ module _ (P : List ℕ → Type 0) (Q : Entry → Type 0) (R : List ℕ → Type
       by_rest works.0 (working-is o.stage works.1) (leb-true 1 (heard.executed_shares m) few.0) (leb-true (heard.executed_shares m) o.unfilled few.1) (o.unfilled - heard.executed_shares m == 0) refl
     where
       by_rest : is_live (lived o) (heard.token m) ≡ true → o.stage ≡ Working → 1 ≤ heard.executed_shares m → heard.executed_shares m ≤ o.unfilled → (r : Bool) → (o.unfilled - heard.executed_shares m == 0) ≡ r → Goes
-      by_rest live works some few true none = (_, executed.all-moves P Q R terms old_id sent reports limit 1_000_000 m o type live works some few price_small limit_small keeps named reads none)
-      by_rest live works some few false rest = (_, executed.part-moves P Q R terms old_id sent reports limit 1_000_000 m o type live works some few price_small limit_small keeps named reads rest)
+      by_rest live works some few true none = (_, executed.all-moves P Q R terms old_id sent reports limit 1_000_000 m o type live works some few (price_small type) limit_small keeps named reads none)
+      by_rest live works some few false rest = (_, executed.part-moves P Q R terms old_id sent reports limit 1_000_000 m o type live works some few (price_small type) limit_small keeps named reads rest)
 
   on_broken : type_of m ≡ 66 → Goes
   on_broken type =

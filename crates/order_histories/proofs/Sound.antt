@@ -1,14 +1,12 @@
 -- What each order keeps, it keeps through each change.
-use Rattle.std.proofs.Common.{◌≡◌, ℕ, ◌+◌, ◌-◌, Bool, true, false, List, refl, sym, ap, ◌∙◌, Option, Some, None}
-use Rattle.std.specs.Prelude.{if◌then◌else◌}
+use Rattle.std.proofs.Common.{◌≡◌, ℕ, ◌+◌, true, false, List, refl, sym, ap, ◌∙◌}
 use Rattle.order_law.specs.declared.stage.Stage.{Stage}
 use Rattle.order_law.specs.declared.stage.Stage.TheVariants.{Waiting, Working, Closed}
 use Rattle.order_law.specs.declared.trade.Trade.{Trade}
-use Rattle.order_law.specs.Asks.{total_of}
 use Rattle.order_law.specs.Life.{is_closed, is_waiting}
 use Rattle.order_law.specs.Verdicts.{is_replace}
 use Rattle.order_law.specs.History.{Entry}
-use Rattle.order_histories.specs.OrderRecord.{Cancelling, OrderRecord, ToldTrade, entered, leaves, opened, unasked, without_cancel, without_replace}
+use Rattle.order_histories.specs.OrderRecord.{Cancelling, OrderRecord, ToldTrade, entered, leaves, opened, without_cancel, without_replace}
 use Rattle.order_histories.proofs.Due.{IsSound}
 use Rattle.order_histories.proofs.Reports.{all_cancelled, broken, filled, reduced, refused, replaced, traded, with_cancel, with_replace}
 use Rattle.std.proofs.Common.{arith}

@@ -1,47 +1,38 @@
 -- In every told history each order is true to the market, after each turn.
-use Rattle.std.proofs.Common.{◌≡◌, ◌≢◌, ℕ, suc, ◌+◌, ◌*◌, ◌<◌, ◌≤◌, ◌^◌, Bool, true, false, List, [], ◌∷◌, ◌++◌, length, map, reverse, refl, sym, ap, ◌∙◌, subst, arith, decimal, codes, bytes_eq, Option, Some, None, eqb-true, eq-eqb, ne_eqb}
-use Rattle.std.specs.Prelude.{◌&&◌, ◌||◌, ◌==◌, not, if◌then◌else◌, is_some, filter}
-use Rattle.std.specs.List.{count_by, find, list_any}
-use Rattle.tokens.specs.TokenText.{token_text}
+use Rattle.std.proofs.Common.{◌≡◌, ℕ, suc, ◌+◌, ◌*◌, ◌<◌, ◌^◌, Bool, true, false, List, [], ◌∷◌, length, refl, sym, ap, ◌∙◌, subst, arith, decimal, codes, Option, Some, None, eqb-true}
+use Rattle.std.specs.Prelude.{◌&&◌, if◌then◌else◌}
+use Rattle.std.specs.List.{find}
 use Rattle.ouch_codec.specs.FromMarket as heard
 use Rattle.ouch_codec.specs.Parts.{type_of}
-use Rattle.order_law.specs.Messages.{Message, character, is}
-use Rattle.order_law.specs.Life.{Life, after, born, is_closed, is_live, is_of, is_type, life}
+use Rattle.order_law.specs.Messages.{Message}
+use Rattle.order_law.specs.Life.{is_closed, is_type}
 use Rattle.order_law.specs.Reading.{is_report}
-use Rattle.order_law.specs.Chain.{chain, is_used, orders}
-use Rattle.order_law.specs.History.{Asked, Entry, Heard, History, Terms, Turn, accepted, answers, given, handled, is_new_order, issued, life_of, new_of, numbered, outstanding, pending_tokens, terms_of, token_of}
-use Rattle.order_law.specs.Lawful.{has_token, is_known_token, judgement, order_of_token, order_token}
+use Rattle.order_law.specs.Chain.{chain}
+use Rattle.order_law.specs.History.{Entry, Heard, History, Terms, Turn, accepted, given, is_new_order, issued, new_of, numbered}
+use Rattle.order_law.specs.Lawful.{judgement, order_token}
 use Rattle.order_law.specs.Told.{Told, answers_last_cancel, nobody, opens, price_after, reports_in, told, told_by_type, told_on, to_client_of}
-use Rattle.order_law.specs.Headline.{Each, IsTrueToMarket, ReadsWell, old_ids, said_in}
-use Rattle.order_histories.specs.OrderRecord.{Cancelling, OrderRecord, ToldTrade, asked_as, fill_of, lived, read, shown_as}
-use Rattle.order_histories.proofs.Texts.{and-parts, eq-decimal_other, eq-is, eq-other, eq-same, token-same}
-use Rattle.order_histories.proofs.Lists.{Each-map, Each-filter, found-passes}
-use Rattle.order_histories.proofs.Due.{IsUnread, IsUnread-others, Others, Reads, Reads-others, ReadsWell-others}
-use Rattle.order_histories.proofs.Executed.{AreNumbered-more, count-more}
-use Rattle.order_histories.proofs.Leads.{Leads, onto, same_some}
-use Rattle.order_histories.proofs.Moves.{Keeps, Moves, Of, answers_last, unanswered}
-use Rattle.order_histories.proofs.Addressed.{IsOn, on-others, onto-reverse, orders-onto, others-onto, told-on, used-onto}
-use Rattle.order_histories.proofs.Fits.{Fits, IsFound, IsHome, IsUsed, life-of, named, own, own-after, shown-is, tokens-are}
-use Rattle.order_histories.proofs.Deaf.{IsDeaf}
-use Rattle.order_histories.proofs.Agreeing.{agree-so, pending-of}
+use Rattle.order_law.specs.Headline.{Each, IsTrueToMarket, said_in}
+use Rattle.order_histories.specs.OrderRecord.{OrderRecord, shown_as}
+use Rattle.order_histories.proofs.Texts.{and-parts}
+use Rattle.order_histories.proofs.Fits.{named}
 use Rattle.order_histories.specs.Told.{AreBytes, IsTold, IsToldTurn, fault_of}
-use Rattle.std.specs.Prelude.{nat_lt, take, drop, fold, option_and_then, option_map}
+use Rattle.std.specs.Prelude.{nat_lt, take, drop, fold, option_and_then}
 use Rattle.std.specs.List.{list_all}
 use Rattle.std.proofs.lemmas.Bool.Decides.{nat_tests}
-use Rattle.order_histories.proofs.Holds.{FitsIn, HasRecord, Holds, IsEntry, PassesOver, news, orders_of, port_of, record-of}
+use Rattle.order_histories.proofs.Holds.{FitsIn, HasRecord, Holds, news, port_of, record-of}
 use Rattle.order_histories.proofs.Hearing.{fault-Holds, heard_turn, tokenless-Holds}
-use Rattle.order_histories.proofs.Lawfully.{IsToken, lawful-Holds, token-of}
-use Rattle.order_histories.proofs.Judged.{IsLawful, lawful}
+use Rattle.order_histories.proofs.Lawfully.{lawful-Holds, token-of}
+use Rattle.order_histories.proofs.Judged.{lawful}
 use Rattle.order_histories.proofs.Coming.{coming_turn}
 use Rattle.order_histories.proofs.Came.{known-refused, new-refused, new-taken, taken-new, unknown-refused}
 use Rattle.order_law.specs.Told.{told_accepted_as}
 use Rattle.order_histories.proofs.Requested as requested
-use Rattle.order_histories.proofs.Verdicts.{NewSays, RequestSays, named-is, new-says, request-says}
+use Rattle.order_histories.proofs.Verdicts.{RequestSays, named-is, request-says}
 use Rattle.order_law.specs.Messages.{text}
-use Rattle.order_law.specs.Chain.{Chain, goes_by, named as named_order, has_pending_cancel, has_pending_replace}
+use Rattle.order_law.specs.Chain.{goes_by, named as named_order, has_pending_cancel, has_pending_replace}
 use Rattle.order_law.specs.Reading.{Reading}
 use Rattle.order_law.specs.Verdicts.{Accepted, Port, Refused, Verdict, is_replace, verdict_of_request, Named}
-use Rattle.order_law.specs.History.{Came, Event, entry_at, standing_of, verdict}
+use Rattle.order_law.specs.History.{Came, Event, standing_of, verdict}
 use Rattle.order_law.specs.Told.{Shown, refused_request, reject, shown, shown_in, status_of, told_by_verdict}
 use Rattle.order_histories.specs.OrderRecord.{chained}
 
@@ -82,7 +73,7 @@ price-small m e = let x : heard.executed_price m < 2 ^ 32 = four-small (drop 27 
 
 -- a turn of a port by its parts
 module _ (terms : List Terms) (before : History) (port : ℕ) (m : List ℕ) (client : ℕ) (bodies : List Message) (sends : List (List ℕ)) (H : Holds terms before)
-    (bytes : AreBytes m) (tells : told terms (Heard port m) before ≡ record { client = client; bodies = bodies }) (short : length before < 2 ^ 59) (reports_small : reports_in before < 10 ^ 64) where
+    (bytes : is_type (codes "E") m ≡ true → AreBytes m) (tells : told terms (Heard port m) before ≡ record { client = client; bodies = bodies }) (short : length before < 2 ^ 59) (reports_small : reports_in before < 10 ^ 64) where
   told-nobody : told terms (Heard port m) before ≡ nobody → (fault : Option ℕ) → Next terms (heard_turn port m 0 [] sends fault) before → Next terms (heard_turn port m client bodies sends fault) before
   told-nobody none fault next =
       let same : nobody ≡ record { client = client; bodies = bodies } = sym none ∙ tells in
@@ -103,7 +94,7 @@ module _ (terms : List Terms) (before : History) (port : ℕ) (m : List ℕ) (cl
       let l = lawful terms port m before is_t is_s judged in
       let token = token-of terms before port (order_token m) l.new H l.on in
       let r = record-of terms before token.entry.order (accepted terms before) l.new H.records token.found in
-      lawful-Holds terms before port m client bodies sends H is_t is_s judged tells (price-small m bytes) short reports_small l r.order r.fits (ap (port_of terms) r.same ∙ token.on_port) r.same
+      lawful-Holds terms before port m client bodies sends H is_t is_s judged tells (λ type. price-small m (bytes (rw type refl))) short reports_small l r.order r.fits (ap (port_of terms) r.same ∙ token.on_port) r.same
 
   heard-next : (fault : Option ℕ) → fault ≡ judgement terms port m before → Next terms (heard_turn port m client bodies sends fault) before
   heard-next None judged = handled-next (sym judged) (is_type (codes "T") m) (is_type (codes "S") m) refl refl

@@ -1,6 +1,6 @@
 -- What follows from the verdict of a client's message.
-use Rattle.std.proofs.Common.{◌≡◌, ◌≢◌, ℕ, zero, suc, ◌+◌, ◌<◌, ◌≤◌, ◌^◌, Bool, true, false, List, [], ◌∷◌, ◌++◌, map, refl, sym, ap, ◌∙◌, subst, arith, decimal, codes, bytes_eq, Option, Some, None, Result, Ok, Err, slice_get}
-use Rattle.std.specs.Prelude.{◌&&◌, ◌||◌, ◌==◌, not, if◌then◌else◌, is_ok, filter, nat_le, option_and_then}
+use Rattle.std.proofs.Common.{◌≡◌, ℕ, zero, suc, ◌<◌, ◌≤◌, ◌^◌, Bool, true, false, List, [], ◌∷◌, refl, sym, ap, ◌∙◌, arith, decimal, codes, bytes_eq, Option, Some, None, Result, Ok, Err, slice_get}
+use Rattle.std.specs.Prelude.{◌&&◌, not, if◌then◌else◌, is_ok, nat_le, option_and_then}
 use Rattle.std.specs.List.{find}
 use Rattle.std.specs.Fmt.{digits}
 use Rattle.std.specs.Result.{result_unwrap_or}
@@ -8,11 +8,11 @@ use Rattle.std.proofs.lemmas.Bool.Decides.{nat_tests}
 use Rattle.fixed_point.specs.declared.refusal.DecimalRefusal.{DecimalRefusal}
 use Rattle.fixed_point.specs.Decimal.{quantity}
 use Rattle.fixed_point.proofs.SaidInRange.{quantity_range}
-use Rattle.order_law.specs.Messages.{Message, is, text}
+use Rattle.order_law.specs.Messages.{Message, text}
 use Rattle.order_law.specs.Asks.{total_of}
 use Rattle.order_law.specs.Reading.{reading}
-use Rattle.order_law.specs.Chain.{Chain, chain, is_used, named}
-use Rattle.order_law.specs.Verdicts.{Accepted, Named, Port, Refused, Row, Verdict, first_row, has_to_wait, is_replace, last_token, new_order_rows, request_rows, verdict_of_new, verdict_of_request}
+use Rattle.order_law.specs.Chain.{chain, is_used, named}
+use Rattle.order_law.specs.Verdicts.{Accepted, Named, Port, Refused, Row, first_row, has_to_wait, is_replace, last_token, new_order_rows, request_rows, verdict_of_new, verdict_of_request}
 use Rattle.order_law.specs.History.{Entry, Terms, new_of, standing_of}
 use Rattle.order_histories.proofs.Leads.{same_some}
 

@@ -1,18 +1,17 @@
 -- An order as one record: what its client's reports, the market's messages and the requests so far come to, and what one
 -- more message makes of it. Nobody has to believe it: it is a step of the proof, and everything in it is read from the lists.
-use Rattle.std.specs.Prelude.{ℕ, ◌+◌, ◌-◌, ◌*◌, ◌==◌, Bool, true, false, not, ◌&&◌, List, [], ◌∷◌, ◌++◌, map, filter, Option, Some, None, option_map, option_to_list, if◌then◌else◌, bytes_eq, codes, decimal}
-use Rattle.std.specs.List.{find, list_any}
+use Rattle.std.specs.Prelude.{ℕ, ◌+◌, Bool, true, false, not, ◌&&◌, List, [], ◌∷◌, ◌++◌, map, filter, Option, Some, None, option_to_list, decimal}
 use Rattle.std.specs.Str.Parse.{digits_value}
 use Rattle.ouch_codec.specs.FromMarket as heard
 use Rattle.order_law.specs.declared.stage.Stage.{Stage}
 use Rattle.order_law.specs.declared.stage.Stage.TheVariants.{Waiting, Working, Closed}
 use Rattle.order_law.specs.declared.trade.Trade.{Trade}
-use Rattle.order_law.specs.Messages.{Message, text, character}
+use Rattle.order_law.specs.Messages.{text, character}
 use Rattle.order_law.specs.Asks.{asked_by_new, asked_by_request, limit_of, total_of}
 use Rattle.order_law.specs.Life.{Life, is_closed, is_waiting, first_token}
 use Rattle.order_law.specs.Reading.{Fill, Reading}
 use Rattle.order_law.specs.Chain.{Chain, Request}
-use Rattle.order_law.specs.History.{Terms, terms_of, Entry, token_of, Asked, Said, SaysNew, SaysReplace, SaysCancel, answers}
+use Rattle.order_law.specs.History.{Terms, terms_of, Entry, token_of, Asked, SaysNew, SaysReplace, SaysCancel, answers}
 use Rattle.order_law.specs.Told.{Shown, leaves_at}
 
 -- a trade, and the number of the report that told it

@@ -1,6 +1,7 @@
 -- Histories whose turns tell what the law tells, with the faults that it judges.
-use Rattle.std.specs.Prelude.{◌≡◌, ℕ, Bool, true, nat_lt, List, [], ◌∷◌, Option, None}
+use Rattle.std.specs.Prelude.{◌≡◌, ℕ, true, nat_lt, List, [], ◌∷◌, Option, None, codes}
 use Rattle.std.specs.List.{list_all}
+use Rattle.order_law.specs.Life.{is_type}
 use Rattle.order_law.specs.History.{Came, Event, Heard, History, Terms, Turn}
 use Rattle.order_law.specs.Lawful.{judgement}
 use Rattle.order_law.specs.Told.{told}
@@ -10,10 +11,10 @@ use Rattle.order_law.specs.Headline.{said_in}
 abbrev pub AreBytes : List ℕ → Type 0
 AreBytes bytes = list_all (λ byte. nat_lt byte 256) bytes ≡ true
 
--- a payload is bytes
+-- An Executed is bytes: its price is a number of four of them. Nothing is asked of other payloads.
 abbrev pub IsEvent : Event → Type 0
 IsEvent (Came client m port) = Unit {0}
-IsEvent (Heard port m) = AreBytes m
+IsEvent (Heard port m) = is_type (codes "E") m ≡ true → AreBytes m
 
 -- the fault of an event after these turns: a client's message is none
 abbrev pub fault_of : List Terms → Event → History → Option ℕ
