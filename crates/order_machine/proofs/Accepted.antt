@@ -17,16 +17,19 @@ use Rattle.order_law.specs.Life.{Life, after, is_dead_state, is_type, is_waiting
 use Rattle.order_law.specs.Chain.{is_used}
 use Rattle.order_law.specs.Lawful.{bytes_fault, judgement, order_of_token, row_fault, token_fault, type_fault}
 use Rattle.order_law.specs.History.{Entry, History, Terms, accepted, handled, issued, terms_of, token_of}
-use Rattle.order_law.specs.Headline.{ReadsWell}
+use Rattle.order_law.specs.Told as told
+use Rattle.order_law.specs.Told.{Shown, reports_in}
+use Rattle.order_law.specs.Reading.{is_report, reading}
+use Rattle.order_law.specs.History.{Heard, outstanding}
 use Rattle.order_machine.specs.Table.{Order, State, goes_by}
 use Rattle.order_machine.specs.Machine.{Given, accepted_by, accepted_dead, accepted_live, accepted_step, closed, faulty, has_terms, market_step, may_open, opened, reported, silent}
 use Rattle.order_machine.specs.Runs.{IsServed}
-use Rattle.order_machine.proofs.Texts.{and-parts, eq-decimal_other, eq-is, eq-same}
-use Rattle.order_machine.proofs.Lists.{found-passes, none-found, none-passes}
+use Rattle.order_histories.proofs.Texts.{and-parts, eq-decimal_other, eq-is, eq-same}
+use Rattle.order_histories.proofs.Lists.{found-passes, none-found, none-passes}
 use Rattle.order_machine.proofs.Seen.{Told, life_of}
 use Rattle.order_machine.proofs.Fits.{Fits, Same, has_token, order_of_token-known}
-use Rattle.order_machine.proofs.Own.{Told-canceled, Told-new, id_of, says-canceled, says-new, written}
-use Rattle.order_machine.proofs.Linked.{HasOrder}
+use Rattle.order_machine.proofs.Own.{Told-canceled, Told-new, canceled-told, id_of, new-told, shown_open, written}
+use Rattle.order_machine.proofs.Linked.{HasOrder, count-more}
 use Rattle.order_machine.proofs.Headline.{Holds}
 use Rattle.order_machine.proofs.Shares.{shares-in_range}
 use Rattle.order_machine.proofs.Market.{faulty-Holds, judged-bytes, judged-empty, judged-order, judged-skipped, judged-token, judged-type, market_turn, moved-Holds, skipped-Holds}
@@ -56,7 +59,7 @@ module _ (terms : List Terms) (before : History) (s : State) (port : ℕ) (m : L
     (h : Holds terms before s) (short : length before + 1 < 2 ^ 59)
     (at : slice_get s.orders place ≡ Some was)
     (type : type_of m ≡ 65) (message : is_message layouts.accepted m ≡ true) (token : heard.token m ≡ was.token) (on_port : was.port ≡ port)
-    (waits : was.stage ≡ Waiting) (judged : judgement terms port m before ≡ None) where
+    (waits : was.stage ≡ Waiting) (served : IsServed m) (judged : judgement terms port m before ≡ None) where
   abbrev new_report : Message
   new_report = written (s.exec_ids + 1) kinds.New statuses.New (opened was m)
 
@@ -72,11 +75,11 @@ module _ (terms : List Terms) (before : History) (s : State) (port : ℕ) (m : L
   one_other : (n : ℕ) → n ≢ was.order_id → n < 2 ^ 60 → bytes_eq (decimal was.order_id) (decimal n) ≡ false
   one_other n other small = eq-decimal_other was.order_id n (λ same. other (sym same)) (omega (arith, (h.linked.ordered place was at).fits.numbers.order, h.few)) (omega arith)
 
-  told_before : (e : Entry) → FitsBefore e → Told (id_of was) (issued e.client before) was
-  told_before e f = subst (λ (order : List ℕ). Told order (issued e.client before) was) f.same.order f.told
+  was_told : (e : Entry) → FitsBefore e → Told (id_of was) (issued e.client before) was
+  was_told e f = subst (λ (order : List ℕ). Told order (issued e.client before) was) f.same.order f.told
 
   told_opened : (e : Entry) → FitsBefore e → Told (id_of was) (new_report ∷ issued e.client before) (opened was m)
-  told_opened e f = Told-new (s.exec_ids + 1) was (opened was m) (issued e.client before) waits refl refl refl refl refl (omega (arith, range.1)) (told_before e f)
+  told_opened e f = Told-new (s.exec_ids + 1) was (opened was m) (issued e.client before) waits refl refl refl refl refl (omega (arith, range.1)) (was_told e f)
 
   told_closed : (e : Entry) → FitsBefore e → Told (id_of was) (canceled_report ∷ new_report ∷ issued e.client before) (closed (opened was m))
   told_closed e f = Told-canceled (s.exec_ids + 2) (opened was m) (closed (opened was m)) (new_report ∷ issued e.client before) refl refl refl refl refl refl refl (omega (arith, range.1)) (told_opened e f)
@@ -96,13 +99,53 @@ module _ (terms : List Terms) (before : History) (s : State) (port : ℕ) (m : L
   after_dead : is_dead_state m ≡ true → after (life_of was) m ≡ life_of (closed (opened was m))
   after_dead dead = let own = eq-same was.token in let all = all-cancelled (heard.shares m) in rw (yes_a, token, own, waits, dead, all) refl
 
-  state_says : (e : Entry) → FitsBefore e → (old_id : List ℕ → List ℕ) → Rattle.order_law.specs.Headline.SaysOf e.order e.message old_id (issued e.client before) new_report
-  state_says e f old_id = subst (λ (order : List ℕ). Rattle.order_law.specs.Headline.SaysOf order e.message old_id (issued e.client before) new_report) (sym f.same.order)
-      (says-new (s.exec_ids + 1) was (opened was m) e.message old_id (issued e.client before) waits refl refl refl refl refl (omega (arith, range.1)) f.same.side f.same.symbol (told_before e f))
+  -- ---- what the law tells of it
 
-  cancel_says : (e : Entry) → FitsBefore e → (old_id : List ℕ → List ℕ) → Rattle.order_law.specs.Headline.SaysOf e.order e.message old_id (new_report ∷ issued e.client before) canceled_report
-  cancel_says e f old_id = subst (λ (order : List ℕ). Rattle.order_law.specs.Headline.SaysOf order e.message old_id (new_report ∷ issued e.client before) canceled_report) (sym f.same.order)
-      (says-canceled (s.exec_ids + 2) (opened was m) (closed (opened was m)) e.message old_id (new_report ∷ issued e.client before) refl refl refl refl refl refl refl range.0 (omega (arith, range.1)) f.same.side f.same.symbol (told_opened e f))
+  zero_more : (n : ℕ) → 0 + n ≡ n
+  zero_more n = omega arith
+
+  told-row : (e : Entry) → FitsBefore e → told.told terms (Heard port m) before ≡ told.to_client_of e (told.told_accepted (reports_in before) m (told.shown terms before e))
+  told-row e f =
+      let no_t : is_type (codes "T") m ≡ false = rw type refl in
+      let no_s : is_type (codes "S") m ≡ false = rw type refl in
+      let known : order_of_token terms port (accepted terms before) (heard.token m) ≡ Some e = ap (λ (p : ℕ). order_of_token terms p (accepted terms before) (heard.token m)) (sym on_port) ∙ ap (order_of_token terms was.port (accepted terms before)) token ∙ order_of_token-known terms (accepted terms before) e was f.known in
+      let by_order : told.told terms (Heard port m) before ≡ told.told_on terms port m before (order_of_token terms port (accepted terms before) (heard.token m)) = rw (judged, no_t, no_s) refl in
+      by_order ∙ ap (told.told_on terms port m before) known
+      ∙ ap (told.to_client_of e) (row-told (reports_in before) (Rattle.order_law.specs.History.life_of e.order (accepted terms before) (handled port before)) (told.answers_last_cancel e.order m (outstanding terms port before)) (reading e.order (issued e.client before)).fills (told.shown terms before e))
+    where
+      row-told : (reports : ℕ) (l : Life) (last : Bool) (fills : List Rattle.order_law.specs.Reading.Fill) (x : Shown) → told.told_by_type reports m l last fills x ≡ told.told_accepted reports m x
+      row-told reports l last fills x = rw type refl
+
+  -- in the book, as it is shown
+  shown-then : (e : Entry) → FitsBefore e → told.opened m (told.shown terms before e) ≡ shown_open (opened was m)
+  shown-then e f =
+      let port_same : (terms_of terms e.client).port ≡ was.port = sym f.same.port in
+      let life_now : Rattle.order_law.specs.History.life_of e.order (accepted terms before) (handled (terms_of terms e.client).port before) ≡ life_of was = ap (λ (p : ℕ). Rattle.order_law.specs.History.life_of e.order (accepted terms before) (handled p before)) port_same ∙ rw f.known.by_order f.lived in
+      let all = zero_more (heard.shares m) in
+      rw (f.told.chained, life_now, f.told.unrefused, f.same.symbol, f.same.side, f.same.order, all) refl
+
+  tells-live : is_dead_state m ≡ false → told.told terms (Heard port m) before ≡ record { client = was.client; bodies = new_report ∷ [] }
+  tells-live alive =
+      let e = (h.linked.ordered place was at).entry in
+      let f = (h.linked.ordered place was at).fits in
+      let state : told.told_accepted (reports_in before) m (told.shown terms before e) ≡ Rattle.order_law.specs.Told.report (reports_in before + 1) (told.plain (codes "0")) (told.opened m (told.shown terms before e)) ∷ [] = rw alive refl in
+      told-row e f ∙ ap (told.to_client_of e) (state
+      ∙ ap (λ (x : Shown). Rattle.order_law.specs.Told.report (reports_in before + 1) (told.plain (codes "0")) x ∷ []) (shown-then e f)
+      ∙ ap (λ (n : ℕ). Rattle.order_law.specs.Told.report (n + 1) (told.plain (codes "0")) (shown_open (opened was m)) ∷ []) (sym h.exec_ids)
+      ∙ ap (λ (r : Message). r ∷ []) (new-told (s.exec_ids + 1) (opened was m) refl))
+      ∙ ap (λ (c : ℕ). record { client = c; bodies = new_report ∷ [] }) (sym f.same.client)
+
+  tells-dead : is_dead_state m ≡ true → told.told terms (Heard port m) before ≡ record { client = was.client; bodies = new_report ∷ canceled_report ∷ [] }
+  tells-dead dead =
+      let e = (h.linked.ordered place was at).entry in
+      let f = (h.linked.ordered place was at).fits in
+      let state : told.told_accepted (reports_in before) m (told.shown terms before e) ≡ Rattle.order_law.specs.Told.report (reports_in before + 1) (told.plain (codes "0")) (told.opened m (told.shown terms before e)) ∷ told.cancelled (reports_in before + 2) None (told.closed (told.opened m (told.shown terms before e))) = rw dead refl in
+      told-row e f ∙ ap (told.to_client_of e) (state
+      ∙ ap (λ (x : Shown). Rattle.order_law.specs.Told.report (reports_in before + 1) (told.plain (codes "0")) x ∷ told.cancelled (reports_in before + 2) None (told.closed x)) (shown-then e f)
+      ∙ ap (λ (n : ℕ). Rattle.order_law.specs.Told.report (n + 1) (told.plain (codes "0")) (shown_open (opened was m)) ∷ told.cancelled (n + 2) None (told.closed (shown_open (opened was m)))) (sym h.exec_ids)
+      ∙ ap (λ (r : Message). r ∷ told.cancelled (s.exec_ids + 2) None (told.closed (shown_open (opened was m)))) (new-told (s.exec_ids + 1) (opened was m) refl)
+      ∙ ap (λ (r : Message). new_report ∷ r ∷ []) (canceled-told (s.exec_ids + 2) (closed (opened was m)) refl range.0))
+      ∙ ap (λ (c : ℕ). record { client = c; bodies = new_report ∷ canceled_report ∷ [] }) (sym f.same.client)
 
   live_fits : is_dead_state m ≡ false → (e : Entry) → FitsBefore e → Fits terms (accepted terms before) (new_report ∷ issued e.client before) (m ∷ handled was.port before) s.order_ids s.tokens e (opened was m)
   live_fits live e f = record {
@@ -128,9 +171,8 @@ module _ (terms : List Terms) (before : History) (s : State) (port : ℕ) (m : L
       (λ c id used. known-once was.cl_ord_id id (issued c before) used)
       (λ c. refl)
       (λ n other small. (one_other n other small, tt))
-      (λ n other small. (one_other n other small, tt))
       (live_fits live)
-      (λ e f old_id. (state_says e f old_id, tt))
+      served (tells-live live) (omega (arith, count-more is_report new_report [])) (omega arith)
       judged
 
   pub dead-Holds : is_dead_state m ≡ true → Holds terms (market_turn port m was.client (map report_fields (accepted_dead s place was m).bodies) None ∷ before) (accepted_dead s place was m).state
@@ -139,9 +181,8 @@ module _ (terms : List Terms) (before : History) (s : State) (port : ℕ) (m : L
       (λ c id used. ap (λ (b : Bool). bytes_eq was.cl_ord_id id || b) (known-once was.cl_ord_id id (issued c before) used) ∙ known-once was.cl_ord_id id (issued c before) used)
       (λ c. refl)
       (λ n other small. (one_other n other small, (one_other n other small, tt)))
-      (λ n other small. (one_other n other small, (one_other n other small, tt)))
       (dead_fits dead)
-      (λ e f old_id. (state_says e f old_id, (cancel_says e f old_id, tt)))
+      served (tells-dead dead) (omega (arith, count-more is_report new_report (canceled_report ∷ []), count-more is_report canceled_report [])) (omega arith)
       judged
 
 -- ---- a port's turn
@@ -168,7 +209,7 @@ unknown-both terms before s port token h none =
 
 -- an Accepted, by the order that it is on and by whether it is lawful
 module _ (terms : List Terms) (before : History) (s : State) (port : ℕ) (m : List ℕ) (h : Holds terms before s) (short : length before + 1 < 2 ^ 59)
-    (some : (length m == 0) ≡ false) (type : type_of m ≡ 65) (message : is_message layouts.accepted m ≡ true) where
+    (some : (length m == 0) ≡ false) (type : type_of m ≡ 65) (message : is_message layouts.accepted m ≡ true) (served : IsServed m) where
   abbrev place : ℕ
   place = position_or_len (goes_by port (heard.token m)) s.orders
 
@@ -192,16 +233,16 @@ module _ (terms : List Terms) (before : History) (s : State) (port : ℕ) (m : L
       by_law o at on_port token (may_open o m) refl judged
     where
       by_state : (o : Order) → slice_get s.orders place ≡ Some o → o.port ≡ port → heard.token m ≡ o.token → o.stage ≡ Waiting → judgement terms port m before ≡ None → (dead : Bool) → is_dead_state m ≡ dead → HoldsGiven (if dead then accepted_dead s place o m else accepted_live s place o m)
-      by_state o at on_port token waits judged true dead = dead-Holds terms before s port m place o h short at type message token on_port waits judged dead
-      by_state o at on_port token waits judged false live = live-Holds terms before s port m place o h short at type message token on_port waits judged live
+      by_state o at on_port token waits judged true dead = dead-Holds terms before s port m place o h short at type message token on_port waits served judged dead
+      by_state o at on_port token waits judged false live = live-Holds terms before s port m place o h short at type message token on_port waits served judged live
 
       by_law : (o : Order) → slice_get s.orders place ≡ Some o → o.port ≡ port → heard.token m ≡ o.token → (lawful : Bool) → may_open o m ≡ lawful → ((b : Bool) → may_open o m ≡ b → judgement terms port m before ≡ (if b then None else Some row_fault))
           → HoldsGiven (if lawful then (if is_dead_state m then accepted_dead s place o m else accepted_live s place o m) else faulty s row_fault)
       by_law o at on_port token true tested judged = by_state o at on_port token (waiting-is o.stage (and-parts (is_waiting o.stage) (has_terms o m) tested).0) (judged true tested) (is_dead_state m) refl
-      by_law o at on_port token false tested judged = faulty-Holds terms before s port m row_fault h (judged false tested)
+      by_law o at on_port token false tested judged = faulty-Holds terms before s port m row_fault h short served (judged false tested)
 
   nowhere : find (goes_by port (heard.token m)) s.orders ≡ None → HoldsGiven (accepted_by s place m None)
-  nowhere none = faulty-Holds terms before s port m token_fault h (judged-token terms before port m some type message (unknown-both terms before s port (heard.token m) h none))
+  nowhere none = faulty-Holds terms before s port m token_fault h short served (judged-token terms before port m some type message (unknown-both terms before s port (heard.token m) h none))
 
   pub accepted-Holds : HoldsGiven (accepted_step s port m)
   accepted-Holds = by_found (find (goes_by port (heard.token m)) s.orders) refl
@@ -219,17 +260,17 @@ market-Holds terms before s port m h short served = by_empty (length m == 0) ref
     HoldsOf g = Holds terms (market_turn port m g.client (map report_fields g.bodies) g.fault ∷ before) g.state
 
     by_message : (length m == 0) ≡ false → type_of m ≡ 65 → (b : Bool) → is_message layouts.accepted m ≡ b → HoldsOf (if b then accepted_step s port m else faulty s bytes_fault)
-    by_message some type true message = accepted-Holds terms before s port m h short some type message
-    by_message some type false other = faulty-Holds terms before s port m bytes_fault h (judged-bytes terms before port m some type other)
+    by_message some type true message = accepted-Holds terms before s port m h short some type message served
+    by_message some type false other = faulty-Holds terms before s port m bytes_fault h short served (judged-bytes terms before port m some type other)
 
     by_accepted : (length m == 0) ≡ false → is_type (codes "T") m ≡ false → (b : Bool) → is_type (codes "A") m ≡ b → HoldsOf (if b then (if is_message layouts.accepted m then accepted_step s port m else faulty s bytes_fault) else faulty s type_fault)
     by_accepted some no_t true yes_a = by_message some (eqb-true (type_of m) 65 yes_a) (is_message layouts.accepted m) refl
-    by_accepted some no_t false no_a = faulty-Holds terms before s port m type_fault h (judged-type terms before port m some no_t no_a served)
+    by_accepted some no_t false no_a = faulty-Holds terms before s port m type_fault h short served (judged-type terms before port m some no_t no_a served)
 
     by_skipped : (length m == 0) ≡ false → (b : Bool) → is_type (codes "T") m ≡ b → HoldsOf (if b then silent s else (if is_type (codes "A") m then (if is_message layouts.accepted m then accepted_step s port m else faulty s bytes_fault) else faulty s type_fault))
-    by_skipped some true yes_t = let type : type_of m ≡ 84 = eqb-true (type_of m) 84 yes_t in skipped-Holds terms before s port m h type (judged-skipped terms before port m some type)
+    by_skipped some true yes_t = let type : type_of m ≡ 84 = eqb-true (type_of m) 84 yes_t in skipped-Holds terms before s port m h short served type (judged-skipped terms before port m some type)
     by_skipped some false no_t = by_accepted some no_t (is_type (codes "A") m) refl
 
     by_empty : (b : Bool) → (length m == 0) ≡ b → HoldsOf (if b then faulty s bytes_fault else (if is_type (codes "T") m then silent s else (if is_type (codes "A") m then (if is_message layouts.accepted m then accepted_step s port m else faulty s bytes_fault) else faulty s type_fault)))
-    by_empty true none = faulty-Holds terms before s port m bytes_fault h (judged-empty terms before port m none)
+    by_empty true none = faulty-Holds terms before s port m bytes_fault h short served (judged-empty terms before port m none)
     by_empty false some = by_skipped some (is_type (codes "T") m) refl

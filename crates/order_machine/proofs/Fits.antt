@@ -11,7 +11,7 @@ use Rattle.order_law.specs.Life.{Life, after, is_live, is_waiting, life}
 use Rattle.order_law.specs.History.{Entry, Terms, is_new_order, new_of, terms_of, token_of}
 use Rattle.order_law.specs.Lawful.{order_of_token}
 use Rattle.order_machine.specs.Table.{Order}
-use Rattle.order_machine.proofs.Texts.{and-false, eq-decimal_other, eq-other, token-same}
+use Rattle.order_histories.proofs.Texts.{and-false, eq-decimal_other, eq-other, token-same}
 use Rattle.order_machine.proofs.Seen.{Told, left_of, life_of}
 
 -- what never changes of an order is as its accepted message has it

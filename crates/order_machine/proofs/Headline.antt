@@ -1,7 +1,6 @@
 -- Each run of the machine has the headline: turn by turn, from the empty table on.
-use Rattle.std.proofs.Common.{◌≡◌, ℕ, ◌+◌, ◌<◌, ◌≤◌, ◌^◌, Bool, true, false, List, [], ◌∷◌, ◌++◌, length, reverse, refl, sym, ap, ◌∙◌, subst, arith, decimal, Some, None, Option, eq-eqb, ne_eqb}
-use Rattle.std.specs.Prelude.{◌==◌, if◌then◌else◌, filter}
-use Rattle.std.proofs.lemmas.List.Folds.{list_all-append}
+use Rattle.std.proofs.Common.{codes, ◌≡◌, ℕ, ◌+◌, ◌*◌, ◌<◌, ◌≤◌, ◌^◌, Bool, List, [], ◌∷◌, length, reverse, refl, sym, ap, ◌∙◌, subst, arith, Some, None, Option, eq-eqb, ne_eqb}
+use Rattle.std.specs.Prelude.{filter}
 use Rattle.fix_types.specs.declared.new_order.NewOrder.{NewOrder}
 use Rattle.fix_types.specs.declared.exec_type.ExecType.TheVariants as kinds
 use Rattle.fix_types.specs.declared.ord_status.OrdStatus.TheVariants as statuses
@@ -11,33 +10,34 @@ use Rattle.tokens.specs.TokenText.{token_text}
 use Rattle.order_law.specs.Messages.{Message}
 use Rattle.order_law.specs.Life.{born, life}
 use Rattle.order_law.specs.Verdicts.{Accepted, Port, Refused, Verdict, first_row, rows_of_new}
-use Rattle.order_law.specs.History.{Asked, Came, Entry, Event, Heard, History, Terms, Turn, accepted, asks_of, entry_at, given, handled, is_new_order, issued, numbered, outstanding, terms_of, verdict}
-use Rattle.order_law.specs.Headline.{Each, Headline, IsTrueToMarket, ReadsWell, RepliesTo, Says, Sends, TurnHolds, old_ids, order_number}
+use Rattle.order_law.specs.History.{Came, Entry, History, Terms, Turn, accepted, asks_of, entry_at, handled, is_new_order, issued, numbered, terms_of, verdict}
+use Rattle.order_law.specs.Reading.{is_report}
+use Rattle.order_law.specs.Told.{reports_in, told, told_accepted_as, told_by_verdict, plain, report, newly_shown}
+use Rattle.order_law.specs.Headline.{Each, Headline, IsTrueToMarket, Says, Sends, order_number, said_in}
 use Rattle.order_machine.specs.Table.{Order, State, empty}
 use Rattle.order_machine.specs.Machine.{accept, ask_of, order_of, refusal_of, refuse, verdict_in}
-use Rattle.order_machine.proofs.Texts.{eq-decimal_other}
-use Rattle.order_machine.proofs.Lists.{Each-filter, Each-map}
-use Rattle.order_machine.proofs.Seen.{Others, ReadsWell-others}
-use Rattle.order_machine.proofs.Own.{says-pending, written}
-use Rattle.order_machine.proofs.Linked.{Extends, HasOrder, Linked, count-more, open-counted}
+use Rattle.order_histories.specs.Told.{IsTold}
+use Rattle.order_histories.proofs.Truth.{orders-true}
+use Rattle.order_machine.proofs.Own.{pending-told, written}
+use Rattle.order_machine.proofs.Linked.{Extends, Linked, count-more, open-counted}
 use Rattle.order_machine.proofs.Steps.{accept-Linked, entry_of, refuse-Linked}
-use Rattle.order_machine.proofs.Turns.{AreNew, accepted-says, order-true, refusal-is}
+use Rattle.order_machine.proofs.Turns.{accepted-says, refusal-told}
 
 -- what a history and the table that it leaves keep
 pub record Holds (terms : List Terms) (h : History) (s : State) : Type 0 where
   pub linked : Linked terms (accepted terms h) (λ c. issued c h) (λ p. handled p h) s
   pub order_ids : s.order_ids ≡ numbered h
   pub few : s.order_ids ≤ length h
+  pub exec_ids : s.exec_ids ≡ reports_in h
+  pub few_reports : s.exec_ids ≤ 2 * length h
   pub unborn : (n p side : ℕ) → s.tokens < n → n ≤ 9_999_999_999_999 → life (token_text n) side (handled p h) ≡ born (token_text n) side
-  pub news : (p : ℕ) → AreNew (outstanding terms p h)
+  pub is_told : IsTold terms h
   pub headline : Headline terms h
 
-pub Each-zip : {A : Type 0} (P Q : A → Type 0) (xs : List A) → Each P xs → Each Q xs → Each (λ x. P x × Q x) xs
-Each-zip P Q [] p q = tt
-Each-zip P Q (x ∷ xs) p q = ((p.0, q.0), Each-zip P Q xs p.1 q.1)
-
-pub AreNew-append : (asked more : List Asked) → AreNew asked → AreNew more → AreNew (asked ++ more)
-AreNew-append asked more h k = list_all-append _ asked more ∙ rw (h, k) refl
+-- a turn that tells what is told, and is the judged fault, has its orders true to the market
+pub orders-now : (terms : List Terms) (t : Turn) (before : History) → length before + 1 < 2 ^ 59 → (reports : ℕ) → reports ≡ reports_in (t ∷ before) → reports ≤ 2 * length (t ∷ before) → IsTold terms (t ∷ before)
+    → Each (IsTrueToMarket terms t before) (filter (λ e. is_new_order e.message) (accepted terms (t ∷ before)))
+orders-now terms t before short reports same few is_told = orders-true terms t before (omega arith) (omega (arith, same, few)) is_told
 
 -- the table's verdict is the law's
 verdict-same : (terms : List Terms) (before : History) (s : State) (client : ℕ) (d : NewOrder) (port : Port) → Linked terms (accepted terms before) (λ c. issued c before) (λ p. handled p before) s
@@ -80,32 +80,23 @@ module _ (terms : List Terms) (before : History) (s : State) (client : ℕ) (d :
   same_entries : accepted terms (t ∷ before) ≡ accepted terms before
   same_entries = rw law refl
 
-  asked_none : (p : ℕ) → outstanding terms p (t ∷ before) ≡ outstanding terms p before ++ []
-  asked_none p = rw law refl
-
   linked' : Linked terms (accepted terms (t ∷ before)) (λ c. issued c (t ∷ before)) (λ p. handled p (t ∷ before)) (refuse s client d code why).state
   linked' = subst (λ (es : List Entry). Linked terms es (λ c. issued c (t ∷ before)) (λ p. handled p (t ∷ before)) (refuse s client d code why).state) (sym same_entries)
       (refuse-Linked terms (accepted terms before) (λ c. issued c before) (λ c. issued c (t ∷ before)) (λ p. handled p before) s client d code why h.linked (omega (arith, h.few)) (issued-more client t before refl))
 
-  news' : (p : ℕ) → AreNew (outstanding terms p (t ∷ before))
-  news' p = rw (asked_none p) (AreNew-append (outstanding terms p before) [] (h.news p) refl)
+  tells-refusal : told terms (Came client (new_order_fields d) port) before ≡ said_in t
+  tells-refusal =
+      ap (λ (bodies : List Message). record { client = client; bodies = bodies })
+      (ap (told_by_verdict terms client (new_order_fields d) port before) law
+      ∙ ap (λ (n : ℕ). Rattle.order_law.specs.Told.refusal (n + 1) (numbered before + 1) (new_order_fields d) code why ∷ []) (sym h.exec_ids)
+      ∙ ap (λ (n : ℕ). Rattle.order_law.specs.Told.refusal (s.exec_ids + 1) (n + 1) (new_order_fields d) code why ∷ []) (sym h.order_ids)
+      ∙ ap (λ (r : Message). r ∷ []) (refusal-told (s.order_ids + 1) (s.exec_ids + 1) code why d))
 
-  other_order : (e : Entry) → HasOrder terms (accepted terms before) (λ c. issued c before) (λ p. handled p before) s.order_ids s.tokens s.orders e → Others e.order (refusal ∷ [])
-  other_order e has =
-      let f = has.fits in
-      (rw f.same.order (eq-decimal_other (s.order_ids + 1) has.order.order_id (λ same. (omega (arith, same, f.numbers.order))) (omega (arith, h.few)) (omega (arith, f.numbers.order, h.few))), tt)
+  told-turn : IsTold terms (t ∷ before)
+  told-turn = (record { bytes = tt; tells = tells-refusal; fault = refl }, h.is_told)
 
-  true_orders : Each (IsTrueToMarket terms t before) (accepted terms (t ∷ before))
-  unfolding refuse
-  true_orders =
-      let old = subst (λ (es : List Entry). Each (HasOrder terms (accepted terms before) (λ c. issued c before) (λ p. handled p before) s.order_ids s.tokens s.orders) es) (sym same_entries) h.linked.entered in
-      Each-map _ (IsTrueToMarket terms t before) (accepted terms (t ∷ before))
-      (λ e both. order-true terms t before s.orders (s.order_ids + 1) s.tokens e both.1 (news' (terms_of terms e.client).port)
-      (λ mine. ReadsWell-others e.order e.message (old_ids e.client (accepted terms (t ∷ before))) (issued e.client before) (refusal ∷ []) (other_order e both.0)))
-      (Each-zip _ _ (accepted terms (t ∷ before)) old linked_entered)
-    where
-      linked_entered : Each (HasOrder terms (accepted terms (t ∷ before)) (λ c. issued c (t ∷ before)) (λ p. handled p (t ∷ before)) (s.order_ids + 1) s.tokens s.orders) (accepted terms (t ∷ before))
-      linked_entered = linked'.entered
+  reports-now : s.exec_ids + 1 ≡ reports_in (t ∷ before)
+  reports-now = omega (arith, h.exec_ids, count-more is_report refusal [])
 
   pub refused-Holds : Holds terms (t ∷ before) (refuse s client d code why).state
   unfolding refuse
@@ -113,18 +104,18 @@ module _ (terms : List Terms) (before : History) (s : State) (client : ℕ) (d :
     linked = linked';
     order_ids = omega (arith, h.order_ids, numbered-more client d port (refusal ∷ []) sends before);
     few = omega (arith, h.few);
+    exec_ids = reports-now;
+    few_reports = omega (arith, h.few_reports);
     unborn = h.unborn;
-    news = news';
+    is_told = told-turn;
     headline = (
       record {
+        tells = tells-refusal;
         answers = record {
-          replies = subst (λ (w : Verdict). RepliesTo (issued client before) (numbered before + 1) (new_order_fields d) w (refusal ∷ [])) (sym law)
-              (refusal, refl, record { to_new = λ is. subst (λ (n : ℕ). Rattle.order_law.specs.Headline.IsOrderRefusal (new_order_fields d) code why (n + 1) refusal) h.order_ids (refusal-is (s.order_ids + 1) (s.exec_ids + 1) code why d); to_request = λ no_d. absurd (cc) });
           sends = rw none (sends_none (order_number terms (terms_of terms client).port (accepted terms before)));
           fault = refl;
-          addressee = refl;
         };
-        orders = Each-filter (IsTrueToMarket terms t before) (λ e. is_new_order e.message) (accepted terms (t ∷ before)) true_orders;
+        orders = orders-now terms t before short (s.exec_ids + 1) reports-now (omega (arith, h.few_reports)) told-turn;
       },
       h.headline,
     );
@@ -157,16 +148,6 @@ module _ (terms : List Terms) (before : History) (s : State) (client : ℕ) (d :
   asks_are : (p : ℕ) (sent : List Message) (messages : List (List ℕ)) → p ≡ own_port → asks_of terms p (Some (entry_of s client d)) (accepted terms before) sent messages ≡ ask_of s client d ∷ []
   asks_are p sent messages own = rw (own, eq-eqb own_port own_port refl, h.linked.same_terms) refl
 
-  asks_new : (p : ℕ) (sent : List Message) (messages : List (List ℕ)) → AreNew (asks_of terms p (Some (entry_of s client d)) (accepted terms before) sent messages)
-  asks_new p sent messages = by_test (own_port == p)
-    where
-      by_test : (b : Bool) → AreNew (if b then (record { order = decimal (s.order_ids + 1); said = Rattle.order_law.specs.History.SaysNew (token_text (s.tokens + 1)); ask = Some (Rattle.order_law.specs.Asks.asked_by_new (terms_of terms client).capacity (new_order_fields d)) } ∷ []) else [])
-      by_test true = refl
-      by_test false = refl
-
-  news'' : (p : ℕ) → AreNew (outstanding terms p (turn ∷ before))
-  news'' p = rw taken (AreNew-append (outstanding terms p before) _ (h.news p) (asks_new p (issued client before) (handled p before)))
-
   says' : Rattle.order_machine.proofs.Turns.Says d s.tokens
   says' = accepted-says _ port _ s.tokens d v
 
@@ -176,22 +157,19 @@ module _ (terms : List Terms) (before : History) (s : State) (client : ℕ) (d :
       (h.unborn (s.tokens + 1) (terms_of s.terms client).port d.side (omega arith) (omega (arith, says'.token)))
       (issued-more client turn before refl))
 
-  elsewhere : (e : Entry) → HasOrder terms (accepted terms before) (λ c. issued c before) (λ p. handled p before) s.order_ids s.tokens s.orders e → Others e.order (pending ∷ [])
-  elsewhere e has =
-      let f = has.fits in
-      (rw f.same.order (eq-decimal_other (s.order_ids + 1) has.order.order_id (λ same. (omega (arith, same, f.numbers.order))) (omega (arith, h.few)) (omega (arith, f.numbers.order, h.few))), tt)
+  tells-pending : told terms (Came client (new_order_fields d) port) before ≡ said_in turn
+  tells-pending =
+      ap (λ (bodies : List Message). record { client = client; bodies = bodies })
+      (ap (told_by_verdict terms client (new_order_fields d) port before) law'
+      ∙ ap (told_accepted_as terms (new_order_fields d) before) taken
+      ∙ ap (λ (n : ℕ). report (n + 1) (plain (codes "A")) (newly_shown (entry_of s client d)) ∷ []) (sym h.exec_ids)
+      ∙ ap (λ (r : Message). r ∷ []) (pending-told (s.exec_ids + 1) (order_of s client d) refl))
 
-  true_orders' : Each (IsTrueToMarket terms turn before) (entry_of s client d ∷ accepted terms before)
-  unfolding accept
-  true_orders' =
-      let now = subst (λ (es : List Entry). Each (HasOrder terms (accepted terms (turn ∷ before)) (λ c. issued c (turn ∷ before)) (λ p. handled p (turn ∷ before)) (s.order_ids + 1) (s.tokens + 1) (s.orders ++ order_of s client d ∷ [])) es) more_entries linked''.entered in (
-        order-true terms turn before (s.orders ++ order_of s client d ∷ []) (s.order_ids + 1) (s.tokens + 1) (entry_of s client d) now.0 (news'' own_port)
-            (λ mine. (says-pending (s.exec_ids + 1) (order_of s client d) (new_order_fields d) (old_ids client (accepted terms (turn ∷ before))) (issued client before) refl refl says'.most refl refl refl (h.linked.unread (s.order_ids + 1) client (omega arith) (omega (arith, h.few))), tt)),
-        Each-map _ (IsTrueToMarket terms turn before) (accepted terms before)
-            (λ e both. order-true terms turn before (s.orders ++ order_of s client d ∷ []) (s.order_ids + 1) (s.tokens + 1) e both.1 (news'' (terms_of terms e.client).port)
-            (λ mine. ReadsWell-others e.order e.message (old_ids e.client (accepted terms (turn ∷ before))) (issued e.client before) (pending ∷ []) (elsewhere e both.0)))
-            (Each-zip _ _ (accepted terms before) h.linked.entered now.1),
-      )
+  told-now : IsTold terms (turn ∷ before)
+  told-now = (record { bytes = tt; tells = tells-pending; fault = refl }, h.is_told)
+
+  reports-then : s.exec_ids + 1 ≡ reports_in (turn ∷ before)
+  reports-then = omega (arith, h.exec_ids, count-more is_report pending [])
 
   pub accepted-Holds : Holds terms (turn ∷ before) (accept s client d).state
   unfolding accept
@@ -199,18 +177,18 @@ module _ (terms : List Terms) (before : History) (s : State) (client : ℕ) (d :
     linked = linked'';
     order_ids = omega (arith, h.order_ids, numbered-more client d port (pending ∷ []) sends before);
     few = omega (arith, h.few);
+    exec_ids = reports-then;
+    few_reports = omega (arith, h.few_reports);
     unborn = λ n p side above most. h.unborn n p side (omega arith) most;
-    news = news'';
+    is_told = told-now;
     headline = (
       record {
+        tells = tells-pending;
         answers = record {
-          replies = subst (λ (w : Verdict). RepliesTo (issued client before) (numbered before + 1) (new_order_fields d) w (pending ∷ [])) (sym law') (pending, refl, record { kind = refl; id = refl; exec_type = refl });
           sends = rw (taken, asks_are own_port (issued client before) (handled own_port before) refl) (sends_it (order_number terms own_port (entry_of s client d ∷ accepted terms before)));
           fault = refl;
-          addressee = refl;
         };
-        orders = subst (λ (es : List Entry). Each (IsTrueToMarket terms turn before) (filter (λ e. is_new_order e.message) es)) (sym more_entries)
-            (Each-filter (IsTrueToMarket terms turn before) (λ e. is_new_order e.message) (entry_of s client d ∷ accepted terms before) true_orders');
+        orders = orders-now terms turn before short (s.exec_ids + 1) reports-then (omega (arith, h.few_reports)) told-now;
       },
       h.headline,
     );

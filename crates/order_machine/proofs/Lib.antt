@@ -1,5 +1,3 @@
-pub mod Texts
-pub mod Lists
 pub mod Seen
 pub mod Fits
 pub mod Own

@@ -13,7 +13,7 @@ use Rattle.order_law.specs.Verdicts.{open_orders}
 use Rattle.order_law.specs.History.{Entry, Terms, given}
 use Rattle.order_law.specs.Headline.{Each}
 use Rattle.order_machine.specs.Table.{Order, State, has_used, is_open_of, open_count}
-use Rattle.order_machine.proofs.Lists.{length-filter_reverse}
+use Rattle.order_histories.proofs.Lists.{length-filter_reverse}
 use Rattle.order_machine.proofs.Seen.{Others, Told, Told-others, Untold, Untold-others, life_of}
 use Rattle.order_machine.proofs.Fits.{Fits}
 

@@ -1,6 +1,6 @@
 -- Each turn of the market that is served keeps the headline.
 use Rattle.std.proofs.Common.{◌≡◌, ◌≢◌, ℕ, ◌+◌, ◌<◌, ◌≤◌, ◌^◌, Bool, true, false, List, [], ◌∷◌, ◌++◌, length, reverse, refl, sym, ap, ◌∙◌, subst, arith, decimal, bytes_eq, codes, Some, None, Option, slice_get, slice_set, eq-eqb, ne_eqb, eqb-true}
-use Rattle.std.specs.Prelude.{◌&&◌, ◌||◌, ◌==◌, not, if◌then◌else◌, filter, unwrap_or}
+use Rattle.std.specs.Prelude.{◌&&◌, ◌||◌, ◌==◌, if◌then◌else◌, unwrap_or}
 use Rattle.tokens.specs.TokenText.{token_text}
 use Rattle.ouch_codec.specs.Layout.{is_message}
 use Rattle.ouch_codec.specs.Layouts as layouts
@@ -8,23 +8,25 @@ use Rattle.ouch_codec.specs.Parts.{type_of}
 use Rattle.ouch_codec.specs.FromMarket as heard
 use Rattle.order_law.specs.Messages.{Message, character, text}
 use Rattle.order_law.specs.Asks.{side_of_letter}
-use Rattle.order_law.specs.Life.{Life, after, born, is_closed, is_type, life}
+use Rattle.order_law.specs.Life.{Life, after, born, is_type, life}
 use Rattle.order_law.specs.Lawful.{bytes_fault, judgement, order_of_token, row_fault, row_holds, token_fault, type_fault}
 use Rattle.order_law.specs.History.{Asked, Came, Entry, Event, Heard, History, Terms, Turn, accepted, answers, handled, is_new_order, issued, new_of, numbered, outstanding, terms_of, token_of}
 use Rattle.order_law.specs.History as law
 use Rattle.order_law.specs.Chain.{is_used, orders}
-use Rattle.order_law.specs.Headline.{IsTrueToMarket, ReadsWell, old_ids}
+use Rattle.order_law.specs.Reading.{is_report}
+use Rattle.order_law.specs.Told.{nobody, reports_in, told}
+use Rattle.std.specs.List.{count_by}
+use Rattle.order_histories.specs.Told.{IsTold}
 use Rattle.order_machine.specs.Table.{Order, State}
 use Rattle.order_machine.specs.Machine.{may_open}
 use Rattle.order_machine.specs.Runs.{IsServed}
-use Rattle.order_machine.proofs.Texts.{eq-other, eq-same, token-same}
-use Rattle.order_machine.proofs.Lists.{Each-filter, Each-map}
-use Rattle.order_machine.proofs.Seen.{Others, ReadsWell-others, Told, Untold, life_of}
+use Rattle.order_histories.proofs.Texts.{eq-other, eq-same, token-same}
+use Rattle.order_histories.proofs.Lists.{Each-map}
+use Rattle.order_machine.proofs.Seen.{Others, Told, Untold, life_of}
 use Rattle.order_machine.proofs.Fits.{Fits, after-other}
-use Rattle.order_machine.proofs.Linked.{Extends, HasEntry, HasOrder, Linked, count-more}
+use Rattle.order_machine.proofs.Linked.{Extends, HasEntry, Linked, count-more}
 use Rattle.order_machine.proofs.Steps.{move-Linked}
-use Rattle.order_machine.proofs.Turns.{AreNew, new-filter, order-true}
-use Rattle.order_machine.proofs.Headline.{AreNew-append, Each-zip, Holds, issued-more}
+use Rattle.order_machine.proofs.Headline.{Holds, issued-more, orders-now}
 
 abbrev pub market_turn : ℕ → List ℕ → ℕ → List Message → Option ℕ → Turn
 market_turn port m client bodies fault = record { event = Heard port m; client = client; bodies = bodies; sends = []; fault = fault }
@@ -32,13 +34,14 @@ market_turn port m client bodies fault = record { event = Heard port m; client =
 numbered-same : (port : ℕ) (m : List ℕ) (client : ℕ) (bodies : List Message) (fault : Option ℕ) (before : History) → numbered (market_turn port m client bodies fault ∷ before) ≡ 0 + numbered before
 numbered-same port m client bodies fault before = count-more _ (market_turn port m client bodies fault) before
 
--- a message of the market asks nothing
-heard-news : (terms : List Terms) (before : History) (port : ℕ) (m : List ℕ) (client : ℕ) (bodies : List Message) (fault : Option ℕ) (p : ℕ) → AreNew (outstanding terms p before) → AreNew (outstanding terms p (market_turn port m client bodies fault ∷ before))
-heard-news terms before port m client bodies None p news = AreNew-append (filter still (outstanding terms p before)) [] (new-filter still (outstanding terms p before) news) refl
-  where
-    still : Asked → Bool
-    still a = not (answers m a.said || is_closed (law.life_of a.order (accepted terms before) (handled p (market_turn port m client bodies None ∷ before))).stage)
-heard-news terms before port m client bodies (Some n) p news = AreNew-append (outstanding terms p before) [] news refl
+-- an Executed isn't served yet
+no-execution : (m : List ℕ) → IsServed m → is_type (codes "E") m ≡ true → ⊥
+no-execution m served is_e =
+    let type : type_of m ≡ 69 = eqb-true (type_of m) 69 is_e in
+    let x : true ≡ false = rw type at served in cc
+
+zero_more : (n : ℕ) → 0 + n ≡ n
+zero_more n = omega arith
 
 -- ---- nothing comes of it
 
@@ -68,7 +71,7 @@ quiet-Linked terms entries sent sent' messages messages' s same_sent same_life l
     }
 
 module _ (terms : List Terms) (before : History) (s : State) (port : ℕ) (m : List ℕ) (fault : Option ℕ)
-    (h : Holds terms before s) (judged : judgement terms port m before ≡ fault)
+    (h : Holds terms before s) (short : length before + 1 < 2 ^ 59) (served : IsServed m) (judged : judgement terms port m before ≡ fault) (nobody_told : told terms (Heard port m) before ≡ nobody)
     (deaf : (p side : ℕ) (root : List ℕ) → life root side (handled p (market_turn port m 0 [] fault ∷ before)) ≡ life root side (handled p before)) where
   abbrev t : Turn
   t = market_turn port m 0 [] fault
@@ -80,24 +83,29 @@ module _ (terms : List Terms) (before : History) (s : State) (port : ℕ) (m : L
       by_test true = refl
       by_test false = refl
 
-  news' : (p : ℕ) → AreNew (outstanding terms p (t ∷ before))
-  news' p = heard-news terms before port m 0 [] fault p (h.news p)
-
   linked' : Linked terms (accepted terms before) (λ c. issued c (t ∷ before)) (λ p. handled p (t ∷ before)) s
   linked' = quiet-Linked terms (accepted terms before) (λ c. issued c before) (λ c. issued c (t ∷ before)) (λ p. handled p before) (λ p. handled p (t ∷ before)) s same_issued deaf h.linked
+
+  told-quiet : IsTold terms (t ∷ before)
+  told-quiet = (record { bytes = λ is_e. absurd (no-execution m served is_e); tells = nobody_told; fault = sym judged }, h.is_told)
+
+  reports-quiet : s.exec_ids ≡ reports_in (t ∷ before)
+  reports-quiet = h.exec_ids ∙ sym (zero_more (reports_in before))
 
   pub quiet-Holds : Holds terms (t ∷ before) s
   quiet-Holds = record {
     linked = linked';
     order_ids = omega (arith, h.order_ids, numbered-same port m 0 [] fault before);
     few = omega (arith, h.few);
+    exec_ids = reports-quiet;
+    few_reports = omega (arith, h.few_reports);
     unborn = λ n p side above most. deaf p side (token_text n) ∙ h.unborn n p side above most;
-    news = news';
+    is_told = told-quiet;
     headline = (
       record {
-        answers = record { sends = refl; fault = sym judged; bodies = λ faulted. refl };
-        orders = Each-filter (IsTrueToMarket terms t before) (λ e. is_new_order e.message) (accepted terms before)
-            (Each-map _ (IsTrueToMarket terms t before) (accepted terms before) (λ e has. order-true terms t before s.orders s.order_ids s.tokens e has (news' (terms_of terms e.client).port) (λ mine. tt)) linked'.entered);
+        tells = nobody_told;
+        answers = record { sends = refl; fault = sym judged };
+        orders = orders-now terms t before short s.exec_ids reports-quiet (omega (arith, h.few_reports)) told-quiet;
       },
       h.headline,
     );
@@ -111,8 +119,8 @@ faulty-deaf before port m n p side root = ap (life root side) (by_test (port == 
     by_test true = refl
     by_test false = refl
 
-pub faulty-Holds : (terms : List Terms) (before : History) (s : State) (port : ℕ) (m : List ℕ) (n : ℕ) → Holds terms before s → judgement terms port m before ≡ Some n → Holds terms (market_turn port m 0 [] (Some n) ∷ before) s
-faulty-Holds terms before s port m n h judged = quiet-Holds terms before s port m (Some n) h judged (faulty-deaf before port m n)
+pub faulty-Holds : (terms : List Terms) (before : History) (s : State) (port : ℕ) (m : List ℕ) (n : ℕ) → Holds terms before s → length before + 1 < 2 ^ 59 → IsServed m → judgement terms port m before ≡ Some n → Holds terms (market_turn port m 0 [] (Some n) ∷ before) s
+faulty-Holds terms before s port m n h short served judged = quiet-Holds terms before s port m (Some n) h short served judged (rw judged refl) (faulty-deaf before port m n)
 
 -- what is passed over changes no life
 skipped-deaf : (before : History) (port : ℕ) (m : List ℕ) → type_of m ≡ 84 → (p side : ℕ) (root : List ℕ) → life root side (handled p (market_turn port m 0 [] None ∷ before)) ≡ life root side (handled p before)
@@ -125,8 +133,8 @@ skipped-deaf before port m type p side root = by_test (port == p)
     by_test true = passed (life root side (handled p before))
     by_test false = refl
 
-pub skipped-Holds : (terms : List Terms) (before : History) (s : State) (port : ℕ) (m : List ℕ) → Holds terms before s → type_of m ≡ 84 → judgement terms port m before ≡ None → Holds terms (market_turn port m 0 [] None ∷ before) s
-skipped-Holds terms before s port m h type judged = quiet-Holds terms before s port m None h judged (skipped-deaf before port m type)
+pub skipped-Holds : (terms : List Terms) (before : History) (s : State) (port : ℕ) (m : List ℕ) → Holds terms before s → length before + 1 < 2 ^ 59 → IsServed m → type_of m ≡ 84 → judgement terms port m before ≡ None → Holds terms (market_turn port m 0 [] None ∷ before) s
+skipped-Holds terms before s port m h short served type judged = quiet-Holds terms before s port m None h short served judged (let is_t : is_type (codes "T") m ≡ true = rw type refl in rw (judged, is_t) refl) (skipped-deaf before port m type)
 
 -- ---- judgement
 
@@ -200,9 +208,8 @@ module _ (terms : List Terms) (before : History) (s : State) (port : ℕ) (m : L
     (known_id : (c : ℕ) (id : List ℕ) → is_used was.cl_ord_id (issued c before) ≡ true → is_used id (reverse bodies ++ issued c before) ≡ is_used id (issued c before))
     (no_order : (c : ℕ) → orders (reverse bodies ++ issued c before) ≡ orders (issued c before))
     (apart : (n : ℕ) → n ≢ was.order_id → n < 2 ^ 60 → Others (decimal n) (reverse bodies))
-    (apart' : (n : ℕ) → n ≢ was.order_id → n < 2 ^ 60 → Others (decimal n) bodies)
     (moves : (e : Entry) → Fits terms (accepted terms before) (issued e.client before) (handled was.port before) s.order_ids s.tokens e was → Fits terms (accepted terms before) (reverse bodies ++ issued e.client before) (m ∷ handled was.port before) s.order_ids s.tokens e now)
-    (own_well : (e : Entry) → Fits terms (accepted terms before) (issued e.client before) (handled was.port before) s.order_ids s.tokens e was → (old_id : List ℕ → List ℕ) → ReadsWell e.order e.message old_id (issued e.client before) bodies)
+    (served : IsServed m) (tells : told terms (Heard port m) before ≡ record { client = now.client; bodies = bodies }) (count : count_by is_report bodies + s.exec_ids ≡ exec_ids) (count_few : exec_ids ≤ s.exec_ids + 2)
     (judged : judgement terms port m before ≡ None) where
   abbrev turn : Turn
   turn = market_turn port m now.client bodies None
@@ -236,38 +243,26 @@ module _ (terms : List Terms) (before : History) (s : State) (port : ℕ) (m : L
       by_test true = ap (λ (l : Life). after l m) (h.unborn n p side above most) ∙ after-other m (born (token_text n) side) type (unborn_deaf n above most)
       by_test false = h.unborn n p side above most
 
-  news_moved : (p : ℕ) → AreNew (outstanding terms p (turn ∷ before))
-  news_moved p = heard-news terms before port m now.client bodies None p (h.news p)
+  told-moved : IsTold terms (turn ∷ before)
+  told-moved = (record { bytes = λ is_e. absurd (no-execution m served is_e); tells = tells; fault = sym judged }, h.is_told)
 
-  same_some : (o p : Order) → ◌≡◌ {A = Option Order} (Some o) (Some p) → o ≡ p
-  same_some o p e = cc
-
-  well : (e : Entry) → HasOrder terms (accepted terms before) (λ c. issued c before) (λ p. handled p before) s.order_ids s.tokens s.orders e → (old_id : List ℕ → List ℕ) → ReadsWell e.order e.message old_id (issued e.client before) bodies
-  well e has old_id = by_test (has.order.order_id == was.order_id) refl
-    where
-      by_test : (b : Bool) → (has.order.order_id == was.order_id) ≡ b → ReadsWell e.order e.message old_id (issued e.client before) bodies
-      by_test true t =
-          let here : has.place ≡ place = h.linked.distinct has.place place has.order was has.at at (eqb-true has.order.order_id was.order_id t) in
-          let it : has.order ≡ was = same_some has.order was (sym has.at ∙ ap (slice_get s.orders) here ∙ at) in
-          own_well e (subst (λ (o : Order). Fits terms (accepted terms before) (issued e.client before) (handled o.port before) s.order_ids s.tokens e o) it has.fits) old_id
-      by_test false t =
-          let other : has.order.order_id ≢ was.order_id = λ same. (let b : (has.order.order_id == was.order_id) ≡ true = eq-eqb has.order.order_id was.order_id same in cc) in
-          ReadsWell-others e.order e.message old_id (issued e.client before) bodies (rw has.fits.same.order (apart' has.order.order_id other (omega (arith, has.fits.numbers.order, h.few))))
+  reports-moved : exec_ids ≡ reports_in (turn ∷ before)
+  reports-moved = omega (arith, count, h.exec_ids)
 
   pub moved-Holds : Holds terms (turn ∷ before) state
   moved-Holds = record {
     linked = linked_moved;
     order_ids = omega (arith, h.order_ids, numbered-same port m now.client bodies None before);
     few = omega (arith, h.few);
+    exec_ids = reports-moved;
+    few_reports = omega (arith, h.few_reports, count_few);
     unborn = still_unborn;
-    news = news_moved;
+    is_told = told-moved;
     headline = (
       record {
-        answers = record { sends = refl; fault = sym judged; bodies = λ faulted. absurd (cc) };
-        orders = Each-filter (IsTrueToMarket terms turn before) (λ e. is_new_order e.message) (accepted terms before)
-            (Each-map _ (IsTrueToMarket terms turn before) (accepted terms before)
-            (λ e both. order-true terms turn before (slice_set s.orders place now) s.order_ids s.tokens e both.1 (news_moved (terms_of terms e.client).port) (λ mine. well e both.0 (old_ids e.client (accepted terms (turn ∷ before)))))
-            (Each-zip _ _ (accepted terms before) h.linked.entered linked_moved.entered));
+        tells = tells;
+        answers = record { sends = refl; fault = sym judged };
+        orders = orders-now terms turn before short exec_ids reports-moved (omega (arith, h.few_reports, count_few)) told-moved;
       },
       h.headline,
     );

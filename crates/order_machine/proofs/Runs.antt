@@ -29,8 +29,10 @@ empty-Holds terms = record {
   };
   order_ids = refl;
   few = omega arith;
+  exec_ids = refl;
+  few_reports = omega arith;
   unborn = λ n p side above most. refl;
-  news = λ p. refl;
+  is_told = tt;
   headline = tt;
 }
 

@@ -1,22 +1,15 @@
 -- What reports and messages say of an order of the table, and how one more of either changes it.
-use Rattle.std.proofs.Common.{◌≡◌, ℕ, Bool, true, false, List, [], ◌∷◌, ◌++◌, refl, ◌∙◌, arith, decimal}
+use Rattle.std.proofs.Common.{◌≡◌, ℕ, Bool, true, false, List, [], ◌∷◌, ◌++◌, refl, ◌∙◌}
 use Rattle.std.specs.Prelude.{not, if◌then◌else◌}
-use Rattle.std.specs.Str.Parse.{digits_value}
-use Rattle.std.specs.Fmt.{digits}
-use Rattle.fixed_point.specs.Decimal.{fraction, quantity, scaled, worth, worth_of}
-use Rattle.fix_types.specs.declared.ord_status.OrdStatus.{OrdStatus}
-use Rattle.fix_types.specs.declared.exec_type.ExecType.{ExecType}
-use Rattle.fix_types.specs.Report.{report_fields}
+use Rattle.fixed_point.specs.Decimal.{quantity}
 use Rattle.order_law.specs.declared.stage.Stage.{Stage}
 use Rattle.order_law.specs.declared.stage.Stage.TheVariants.{Waiting, Working, Closed}
 use Rattle.order_law.specs.Messages.{Message, is}
 use Rattle.order_law.specs.Life.{Life, is_closed, is_waiting}
-use Rattle.order_law.specs.Reading.{Reading, is_report, is_report_on, price_in, reading, unread}
+use Rattle.order_law.specs.Reading.{Reading, is_refused_order, is_report, reading, unread}
 use Rattle.order_law.specs.Chain.{Chain, chain, is_used, unchained}
-use Rattle.order_law.specs.Headline.{ReadsWell, is_refused_order, is_reject_on}
 use Rattle.order_machine.specs.Table.{Order}
-use Rattle.order_machine.specs.Machine.{report_of}
-use Rattle.order_machine.proofs.Texts.{and-false, number-decimal, or-true}
+use Rattle.order_histories.proofs.Texts.{and-false, or-true}
 
 -- ---- what stands of an order
 
@@ -118,26 +111,3 @@ Untold-others order rs sent true others told = record {
   unrefused = refused-others order rs sent others ∙ told.unrefused;
 }
 Untold-others order rs sent false others told = told
-
--- a body of another order reads well of this one
-pub ReadsWell-others : (order : List ℕ) (new : Message) (old_id : List ℕ → List ℕ) (sent rs : List Message) → Others order rs → ReadsWell order new old_id sent rs
-ReadsWell-others order new old_id sent [] others = tt
-ReadsWell-others order new old_id sent (r ∷ rs) others = (
-  record {
-    state = λ e. absurd (let off : is_report_on order r ≡ false = rw others.0 (and-false (is_report r)) in cc);
-    ids = λ e. absurd (let off : is_report_on order r ≡ false = rw others.0 (and-false (is_report r)) in cc);
-    reject = λ e. absurd (let off : is_reject_on order r ≡ false = rw others.0 (and-false (not (is_report r))) in cc);
-    rejected_id = λ e. absurd (let off : is_reject_on order r ≡ false = rw others.0 (and-false (not (is_report r))) in cc);
-  },
-  ReadsWell-others order new old_id (r ∷ sent) rs others.1,
-)
-
--- ---- reports on the order itself
-
--- the average price of nothing is 0
-pub average-of_nothing : (kind : ExecType) (status : OrdStatus) (n : ℕ) (o : Order) → price_in 6 (report_fields (report_of n kind status o)) ≡ 0
-unfolding digits worth worth_of fraction scaled
-average-of_nothing kind status n o = refl
-
-zero-digits : digits_value 10 (decimal 0) ≡ 0
-zero-digits = number-decimal 0 (omega arith)

@@ -8,7 +8,7 @@ use Rattle.ouch_codec.specs.declared.layout.Kind.TheVariants.{Constant, LongNumb
 use Rattle.ouch_codec.specs.Layout.{is_in, is_message, width}
 use Rattle.ouch_codec.specs.Layouts as layouts
 use Rattle.ouch_codec.specs.FromMarket as heard
-use Rattle.order_machine.proofs.Texts.{and-parts}
+use Rattle.order_histories.proofs.Texts.{and-parts}
 
 -- four bytes are one number, however it is read
 four-bytes : (bs : List ℕ) → 4 ≤ length bs → fold (λ n byte. 256 * n + byte) 0 (take 4 bs) ≡ from_be_bytes w32 (take 4 bs)

@@ -19,8 +19,8 @@ use Rattle.order_law.specs.History.{Entry, Terms, given, terms_of, token_of}
 use Rattle.tokens.specs.TokenText.{token_text}
 use Rattle.order_machine.specs.Table.{Order, State, UsedId, has_used, is_same_id}
 use Rattle.order_machine.specs.Machine.{accept, order_of, refusal_of, refuse, used_by}
-use Rattle.order_machine.proofs.Texts.{eq-decimal_other, eq-other, eq-same}
-use Rattle.order_machine.proofs.Lists.{Each-map, get-push, get-push_kept, get-pushed, get-write, get-write_other, get-written}
+use Rattle.order_histories.proofs.Texts.{eq-decimal_other, eq-other, eq-same}
+use Rattle.order_histories.proofs.Lists.{Each-map, get-push, get-push_kept, get-pushed, get-write, get-write_other, get-written}
 use Rattle.order_machine.proofs.Seen.{Others, Told, Told-others, Untold, Untold-others, life_of}
 use Rattle.order_machine.proofs.Fits.{Fits, Known, Known-push, Numbered-more, has_token, lived-other}
 use Rattle.order_machine.proofs.Own.{Told-pending, written}

@@ -126,6 +126,7 @@ order_of s client d = record {
 abbrev pub ask_of : State → ℕ → NewOrder → Asked
 ask_of s client d = record {
   order = decimal (s.order_ids + 1);
+  id = d.cl_ord_id;
   said = SaysNew (token_text (s.tokens + 1));
   ask = Some (asked_by_new (terms_of s.terms client).capacity (new_order_fields d));
 }
