@@ -3,7 +3,7 @@ use Rattle.std.proofs.Common.{◌≡◌, ℕ, suc, ◌<◌, true, List, [], ◌�
 use Rattle.std.proofs.Math.Seq.{split_at}
 use Rattle.std.proofs.lemmas.List.{reverse-append}
 use Rattle.order_law.specs.Messages.{Message}
-use Rattle.order_law.specs.Reading.{is_report_on, reading, told}
+use Rattle.order_law.specs.Reading.{is_report_on, reading, with_report}
 use Rattle.order_accounts.specs.Held.{IsHeld, StaysHeld}
 
 stays_in_earlier : (order : List ℕ) (later earlier : List Message) → StaysHeld order (later ++ earlier) → StaysHeld order earlier
@@ -22,7 +22,7 @@ turned reports i d inside =
     ∙ append_assoc (reverse later) (r ∷ []) (reverse earlier)
 
 -- what was read is held after a report in their midst
-pub held_after : (order : List ℕ) (reports : List Message) (i : ℕ) (r : Message) → i < length reports → r ≡ get_or reports i r → is_report_on order r ≡ true → StaysHeld order (reverse reports) → IsHeld (told (reading order (reverse (take i reports))) r)
+pub held_after : (order : List ℕ) (reports : List Message) (i : ℕ) (r : Message) → i < length reports → r ≡ get_or reports i r → is_report_on order r ≡ true → StaysHeld order (reverse reports) → IsHeld (with_report (reading order (reverse (take i reports))) r)
 held_after order reports i r inside is on held =
     let all = subst (StaysHeld order) (turned reports i r inside) held in
     let here = (stays_in_earlier order (reverse (drop (suc i) reports)) (get_or reports i r ∷ reverse (take i reports)) all).0 in

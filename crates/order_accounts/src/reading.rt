@@ -215,8 +215,8 @@ impl Reading {
 
     /// What a report makes of what was read before.
     fn hear(&mut self, alloc: Global, report: &Fields) -> Result<(), ReadingFault>
-        ensures told { OnOk result (self.new ≡ spec.told self.old report.now) }
-        ensures large { IsErrOf result ReadingFault.TooLarge → IsHeld (spec.told self.old report.now) → ⊥ }
+        ensures told { OnOk result (self.new ≡ spec.with_report self.old report.now) }
+        ensures large { IsErrOf result ReadingFault.TooLarge → IsHeld (spec.with_report self.old report.now) → ⊥ }
         ensures held { OnOk result (IsHeld self.new) }
     {
         if is(report, 150, b"0") || is(report, 150, b"5") {

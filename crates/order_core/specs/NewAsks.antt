@@ -30,7 +30,7 @@ standing_of terms = record { firm = terms.firm; customer = terms.customer }
 
 -- what an accepted new order asks of the market, by a token of its own
 abbrev pub asked_with : List ℕ → List ℕ → ℕ → Message → Asked
-asked_with order token own m = record { order = order; said = SaysNew token; ask = Some (asked_by_new own m) }
+asked_with order token own m = record { order = order; id = text 11 m; said = SaysNew token; ask = Some (asked_by_new own m) }
 
 -- the bytes that an Enter Order is written as
 abbrev pub enter_bytes : EnterOrder → List ℕ

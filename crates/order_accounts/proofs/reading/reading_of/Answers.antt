@@ -3,7 +3,7 @@ use Rattle.std.specs.Prelude.{Err}
 use Rattle.std.proofs.lemmas.Result.{err_from_is_err_and}
 use Rattle.order_accounts.specs.declared.reading_fault.ReadingFault.TheVariants.{TooLarge}
 use Rattle.order_accounts.specs.Held.{IsHeld}
-use Rattle.order_law.specs.Reading.{Reading, told}
+use Rattle.order_law.specs.Reading.{Reading, with_report}
 use Rattle.order_accounts.proofs.Held.{held_after}
 use Rattle.order_accounts.proofs.reading.reading_of.Goals as goal
 
@@ -13,4 +13,4 @@ returns-in_err-hear-clause-large c = λ large stays.
     let held = held_after c.args.order.now c.args.reports.now c.loop-report.report-index report (omega arith) c.report-item.is (sym c.if-is_report_on.ensures) stays in
     let is_err = err_from_is_err_and c.from_residual.result c.from_residual.ensures.1 in
     let same : c.in_err-hear.field-0.0 ≡ TooLarge = cc (is_err.1, is_err.2, large) in
-    c.in_err-hear.ensures.large (ap Err same) (subst (λ (x : Reading). IsHeld (told x report)) (sym c.loop-report.invariant.reading) held)
+    c.in_err-hear.ensures.large (ap Err same) (subst (λ (x : Reading). IsHeld (with_report x report)) (sym c.loop-report.invariant.reading) held)
