@@ -93,16 +93,18 @@ with_skipped parts = record parts { skipped = parts.skipped + 1 }
 abbrev pub only : End → Parts
 only end = record { frames = []; skipped = 0; end = end }
 
+-- the parts of a stream with this place in front; `rest` are those of what is behind its first byte, so many bytes further
+abbrev pub parts_of : Place → List ℕ → (ℕ → Parts) → Parts
+parts_of (Frame size fields) stream rest = with_frame fields (rest (size - 1))
+parts_of Skipped stream rest = with_skipped (rest 0)
+parts_of Waiting stream rest = only (Rest stream)
+parts_of TooLong stream rest = only Over
+
 -- the parts of a stream of which so many bytes still belong to the last frame
 unfoldable pub parts_behind : ℕ → List ℕ → Parts
 parts_behind inside [] = only (Rest [])
 parts_behind (suc inside) (byte ∷ stream) = parts_behind inside stream
-parts_behind zero (byte ∷ stream) = elim (place (byte ∷ stream)) [
-  | Frame size fields ↦ with_frame fields (parts_behind (size - 1) stream)
-  | Skipped ↦ with_skipped (parts_behind 0 stream)
-  | Waiting ↦ only (Rest (byte ∷ stream))
-  | TooLong ↦ only Over
-]
+parts_behind zero (byte ∷ stream) = parts_of (place (byte ∷ stream)) (byte ∷ stream) (λ inside. parts_behind inside stream)
 
 -- the parts of a whole stream
 abbrev pub parts : List ℕ → Parts
