@@ -76,11 +76,16 @@ impl Packets {
     ///
     /// Source: SoupBinTCP 3.00, "Logical Packets".
     pub fn feed(&mut self, alloc: Global, piece: &[u8]) -> Result<Vec<Packet>, PacketFault>
-        ensures fed { IfOk result (λ given. (stream : List ℕ) (before : List Packet) → Fed stream before self.old → Fed (stream ++ piece.now) (before ++ given.items) self.new) }
-        ensures packets { IfOk result (λ given. (stream : List ℕ) (before : List Packet) → Fed stream before self.old → ArePackets (stream ++ piece.now) (before ++ given.items)) }
-        ensures goes_on { IfOk result (λ given. given.items ≡ [] → (stream : List ℕ) (before : List Packet) → Fed stream before self.old → EndsEmpty (stream ++ piece.now) before → ⊥) }
-        ensures empty { IsErrOf result PacketFault.Empty → (stream : List ℕ) (before : List Packet) → Fed stream before self.old → Fed (stream ++ piece.now) before self.new × EndsEmpty (stream ++ piece.now) before }
-        ensures for_good { (stream : List ℕ) (before : List Packet) → Fed stream before self.old → EndsEmpty stream before → result ≡ Err Empty }
+        ensures fed { IfOk result (λ given. (stream : List ℕ) (before : List Packet)
+            → Fed stream before self.old → Fed (stream ++ piece.now) (before ++ given.items) self.new) }
+        ensures packets { IfOk result (λ given. (stream : List ℕ) (before : List Packet)
+            → Fed stream before self.old → ArePackets (stream ++ piece.now) (before ++ given.items)) }
+        ensures goes_on { IfOk result (λ given. given.items ≡ [] → (stream : List ℕ) (before : List Packet)
+            → Fed stream before self.old → EndsEmpty (stream ++ piece.now) before → ⊥) }
+        ensures empty { IsErrOf result PacketFault.Empty → (stream : List ℕ) (before : List Packet)
+            → Fed stream before self.old → Fed (stream ++ piece.now) before self.new × EndsEmpty (stream ++ piece.now) before }
+        ensures for_good { (stream : List ℕ) (before : List Packet)
+            → Fed stream before self.old → EndsEmpty stream before → result ≡ Err Empty }
         ensures no_memory { IsErrOf result PacketFault.NoMemory → self.new ≡ self.old }
     {
         if self.is_ended {

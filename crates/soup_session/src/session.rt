@@ -73,8 +73,10 @@ impl PortSession {
     ///
     /// Source: SoupBinTCP 3.00, "Login Request Packet".
     pub fn on_up(&mut self, alloc: Global, at: u64) -> Result<PortTurn, AllocError>
-        ensures leaves { IfOk result (λ t. (terms : Terms) (before : List Call) → Leaves terms before self.old → Leaves terms (Opens at ∷ before) self.new) }
-        ensures answers { IfOk result (λ t. (terms : Terms) (before : List Call) → Leaves terms before self.old → IsAnswer (answer terms before (Opens at)) t) }
+        ensures leaves { IfOk result (λ t. (terms : Terms) (before : List Call) → Leaves terms before self.old
+            → Leaves terms (Opens at ∷ before) self.new) }
+        ensures answers { IfOk result (λ t. (terms : Terms) (before : List Call) → Leaves terms before self.old
+            → IsAnswer (answer terms before (Opens at)) t) }
         ensures next { next_of self.new ≡ next_of self.old }
         ensures err { OnErr result (self.new ≡ self.old) }
     {
@@ -95,9 +97,12 @@ impl PortSession {
         at: u64,
     ) -> Result<PortTurn, AllocError>
         requires room { HasRoom self.old }
-        ensures leaves { IfOk result (λ t. (terms : Terms) (before : List Call) → Leaves terms before self.old → Leaves terms (Hears packet.now at ∷ before) self.new) }
-        ensures answers { IfOk result (λ t. (terms : Terms) (before : List Call) → Leaves terms before self.old → IsAnswer (answer terms before (Hears packet.now at)) t) }
-        ensures given { IfOk result (λ t. (terms : Terms) (before : List Call) → Leaves terms before self.old → GivesEachOnce terms (Hears packet.now at ∷ before)) }
+        ensures leaves { IfOk result (λ t. (terms : Terms) (before : List Call) → Leaves terms before self.old
+            → Leaves terms (Hears packet.now at ∷ before) self.new) }
+        ensures answers { IfOk result (λ t. (terms : Terms) (before : List Call) → Leaves terms before self.old
+            → IsAnswer (answer terms before (Hears packet.now at)) t) }
+        ensures given { IfOk result (λ t. (terms : Terms) (before : List Call) → Leaves terms before self.old
+            → GivesEachOnce terms (Hears packet.now at ∷ before)) }
         ensures next { next_of self.new ≤ next_of self.old + 1 }
         ensures err { OnErr result (self.new ≡ self.old) }
     {
@@ -107,7 +112,8 @@ impl PortSession {
 
     /// The link is gone. An ended or faulted port stays so.
     pub fn on_gone(&mut self)
-        ensures leaves { (terms : Terms) (before : List Call) → Leaves terms before self.old → Leaves terms (Goes ∷ before) self.new }
+        ensures leaves { (terms : Terms) (before : List Call) → Leaves terms before self.old
+            → Leaves terms (Goes ∷ before) self.new }
         ensures next { next_of self.new ≡ next_of self.old }
     {
         let port = goes(self.port);
@@ -119,8 +125,10 @@ impl PortSession {
     ///
     /// Source: SoupBinTCP 3.00, "Heartbeats".
     pub fn on_tick(&mut self, alloc: Global, at: u64) -> Result<PortTurn, AllocError>
-        ensures leaves { IfOk result (λ t. (terms : Terms) (before : List Call) → Leaves terms before self.old → Leaves terms (Ticks at ∷ before) self.new) }
-        ensures answers { IfOk result (λ t. (terms : Terms) (before : List Call) → Leaves terms before self.old → IsAnswer (answer terms before (Ticks at)) t) }
+        ensures leaves { IfOk result (λ t. (terms : Terms) (before : List Call) → Leaves terms before self.old
+            → Leaves terms (Ticks at ∷ before) self.new) }
+        ensures answers { IfOk result (λ t. (terms : Terms) (before : List Call) → Leaves terms before self.old
+            → IsAnswer (answer terms before (Ticks at)) t) }
         ensures next { next_of self.new ≡ next_of self.old }
         ensures err { OnErr result (self.new ≡ self.old) }
     {
@@ -134,8 +142,10 @@ impl PortSession {
     pub fn send(&mut self, alloc: Global, message: &[u8], at: u64) -> Result<PortTurn, AllocError>
         requires up { IsUp self.old }
         requires most { length message.now ≤ 65_534 }
-        ensures leaves { IfOk result (λ t. (terms : Terms) (before : List Call) → Leaves terms before self.old → Leaves terms (Sends message.now at ∷ before) self.new) }
-        ensures answers { IfOk result (λ t. (terms : Terms) (before : List Call) → Leaves terms before self.old → IsAnswer (answer terms before (Sends message.now at)) t) }
+        ensures leaves { IfOk result (λ t. (terms : Terms) (before : List Call) → Leaves terms before self.old
+            → Leaves terms (Sends message.now at ∷ before) self.new) }
+        ensures answers { IfOk result (λ t. (terms : Terms) (before : List Call) → Leaves terms before self.old
+            → IsAnswer (answer terms before (Sends message.now at)) t) }
         ensures next { next_of self.new ≡ next_of self.old }
         ensures up { IfOk result (λ t. IsUp self.new) }
         ensures err { OnErr result (self.new ≡ self.old) }
@@ -149,8 +159,10 @@ impl PortSession {
     pub fn fail(&mut self, alloc: Global, fault: u8) -> Result<PortTurn, AllocError>
         requires up { IsUp self.old }
         requires fault { (1 ≤ fault) × (fault ≤ 4) }
-        ensures leaves { IfOk result (λ t. (terms : Terms) (before : List Call) → Leaves terms before self.old → Leaves terms (Fails fault ∷ before) self.new) }
-        ensures answers { IfOk result (λ t. (terms : Terms) (before : List Call) → Leaves terms before self.old → IsAnswer (answer terms before (Fails fault)) t) }
+        ensures leaves { IfOk result (λ t. (terms : Terms) (before : List Call) → Leaves terms before self.old
+            → Leaves terms (Fails fault ∷ before) self.new) }
+        ensures answers { IfOk result (λ t. (terms : Terms) (before : List Call) → Leaves terms before self.old
+            → IsAnswer (answer terms before (Fails fault)) t) }
         ensures next { next_of self.new ≡ next_of self.old }
         ensures err { OnErr result (self.new ≡ self.old) }
     {
@@ -161,7 +173,8 @@ impl PortSession {
     /// How the port stands. Takes no memory.
     pub fn state(&self) -> PortState
         ensures now { result ≡ self.now.state }
-        ensures state { (terms : Terms) (before : List Call) → Leaves terms before self.now → result ≡ (standing terms before).state }
+        ensures state { (terms : Terms) (before : List Call) → Leaves terms before self.now
+            → result ≡ (standing terms before).state }
     {
         self.port.state
     }
@@ -169,14 +182,16 @@ impl PortSession {
     /// The number of the next payload that is wanted. Takes no memory.
     pub fn next(&self) -> u64
         ensures now { result ≡ next_of self.now }
-        ensures next { (terms : Terms) (before : List Call) → Leaves terms before self.now → result ≡ wanted (standing terms before) }
+        ensures next { (terms : Terms) (before : List Call) → Leaves terms before self.now
+            → result ≡ wanted (standing terms before) }
     {
         self.port.next
     }
 
     /// The session of the last login, ten spaces before the first. Takes no memory.
     pub fn session(&self) -> [u8; 10]
-        ensures { (terms : Terms) (before : List Call) → Leaves terms before self.now → result ≡ (standing terms before).session }
+        ensures { (terms : Terms) (before : List Call) → Leaves terms before self.now
+            → result ≡ (standing terms before).session }
     {
         self.port.session
     }
