@@ -113,6 +113,16 @@ impl Fields {
         Vec::from_slice(alloc, self.text())
     }
 
+    /// A copy of all fields. Two growths.
+    pub fn copied(&self, alloc: Global) -> Result<Fields, AllocError>
+        ensures { IfOk result (λ copy. copy ≡ self.now) }
+    {
+        Ok(Fields {
+            text: Vec::from_slice(alloc, self.text.as_slice())?,
+            spans: Vec::from_slice(alloc, self.spans.as_slice())?,
+        })
+    }
+
     /// Adds a field at the end: a tag from 1 to 999,999,999, and a value without SOH. `AllocError` leaves the fields
     /// as they were.
     pub fn push(&mut self, tag: u32, value: &[u8]) -> Result<(), AllocError>
