@@ -1,5 +1,5 @@
 -- What rows make of the expected number.
-use Rattle.std.proofs.Common.{◌≡◌, ℕ, ◌+◌, ◌==◌, Bool, true, false, ◌&&◌, ◌||◌, List, [], ◌∷◌, ◌++◌, refl, ap, ◌∙◌, arith, Some, None, Option, is_some, is_none, unwrap_or, if◌then◌else◌, nat_lt, bytes_eq, codes}
+use Rattle.std.proofs.Common.{length, ◌≡◌, ℕ, ◌+◌, ◌==◌, Bool, true, false, ◌&&◌, ◌||◌, List, [], ◌∷◌, ◌++◌, refl, ap, ◌∙◌, arith, Some, None, Option, is_some, is_none, unwrap_or, if◌then◌else◌, nat_lt, bytes_eq, codes}
 use Rattle.std.proofs.lemmas.Bool.Decides.{nat_tests}
 use Rattle.std.proofs.lemmas.Slice.Eq.{bytes_eq-Decides}
 use Rattle.fix_fields.proofs.Tags.{and_parts}
@@ -63,9 +63,9 @@ not-gap false b c h = refl
 abbrev Stays : Answer → Type 0
 Stays a = (a.logon ≡ None) × ((e : ℕ) → moves a.acts e ≡ e)
 
-resend-stays : (s : State) (m : Fields) → Stays (resend_answer s m)
+resend-stays : (s : State) (m : Fields) → Stays (resend_answer (length s.given) m)
 unfolding Firsts
-resend-stays s m = first-holds Stays (resend_rows s m)
+resend-stays s m = first-holds Stays (resend_rows (length s.given) m)
     (λ _. (refl, λ e. refl), λ _. (λ _. (refl, λ e. refl), λ _. (λ _. (refl, λ e. refl), λ _. (λ _. (refl, λ e. refl), λ _. (λ _. (refl, λ e. refl), λ _. (λ _. (refl, λ e. refl), λ _. (refl, λ e. refl)))))))
 
 asks-stay : (c : Bool) (n e : ℕ) → moves (if c then [] else AskAgain n ∷ []) e ≡ e
@@ -100,11 +100,11 @@ no-gap m x e four = rw (not-gap (is_none (first_fault m)) (is_type (codes "4") m
 typed : (m : Fields) (x : List ℕ) → is_type x m ≡ true → bytes_eq x (codes "4") ≡ false → is_type (codes "4") m ≡ false
 typed m x h k = other (text 35 m) x (codes "4") h k
 
-expected-moves : (s : State) (m : Fields) (e : ℕ) → Takes m e (first_row (expected_rows s m))
+expected-moves : (s : State) (m : Fields) (e : ℕ) → Takes m e (first_row (expected_rows (length s.given) m))
 unfolding Firsts
 expected-moves s m e =
     let to = unwrap_or (number 36 m) 0 in
-    first-holds (Takes m e) (expected_rows s m) (
+    first-holds (Takes m e) (expected_rows (length s.given) m) (
       λ h. (refl, fault-moves (first_fault m) m (is_type (codes "4") m && is_from (numbered m + 1) (number 36 m)) to e h),
       λ n1. (
         λ h. (refl, no-gap m to (e + 1) (or-parts (is_type (codes "0") m) (is_type (codes "3") m) (is_type (codes "j") m) (is_type (codes "4") m ≡ false) h (λ k. typed m (codes "0") k refl) (λ k. typed m (codes "3") k refl) (λ k. typed m (codes "j") k refl))),
@@ -167,7 +167,7 @@ logged-on-moves s m e =
                   λ h. let ne = above n e (and_parts (nat_lt e n) (is_type (codes "5") m) h).0 in (refl, rw (n1, n2, n4, ne) refl),
                   λ _. (
                     λ h. let ne = above n e (and_parts (nat_lt e n) (is_type (codes "2") m) h).0 in
-                        ((resend-stays s m).0, moves-append (resend_answer s m).acts (ask_again s n) e ∙ asks-stay (Rattle.std.specs.Prelude.nat_le s.expected (asked_number s.phase)) n (moves (resend_answer s m).acts e) ∙ (resend-stays s m).1 e ∙ rw (n1, n2, n4, ne) refl),
+                        ((resend-stays s m).0, moves-append (resend_answer (length s.given) m).acts (ask_again s n) e ∙ asks-stay (Rattle.std.specs.Prelude.nat_le s.expected (asked_number s.phase)) n (moves (resend_answer (length s.given) m).acts e) ∙ (resend-stays s m).1 e ∙ rw (n1, n2, n4, ne) refl),
                     λ _. (
                       λ h. let ne = above n e h in (refl, asks-stay (Rattle.std.specs.Prelude.nat_le s.expected (asked_number s.phase)) n e ∙ rw (n1, n2, n4, ne) refl),
                       λ n9. (

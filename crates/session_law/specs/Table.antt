@@ -94,25 +94,25 @@ unsupported_body m = counted 45 (numbered m) ∷ field 372 (text 35 m) ∷ field
 abbrev pub until : ℕ → ℕ → ℕ
 until last e = if e == 0 || nat_lt last e then last else e
 
--- from 7 to 16
-abbrev pub range : State → Fields → Range
-range s m = record { from = unwrap_or (number 7 m) 0; to = until (length s.given) (unwrap_or (number 16 m) 0) }
+-- from 7 to 16, where so many numbers were given
+abbrev pub range : ℕ → Fields → Range
+range last m = record { from = unwrap_or (number 7 m) 0; to = until last (unwrap_or (number 16 m) 0) }
 
 abbrev pub send_again : Range → Answer
 send_again r = record { logon = None; resends = Some r; acts = [] }
 
-abbrev pub resend_rows : State → Fields → List Row
-resend_rows s m =
+abbrev pub resend_rows : ℕ → Fields → List Row
+resend_rows last m =
     row (not (has 7 m)) (reject m 7 1 ∷ [])
     ∷ row (not (has 16 m)) (reject m 16 1 ∷ [])
     ∷ row (is_none (number 7 m)) (reject m 7 6 ∷ [])
     ∷ row (is_none (number 16 m)) (reject m 16 6 ∷ [])
-    ∷ row_of (nat_le 1 (range s m).from) (send_again (range s m))
+    ∷ row_of (nat_le 1 (range last m).from) (send_again (range last m))
     ∷ row true (reject m 7 5 ∷ [])
     ∷ []
 
-abbrev pub resend_answer : State → Fields → Answer
-resend_answer s m = first_row (resend_rows s m)
+abbrev pub resend_answer : ℕ → Fields → Answer
+resend_answer last m = first_row (resend_rows last m)
 
 -- more acts, before or behind those of an answer
 abbrev pub after_acts : List Act → Answer → Answer
@@ -144,13 +144,13 @@ abbrev pub fault_acts : Fields → Option SessionRefusal → List Act
 fault_acts m None = []
 fault_acts m (Some r) = reject m r.tag r.reason ∷ []
 
-abbrev pub expected_rows : State → Fields → List Row
-expected_rows s m =
+abbrev pub expected_rows : ℕ → Fields → List Row
+expected_rows last m =
     row (is_some (first_fault m)) (fault_acts m (first_fault m))
     ∷ row (is_type (codes "0") m || (is_type (codes "3") m || is_type (codes "j") m)) []
     ∷ row (is_type (codes "1") m && has 112 m) (Say Heartbeat (field 112 (text 112 m) ∷ []) ∷ [])
     ∷ row (is_type (codes "1") m) (reject m 112 1 ∷ [])
-    ∷ row_of (is_type (codes "2") m) (resend_answer s m)
+    ∷ row_of (is_type (codes "2") m) (resend_answer last m)
     ∷ row (is_type (codes "4") m && is_from (numbered m + 1) (number 36 m)) (Expect (unwrap_or (number 36 m) 0) ∷ [])
     ∷ row (is_type (codes "4") m) (reject m 36 (new_number_reason m) ∷ [])
     ∷ row (is_type (codes "5") m) log_out_silently
@@ -172,9 +172,9 @@ logged_on_rows s m n e =
     ∷ row (nat_lt n e && is 43 (codes "Y") m) []
     ∷ row (nat_lt n e) (too_low e n)
     ∷ row (nat_lt e n && is_type (codes "5") m) log_out_silently
-    ∷ row_of (nat_lt e n && is_type (codes "2") m) (with_acts (resend_answer s m) (ask_again s n))
+    ∷ row_of (nat_lt e n && is_type (codes "2") m) (with_acts (resend_answer (length s.given) m) (ask_again s n))
     ∷ row (nat_lt e n) (ask_again s n)
-    ∷ row_of true (after_acts (Grow ∷ []) (first_row (expected_rows s m)))
+    ∷ row_of true (after_acts (Grow ∷ []) (first_row (expected_rows (length s.given) m)))
     ∷ []
 
 -- ---- not logged on
