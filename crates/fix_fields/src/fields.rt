@@ -4,6 +4,7 @@ ghost use Rattle.std.specs.Prelude.{◌≡◌, ◌≢◌, ◌<◌, ◌≤◌, �
 ghost use Rattle.std.specs.Option.{option_copied};
 ghost use Rattle.fix_fields.specs.Field.{AreFields, IsValue, fields_text, first_value};
 ghost use Rattle.fix_fields.specs.Field as spec;
+ghost use Rattle.fix_fields.specs.Reading.{fields_of};
 
 use crate::front::front_of;
 use crate::span::Span;
@@ -193,6 +194,7 @@ pub fn split(alloc: Global, text: &[u8]) -> Result<Option<Fields>, AllocError>
         (λ fields. fields_text fields ≡ text.now)) }
     ensures printed { IfOk result (λ found. (fs : List spec.Field) → AreFields fs
         → fields_text fs ≡ text.now → found ≡ Some fs) }
+    ensures computed { IfOk result (λ found. found ≡ fields_of text.now) }
 {
     let mut spans = Vec::with_capacity(alloc, soh_count(text))?;
     let mut at = 0;
