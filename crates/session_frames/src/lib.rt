@@ -4,10 +4,12 @@
 #![tactic(auto)]
 
 mod bodies;
+mod output;
 mod resend;
 
 pub use bodies::{
     ask_body, echo_body, logon_body, push_number, reject_body, text_body, too_low_body,
     unsupported_body,
 };
+pub use output::{SessionOut, fields_of_frame, written};
 pub use resend::append_resend;
