@@ -8,9 +8,11 @@
 
 mod answer;
 mod draft;
+mod issues;
 mod judge;
 mod logon;
 mod session;
 mod ticks;
 
 pub use session::{Session, SessionTurn};
+pub use session_frames::SessionOut;

@@ -5,11 +5,14 @@ ghost use Rattle.session_law.specs.Messages.{Fields as Message};
 
 use crate::answer::answer;
 use crate::draft::Draft;
+use crate::issues::{body_of, kind_of};
 use crate::judge::{judge, judge_logon};
 use crate::logon::answer_logon;
 use crate::ticks::do_due;
 use fix_fields::{Fields, Text};
-use session_law::{Kept, Kind, Out, Phase};
+use fix_types::AppBody;
+use session_frames::{SessionOut, fields_of_frame, written};
+use session_law::{Frame, Kept, Kind, Phase};
 use session_rows::due_at;
 use std::alloc::{AllocError, Global};
 use std::marker::Model;
@@ -47,18 +50,23 @@ impl Model for Session {
 #[derive(Debug, Drop)]
 pub struct SessionTurn {
     /// What goes to the link, in order.
-    pub outs: Vec<Out>,
+    pub outs: Vec<SessionOut>,
     /// The message, where it is given up as the application's.
     pub app: Option<Fields>,
 }
 
 impl Session {
-    ghost use Rattle.session_law.specs.Session.{next_out, new_session, quiet, Given};
-    ghost use Rattle.session_law.specs.Runs.{History, Leaves, turn_of, step, Call, Linked, Came, Ticked, Issued, at_moment, heard, by_rows};
+    ghost use Rattle.session_law.specs.Session.{next_out, new_session, quiet, Given, fresh};
+    ghost use Rattle.session_law.specs.Runs.{History, Leaves, turn_after, step, Call, Linked, Came, Ticked, Issued, at_moment, heard, by_rows};
     ghost use Rattle.session_law.specs.Expected.{expected};
     ghost use Rattle.session_law.specs.Numbers.{Headline, given};
     ghost use Rattle.session_law.specs.Table.{asked_number, logon_rows, logged_on_rows, numbered, resets};
-    ghost use Rattle.fix_session.specs.Meets.{Meets, turn_seen};
+    ghost use Rattle.fix_session.specs.Meets.{Meets, Tells};
+    ghost use Rattle.fix_session.specs.Issues as issues;
+    ghost use Rattle.fix_session.specs.Issues.{issued};
+    ghost use Rattle.session_law.specs.Frames.{frame_fields};
+    ghost use Rattle.fix_stamp.specs.Stamp.{stamp_text};
+    ghost use Rattle.fix_fields.specs.Field.{IsValue};
     ghost use Rattle.session_law.specs.Messages.{first_fault};
     ghost use Rattle.fix_session.specs.Made.{made, HasRoom};
 
@@ -96,18 +104,40 @@ impl Session {
     pub fn issue(
         &mut self,
         alloc: Global,
-        kind: Kind,
-        body: Fields,
+        body: &AppBody,
         at: u64,
     ) -> Result<SessionTurn, AllocError>
         requires room { HasRoom self.old }
-        ensures leaves { IfOk result (λ turn. (gate client : List ℕ) (h : History) → Leaves gate client h self.old
-            → Leaves gate client (turn_seen at (Issued kind body) turn ∷ h) self.new) }
-        ensures headline { IfOk result (λ turn. (gate client : List ℕ) (h : History) → Leaves gate client h self.old
-            → Headline (turn_seen at (Issued kind body) turn ∷ h)) }
+        ensures turn { IfOk result (λ turn. Tells self.old.gate self.old.client turn (turn_after self.old at (issued body.now))) }
+        ensures leaves { OnOk result ((gate client : List ℕ) (h : History) → Leaves gate client h self.old
+            → Leaves gate client (turn_after self.old at (issued body.now) ∷ h) self.new) }
+        ensures headline { OnOk result ((gate client : List ℕ) (h : History) → Leaves gate client h self.old
+            → Headline (turn_after self.old at (issued body.now) ∷ h)) }
         ensures err { OnErr result (self.new ≡ self.old) }
     {
-        self.issue_step(alloc, kind, body, at)
+        let fields = body_of(alloc, body)?;
+        self.issue_step(alloc, kind_of(body), fields, at)
+    }
+
+    /// The fields from MsgType (35) on of the frame that `issue` numbers next with this body, written or not.
+    pub fn issued_fields(
+        &self,
+        alloc: Global,
+        body: &AppBody,
+        at: u64,
+    ) -> Result<Fields, AllocError>
+        requires room { HasRoom self.now }
+        ensures { IfOk result (λ fields. fields ≡ frame_fields stamp_text self.now.gate self.now.client
+            (fresh (next_out self.now) (issues.kind_of body.now) (issues.body_of body.now) at)) }
+    {
+        let frame = Frame {
+            number: self.next_number(),
+            kind: kind_of(body),
+            body: body_of(alloc, body)?,
+            at,
+            first: None,
+        };
+        fields_of_frame(alloc, self.gate(), self.client(), &frame)
     }
 
     /// A frame of the client.
@@ -119,10 +149,11 @@ impl Session {
     ) -> Result<SessionTurn, AllocError>
         requires room { HasRoom self.old }
         requires served { first_fault m.now ≡ None }
-        ensures leaves { IfOk result (λ turn. (gate client : List ℕ) (h : History) → Leaves gate client h self.old
-            → Leaves gate client (turn_seen at (Came m.now) turn ∷ h) self.new) }
-        ensures headline { IfOk result (λ turn. (gate client : List ℕ) (h : History) → Leaves gate client h self.old
-            → Headline (turn_seen at (Came m.now) turn ∷ h)) }
+        ensures turn { IfOk result (λ turn. Tells self.old.gate self.old.client turn (turn_after self.old at (Came m.now))) }
+        ensures leaves { OnOk result ((gate client : List ℕ) (h : History) → Leaves gate client h self.old
+            → Leaves gate client (turn_after self.old at (Came m.now) ∷ h) self.new) }
+        ensures headline { OnOk result ((gate client : List ℕ) (h : History) → Leaves gate client h self.old
+            → Headline (turn_after self.old at (Came m.now) ∷ h)) }
         ensures err { OnErr result (self.new ≡ self.old) }
     {
         self.message_step(alloc, m, at)
@@ -130,10 +161,11 @@ impl Session {
 
     /// Time passes.
     pub fn on_tick(&mut self, alloc: Global, at: u64) -> Result<SessionTurn, AllocError>
-        ensures leaves { IfOk result (λ turn. (gate client : List ℕ) (h : History) → Leaves gate client h self.old
-            → Leaves gate client (turn_seen at (Ticked) turn ∷ h) self.new) }
-        ensures headline { IfOk result (λ turn. (gate client : List ℕ) (h : History) → Leaves gate client h self.old
-            → Headline (turn_seen at (Ticked) turn ∷ h)) }
+        ensures turn { IfOk result (λ turn. Tells self.old.gate self.old.client turn (turn_after self.old at Ticked)) }
+        ensures leaves { OnOk result ((gate client : List ℕ) (h : History) → Leaves gate client h self.old
+            → Leaves gate client (turn_after self.old at Ticked ∷ h) self.new) }
+        ensures headline { OnOk result ((gate client : List ℕ) (h : History) → Leaves gate client h self.old
+            → Headline (turn_after self.old at Ticked ∷ h)) }
         ensures err { OnErr result (self.new ≡ self.old) }
     {
         self.tick_step(alloc, at)
@@ -141,10 +173,11 @@ impl Session {
 
     /// The link came up, or went. It takes no memory.
     pub fn on_link(&mut self, alloc: Global, up: bool, at: u64) -> SessionTurn
+        ensures turn { Tells self.old.gate self.old.client result (turn_after self.old at (Linked up)) }
         ensures leaves { (gate client : List ℕ) (h : History) → Leaves gate client h self.old
-            → Leaves gate client (turn_seen at (Linked up) result ∷ h) self.new }
+            → Leaves gate client (turn_after self.old at (Linked up) ∷ h) self.new }
         ensures headline { (gate client : List ℕ) (h : History) → Leaves gate client h self.old
-            → Headline (turn_seen at (Linked up) result ∷ h) }
+            → Headline (turn_after self.old at (Linked up) ∷ h) }
     {
         self.link_step(alloc, up, at)
     }
@@ -185,13 +218,15 @@ impl Session {
     }
 
     pub(crate) fn gate(&self) -> &[u8]
-        ensures { result.now ≡ self.now.gate }
+        ensures text { result.now ≡ self.now.gate }
+        ensures inside { IsValue result.now }
     {
         self.gate.as_slice()
     }
 
     pub(crate) fn client(&self) -> &[u8]
-        ensures { result.now ≡ self.now.client }
+        ensures text { result.now ≡ self.now.client }
+        ensures inside { IsValue result.now }
     {
         self.client.as_slice()
     }
@@ -218,12 +253,12 @@ impl Session {
         at: u64,
     ) -> Result<SessionTurn, AllocError>
         requires room { HasRoom self.old }
-        ensures meets { IfOk result (λ turn. Meets (step self.old at (Issued kind body)) turn self.new) }
+        ensures meets { IfOk result (λ turn. Meets self.old (step self.old at (Issued kind body)) turn self.new) }
         ensures err { OnErr result (self.new ≡ self.old) }
     {
         let mut draft = Draft::at(alloc, self, at);
         draft.issue(alloc, self, kind, body, at)?;
-        self.take(draft)
+        self.take(alloc, draft)
     }
 
     /// A frame of the client. Where it is judged, nothing changes; what it brings is made, and then taken over whole.
@@ -235,13 +270,13 @@ impl Session {
     ) -> Result<SessionTurn, AllocError>
         requires room { HasRoom self.old }
         requires served { first_fault m.now ≡ None }
-        ensures meets { IfOk result (λ turn. Meets (step self.old at (Came m.now)) turn self.new) }
+        ensures meets { IfOk result (λ turn. Meets self.old (step self.old at (Came m.now)) turn self.new) }
         ensures err { OnErr result (self.new ≡ self.old) }
     {
         match self.phase {
             Phase::Down => {
                 let draft = Draft::heard_at(alloc, self, at);
-                self.take(draft)
+                self.take(alloc, draft)
             }
             Phase::AwaitingLogon(_) => self.on_first(alloc, m, at),
             Phase::LoggedOn(_) => self.on_next(alloc, m, at),
@@ -252,32 +287,32 @@ impl Session {
     fn on_first(&mut self, alloc: Global, m: &Fields, at: u64) -> Result<SessionTurn, AllocError>
         requires room { HasRoom self.old }
         requires served { first_fault m.now ≡ None }
-        ensures meets { IfOk result (λ turn. Meets (by_rows at (heard (at_moment at self.old))
+        ensures meets { IfOk result (λ turn. Meets self.old (by_rows at (heard (at_moment at self.old))
             (logon_rows self.old m.now (numbered m.now) (if resets m.now then 1 else self.old.expected))) turn self.new) }
         ensures err { OnErr result (self.new ≡ self.old) }
     {
         let row = judge_logon(self, m);
         let draft = answer_logon(alloc, self, m, row, at)?;
-        self.take(draft)
+        self.take(alloc, draft)
     }
 
     /// A frame of a client that is logged on.
     fn on_next(&mut self, alloc: Global, m: &Fields, at: u64) -> Result<SessionTurn, AllocError>
         requires room { HasRoom self.old }
         requires served { first_fault m.now ≡ None }
-        ensures meets { IfOk result (λ turn. Meets (by_rows at (heard (at_moment at self.old))
+        ensures meets { IfOk result (λ turn. Meets self.old (by_rows at (heard (at_moment at self.old))
             (logged_on_rows self.old m.now (numbered m.now) self.old.expected)) turn self.new) }
         ensures err { OnErr result (self.new ≡ self.old) }
     {
         let row = judge(self, m);
         let mut draft = Draft::heard_at(alloc, self, at);
         answer(alloc, &mut draft, self, m, row, at)?;
-        self.take(draft)
+        self.take(alloc, draft)
     }
 
     /// The link came up, or went.
     fn link_step(&mut self, alloc: Global, up: bool, at: u64) -> SessionTurn
-        ensures meets { Meets (step self.old at (Linked up)) result self.new }
+        ensures meets { Meets self.old (step self.old at (Linked up)) result self.new }
     {
         self.latest = self.latest.max(at);
         self.phase = if up {
@@ -292,10 +327,11 @@ impl Session {
     }
 
     /// Takes over what a draft has made, all of it or nothing.
-    fn take(&mut self, draft: Draft) -> Result<SessionTurn, AllocError>
-        ensures ok { IfOk result (λ turn. Meets (made self.old draft) turn self.new) }
+    fn take(&mut self, alloc: Global, draft: Draft) -> Result<SessionTurn, AllocError>
+        ensures ok { IfOk result (λ turn. Meets self.old (made self.old draft) turn self.new) }
         ensures err { OnErr result (self.new ≡ self.old) }
     {
+        let outs = written(alloc, self.gate(), self.client(), draft.outs.as_slice())?;
         let mut slots = draft.slots;
         self.given.reserve(slots.len())?;
         if draft.resets {
@@ -306,19 +342,19 @@ impl Session {
         self.expected = draft.expected;
         self.latest = draft.latest;
         Ok(SessionTurn {
-            outs: draft.outs,
+            outs,
             app: draft.app,
         })
     }
 
     /// Time passes: silence of either side brings what is due.
     fn tick_step(&mut self, alloc: Global, at: u64) -> Result<SessionTurn, AllocError>
-        ensures meets { IfOk result (λ turn. Meets (step self.old at Ticked) turn self.new) }
+        ensures meets { IfOk result (λ turn. Meets self.old (step self.old at Ticked) turn self.new) }
         ensures err { OnErr result (self.new ≡ self.old) }
     {
         let mut draft = Draft::at(alloc, self, at);
         let due = due_at(self.phase, draft.latest);
         do_due(alloc, &mut draft, self, due, at)?;
-        self.take(draft)
+        self.take(alloc, draft)
     }
 }
