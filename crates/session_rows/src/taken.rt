@@ -8,6 +8,7 @@ ghost use Rattle.session_law.specs.Formats.{application_refusal};
 ghost use Rattle.session_rows.specs.declared.taken.Taken.TheVariants as taken;
 ghost use Rattle.session_rows.specs.Judged.{taken_answer, TakenInRange};
 
+use crate::fault::first_fault;
 use crate::message::{
     is_other_type, is_sequence_reset, is_silent, is_type, new_number, new_number_reason, numbered,
 };
@@ -72,9 +73,22 @@ fn until(last: u64, to: u64) -> u64
     if to == 0 || last < to { last } else { to }
 }
 
-/// What the message with the expected number brings, where so many numbers were given, and where none of its fields is
-/// empty or stands twice.
+/// What the message with the expected number brings, where so many numbers were given.
 pub fn judge_taken(m: &Fields, last: u64) -> Taken
+    ensures answer { first_row (table.expected_rows last m.now) ≡ taken_answer m.now result }
+    ensures range { TakenInRange last result }
+{
+    match first_fault(m) {
+        Some(fault) => Taken::Rejected {
+            tag: fault.tag,
+            reason: u64::from(fault.reason),
+        },
+        None => judge_faultless(m, last),
+    }
+}
+
+/// The same, where no field is empty or stands twice.
+fn judge_faultless(m: &Fields, last: u64) -> Taken
     requires { law.first_fault m.now ≡ None }
     ensures answer { first_row (table.expected_rows last m.now) ≡ taken_answer m.now result }
     ensures range { TakenInRange last result }
