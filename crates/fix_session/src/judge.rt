@@ -1,7 +1,7 @@
 //! Which line of the table a message meets, of a client that is logged on and of a link that isn't. Judging changes
 //! nothing and takes no memory.
 
-ghost use Rattle.std.specs.Prelude.{◌≡◌, ◌≤◌, ◌<◌, ◌^◌, length, None, if◌then◌else◌, codes};
+ghost use Rattle.std.specs.Prelude.{◌≡◌, ◌≤◌, ◌<◌, ◌^◌, length, if◌then◌else◌, codes};
 ghost use Rattle.session_law.specs.Messages as law;
 ghost use Rattle.session_law.specs.Table as table;
 ghost use Rattle.session_law.specs.Table.{first_row, resend_answer, with_acts, ask_again};
@@ -12,7 +12,7 @@ use crate::draft::first_number;
 use crate::session::Session;
 use fix_fields::Fields;
 use session_rows::{
-    Row, interval_of, is, is_interval, is_plain_reset, is_reset_flag, is_type, judge_low,
+    Row, first_fault, interval_of, is, is_interval, is_plain_reset, is_reset_flag, is_type, judge_low,
     judge_plain_reset, judge_resend, judge_taken, numbered, resets,
 };
 
@@ -25,7 +25,6 @@ fn is_from_client(session: &Session, m: &Fields) -> bool
 
 /// The line that a message of a client that is logged on meets.
 pub fn judge(session: &Session, m: &Fields) -> Row
-    requires { law.first_fault m.now ≡ None }
     ensures answer { first_row (table.logged_on_rows session.now m.now (table.numbered m.now) session.now.expected)
         ≡ row_answer session.now m.now (table.numbered m.now) session.now.expected result }
     ensures range { RowInRange (length session.now.given) result }
@@ -86,17 +85,15 @@ pub enum LogonRow {
 
 /// Whether it is a Logon that may be answered.
 fn is_logon(session: &Session, m: &Fields) -> bool
-    requires { law.first_fault m.now ≡ None }
     ensures { result ≡ table.is_logon session.now m.now }
 {
     is_type(m, b"A")
         && (is_from_client(session, m)
-            && (numbered(m) != 0 && (is(m, 98, b"0") && (is_interval(m) && is_reset_flag(m)))))
+            && (numbered(m) != 0 && (is(m, 98, b"0") && (is_interval(m) && (is_reset_flag(m) && first_fault(m).is_none())))))
 }
 
 /// The line that a message of a link that isn't logged on meets.
 pub fn judge_logon(session: &Session, m: &Fields) -> LogonRow
-    requires { law.first_fault m.now ≡ None }
     ensures { first_row (table.logon_rows session.now m.now (table.numbered m.now) (if table.resets m.now then 1 else session.now.expected))
         ≡ logon_answer m.now (table.numbered m.now) result }
 {

@@ -67,7 +67,6 @@ impl Session {
     ghost use Rattle.session_law.specs.Frames.{frame_fields};
     ghost use Rattle.fix_stamp.specs.Stamp.{stamp_text};
     ghost use Rattle.fix_fields.specs.Field.{IsValue};
-    ghost use Rattle.session_law.specs.Messages.{first_fault};
     ghost use Rattle.fix_session.specs.Made.{made, HasRoom};
 
     /// A session of a client with the gateway, by their names: no link, and number 1 on both sides.
@@ -148,7 +147,6 @@ impl Session {
         at: u64,
     ) -> Result<SessionTurn, AllocError>
         requires room { HasRoom self.old }
-        requires served { first_fault m.now ≡ None }
         ensures turn { IfOk result (λ turn. Tells self.old.gate self.old.client turn (turn_after self.old at (Came m.now))) }
         ensures leaves { OnOk result ((gate client : List ℕ) (h : History) → Leaves gate client h self.old
             → Leaves gate client (turn_after self.old at (Came m.now) ∷ h) self.new) }
@@ -269,7 +267,6 @@ impl Session {
         at: u64,
     ) -> Result<SessionTurn, AllocError>
         requires room { HasRoom self.old }
-        requires served { first_fault m.now ≡ None }
         ensures meets { IfOk result (λ turn. Meets self.old (step self.old at (Came m.now)) turn self.new) }
         ensures err { OnErr result (self.new ≡ self.old) }
     {
@@ -286,7 +283,6 @@ impl Session {
     /// A frame of a link that isn't logged on.
     fn on_first(&mut self, alloc: Global, m: &Fields, at: u64) -> Result<SessionTurn, AllocError>
         requires room { HasRoom self.old }
-        requires served { first_fault m.now ≡ None }
         ensures meets { IfOk result (λ turn. Meets self.old (by_rows at (heard (at_moment at self.old))
             (logon_rows self.old m.now (numbered m.now) (if resets m.now then 1 else self.old.expected))) turn self.new) }
         ensures err { OnErr result (self.new ≡ self.old) }
@@ -299,7 +295,6 @@ impl Session {
     /// A frame of a client that is logged on.
     fn on_next(&mut self, alloc: Global, m: &Fields, at: u64) -> Result<SessionTurn, AllocError>
         requires room { HasRoom self.old }
-        requires served { first_fault m.now ≡ None }
         ensures meets { IfOk result (λ turn. Meets self.old (by_rows at (heard (at_moment at self.old))
             (logged_on_rows self.old m.now (numbered m.now) self.old.expected)) turn self.new) }
         ensures err { OnErr result (self.new ≡ self.old) }
