@@ -1,6 +1,6 @@
 //! The session and its calls.
 
-ghost use Rattle.std.specs.Prelude.{◌≡◌, ◌+◌, ◌<◌, ◌^◌, ◌∷◌, [], List, ℕ, length, nat_le, if◌then◌else◌, IfOk, OnErr, OnOk, Some, None};
+ghost use Rattle.std.specs.Prelude.{◌≡◌, ◌+◌, ◌<◌, ◌^◌, ◌∷◌, [], List, ℕ, length, nat_le, if◌then◌else◌, IfOk, OnErr, OnOk, Some, None, IsTrue, ◌↔◌};
 ghost use Rattle.session_law.specs.Messages.{Fields as Message};
 
 use crate::answer::answer;
@@ -82,6 +82,14 @@ impl Session {
             given: Vec::new(alloc),
             latest: 0,
         }
+    }
+
+    /// Whether the numbers are below 2^60, as `on_message` and `issue` ask. They grow by at most 2 a call, or to a number
+    /// of 18 digits that the client gives: so they are, for as long as anybody can wait.
+    pub fn has_room(&self) -> bool
+        ensures { IsTrue result ↔ HasRoom self.now }
+    {
+        self.expected < 1 << 60 && self.given.len() < 1 << 60
     }
 
     /// The number of the next frame or issued body.
