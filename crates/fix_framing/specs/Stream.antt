@@ -1,12 +1,12 @@
 -- The frames of a stream of bytes. A stream is cut from the left: a frame where one stands, else one byte is skipped, up
 -- to what can't be judged yet, or to a head that announces too long a frame.
-use Rattle.std.specs.Prelude.{ℕ, zero, suc, ◌+◌, ◌-◌, ◌==◌, Bool, ◌&&◌, nat_lt, List, [], ◌∷◌, length, take, drop, Option, Some, None, bytes_eq, slice_index_or, if◌then◌else◌}
+use Rattle.std.specs.Prelude.{◌≡◌, ◌++◌, ◌^◌, min, ℕ, zero, suc, ◌+◌, ◌-◌, ◌==◌, Bool, ◌&&◌, nat_lt, List, [], ◌∷◌, length, take, drop, Option, Some, None, slice_index_or, if◌then◌else◌}
 use Rattle.std.specs.Char.{is_ascii_digit}
 use Rattle.std.specs.List.{prefix_len}
 use Rattle.fix_fields.specs.Field.{Field}
 use Rattle.fix_fields.specs.Front.{number_of}
 use Rattle.fix_fields.specs.Reading.{fields_of}
-use Rattle.fix_framing.specs.Frame.{opening, trailer, trailer_size, is_body}
+use Rattle.fix_framing.specs.Frame.{opening, begins_with, ends_with, trailer, trailer_size, is_body}
 
 -- the longest frame that is taken, in bytes
 abbrev pub longest : ℕ
@@ -35,15 +35,15 @@ start_behind stream =
 
 unfoldable pub start : List ℕ → Start
 start stream =
-    if bytes_eq (take (length opening) stream) opening then start_behind (drop (length opening) stream)
-    else if bytes_eq stream (take (length stream) opening) then LessThanHead
+    if begins_with opening stream then start_behind (drop (length opening) stream)
+    else if begins_with stream opening then LessThanHead
     else NoHead
 
 -- a text with a head of so many bytes has a body, and the check sum of all before it
 unfoldable pub is_whole : ℕ → List ℕ → Bool
 is_whole head text =
     let counted = take (length text - trailer_size) text in
-    is_body (drop head counted) && bytes_eq (drop (length text - trailer_size) text) (trailer counted)
+    is_body (drop head counted) && ends_with (trailer counted) text
 
 -- what stands in front of a stream: a frame of so many bytes with these fields; a byte that is skipped; what has to wait
 -- for more; or a head that announces too long a frame
@@ -93,17 +93,40 @@ with_skipped parts = record parts { skipped = parts.skipped + 1 }
 abbrev pub only : End → Parts
 only end = record { frames = []; skipped = 0; end = end }
 
+-- the parts of a stream with this place in front; `rest` are those of what is behind its first byte, so many bytes further
+abbrev pub parts_of : Place → List ℕ → (ℕ → Parts) → Parts
+parts_of (Frame size fields) stream rest = with_frame fields (rest (size - 1))
+parts_of Skipped stream rest = with_skipped (rest 0)
+parts_of Waiting stream rest = only (Rest stream)
+parts_of TooLong stream rest = only Over
+
 -- the parts of a stream of which so many bytes still belong to the last frame
 unfoldable pub parts_behind : ℕ → List ℕ → Parts
 parts_behind inside [] = only (Rest [])
 parts_behind (suc inside) (byte ∷ stream) = parts_behind inside stream
-parts_behind zero (byte ∷ stream) = elim (place (byte ∷ stream)) [
-  | Frame size fields ↦ with_frame fields (parts_behind (size - 1) stream)
-  | Skipped ↦ with_skipped (parts_behind 0 stream)
-  | Waiting ↦ only (Rest (byte ∷ stream))
-  | TooLong ↦ only Over
-]
+parts_behind zero (byte ∷ stream) = parts_of (place (byte ∷ stream)) (byte ∷ stream) (λ inside. parts_behind inside stream)
 
 -- the parts of a whole stream
 abbrev pub parts : List ℕ → Parts
 parts stream = parts_behind 0 stream
+
+-- ---- what a reader of a stream is
+
+-- the bytes that it still has to judge, or that no more frames come; and how many bytes it passed over, which doesn't
+-- count further than a word of 64 bits does
+pub record Standing : Type 0 where
+  pub end : End
+  pub skipped : ℕ
+
+abbrev pub counted_skips : ℕ → ℕ
+counted_skips skipped = min skipped (2 ^ 64 - 1)
+
+-- the reader is what these bytes leave, fed in whatever pieces
+unfoldable pub Leaves : List ℕ → Standing → Type 0
+Leaves fed reader = (reader.end ≡ (parts fed).end) × (reader.skipped ≡ counted_skips (parts fed).skipped)
+
+-- fed a piece after these bytes, it gave these frames and is now so: with the frames given before, they are those of all
+-- bytes fed
+pub record Feeds (fed piece : List ℕ) (given : List (List Field)) (after : Standing) : Type 0 where
+  pub frames : (parts (fed ++ piece)).frames ≡ (parts fed).frames ++ given
+  pub leaves : Leaves (fed ++ piece) after

@@ -7,6 +7,13 @@
 //! "CheckSum Calculation".
 #![tactic(auto)]
 
+mod frame_fault;
+mod framer;
+mod place;
+mod scan;
+mod start;
 mod writing;
 
+pub use frame_fault::FrameFault;
+pub use framer::Framer;
 pub use writing::frame;

@@ -12,7 +12,7 @@ use crate::draft::first_number;
 use crate::session::Session;
 use fix_fields::Fields;
 use session_rows::{
-    Row, first_fault, interval_of, is, is_interval, is_plain_reset, is_reset_flag, is_type, judge_low,
+    Row, interval_of, is, is_interval, is_plain_reset, is_reset_flag, is_type, judge_low,
     judge_plain_reset, judge_resend, judge_taken, numbered, resets,
 };
 
@@ -89,7 +89,7 @@ fn is_logon(session: &Session, m: &Fields) -> bool
 {
     is_type(m, b"A")
         && (is_from_client(session, m)
-            && (numbered(m) != 0 && (is(m, 98, b"0") && (is_interval(m) && (is_reset_flag(m) && first_fault(m).is_none())))))
+            && (numbered(m) != 0 && (is(m, 98, b"0") && (is_interval(m) && (is_reset_flag(m) && m.first_fault().is_none())))))
 }
 
 /// The line that a message of a link that isn't logged on meets.

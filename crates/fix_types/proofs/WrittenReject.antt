@@ -3,7 +3,7 @@ use Rattle.std.proofs.Common.{◌≡◌, List, refl, ap, ◌∙◌}
 use Rattle.std.specs.Prelude.{Option, Some, None}
 use Rattle.fix_fields.specs.Field.{Field}
 use Rattle.fix_types.specs.declared.business_reject.BusinessReject.{BusinessReject}
-use Rattle.fix_types.specs.declared.refusal.SessionRefusal.{SessionRefusal}
+use Rattle.fix_fields.specs.declared.session_refusal.SessionRefusal.{SessionRefusal}
 use Rattle.fix_types.specs.BusinessReject.{required, rows, business_reject_fields, business_reject_refusal, business_reject_of, IsBusinessReject}
 use Rattle.fix_types.proofs.Numbers.{number_of-decimal, is_number-decimal}
 use Rattle.fix_types.proofs.Tables.{none_refused}

@@ -3,7 +3,7 @@ use Rattle.std.specs.Prelude.{ℕ, ◌<◌, ◌^◌, List, [], ◌∷◌, Option
 use Rattle.fix_fields.specs.Field.{Field}
 use Rattle.fix_types.specs.declared.format.Format.TheVariants as formats
 use Rattle.fix_types.specs.declared.format.Row.{Row}
-use Rattle.fix_types.specs.declared.refusal.SessionRefusal.{SessionRefusal}
+use Rattle.fix_fields.specs.declared.session_refusal.SessionRefusal.{SessionRefusal}
 use Rattle.fix_types.specs.declared.business_reject.BusinessReject.{BusinessReject}
 use Rattle.fix_types.specs.Formats.{first_refusal}
 use Rattle.fix_types.specs.Slots.{Slot, field, fields_of, text_of, number_at}

@@ -31,9 +31,10 @@ pub use character::Character;
 pub use cl_ord_id::ClOrdId;
 pub use exec_type::ExecType;
 pub use float_text::FloatText;
+pub use fix_fields::SessionRefusal;
 pub use new_order::NewOrder;
 pub use ord_status::OrdStatus;
-pub use refusal::{SessionRefusal, TextFault};
+pub use refusal::TextFault;
 pub use report::Report;
 pub use requests::{cancel_refusal, new_order_refusal, replace_refusal};
 

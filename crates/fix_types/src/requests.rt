@@ -8,8 +8,7 @@ ghost use Rattle.fix_types.specs.Requests as requests;
 
 use crate::format::{Format, Row, first_refusal};
 use crate::new_order;
-use crate::refusal::SessionRefusal;
-use fix_fields::Fields;
+use fix_fields::{Fields, SessionRefusal};
 
 /// The tags that a cancel request has to have, in the order in which they are judged.
 const CANCEL_REQUIRED: [u32; 2] = [11, 41];

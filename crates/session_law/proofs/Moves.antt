@@ -3,7 +3,7 @@ use Rattle.std.proofs.Common.{length, ◌≡◌, ℕ, ◌+◌, ◌==◌, Bool, t
 use Rattle.std.proofs.lemmas.Bool.Decides.{nat_tests}
 use Rattle.std.proofs.lemmas.Slice.Eq.{bytes_eq-Decides}
 use Rattle.fix_fields.proofs.Tags.{and_parts}
-use Rattle.fix_types.specs.declared.refusal.SessionRefusal.{SessionRefusal}
+use Rattle.fix_fields.specs.declared.session_refusal.SessionRefusal.{SessionRefusal}
 use Rattle.session_law.specs.Messages.{Fields, number, first_fault, text, is, has}
 use Rattle.session_law.specs.Formats.{application_refusal}
 use Rattle.session_law.specs.Session.{State, Act, Answer, Grow, Expect, Say, Test, AskAgain, SayUnsupported, GiveUp, Shut}

@@ -4,9 +4,10 @@ use Rattle.std.specs.Prelude.{ℕ, Bool, ◌&&◌, ◌==◌, List, [], ◌∷◌
 use Rattle.std.specs.Option.{option_and_then}
 use Rattle.std.specs.List.{list_all, list_any}
 use Rattle.std.specs.Char.{is_ascii_digit}
-use Rattle.fix_types.specs.declared.refusal.SessionRefusal.{SessionRefusal}
+use Rattle.fix_fields.specs.declared.session_refusal.SessionRefusal.{SessionRefusal}
 use Rattle.fix_fields.specs.Field.{Field, first_value}
 use Rattle.fix_fields.specs.Front.{number_of}
+use Rattle.fix_fields.specs.Fault as fault
 
 abbrev pub Fields : Type 0
 Fields = List Field
@@ -42,13 +43,6 @@ number tag m = option_and_then number_in (first_value tag m)
 abbrev pub refusal : ℕ → ℕ → SessionRefusal
 refusal tag reason = record { tag = tag; reason = reason }
 
--- The first field whose value is empty (4, tag specified without a value) or whose tag stood before (13, tag appears more than once).
-abbrev pub fault_after : Fields → Fields → Option SessionRefusal
-fault_after before [] = None
-fault_after before (f ∷ fs) =
-    if length f.value == 0 then Some (refusal f.tag 4)
-    else (if list_any (λ g. g.tag == f.tag) before then Some (refusal f.tag 13)
-    else fault_after (before ++ f ∷ []) fs)
-
+-- the first field whose value is empty (4, tag specified without a value) or whose tag stood before (13, tag appears more than once)
 abbrev pub first_fault : Fields → Option SessionRefusal
-first_fault m = fault_after [] m
+first_fault m = fault.first_fault m

@@ -4,7 +4,7 @@
 use Rattle.std.specs.Prelude.{ℕ, ◌+◌, ◌*◌, ◌==◌, Bool, true, false, not, ◌&&◌, ◌||◌, List, [], ◌∷◌, ◌++◌, length, nat_le, nat_lt, Option, Some, None, is_none, is_some, if◌then◌else◌, codes, decimal, unwrap_or}
 use Rattle.std.specs.List.{list_all}
 use Rattle.std.specs.Char.{is_ascii_digit, is_ascii_alphabetic}
-use Rattle.fix_types.specs.declared.refusal.SessionRefusal.{SessionRefusal}
+use Rattle.fix_fields.specs.declared.session_refusal.SessionRefusal.{SessionRefusal}
 use Rattle.session_law.specs.Messages.{Fields, field, counted, has, text, is, number, first_fault, refusal}
 use Rattle.session_law.specs.Formats.{application_refusal}
 use Rattle.session_law.specs.declared.phase.Phase.{Phase}

@@ -6,7 +6,6 @@
 #![tactic(auto)]
 
 mod due;
-mod fault;
 mod logon_words;
 mod message;
 mod requests;
@@ -15,7 +14,6 @@ mod taken;
 mod words;
 
 pub use due::{Due, due_at};
-pub use fault::first_fault;
 pub use logon_words::{interval_of, is_interval, is_reset_flag, resets};
 pub use message::{is_plain_reset, is_type, numbered};
 pub use row::{Row, judge_low, judge_plain_reset};

@@ -8,7 +8,6 @@ ghost use Rattle.session_law.specs.Formats.{application_refusal};
 ghost use Rattle.session_rows.specs.declared.taken.Taken.TheVariants as taken;
 ghost use Rattle.session_rows.specs.Judged.{taken_answer, TakenInRange};
 
-use crate::fault::first_fault;
 use crate::message::{
     is_other_type, is_sequence_reset, is_silent, is_type, new_number, new_number_reason, numbered,
 };
@@ -78,7 +77,7 @@ pub fn judge_taken(m: &Fields, last: u64) -> Taken
     ensures answer { first_row (table.expected_rows last m.now) ≡ taken_answer m.now result }
     ensures range { TakenInRange last result }
 {
-    match first_fault(m) {
+    match m.first_fault() {
         Some(fault) => Taken::Rejected {
             tag: fault.tag,
             reason: u64::from(fault.reason),
