@@ -1,8 +1,8 @@
 -- A FIX message as its fields, and what is read from it. Where a tag stands twice, the first is read.
 -- (FIX 4.4 Volume 1, "FIX Tag=Value Syntax".)
-use Rattle.std.specs.Prelude.{ℕ, Bool, ◌&&◌, ◌==◌, List, [], ◌∷◌, ◌++◌, length, nat_le, Option, Some, None, is_some, if◌then◌else◌, bytes_eq, unwrap_or, decimal}
+use Rattle.std.specs.Prelude.{ℕ, Bool, ◌&&◌, List, [], length, nat_le, Option, Some, None, is_some, if◌then◌else◌, bytes_eq, unwrap_or, decimal}
 use Rattle.std.specs.Option.{option_and_then}
-use Rattle.std.specs.List.{list_all, list_any}
+use Rattle.std.specs.List.{list_all}
 use Rattle.std.specs.Char.{is_ascii_digit}
 use Rattle.fix_fields.specs.declared.session_refusal.SessionRefusal.{SessionRefusal}
 use Rattle.fix_fields.specs.Field.{Field, first_value}
