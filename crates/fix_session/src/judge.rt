@@ -89,7 +89,9 @@ fn is_logon(session: &Session, m: &Fields) -> bool
 {
     is_type(m, b"A")
         && (is_from_client(session, m)
-            && (numbered(m) != 0 && (is(m, 98, b"0") && (is_interval(m) && (is_reset_flag(m) && m.first_fault().is_none())))))
+            && (numbered(m) != 0
+                && (is(m, 98, b"0")
+                    && (is_interval(m) && (is_reset_flag(m) && m.first_fault().is_none())))))
 }
 
 /// The line that a message of a link that isn't logged on meets.

@@ -55,9 +55,7 @@ fn written_out(
 {
     match out {
         Out::Close => Ok(SessionOut::Close),
-        Out::Write(frame) => Ok(SessionOut::Frame(written_frame(
-            alloc, gate, client, frame,
-        )?)),
+        Out::Write(frame) => Ok(SessionOut::Frame(written_frame(alloc, gate, client, frame)?)),
     }
 }
 

@@ -2,16 +2,12 @@
 #![tactic(auto)]
 
 #[cfg(test)]
-mod script;
-
-#[cfg(test)]
 mod numbers;
-
 #[cfg(test)]
 mod rows;
-
+#[cfg(test)]
+mod script;
 #[cfg(test)]
 mod silence;
-
 #[cfg(test)]
 mod worked;
