@@ -1,9 +1,12 @@
 //! The fields of a message.
 
-ghost use Rattle.std.specs.Prelude.{◌≡◌, ◌≢◌, ◌<◌, ◌≤◌, ◌+◌, ◌++◌, ◌∷◌, [], ℕ, List, length, IfOk, IfSome, OnOk, OnErr, MatchOption, IsTrue, Some, slice_get, slice_range, vec_len, vec_capacity, find, ◌==◌, ◌↔◌};
+ghost use Rattle.std.specs.Prelude.{◌≡◌, ◌≢◌, ◌<◌, ◌≤◌, ◌+◌, ◌++◌, ◌∷◌, [], ℕ, List, length, IfOk, IfSome, OnOk, OnErr, MatchOption, IsTrue, Some, slice_get, slice_range, vec_len, vec_capacity, find, ◌==◌, ◌↔◌, ◌^◌, map, true};
 ghost use Rattle.std.specs.Option.{option_copied};
 ghost use Rattle.fix_fields.specs.Field.{AreFields, IsValue, fields_text, first_value};
 ghost use Rattle.fix_fields.specs.Field as spec;
+ghost use Rattle.fix_fields.specs.Spans.{is_within, further};
+ghost use Rattle.std.specs.List.{list_all};
+ghost use Rattle.fix_fields.specs.Reading.{fields_of};
 
 use crate::front::front_of;
 use crate::span::Span;
@@ -113,6 +116,30 @@ impl Fields {
         Vec::from_slice(alloc, self.text())
     }
 
+    /// A copy of all fields. Two growths.
+    pub fn copied(&self, alloc: Global) -> Result<Fields, AllocError>
+        ensures { IfOk result (λ copy. copy ≡ self.now) }
+    {
+        Ok(Fields {
+            text: Vec::from_slice(alloc, self.text.as_slice())?,
+            spans: Vec::from_slice(alloc, self.spans.as_slice())?,
+        })
+    }
+
+    /// Adds all of these fields at the end. `AllocError` leaves the fields as they were. Three growths.
+    pub fn append(&mut self, alloc: Global, more: &Fields) -> Result<(), AllocError>
+        ensures ok { OnOk result (self.new ≡ self.old ++ more.now) }
+        ensures err { OnErr result (self.new ≡ self.old) }
+    {
+        let shift = self.text.len();
+        let size = more.text.len();
+        let mut places = further_on(alloc, more.spans.as_slice(), size, shift)?;
+        self.spans.reserve(places.len())?;
+        self.text.extend_from_slice(more.text.as_slice())?;
+        self.spans.append(&mut places).unwrap();
+        Ok(())
+    }
+
     /// Adds a field at the end: a tag from 1 to 999,999,999, and a value without SOH. `AllocError` leaves the fields
     /// as they were.
     pub fn push(&mut self, tag: u32, value: &[u8]) -> Result<(), AllocError>
@@ -130,6 +157,28 @@ impl Fields {
         push_span(&mut self.spans, Span { tag, start, end });
         Ok(())
     }
+}
+
+/// These places so much further on, in a text of this size behind them. One growth.
+fn further_on(
+    alloc: Global,
+    spans: &[Span],
+    size: usize,
+    shift: usize,
+) -> Result<Vec<Span>, AllocError>
+    requires within { list_all (is_within size) spans.now ≡ true }
+    requires room { shift + size < 2 ^ 64 }
+    ensures { IfOk result (λ places. places.items ≡ map (further shift) spans.now) }
+{
+    let mut places = Vec::with_capacity(alloc, spans.len())?;
+    for span in spans {
+        places.push(Span {
+            start: shift + span.start,
+            end: shift + span.end,
+            ..*span
+        })?;
+    }
+    Ok(places)
 }
 
 /// Appends a field to a text: all of it, or nothing where memory runs out. One growth.
@@ -183,6 +232,7 @@ pub fn split(alloc: Global, text: &[u8]) -> Result<Option<Fields>, AllocError>
         (λ fields. fields_text fields ≡ text.now)) }
     ensures printed { IfOk result (λ found. (fs : List spec.Field) → AreFields fs
         → fields_text fs ≡ text.now → found ≡ Some fs) }
+    ensures computed { IfOk result (λ found. found ≡ fields_of text.now) }
 {
     let mut spans = Vec::with_capacity(alloc, soh_count(text))?;
     let mut at = 0;

@@ -4,3 +4,4 @@ pub mod Numbers
 pub mod Floats
 pub mod Written
 pub mod WrittenReport
+pub mod WrittenReject

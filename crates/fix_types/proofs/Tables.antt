@@ -4,7 +4,7 @@ use Rattle.std.specs.Prelude.{Option, Some, None, is_some, is_none, if◌then◌
 use Rattle.std.specs.Option.{option_or}
 use Rattle.fix_fields.specs.Field.{Field, first_value}
 use Rattle.fix_types.specs.declared.format.Row.{Row}
-use Rattle.fix_types.specs.declared.refusal.SessionRefusal.{SessionRefusal}
+use Rattle.fix_fields.specs.declared.session_refusal.SessionRefusal.{SessionRefusal}
 use Rattle.fix_types.specs.Formats.{first_missing, first_misfit, first_refusal, passes, refusal, misfit_reason}
 
 -- each tag is there

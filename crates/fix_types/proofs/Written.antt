@@ -5,7 +5,7 @@ use Rattle.std.specs.Option.{option_map, option_or}
 use Rattle.fix_fields.specs.Field.{Field, first_value}
 use Rattle.fix_types.specs.declared.format.Format.TheVariants as formats
 use Rattle.fix_types.specs.declared.new_order.NewOrder.{NewOrder}
-use Rattle.fix_types.specs.declared.refusal.SessionRefusal.{SessionRefusal}
+use Rattle.fix_fields.specs.declared.session_refusal.SessionRefusal.{SessionRefusal}
 use Rattle.fix_types.specs.Formats.{passes}
 use Rattle.fix_types.specs.Slots.{char_text}
 use Rattle.fix_types.specs.NewOrder.{required, rows, new_order_slots, new_order_fields, new_order_refusal, new_order_of, IsNewOrder}

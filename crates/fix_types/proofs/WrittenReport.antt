@@ -6,7 +6,7 @@ use Rattle.fix_fields.specs.Field.{Field, first_value}
 use Rattle.fix_fields.specs.Front.{number_of}
 use Rattle.fix_types.specs.declared.format.Format.TheVariants as formats
 use Rattle.fix_types.specs.declared.report.Report.{Report}
-use Rattle.fix_types.specs.declared.refusal.SessionRefusal.{SessionRefusal}
+use Rattle.fix_fields.specs.declared.session_refusal.SessionRefusal.{SessionRefusal}
 use Rattle.fix_types.specs.declared.exec_type.ExecType.{ExecType}
 use Rattle.fix_types.specs.declared.exec_type.ExecType.TheVariants as kinds
 use Rattle.fix_types.specs.declared.ord_status.OrdStatus.{OrdStatus}

@@ -9,7 +9,7 @@ use Rattle.fix_types.specs.Texts.{is_cl_ord_id, is_float}
 use Rattle.fix_types.specs.declared.format.Format.{Format}
 use Rattle.fix_types.specs.declared.format.Format.TheVariants as formats
 use Rattle.fix_types.specs.declared.format.Row.{Row}
-use Rattle.fix_types.specs.declared.refusal.SessionRefusal.{SessionRefusal}
+use Rattle.fix_fields.specs.declared.session_refusal.SessionRefusal.{SessionRefusal}
 use Rattle.fix_types.specs.declared.refusal.TextFault.{TextFault}
 use Rattle.fix_types.specs.declared.refusal.TextFault.TheVariants.{NoMemory, Refused}
 

@@ -4,3 +4,5 @@ pub mod Formats
 pub mod Slots
 pub mod NewOrder
 pub mod Report
+pub mod BusinessReject
+pub mod Requests

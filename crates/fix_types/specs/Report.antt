@@ -3,7 +3,7 @@ use Rattle.std.specs.Prelude.{◌≡◌, ℕ, ◌<◌, ◌^◌, true, List, [], 
 use Rattle.fix_fields.specs.Field.{Field, first_value}
 use Rattle.fix_types.specs.declared.format.Format.TheVariants as formats
 use Rattle.fix_types.specs.declared.format.Row.{Row}
-use Rattle.fix_types.specs.declared.refusal.SessionRefusal.{SessionRefusal}
+use Rattle.fix_fields.specs.declared.session_refusal.SessionRefusal.{SessionRefusal}
 use Rattle.fix_types.specs.declared.report.Report.{Report}
 use Rattle.fix_types.specs.Texts.{is_cl_ord_id}
 use Rattle.fix_types.specs.Letters.{exec_letter, exec_type_of, status_letter, status_of}
@@ -39,8 +39,7 @@ report_refusal fs = first_refusal required rows fs
 -- what a report is of, and what happened
 abbrev pub head_slots : Report → List Slot
 head_slots m =
-    field 35 (56 ∷ [])
-    ∷ field 37 (decimal m.order_id)
+    field 37 (decimal m.order_id)
     ∷ field 11 m.cl_ord_id
     ∷ slot 41 m.orig_cl_ord_id
     ∷ field 17 (decimal m.exec_id)
@@ -66,9 +65,16 @@ amount_slots m =
     ∷ slot 58 m.text
     ∷ []
 
+-- a report without its type
+abbrev pub body_slots : Report → List Slot
+body_slots m = head_slots m ++ amount_slots m
+
 -- the fields that a report is written as, in their order
 abbrev pub report_slots : Report → List Slot
-report_slots m = head_slots m ++ amount_slots m
+report_slots m = field 35 (56 ∷ []) ∷ body_slots m
+
+abbrev pub report_body : Report → List Field
+report_body m = fields_of (body_slots m)
 
 abbrev pub report_fields : Report → List Field
 report_fields m = fields_of (report_slots m)

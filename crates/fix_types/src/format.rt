@@ -10,8 +10,7 @@ ghost use Rattle.fix_types.specs.Texts as texts;
 
 use crate::exec_type::ExecType;
 use crate::ord_status::OrdStatus;
-use crate::refusal::SessionRefusal;
-use fix_fields::Fields;
+use fix_fields::{Fields, SessionRefusal};
 use fixed_point::{DecimalRefusal, parse_price};
 
 /// SessionRejectReason (373): required tag missing.

@@ -8,6 +8,7 @@
 #![tactic(auto)]
 
 mod application;
+mod business_reject;
 mod character;
 mod cl_ord_id;
 mod exec_type;
@@ -21,17 +22,21 @@ mod refusal;
 mod report;
 mod report_fields;
 mod report_reading;
+mod requests;
 mod writing;
 
 pub use application::{AppBody, AppMsg};
+pub use business_reject::BusinessReject;
 pub use character::Character;
 pub use cl_ord_id::ClOrdId;
 pub use exec_type::ExecType;
+pub use fix_fields::SessionRefusal;
 pub use float_text::FloatText;
 pub use new_order::NewOrder;
 pub use ord_status::OrdStatus;
-pub use refusal::{SessionRefusal, TextFault};
+pub use refusal::TextFault;
 pub use report::Report;
+pub use requests::{cancel_refusal, new_order_refusal, replace_refusal};
 
 #[cfg(test)]
 mod tests;

@@ -42,11 +42,11 @@ pub struct NewOrder {
 }
 
 /// The tags that have to be there, in the order in which they are judged.
-const REQUIRED: [u32; 5] = [11, 54, 55, 38, 40];
+pub const REQUIRED: [u32; 5] = [11, 54, 55, 38, 40];
 
 /// What values have to be, in the order in which they are judged.
 #[rattlefmt::skip]
-const ROWS: [Row; 8] = [
+pub const ROWS: [Row; 8] = [
     Row { tag: 11, format: Format::ClOrdId },
     Row { tag: 54, format: Format::Char },
     Row { tag: 38, format: Format::Float },

@@ -3,18 +3,9 @@
 ghost use Rattle.std.specs.Prelude.{◌≡◌};
 ghost use Rattle.fix_types.specs.declared.refusal.TextFault.TheVariants.{NoMemory};
 
+use fix_fields::SessionRefusal;
 use std::alloc::{AllocError, AllocFailed};
 use thiserror::Error;
-
-/// A refusal at the session level: the tag of the field, and FIX's reason for it.
-///
-/// Source: FIX 4.4 Volume 2, "Reject", RefTagID (371) and SessionRejectReason (373): 1 required tag missing, 5 value is
-/// incorrect, 6 incorrect data format.
-#[derive(Clone, Copy, Debug, PartialEq, Eq)]
-pub struct SessionRefusal {
-    pub tag: u32,
-    pub reason: u8,
-}
 
 /// Why fields weren't read as a message.
 #[derive(Clone, Copy, Debug, PartialEq, Eq, Drop, Error)]

@@ -8,6 +8,7 @@ use crate::ord_status::OrdStatus;
 use crate::refusal::TextFault;
 use crate::report_fields::{push_amounts, push_head};
 use crate::report_reading::read_report;
+use crate::writing::push_letter;
 use fix_fields::{Fields, Text};
 use std::alloc::{AllocError, Global};
 use wire_law::TextWire;
@@ -78,6 +79,22 @@ const ROWS: [Row; 13] = [
     Row { tag: 14, format: Format::Number },
 ];
 
+impl Report {
+    ghost use Rattle.std.specs.Prelude.{◌≡◌, IfOk};
+    ghost use Rattle.fix_types.specs.Report.{report_body, IsReport};
+
+    /// The report's fields without its type (35), as they stand behind a header. Growths as the fields need.
+    pub fn body(&self, alloc: Global) -> Result<Fields, AllocError>
+        ensures body { IfOk result (λ body. body ≡ report_body self.now) }
+        ensures kept { IfOk result (λ body. IsReport self.now) }
+    {
+        let mut fields = Fields::with_capacity(alloc, 20, 256)?;
+        push_head(&mut fields, self)?;
+        push_amounts(&mut fields, self)?;
+        Ok(fields)
+    }
+}
+
 impl TextWire<Fields, TextFault> for Report {
     ghost use Rattle.fix_types.specs.declared.refusal.TextFault.TheVariants.{NoMemory};
     ghost use Rattle.std.specs.Prelude.{◌≡◌, None, IfOk, IfErr, MatchResult};
@@ -93,6 +110,7 @@ impl TextWire<Fields, TextFault> for Report {
 
     fn put(&self, alloc: Global) -> Result<Fields, AllocError> {
         let mut fields = Fields::with_capacity(alloc, 20, 256)?;
+        push_letter(&mut fields, 35, b'8')?;
         push_head(&mut fields, self)?;
         push_amounts(&mut fields, self)?;
         Ok(fields)

@@ -17,7 +17,6 @@ pub fn push_head(fields: &mut Fields, report: &Report) -> Result<(), AllocError>
     ensures written { OnOk result (fields.new ≡ appended fields.old (head_slots report.now)) }
     ensures kept { OnOk result (KeepsHead report.now) }
 {
-    push_letter(fields, 35, b'8')?;
     push_number(fields, 37, report.order_id)?;
     push_id(fields, 11, &report.cl_ord_id)?;
     push_optional_id(fields, 41, &report.orig_cl_ord_id)?;

@@ -1,0 +1,5 @@
+pub mod Frame
+pub mod Stream
+pub mod Examples
+pub mod Seen
+pub mod Scanned

@@ -1,0 +1,2 @@
+mod Logons
+mod Turns

@@ -1,0 +1,4 @@
+pub mod Made
+pub mod Meets
+pub mod Issues
+pub mod Logons

@@ -1,0 +1,180 @@
+//! What each line of the table writes.
+
+ghost use Rattle.std.specs.Prelude.{fold, ◌≡◌, ◌≤◌, ◌<◌, ◌^◌, ◌++◌, ◌∷◌, [], length, IfOk, OnOk, Some, None, codes, decimal, true, false, nat_le};
+ghost use Rattle.fix_fields.specs.Field.{IsValue};
+ghost use Rattle.session_law.specs.Session.{State, Given, perform, quiet, answered, sent_again, SayUnsupported, kept, Say, Heartbeat};
+ghost use Rattle.session_law.specs.Table as table;
+ghost use Rattle.session_law.specs.Messages as law;
+ghost use Rattle.fix_session.specs.Made.{made};
+ghost use Rattle.session_rows.specs.Judged.{taken_answer, row_answer, RowInRange};
+
+use crate::draft::Draft;
+use crate::session::Session;
+use fix_fields::Fields;
+use session_frames::{echo_body, too_low_body, unsupported_body};
+use session_law::Kind;
+use session_rows::{Row, Taken, numbered, text};
+use std::alloc::{AllocError, Global};
+
+/// Does what the line of the table says, from nothing on.
+pub fn answer(
+    alloc: Global,
+    draft: &mut Draft,
+    session: &Session,
+    m: &Fields,
+    row: Row,
+    at: u64,
+) -> Result<(), AllocError>
+    requires quiet { made session.now draft.old ≡ quiet (made session.now draft.old).state }
+    requires given { (made session.now draft.old).state.given ≡ session.now.given }
+    requires expected { draft.old.expected < 2 ^ 61 }
+    requires row { RowInRange (length session.now.given) row }
+    requires room { length session.now.given < 2 ^ 60 }
+    ensures { OnOk result (made session.now draft.new
+        ≡ answered at (made session.now draft.old).state (row_answer session.now m.now (table.numbered m.now) session.now.expected row)) }
+{
+    match row {
+        Row::NumberMissing => draft.log_out(alloc, session, b"MsgSeqNum missing", at),
+        Row::NamesWrong { is_expected, tag } => {
+            if is_expected {
+                draft.grow(session, at);
+                names_wrong(alloc, draft, session, m, tag, at)
+            } else {
+                names_wrong(alloc, draft, session, m, tag, at)
+            }
+        }
+        Row::Expects(number) => {
+            draft.expect(session, number, at);
+            Ok(())
+        }
+        Row::Rejected { reason } => draft.reject(alloc, session, m, 36, reason, at),
+        Row::Passed => Ok(()),
+        Row::TooLow => too_low(alloc, draft, session, session.expected(), numbered(m), at),
+        Row::LoggedOut => draft.log_out_silently(alloc, session, at),
+        Row::GapWithResend(Taken::SentAgain { from, to }) => {
+            draft.send_again(alloc, session, from, to, at)?;
+            ask_unless_waiting(alloc, draft, session, numbered(m), at)
+        }
+        Row::GapWithResend(taken) => {
+            act(alloc, draft, session, m, taken, at)?;
+            ask_unless_waiting(alloc, draft, session, numbered(m), at)
+        }
+        Row::Gap => ask_unless_waiting(alloc, draft, session, numbered(m), at),
+        Row::Taken(Taken::SentAgain { from, to }) => {
+            draft.send_again(alloc, session, from, to, at)?;
+            draft.grow(session, at);
+            Ok(())
+        }
+        Row::Taken(taken) => {
+            draft.grow(session, at);
+            act(alloc, draft, session, m, taken, at)
+        }
+    }
+}
+
+/// Rejects a message of other names, and logs out.
+fn names_wrong(
+    alloc: Global,
+    draft: &mut Draft,
+    session: &Session,
+    m: &Fields,
+    tag: u32,
+    at: u64,
+) -> Result<(), AllocError>
+    ensures { OnOk result (made session.now draft.new
+        ≡ fold (perform at) (made session.now draft.old) (table.reject m.now tag 9 ∷ table.log_out (codes "CompID problem"))) }
+{
+    draft.reject(alloc, session, m, tag, 9, at)?;
+    draft.log_out(alloc, session, b"CompID problem", at)
+}
+
+/// A ResendRequest, unless one waits.
+fn ask_unless_waiting(
+    alloc: Global,
+    draft: &mut Draft,
+    session: &Session,
+    received: u64,
+    at: u64,
+) -> Result<(), AllocError>
+    ensures { OnOk result (made session.now draft.new ≡ fold (perform at) (made session.now draft.old) (table.ask_again session.now received)) }
+{
+    if session.is_waiting() {
+        Ok(())
+    } else {
+        draft.ask_again(alloc, session, received, at)
+    }
+}
+
+/// What the message with the expected number brings, apart from a resend.
+fn act(
+    alloc: Global,
+    draft: &mut Draft,
+    session: &Session,
+    m: &Fields,
+    taken: Taken,
+    at: u64,
+) -> Result<(), AllocError>
+    ensures { OnOk result (made session.now draft.new ≡ fold (perform at) (made session.now draft.old) (taken_answer m.now taken).acts) }
+{
+    match taken {
+        Taken::Nothing => Ok(()),
+        Taken::Rejected { tag, reason } => draft.reject(alloc, session, m, tag, reason, at),
+        Taken::Echoed => echo(alloc, draft, session, m, at),
+        Taken::SentAgain { .. } => Ok(()),
+        Taken::Expects(number) => {
+            draft.expect(session, number, at);
+            Ok(())
+        }
+        Taken::LoggedOut => draft.log_out_silently(alloc, session, at),
+        Taken::AlreadyLoggedOn => draft.log_out(alloc, session, b"already logged on", at),
+        Taken::GivenUp => draft.give_up(alloc, session, m, at),
+        Taken::Unsupported => unsupported(alloc, draft, session, m, at),
+    }
+}
+
+/// Answers a TestRequest.
+fn echo(
+    alloc: Global,
+    draft: &mut Draft,
+    session: &Session,
+    m: &Fields,
+    at: u64,
+) -> Result<(), AllocError>
+    ensures { OnOk result (made session.now draft.new
+        ≡ perform at (made session.now draft.old) (Say Heartbeat (law.field 112 (law.text 112 m.now) ∷ []))) }
+{
+    let body = echo_body(alloc, text(m, 112))?;
+    draft.say(session, Kind::Heartbeat, body, at)
+}
+
+/// Refuses a type that isn't served. The body is kept.
+fn unsupported(
+    alloc: Global,
+    draft: &mut Draft,
+    session: &Session,
+    m: &Fields,
+    at: u64,
+) -> Result<(), AllocError>
+    ensures { OnOk result (made session.now draft.new
+        ≡ perform at (made session.now draft.old) (SayUnsupported (table.unsupported_body m.now))) }
+{
+    let body = unsupported_body(alloc, m)?;
+    draft.say_kept(alloc, session, Kind::BusinessReject, body, at)
+}
+
+/// A Logout for a number that is too low.
+pub fn too_low(
+    alloc: Global,
+    draft: &mut Draft,
+    session: &Session,
+    expected: u64,
+    received: u64,
+    at: u64,
+) -> Result<(), AllocError>
+    ensures { OnOk result (made session.now draft.new
+        ≡ fold (perform at) (made session.now draft.old) (table.too_low expected received)) }
+{
+    let body = too_low_body(alloc, expected, received)?;
+    draft.say(session, Kind::Logout, body, at)?;
+    draft.shut(session, at)
+}

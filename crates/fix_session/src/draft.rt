@@ -1,0 +1,355 @@
+//! An answer as it is made: nothing of the session changes before all of it stands.
+
+ghost use Rattle.session_law.specs.Table as table;
+ghost use Rattle.std.specs.Prelude.{max, fold, ◌≤◌, ◌≡◌, ◌+◌, ◌<◌, ◌^◌, ◌∷◌, ◌++◌, [], length, IfOk, OnErr, OnOk, Some, None, true, false, if◌then◌else◌};
+
+use crate::session::Session;
+use fix_fields::Fields;
+use session_frames::{append_resend, ask_body, echo_body, reject_body, text_body};
+use session_law::{Frame, Kept, Kind, Logged, Out, Phase};
+use std::alloc::{AllocError, Global};
+
+/// What a call gives, as far as it is made.
+#[derive(Debug, Drop)]
+pub struct Draft {
+    pub phase: Phase,
+    pub expected: u64,
+    pub latest: u64,
+    /// Whether both numbers begin at 1 again, with nothing kept.
+    pub resets: bool,
+    /// What the numbers that it takes are given to.
+    pub slots: Vec<Option<Kept>>,
+    pub outs: Vec<Out>,
+    /// The message, where it is given up as the application's.
+    pub app: Option<Fields>,
+}
+
+impl Draft {
+    ghost use Rattle.session_law.specs.Runs.{at_moment, heard};
+    ghost use Rattle.session_law.specs.Table.{is_logged_on};
+    ghost use Rattle.session_law.specs.Session.{quiet, logged, reset, Logon, perform, numbered, said, kept, next_out, on_written, Given, Say, Shut, Grow, Expect, Slot, AskAgain, Test, GiveUp, sent_again};
+    ghost use Rattle.session_law.specs.Table.{reject, log_out, log_out_silently};
+    ghost use Rattle.fix_fields.specs.Field.{IsValue};
+    ghost use Rattle.fix_session.specs.Made.{made, HasRoom};
+
+    /// Nothing yet, at this moment.
+    pub fn at(alloc: Global, session: &Session, at: u64) -> Draft
+        ensures made { made session.now result ≡ quiet (at_moment at session.now) }
+        ensures fresh { result.resets ≡ false }
+        ensures none { result.slots.items ≡ [] }
+        ensures expected { result.expected ≡ session.now.expected }
+    {
+        Draft {
+            phase: session.phase(),
+            expected: session.expected(),
+            latest: session.latest().max(at),
+            resets: false,
+            slots: Vec::new(alloc),
+            outs: Vec::new(alloc),
+            app: None,
+        }
+    }
+
+    /// Nothing yet, at this moment, with a frame received.
+    pub fn heard_at(alloc: Global, session: &Session, at: u64) -> Draft
+        ensures made { made session.now result ≡ quiet (heard (at_moment at session.now)) }
+        ensures fresh { result.resets ≡ false }
+        ensures none { result.slots.items ≡ [] }
+        ensures expected { result.expected ≡ session.now.expected }
+    {
+        let mut draft = Draft::at(alloc, session, at);
+        if let Phase::LoggedOn(on) = draft.phase {
+            draft.phase = Phase::LoggedOn(Logged {
+                heard: draft.latest,
+                tested: false,
+                ..on
+            });
+        }
+        draft
+    }
+
+    /// Nothing yet, at this moment, with the client logged on.
+    pub fn opened_at(
+        alloc: Global,
+        session: &Session,
+        interval: u32,
+        resets: bool,
+        at: u64,
+    ) -> Draft
+        ensures made { (l : Logon) → l.interval ≡ interval → l.resets ≡ resets
+            → made session.now result ≡ quiet (logged l (reset resets (heard (at_moment at session.now)))) }
+        ensures expected { result.expected ≤ max 1 session.now.expected }
+    {
+        let latest = session.latest().max(at);
+        Draft {
+            phase: Phase::LoggedOn(Logged {
+                interval,
+                heard: latest,
+                written: latest,
+                tested: false,
+                asked: 0,
+            }),
+            expected: first_number(resets, session.expected()),
+            latest,
+            resets,
+            slots: Vec::new(alloc),
+            outs: Vec::new(alloc),
+            app: None,
+        }
+    }
+
+    /// The number of the next frame or body.
+    fn next_number(&self, session: &Session) -> u64
+        ensures { result ≡ next_out (made session.now self.now).state }
+    {
+        let before = if self.resets {
+            0
+        } else {
+            session.given().len()
+        };
+        (before + self.slots.len()) as u64 + 1
+    }
+
+    /// A body takes a number and is kept. It is written where the client is logged on.
+    pub fn issue(
+        &mut self,
+        alloc: Global,
+        session: &Session,
+        kind: Kind,
+        body: Fields,
+        at: u64,
+    ) -> Result<(), AllocError>
+        ensures { OnOk result (made session.now self.new ≡ kept at (is_logged_on self.old.phase) kind body (made session.now self.old)) }
+    {
+        match self.phase {
+            Phase::LoggedOn(on) => {
+                let number = self.next_number(session);
+                let copy = body.copied(alloc)?;
+                self.slots.push(Some(Kept { kind, body, at }))?;
+                self.outs.push(Out::Write(Frame {
+                    number,
+                    kind,
+                    body: copy,
+                    at,
+                    first: None,
+                }))?;
+                self.phase = Phase::LoggedOn(Logged {
+                    written: self.latest,
+                    ..on
+                });
+                Ok(())
+            }
+            _ => {
+                self.slots.push(Some(Kept { kind, body, at }))?;
+                Ok(())
+            }
+        }
+    }
+
+    /// A frame under the next number, whose body is kept.
+    pub fn say_kept(
+        &mut self,
+        alloc: Global,
+        session: &Session,
+        kind: Kind,
+        body: Fields,
+        at: u64,
+    ) -> Result<(), AllocError>
+        ensures { OnOk result (made session.now self.new ≡ kept at true kind body (made session.now self.old)) }
+    {
+        let number = self.next_number(session);
+        let copy = body.copied(alloc)?;
+        self.slots.push(Some(Kept { kind, body, at }))?;
+        self.outs.push(Out::Write(Frame {
+            number,
+            kind,
+            body: copy,
+            at,
+            first: None,
+        }))?;
+        self.mark_written();
+        Ok(())
+    }
+
+    /// A frame under the next number, which isn't kept.
+    pub fn say(
+        &mut self,
+        session: &Session,
+        kind: Kind,
+        body: Fields,
+        at: u64,
+    ) -> Result<(), AllocError>
+        ensures { OnOk result (made session.now self.new ≡ said at kind body (made session.now self.old)) }
+    {
+        let number = self.next_number(session);
+        self.slots.push(None)?;
+        self.outs.push(Out::Write(Frame {
+            number,
+            kind,
+            body,
+            at,
+            first: None,
+        }))?;
+        self.mark_written();
+        Ok(())
+    }
+
+    /// The session closes its link.
+    pub fn shut(&mut self, session: &Session, at: u64) -> Result<(), AllocError>
+        ensures { OnOk result (made session.now self.new ≡ perform at (made session.now self.old) Shut) }
+    {
+        self.outs.push(Out::Close)?;
+        self.phase = Phase::Down;
+        Ok(())
+    }
+
+    /// The expected number grows by 1.
+    pub fn grow(&mut self, session: &Session, at: u64)
+        requires { self.old.expected < 2 ^ 61 }
+        ensures { made session.now self.new ≡ perform at (made session.now self.old) Grow }
+    {
+        self.expected += 1;
+    }
+
+    /// The expected number is this now.
+    pub fn expect(&mut self, session: &Session, number: u64, at: u64)
+        ensures { made session.now self.new ≡ perform at (made session.now self.old) (Expect number) }
+    {
+        self.expected = number;
+    }
+
+    /// Rejects a message.
+    pub fn reject(
+        &mut self,
+        alloc: Global,
+        session: &Session,
+        m: &Fields,
+        tag: u32,
+        reason: u64,
+        at: u64,
+    ) -> Result<(), AllocError>
+        ensures { OnOk result (made session.now self.new ≡ perform at (made session.now self.old) (reject m.now tag reason)) }
+    {
+        let body = reject_body(alloc, m, tag, reason)?;
+        self.say(session, Kind::Reject, body, at)
+    }
+
+    /// A Logout with a reason, and the end.
+    pub fn log_out(
+        &mut self,
+        alloc: Global,
+        session: &Session,
+        why: &[u8],
+        at: u64,
+    ) -> Result<(), AllocError>
+        requires { IsValue why.now }
+        ensures { OnOk result (made session.now self.new ≡ fold (perform at) (made session.now self.old) (log_out why.now)) }
+    {
+        let body = text_body(alloc, why)?;
+        self.say(session, Kind::Logout, body, at)?;
+        self.shut(session, at)
+    }
+
+    /// A Logout without a reason, and the end.
+    pub fn log_out_silently(
+        &mut self,
+        alloc: Global,
+        session: &Session,
+        at: u64,
+    ) -> Result<(), AllocError>
+        ensures { OnOk result (made session.now self.new ≡ fold (perform at) (made session.now self.old) log_out_silently) }
+    {
+        self.say(session, Kind::Logout, Fields::new(alloc), at)?;
+        self.shut(session, at)
+    }
+
+    /// A ResendRequest from the expected number on, caused by this one.
+    pub fn ask_again(
+        &mut self,
+        alloc: Global,
+        session: &Session,
+        number: u64,
+        at: u64,
+    ) -> Result<(), AllocError>
+        ensures { OnOk result (made session.now self.new ≡ perform at (made session.now self.old) (AskAgain number)) }
+    {
+        let body = ask_body(alloc, self.expected)?;
+        self.say(session, Kind::ResendRequest, body, at)?;
+        if let Phase::LoggedOn(on) = self.phase {
+            self.phase = Phase::LoggedOn(Logged {
+                asked: number,
+                ..on
+            });
+        }
+        Ok(())
+    }
+
+    /// A TestRequest after silence.
+    pub fn test(&mut self, alloc: Global, session: &Session, at: u64) -> Result<(), AllocError>
+        ensures { OnOk result (made session.now self.new ≡ perform at (made session.now self.old) Test) }
+    {
+        let body = echo_body(alloc, b"TEST")?;
+        self.say(session, Kind::TestRequest, body, at)?;
+        if let Phase::LoggedOn(on) = self.phase {
+            self.phase = Phase::LoggedOn(Logged { tested: true, ..on });
+        }
+        Ok(())
+    }
+
+    /// The message is given up as the application's.
+    pub fn give_up(
+        &mut self,
+        alloc: Global,
+        session: &Session,
+        m: &Fields,
+        at: u64,
+    ) -> Result<(), AllocError>
+        ensures { OnOk result (made session.now self.new ≡ perform at (made session.now self.old) (GiveUp m.now)) }
+    {
+        self.app = Some(m.copied(alloc)?);
+        Ok(())
+    }
+
+    /// Numbers sent again, where nothing else is written yet.
+    pub fn send_again(
+        &mut self,
+        alloc: Global,
+        session: &Session,
+        from: u64,
+        to: u64,
+        at: u64,
+    ) -> Result<(), AllocError>
+        requires given { (made session.now self.old).state.given ≡ session.now.given }
+        requires from { 1 ≤ from }
+        requires to { to ≤ length session.now.given }
+        requires room { length session.now.given < 2 ^ 60 }
+        ensures { OnOk result (made session.now self.new ≡ sent_again at (made session.now self.old) (Some (record { from = from; to = to }))) }
+    {
+        let before = self.outs.len();
+        append_resend(alloc, &mut self.outs, session.given(), from, to, at)?;
+        if self.outs.len() > before {
+            self.mark_written();
+        }
+        Ok(())
+    }
+
+    /// A frame was written now.
+    fn mark_written(&mut self)
+        ensures phase { self.new.phase ≡ on_written self.old.latest self.old.phase }
+        ensures kept { self.new ≡ record self.old { phase = self.new.phase } }
+    {
+        if let Phase::LoggedOn(on) = self.phase {
+            self.phase = Phase::LoggedOn(Logged {
+                written: self.latest,
+                ..on
+            });
+        }
+    }
+}
+
+/// The number that is expected: 1 where both numbers begin anew.
+pub fn first_number(resets: bool, expected: u64) -> u64
+    ensures { result ≡ (if resets then 1 else expected) }
+{
+    if resets { 1 } else { expected }
+}

@@ -1,0 +1,119 @@
+//! Which line of the table a message meets, of a client that is logged on and of a link that isn't. Judging changes
+//! nothing and takes no memory.
+
+ghost use Rattle.std.specs.Prelude.{◌≡◌, ◌≤◌, ◌<◌, ◌^◌, length, if◌then◌else◌, codes};
+ghost use Rattle.session_law.specs.Messages as law;
+ghost use Rattle.session_law.specs.Table as table;
+ghost use Rattle.session_law.specs.Table.{first_row, resend_answer, with_acts, ask_again};
+ghost use Rattle.session_rows.specs.Judged.{row_answer, RowInRange};
+ghost use Rattle.fix_session.specs.Logons.{logon_answer};
+
+use crate::draft::first_number;
+use crate::session::Session;
+use fix_fields::Fields;
+use session_rows::{
+    Row, interval_of, is, is_interval, is_plain_reset, is_reset_flag, is_type, judge_low,
+    judge_plain_reset, judge_resend, judge_taken, numbered, resets,
+};
+
+/// Whether a message's names (49, 56) are the client's and the gateway's.
+fn is_from_client(session: &Session, m: &Fields) -> bool
+    ensures { result ≡ table.is_from_client session.now m.now }
+{
+    is(m, 49, session.client()) && is(m, 56, session.gate())
+}
+
+/// The line that a message of a client that is logged on meets.
+pub fn judge(session: &Session, m: &Fields) -> Row
+    ensures answer { first_row (table.logged_on_rows session.now m.now (table.numbered m.now) session.now.expected)
+        ≡ row_answer session.now m.now (table.numbered m.now) session.now.expected result }
+    ensures range { RowInRange (length session.now.given) result }
+{
+    let received = numbered(m);
+    let expected = session.expected();
+    if received == 0 {
+        return Row::NumberMissing;
+    }
+    if !is_from_client(session, m) {
+        let tag = if is(m, 49, session.client()) { 56 } else { 49 };
+        return Row::NamesWrong {
+            is_expected: received == expected,
+            tag,
+        };
+    }
+    if is_plain_reset(m) {
+        return judge_plain_reset(m, expected);
+    }
+    if received < expected {
+        return judge_low(m);
+    }
+    if expected < received {
+        return judge_high(session, m);
+    }
+    Row::Taken(judge_taken(m, session.last()))
+}
+
+/// A number above the expected one.
+fn judge_high(session: &Session, m: &Fields) -> Row
+    ensures range { RowInRange (length session.now.given) result }
+    ensures answer { row_answer session.now m.now (table.numbered m.now) session.now.expected result
+        ≡ (if table.is_type (codes "5") m.now then table.acts table.log_out_silently
+        else (if table.is_type (codes "2") m.now then with_acts (resend_answer (length session.now.given) m.now) (ask_again session.now (table.numbered m.now))
+        else table.acts (ask_again session.now (table.numbered m.now)))) }
+{
+    if is_type(m, b"5") {
+        return Row::LoggedOut;
+    }
+    if is_type(m, b"2") {
+        return Row::GapWithResend(judge_resend(m, session.last()));
+    }
+    Row::Gap
+}
+
+/// A line of the table of a link that isn't logged on.
+#[derive(Clone, Copy, Debug, PartialEq, Eq)]
+pub enum LogonRow {
+    /// The end, without a word.
+    NotAnswered,
+    /// A low number: a Logout, and the end.
+    TooLow { expected: u64 },
+    /// The client is logged on.
+    LogsOn { interval: u32, resets: bool },
+    /// The client is logged on, and the gap is asked for.
+    LogsOnWithGap { interval: u32, resets: bool },
+}
+
+/// Whether it is a Logon that may be answered.
+fn is_logon(session: &Session, m: &Fields) -> bool
+    ensures { result ≡ table.is_logon session.now m.now }
+{
+    is_type(m, b"A")
+        && (is_from_client(session, m)
+            && (numbered(m) != 0
+                && (is(m, 98, b"0")
+                    && (is_interval(m) && (is_reset_flag(m) && m.first_fault().is_none())))))
+}
+
+/// The line that a message of a link that isn't logged on meets.
+pub fn judge_logon(session: &Session, m: &Fields) -> LogonRow
+    ensures { first_row (table.logon_rows session.now m.now (table.numbered m.now) (if table.resets m.now then 1 else session.now.expected))
+        ≡ logon_answer m.now (table.numbered m.now) result }
+{
+    if !is_logon(session, m) {
+        return LogonRow::NotAnswered;
+    }
+    let interval = interval_of(m);
+    let resets = resets(m);
+    if resets && numbered(m) != 1 {
+        return LogonRow::NotAnswered;
+    }
+    let received = numbered(m);
+    let expected = first_number(resets, session.expected());
+    if received < expected {
+        return LogonRow::TooLow { expected };
+    }
+    if received == expected {
+        return LogonRow::LogsOn { interval, resets };
+    }
+    LogonRow::LogsOnWithGap { interval, resets }
+}

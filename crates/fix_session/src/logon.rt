@@ -1,0 +1,75 @@
+//! What the lines of a link that isn't logged on give.
+
+ghost use Rattle.std.specs.Prelude.{◌≡◌, ◌<◌, ◌^◌, IfOk, Some};
+ghost use Rattle.session_law.specs.Session.{answered, opened};
+ghost use Rattle.session_law.specs.Runs.{at_moment, heard};
+ghost use Rattle.session_law.specs.Table as table;
+ghost use Rattle.session_law.specs.Messages as law;
+ghost use Rattle.fix_session.specs.Made.{made};
+ghost use Rattle.fix_session.specs.Logons.{logon_answer};
+
+use crate::answer::too_low;
+use crate::draft::Draft;
+use crate::judge::LogonRow;
+use crate::session::Session;
+use fix_fields::Fields;
+use session_frames::logon_body;
+use session_law::Kind;
+use session_rows::numbered;
+use std::alloc::{AllocError, Global};
+
+/// What the line gives at this moment.
+pub fn answer_logon(
+    alloc: Global,
+    session: &Session,
+    m: &Fields,
+    row: LogonRow,
+    at: u64,
+) -> Result<Draft, AllocError>
+    requires room { session.now.expected < 2 ^ 60 }
+    ensures { IfOk result (λ draft. made session.now draft
+        ≡ answered at (heard (at_moment at session.now)) (logon_answer m.now (table.numbered m.now) row)) }
+{
+    match row {
+        LogonRow::NotAnswered => {
+            let mut draft = Draft::heard_at(alloc, session, at);
+            draft.shut(session, at)?;
+            Ok(draft)
+        }
+        LogonRow::TooLow { expected } => {
+            let mut draft = Draft::heard_at(alloc, session, at);
+            too_low(alloc, &mut draft, session, expected, numbered(m), at)?;
+            Ok(draft)
+        }
+        LogonRow::LogsOn { interval, resets } => {
+            let mut draft = open(alloc, session, m, interval, resets, at)?;
+            draft.grow(session, at);
+            Ok(draft)
+        }
+        LogonRow::LogsOnWithGap { interval, resets } => {
+            let mut draft = open(alloc, session, m, interval, resets, at)?;
+            draft.ask_again(alloc, session, numbered(m), at)?;
+            Ok(draft)
+        }
+    }
+}
+
+/// The client is logged on, and is answered by a Logon.
+fn open(
+    alloc: Global,
+    session: &Session,
+    m: &Fields,
+    interval: u32,
+    resets: bool,
+    at: u64,
+) -> Result<Draft, AllocError>
+    requires room { session.now.expected < 2 ^ 60 }
+    ensures opened { IfOk result (λ draft. made session.now draft
+        ≡ opened at (heard (at_moment at session.now)) (Some (record { interval_text = law.text 108 m.now; interval = interval; resets = resets }))) }
+    ensures expected { IfOk result (λ draft. draft.expected < 2 ^ 61) }
+{
+    let body = logon_body(alloc, m, resets)?;
+    let mut draft = Draft::opened_at(alloc, session, interval, resets, at);
+    draft.say(session, Kind::Logon, body, at)?;
+    Ok(draft)
+}

@@ -1,0 +1,363 @@
+//! The session and its calls.
+
+ghost use Rattle.std.specs.Prelude.{◌≡◌, ◌+◌, ◌<◌, ◌^◌, ◌∷◌, [], List, ℕ, length, nat_le, if◌then◌else◌, IfOk, OnErr, OnOk, Some, None, IsTrue, ◌↔◌};
+ghost use Rattle.session_law.specs.Messages.{Fields as Message};
+
+use crate::answer::answer;
+use crate::draft::Draft;
+use crate::issues::{body_of, kind_of};
+use crate::judge::{judge, judge_logon};
+use crate::logon::answer_logon;
+use crate::ticks::do_due;
+use fix_fields::{Fields, Text};
+use fix_types::AppBody;
+use session_frames::{SessionOut, fields_of_frame, written};
+use session_law::{Frame, Kept, Kind, Phase};
+use session_rows::due_at;
+use std::alloc::{AllocError, Global};
+use std::marker::Model;
+
+/// The gateway's end of a FIX session: numbers, what is kept of them, and how it stands to its link.
+#[derive(Debug, Drop)]
+pub struct Session {
+    gate: Text,
+    client: Text,
+    phase: Phase,
+    /// The number that is expected next.
+    expected: u64,
+    /// What each number from 1 was given to: a body that is kept, or a frame that is gap filled.
+    given: Vec<Option<Kept>>,
+    /// The latest moment of all calls.
+    latest: u64,
+}
+
+impl Model for Session {
+    ghost use Rattle.session_law.specs.Session as law;
+
+    ghost Value = { law.State };
+
+    ghost view = { λ s. record {
+      gate = s.gate;
+      client = s.client;
+      phase = s.phase;
+      expected = s.expected;
+      given = s.given.items;
+      latest = s.latest;
+    } };
+}
+
+/// What a call gives.
+#[derive(Debug, Drop)]
+pub struct SessionTurn {
+    /// What goes to the link, in order.
+    pub outs: Vec<SessionOut>,
+    /// The message, where it is given up as the application's.
+    pub app: Option<Fields>,
+}
+
+impl Session {
+    ghost use Rattle.session_law.specs.Session.{next_out, new_session, quiet, Given, fresh};
+    ghost use Rattle.session_law.specs.Runs.{History, Leaves, turn_after, step, Call, Linked, Came, Ticked, Issued, at_moment, heard, by_rows};
+    ghost use Rattle.session_law.specs.Expected.{expected};
+    ghost use Rattle.session_law.specs.Numbers.{Headline, given};
+    ghost use Rattle.session_law.specs.Table.{asked_number, logon_rows, logged_on_rows, numbered, resets};
+    ghost use Rattle.fix_session.specs.Meets.{Meets, Tells};
+    ghost use Rattle.fix_session.specs.Issues as issues;
+    ghost use Rattle.fix_session.specs.Issues.{issued};
+    ghost use Rattle.session_law.specs.Frames.{frame_fields};
+    ghost use Rattle.fix_stamp.specs.Stamp.{stamp_text};
+    ghost use Rattle.fix_fields.specs.Field.{IsValue};
+    ghost use Rattle.fix_session.specs.Made.{made, HasRoom};
+
+    /// A session of a client with the gateway, by their names: no link, and number 1 on both sides.
+    #[tactic(auto, unfolding(session_law::specs::Runs::Leaves))]
+    pub fn new(alloc: Global, gate: Text, client: Text) -> Session
+        ensures leaves { Leaves gate client [] result }
+    {
+        Session {
+            gate,
+            client,
+            phase: Phase::Down,
+            expected: 1,
+            given: Vec::new(alloc),
+            latest: 0,
+        }
+    }
+
+    /// Whether the numbers are below 2^60, as `on_message` and `issue` ask. They grow by at most 2 a call, or to a number
+    /// of 18 digits that the client gives: so they are, for as long as anybody can wait.
+    pub fn has_room(&self) -> bool
+        ensures { IsTrue result ↔ HasRoom self.now }
+    {
+        self.expected < 1 << 60 && self.given.len() < 1 << 60
+    }
+
+    /// The number of the next frame or issued body.
+    pub fn next_out(&self) -> u64
+        requires { HasRoom self.now }
+        ensures { (gate client : List ℕ) (h : History) → Leaves gate client h self.now → result ≡ length (given h) + 1 }
+    {
+        self.next_number()
+    }
+
+    /// The number that is expected of the client.
+    pub fn next_in(&self) -> u64
+        ensures { (gate client : List ℕ) (h : History) → Leaves gate client h self.now → result ≡ expected gate client h }
+    {
+        self.expected()
+    }
+
+    /// Issues a body: it takes a number and is kept, and is written where the client is logged on.
+    pub fn issue(
+        &mut self,
+        alloc: Global,
+        body: &AppBody,
+        at: u64,
+    ) -> Result<SessionTurn, AllocError>
+        requires room { HasRoom self.old }
+        ensures turn { IfOk result (λ turn. Tells self.old.gate self.old.client turn (turn_after self.old at (issued body.now))) }
+        ensures leaves { OnOk result ((gate client : List ℕ) (h : History) → Leaves gate client h self.old
+            → Leaves gate client (turn_after self.old at (issued body.now) ∷ h) self.new) }
+        ensures headline { OnOk result ((gate client : List ℕ) (h : History) → Leaves gate client h self.old
+            → Headline (turn_after self.old at (issued body.now) ∷ h)) }
+        ensures err { OnErr result (self.new ≡ self.old) }
+    {
+        let fields = body_of(alloc, body)?;
+        self.issue_step(alloc, kind_of(body), fields, at)
+    }
+
+    /// The fields from MsgType (35) on of the frame that `issue` numbers next with this body, written or not.
+    pub fn issued_fields(
+        &self,
+        alloc: Global,
+        body: &AppBody,
+        at: u64,
+    ) -> Result<Fields, AllocError>
+        requires room { HasRoom self.now }
+        ensures { IfOk result (λ fields. fields ≡ frame_fields stamp_text self.now.gate self.now.client
+            (fresh (next_out self.now) (issues.kind_of body.now) (issues.body_of body.now) at)) }
+    {
+        let frame = Frame {
+            number: self.next_number(),
+            kind: kind_of(body),
+            body: body_of(alloc, body)?,
+            at,
+            first: None,
+        };
+        fields_of_frame(alloc, self.gate(), self.client(), &frame)
+    }
+
+    /// A frame of the client.
+    pub fn on_message(
+        &mut self,
+        alloc: Global,
+        m: &Fields,
+        at: u64,
+    ) -> Result<SessionTurn, AllocError>
+        requires room { HasRoom self.old }
+        ensures turn { IfOk result (λ turn. Tells self.old.gate self.old.client turn (turn_after self.old at (Came m.now))) }
+        ensures leaves { OnOk result ((gate client : List ℕ) (h : History) → Leaves gate client h self.old
+            → Leaves gate client (turn_after self.old at (Came m.now) ∷ h) self.new) }
+        ensures headline { OnOk result ((gate client : List ℕ) (h : History) → Leaves gate client h self.old
+            → Headline (turn_after self.old at (Came m.now) ∷ h)) }
+        ensures err { OnErr result (self.new ≡ self.old) }
+    {
+        self.message_step(alloc, m, at)
+    }
+
+    /// Time passes.
+    pub fn on_tick(&mut self, alloc: Global, at: u64) -> Result<SessionTurn, AllocError>
+        ensures turn { IfOk result (λ turn. Tells self.old.gate self.old.client turn (turn_after self.old at Ticked)) }
+        ensures leaves { OnOk result ((gate client : List ℕ) (h : History) → Leaves gate client h self.old
+            → Leaves gate client (turn_after self.old at Ticked ∷ h) self.new) }
+        ensures headline { OnOk result ((gate client : List ℕ) (h : History) → Leaves gate client h self.old
+            → Headline (turn_after self.old at Ticked ∷ h)) }
+        ensures err { OnErr result (self.new ≡ self.old) }
+    {
+        self.tick_step(alloc, at)
+    }
+
+    /// The link came up, or went. It takes no memory.
+    pub fn on_link(&mut self, alloc: Global, up: bool, at: u64) -> SessionTurn
+        ensures turn { Tells self.old.gate self.old.client result (turn_after self.old at (Linked up)) }
+        ensures leaves { (gate client : List ℕ) (h : History) → Leaves gate client h self.old
+            → Leaves gate client (turn_after self.old at (Linked up) ∷ h) self.new }
+        ensures headline { (gate client : List ℕ) (h : History) → Leaves gate client h self.old
+            → Headline (turn_after self.old at (Linked up) ∷ h) }
+    {
+        self.link_step(alloc, up, at)
+    }
+
+    pub(crate) fn next_number(&self) -> u64
+        requires { HasRoom self.now }
+        ensures { result ≡ next_out self.now }
+    {
+        self.given.len() as u64 + 1
+    }
+
+    pub(crate) fn phase(&self) -> Phase
+        ensures { result ≡ self.now.phase }
+    {
+        self.phase
+    }
+
+    pub(crate) fn expected(&self) -> u64
+        ensures { result ≡ self.now.expected }
+    {
+        self.expected
+    }
+
+    pub(crate) fn latest(&self) -> u64
+        ensures { result ≡ self.now.latest }
+    {
+        self.latest
+    }
+
+    /// Whether a ResendRequest waits for its numbers.
+    pub(crate) fn is_waiting(&self) -> bool
+        ensures { result ≡ nat_le self.now.expected (asked_number self.now.phase) }
+    {
+        match self.phase {
+            Phase::LoggedOn(on) => self.expected <= on.asked,
+            _ => self.expected == 0,
+        }
+    }
+
+    pub(crate) fn gate(&self) -> &[u8]
+        ensures text { result.now ≡ self.now.gate }
+        ensures inside { IsValue result.now }
+    {
+        self.gate.as_slice()
+    }
+
+    pub(crate) fn client(&self) -> &[u8]
+        ensures text { result.now ≡ self.now.client }
+        ensures inside { IsValue result.now }
+    {
+        self.client.as_slice()
+    }
+
+    /// The last number that was given, 0 where none was.
+    pub(crate) fn last(&self) -> u64
+        ensures { result ≡ length self.now.given }
+    {
+        self.given.len() as u64
+    }
+
+    pub(crate) fn given(&self) -> &[Option<Kept>]
+        ensures { result.now ≡ self.now.given }
+    {
+        self.given.as_slice()
+    }
+
+    /// Issues a body: it takes a number and is kept, and is written where the client is logged on.
+    fn issue_step(
+        &mut self,
+        alloc: Global,
+        kind: Kind,
+        body: Fields,
+        at: u64,
+    ) -> Result<SessionTurn, AllocError>
+        requires room { HasRoom self.old }
+        ensures meets { IfOk result (λ turn. Meets self.old (step self.old at (Issued kind body)) turn self.new) }
+        ensures err { OnErr result (self.new ≡ self.old) }
+    {
+        let mut draft = Draft::at(alloc, self, at);
+        draft.issue(alloc, self, kind, body, at)?;
+        self.take(alloc, draft)
+    }
+
+    /// A frame of the client. Where it is judged, nothing changes; what it brings is made, and then taken over whole.
+    fn message_step(
+        &mut self,
+        alloc: Global,
+        m: &Fields,
+        at: u64,
+    ) -> Result<SessionTurn, AllocError>
+        requires room { HasRoom self.old }
+        ensures meets { IfOk result (λ turn. Meets self.old (step self.old at (Came m.now)) turn self.new) }
+        ensures err { OnErr result (self.new ≡ self.old) }
+    {
+        match self.phase {
+            Phase::Down => {
+                let draft = Draft::heard_at(alloc, self, at);
+                self.take(alloc, draft)
+            }
+            Phase::AwaitingLogon(_) => self.on_first(alloc, m, at),
+            Phase::LoggedOn(_) => self.on_next(alloc, m, at),
+        }
+    }
+
+    /// A frame of a link that isn't logged on.
+    fn on_first(&mut self, alloc: Global, m: &Fields, at: u64) -> Result<SessionTurn, AllocError>
+        requires room { HasRoom self.old }
+        ensures meets { IfOk result (λ turn. Meets self.old (by_rows at (heard (at_moment at self.old))
+            (logon_rows self.old m.now (numbered m.now) (if resets m.now then 1 else self.old.expected))) turn self.new) }
+        ensures err { OnErr result (self.new ≡ self.old) }
+    {
+        let row = judge_logon(self, m);
+        let draft = answer_logon(alloc, self, m, row, at)?;
+        self.take(alloc, draft)
+    }
+
+    /// A frame of a client that is logged on.
+    fn on_next(&mut self, alloc: Global, m: &Fields, at: u64) -> Result<SessionTurn, AllocError>
+        requires room { HasRoom self.old }
+        ensures meets { IfOk result (λ turn. Meets self.old (by_rows at (heard (at_moment at self.old))
+            (logged_on_rows self.old m.now (numbered m.now) self.old.expected)) turn self.new) }
+        ensures err { OnErr result (self.new ≡ self.old) }
+    {
+        let row = judge(self, m);
+        let mut draft = Draft::heard_at(alloc, self, at);
+        answer(alloc, &mut draft, self, m, row, at)?;
+        self.take(alloc, draft)
+    }
+
+    /// The link came up, or went.
+    fn link_step(&mut self, alloc: Global, up: bool, at: u64) -> SessionTurn
+        ensures meets { Meets self.old (step self.old at (Linked up)) result self.new }
+    {
+        self.latest = self.latest.max(at);
+        self.phase = if up {
+            Phase::AwaitingLogon(self.latest)
+        } else {
+            Phase::Down
+        };
+        SessionTurn {
+            outs: Vec::new(alloc),
+            app: None,
+        }
+    }
+
+    /// Takes over what a draft has made, all of it or nothing.
+    fn take(&mut self, alloc: Global, draft: Draft) -> Result<SessionTurn, AllocError>
+        ensures ok { IfOk result (λ turn. Meets self.old (made self.old draft) turn self.new) }
+        ensures err { OnErr result (self.new ≡ self.old) }
+    {
+        let outs = written(alloc, self.gate(), self.client(), draft.outs.as_slice())?;
+        let mut slots = draft.slots;
+        self.given.reserve(slots.len())?;
+        if draft.resets {
+            self.given.clear();
+        }
+        self.given.append(&mut slots).unwrap();
+        self.phase = draft.phase;
+        self.expected = draft.expected;
+        self.latest = draft.latest;
+        Ok(SessionTurn {
+            outs,
+            app: draft.app,
+        })
+    }
+
+    /// Time passes: silence of either side brings what is due.
+    fn tick_step(&mut self, alloc: Global, at: u64) -> Result<SessionTurn, AllocError>
+        ensures meets { IfOk result (λ turn. Meets self.old (step self.old at Ticked) turn self.new) }
+        ensures err { OnErr result (self.new ≡ self.old) }
+    {
+        let mut draft = Draft::at(alloc, self, at);
+        let due = due_at(self.phase, draft.latest);
+        do_due(alloc, &mut draft, self, due, at)?;
+        self.take(alloc, draft)
+    }
+}

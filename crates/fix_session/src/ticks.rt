@@ -1,0 +1,33 @@
+//! What a tick brings.
+
+ghost use Rattle.std.specs.Prelude.{◌≡◌, OnOk};
+ghost use Rattle.session_law.specs.Session.{quiet, answered};
+ghost use Rattle.session_rows.specs.Due.{due_answer};
+ghost use Rattle.fix_session.specs.Made.{made};
+
+use crate::draft::Draft;
+use crate::session::Session;
+use fix_fields::Fields;
+use session_law::Kind;
+use session_rows::Due;
+use std::alloc::{AllocError, Global};
+
+/// Does what is due, from nothing on.
+pub fn do_due(
+    alloc: Global,
+    draft: &mut Draft,
+    session: &Session,
+    due: Due,
+    at: u64,
+) -> Result<(), AllocError>
+    requires quiet { made session.now draft.old ≡ quiet (made session.now draft.old).state }
+    ensures { OnOk result (made session.now draft.new ≡ answered at (made session.now draft.old).state (due_answer due)) }
+{
+    match due {
+        Due::Nothing => Ok(()),
+        Due::Close => draft.shut(session, at),
+        Due::NoAnswer => draft.log_out(alloc, session, b"no answer", at),
+        Due::TestRequest => draft.test(alloc, session, at),
+        Due::Heartbeat => draft.say(session, Kind::Heartbeat, Fields::new(alloc), at),
+    }
+}

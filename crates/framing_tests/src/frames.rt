@@ -1,0 +1,227 @@
+ghost use Rattle.std.specs.Prelude.{◌≤◌};
+
+use fix_fields::{Fields, is_value};
+use fix_framing::{FrameFault, Framer, frame};
+use std::alloc::Global;
+use std::process::Abort;
+use std::test::Fail;
+
+/// A heartbeat without a header, as a frame.
+const HEARTBEAT: &[u8; 26] = b"8=FIX.4.4\x019=5\x0135=0\x0110=163\x01";
+
+/// What came of a stream: the texts of all frames one behind another, and how many bytes were skipped.
+#[derive(Drop)]
+struct Seen {
+    texts: Vec<u8>,
+    skipped: u64,
+}
+
+/// Feeds one piece, and appends the texts of its frames.
+fn feed(
+    alloc: Global,
+    framer: &mut Framer,
+    texts: &mut Vec<u8>,
+    piece: &[u8],
+) -> Result<(), FrameFault> {
+    for frame in framer.feed(alloc, piece)? {
+        texts.extend_from_slice(frame.text())?;
+    }
+    Ok(())
+}
+
+/// A stream in pieces of one size.
+fn read(alloc: Global, stream: &[u8], size: usize) -> Result<Seen, FrameFault> {
+    let mut framer = Framer::new(alloc);
+    let mut texts = Vec::new(alloc);
+    for piece in stream.chunks(size.max(1)) {
+        feed(alloc, &mut framer, &mut texts, piece)?;
+    }
+    Ok(Seen {
+        texts,
+        skipped: framer.skipped(),
+    })
+}
+
+/// The frame in three pieces, cut at these two places.
+fn read_cut(alloc: Global, i: usize, j: usize) -> Result<Seen, FrameFault>
+    requires ordered { i ≤ j }
+    requires ends { j ≤ 26 }
+{
+    let mut framer = Framer::new(alloc);
+    let mut texts = Vec::new(alloc);
+    let (front, back) = HEARTBEAT.split_at(j);
+    let (first, second) = front.split_at(i);
+    feed(alloc, &mut framer, &mut texts, first)?;
+    feed(alloc, &mut framer, &mut texts, second)?;
+    feed(alloc, &mut framer, &mut texts, back)?;
+    Ok(Seen {
+        texts,
+        skipped: framer.skipped(),
+    })
+}
+
+#[test]
+fn one_frame_cut_in_three(rt: HostRuntime) -> Result<(), Fail> {
+    for i in 0..=HEARTBEAT.len() {
+        for j in i..=HEARTBEAT.len() {
+            let seen = read_cut(rt.alloc(), i, j)?;
+            assert_eq!(rt;
+                seen.texts.as_slice(),
+                HEARTBEAT.as_slice(),
+                "cut at {i} and {j}"
+            );
+            assert_eq!(rt; seen.skipped, 0);
+        }
+    }
+    Ok(())
+}
+
+#[test]
+fn what_is_given_and_what_is_skipped(rt: HostRuntime) -> Result<(), Fail> {
+    for (stream, texts, skipped) in [
+        (b"".as_slice(), b"".as_slice(), 0),
+        (
+            b"8=FIX.4.4\x019=5\x0135=0\x0110=164\x01".as_slice(),
+            b"".as_slice(),
+            26,
+        ),
+        (
+            b"8=FIX.4.4\x019=5\x0135=0\x0110=163".as_slice(),
+            b"".as_slice(),
+            0,
+        ),
+        // between two frames
+        (
+            b"8=FIX.4.4\x019=5\x0135=0\x0110=163\x01\r\n8=8=FIX.4.4\x019=5\x0135=0\x0110=163\x01!".as_slice(),
+            b"8=FIX.4.4\x019=5\x0135=0\x0110=163\x018=FIX.4.4\x019=5\x0135=0\x0110=163\x01".as_slice(),
+            5,
+        ),
+        // a frame inside a frame, and inside one with another check sum
+        (
+            b"8=FIX.4.4\x019=31\x0135=0\x018=FIX.4.4\x019=5\x0135=0\x0110=163\x0110=174\x01".as_slice(),
+            b"8=FIX.4.4\x019=31\x0135=0\x018=FIX.4.4\x019=5\x0135=0\x0110=163\x0110=174\x01".as_slice(),
+            0,
+        ),
+        (
+            b"8=FIX.4.4\x019=31\x0135=0\x018=FIX.4.4\x019=5\x0135=0\x0110=163\x0110=175\x01".as_slice(),
+            b"8=FIX.4.4\x019=5\x0135=0\x0110=163\x01".as_slice(),
+            27,
+        ),
+        // zeros in front of the length: six digits, and seven
+        (
+            b"8=FIX.4.4\x019=000005\x0135=0\x0110=147\x01".as_slice(),
+            b"8=FIX.4.4\x019=000005\x0135=0\x0110=147\x01".as_slice(),
+            0,
+        ),
+        (
+            b"8=FIX.4.4\x019=0000005\x0135=0\x0110=195\x01".as_slice(),
+            b"".as_slice(),
+            32,
+        ),
+        // another version
+        (
+            b"8=FIX.4.2\x019=5\x0135=0\x0110=161\x01".as_slice(),
+            b"".as_slice(),
+            26,
+        ),
+        // 8,192 bytes in all are waited for
+        (b"8=FIX.4.4\x019=8168\x01".as_slice(), b"".as_slice(), 0),
+    ] {
+        for size in [1, 2, 3, 7, 4_096] {
+            let seen = read(rt.alloc(), stream, size)?;
+            assert_eq!(rt; seen.texts.as_slice(), texts, "in pieces of {size}");
+            assert_eq!(rt; seen.skipped, skipped, "in pieces of {size}");
+        }
+    }
+    Ok(())
+}
+
+#[test]
+fn a_thousand_frames_in_pieces(rt: HostRuntime) -> Result<(), Fail> {
+    let mut stream = Vec::new(rt.alloc());
+    for _ in 0..1_000 {
+        stream.extend_from_slice(HEARTBEAT)?;
+    }
+    for size in [1, 2, 3, 7, 4_096] {
+        let seen = read(rt.alloc(), stream.as_slice(), size)?;
+        assert!(rt;
+            seen.texts.as_slice() == stream.as_slice(),
+            "in pieces of {size}"
+        );
+        assert_eq!(rt; seen.skipped, 0);
+    }
+    Ok(())
+}
+
+/// The check sum counts each byte before it, and is itself compared byte by byte: no other byte in any place is a frame.
+#[test]
+fn no_byte_may_be_another(rt: HostRuntime) -> Result<(), Fail> {
+    for i in 0..HEARTBEAT.len() {
+        for byte in 0..=u8::MAX {
+            if byte != HEARTBEAT[i] {
+                let mut text = *HEARTBEAT;
+                text[i] = byte;
+                let seen = read(rt.alloc(), &text, text.len())?;
+                assert!(rt; seen.texts.is_empty(), "{byte} at {i}");
+            }
+        }
+    }
+    Ok(())
+}
+
+#[test]
+fn too_long_is_for_good(rt: HostRuntime) -> Result<(), Fail> {
+    let mut framer = Framer::new(rt.alloc());
+    let mut texts = Vec::new(rt.alloc());
+    let piece = b"x8=FIX.4.4\x019=5\x0135=0\x0110=163\x018=FIX.4.4\x019=8169\x01";
+    feed(rt.alloc(), &mut framer, &mut texts, piece)?;
+    assert_eq!(rt; texts.as_slice(), HEARTBEAT.as_slice());
+    assert_eq!(rt; framer.skipped(), 1);
+    for piece in [b"".as_slice(), HEARTBEAT.as_slice(), b"x".as_slice()] {
+        assert!(rt; is_too_long(framer.feed(rt.alloc(), piece)));
+    }
+    let mut alone = Framer::new(rt.alloc());
+    feed(rt.alloc(), &mut alone, &mut texts, b"8=FIX.4.4\x019=8169")?;
+    assert!(rt; is_too_long(alone.feed(rt.alloc(), b"\x01")));
+    Ok(())
+}
+
+fn is_too_long(fed: Result<Vec<Fields>, FrameFault>) -> bool {
+    matches!(fed, Err(FrameFault::TooLong))
+}
+
+#[test]
+fn what_is_written_is_read(rt: HostRuntime) -> Result<(), Fail> {
+    let mut heartbeat = Fields::new(rt.alloc());
+    heartbeat.push(35, b"0")?;
+    assert_eq!(rt;
+        frame(rt.alloc(), &heartbeat)?.as_slice(),
+        HEARTBEAT.as_slice()
+    );
+    Ok(())
+}
+
+/// The longest frame that is taken has 8,192 bytes.
+#[test]
+fn the_longest_frame(rt: HostRuntime) -> Result<(), Fail> {
+    let text = long_frame(&rt, rt.alloc(), 8_159)?;
+    assert_eq!(rt; text.len(), 8_192);
+    let seen = read(rt.alloc(), text.as_slice(), 1_000)?;
+    assert!(rt; seen.texts.as_slice() == text.as_slice());
+    assert_eq!(rt; seen.skipped, 0);
+    let longer = long_frame(&rt, rt.alloc(), 8_160)?;
+    assert_eq!(rt; longer.len(), 8_193);
+    let mut framer = Framer::new(rt.alloc());
+    assert!(rt; is_too_long(framer.feed(rt.alloc(), longer.as_slice())));
+    Ok(())
+}
+
+/// A message with a text of so many bytes.
+fn long_frame(rt: &impl Abort, alloc: Global, bytes: usize) -> Result<Vec<u8>, Fail> {
+    let mut long = Fields::new(alloc);
+    let value = vec![in alloc; b'x'; bytes]?;
+    assert!(rt; is_value(value.as_slice()));
+    long.push(35, b"0")?;
+    long.push(58, value.as_slice())?;
+    Ok(frame(alloc, &long)?)
+}

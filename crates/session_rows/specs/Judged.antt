@@ -1,0 +1,57 @@
+-- The answer of each line of the table, as the code names them.
+use Rattle.std.specs.Prelude.{◌≤◌, ℕ, [], ◌∷◌, ◌++◌, if◌then◌else◌, codes}
+use Rattle.session_law.specs.Messages.{Fields, field, text}
+use Rattle.session_law.specs.Session.{State, Answer, Grow, Expect, Say, Heartbeat, SayUnsupported, GiveUp}
+use Rattle.session_law.specs.Table.{acts, reject, log_out, log_out_silently, send_again, unsupported_body, too_low, with_acts, after_acts, ask_again}
+use Rattle.session_rows.specs.declared.taken.Taken.{Taken}
+use Rattle.session_rows.specs.declared.taken.Taken.TheVariants as taken
+use Rattle.session_rows.specs.declared.row.Row.{Row}
+use Rattle.session_rows.specs.declared.row.Row.TheVariants as rows
+
+abbrev pub taken_answer : Fields → Taken → Answer
+taken_answer m taken.Nothing = acts []
+taken_answer m (taken.Rejected tag reason) = acts (reject m tag reason ∷ [])
+taken_answer m taken.Echoed = acts (Say Heartbeat (field 112 (text 112 m) ∷ []) ∷ [])
+taken_answer m (taken.SentAgain from to) = send_again (record { from = from; to = to })
+taken_answer m (taken.Expects n) = acts (Expect n ∷ [])
+taken_answer m taken.LoggedOut = acts log_out_silently
+taken_answer m taken.AlreadyLoggedOn = acts (log_out (codes "already logged on"))
+taken_answer m taken.GivenUp = acts (GiveUp m ∷ [])
+taken_answer m taken.Unsupported = acts (SayUnsupported (unsupported_body m) ∷ [])
+
+-- N is the number of the message, E the expected one
+abbrev pub row_answer : State → Fields → ℕ → ℕ → Row → Answer
+row_answer s m n e rows.NumberMissing = acts (log_out (codes "MsgSeqNum missing"))
+row_answer s m n e (rows.NamesWrong is_expected tag) = acts ((if is_expected then Grow ∷ [] else []) ++ reject m tag 9 ∷ log_out (codes "CompID problem"))
+row_answer s m n e (rows.Expects number) = acts (Expect number ∷ [])
+row_answer s m n e (rows.Rejected reason) = acts (reject m 36 reason ∷ [])
+row_answer s m n e rows.Passed = acts []
+row_answer s m n e rows.TooLow = acts (too_low e n)
+row_answer s m n e rows.LoggedOut = acts log_out_silently
+row_answer s m n e (rows.GapWithResend t) = with_acts (taken_answer m t) (ask_again s n)
+row_answer s m n e rows.Gap = acts (ask_again s n)
+row_answer s m n e (rows.Taken t) = after_acts (Grow ∷ []) (taken_answer m t)
+
+-- numbers sent again are numbers that were given
+abbrev pub TakenInRange : ℕ → Taken → Type 0
+TakenInRange last taken.Nothing = Unit {0}
+TakenInRange last (taken.Rejected tag reason) = Unit {0}
+TakenInRange last taken.Echoed = Unit {0}
+TakenInRange last (taken.SentAgain from to) = (1 ≤ from) × (to ≤ last)
+TakenInRange last (taken.Expects n) = Unit {0}
+TakenInRange last taken.LoggedOut = Unit {0}
+TakenInRange last taken.AlreadyLoggedOn = Unit {0}
+TakenInRange last taken.GivenUp = Unit {0}
+TakenInRange last taken.Unsupported = Unit {0}
+
+abbrev pub RowInRange : ℕ → Row → Type 0
+RowInRange last rows.NumberMissing = Unit {0}
+RowInRange last (rows.NamesWrong is_expected tag) = Unit {0}
+RowInRange last (rows.Expects number) = Unit {0}
+RowInRange last (rows.Rejected reason) = Unit {0}
+RowInRange last rows.Passed = Unit {0}
+RowInRange last rows.TooLow = Unit {0}
+RowInRange last rows.LoggedOut = Unit {0}
+RowInRange last (rows.GapWithResend t) = TakenInRange last t
+RowInRange last rows.Gap = Unit {0}
+RowInRange last (rows.Taken t) = TakenInRange last t

@@ -1,0 +1,4 @@
+pub mod Spelling
+pub mod Stream
+pub mod Heads
+pub mod Worked

@@ -1,0 +1,61 @@
+-- The packets of a stream of bytes: a definition over the whole stream, which knows nothing of pieces.
+--
+-- Source: SoupBinTCP 3.00, "Logical Packets". That a length of 0 ends the stream is this gateway's own: a packet has its
+-- type at least, so no packet begins so.
+use Rattle.std.specs.Prelude.{◌≡◌, ℕ, ◌+◌, ◌*◌, ◌<◌, ◌≤◌, Bool, true, false, List, [], ◌∷◌, ◌++◌, length}
+use Rattle.std.specs.List.{flat_map}
+use Rattle.soup_packets.specs.declared.packet.Packet.{Packet}
+use Rattle.soup_packets.specs.Spelling.{packet_bytes}
+
+-- packets, one after another
+abbrev pub written : List Packet → List ℕ
+written packets = flat_map packet_bytes packets
+
+-- the stream begins with these packets
+abbrev pub Begins : List Packet → List ℕ → Type 0
+Begins packets stream = (rest : List ℕ) × (stream ≡ written packets ++ rest)
+
+-- the packets of a stream: the longest list of packets that it begins with
+pub record ArePackets (stream : List ℕ) (packets : List Packet) : Type 0 where
+  pub begin : Begins packets stream
+  pub longest : (others : List Packet) → Begins others stream → length others ≤ length packets
+
+-- a length of 0 stands behind these packets, where another should begin
+abbrev pub EndsEmpty : List ℕ → List Packet → Type 0
+EndsEmpty stream packets = (more : List ℕ) × (stream ≡ written packets ++ 0 ∷ 0 ∷ more)
+
+-- ---- what is left of a stream
+
+-- less than a whole packet, as far as it has come, and no length of 0
+abbrev pub IsPartial : List ℕ → Type 0
+IsPartial [] = Unit {0}
+IsPartial (high ∷ []) = Unit {0}
+IsPartial (high ∷ low ∷ more) = length more < high * 256 + low
+
+-- it begins with a length of 0
+abbrev pub BeginsEmpty : List ℕ → Type 0
+BeginsEmpty [] = ⊥
+BeginsEmpty (high ∷ []) = ⊥
+BeginsEmpty (high ∷ low ∷ more) = (high ≡ 0) × (low ≡ 0)
+
+-- no packet can follow: it is partial, or it begins with a length of 0
+abbrev pub Stops : Bool → List ℕ → Type 0
+Stops true rest = BeginsEmpty rest
+Stops false rest = IsPartial rest
+
+-- ---- what a reader keeps
+
+pub record Reader : Type 0 where
+  -- what has come of the next packet
+  pub held : List ℕ
+  -- a length of 0 has come
+  pub is_ended : Bool
+
+-- what the stream has behind the packets that were given
+abbrev pub Waits : Bool → List ℕ → List Packet → List ℕ → Type 0
+Waits true stream given held = EndsEmpty stream given
+Waits false stream given held = (stream ≡ written given ++ held) × IsPartial held
+
+-- the reader was fed with this stream, in any pieces, and has given these packets
+unfoldable pub Fed : List ℕ → List Packet → Reader → Type 0
+Fed stream given reader = Waits reader.is_ended stream given reader.held

@@ -1,0 +1,203 @@
+//! The session of a market port.
+
+ghost use Rattle.std.specs.Prelude.{◌≡◌, ◌≤◌, ◌<◌, ◌+◌, List, [], ◌∷◌, length, IfOk, OnErr};
+ghost use Rattle.soup_session.specs.Table.{Terms, Call, Opens, Hears, Goes, Ticks, Sends, Fails, answer, standing, wanted};
+ghost use Rattle.soup_session.specs.Calls.{Leaves, IsAnswer, GivesEachOnce, HasRoom, IsUp, next_of, EndsByClose};
+
+use crate::machine::{Answered, Port, closes, goes, hears, opens, sends, ticks};
+use crate::port_state::PortState;
+use crate::port_turn::PortTurn;
+use soup_packets::Packet;
+use std::alloc::{AllocError, Global};
+use std::marker::Model;
+use wire_law::padded;
+
+/// The gateway's end of one port's session, over any links, one after another.
+///
+/// Contracts speak of all its calls: `Leaves terms calls session` says that these calls, the newest first, leave it so.
+/// Then each call gives what the table has for it (`answers`), and the session is what the calls with this one leave
+/// (`leaves`). Moments are in milliseconds and are handed in; one that goes back counts as no time passed. After an error,
+/// which is always that memory ran out, the session is as it was.
+#[derive(Debug, Drop)]
+pub struct PortSession {
+    port: Port,
+}
+
+impl Model for PortSession {
+    ghost use Rattle.soup_session.specs.declared.machine.Port.{Port};
+
+    ghost Value = { Port };
+
+    ghost view = { λ s. s.port };
+}
+
+impl PortSession {
+    /// A session that has made no call. A user of 1 to 6 bytes, a password of at most 10. Takes no memory.
+    #[tactic(auto, unfolding(crate::specs::Calls::Leaves))]
+    pub fn new(user: &[u8], password: &[u8]) -> PortSession
+        requires user { (1 ≤ length user.now) × (length user.now ≤ 6) }
+        requires password { length password.now ≤ 10 }
+        ensures leaves { Leaves (record { user = user.now; password = password.now }) [] result }
+        ensures next { next_of result ≡ 1 }
+    {
+        PortSession {
+            port: Port {
+                user: padded(user),
+                password: padded(password),
+                state: PortState::Down,
+                session: [b' '; 10],
+                next: 1,
+                repeats: 0,
+                now: 0,
+                heard: 0,
+                sent: 0,
+            },
+        }
+    }
+
+    /// The memory is this one now.
+    fn take(&mut self, answered: Answered) -> PortTurn
+        ensures port { self.new ≡ answered.port }
+        ensures outs { result.outs ≡ answered.outs }
+        ensures payload { result.payload ≡ answered.payload }
+    {
+        self.port = answered.port;
+        PortTurn {
+            outs: answered.outs,
+            payload: answered.payload,
+        }
+    }
+
+    /// A link came up: Login Request, with the known session, blank at first, and the number of the next payload. Where
+    /// the port isn't down the new link is closed, and nothing changes.
+    ///
+    /// Source: SoupBinTCP 3.00, "Login Request Packet".
+    pub fn on_up(&mut self, alloc: Global, at: u64) -> Result<PortTurn, AllocError>
+        ensures leaves { IfOk result (λ t. (terms : Terms) (before : List Call) → Leaves terms before self.old
+            → Leaves terms (Opens at ∷ before) self.new) }
+        ensures answers { IfOk result (λ t. (terms : Terms) (before : List Call) → Leaves terms before self.old
+            → IsAnswer (answer terms before (Opens at)) t) }
+        ensures next { next_of self.new ≡ next_of self.old }
+        ensures err { OnErr result (self.new ≡ self.old) }
+    {
+        let answered = opens(alloc, self.port, at)?;
+        Ok(self.take(answered))
+    }
+
+    /// A packet of the server on the port's link. Where there is no link it does nothing.
+    ///
+    /// `payload` is that of a sequenced packet which is the first of its number. A packet of another type, length or time
+    /// is fault 1, a login that skips a number 5, one of another session 6: the link is closed, and the port stays faulted.
+    ///
+    /// Source: SoupBinTCP 3.00, "Packets Sent by the Server".
+    pub fn on_packet(
+        &mut self,
+        alloc: Global,
+        packet: &Packet,
+        at: u64,
+    ) -> Result<PortTurn, AllocError>
+        requires room { HasRoom self.old }
+        ensures leaves { IfOk result (λ t. (terms : Terms) (before : List Call) → Leaves terms before self.old
+            → Leaves terms (Hears packet.now at ∷ before) self.new) }
+        ensures answers { IfOk result (λ t. (terms : Terms) (before : List Call) → Leaves terms before self.old
+            → IsAnswer (answer terms before (Hears packet.now at)) t) }
+        ensures given { IfOk result (λ t. (terms : Terms) (before : List Call) → Leaves terms before self.old
+            → GivesEachOnce terms (Hears packet.now at ∷ before)) }
+        ensures next { next_of self.new ≤ next_of self.old + 1 }
+        ensures err { OnErr result (self.new ≡ self.old) }
+    {
+        let answered = hears(alloc, self.port, packet, at)?;
+        Ok(self.take(answered))
+    }
+
+    /// The link is gone. An ended or faulted port stays so.
+    pub fn on_gone(&mut self)
+        ensures leaves { (terms : Terms) (before : List Call) → Leaves terms before self.old
+            → Leaves terms (Goes ∷ before) self.new }
+        ensures next { next_of self.new ≡ next_of self.old }
+    {
+        let port = goes(self.port);
+        self.port = port;
+    }
+
+    /// Time passed: a link that was silent for more than 15,000 ms is closed; a heartbeat is due where nothing was sent
+    /// for more than 1,000 ms while up.
+    ///
+    /// Source: SoupBinTCP 3.00, "Heartbeats".
+    pub fn on_tick(&mut self, alloc: Global, at: u64) -> Result<PortTurn, AllocError>
+        ensures leaves { IfOk result (λ t. (terms : Terms) (before : List Call) → Leaves terms before self.old
+            → Leaves terms (Ticks at ∷ before) self.new) }
+        ensures answers { IfOk result (λ t. (terms : Terms) (before : List Call) → Leaves terms before self.old
+            → IsAnswer (answer terms before (Ticks at)) t) }
+        ensures next { next_of self.new ≡ next_of self.old }
+        ensures err { OnErr result (self.new ≡ self.old) }
+    {
+        let answered = ticks(alloc, self.port, at)?;
+        Ok(self.take(answered))
+    }
+
+    /// A message of at most 65,534 bytes goes out while up.
+    ///
+    /// Source: SoupBinTCP 3.00, "Unsequenced Data Packet".
+    pub fn send(&mut self, alloc: Global, message: &[u8], at: u64) -> Result<PortTurn, AllocError>
+        requires up { IsUp self.old }
+        requires most { length message.now ≤ 65_534 }
+        ensures leaves { IfOk result (λ t. (terms : Terms) (before : List Call) → Leaves terms before self.old
+            → Leaves terms (Sends message.now at ∷ before) self.new) }
+        ensures answers { IfOk result (λ t. (terms : Terms) (before : List Call) → Leaves terms before self.old
+            → IsAnswer (answer terms before (Sends message.now at)) t) }
+        ensures next { next_of self.new ≡ next_of self.old }
+        ensures up { IfOk result (λ t. IsUp self.new) }
+        ensures err { OnErr result (self.new ≡ self.old) }
+    {
+        let answered = sends(alloc, self.port, message, at)?;
+        Ok(self.take(answered))
+    }
+
+    /// The payload that was given last is at fault at the order level, by a number from 1 to 4: the link is closed, and
+    /// the port stays faulted.
+    pub fn fail(&mut self, alloc: Global, fault: u8) -> Result<PortTurn, AllocError>
+        requires up { IsUp self.old }
+        requires fault { (1 ≤ fault) × (fault ≤ 4) }
+        ensures leaves { IfOk result (λ t. (terms : Terms) (before : List Call) → Leaves terms before self.old
+            → Leaves terms (Fails fault ∷ before) self.new) }
+        ensures answers { IfOk result (λ t. (terms : Terms) (before : List Call) → Leaves terms before self.old
+            → IsAnswer (answer terms before (Fails fault)) t) }
+        ensures next { next_of self.new ≡ next_of self.old }
+        ensures err { OnErr result (self.new ≡ self.old) }
+    {
+        let answered = closes(alloc, self.port, PortState::Faulted(fault))?;
+        Ok(self.take(answered))
+    }
+
+    /// How the port stands. Takes no memory.
+    pub fn state(&self) -> PortState
+        ensures now { result ≡ self.now.state }
+        ensures state { (terms : Terms) (before : List Call) → Leaves terms before self.now
+            → result ≡ (standing terms before).state }
+    {
+        self.port.state
+    }
+
+    /// The number of the next payload that is wanted. Takes no memory.
+    pub fn next(&self) -> u64
+        ensures now { result ≡ next_of self.now }
+        ensures next { (terms : Terms) (before : List Call) → Leaves terms before self.now
+            → result ≡ wanted (standing terms before) }
+    {
+        self.port.next
+    }
+
+    /// The session of the last login, ten spaces before the first. Takes no memory.
+    pub fn session(&self) -> [u8; 10]
+        ensures { (terms : Terms) (before : List Call) → Leaves terms before self.now
+            → result ≡ (standing terms before).session }
+    {
+        self.port.session
+    }
+}
+
+/// A call on a link closes it just where the session has no link after it. It does nothing: its contract is the law.
+pub fn links_end_by_a_close()
+    ensures { (terms : Terms) (before : List Call) (c : Call) → EndsByClose terms before c }
+{}
