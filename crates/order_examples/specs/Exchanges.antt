@@ -2,7 +2,8 @@
 use Rattle.std.specs.Prelude.{[], ◌∷◌, codes}
 use Rattle.order_law.specs.Verdicts.{Up, Down, Ended, Faulted}
 use Rattle.order_law.specs.History.{History}
-use Rattle.order_examples.specs.Transcript.{message, asked, asked_by, heard, heard_on, faulted, faulted_on, enter_as, enter_message, enter_sale_message, replace_message, cancel_message, accepted_message, accepted_at, replaced_message, replaced_at, executed_message, canceled_message, broken_message, rejected_message, cancel_reject_message}
+use Rattle.order_law.specs.Messages.{Message}
+use Rattle.order_examples.specs.Transcript.{message, asked, asked_by, heard, heard_on, faulted, faulted_on, enter_as, enter_message, enter_sale_message, replace_message, cancel_message, accepted_message, accepted_at, replaced_message, replaced_at, executed_message, canceled_message, broken_message, rejected_message, cancel_pending_message, cancel_reject_message, system_message}
 
 -- an order of 300 at 23.45 is entered
 abbrev pub only_entered : History
@@ -92,19 +93,21 @@ abbrev pub filled_across_replace_and_cancel : History
 filled_across_replace_and_cancel =
     heard (executed_message 1 300 234500 7)
     (message (codes "35=8|37=1|11=A1|17=5|150=F|39=6|55=INTC|54=1|38=300|44=23.45|32=300|31=23.45|151=0|14=300|6=23.45")
-    ∷ message (codes "35=9|37=1|11=A2|41=A1|39=6|434=2|102=0|58=too late")
-    ∷ message (codes "35=9|37=1|11=A3|41=A2|39=2|434=1|102=0|58=too late")
+    ∷ message (codes "35=9|37=1|11=A2|41=A1|39=6|434=2|102=0|58=too late") ∷ message (codes "35=9|37=1|11=A3|41=A2|39=2|434=1|102=0|58=too late")
     ∷ [])
     ∷ cancelled_across_a_replace
 
 -- the market cancels it while a replace is pending
 abbrev pub closed_by_the_market : History
 closed_by_the_market =
-    heard (canceled_message 1 300 (codes "Z"))
-    (message (codes "35=8|37=1|11=A1|17=4|150=4|39=E|55=INTC|54=1|38=300|44=23.45|151=0|14=0|6=0|58=Z")
-    ∷ message (codes "35=9|37=1|11=A2|41=A1|39=4|434=2|102=0|58=too late")
-    ∷ [])
+    heard (canceled_message 1 300 (codes "Z")) (closing ∷ too_late ∷ [])
     ∷ replace_pending
+  where
+    closing : Message
+    closing = message (codes "35=8|37=1|11=A1|17=4|150=4|39=E|55=INTC|54=1|38=300|44=23.45|151=0|14=0|6=0|58=Z")
+
+    too_late : Message
+    too_late = message (codes "35=9|37=1|11=A2|41=A1|39=4|434=2|102=0|58=too late")
 
 -- the market rejects the replace
 abbrev pub replace_rejected : History
@@ -401,3 +404,59 @@ asked_after_it_is_refused =
     (message (codes "35=8|37=1|11=A1|17=2|150=8|39=8|103=99|55=INTC|54=1|38=300|44=23.45|151=0|14=0|6=0|58=T")
     ∷ [])
     ∷ only_entered
+
+-- of two trades of equal size and price the second is broken
+abbrev pub broken_among_equals : History
+broken_among_equals =
+    heard (broken_message 1 8 (codes "E"))
+    (message (codes "35=8|37=1|11=A1|17=5|19=4|150=H|39=1|55=INTC|54=1|38=200|44=23.45|151=100|14=100|6=23.45|58=E")
+    ∷ [])
+    ∷ heard (executed_message 1 100 234500 8)
+    (message (codes "35=8|37=1|11=A1|17=4|150=F|39=1|55=INTC|54=1|38=300|44=23.45|32=100|31=23.45|151=100|14=200|6=23.45")
+    ∷ [])
+    ∷ heard (executed_message 1 100 234500 7)
+    (message (codes "35=8|37=1|11=A1|17=3|150=F|39=1|55=INTC|54=1|38=300|44=23.45|32=100|31=23.45|151=200|14=100|6=23.45")
+    ∷ [])
+    ∷ entered_and_accepted
+
+-- System Events tell nobody anything: the start of the day
+abbrev pub day_started : History
+day_started =
+    heard (system_message (codes "S")) []
+    ∷ []
+
+-- and its end
+abbrev pub day_ended : History
+day_ended =
+    heard (system_message (codes "E")) []
+    ∷ entered_and_accepted
+
+-- a Priority Update is passed over, whatever its bytes
+abbrev pub priority_updated : History
+priority_updated =
+    heard (codes "T") []
+    ∷ entered_and_accepted
+
+-- the market has the cancel, which changes nothing; then it cancels what is open, which answers it
+abbrev pub cancel_at_the_market : History
+cancel_at_the_market =
+    heard (cancel_pending_message 1) []
+    ∷ asked (codes "35=F|41=A1|11=A2")
+    (codes "35=8|37=1|11=A2|41=A1|17=3|150=6|39=6|55=INTC|54=1|38=300|44=23.45|151=300|14=0|6=0")
+    (cancel_message 1 ∷ [])
+    ∷ entered_and_accepted
+
+abbrev pub cancelled : History
+cancelled =
+    heard (canceled_message 1 300 (codes "U"))
+    (message (codes "35=8|37=1|11=A2|41=A1|17=4|150=4|39=4|55=INTC|54=1|38=300|44=23.45|151=0|14=0|6=0|58=U")
+    ∷ [])
+    ∷ cancel_at_the_market
+
+-- a second replace waits for the first
+abbrev pub replace_asked_twice : History
+replace_asked_twice =
+    asked (codes "35=G|41=A1|11=A3|38=400|40=2|44=23.45")
+    (codes "35=9|37=1|11=A3|41=A1|39=E|434=2|102=3|58=already pending")
+    []
+    ∷ replace_pending

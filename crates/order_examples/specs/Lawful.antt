@@ -154,3 +154,31 @@ at_other_prices = record { tells = refl; faults = refl; asks = refl; tokens = re
 asked_after_it_is_refused : IsLawful exchanges.asked_after_it_is_refused
 unfolding digits price quantity amount amount_of within scaled fraction worth worth_of last_digits price_text
 asked_after_it_is_refused = record { tells = refl; faults = refl; asks = refl; tokens = refl }
+
+broken_among_equals : IsLawful exchanges.broken_among_equals
+unfolding digits price quantity amount amount_of within scaled fraction worth worth_of last_digits price_text
+broken_among_equals = record { tells = refl; faults = refl; asks = refl; tokens = refl }
+
+day_started : IsLawful exchanges.day_started
+unfolding digits price quantity amount amount_of within scaled fraction worth worth_of last_digits price_text
+day_started = record { tells = refl; faults = refl; asks = refl; tokens = refl }
+
+day_ended : IsLawful exchanges.day_ended
+unfolding digits price quantity amount amount_of within scaled fraction worth worth_of last_digits price_text
+day_ended = record { tells = refl; faults = refl; asks = refl; tokens = refl }
+
+priority_updated : IsLawful exchanges.priority_updated
+unfolding digits price quantity amount amount_of within scaled fraction worth worth_of last_digits price_text
+priority_updated = record { tells = refl; faults = refl; asks = refl; tokens = refl }
+
+cancel_at_the_market : IsLawful exchanges.cancel_at_the_market
+unfolding digits price quantity amount amount_of within scaled fraction worth worth_of last_digits price_text
+cancel_at_the_market = record { tells = refl; faults = refl; asks = refl; tokens = refl }
+
+cancelled : IsLawful exchanges.cancelled
+unfolding digits price quantity amount amount_of within scaled fraction worth worth_of last_digits price_text
+cancelled = record { tells = refl; faults = refl; asks = refl; tokens = refl }
+
+replace_asked_twice : IsLawful exchanges.replace_asked_twice
+unfolding digits price quantity amount amount_of within scaled fraction worth worth_of last_digits price_text
+replace_asked_twice = record { tells = refl; faults = refl; asks = refl; tokens = refl }
