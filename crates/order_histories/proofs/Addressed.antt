@@ -72,16 +72,17 @@ told-on reports m l is_last fills s =
     if-on s.order (is_type (codes "A") m) _ _ (report-on (reports + 1) (told.plain (codes "0")) (told.opened m s) refl, dead-on (reports + 2) m (told.opened m s) [] tt)
     (if-on s.order (is_type (codes "U") m) _ _ (replaced-on reports m is_last s)
     (if-on s.order (is_type (codes "C") m) _ _
-        (if-on s.order (is_closed (after l m).stage) _ _ (cancelled-on (reports + 1) (Some (heard.cancel_reason m ∷ [])) (told.lived (after l m) s)) (report-on (reports + 1) (record (told.plain (codes "D")) { restated = Some (codes "5"); why = Some (heard.cancel_reason m ∷ []) }) (told.lived (after l m) s) refl, tt))
-    (if-on s.order (is_type (codes "E") m) _ _
-        (report-on (reports + 1) (record (told.plain (codes "F")) { shares = Some (heard.executed_shares m); at = Some (heard.executed_price m) }) (told.lived (after l m) s) refl,
-        if-on s.order (is_closed (after l m).stage) _ _ (too_late-on (told.lived (after l m) s) s.pending) tt)
+    (if-on s.order (is_closed (after l m).stage) _ _ (cancelled-on (reports + 1) (Some (heard.cancel_reason m ∷ [])) (told.lived (after l m) s)) (report-on (reports + 1) (record (told.plain (codes "D")) { restated = Some (codes "5"); why = Some (heard.cancel_reason m ∷ []) }) (told.lived (after l m) s) refl, tt))
+    (if-on s.order (is_type (codes "E") m) _ _ (
+      report-on (reports + 1) (record (told.plain (codes "F")) { shares = Some (heard.executed_shares m); at = Some (heard.executed_price m) }) (told.lived (after l m) s) refl,
+      if-on s.order (is_closed (after l m).stage) _ _ (too_late-on (told.lived (after l m) s) s.pending) tt,
+    )
     (if-on s.order (is_type (codes "B") m) _ _
-        (report-on (reports + 1) (record (told.plain (codes "H")) { broken = told.exec_id_of (heard.broken_match m) l.trades fills; why = Some (heard.broken_reason m ∷ []) }) (told.lived (after l m) s) refl, tt)
+    (report-on (reports + 1) (record (told.plain (codes "H")) { broken = told.exec_id_of (heard.broken_match m) l.trades fills; why = Some (heard.broken_reason m ∷ []) }) (told.lived (after l m) s) refl, tt)
     (if-on s.order (is_type (codes "J") m) _ _
-        (if-on s.order (is_waiting l.stage && is_live l (heard.token m)) _ _
-            (report-on (reports + 1) (record (told.plain (codes "8")) { code = Some (codes "99"); why = Some (heard.reject_reason m ∷ []) }) (record (told.closed s) { is_refused = true }) refl, too_late-on (record (told.closed s) { is_refused = true }) s.pending)
-            (append-on s.order _ _ (rejects-on (told.without_replace (heard.token m) s) 2 (heard.reject_reason m ∷ []) (filter (told.has_token (heard.token m)) s.pending)) (cancel_rejected-on is_last (told.without_replace (heard.token m) s))))
+    (if-on s.order (is_waiting l.stage && is_live l (heard.token m)) _ _
+    (report-on (reports + 1) (record (told.plain (codes "8")) { code = Some (codes "99"); why = Some (heard.reject_reason m ∷ []) }) (record (told.closed s) { is_refused = true }) refl, too_late-on (record (told.closed s) { is_refused = true }) s.pending)
+    (append-on s.order _ _ (rejects-on (told.without_replace (heard.token m) s) 2 (heard.reject_reason m ∷ []) (filter (told.has_token (heard.token m)) s.pending)) (cancel_rejected-on is_last (told.without_replace (heard.token m) s))))
     (if-on s.order (is_type (codes "I") m) _ _ (cancel_rejected-on is_last s) tt))))))
 
 -- ---- what follows for lists

@@ -192,9 +192,11 @@ module _ (terms : List Terms) (before : History) (client : ℕ) (m : Message) (p
             let it : own_new ≡ e = same_some own_new h.order.new (sym found ∙ ap (λ (k : List ℕ). new_of k (en ∷ E)) orders_same ∙ kept) ∙ h.same in
             subst Both it own-both
         by_order false apart =
-            let has : HasRecord terms (u ∷ before) e = record { order = h.order; same = h.same; fits = beside-fits h.order h.fits apart } in
-            (has, true-of terms u before e has (λ own_turn. subst (λ (x : Entry). ReadsWell x.order x.message (old_ids x.client (accepted terms (u ∷ before))) (issued x.client before) (r ∷ [])) h.same
-            (ReadsWell-others h.order.new.order h.order.new.message (old_ids h.order.new.client (accepted terms (u ∷ before))) (issued h.order.new.client before) (r ∷ []) (off-other h.order.new.order apart, tt))))
+            let has : HasRecord terms (u ∷ before) e = record { order = h.order; same = h.same; fits = beside-fits h.order h.fits apart } in (
+              has,
+              true-of terms u before e has (λ own_turn. subst (λ (x : Entry). ReadsWell x.order x.message (old_ids x.client (accepted terms (u ∷ before))) (issued x.client before) (r ∷ [])) h.same
+                  (ReadsWell-others h.order.new.order h.order.new.message (old_ids h.order.new.client (accepted terms (u ∷ before))) (issued h.order.new.client before) (r ∷ []) (off-other h.order.new.order apart, tt))),
+            )
 
     old-both : Each Both (news E)
     old-both = Each-map (HasRecord terms before) Both (news E) each-order H.records

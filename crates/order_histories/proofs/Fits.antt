@@ -85,9 +85,18 @@ module _ (terms : List Terms) (entries : List Entry) (numbered : ℕ) (sent : Li
 -- shown, of what is read from the lists
 abbrev shown_by : Entry → Chain → Reading → Life → ℕ → Bool → List Entry → Shown
 shown_by new y x l price refused requests = record {
-  order = new.order; id = y.current; symbol = text 55 new.message; side = text 54 new.message;
+  order = new.order;
+  id = y.current;
+  symbol = text 55 new.message;
+  side = text 54 new.message;
   total = if is_closed l.stage then x.total else l.executed + Rattle.order_law.specs.Told.leaves_at l.stage (total_of new.message) l.unfilled;
-  price = price; leaves = Rattle.order_law.specs.Told.leaves_at l.stage (total_of new.message) l.unfilled; executed = l.executed; value = l.value; stage = l.stage; is_refused = refused; pending = requests;
+  price = price;
+  leaves = Rattle.order_law.specs.Told.leaves_at l.stage (total_of new.message) l.unfilled;
+  executed = l.executed;
+  value = l.value;
+  stage = l.stage;
+  is_refused = refused;
+  pending = requests;
 }
 
 module _ (terms : List Terms) (before : History) (numbered : ℕ) (asked : List Asked) (reports limit : ℕ) (o : OrderRecord)

@@ -83,15 +83,24 @@ record-of terms h k (y ∷ ys) new each e = by_new (is_new_order y.message) (byt
 
 pub Keeps-more : (reports limit reports' limit' : ℕ) (o : OrderRecord) → reports ≤ reports' → limit ≤ limit' → Keeps reports limit o → Keeps reports' limit' o
 Keeps-more reports limit reports' limit' o more more' k = record {
-  sound = k.sound; apart = k.apart; first = k.first; over_replace = k.over_replace; over_cancel = k.over_cancel; left = k.left;
-  idle = k.idle; rejected = k.rejected; none_waiting = k.none_waiting; none_closed = k.none_closed;
+  sound = k.sound;
+  apart = k.apart;
+  first = k.first;
+  over_replace = k.over_replace;
+  over_cancel = k.over_cancel;
+  left = k.left;
+  idle = k.idle;
+  rejected = k.rejected;
+  none_waiting = k.none_waiting;
+  none_closed = k.none_closed;
   small = omega (arith, k.small);
   numbered = AreNumbered-more reports reports' o.trades more k.numbered;
 }
 
 pub Of-used : (P : List ℕ → Type 0) (Q : Entry → Type 0) (R S : List ℕ → Type 0) (o : OrderRecord) → ((id : List ℕ) → R id → S id) → Of P Q R o → Of P Q S o
 Of-used P Q R S o more k = record {
-  front = k.front; live = k.live;
+  front = k.front;
+  live = k.live;
   replace = λ q e. ((k.replace q e).0, (k.replace q e).1, more (Rattle.order_law.specs.Messages.text 11 q.message) (k.replace q e).2);
   cancel = λ c e. ((k.cancel c e).0, (k.cancel c e).1, more (Rattle.order_law.specs.Messages.text 11 c.request.message) (k.cancel c e).2);
   id = more o.id k.id;

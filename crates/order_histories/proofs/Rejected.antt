@@ -127,4 +127,3 @@ module _ (P : List ℕ → Type 0) (Q : Entry → Type 0) (R : List ℕ → Type
     price = rw type refl;
     keeps = λ after later. asked-keeps reports limit more after (omega (arith, later)) m o o.replace (λ q e. e) (λ e. (let x : Working ≡ Closed = sym works ∙ e in cc)) keeps;
   }
-

@@ -251,8 +251,16 @@ module _ (terms : List Terms) (before : History) (m : Message) (port : Port) (se
             requests = λ q c is_q is_c. absurd (let x : ◌≡◌ {A = Option Cancelling} None (Some c) = sym no_c ∙ is_c in cc);
             current = λ q is_q. ap (λ (x : Entry). bytes_eq (text 11 x.message) o.id) (sym (same_some en q is_q)) ∙ unused-other (issued client before) o.id (text 11 m) f.holds.id unused;
           };
-          first = k.first; over_replace = λ e. absurd (not_closed e); over_cancel = k.over_cancel; left = k.left; idle = k.idle; rejected = k.rejected;
-          none_waiting = k.none_waiting; none_closed = k.none_closed; small = k.small; numbered = k.numbered;
+          first = k.first;
+          over_replace = λ e. absurd (not_closed e);
+          over_cancel = k.over_cancel;
+          left = k.left;
+          idle = k.idle;
+          rejected = k.rejected;
+          none_waiting = k.none_waiting;
+          none_closed = k.none_closed;
+          small = k.small;
+          numbered = k.numbered;
         }
 
         asked-now : (s : Stage) → o.stage ≡ s → (asked_as terms o ++ replace_asked o.new (live_token o) (Some en)) ≡ asked_as terms g
@@ -315,9 +323,16 @@ module _ (terms : List Terms) (before : History) (m : Message) (port : Port) (se
             requests = λ q c is_q is_c. ap (λ (x : Cancelling). bytes_eq (text 11 x.request.message) (text 11 q.message)) (sym (same_some c_next c is_c)) ∙ unused-other (issued client before) (text 11 q.message) (text 11 m) (f.holds.replace q is_q).2 unused;
             current = k.apart.current;
           };
-          first = k.first; over_replace = k.over_replace; over_cancel = λ e. absurd (not_closed e);
+          first = k.first;
+          over_replace = k.over_replace;
+          over_cancel = λ e. absurd (not_closed e);
           left = λ c is_c none. (let it : c_next ≡ c = same_some c_next c is_c in let bad : (live_token o ∷ replacements o.replace) ≡ [] = ap (λ (x : Cancelling). x.tokens) it ∙ none in cc);
-          idle = k.idle; rejected = k.rejected; none_waiting = k.none_waiting; none_closed = k.none_closed; small = k.small; numbered = k.numbered;
+          idle = k.idle;
+          rejected = k.rejected;
+          none_waiting = k.none_waiting;
+          none_closed = k.none_closed;
+          small = k.small;
+          numbered = k.numbered;
         }
 
         asked-now : (s : Stage) → o.stage ≡ s → (x : Option Entry) → o.replace ≡ x → (asked_as terms o ++ cancel_asked o.new (Some c_next)) ≡ asked_as terms k_order

@@ -84,8 +84,16 @@ module _ (P : List ℕ → Type 0) (Q : Entry → Type 0) (R : List ℕ → Type
     asked = λ is_live. unanswered-same terms m o answers_none;
     price = rw (a, u) refl;
     keeps = λ last later. record {
-      sound = keeps.sound; apart = keeps.apart; first = keeps.first; over_replace = keeps.over_replace; over_cancel = keeps.over_cancel; left = keeps.left;
-      idle = keeps.idle; rejected = keeps.rejected; none_waiting = keeps.none_waiting; none_closed = keeps.none_closed;
+      sound = keeps.sound;
+      apart = keeps.apart;
+      first = keeps.first;
+      over_replace = keeps.over_replace;
+      over_cancel = keeps.over_cancel;
+      left = keeps.left;
+      idle = keeps.idle;
+      rejected = keeps.rejected;
+      none_waiting = keeps.none_waiting;
+      none_closed = keeps.none_closed;
       small = omega (arith, keeps.small);
       numbered = AreNumbered-more reports last o.trades (omega (arith, later)) keeps.numbered;
     };

@@ -10,8 +10,6 @@ ghost use Rattle.order_histories.specs.Told.{IsTold};
 /// market after the last turn: its reading and its life agree, its reports read well, and pending is outstanding. It does
 /// nothing: its contract is the law, for callers to cite.
 pub fn told_orders_are_true()
-    ensures {
-        (terms : List Terms) (t : Turn) (before : History) → length (t ∷ before) < 2 ^ 59 → reports_in (t ∷ before) < 10 ^ 64 → IsTold terms (t ∷ before)
-        → Each (IsTrueToMarket terms t before) (filter (λ (e : Entry). is_new_order e.message) (accepted terms (t ∷ before)))
-    }
+    ensures { (terms : List Terms) (t : Turn) (before : History) → length (t ∷ before) < 2 ^ 59 → reports_in (t ∷ before) < 10 ^ 64 → IsTold terms (t ∷ before)
+        → Each (IsTrueToMarket terms t before) (filter (λ (e : Entry). is_new_order e.message) (accepted terms (t ∷ before))) }
 {}
