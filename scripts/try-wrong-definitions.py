@@ -3,9 +3,11 @@
 
     scripts/try-wrong-definitions.py [WORD]
 
-Each entry of scripts/wrong-definitions.txt is a name, a file of specs/, a line as it stands and the wrong one; WORD takes those
-whose name has it. The edits are made in a copy, with its `out/` folders, so that each check takes about ten seconds after the
-first. Exit status: 0 all but the known ones refused, 1 one more isn't, 2 an entry doesn't fit its file.
+Each entry of scripts/wrong-definitions.txt is a name, a file of order_law/specs/, a line as it stands and the wrong one, in
+which `\\n` is a line break; WORD takes those whose name has it, or those of the file with that name. The edits are made in a
+copy, with its `out/` folders, in which order_examples is checked: fifteen to twenty seconds each after the first. What is
+refused is said with its first message. With `--histories` the lemmas of order_histories are checked too.
+Exit status: 0 all but the known ones refused, 1 one more isn't, 2 an entry doesn't fit its file or is ill-formed.
 """
 
 import pathlib
@@ -21,41 +23,53 @@ ALIKE = {
     "payloads of other ports are handled",
     "an order isn't answered by J",
     "a replace is rejected though its order is closed",
+    "told: a cancel is rejected where none is unanswered",
 }
 
 
-def is_proved(crate: pathlib.Path) -> bool:
+def first_error(crate: pathlib.Path) -> str:
+    """The first message of a check, or nothing where the crate is proved."""
     check = subprocess.run(["rt", "check", "--jobs", "1"], cwd=crate, capture_output=True, text=True)
-    return check.returncode == 0
+    if check.returncode == 0:
+        return ""
+    lines = (check.stdout + check.stderr).splitlines()
+    return next((line for line in lines if ": error:" in line), "no message")
 
 
 def main() -> int:
-    word = sys.argv[1] if len(sys.argv) > 1 else ""
+    words = [word for word in sys.argv[1:] if word != "--histories"]
+    word = words[0] if words else ""
+    crates = ["order_examples"] + (["order_histories"] if "--histories" in sys.argv else [])
     entries = (TOP / "scripts/wrong-definitions.txt").read_text().rstrip("\n").split("\n\n")
     status = 0
     with tempfile.TemporaryDirectory() as folder:
         copy = pathlib.Path(folder) / "copy"
         shutil.copytree(TOP, copy, ignore=shutil.ignore_patterns(".git"))
         (copy / ".git").mkdir()
-        crate = copy / "crates/order_law"
-        if not is_proved(crate):
-            print("order_law isn't proved as it stands")
-            return 2
+        for crate in crates:
+            if first_error(copy / "crates" / crate):
+                print(f"{crate} isn't proved as it stands")
+                return 2
         for entry in entries:
             name, file, right, wrong = entry.split("\n")
-            if word not in name:
+            if word not in name and word != file:
                 continue
-            path = crate / "specs" / file
+            path = copy / "crates/order_law/specs" / file
             text = path.read_text()
+            right, wrong = right.replace("\\n", "\n"), wrong.replace("\\n", "\n")
             if text.count(right) != 1:
                 print(f"doesn't fit: {name}", flush=True)
                 return 2
             path.write_text(text.replace(right, wrong))
-            refused = not is_proved(crate)
+            error = next(filter(None, (first_error(copy / "crates" / crate) for crate in crates)), "")
             path.write_text(text)
-            print(f"{'refused' if refused else 'passes '}: {name}", flush=True)
-            if not refused and name not in ALIKE:
-                status = 1
+            if error and ": error: `" not in error:
+                print(f"ill-formed: {name}: {error}", flush=True)
+                status = 2
+                continue
+            print(f"refused: {name}: {error[:160]}" if error else f"passes : {name}", flush=True)
+            if not error and name not in ALIKE:
+                status = max(status, 1)
     return status
 
 

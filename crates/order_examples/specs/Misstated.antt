@@ -1,50 +1,14 @@
 -- Reports that say what isn't due, computed: what the headline asks of reports, apart from what is told, refuses each.
-use Rattle.std.specs.Prelude.{◌≡◌, ◌&&◌, ℕ, Bool, true, false, List, [], ◌∷◌, filter, map, bytes_eq, codes, refl, if◌then◌else◌}
+use Rattle.std.specs.Prelude.{◌≡◌, ℕ, true, false, List, [], ◌∷◌, map, codes, refl}
 use Rattle.std.specs.Fmt.{digits, decimal}
-use Rattle.std.specs.List.{list_all, flat_map}
 use Rattle.fixed_point.specs.Decimal.{price, quantity, amount, amount_of, within, scaled, fraction, worth, worth_of}
 use Rattle.fixed_point.specs.Price.{price_text}
 use Rattle.tokens.specs.TokenText.{last_digits}
-use Rattle.order_law.specs.Messages.{Message, text}
-use Rattle.order_law.specs.Reading.{is_report_on}
-use Rattle.order_law.specs.Chain.{chain}
-use Rattle.order_law.specs.History.{History, Terms, Turn, Entry, accepted, issued, is_new_order}
-use Rattle.order_law.specs.Headline.{State, stated, due_after, is_reject_on, is_answer_to, has_due_ids, old_ids}
+use Rattle.order_law.specs.History.{History, Turn}
+use Rattle.order_law.specs.Headline.{State}
 use Rattle.order_examples.specs.Transcript.{terms, message, asked, heard, replace_message, cancel_message, replaced_message, executed_message, canceled_message, broken_message}
 use Rattle.order_examples.specs.Exchanges.{entered_and_accepted, replace_pending, filled, cancelled_across_a_replace}
-
-abbrev new_orders : List Terms → History → List Entry
-new_orders terms h = filter (λ e. is_new_order e.message) (accepted terms h)
-
-abbrev stated_on : List ℕ → List Message → List State
-stated_on order [] = []
-stated_on order (r ∷ earlier) = if is_report_on order r then stated r ∷ stated_on order earlier else stated_on order earlier
-
-abbrev due_on : List ℕ → Message → List Message → List State
-due_on order new [] = []
-due_on order new (r ∷ earlier) =
-    if is_report_on order r then due_after order new (r ∷ earlier) ∷ due_on order new earlier else due_on order new earlier
-
-abbrev states : List Terms → History → List State
-states terms h = flat_map (λ (e : Entry). stated_on e.order (issued e.client h)) (new_orders terms h)
-
-abbrev due_states : List Terms → History → List State
-due_states terms h = flat_map (λ (e : Entry). due_on e.order e.message (issued e.client h)) (new_orders terms h)
-
--- each report on the order has the ids that are due, and each reject of a pending request the id that this named
-abbrev ids_on : List ℕ → (List ℕ → List ℕ) → List Message → List Bool
-ids_on order old_id [] = []
-ids_on order old_id (r ∷ earlier) =
-    if is_report_on order r then has_due_ids r (chain order earlier) (chain order (r ∷ earlier)) old_id ∷ ids_on order old_id earlier
-    else (if is_reject_on order r && is_answer_to (chain order earlier).pending r
-    then bytes_eq (text 41 r) (old_id (text 11 r)) ∷ ids_on order old_id earlier
-    else ids_on order old_id earlier)
-
-abbrev ids : List Terms → History → List Bool
-ids terms h = flat_map (λ (e : Entry). ids_on e.order (old_ids e.client (accepted terms h)) (issued e.client h)) (new_orders terms h)
-
-abbrev ids_are_due : History → Bool
-ids_are_due h = list_all (λ is_due. is_due) (ids terms h)
+use Rattle.order_examples.specs.Stated.{states, due_states, ids_are_due}
 
 -- client 1 is told this by a replace, a cancel, a trade of 100, a Replaced, or a Canceled of all
 abbrev told_by_replace : List ℕ → Turn
