@@ -1,7 +1,7 @@
 -- What an exchange that is written down has to be, as equations that can be computed: each turn tells what is told, has the
 -- fault that is judged, and sends messages that ask what is asked.
-use Rattle.std.specs.Prelude.{◌≡◌, ℕ, List, [], ◌∷◌, ◌++◌, map, Option, Some, None, if◌then◌else◌, codes}
-use Rattle.std.specs.List.{flat_map}
+use Rattle.std.specs.Prelude.{◌≡◌, ◌&&◌, Bool, true, nat_lt, ℕ, List, [], ◌∷◌, map, Option, Some, None, if◌then◌else◌, codes}
+use Rattle.std.specs.List.{list_all}
 use Rattle.ouch_codec.specs.ToMarket as said
 use Rattle.order_law.specs.Asks.{Ask, ask_of_bytes}
 use Rattle.order_law.specs.Life.{is_type}
@@ -25,7 +25,7 @@ told_in h = map said_in h
 
 -- ---- faults
 
-abbrev judged : Event → History → Option ℕ
+abbrev pub judged : Event → History → Option ℕ
 judged (Came client m port) before = None
 judged (Heard port m) before = judgement terms port m before
 
@@ -39,22 +39,22 @@ faults_in h = map (λ (t : Turn). t.fault) h
 -- ---- asks
 
 -- the type and tokens of a message to the market
-abbrev said_of : List ℕ → Option Said
+abbrev pub said_of : List ℕ → Option Said
 said_of m =
     if is_type (codes "O") m then Some (SaysNew (said.token m))
     else (if is_type (codes "U") m then Some (SaysReplace (said.token m) (said.replacement_token m))
     else (if is_type (codes "X") m then Some (SaysCancel (said.token m)) else None))
 
-abbrev sent_asks_in : Turn → History → List (Option Ask)
-sent_asks_in t before = by_event t.event
-  where
-    by_event : Event → List (Option Ask)
-    by_event (Came client m port) =
-        map (ask_of_bytes (terms_of terms client).standing (order_number terms (terms_of terms client).port (accepted terms (t ∷ before)))) t.sends
-    by_event (Heard port m) = []
+abbrev pub sent_asks_by : Event → Turn → History → List (Option Ask)
+sent_asks_by (Came client m port) t before =
+    map (ask_of_bytes (terms_of terms client).standing (order_number terms (terms_of terms client).port (accepted terms (t ∷ before)))) t.sends
+sent_asks_by (Heard port m) t before = []
+
+abbrev pub sent_asks_in : Turn → History → List (Option Ask)
+sent_asks_in t before = sent_asks_by t.event t before
 
 -- what a turn has to ask at once
-abbrev due_in : Event → History → List Asked
+abbrev pub due_in : Event → History → List Asked
 due_in (Came client m Up) before =
     asks_of terms (terms_of terms client).port (entry_at terms (Came client m Up) before) (accepted terms before) (issued client before) (handled (terms_of terms client).port before)
 due_in (Came client m Down) before = []
@@ -62,27 +62,36 @@ due_in (Came client m Ended) before = []
 due_in (Came client m (Faulted n)) before = []
 due_in (Heard port m) before = []
 
-abbrev pub sent_asks : History → List (Option Ask)
+-- turn by turn: what the messages ask and which tokens they have, as they are sent and as they are due
+abbrev pub sent_asks : History → List (List (Option Ask))
 sent_asks [] = []
-sent_asks (t ∷ before) = sent_asks_in t before ++ sent_asks before
+sent_asks (t ∷ before) = sent_asks_in t before ∷ sent_asks before
 
-abbrev due_list : History → List Asked
-due_list [] = []
-due_list (t ∷ before) = due_in t.event before ++ due_list before
+abbrev pub due_asks : History → List (List (Option Ask))
+due_asks [] = []
+due_asks (t ∷ before) = map (λ (a : Asked). a.ask) (due_in t.event before) ∷ due_asks before
 
-abbrev pub due_asks : History → List (Option Ask)
-due_asks h = map (λ (a : Asked). a.ask) (due_list h)
+abbrev pub sent_tokens : History → List (List (Option Said))
+sent_tokens h = map (λ (t : Turn). map said_of t.sends) h
 
-abbrev pub sent_tokens : History → List (Option Said)
-sent_tokens h = flat_map (λ (t : Turn). map said_of t.sends) h
-
-abbrev pub due_tokens : History → List (Option Said)
-due_tokens h = map (λ (a : Asked). Some a.said) (due_list h)
+abbrev pub due_tokens : History → List (List (Option Said))
+due_tokens [] = []
+due_tokens (t ∷ before) = map (λ (a : Asked). Some a.said) (due_in t.event before) ∷ due_tokens before
 
 -- ---- an exchange
+
+abbrev pub is_bytes : Event → Bool
+is_bytes (Came client m port) = true
+is_bytes (Heard port m) = list_all (λ byte. nat_lt byte 256) m
+
+-- all payloads are bytes
+abbrev pub are_bytes_in : History → Bool
+are_bytes_in [] = true
+are_bytes_in (t ∷ before) = is_bytes t.event && are_bytes_in before
 
 pub record IsLawful (h : History) : Type 0 where
   pub tells : told_by_law h ≡ told_in h
   pub faults : faults_by_law h ≡ faults_in h
   pub asks : sent_asks h ≡ due_asks h
   pub tokens : sent_tokens h ≡ due_tokens h
+  pub bytes : are_bytes_in h ≡ true

@@ -3,3 +3,7 @@
 //! There is nothing to call, and no crate stands on this one: it shows which histories `order_law` accepts, and which it
 //! refuses. `specs/Transcript.antt` has the words in which exchanges are written.
 #![tactic(auto)]
+
+mod laws;
+
+pub use laws::computed_exchanges_have_the_headline;

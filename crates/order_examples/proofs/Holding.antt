@@ -1,0 +1,97 @@
+-- An exchange that is computed has the headline.
+use Rattle.std.proofs.Common.{◌≡◌, ℕ, ◌<◌, ◌^◌, Bool, true, false, List, [], ◌∷◌, length, map, refl, sym, ◌∙◌, subst, arith, codes, Option, Some, None}
+use Rattle.std.specs.Prelude.{if◌then◌else◌}
+use Rattle.ouch_codec.specs.ToMarket as said
+use Rattle.order_law.specs.Asks.{Standing, ask_of_bytes}
+use Rattle.order_law.specs.Life.{is_type}
+use Rattle.order_law.specs.Verdicts.{Up, Down, Ended, Faulted}
+use Rattle.order_law.specs.History.{Asked, Came, Event, Heard, History, Said, SaysNew, SaysReplace, SaysCancel, Turn, accepted, asks_of, entry_at, handled, issued, terms_of}
+use Rattle.order_law.specs.Told.{reports_in}
+use Rattle.order_law.specs.Headline.{EachWith, HasTokens, Headline, Says, TurnOf, order_number}
+use Rattle.order_histories.specs.Told.{IsEvent, IsTold, IsToldTurn, fault_of}
+use Rattle.order_histories.proofs.Texts.{and-parts}
+use Rattle.order_histories.proofs.Truth.{orders-true}
+use Rattle.order_examples.specs.Transcript.{terms}
+use Rattle.order_examples.specs.Computed.{IsLawful, are_bytes_in, due_in, is_bytes, judged, said_of, sent_asks_by}
+
+-- ---- what is sent says what is asked
+
+said-is : (x y : Said) → ◌≡◌ {A = Option Said} (Some x) (Some y) → x ≡ y
+said-is x y e = cc
+
+said-tokens : (m : List ℕ) (x : Said) → said_of m ≡ Some x → HasTokens x m
+said-tokens m x e = by_o (is_type (codes "O") m) refl (is_type (codes "U") m) refl (is_type (codes "X") m) refl e
+  where
+    by_o : (o : Bool) → is_type (codes "O") m ≡ o → (u : Bool) → is_type (codes "U") m ≡ u → (c : Bool) → is_type (codes "X") m ≡ c
+        → (if o then Some (SaysNew (said.token m)) else (if u then Some (SaysReplace (said.token m) (said.replacement_token m)) else (if c then Some (SaysCancel (said.token m)) else None))) ≡ Some x → HasTokens x m
+    by_o true is_o u is_u c is_c e = subst (λ (y : Said). HasTokens y m) (said-is (SaysNew (said.token m)) x e) (is_o, refl)
+    by_o false is_o true is_u c is_c e = subst (λ (y : Said). HasTokens y m) (said-is (SaysReplace (said.token m) (said.replacement_token m)) x e) (is_u, refl, refl)
+    by_o false is_o false is_u true is_c e = subst (λ (y : Said). HasTokens y m) (said-is (SaysCancel (said.token m)) x e) (is_c, refl)
+    by_o false is_o false is_u false is_c e = absurd (cc)
+
+each-says : (standing : Standing) (order_of : List ℕ → Option ℕ) (asked : List Asked) (sends : List (List ℕ)) → map (ask_of_bytes standing order_of) sends ≡ map (λ (a : Asked). a.ask) asked → map said_of sends ≡ map (λ (a : Asked). Some a.said) asked → EachWith (Says standing order_of) asked sends
+each-says standing order_of [] [] asks tokens = tt
+each-says standing order_of [] (m ∷ sends) asks tokens = absurd (cc)
+each-says standing order_of (a ∷ asked) [] asks tokens = absurd (cc)
+each-says standing order_of (a ∷ asked) (m ∷ sends) asks tokens =
+    let first : ask_of_bytes standing order_of m ≡ a.ask = cc in
+    let rest : map (ask_of_bytes standing order_of) sends ≡ map (λ (a : Asked). a.ask) asked = cc in
+    let token : said_of m ≡ Some a.said = cc in
+    let more : map said_of sends ≡ map (λ (a : Asked). Some a.said) asked = cc in
+    (record { tokens = said-tokens m a.said token; ask = first }, each-says standing order_of asked sends rest more)
+
+sends-none : (sends : List (List ℕ)) → map said_of sends ≡ [] → sends ≡ []
+sends-none [] e = refl
+sends-none (m ∷ sends) e = absurd (cc)
+
+answers : (t : Turn) (before : History) (e : Event) → sent_asks_by e t before ≡ map (λ (a : Asked). a.ask) (due_in e before) → map said_of t.sends ≡ map (λ (a : Asked). Some a.said) (due_in e before) → t.fault ≡ judged e before → TurnOf terms e t before
+answers t before (Came client m Up) asks tokens fault = record {
+  sends = each-says (terms_of terms client).standing (order_number terms (terms_of terms client).port (accepted terms (t ∷ before)))
+      (asks_of terms (terms_of terms client).port (entry_at terms (Came client m Up) before) (accepted terms before) (issued client before) (handled (terms_of terms client).port before)) t.sends asks tokens;
+  fault = fault;
+}
+answers t before (Came client m Down) asks tokens fault = record { sends = sends-none t.sends tokens; fault = fault }
+answers t before (Came client m Ended) asks tokens fault = record { sends = sends-none t.sends tokens; fault = fault }
+answers t before (Came client m (Faulted n)) asks tokens fault = record { sends = sends-none t.sends tokens; fault = fault }
+answers t before (Heard port m) asks tokens fault = record { sends = sends-none t.sends tokens; fault = fault }
+
+-- ---- turn by turn
+
+event-bytes : (e : Event) → is_bytes e ≡ true → IsEvent e
+event-bytes (Came client m port) bytes = tt
+event-bytes (Heard port m) bytes = λ is_e. bytes
+
+fault-same : (e : Event) (before : History) → judged e before ≡ fault_of terms e before
+fault-same (Came client m port) before = refl
+fault-same (Heard port m) before = refl
+
+rest-of : (t : Turn) (before : History) → IsLawful (t ∷ before) → IsLawful before
+rest-of t before l = record {
+  tells = (let e = l.tells in cc);
+  faults = (let e = l.faults in cc);
+  asks = (let e = l.asks in cc);
+  tokens = (let e = l.tokens in cc);
+  bytes = (and-parts (is_bytes t.event) (are_bytes_in before) l.bytes).1;
+}
+
+turn-told : (t : Turn) (before : History) → IsLawful (t ∷ before) → IsToldTurn terms t before
+turn-told t before l = record {
+  bytes = event-bytes t.event (and-parts (is_bytes t.event) (are_bytes_in before) l.bytes).0;
+  tells = (let e = l.tells in cc);
+  fault = (let e = l.faults in let first : judged t.event before ≡ t.fault = cc in sym first ∙ fault-same t.event before);
+}
+
+pub computed-told : (h : History) → IsLawful h → IsTold terms h
+computed-told [] l = tt
+computed-told (t ∷ before) l = (turn-told t before l, computed-told before (rest-of t before l))
+
+pub computed-holds : (h : History) → length h < 2 ^ 59 → reports_in h < 10 ^ 64 → IsLawful h → Headline terms h
+computed-holds [] short reports l = tt
+computed-holds (t ∷ before) short reports l = (
+  record {
+    tells = (turn-told t before l).tells;
+    answers = answers t before t.event (let e = l.asks in cc) (let e = l.tokens in cc) (let e = l.faults in let first : judged t.event before ≡ t.fault = cc in sym first);
+    orders = orders-true terms t before short reports (computed-told (t ∷ before) l);
+  },
+  computed-holds before (omega arith) (omega arith) (rest-of t before l),
+)
