@@ -12,6 +12,11 @@
 #include <time.h>
 
 uint64_t bench_split(const uint8_t *text, size_t length);
+uint64_t bench_first_fault(const uint8_t *text, size_t length);
+uint64_t bench_feed_frames(const uint8_t *text, size_t length, uint32_t times);
+uint64_t bench_frame(const uint8_t *body, size_t length, uint32_t times);
+uint64_t bench_stamps(uint64_t from, uint32_t times);
+uint64_t bench_feed_packets(const uint8_t *piece, size_t length, uint32_t times);
 uint32_t bench_parse_price(const uint8_t *text, size_t length);
 bool bench_put_enter_order(const uint8_t *bytes, size_t length, uint32_t times, uint8_t *out, size_t room);
 
@@ -21,6 +26,8 @@ enum {
     FRAME_LENGTH = 160,
     FIELDS = 17,
     ENTER_ORDER = 49,
+    REPORT_FRAME = 179,
+    EXECUTED_PACKET = 43,
 };
 
 // A NewOrderSingle, the whole frame: 160 bytes in 17 fields, its body length and its check sum right.
@@ -35,6 +42,17 @@ static const char PRICE[] = "23.45";
 // An Enter Order: to buy 300 shares of INTC at 23.45.
 static const char ORDER[] =
     "OFVZ00000000001B\000\000\001,INTC    \000\003\224\004\000\001\206\236FEVZYAN\000\000\000\000N ";
+
+// The body of an ExecutionReport, from MsgType on, in 20 fields.
+static const char REPORT[] =
+    "35=8\00149=GATE\00156=C1\00134=2\00152=19700101-00:00:00.000\00137=1\00111=A1\00117=1\001150=A\00139=A\001"
+    "55=INTC\00154=1\00138=300\00144=23.45\001151=300\00114=0\0016=0\00160=19700101-00:00:00.000\00158=x\0011=y\001";
+
+// An Executed as sequenced data.
+static const char EXECUTED[] =
+    "\000\051SE\000\000\000\000\000\000\000\001G0000000000001\000\000\000\144\000\003\224\004L\000\000\000\000\000\000\000\007";
+
+static const uint64_t LEAP_DAY_OF_2000 = 951782400000;
 
 static uint64_t sum;
 
@@ -54,6 +72,29 @@ static void split_calls(void) {
     for (int i = 0; i < CALLS; i++) {
         sum += bench_split(hidden(FRAME), FRAME_LENGTH);
     }
+}
+
+static void first_fault_calls(void) {
+    for (int i = 0; i < CALLS; i++) {
+        sum += bench_first_fault(hidden(FRAME), FRAME_LENGTH);
+    }
+}
+
+// These four exports loop by themselves, over one reader or one body.
+static void feed_frames_calls(void) {
+    sum += bench_feed_frames(hidden(FRAME), FRAME_LENGTH, CALLS);
+}
+
+static void frame_calls(void) {
+    sum += bench_frame(hidden(REPORT), sizeof REPORT - 1, CALLS);
+}
+
+static void stamp_calls(void) {
+    sum += bench_stamps(LEAP_DAY_OF_2000 + sum % 2, CALLS);
+}
+
+static void feed_packets_calls(void) {
+    sum += bench_feed_packets(hidden(EXECUTED), EXECUTED_PACKET, CALLS);
 }
 
 static void parse_price_calls(void) {
@@ -102,6 +143,32 @@ static bool split_is_right(void) {
            bench_split((const uint8_t *)FRAME, FRAME_LENGTH - 1) == UINT64_MAX - 1;
 }
 
+static bool first_fault_is_right(void) {
+    static const char TWICE[] = "35=0\00158=a\00158=b\001";
+    return bench_first_fault((const uint8_t *)FRAME, FRAME_LENGTH) == FIELDS &&
+           bench_first_fault((const uint8_t *)TWICE, sizeof TWICE - 1) == 58;
+}
+
+// A frame has its header's three fields and its body's; one that is cut is given by no feed.
+static bool frames_are_right(void) {
+    return bench_feed_frames((const uint8_t *)FRAME, FRAME_LENGTH, 3) == 3 * FIELDS &&
+           bench_feed_frames((const uint8_t *)FRAME, FRAME_LENGTH - 1, 1) == 0 &&
+           bench_frame((const uint8_t *)REPORT, sizeof REPORT - 1, 2) == 2 * REPORT_FRAME;
+}
+
+// "20000229-00:00:00.000", its bytes mixed as the export mixes them.
+static bool stamp_is_right(void) {
+    uint64_t mixed = 0;
+    for (const char *at = "20000229-00:00:00.000"; *at != 0; at++) {
+        mixed = mixed * 31 + (uint8_t)*at;
+    }
+    return bench_stamps(LEAP_DAY_OF_2000, 1) == mixed;
+}
+
+static bool packets_are_right(void) {
+    return sizeof EXECUTED - 1 == EXECUTED_PACKET && bench_feed_packets((const uint8_t *)EXECUTED, EXECUTED_PACKET, 3) == 3;
+}
+
 static bool parse_price_is_right(void) {
     return bench_parse_price((const uint8_t *)PRICE, sizeof PRICE - 1) == 234500 &&
            bench_parse_price((const uint8_t *)FRAME, FRAME_LENGTH) == 0;
@@ -121,7 +188,18 @@ int main(void) {
                 split_is_right(), parse_price_is_right(), put_is_right());
         return 1;
     }
-    printf("%-44s %7.1f   aim: below 400\n", "split, a NewOrderSingle frame of 160 bytes", best(split_calls));
+    if (!first_fault_is_right() || !frames_are_right() || !stamp_is_right() || !packets_are_right()) {
+        fprintf(stderr, "wrong: first_fault is right %d, frames %d, stamp %d, packets %d\n", first_fault_is_right(),
+                frames_are_right(), stamp_is_right(), packets_are_right());
+        return 1;
+    }
+    double split = best(split_calls);
+    printf("%-44s %7.1f   aim: below 400\n", "split, a NewOrderSingle frame of 160 bytes", split);
+    printf("%-44s %7.1f   aim: below 150\n", "first_fault of its fields, the difference", best(first_fault_calls) - split);
+    printf("%-44s %7.1f   aim: below 700\n", "Framer::feed, the same frame, with its split", best(feed_frames_calls));
+    printf("%-44s %7.1f   aim: below 500\n", "frame, a report of 20 fields", best(frame_calls));
+    printf("%-44s %7.1f   no aim\n", "stamp, moments one after another", best(stamp_calls));
+    printf("%-44s %7.1f   aim: below  60\n", "Packets::feed, an Executed's packet", best(feed_packets_calls));
     printf("%-44s %7.1f   aim: below  25\n", "parse_price, the text 23.45", best(parse_price_calls));
     printf("%-44s %7.1f   aim: below  25\n", "EnterOrder::put, 49 bytes", best(put_calls));
     printf("nanoseconds a call, the best of %d times %d calls\n", REPEATS, CALLS);

@@ -1,5 +1,5 @@
 #!/usr/bin/env bash
-# Measures split, parse_price and EnterOrder::put, and prints the figures with the machine.
+# Measures the hot calls that README.md lists, and prints the figures with the machine.
 #
 # The static library of the measured calls is no crate of the repository: it's made in a folder of its own, over a copy
 # of the crates that it stands on, and removed again. Their out/ folders are copied too, so that what is proved there
@@ -8,7 +8,7 @@ set -euo pipefail
 
 here=$(cd "$(dirname "${BASH_SOURCE[0]}")" && pwd)
 repository=$(dirname "$here")
-measured=(fix_fields fixed_point ouch_codec wire_law)
+measured=(fix_fields fix_framing fix_stamp fixed_point ouch_codec soup_packets wire_law)
 seconds_to_build=1500
 seconds_to_run=120
 
