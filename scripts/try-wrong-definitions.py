@@ -1,10 +1,10 @@
 #!/usr/bin/env python3
 """Puts wrong definitions into order_law, one at a time, and says which of them the computed examples refuse.
 
-    scripts/try-wrong-definitions.py [WORD]
+    scripts/try-wrong-definitions.py [WORD..] [--histories]
 
 Each entry of scripts/wrong-definitions.txt is a name, a file of order_law/specs/, a line as it stands and the wrong one, in
-which `\\n` is a line break; WORD takes those whose name has it, or those of the file with that name. The edits are made in a
+which `\\n` is a line break; WORDs take those whose name has one, or those of the files with these names. The edits are made in a
 copy, with its `out/` folders, in which order_examples is checked: fifteen to twenty seconds each after the first. What is
 refused is said with its first message. With `--histories` the lemmas of order_histories are checked too.
 Exit status: 0 all but the known ones refused, 1 one more isn't, 2 an entry doesn't fit its file or is ill-formed.
@@ -37,8 +37,7 @@ def first_error(crate: pathlib.Path) -> str:
 
 
 def main() -> int:
-    words = [word for word in sys.argv[1:] if word != "--histories"]
-    word = words[0] if words else ""
+    words = [word for word in sys.argv[1:] if word != "--histories"] or [""]
     crates = ["order_examples"] + (["order_histories"] if "--histories" in sys.argv else [])
     entries = (TOP / "scripts/wrong-definitions.txt").read_text().rstrip("\n").split("\n\n")
     status = 0
@@ -52,7 +51,7 @@ def main() -> int:
                 return 2
         for entry in entries:
             name, file, right, wrong = entry.split("\n")
-            if word not in name and word != file:
+            if not any(word in name or word == file for word in words):
                 continue
             path = copy / "crates/order_law/specs" / file
             text = path.read_text()
