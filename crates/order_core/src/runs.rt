@@ -52,6 +52,8 @@ pub fn step(core: &mut OrderCore, alloc: Global, event: &Event) -> Result<Outcom
     requires room { HasRoom core.old }
     ensures leaves { IfOk result (λ outcome. is_served event.now ≡ true → (terms : List Terms) (before : History)
         → Leaves terms before core.old → Leaves terms (turn_of event.now outcome ∷ before) core.new) }
+    ensures headline { IfOk result (λ outcome. is_served event.now ≡ true → (terms : List Terms) (before : History)
+        → length before < 2 ^ 58 → Leaves terms before core.old → Headline terms (turn_of event.now outcome ∷ before)) }
     ensures clients { clients core.new ≡ clients core.old }
     ensures issued { issued core.new ≤ issued core.old + 3 }
     ensures err { OnErr result (core.new ≡ core.old) }
@@ -78,6 +80,9 @@ fn client_outcome(
     requires room { HasRoom core.old }
     ensures leaves { IfOk result (λ outcome. (terms : List Terms) (before : History) → Leaves terms before core.old
         → Leaves terms (outcome_turn (Came client (message_fields message.now) (port_seen port)) outcome ∷ before) core.new) }
+    ensures headline { IfOk result (λ outcome. (terms : List Terms) (before : History) → length before < 2 ^ 58
+        → Leaves terms before core.old
+        → Headline terms (outcome_turn (Came client (message_fields message.now) (port_seen port)) outcome ∷ before)) }
     ensures clients { clients core.new ≡ clients core.old }
     ensures issued { issued core.new ≤ issued core.old + 3 }
     ensures err { OnErr result (core.new ≡ core.old) }
@@ -102,6 +107,9 @@ fn market_outcome(
     ensures leaves { IfOk result (λ outcome. IsServed payload.now → (terms : List Terms) (before : History)
         → Leaves terms before core.old
         → Leaves terms (outcome_turn (Heard port payload.now) outcome ∷ before) core.new) }
+    ensures headline { IfOk result (λ outcome. IsServed payload.now → (terms : List Terms) (before : History)
+        → length before < 2 ^ 58 → Leaves terms before core.old
+        → Headline terms (outcome_turn (Heard port payload.now) outcome ∷ before)) }
     ensures clients { clients core.new ≡ clients core.old }
     ensures issued { issued core.new ≤ issued core.old + 3 }
     ensures err { OnErr result (core.new ≡ core.old) }
