@@ -5,8 +5,9 @@
 
 Each entry of scripts/wrong-definitions.txt is a name, a file of order_law/specs/, a line as it stands and the wrong one, in
 which `\\n` is a line break; WORDs take those whose name has one, or those of the files with these names. The edits are made in a
-copy, with its `out/` folders, in which order_examples is checked: fifteen to twenty seconds each after the first. What is
-refused is said with its first message. With `--histories` the lemmas of order_histories are checked too.
+copy, with its `out/` folders, in which order_examples is checked without its law, so that an example refuses it and no lemma:
+fifteen to twenty seconds each after the first. What is refused is said with its first message. With `--histories` the lemmas
+of order_histories are checked too.
 Exit status: 0 all but the known ones refused, 1 one more isn't, 2 an entry doesn't fit its file or is ill-formed.
 """
 
@@ -36,6 +37,16 @@ def first_error(crate: pathlib.Path) -> str:
     return next((line for line in lines if ": error:" in line), "no message")
 
 
+def without_law(examples: pathlib.Path) -> None:
+    """Takes the law on computed exchanges away, which stands on order_histories."""
+    (examples / "src/laws.rt").unlink()
+    shutil.rmtree(examples / "proofs")
+    head = examples / "src/lib.rt"
+    head.write_text("".join(line for line in head.read_text().splitlines(True) if "laws" not in line))
+    crates = examples.parent.parent / "crates.txt"
+    crates.write_text(crates.read_text().replace("order_examples: order_histories ", "order_examples: "))
+
+
 def main() -> int:
     words = [word for word in sys.argv[1:] if word != "--histories"] or [""]
     crates = ["order_examples"] + (["order_histories"] if "--histories" in sys.argv else [])
@@ -45,6 +56,7 @@ def main() -> int:
         copy = pathlib.Path(folder) / "copy"
         shutil.copytree(TOP, copy, ignore=shutil.ignore_patterns(".git"))
         (copy / ".git").mkdir()
+        without_law(copy / "crates/order_examples")
         for crate in crates:
             if first_error(copy / "crates" / crate):
                 print(f"{crate} isn't proved as it stands")
