@@ -178,6 +178,14 @@ executed_too_much =
     faulted (executed_message 1 301 234500 7) 3
     ∷ entered_and_accepted
 
+-- and the order is what it was: it is open when its cancel is refused
+abbrev pub cancel_after_a_fault : History
+cancel_after_a_fault =
+    asked_by 1 (Faulted 3) (codes "35=F|41=A1|11=A2")
+    (codes "35=9|37=1|11=A2|41=A1|39=0|434=1|102=2|58=port fault 3")
+    ([])
+    ∷ executed_too_much
+
 -- the market rejects the cancel
 abbrev pub cancel_rejected : History
 cancel_rejected =

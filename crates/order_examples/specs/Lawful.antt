@@ -107,6 +107,10 @@ ordered_on_a_faulted_port : IsLawful exchanges.ordered_on_a_faulted_port
 unfolding digits price quantity amount amount_of within scaled fraction worth worth_of last_digits price_text
 ordered_on_a_faulted_port = record { tells = refl; faults = refl; asks = refl; tokens = refl; bytes = refl }
 
+cancel_after_a_fault : IsLawful exchanges.cancel_after_a_fault
+unfolding digits price quantity amount amount_of within scaled fraction worth worth_of last_digits price_text
+cancel_after_a_fault = record { tells = refl; faults = refl; asks = refl; tokens = refl; bytes = refl }
+
 filled_beside_a_faulted_port : IsLawful exchanges.filled_beside_a_faulted_port
 unfolding digits price quantity amount amount_of within scaled fraction worth worth_of last_digits price_text
 filled_beside_a_faulted_port = record { tells = refl; faults = refl; asks = refl; tokens = refl; bytes = refl }

@@ -85,6 +85,10 @@ record IsTrue (h : History) : Type 0 where
       ≡ each_order (λ e. filter_map (λ (a : Asked). replacement_of a.said) (asked_of is_replace_said e.order (asked_on h e))) h
   pub cancels : each_order (λ e. ids_of (cancels (chain_of h e))) h ≡ each_order (λ e. each_once (ids_asked (asked_of is_cancel_said e.order (asked_on h e)))) h
 
+cancel_after_a_fault : IsTrue exchanges.cancel_after_a_fault
+unfolding digits price quantity amount amount_of within scaled fraction worth worth_of last_digits price_text
+cancel_after_a_fault = record { states = refl; ids = refl; accounts = refl; replaces = refl; tokens = refl; cancels = refl }
+
 filled_while_cancel_pending : IsTrue exchanges.filled_while_cancel_pending
 unfolding digits price quantity amount amount_of within scaled fraction worth worth_of last_digits price_text
 filled_while_cancel_pending = record { states = refl; ids = refl; accounts = refl; replaces = refl; tokens = refl; cancels = refl }
