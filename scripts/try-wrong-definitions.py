@@ -24,6 +24,7 @@ ALIKE = {
     "payloads of other ports are handled",
     "an order isn't answered by J",
     "a replace is rejected though its order is closed",
+    "a pending cancel is a pending replace",
     "told: a cancel is rejected where none is unanswered",
 }
 
