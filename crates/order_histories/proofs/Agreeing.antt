@@ -10,9 +10,8 @@ use Rattle.order_law.specs.Life.{Life}
 use Rattle.order_law.specs.Chain.{Chain, Request, chain}
 use Rattle.order_law.specs.History.{Asked, Entry, Said, Terms, is_cancel_said, is_replace_said, life_of, pending_tokens}
 use Rattle.order_law.specs.Headline.{Agree, PendingIsOutstanding, asked_of, cancels, each_once, ids_asked, replacement_of, replaces}
-use Rattle.order_histories.specs.OrderRecord.{Cancelling, OrderRecord, asked_as, cancel_asked, cancel_of, chained, live_token, lived, new_asked, read, replace_asked}
+use Rattle.order_histories.specs.OrderRecord.{Cancelling, OrderRecord, asked_as, cancel_asked, cancel_of, chained, live_token, lived, new_asked, read, replace_asked, replacements}
 use Rattle.order_histories.proofs.Texts.{eq-same}
-use Rattle.order_histories.proofs.Row.{replacements}
 use Rattle.order_histories.proofs.Fits.{Fits, life-of, own, tokens-are}
 
 pub agree-of : (x : Reading) (l : Life) (o : OrderRecord) → x ≡ read o → l ≡ lived o → Agree x l

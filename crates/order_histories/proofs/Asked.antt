@@ -9,9 +9,9 @@ use Rattle.order_law.specs.declared.stage.Stage.TheVariants.{Waiting, Working, C
 use Rattle.order_law.specs.Messages.{Message}
 use Rattle.order_law.specs.History.{Asked, Entry, Said, SaysCancel, SaysNew, SaysReplace, Terms, answers, is_cancel_said, token_of}
 use Rattle.order_law.specs.Told as told
-use Rattle.order_histories.specs.OrderRecord.{Cancelling, OrderRecord, asked_as, cancel_asked, cancel_of, kept, live_token, new_asked, replace_asked, shown_as, still_cancelling, with_tokens}
+use Rattle.order_histories.specs.OrderRecord.{Cancelling, OrderRecord, asked_as, at, cancel_asked, cancel_of, is_empty, kept, last_of, live_token, new_asked, replace_asked, shown_as, still_cancelling, with_tokens}
 use Rattle.order_histories.proofs.Due.{IsSound, Reads}
-use Rattle.order_histories.proofs.Leads.{AreApart, AreNamed, Leads, at, cancel_rejected-leads, leads-none, same_some}
+use Rattle.order_histories.proofs.Leads.{AreApart, AreNamed, Leads, cancel_rejected-leads, leads-none, same_some}
 use Rattle.order_histories.proofs.Moves.{answers_last, unanswered, unanswered-cancels}
 
 -- ---- Cancel Orders
@@ -24,15 +24,6 @@ cancels-left m new (Some c) = unanswered-cancels m new c.request c.tokens ∙ sa
     same : (tokens : List (List ℕ)) → map (λ token. cancel_of new c.request token) tokens ≡ cancel_asked new (with_tokens c.request tokens)
     same [] = refl
     same (token ∷ tokens) = refl
-
--- with this message the last one is answered
-abbrev is_empty : List (List ℕ) → Bool
-is_empty [] = true
-is_empty (token ∷ tokens) = false
-
-abbrev pub last_of : List ℕ → Option Cancelling → Bool
-last_of m None = false
-last_of m (Some c) = is_empty (kept m c.tokens)
 
 abbrev is_cancel_asked : Asked → Bool
 is_cancel_asked a = is_cancel_said a.said

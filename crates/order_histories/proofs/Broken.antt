@@ -14,10 +14,10 @@ use Rattle.order_law.specs.Chain.{chain}
 use Rattle.order_law.specs.History.{Entry, Said, SaysCancel, SaysNew, SaysReplace, Terms, answers}
 use Rattle.order_law.specs.Told.{Shown, exec_id_of, opens, report, told_by_type}
 use Rattle.order_law.specs.Headline.{has_due_ids}
-use Rattle.order_histories.specs.OrderRecord.{OrderRecord, ToldTrade, asked_as, chained, fill_of, lived, shown_as}
+use Rattle.order_histories.specs.OrderRecord.{stands_told, OrderRecord, ToldTrade, asked_as, broken, chained, fill_of, lived, mark, shown_as}
 use Rattle.order_histories.proofs.Texts.{and-parts, eq-decimal_other, eq-same}
 use Rattle.order_histories.proofs.Due.{Reads}
-use Rattle.order_histories.proofs.Reports.{broken, broken-Reads, broken_occasion, mark, report-tells}
+use Rattle.order_histories.proofs.Reports.{broken-Reads, broken_occasion, report-tells}
 use Rattle.order_histories.proofs.Sound.{broken-sound}
 use Rattle.order_histories.proofs.Leads.{AreNamed, Leads, leads-one}
 use Rattle.order_histories.proofs.Moves.{AreNumbered, Keeps, Moves, answers_last}
@@ -31,6 +31,7 @@ pub record Stands (match_number reports : ℕ) (ts : List ToldTrade) : Type 0 wh
   pub told : ToldTrade
   pub same_match : told.trade.match_number ≡ match_number
   pub number : told.number ≤ reports
+  pub here : find (stands_told match_number) ts ≡ Some told
   pub found : find (stands_as match_number) (map trade_of ts) ≡ Some told.trade
   pub exec_id : exec_id_of match_number (map trade_of ts) (map fill_of ts) ≡ Some (decimal told.number)
   pub fill : find (λ (f : Fill). bytes_eq f.exec_id (decimal told.number)) (map fill_of ts) ≡ Some (fill_of told)
@@ -49,6 +50,7 @@ stands-in match_number reports (t ∷ ts) small numbered some = by_test (stands_
           told = t;
           same_match = same t.trade.match_number match_number (not t.trade.is_broken) it_stands;
           number = numbered.1;
+          here = rw it_stands refl;
           found = rw it_stands refl;
           exec_id = rw it_stands refl;
           fill = rw own refl;
@@ -60,6 +62,7 @@ stands-in match_number reports (t ∷ ts) small numbered some = by_test (stands_
           told = rest.told;
           same_match = rest.same_match;
           number = omega (arith, rest.number, numbered.1);
+          here = rw off rest.here;
           found = rw off rest.found;
           exec_id = rw off rest.exec_id;
           fill = rw other rest.fill;

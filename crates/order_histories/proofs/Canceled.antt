@@ -11,10 +11,10 @@ use Rattle.order_law.specs.History.{Entry, Said, SaysCancel, SaysNew, SaysReplac
 use Rattle.order_law.specs.Told.{Occasion, Shown, cancelled, opens, plain, report, told_by_type}
 use Rattle.order_law.specs.Told as told
 use Rattle.order_law.specs.Headline.{has_due_ids}
-use Rattle.order_histories.specs.OrderRecord.{Cancelling, OrderRecord, asked_as, chained, fill_of, gone, leaves, lived, shown_as, unasked}
+use Rattle.order_histories.specs.OrderRecord.{Cancelling, OrderRecord, asked_as, chained, fill_of, gone, leaves, lived, reduced, shown_as, unasked}
 use Rattle.order_histories.proofs.Texts.{eq-same}
 use Rattle.order_histories.proofs.Due.{Reads}
-use Rattle.order_histories.proofs.Reports.{reduced, report-tells, restated-Reads}
+use Rattle.order_histories.proofs.Reports.{report-tells, restated-Reads}
 use Rattle.order_histories.proofs.Sound.{reduced-sound}
 use Rattle.order_histories.proofs.Leads.{AreNamed, Leads, cancelled-leads, leads-one}
 use Rattle.order_histories.proofs.Moves.{AreNumbered, Keeps, Moves, Of-unasked, answers_last}

@@ -14,10 +14,10 @@ use Rattle.order_law.specs.Chain.{chain}
 use Rattle.order_law.specs.History.{Asked, Entry, Said, SaysCancel, Terms, answers, is_cancel_said, token_of}
 use Rattle.order_law.specs.Told.{Shown, opens, report, told_by_type, too_late}
 use Rattle.order_law.specs.Headline.{has_due_ids}
-use Rattle.order_histories.specs.OrderRecord.{OrderRecord, ToldTrade, asked_as, chained, fill_of, leaves, lived, shown_as, unasked}
+use Rattle.order_histories.specs.OrderRecord.{OrderRecord, ToldTrade, asked_as, chained, fill_of, filled, leaves, lived, shown_as, traded, unasked}
 use Rattle.order_histories.proofs.Texts.{eq-same}
 use Rattle.order_histories.proofs.Due.{Reads}
-use Rattle.order_histories.proofs.Reports.{Tells, filled, filled-Reads, report-tells, trade_occasion, traded, traded-Reads}
+use Rattle.order_histories.proofs.Reports.{Tells, filled-Reads, report-tells, trade_occasion, traded-Reads}
 use Rattle.order_histories.proofs.Sound.{filled-sound, traded-sound}
 use Rattle.order_histories.proofs.Leads.{AreNamed, Leads, leads-more, leads-one, too_late-leads}
 use Rattle.order_histories.proofs.Moves.{AreNumbered, Keeps, Moves, Of-unasked, answers_last, unanswered}

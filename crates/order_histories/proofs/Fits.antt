@@ -12,12 +12,11 @@ use Rattle.order_law.specs.History.{Asked, Entry, History, Terms, accepted, answ
 use Rattle.order_law.specs.Lawful.{order_of_token}
 use Rattle.order_law.specs.Told.{Shown, opens, price_after, shown}
 use Rattle.order_law.specs.Headline.{old_ids}
-use Rattle.order_histories.specs.OrderRecord.{Cancelling, OrderRecord, asked_as, chained, leaves, lived, pending, read, shown_as}
+use Rattle.order_histories.specs.OrderRecord.{Cancelling, OrderRecord, asked_as, chained, leaves, lived, pending, read, replacements, shown_as}
 use Rattle.order_histories.proofs.Texts.{eq-is, eq-same}
 use Rattle.order_histories.proofs.Due.{Reads}
 use Rattle.order_histories.proofs.Leads.{AreNamed}
 use Rattle.order_histories.proofs.Moves.{Keeps, Of, unanswered}
-use Rattle.order_histories.proofs.Row.{replacements}
 
 -- a token leads to the order on the port of its client, and to none on another
 pub record IsHome (terms : List Terms) (entries : List Entry) (new : Entry) (token : List ℕ) : Type 0 where

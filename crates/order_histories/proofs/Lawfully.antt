@@ -13,7 +13,7 @@ use Rattle.order_law.specs.History.{Asked, Entry, Heard, History, Terms, Turn, a
 use Rattle.order_law.specs.Lawful.{has_token, judgement, order_of_token, order_token}
 use Rattle.order_law.specs.Told.{Told, answers_last_cancel, opens, price_after, reports_in, told, told_by_type, told_on, to_client_of}
 use Rattle.order_law.specs.Headline.{Each, IsTrueToMarket, ReadsWell, old_ids}
-use Rattle.order_histories.specs.OrderRecord.{OrderRecord, asked_as, fill_of, lived, shown_as}
+use Rattle.order_histories.specs.OrderRecord.{after_message, OrderRecord, asked_as, fill_of, lived, replacements, shown_as}
 use Rattle.order_histories.proofs.Texts.{and-parts, eq-decimal_other, eq-is, eq-other, eq-same, token-same}
 use Rattle.order_histories.proofs.Lists.{Each-map, found-passes}
 use Rattle.order_histories.proofs.Due.{IsUnread, IsUnread-others, Others, Reads, Reads-others, ReadsWell-others}
@@ -25,7 +25,7 @@ use Rattle.std.proofs.Common.{ℕ}
 use Rattle.order_histories.proofs.Holds.{FitsIn, HasRecord, Holds, IsEntry, Keeps-more, Of-used, PassesOver, news, orders_of, port_of, true-of, each-find}
 use Rattle.order_histories.proofs.Deaf.{apart-home, other-deaf}
 use Rattle.order_histories.proofs.Judged.{IsLawful, accepted-shares, replaced-shares}
-use Rattle.order_histories.proofs.Row.{replacement-is, replacements, row-moves}
+use Rattle.order_histories.proofs.Row.{replacement-is, row-moves}
 use Rattle.order_histories.proofs.Hearing.{asked-as, asked-now, closed-asked, deaf-fits, heard_turn, numbered-heard}
 use Rattle.order_law.specs.Lawful.{replaced_may, row_holds, same_terms, works_as}
 use Rattle.order_law.specs.Reading.{Reading, reading, Fill}
@@ -155,7 +155,7 @@ module _ (terms : List Terms) (before : History) (port : ℕ) (m : List ℕ) (cl
       ap (λ (ts : List (List ℕ)). row_holds m (lived o) o.new ts) (sym tokens) ∙ second
 
   -- the order that the message is on, by its own token
-  on' : order_of_token terms port A (heard.token m) ≡ Some o.new
+  pub on' : order_of_token terms port A (heard.token m) ≡ Some o.new
   on' = by_u (is_type (codes "U") m) refl
     where
       by_u : (b : Bool) → is_type (codes "U") m ≡ b → order_of_token terms port A (heard.token m) ≡ Some o.new
@@ -192,7 +192,7 @@ module _ (terms : List Terms) (before : History) (port : ℕ) (m : List ℕ) (cl
       ∙ ap (λ (fs : List Fill). told_by_type (reports_in before) m (lived o) (answers_last m (asked_as terms o)) fs (shown terms before o.new)) fills-own
       ∙ ap (λ (s : Shown). told_by_type (reports_in before) m (lived o) (answers_last m (asked_as terms o)) (map fill_of o.trades) s) shown-own
 
-  told-to : to_client_of o.new B ≡ record { client = client; bodies = bodies }
+  pub told-to : to_client_of o.new B ≡ record { client = client; bodies = bodies }
   told-to =
       let on_order : told_on terms port m before (order_of_token terms port A (heard.token m)) ≡ to_client_of o.new B = ap (told_on terms port m before) on' ∙ ap (to_client_of o.new) told-all in
       let by_row : told terms (Heard port m) before ≡ told_on terms port m before (order_of_token terms port A (heard.token m)) = rw (judged, no_t, no_s) refl in
@@ -218,7 +218,10 @@ module _ (terms : List Terms) (before : History) (port : ℕ) (m : List ℕ) (cl
   abbrev MovesTo : OrderRecord → Type 0
   MovesTo p = Moves Homes (IsFound A o.new) (IsUsed (issued o.new.client before)) terms (old_ids o.new.client A) (issued o.new.client before) (reports_in before) (1_000_000 * length before) 1_000_000 m o p
 
-  moves : (p : OrderRecord) × MovesTo p
+  abbrev next : OrderRecord
+  next = after_message (reports_in before) m o
+
+  moves : MovesTo next
   moves = row-moves Homes (IsFound A o.new) (IsUsed (issued o.new.client before)) terms (old_ids o.new.client A) (issued o.new.client before) (reports_in before) (1_000_000 * length before) m o
       (λ type. omega (arith, accepted-shares terms port m before type l)) (λ type. omega (arith, replaced-shares terms port m before type l)) price_small reports_small (omega arith) row f.keeps
       (named terms A (numbered before) (issued o.new.client before) (handled (port_of terms o.new) before) (outstanding terms (port_of terms o.new) before) (reports_in before) (1_000_000 * length before) o f) f.reads
@@ -288,7 +291,7 @@ module _ (terms : List Terms) (before : History) (port : ℕ) (m : List ℕ) (cl
     other-used : (id : List ℕ) → is_used id (issued x.new.client before) ≡ true → is_used id (issued x.new.client (t ∷ before)) ≡ true
     other-used id used = issued-keeps (λ xs. is_used id xs ≡ true) x.new.client x.new.order apart (λ r xs off e. rw e (Rattle.order_histories.proofs.Texts.or-true (is 11 id r))) used
 
-    other-fits : FitsIn terms (t ∷ before) x
+    pub other-fits : FitsIn terms (t ∷ before) x
     other-fits = deaf-fits terms before port m client bodies sends H x g
         (other-deaf terms A (issued x.new.client before) m x g.holds g.keeps.first g.keeps.left (apart-home terms A port (heard.token m) o.new x.new on' apart) (λ u. apart-home terms A port (heard.previous_token m) o.new x.new (previous-on u) apart))
         other-reads other-used
@@ -358,23 +361,27 @@ module _ (terms : List Terms) (before : History) (port : ℕ) (m : List ℕ) (cl
   abbrev Both : Entry → Type 0
   Both e = HasRecord terms (t ∷ before) e × IsTrueToMarket terms t before e
 
+  -- the record says the order's own message still
+  back : next ≡ record next { new = o.new }
+  back = ap (λ (x : Entry). record next { new = x }) moves.same
+
+  still-moves : MovesTo (record next { new = o.new })
+  still-moves = subst MovesTo back moves
+
+  pub own-fits : FitsIn terms (t ∷ before) next
+  own-fits = subst (FitsIn terms (t ∷ before)) (sym back) (moved-fits next still-moves)
+
   each-order : (e : Entry) → HasRecord terms before e → Both e
   each-order e r = by_order (bytes_eq o.new.order r.order.new.order) refl
     where
-      back : moves.0 ≡ record moves.0 { new = o.new }
-      back = ap (λ (x : Entry). record moves.0 { new = x }) moves.1.same
-
-      M : MovesTo (record moves.0 { new = o.new })
-      M = subst MovesTo back moves.1
-
       mine : HasRecord terms (t ∷ before) o.new
-      mine = own-record moves.0 M
+      mine = own-record next still-moves
 
       by_order : (b : Bool) → bytes_eq o.new.order r.order.new.order ≡ b → Both e
       by_order true same =
           let orders_same : o.new.order ≡ r.order.new.order = eq-is o.new.order r.order.new.order same in
           let it : o.new ≡ e = same_some o.new r.order.new (sym f.known ∙ ap (λ (k : List ℕ). new_of k A) orders_same ∙ r.fits.known) ∙ r.same in
-          subst Both it (mine, true-of terms t before o.new mine (λ own_turn. own-well moves.0 M))
+          subst Both it (mine, true-of terms t before o.new mine (λ own_turn. own-well next still-moves))
       by_order false apart =
           let has : HasRecord terms (t ∷ before) e = record { order = r.order; same = r.same; fits = other-fits r.order r.fits apart } in
           (has, true-of terms t before e has (λ own_turn. subst (λ (x : Entry). ReadsWell x.order x.message (old_ids x.client (accepted terms (t ∷ before))) (issued x.client before) bodies) r.same (other-well r.order r.fits apart)))

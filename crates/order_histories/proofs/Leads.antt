@@ -7,10 +7,10 @@ use Rattle.order_law.specs.History.{Entry}
 use Rattle.order_law.specs.Told as told
 use Rattle.order_law.specs.Told.{Occasion, Shown, on_request, plain, report, answered_no, is_cancel}
 use Rattle.order_law.specs.Headline.{ReadsWell, has_due_ids}
-use Rattle.order_histories.specs.OrderRecord.{Cancelling, OrderRecord, chained, gone, shown_as, unasked}
+use Rattle.order_histories.specs.OrderRecord.{Cancelling, OrderRecord, all_cancelled, at, chained, gone, shown_as, unasked}
 use Rattle.order_histories.proofs.Texts.{eq-same, eq-turned}
 use Rattle.order_histories.proofs.Due.{IsSound, Reads}
-use Rattle.order_histories.proofs.Reports.{Tells, all_cancelled, canceled-Reads, canceled_on-Reads, report-tells}
+use Rattle.order_histories.proofs.Reports.{Tells, canceled-Reads, canceled_on-Reads, report-tells}
 use Rattle.order_histories.proofs.Sound.{all_cancelled-sound, without_cancel-sound, without_replace-sound}
 use Rattle.order_histories.proofs.Rejects.{no_cancel-Reads, no_replace-Reads, not_used-0, not_used-2, reject-tells}
 
@@ -31,10 +31,6 @@ leads-one old_id sent r o t = record { reads = t.reads; well = (t.says, tt) }
 
 pub leads-more : (old_id : List ℕ → List ℕ) (sent : List Message) (r : Message) (rs : List Message) (o p : OrderRecord) → Tells old_id sent r o → Leads o.new old_id (r ∷ sent) rs p → Leads o.new old_id sent (r ∷ rs) p
 leads-more old_id sent r rs o p t more = record { reads = more.reads; well = (t.says, more.well) }
-
--- an order with these requests pending
-abbrev pub at : OrderRecord → Option Entry → Option Cancelling → OrderRecord
-at o r c = record o { replace = r; cancel = c }
 
 -- the ids of an order and of its pending requests are all different
 pub record AreApart (o : OrderRecord) : Type 0 where

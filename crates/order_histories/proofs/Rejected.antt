@@ -12,15 +12,15 @@ use Rattle.order_law.specs.History.{Entry, SaysCancel, Terms, answers}
 use Rattle.order_law.specs.Told.{cancel_rejected, report, told_by_type, too_late}
 use Rattle.order_law.specs.Headline.{Each, has_due_ids}
 use Rattle.order_histories.proofs.Lists.{Each-filter}
-use Rattle.order_histories.specs.OrderRecord.{Cancelling, OrderRecord, asked_as, cancel_asked, chained, fill_of, live_token, lived, replace_asked, shown_as, still_cancelling, unasked}
+use Rattle.order_histories.specs.OrderRecord.{Cancelling, OrderRecord, asked_as, at, cancel_asked, chained, fill_of, last_of, live_token, lived, refused, replace_asked, shown_as, still_cancelling, unasked}
 use Rattle.order_histories.proofs.Texts.{eq-same}
 use Rattle.order_histories.proofs.Due.{Reads}
-use Rattle.order_histories.proofs.Leads.{AreNamed, Leads, at, leads-more, too_late-leads}
+use Rattle.order_histories.proofs.Leads.{AreNamed, Leads, leads-more, too_late-leads}
 use Rattle.order_histories.proofs.Moves.{Keeps, Moves, Of-unasked, answers_last, unanswered}
-use Rattle.order_histories.proofs.Asked.{asked-parts, cancel-goes_on, last-is, last_of, still-left, still-request}
+use Rattle.order_histories.proofs.Asked.{asked-parts, cancel-goes_on, last-is, still-left, still-request}
 use Rattle.order_histories.proofs.Executed.{AreNumbered-more}
 use Rattle.order_histories.proofs.Canceled.{over-keeps}
-use Rattle.order_histories.proofs.Reports.{Tells, refused, refused-Reads, refused_occasion, report-tells}
+use Rattle.order_histories.proofs.Reports.{Tells, refused-Reads, refused_occasion, report-tells}
 use Rattle.order_histories.proofs.Sound.{refused-sound}
 
 -- ---- of the new order

@@ -14,15 +14,15 @@ use Rattle.order_law.specs.History.{Entry, Terms, token_of}
 use Rattle.order_law.specs.Told.{Occasion, Shown, answered_no, cancelled, cancel_rejected, on_request, opens, plain, report, told_by_type, too_late}
 use Rattle.order_law.specs.Told as told
 use Rattle.order_law.specs.Headline.{has_due_ids}
-use Rattle.order_histories.specs.OrderRecord.{Cancelling, OrderRecord, asked_as, cancel_asked, cancel_entry, chained, fill_of, gone, leaves, live_token, lived, new_asked, replace_asked, shown_as, still_cancelling, unasked}
+use Rattle.order_histories.specs.OrderRecord.{Cancelling, OrderRecord, asked_as, at, cancel_asked, cancel_entry, chained, fill_of, gone, last_of, leaves, live_token, lived, new_asked, replace_asked, replaced, shown_as, still_cancelling, unasked}
 use Rattle.order_histories.proofs.Texts.{eq-same}
 use Rattle.order_histories.proofs.Due.{IsSound, Reads}
-use Rattle.order_histories.proofs.Leads.{AreApart, AreApart-rest, AreNamed, AreNamed-rest, Leads, at, cancelled-leads, leads-more, replace-answered}
+use Rattle.order_histories.proofs.Leads.{AreApart, AreApart-rest, AreNamed, AreNamed-rest, Leads, cancelled-leads, leads-more, replace-answered}
 use Rattle.order_histories.proofs.Moves.{Keeps, Moves, answers_last, unanswered}
-use Rattle.order_histories.proofs.Asked.{asked-parts, cancel-goes_on, last-is, last_of, still-left, still-request}
+use Rattle.order_histories.proofs.Asked.{asked-parts, cancel-goes_on, last-is, still-left, still-request}
 use Rattle.order_histories.proofs.Executed.{AreNumbered-more}
 use Rattle.order_histories.proofs.Canceled.{over-keeps}
-use Rattle.order_histories.proofs.Reports.{Tells, replaced, replaced-Reads, report-tells}
+use Rattle.order_histories.proofs.Reports.{Tells, replaced-Reads, report-tells}
 use Rattle.order_histories.proofs.Rejects.{not_used-2}
 use Rattle.order_histories.proofs.Sound.{replaced-sound, without_replace-sound}
 use Rattle.order_histories.proofs.Rejected.{asked-keeps, still-of}

@@ -16,7 +16,7 @@ use Rattle.order_law.specs.Chain.{Chain, Request, chain}
 use Rattle.order_law.specs.History.{Entry}
 use Rattle.order_law.specs.Told.{Occasion, on_request, plain, newly_shown, report}
 use Rattle.order_law.specs.Headline.{SaysOf, has_due_ids}
-use Rattle.order_histories.specs.OrderRecord.{Cancelling, OrderRecord, ToldTrade, chained, entered, fill_of, gone, leaves, opened, shown_as, without_cancel}
+use Rattle.order_histories.specs.OrderRecord.{Cancelling, OrderRecord, ToldTrade, all_cancelled, broken, chained, entered, fill_of, filled, gone, leaves, mark, opened, reduced, refused, replaced, shown_as, traded, without_cancel}
 use Rattle.order_histories.proofs.Texts.{eq-same, number-decimal}
 use Rattle.order_histories.proofs.Due.{IsSound, IsUnread, Reads, state-due}
 
@@ -72,10 +72,6 @@ cancel-stays : (id : List ℕ) (c : Option Cancelling) → ((x : Cancelling) →
 cancel-stays id None apart o = refl
 cancel-stays id (Some c) apart o = let other = apart c refl in rw other refl
 
--- in the book under a replace
-abbrev pub replaced : List ℕ → Entry → OrderRecord → OrderRecord
-replaced m q o = record (opened m o) { id = text 11 q.message; tokens = heard.token m ∷ o.tokens; replace = None }
-
 -- 150=5: a replace is answered, and the order goes by its id
 pub replaced-Reads : (n : ℕ) (m : List ℕ) (q : Entry) (o : OrderRecord) (sent : List Message) → o.stage ≡ Working → o.is_refused ≡ false → o.replace ≡ Some q
     → ((c : Cancelling) → o.cancel ≡ Some c → bytes_eq (text 11 c.request.message) (text 11 q.message) ≡ false)
@@ -96,10 +92,6 @@ replaced-Reads n m q o sent works live is_q apart small small_total reads =
     by_cancel None is_c = rw is_c refl
     by_cancel (Some c) is_c = let other = apart c is_c in rw (is_c, other) refl
 
--- less is open
-abbrev pub reduced : ℕ → OrderRecord → OrderRecord
-reduced shares o = record o { unfilled = o.unfilled - shares; cancelled = o.cancelled + shares; total = o.executed + (o.unfilled - shares) }
-
 -- 150=D: a part of what was open is cancelled
 pub restated-Reads : (n shares : ℕ) (restated why : List ℕ) (o : OrderRecord) (sent : List Message) → o.stage ≡ Working → shares ≤ o.unfilled → o.unfilled < 10 ^ 64 → o.executed + o.unfilled < 10 ^ 64 → Reads sent o
     → Reads (report n (record (plain (codes "D")) { restated = Some restated; why = Some why }) (shown_as (reduced shares o)) ∷ sent) (reduced shares o)
@@ -113,10 +105,6 @@ restated-Reads n shares restated why o sent works few small small_total reads =
       chained_so = rw (own, reads.chained_so) refl;
       refused_so = rw (own, reads.refused_so) refl;
     }
-
--- all of it is cancelled, which answers a cancel
-abbrev pub all_cancelled : OrderRecord → OrderRecord
-all_cancelled o = without_cancel (gone o)
 
 zero-off : (n : ℕ) → n - 0 ≡ n
 zero-off n = omega arith
@@ -158,26 +146,6 @@ canceled-Reads n why o sent works no_c apart reads =
     by_replace None is_r = rw is_r refl
     by_replace (Some q) is_r = let other = apart q is_r in rw (is_r, other) refl
 
--- a trade, which leaves something open
-abbrev pub traded : ℕ → Trade → OrderRecord → OrderRecord
-traded n t o = record o {
-  unfilled = o.unfilled - t.shares;
-  executed = o.executed + t.shares;
-  value = o.value + t.shares * t.price;
-  total = (o.executed + t.shares) + (o.unfilled - t.shares);
-  trades = record { trade = t; number = n } ∷ o.trades;
-}
-
--- a trade that leaves nothing open: 38 stays
-abbrev pub filled : ℕ → Trade → OrderRecord → OrderRecord
-filled n t o = record o {
-  stage = Closed;
-  unfilled = o.unfilled - t.shares;
-  executed = o.executed + t.shares;
-  value = o.value + t.shares * t.price;
-  trades = record { trade = t; number = n } ∷ o.trades;
-}
-
 abbrev pub trade_occasion : Trade → Occasion
 trade_occasion t = record (plain (codes "F")) { shares = Some t.shares; at = Some t.price }
 
@@ -209,18 +177,6 @@ filled-Reads n t o sent works few price_small small reads =
     }
 
 -- ---- a trade is broken
-
--- the trade with this number is taken back
-abbrev pub mark : ℕ → ToldTrade → ToldTrade
-mark match_number t = record t { trade = marked match_number t.trade }
-
-abbrev pub broken : ToldTrade → OrderRecord → OrderRecord
-broken t o = record o {
-  executed = o.executed - t.trade.shares;
-  value = o.value - t.trade.shares * t.trade.price;
-  total = if is_closed o.stage then o.total else (o.executed - t.trade.shares) + o.unfilled;
-  trades = map (mark t.trade.match_number) o.trades;
-}
 
 -- what was told of a trade doesn't change as it is broken
 same-fill : (match_number : ℕ) (t : ToldTrade) → fill_of (mark match_number t) ≡ fill_of t
@@ -266,9 +222,6 @@ broken-Reads n t why o sent found small live accepted reads = by_stage o.stage r
         }
 
 -- ---- the market rejects the order
-
-abbrev pub refused : OrderRecord → OrderRecord
-refused o = record o { stage = Closed; is_refused = true }
 
 abbrev pub refused_occasion : List ℕ → Occasion
 refused_occasion why = record (plain (codes "8")) { code = Some (codes "99"); why = Some why }

@@ -10,7 +10,7 @@ use Rattle.order_law.specs.Chain.{chain, is_used}
 use Rattle.order_law.specs.History.{Asked, Entry, History, Terms, Turn, accepted, given, handled, is_new_order, issued, life_of, new_of, numbered, outstanding, pending_tokens, token_of}
 use Rattle.order_law.specs.Told.{Told, answers_last_cancel, nobody, opens, price_after, reports_in, told, told_by_type, told_on, to_client_of}
 use Rattle.order_law.specs.Headline.{Each, IsTrueToMarket, old_ids}
-use Rattle.order_histories.specs.OrderRecord.{Cancelling, OrderRecord, ToldTrade, asked_as, fill_of, lived, read, shown_as}
+use Rattle.order_histories.specs.OrderRecord.{Cancelling, OrderRecord, ToldTrade, asked_as, at, fill_of, lived, read, replacements, shown_as}
 use Rattle.order_histories.proofs.Texts.{eq-other, eq-same}
 use Rattle.order_histories.proofs.Lists.{Each-map}
 use Rattle.order_histories.proofs.Due.{Reads}
@@ -35,9 +35,7 @@ use Rattle.order_law.specs.Chain.{Chain, has_pending_cancel, has_pending_replace
 use Rattle.order_law.specs.Told as told
 use Rattle.order_law.specs.Headline.{has_due_ids}
 use Rattle.order_histories.specs.OrderRecord.{cancel_asked, cancel_of, chained, leaves, live_token, new_asked, replace_asked}
-use Rattle.order_histories.proofs.Row.{replacements}
 use Rattle.order_histories.proofs.Pushing.{found-kept, price-kept}
-use Rattle.order_histories.proofs.Leads.{at}
 use Rattle.std.proofs.Common.{◌⊎◌, inl, inr, ⊎_elim}
 use Rattle.order_law.specs.Told.{told_accepted_as, told_by_verdict}
 

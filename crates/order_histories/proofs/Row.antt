@@ -10,7 +10,7 @@ use Rattle.order_law.specs.Messages.{Message}
 use Rattle.order_law.specs.Life.{is_closed, is_dead_state, is_live, is_waiting}
 use Rattle.order_law.specs.History.{Entry, Said, SaysCancel, SaysNew, SaysReplace, Terms, answers, token_of}
 use Rattle.order_law.specs.Told.{told_by_type}
-use Rattle.order_histories.specs.OrderRecord.{OrderRecord, asked_as, fill_of, lived, shown_as}
+use Rattle.order_histories.specs.OrderRecord.{after_message, OrderRecord, asked_as, fill_of, lived, replacements, shown_as}
 use Rattle.order_histories.proofs.Texts.{eq-is}
 use Rattle.order_histories.proofs.Due.{Reads}
 use Rattle.order_histories.proofs.Leads.{AreNamed, Leads, leads-none}
@@ -29,11 +29,6 @@ use Rattle.order_histories.proofs.Accepted as accepted
 use Rattle.order_histories.proofs.Broken as broken
 use Rattle.order_histories.proofs.Rejected as rejected
 use Rattle.order_histories.proofs.Replaced as replaced
-
--- the tokens of its pending replaces
-abbrev pub replacements : Option Entry → List (List ℕ)
-replacements None = []
-replacements (Some q) = token_of q ∷ []
 
 working-is : (s : Stage) → is_working s ≡ true → s ≡ Working
 working-is Waiting e = absurd (cc)
@@ -105,7 +100,10 @@ module _ (P : List ℕ → Type 0) (Q : Entry → Type 0) (R : List ℕ → Type
     (row : row_holds m (lived o) o.new (replacements o.replace) ≡ true)
     (keeps : Keeps reports limit o) (named : AreNamed old_id o) (reads : Reads sent o) where
   abbrev Goes : Type 0
-  Goes = (p : OrderRecord) × Moves P Q R terms old_id sent reports limit 1_000_000 m o p
+  Goes = Moves P Q R terms old_id sent reports limit 1_000_000 m o (after_message reports m o)
+
+  goes : (p : OrderRecord) → after_message reports m o ≡ p → Moves P Q R terms old_id sent reports limit 1_000_000 m o p → Goes
+  goes p e moves = subst (λ (x : OrderRecord). Moves P Q R terms old_id sent reports limit 1_000_000 m o x) (sym e) moves
 
   on_accepted : type_of m ≡ 65 → Goes
   on_accepted type =
@@ -115,8 +113,8 @@ module _ (P : List ℕ → Type 0) (Q : Entry → Type 0) (R : List ℕ → Type
       by_state parts.0 waits (is_dead_state m) refl
     where
       by_state : is_live (lived o) (heard.token m) ≡ true → o.stage ≡ Waiting → (d : Bool) → is_dead_state m ≡ d → Goes
-      by_state live waits true dead = (_, accepted.dead-moves P Q R terms old_id sent reports limit 1_000_000 m o type live waits (accepted_few type) (omega arith) limit_small keeps named reads dead)
-      by_state live waits false alive = (_, accepted.live-moves P Q R terms old_id sent reports limit 1_000_000 m o type live waits (accepted_few type) (omega arith) limit_small keeps named reads alive)
+      by_state live waits true dead = goes _ (rw (type, dead) refl) (accepted.dead-moves P Q R terms old_id sent reports limit 1_000_000 m o type live waits (accepted_few type) (omega arith) limit_small keeps named reads dead)
+      by_state live waits false alive = goes _ (rw (type, alive) refl) (accepted.live-moves P Q R terms old_id sent reports limit 1_000_000 m o type live waits (accepted_few type) (omega arith) limit_small keeps named reads alive)
 
   on_replaced : type_of m ≡ 85 → Goes
   on_replaced type =
@@ -127,8 +125,8 @@ module _ (P : List ℕ → Type 0) (Q : Entry → Type 0) (R : List ℕ → Type
       by_state works.0 (working-is o.stage works.1) asked.0 asked.1 asked.2 (is_dead_state m) refl
     where
       by_state : is_live (lived o) (heard.previous_token m) ≡ true → o.stage ≡ Working → (q : Entry) → o.replace ≡ Some q → heard.token m ≡ token_of q → (d : Bool) → is_dead_state m ≡ d → Goes
-      by_state live works q is_q token true dead = (_, replaced.replaced_dead P Q R terms old_id sent reports limit 1_000_000 m o q type works live is_q token (replaced_few type) (omega arith) limit_small keeps named reads dead)
-      by_state live works q is_q token false alive = (_, replaced.replaced_live P Q R terms old_id sent reports limit 1_000_000 m o q type works live is_q token (replaced_few type) (omega arith) limit_small keeps named reads alive)
+      by_state live works q is_q token true dead = goes _ (rw (type, is_q, dead) refl) (replaced.replaced_dead P Q R terms old_id sent reports limit 1_000_000 m o q type works live is_q token (replaced_few type) (omega arith) limit_small keeps named reads dead)
+      by_state live works q is_q token false alive = goes _ (rw (type, is_q, alive) refl) (replaced.replaced_live P Q R terms old_id sent reports limit 1_000_000 m o q type works live is_q token (replaced_few type) (omega arith) limit_small keeps named reads alive)
 
   on_canceled : type_of m ≡ 67 → Goes
   on_canceled type =
@@ -139,8 +137,8 @@ module _ (P : List ℕ → Type 0) (Q : Entry → Type 0) (R : List ℕ → Type
       by_rest works.0 (working-is o.stage works.1) (leb-true 1 (heard.decrement m) few.0) (leb-true (heard.decrement m) o.unfilled few.1) (o.unfilled - heard.decrement m == 0) refl
     where
       by_rest : is_live (lived o) (heard.token m) ≡ true → o.stage ≡ Working → 1 ≤ heard.decrement m → heard.decrement m ≤ o.unfilled → (r : Bool) → (o.unfilled - heard.decrement m == 0) ≡ r → Goes
-      by_rest live works some few true none = (_, canceled.all-moves P Q R terms old_id sent reports limit 1_000_000 m o type live works some few limit_small keeps named reads none)
-      by_rest live works some few false rest = (_, canceled.part-moves P Q R terms old_id sent reports limit 1_000_000 m o type live works some few limit_small keeps named reads rest)
+      by_rest live works some few true none = goes _ (rw (type, none) refl) (canceled.all-moves P Q R terms old_id sent reports limit 1_000_000 m o type live works some few limit_small keeps named reads none)
+      by_rest live works some few false rest = goes _ (rw (type, rest) refl) (canceled.part-moves P Q R terms old_id sent reports limit 1_000_000 m o type live works some few limit_small keeps named reads rest)
 
   on_executed : type_of m ≡ 69 → Goes
   on_executed type =
@@ -151,14 +149,14 @@ module _ (P : List ℕ → Type 0) (Q : Entry → Type 0) (R : List ℕ → Type
       by_rest works.0 (working-is o.stage works.1) (leb-true 1 (heard.executed_shares m) few.0) (leb-true (heard.executed_shares m) o.unfilled few.1) (o.unfilled - heard.executed_shares m == 0) refl
     where
       by_rest : is_live (lived o) (heard.token m) ≡ true → o.stage ≡ Working → 1 ≤ heard.executed_shares m → heard.executed_shares m ≤ o.unfilled → (r : Bool) → (o.unfilled - heard.executed_shares m == 0) ≡ r → Goes
-      by_rest live works some few true none = (_, executed.all-moves P Q R terms old_id sent reports limit 1_000_000 m o type live works some few (price_small type) limit_small keeps named reads none)
-      by_rest live works some few false rest = (_, executed.part-moves P Q R terms old_id sent reports limit 1_000_000 m o type live works some few (price_small type) limit_small keeps named reads rest)
+      by_rest live works some few true none = goes _ (rw (type, none) refl) (executed.all-moves P Q R terms old_id sent reports limit 1_000_000 m o type live works some few (price_small type) limit_small keeps named reads none)
+      by_rest live works some few false rest = goes _ (rw (type, rest) refl) (executed.part-moves P Q R terms old_id sent reports limit 1_000_000 m o type live works some few (price_small type) limit_small keeps named reads rest)
 
   on_broken : type_of m ≡ 66 → Goes
   on_broken type =
       let may : broken_may m (lived o) ≡ true = rw type at row in
       let parts = and-parts (is_of (lived o) (heard.token m)) (list_any (stands_as (heard.broken_match m)) (lived o).trades) may in
-      (_, broken.broken-moves P Q R terms old_id sent reports limit 1_000_000 m o type parts.0 parts.1 reports_small limit_small keeps named reads)
+      goes _ (let here = (broken.found P Q R terms old_id sent reports limit 1_000_000 m o type parts.0 parts.1 reports_small limit_small keeps named reads).here in rw (type, here) refl) (broken.broken-moves P Q R terms old_id sent reports limit 1_000_000 m o type parts.0 parts.1 reports_small limit_small keeps named reads)
 
   on_rejected : type_of m ≡ 74 → Goes
   on_rejected type =
@@ -173,25 +171,25 @@ module _ (P : List ℕ → Type 0) (Q : Entry → Type 0) (R : List ℕ → Type
       by_first : rejected_may m (lived o) (replacements o.replace) ≡ true → (b : Bool) → (is_waiting o.stage && is_live (lived o) (heard.token m)) ≡ b → Goes
       by_first may true first =
           let parts = and-parts (is_waiting o.stage) (is_live (lived o) (heard.token m)) first in
-          (_, rejected.refused-moves P Q R terms old_id sent reports limit 1_000_000 m o type parts.1 (waiting-is o.stage parts.0) keeps named reads)
+          goes _ (rw (type, first) refl) (rejected.refused-moves P Q R terms old_id sent reports limit 1_000_000 m o type parts.1 (waiting-is o.stage parts.0) keeps named reads)
       by_first may false not_first =
           let rest = or-parts (is_live (lived o) (heard.token m) && is_waiting o.stage) (list_any (bytes_eq (heard.token m)) (replacements o.replace) && not (is_closed o.stage)) may (flipped (is_waiting o.stage) (is_live (lived o) (heard.token m)) not_first) in
           let parts = and-parts (list_any (bytes_eq (heard.token m)) (replacements o.replace)) (not (is_closed o.stage)) rest in
           let asked = replacement-is o.replace (heard.token m) parts.0 in
-          (_, replaced.not_replaced P Q R terms old_id sent reports limit 1_000_000 m o asked.0 type (closed-is o.stage parts.1) not_first asked.1 asked.2 keeps named reads)
+          goes _ (rw (type, not_first) refl) (replaced.not_replaced P Q R terms old_id sent reports limit 1_000_000 m o asked.0 type (closed-is o.stage parts.1) not_first asked.1 asked.2 keeps named reads)
 
   on_cancel_reject : type_of m ≡ 73 → Goes
   on_cancel_reject type =
       let may : cancel_reject_may m (lived o) ≡ true = rw type at row in
       let works = and-parts (is_live (lived o) (heard.token m)) (is_working o.stage) may in
-      (_, rejected.cancel_reject-moves P Q R terms old_id sent reports limit 1_000_000 m o type (working-is o.stage works.1) keeps named reads)
+      goes _ (rw type refl) (rejected.cancel_reject-moves P Q R terms old_id sent reports limit 1_000_000 m o type (working-is o.stage works.1) keeps named reads)
 
   pub row-moves : Goes
   row-moves = by_a (is_type (codes "A") m) refl
     where
       by_i : is_type (codes "A") m ≡ false → is_type (codes "U") m ≡ false → is_type (codes "C") m ≡ false → is_type (codes "E") m ≡ false → is_type (codes "B") m ≡ false → is_type (codes "J") m ≡ false → (t : Bool) → is_type (codes "I") m ≡ t → Goes
       by_i a u c e b j true i = on_cancel_reject (eqb-true (type_of m) 73 i)
-      by_i a u c e b j false i = (_, passed-moves P Q R terms old_id sent reports limit 1_000_000 m o a u c e b j i keeps reads)
+      by_i a u c e b j false i = goes o (rw (a, u, c, e, b, j, i) refl) (passed-moves P Q R terms old_id sent reports limit 1_000_000 m o a u c e b j i keeps reads)
 
       by_j : is_type (codes "A") m ≡ false → is_type (codes "U") m ≡ false → is_type (codes "C") m ≡ false → is_type (codes "E") m ≡ false → is_type (codes "B") m ≡ false → (t : Bool) → is_type (codes "J") m ≡ t → Goes
       by_j a u c e b true j = on_rejected (eqb-true (type_of m) 74 j)

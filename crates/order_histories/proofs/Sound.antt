@@ -6,9 +6,9 @@ use Rattle.order_law.specs.declared.trade.Trade.{Trade}
 use Rattle.order_law.specs.Life.{is_closed, is_waiting}
 use Rattle.order_law.specs.Verdicts.{is_replace}
 use Rattle.order_law.specs.History.{Entry}
-use Rattle.order_histories.specs.OrderRecord.{Cancelling, OrderRecord, ToldTrade, entered, leaves, opened, without_cancel, without_replace}
+use Rattle.order_histories.specs.OrderRecord.{Cancelling, OrderRecord, ToldTrade, all_cancelled, broken, entered, filled, leaves, opened, reduced, refused, replaced, traded, without_cancel, without_replace}
 use Rattle.order_histories.proofs.Due.{IsSound}
-use Rattle.order_histories.proofs.Reports.{all_cancelled, broken, filled, reduced, refused, replaced, traded, with_cancel, with_replace}
+use Rattle.order_histories.proofs.Reports.{with_cancel, with_replace}
 use Rattle.std.proofs.Common.{arith}
 
 pub entered-sound : (new : Entry) → IsSound (entered new)

@@ -1,17 +1,19 @@
 -- An order as one record: what its client's reports, the market's messages and the requests so far come to, and what one
 -- more message makes of it. Nobody has to believe it: it is a step of the proof, and everything in it is read from the lists.
-use Rattle.std.specs.Prelude.{ℕ, ◌+◌, Bool, true, false, not, ◌&&◌, List, [], ◌∷◌, ◌++◌, map, filter, Option, Some, None, option_to_list, decimal}
+use Rattle.std.specs.Prelude.{ℕ, ◌+◌, ◌-◌, ◌*◌, ◌==◌, Bool, true, false, not, ◌&&◌, List, [], ◌∷◌, ◌++◌, map, filter, Option, Some, None, option_to_list, decimal, if◌then◌else◌, codes}
+use Rattle.std.specs.List.{find}
 use Rattle.std.specs.Str.Parse.{digits_value}
-use Rattle.ouch_codec.specs.FromMarket as heard
 use Rattle.order_law.specs.declared.stage.Stage.{Stage}
 use Rattle.order_law.specs.declared.stage.Stage.TheVariants.{Waiting, Working, Closed}
 use Rattle.order_law.specs.declared.trade.Trade.{Trade}
 use Rattle.order_law.specs.Messages.{text, character}
 use Rattle.order_law.specs.Asks.{asked_by_new, asked_by_request, limit_of, total_of}
-use Rattle.order_law.specs.Life.{Life, is_closed, is_waiting, first_token}
+use Rattle.ouch_codec.specs.FromMarket as heard
+use Rattle.order_law.specs.Life.{Life, first_token, is_closed, is_dead_state, is_live, is_type, is_waiting, marked, stands_as}
 use Rattle.order_law.specs.Reading.{Fill, Reading}
 use Rattle.order_law.specs.Chain.{Chain, Request}
 use Rattle.order_law.specs.History.{Terms, terms_of, Entry, token_of, Asked, SaysNew, SaysReplace, SaysCancel, answers}
+use Rattle.order_law.specs.Verdicts.{is_replace}
 use Rattle.order_law.specs.Told.{Shown, leaves_at}
 
 -- a trade, and the number of the report that told it
@@ -191,3 +193,133 @@ with_tokens q (token ∷ tokens) = Some (record { request = q; tokens = token �
 abbrev pub still_cancelling : List ℕ → Option Cancelling → Option Cancelling
 still_cancelling m None = None
 still_cancelling m (Some c) = with_tokens c.request (kept m c.tokens)
+
+-- all of it is cancelled, which answers a cancel
+abbrev pub all_cancelled : OrderRecord → OrderRecord
+all_cancelled o = without_cancel (gone o)
+
+-- with these requests pending
+abbrev pub at : OrderRecord → Option Entry → Option Cancelling → OrderRecord
+at o r c = record o { replace = r; cancel = c }
+
+-- in the book under a replace
+abbrev pub replaced : List ℕ → Entry → OrderRecord → OrderRecord
+replaced m q o = record (opened m o) { id = text 11 q.message; tokens = heard.token m ∷ o.tokens; replace = None }
+
+-- less is open
+abbrev pub reduced : ℕ → OrderRecord → OrderRecord
+reduced shares o = record o { unfilled = o.unfilled - shares; cancelled = o.cancelled + shares; total = o.executed + (o.unfilled - shares) }
+
+-- a trade, which leaves something open
+abbrev pub traded : ℕ → Trade → OrderRecord → OrderRecord
+traded n t o = record o {
+  unfilled = o.unfilled - t.shares;
+  executed = o.executed + t.shares;
+  value = o.value + t.shares * t.price;
+  total = (o.executed + t.shares) + (o.unfilled - t.shares);
+  trades = record { trade = t; number = n } ∷ o.trades;
+}
+
+-- a trade that leaves nothing open: 38 stays
+abbrev pub filled : ℕ → Trade → OrderRecord → OrderRecord
+filled n t o = record o {
+  stage = Closed;
+  unfilled = o.unfilled - t.shares;
+  executed = o.executed + t.shares;
+  value = o.value + t.shares * t.price;
+  trades = record { trade = t; number = n } ∷ o.trades;
+}
+
+-- the trade with this number is taken back
+abbrev pub mark : ℕ → ToldTrade → ToldTrade
+mark match_number t = record t { trade = marked match_number t.trade }
+
+abbrev pub broken : ToldTrade → OrderRecord → OrderRecord
+broken t o = record o {
+  executed = o.executed - t.trade.shares;
+  value = o.value - t.trade.shares * t.trade.price;
+  total = if is_closed o.stage then o.total else (o.executed - t.trade.shares) + o.unfilled;
+  trades = map (mark t.trade.match_number) o.trades;
+}
+
+-- the market rejects it
+abbrev pub refused : OrderRecord → OrderRecord
+refused o = record o { stage = Closed; is_refused = true }
+
+-- the token of its pending replace
+abbrev pub replacements : Option Entry → List (List ℕ)
+replacements None = []
+replacements (Some q) = token_of q ∷ []
+
+abbrev pub is_empty : List (List ℕ) → Bool
+is_empty [] = true
+is_empty (token ∷ tokens) = false
+
+-- a message answers the last Cancel Order of a pending cancel
+abbrev pub last_of : List ℕ → Option Cancelling → Bool
+last_of m None = false
+last_of m (Some c) = is_empty (kept m c.tokens)
+
+-- ---- what a message of the market makes of it, which is lawful of it: a line for each row
+
+abbrev pub after_accepted : List ℕ → OrderRecord → OrderRecord
+after_accepted m o = if is_dead_state m then unasked (gone (opened m o)) else opened m o
+
+abbrev pub after_replaced : List ℕ → OrderRecord → OrderRecord
+after_replaced m o = by_request o.replace
+  where
+    by_request : Option Entry → OrderRecord
+    by_request None = o
+    by_request (Some q) =
+        if is_dead_state m then unasked (gone (replaced m q o)) else at (replaced m q o) None (still_cancelling m o.cancel)
+
+abbrev pub after_canceled : List ℕ → OrderRecord → OrderRecord
+after_canceled m o = if o.unfilled - heard.decrement m == 0 then unasked (gone o) else reduced (heard.decrement m) o
+
+abbrev pub trade_in : List ℕ → Trade
+trade_in m = record { match_number = heard.executed_match m; shares = heard.executed_shares m; price = heard.executed_price m; is_broken = false }
+
+-- its report has the number after so many
+abbrev pub after_executed : ℕ → List ℕ → OrderRecord → OrderRecord
+after_executed reports m o =
+    if o.unfilled - heard.executed_shares m == 0 then unasked (filled (reports + 1) (trade_in m) o)
+    else traded (reports + 1) (trade_in m) o
+
+-- a trade stands under this number
+abbrev pub stands_told : ℕ → ToldTrade → Bool
+stands_told match_number t = stands_as match_number t.trade
+
+abbrev pub after_broken : List ℕ → OrderRecord → OrderRecord
+after_broken m o = by_trade (find (stands_told (heard.broken_match m)) o.trades)
+  where
+    by_trade : Option ToldTrade → OrderRecord
+    by_trade None = o
+    by_trade (Some t) = broken t o
+
+-- of the new order while it waits, or of its replace
+abbrev pub after_rejected : List ℕ → OrderRecord → OrderRecord
+after_rejected m o =
+    if is_waiting o.stage && is_live (lived o) (heard.token m) then unasked (refused o)
+    else at o None (still_cancelling m o.cancel)
+
+abbrev pub after_cancel_reject : List ℕ → OrderRecord → OrderRecord
+after_cancel_reject m o = at o o.replace (still_cancelling m o.cancel)
+
+-- by its type, after so many reports
+abbrev pub after_message : ℕ → List ℕ → OrderRecord → OrderRecord
+after_message reports m o =
+    if is_type (codes "A") m then after_accepted m o
+    else (if is_type (codes "U") m then after_replaced m o
+    else (if is_type (codes "C") m then after_canceled m o
+    else (if is_type (codes "E") m then after_executed reports m o
+    else (if is_type (codes "B") m then after_broken m o
+    else (if is_type (codes "J") m then after_rejected m o
+    else (if is_type (codes "I") m then after_cancel_reject m o else o))))))
+
+-- ---- what an accepted request makes of it
+
+-- a replace asks for its token; a cancel asks for the live token and that of a pending replace
+abbrev pub after_request : Entry → OrderRecord → OrderRecord
+after_request q o =
+    if is_replace q.message then at o (Some q) o.cancel
+    else at o o.replace (Some (record { request = q; tokens = live_token o ∷ replacements o.replace }))
