@@ -1,6 +1,6 @@
 -- When a market message is lawful, and which fault it is if not: read from the lists so far. (OUCH 4.2, "Outbound
 -- Messages".)
-use Rattle.std.specs.Prelude.{ℕ, ◌==◌, Bool, true, false, not, ◌&&◌, ◌||◌, nat_le, List, [], ◌∷◌, length, Option, Some, None, if◌then◌else◌, bytes_eq, codes, is_some, slice_index}
+use Rattle.std.specs.Prelude.{ℕ, ◌==◌, Bool, true, false, not, ◌&&◌, ◌||◌, nat_le, List, [], ◌∷◌, length, Option, Some, None, if◌then◌else◌, bytes_eq, codes, is_some, option_map, slice_index}
 use Rattle.std.specs.List.{find, list_any}
 use Rattle.ouch_codec.specs.declared.layout.Kind.{Kind}
 use Rattle.ouch_codec.specs.Layout.{is_message}
@@ -55,9 +55,6 @@ order_of_token terms port entries token = new_by (find (has_token terms port tok
     new_by : Option Entry → Option Entry
     new_by None = None
     new_by (Some e) = new_of e.order entries
-
-abbrev pub is_known_token : List Terms → ℕ → List Entry → List ℕ → Bool
-is_known_token terms port entries token = is_some (order_of_token terms port entries token)
 
 -- side and stock as the new order has them
 abbrev pub same_terms : List ℕ → Entry → Bool
@@ -120,30 +117,37 @@ row_holds m l new pending =
 abbrev pub order_token : List ℕ → List ℕ
 order_token m = if is_type (codes "U") m then heard.previous_token m else heard.token m
 
--- of the order that it is on, by its row
-abbrev pub judged_on : List Terms → ℕ → List ℕ → History → Option Entry → Option ℕ
-judged_on terms port m before None = Some token_fault
-judged_on terms port m before (Some new) =
-    if row_holds m (life_of new.order (accepted terms before) (handled port before)) new
-    (pending_tokens new.client (chain new.order (issued new.client before)) (accepted terms before))
-    then None else Some row_fault
+-- of the order that its token leads to, where it leads to one: whether the row of its type holds
+abbrev pub judged_on : Option Bool → Option ℕ
+judged_on None = Some token_fault
+judged_on (Some holds) = if holds then None else Some row_fault
 
 -- its tokens are known, and it is lawful of its order
-abbrev pub judged_tokens : List Terms → ℕ → List ℕ → History → Option ℕ
-judged_tokens terms port m before =
-    if is_known_token terms port (accepted terms before) (heard.token m)
-    then judged_on terms port m before (order_of_token terms port (accepted terms before) (order_token m))
-    else Some token_fault
+abbrev pub judged_tokens : (List ℕ → Option Bool) → List ℕ → Option ℕ
+judged_tokens row_on m = if is_some (row_on (heard.token m)) then judged_on (row_on (order_token m)) else Some token_fault
 
 -- it is a message of its type. A System Event has no token.
-abbrev pub judged_bytes : List Terms → ℕ → List ℕ → History → Option (List Kind) → Option ℕ
-judged_bytes terms port m before None = Some type_fault
-judged_bytes terms port m before (Some layout) =
+abbrev pub judged_bytes : (List ℕ → Option Bool) → List ℕ → Option (List Kind) → Option ℕ
+judged_bytes row_on m None = Some type_fault
+judged_bytes row_on m (Some layout) =
     if not (is_message layout m) then Some bytes_fault
-    else (if is_type (codes "S") m then None else judged_tokens terms port m before)
+    else (if is_type (codes "S") m then None else judged_tokens row_on m)
 
--- The fault of a payload, if it is one. `T` is passed over, whatever its bytes.
-abbrev pub judgement : List Terms → ℕ → List ℕ → History → Option ℕ
-judgement terms port m before =
+-- The fault of a payload, if it is one; `row_on` says of a token whether the payload is lawful of the order that it leads
+-- to. `T` is passed over, whatever its bytes.
+abbrev pub judged_by : (List ℕ → Option Bool) → List ℕ → Option ℕ
+judged_by row_on m =
     if length m == 0 then Some bytes_fault
-    else (if is_type (codes "T") m then None else judged_bytes terms port m before (layout_in profile (type_of m)))
+    else (if is_type (codes "T") m then None else judged_bytes row_on m (layout_in profile (type_of m)))
+
+-- lawful of the order that a token leads to, as the lists have it
+abbrev pub is_lawful_on : List Terms → ℕ → List ℕ → History → List ℕ → Option Bool
+is_lawful_on terms port m before token = option_map row_of (order_of_token terms port (accepted terms before) token)
+  where
+    row_of : Entry → Bool
+    row_of new =
+        row_holds m (life_of new.order (accepted terms before) (handled port before)) new
+        (pending_tokens new.client (chain new.order (issued new.client before)) (accepted terms before))
+
+abbrev pub judgement : List Terms → ℕ → List ℕ → History → Option ℕ
+judgement terms port m before = judged_by (is_lawful_on terms port m before) m

@@ -209,9 +209,14 @@ named_rows (Some n) port given m =
     ++ row (has_to_wait (is_replace m) n.chain) 3 (codes "already pending")
     ∷ (if is_replace m then replace_rows n given m else [])
 
--- The table of a cancel or replace. `named` is the order that its 41 names.
+-- The table of a cancel or replace: whether its id is used, the order that its 41 names, how the port stands, and how many
+-- tokens are given.
+abbrev pub rows_of_request : Bool → Option Named → Port → ℕ → Message → List Row
+rows_of_request is_used_id named port given m = duplicate_row is_used_id ∷ named_rows named port given m
+
+-- the same, of a client that was sent these
 abbrev pub request_rows : List Message → Option Named → Port → ℕ → Message → List Row
-request_rows sent named port given m = duplicate_row (is_used (text 11 m) sent) ∷ named_rows named port given m
+request_rows sent named port given m = rows_of_request (is_used (text 11 m) sent) named port given m
 
 abbrev pub verdict_of_request : List Message → Option Named → Port → ℕ → Message → Verdict
 verdict_of_request sent named port given m = first_row (request_rows sent named port given m)
