@@ -29,3 +29,5 @@ pub mod Coming
 pub mod Came
 pub mod Requested
 pub mod Truth
+pub mod Finding
+pub mod Linked

@@ -1,2 +1,5 @@
 pub mod OrderRecord
 pub mod Told
+pub mod Table
+pub mod Machine
+pub mod Runs

@@ -1,0 +1,42 @@
+-- Which table a run of turns leaves.
+use Rattle.std.specs.Prelude.{◌≡◌, ℕ, List, [], ◌∷◌, Option, option_map}
+use Rattle.std.specs.Str.Parse.{digits_value}
+use Rattle.order_law.specs.History.{Terms, terms_of, Event, Came, Heard, History, Turn}
+use Rattle.order_law.specs.Headline.{Says, Sends}
+use Rattle.order_histories.specs.OrderRecord.{OrderRecord}
+use Rattle.order_histories.specs.Told.{IsEvent}
+use Rattle.order_histories.specs.Table.{State, by_token, empty}
+use Rattle.order_histories.specs.Machine.{Given, step}
+
+-- the tokens of a port lead to these orders
+abbrev pub LeadsTo : State → ℕ → (List ℕ → Option ℕ) → Type 0
+LeadsTo s port order_of = (token : List ℕ) → order_of token ≡ option_map (λ (o : OrderRecord). digits_value 10 o.new.order) (by_token s port token)
+
+-- what is sent in a turn: where the port is up, messages that say what is asked
+abbrev pub SendsAs : State → Event → Given → List (List ℕ) → Type 0
+SendsAs old (Came client m port) g sends =
+    (order_of : List ℕ → Option ℕ) → LeadsTo g.state (terms_of old.terms client).port order_of
+    → Sends port (Says (terms_of old.terms client).standing order_of) g.asks sends
+SendsAs old (Heard port m) g sends = sends ≡ []
+
+-- a turn is what its event gives, and leaves the table that it gives
+pub record Meets (old : State) (event : Event) (g : Given) (t : Turn) (s : State) : Type 0 where
+  pub state : s ≡ g.state
+  pub client : t.client ≡ g.client
+  pub bodies : t.bodies ≡ g.bodies
+  pub fault : t.fault ≡ g.fault
+  pub sends : SendsAs old event g t.sends
+
+-- one turn leads from one table to the next
+pub record Leads (old : State) (t : Turn) (s : State) : Type 0 where
+  pub is_event : IsEvent t.event
+  pub meets : Meets old t.event (step old t.event) t s
+
+-- the turns, the newest first, leave this table
+unfoldable pub Leaves : List Terms → History → State → Type 0
+Leaves terms [] s = s ≡ empty terms
+Leaves terms (t ∷ before) s = (old : State) × Leaves terms before old × Leads old t s
+
+-- the turns leave some table: each of them is just what the machine gives
+abbrev pub IsRun : List Terms → History → Type 0
+IsRun terms h = (s : State) × Leaves terms h s
