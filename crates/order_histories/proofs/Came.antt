@@ -14,7 +14,7 @@ use Rattle.order_histories.proofs.Due.{Reads, Reads-others, ReadsWell-others}
 use Rattle.order_histories.proofs.Leads.{same_some}
 use Rattle.order_histories.proofs.Moves.{Of}
 use Rattle.order_histories.proofs.Fits.{IsFound, IsHome, IsUsed, own, shown-is}
-use Rattle.order_histories.proofs.Holds.{HasRecord, Holds, FitsIn, PassesOver, news, port_of}
+use Rattle.order_histories.proofs.Holds.{Still, StillBeside, HasRecord, Holds, FitsIn, PassesOver, news, port_of}
 use Rattle.order_histories.proofs.Reports.{Tells, entered-Reads, report-tells}
 use Rattle.order_histories.proofs.Sound.{entered-sound}
 use Rattle.order_histories.proofs.Rejects.{IsNotPending, refused-tells}
@@ -44,7 +44,7 @@ module _ (terms : List Terms) (before : History) (client : ℕ) (m : Message) (p
   off : (k : List ℕ) (n : ℕ) → k ≡ decimal n → n ≤ numbered before → is 37 k r ≡ false
   off k n is_n few = rw is_n (eq-decimal_other (numbered before + 1) n (λ same. (omega (arith, same, few))) (omega (arith, H.few)) (omega (arith, few, H.few)))
 
-  pub new-refused : is_new_order m ≡ true → Holds terms (coming_turn client m port (r ∷ []) sends ∷ before) × Each (IsTrueToMarket terms (coming_turn client m port (r ∷ []) sends) before) (news (accepted terms (coming_turn client m port (r ∷ []) sends ∷ before)))
+  pub new-refused : is_new_order m ≡ true → Holds terms (coming_turn client m port (r ∷ []) sends ∷ before) × Each (IsTrueToMarket terms (coming_turn client m port (r ∷ []) sends) before) (news (accepted terms (coming_turn client m port (r ∷ []) sends ∷ before))) × Still terms (coming_turn client m port (r ∷ []) sends) before
   new-refused new = coming.refused-Holds terms before client m port r sends H none-taken refl
       (λ n above small. eq-decimal_other (numbered before + 1) n (λ same. (omega (arith, same, above, count))) (omega (arith, H.few)) small)
       (λ x f mine. record {
@@ -82,7 +82,7 @@ module _ (terms : List Terms) (before : History) (client : ℕ) (m : Message) (p
   abbrev n : Message
   n = reject (codes "NONE") (codes "8") m code why
 
-  pub unknown-refused : Holds terms (coming_turn client m port (n ∷ []) sends ∷ before) × Each (IsTrueToMarket terms (coming_turn client m port (n ∷ []) sends) before) (news (accepted terms (coming_turn client m port (n ∷ []) sends ∷ before)))
+  pub unknown-refused : Holds terms (coming_turn client m port (n ∷ []) sends ∷ before) × Each (IsTrueToMarket terms (coming_turn client m port (n ∷ []) sends) before) (news (accepted terms (coming_turn client m port (n ∷ []) sends ∷ before))) × Still terms (coming_turn client m port (n ∷ []) sends) before
   unknown-refused = coming.refused-Holds terms before client m port n sends H none-taken' refl
       (λ k above small. none-apart k small)
       (λ x f mine. (let off : is 37 x.new.order n ≡ false = rw f.order_is (none-apart f.number (omega (arith, f.is_numbered, H.few))) in record {
@@ -103,7 +103,7 @@ module _ (terms : List Terms) (before : History) (client : ℕ) (m : Message) (p
     reject-off : (k : List ℕ) → bytes_eq e.order k ≡ false → is 37 k x ≡ false
     reject-off k apart = apart
 
-    pub known-refused : Holds terms (coming_turn client m port (x ∷ []) sends ∷ before) × Each (IsTrueToMarket terms (coming_turn client m port (x ∷ []) sends) before) (news (accepted terms (coming_turn client m port (x ∷ []) sends ∷ before)))
+    pub known-refused : Holds terms (coming_turn client m port (x ∷ []) sends ∷ before) × Each (IsTrueToMarket terms (coming_turn client m port (x ∷ []) sends) before) (news (accepted terms (coming_turn client m port (x ∷ []) sends ∷ before))) × Still terms (coming_turn client m port (x ∷ []) sends) before
     known-refused = coming.refused-Holds terms before client m port x sends H none-taken' refl fresh (λ y f mine. by_order y f mine (bytes_eq e.order y.new.order) refl)
       where
         fresh : (k : ℕ) → numbered (coming_turn client m port (x ∷ []) sends ∷ before) < k → k < 10 ^ 64 → is 37 (decimal k) x ≡ false
@@ -199,7 +199,7 @@ module _ (terms : List Terms) (before : History) (client : ℕ) (m : Message) (p
   tells-new : (old_id : List ℕ → List ℕ) → Tells old_id (issued client before) a (entered en)
   tells-new old_id = report-tells (reports_in before + 1) (plain (codes "A")) (entered en) old_id (issued client before) (entered-sound en) reads-new (let id = eq-same (text 11 m) in rw id refl)
 
-  fits-new : FitsIn terms (w ∷ before) (entered en)
+  pub fits-new : FitsIn terms (w ∷ before) (entered en)
   fits-new = rw taken-new (record {
     reads = subst (λ (xs : List Message). Reads xs (entered en)) (sym (coming.issued-own terms before client m port a sends H)) reads-new;
     lives = born-life (token_of en) (character 54 m) (handled (port_of terms en) before) passes;
@@ -232,6 +232,9 @@ module _ (terms : List Terms) (before : History) (client : ℕ) (m : Message) (p
     order_is = refl;
     is_numbered = omega (arith, count-new);
   })
+
+  pub beside-new : StillBeside en.order terms w before
+  beside-new = coming.beside-fits terms before client m port a sends H en taken-new refl next-new refl
 
   pub new-taken : Holds terms (w ∷ before) × Each (IsTrueToMarket terms w before) (news (accepted terms (w ∷ before)))
   new-taken = coming.taken-Holds terms before client m port a sends H en taken-new refl next-new refl en own-known refl (numbered before + 1) refl (omega (arith, count-new)) (omega (arith, H.few))

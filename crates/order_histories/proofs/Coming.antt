@@ -16,7 +16,7 @@ use Rattle.order_histories.proofs.Due.{IsUnread, IsUnread-others, Reads, Reads-o
 use Rattle.order_histories.proofs.Executed.{count-more}
 use Rattle.order_histories.proofs.Leads.{same_some}
 use Rattle.order_histories.proofs.Fits.{own}
-use Rattle.order_histories.proofs.Holds.{HasRecord, Holds, IsEntry, FitsIn, news, orders_of, port_of, quiet-Fits, true-of}
+use Rattle.order_histories.proofs.Holds.{HasRecord, Holds, IsEntry, FitsIn, Still, StillBeside, news, orders_of, port_of, quiet-Fits, true-of}
 use Rattle.order_histories.proofs.Hearing.{append-nothing}
 use Rattle.order_histories.proofs.Texts.{or-true}
 use Rattle.order_law.specs.Messages.{text}
@@ -74,7 +74,7 @@ module _ (terms : List Terms) (before : History) (client : ℕ) (m : Message) (p
   module _ (none : entry_at terms (Came client m port) before ≡ None) (enters_none : (is_report r && is 150 (codes "A") r) ≡ false)
       (fresh : (n : ℕ) → numbered (t ∷ before) < n → n < 10 ^ 64 → is 37 (decimal n) r ≡ false)
       (tells : (x : OrderRecord) → FitsIn terms before x → client ≡ x.new.client → IsTold x) where
-    fits-still : (x : OrderRecord) → FitsIn terms before x → FitsIn terms (t ∷ before) x
+    pub fits-still : Still terms t before
     fits-still x f = rw none (quiet-Fits terms A (numbered before) (numbered (t ∷ before)) (issued x.new.client before) (issued x.new.client (t ∷ before)) (handled (port_of terms x.new) before) (handled (port_of terms x.new) before)
         (outstanding terms (port_of terms x.new) before) (outstanding terms (port_of terms x.new) before ++ []) (reports_in before) (reports_in (t ∷ before)) (1_000_000 * length before) (1_000_000 * length (t ∷ before)) x f count-now
         (issued-now (λ xs. Reads xs x) x.new.client (λ mine. (tells x f mine).reads) f.reads) (used-now x.new.client) refl refl (ap (own x.new.order) (append-nothing (outstanding terms (port_of terms x.new) before))) (omega arith) (omega arith))
@@ -88,7 +88,7 @@ module _ (terms : List Terms) (before : History) (client : ℕ) (m : Message) (p
         (λ own_turn. subst (λ (x : Entry). ReadsWell x.order x.message (old_ids x.client (accepted terms (t ∷ before))) (issued x.client before) (r ∷ [])) h.same
         (rw none ((tells h.order h.fits (own_turn ∙ ap (λ (x : Entry). x.client) (sym h.same))).says, tt)))) H.records
 
-    pub refused-Holds : Holds terms (t ∷ before) × Each (IsTrueToMarket terms t before) (news (accepted terms (t ∷ before)))
+    pub refused-Holds : Holds terms (t ∷ before) × Each (IsTrueToMarket terms t before) (news (accepted terms (t ∷ before))) × Still terms t before
     refused-Holds = (
       record {
         entries = rw none (Each-map (IsEntry terms A (numbered before)) (IsEntry terms A (numbered (t ∷ before))) A (λ e i. record { new = i.new; found = i.found; same_client = i.same_client; is_given = i.is_given; number = i.number; order_is = i.order_is; is_numbered = omega (arith, i.is_numbered, count-now) }) H.entries);
@@ -101,6 +101,7 @@ module _ (terms : List Terms) (before : History) (client : ℕ) (m : Message) (p
         few = few-now;
       },
       rw none true-still,
+      fits-still,
     )
 
 none-if : (b : Bool) → b ≡ false → ◌≡◌ {A = ℕ} (if b then 1 else 0) 0
@@ -166,7 +167,7 @@ module _ (terms : List Terms) (before : History) (client : ℕ) (m : Message) (p
   off-other : (k : List ℕ) → bytes_eq en.order k ≡ false → is 37 k r ≡ false
   off-other k apart = rw addressed apart
 
-  beside-fits : (x : OrderRecord) → FitsIn terms before x → bytes_eq en.order x.new.order ≡ false → FitsIn terms (u ∷ before) x
+  pub beside-fits : StillBeside en.order terms u before
   beside-fits x f apart = rw taken (pushed-Fits terms before en H next (numbered (u ∷ before)) (issued x.new.client (u ∷ before)) (asked-next (port_of terms x.new)) (reports_in (u ∷ before)) (1_000_000 * length (u ∷ before)) x f
       (count-now terms before client m port r sends H)
       (issued-now terms before client m port r sends H (λ xs. Reads xs x) x.new.client (λ mine. Reads-others x (r ∷ []) (issued x.new.client before) (off-other x.new.order apart, tt) f.reads) f.reads)

@@ -15,7 +15,7 @@ use Rattle.order_histories.proofs.Executed.{count-more}
 use Rattle.order_histories.proofs.Moves.{Keeps, unanswered}
 use Rattle.order_histories.proofs.Fits.{life-of, own, own-after}
 use Rattle.order_histories.proofs.Deaf.{IsDeaf}
-use Rattle.order_histories.proofs.Holds.{FitsIn, HasRecord, Holds, IsEntry, PassesOver, news, port_of, quiet-Fits, true-of}
+use Rattle.order_histories.proofs.Holds.{FitsIn, HasRecord, Holds, IsEntry, PassesOver, Still, news, port_of, quiet-Fits, true-of}
 use Rattle.order_histories.proofs.Deaf.{tokenless-deaf}
 use Rattle.order_law.specs.declared.stage.Stage.{Stage}
 use Rattle.order_law.specs.declared.stage.Stage.TheVariants.{Waiting, Working, Closed}
@@ -118,7 +118,7 @@ module _ (terms : List Terms) (before : History) (port : ℕ) (m : List ℕ) (se
   pub quiet-Holds : ((o : OrderRecord) → FitsIn terms before o → FitsIn terms (quiet ∷ before) o)
       → ((n p side : ℕ) → given (accepted terms before) < n → n ≤ 9_999_999_999_999 → Each (PassesOver (token_text n) side) (handled p (quiet ∷ before)))
       → ((n p : ℕ) → numbered before < n → n < 10 ^ 64 → own (decimal n) (outstanding terms p (quiet ∷ before)) ≡ [])
-      → Holds terms (quiet ∷ before) × Each (IsTrueToMarket terms quiet before) (news (accepted terms before))
+      → Holds terms (quiet ∷ before) × Each (IsTrueToMarket terms quiet before) (news (accepted terms before)) × Still terms quiet before
   quiet-Holds same unborn unasked = (
     record {
       entries = Each-map (IsEntry terms (accepted terms before) (numbered before)) (IsEntry terms (accepted terms before) (numbered (quiet ∷ before))) (accepted terms before)
@@ -132,6 +132,7 @@ module _ (terms : List Terms) (before : History) (port : ℕ) (m : List ℕ) (se
       few = omega (arith, H.few, count);
     },
     Each-map (HasRecord terms (quiet ∷ before)) (IsTrueToMarket terms quiet before) (news (accepted terms before)) (λ e r. true-of terms quiet before e r (λ mine. tt)) records,
+    same,
   )
     where
       count : numbered (quiet ∷ before) ≡ 0 + numbered before
@@ -141,7 +142,7 @@ module _ (terms : List Terms) (before : History) (port : ℕ) (m : List ℕ) (se
       records = Each-map (HasRecord terms before) (HasRecord terms (quiet ∷ before)) (news (accepted terms before)) (λ e r. record { order = r.order; same = r.same; fits = same r.order r.fits }) H.records
 
 -- a payload that is a fault
-pub fault-Holds : (terms : List Terms) (before : History) (port : ℕ) (m : List ℕ) (sends : List (List ℕ)) (n : ℕ) → Holds terms before → Holds terms (heard_turn port m 0 [] sends (Some n) ∷ before) × Each (IsTrueToMarket terms (heard_turn port m 0 [] sends (Some n)) before) (news (accepted terms before))
+pub fault-Holds : (terms : List Terms) (before : History) (port : ℕ) (m : List ℕ) (sends : List (List ℕ)) (n : ℕ) → Holds terms before → Holds terms (heard_turn port m 0 [] sends (Some n) ∷ before) × Each (IsTrueToMarket terms (heard_turn port m 0 [] sends (Some n)) before) (news (accepted terms before)) × Still terms (heard_turn port m 0 [] sends (Some n)) before
 fault-Holds terms before port m sends n H = quiet-Holds terms before port m sends (Some n) H same (λ k p side above most. subst (Each (PassesOver (token_text k) side)) (sym (same-handled p)) (H.unborn k p side above most)) (λ k p above small. ap (own (decimal k)) (append-nothing (outstanding terms p before)) ∙ H.unasked k p above small)
   where
     q : Turn
@@ -154,7 +155,7 @@ fault-Holds terms before port m sends n H = quiet-Holds terms before port m send
         by_test true = refl
         by_test false = refl
 
-    same : (o : OrderRecord) → FitsIn terms before o → FitsIn terms (q ∷ before) o
+    same : Still terms q before
     same o f = quiet-Fits terms (accepted terms before) (numbered before) (numbered (q ∷ before)) (issued o.new.client before) (issued o.new.client (q ∷ before)) (handled (port_of terms o.new) before) (handled (port_of terms o.new) (q ∷ before))
         (outstanding terms (port_of terms o.new) before) (outstanding terms (port_of terms o.new) (q ∷ before)) (reports_in before) (reports_in (q ∷ before)) (1_000_000 * length before) (1_000_000 * length (q ∷ before)) o f
         (omega (arith, numbered-heard port m 0 [] sends (Some n) before)) (same-reads terms before port m sends (Some n) H o f) (same-used terms before port m sends (Some n) H o.new.client)
@@ -164,7 +165,7 @@ fault-Holds terms before port m sends n H = quiet-Holds terms before port m send
 -- a payload without a token
 pub tokenless-Holds : (terms : List Terms) (before : History) (port : ℕ) (m : List ℕ) (sends : List (List ℕ)) → Holds terms before
     → is_type (codes "A") m ≡ false → is_type (codes "U") m ≡ false → is_type (codes "C") m ≡ false → is_type (codes "E") m ≡ false → is_type (codes "B") m ≡ false → is_type (codes "J") m ≡ false → is_type (codes "I") m ≡ false
-    → Holds terms (heard_turn port m 0 [] sends None ∷ before) × Each (IsTrueToMarket terms (heard_turn port m 0 [] sends None) before) (news (accepted terms before))
+    → Holds terms (heard_turn port m 0 [] sends None ∷ before) × Each (IsTrueToMarket terms (heard_turn port m 0 [] sends None) before) (news (accepted terms before)) × Still terms (heard_turn port m 0 [] sends None) before
 tokenless-Holds terms before port m sends H a u c e b j i = quiet-Holds terms before port m sends None H
     (λ o f. deaf-fits terms before port m 0 [] sends H o f (tokenless-deaf terms m o a u c e b j i) (same-reads terms before port m sends None H o f) (same-used terms before port m sends None H o.new.client))
     (λ k p side above most. same-life k p side above most (port == p))

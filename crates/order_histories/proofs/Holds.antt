@@ -58,6 +58,14 @@ pub record Holds (terms : List Terms) (h : History) : Type 0 where
   pub unasked : (n p : ℕ) → numbered h < n → n < 10 ^ 64 → own (decimal n) (outstanding terms p h) ≡ []
   pub few : numbered h ≤ length h
 
+-- each order is as it was
+abbrev pub Still : List Terms → Turn → History → Type 0
+Still terms t before = (x : OrderRecord) → FitsIn terms before x → FitsIn terms (t ∷ before) x
+
+-- each but one
+abbrev pub StillBeside : List ℕ → List Terms → Turn → History → Type 0
+StillBeside order terms t before = (x : OrderRecord) → FitsIn terms before x → bytes_eq order x.new.order ≡ false → FitsIn terms (t ∷ before) x
+
 -- ---- members
 
 pub each-find : {A : Type 0} (P : A → Type 0) (p : A → Bool) (xs : List A) (x : A) → Each P xs → find p xs ≡ Some x → P x

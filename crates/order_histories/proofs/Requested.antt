@@ -17,7 +17,7 @@ use Rattle.order_histories.proofs.Due.{Reads}
 use Rattle.order_histories.proofs.Leads.{same_some}
 use Rattle.order_histories.proofs.Moves.{Keeps}
 use Rattle.order_histories.proofs.Fits.{IsFound, IsHome, life-of, own, shown-is, tokens-are}
-use Rattle.order_histories.proofs.Holds.{HasRecord, Holds, FitsIn, Keeps-more, news, port_of}
+use Rattle.order_histories.proofs.Holds.{HasRecord, Holds, FitsIn, StillBeside, Keeps-more, news, port_of}
 use Rattle.order_histories.proofs.Reports.{Tells, asked_cancel-Reads, asked_replace-Reads, report-tells}
 use Rattle.order_histories.proofs.Sound.{with_cancel-sound, with_replace-sound}
 use Rattle.order_law.specs.Messages.{text}
@@ -198,6 +198,9 @@ module _ (terms : List Terms) (before : History) (m : Message) (port : Port) (se
         coming-price : price_after o.new (en ∷ A) (handled (port_of terms o.new) before) ≡ price_after o.new A (handled (port_of terms o.new) before)
         coming-price = price-kept terms before en H next-en o.new (new-kept terms before en H next-en o.new.order f.number f.order_is f.is_numbered) (handled (port_of terms o.new) before)
 
+    pub asked-fits : FitsIn terms (w ∷ before) p × StillBeside o.new.order terms w before
+    asked-fits = (fits-now, coming.beside-fits terms before client m port a sends H en taken refl next-en addressed)
+
     pub asked-Holds : Holds terms (w ∷ before) × Each (IsTrueToMarket terms w before) (news (accepted terms (w ∷ before)))
     asked-Holds = coming.taken-Holds terms before client m port a sends H en taken refl next-en addressed o.new known-now refl f.number f.order_is (omega (arith, f.is_numbered, numbered-came client m port (a ∷ []) sends before)) (omega (arith, f.is_numbered, H.few))
         (record { order = p; same = refl; fits = fits-now }) (rw taken (tells.says, tt)) (enters_none ∙ sym no_new)
@@ -236,35 +239,41 @@ module _ (terms : List Terms) (before : History) (m : Message) (port : Port) (se
         subst (IsHome terms (en ∷ A) o.new) (ap (λ (x : Option ℕ). token_text (Rattle.std.specs.Prelude.unwrap_or x 0)) (sym is_token))
         (next-home terms before en H next-en o.new (given A + 1) is_token refl (new-kept terms before en H next-en o.new.order f.number f.order_is f.is_numbered ∙ f.known))
 
+    replace-keeps : (reports limit : ℕ) → reports_in before ≤ reports → 1_000_000 * length before ≤ limit → Keeps reports limit g
+    replace-keeps reports limit more more' = let k = Keeps-more (reports_in before) (1_000_000 * length before) reports limit o more more' f.keeps in record {
+      sound = with_replace-sound en o kind f.keeps.sound;
+      apart = record {
+        requests = λ q c is_q is_c. absurd (let x : ◌≡◌ {A = Option Cancelling} None (Some c) = sym no_c ∙ is_c in cc);
+        current = λ q is_q. ap (λ (x : Entry). bytes_eq (text 11 x.message) o.id) (sym (same_some en q is_q)) ∙ unused-other (issued client before) o.id (text 11 m) f.holds.id unused;
+      };
+      first = k.first;
+      over_replace = λ e. absurd (not_closed e);
+      over_cancel = k.over_cancel;
+      left = k.left;
+      idle = k.idle;
+      rejected = k.rejected;
+      none_waiting = k.none_waiting;
+      none_closed = k.none_closed;
+      small = k.small;
+      numbered = k.numbered;
+    }
+
+    replace-asked : (s : Stage) → o.stage ≡ s → (asked_as terms o ++ replace_asked o.new (live_token o) (Some en)) ≡ asked_as terms g
+    replace-asked Waiting e = rw (e, no_r, no_c) refl
+    replace-asked Working e = rw (e, no_r, no_c) refl
+    replace-asked Closed e = absurd (not_closed e)
+
     pub replace-Holds : Holds terms (coming_turn client m port (e_report ∷ []) sends ∷ before) × Each (IsTrueToMarket terms (coming_turn client m port (e_report ∷ []) sends) before) (news (accepted terms (coming_turn client m port (e_report ∷ []) sends ∷ before)))
-    replace-Holds = asked-Holds e_report (Some en) o.cancel refl refl replace-tells refl keeps-now
+    replace-Holds = asked-Holds e_report (Some en) o.cancel refl refl replace-tells refl replace-keeps
         (λ q e. (let it : q ≡ en = sym (same_some en q e) in (subst (λ (x : Entry). IsHome terms (en ∷ A) o.new (token_of x)) (sym it) replace-home, subst (IsFound (en ∷ A) o.new) (sym it) found-en, inl it)))
         (λ d e. absurd (let x : ◌≡◌ {A = Option Cancelling} None (Some d) = sym no_c ∙ e in cc))
-        (asks-own (replace_asked o.new (live_token o) (Some en)) replace-asks replace-own ∙ asked-now o.stage refl)
-      where
-        keeps-now : (reports limit : ℕ) → reports_in before ≤ reports → 1_000_000 * length before ≤ limit → Keeps reports limit g
-        keeps-now reports limit more more' = let k = Keeps-more (reports_in before) (1_000_000 * length before) reports limit o more more' f.keeps in record {
-          sound = with_replace-sound en o kind f.keeps.sound;
-          apart = record {
-            requests = λ q c is_q is_c. absurd (let x : ◌≡◌ {A = Option Cancelling} None (Some c) = sym no_c ∙ is_c in cc);
-            current = λ q is_q. ap (λ (x : Entry). bytes_eq (text 11 x.message) o.id) (sym (same_some en q is_q)) ∙ unused-other (issued client before) o.id (text 11 m) f.holds.id unused;
-          };
-          first = k.first;
-          over_replace = λ e. absurd (not_closed e);
-          over_cancel = k.over_cancel;
-          left = k.left;
-          idle = k.idle;
-          rejected = k.rejected;
-          none_waiting = k.none_waiting;
-          none_closed = k.none_closed;
-          small = k.small;
-          numbered = k.numbered;
-        }
+        (asks-own (replace_asked o.new (live_token o) (Some en)) replace-asks replace-own ∙ replace-asked o.stage refl)
 
-        asked-now : (s : Stage) → o.stage ≡ s → (asked_as terms o ++ replace_asked o.new (live_token o) (Some en)) ≡ asked_as terms g
-        asked-now Waiting e = rw (e, no_r, no_c) refl
-        asked-now Working e = rw (e, no_r, no_c) refl
-        asked-now Closed e = absurd (not_closed e)
+    pub replace-fits : FitsIn terms (coming_turn client m port (e_report ∷ []) sends ∷ before) g × StillBeside o.new.order terms (coming_turn client m port (e_report ∷ []) sends) before
+    replace-fits = asked-fits e_report (Some en) o.cancel refl refl replace-tells refl replace-keeps
+        (λ q e. (let it : q ≡ en = sym (same_some en q e) in (subst (λ (x : Entry). IsHome terms (en ∷ A) o.new (token_of x)) (sym it) replace-home, subst (IsFound (en ∷ A) o.new) (sym it) found-en, inl it)))
+        (λ d e. absurd (let x : ◌≡◌ {A = Option Cancelling} None (Some d) = sym no_c ∙ e in cc))
+        (asks-own (replace_asked o.new (live_token o) (Some en)) replace-asks replace-own ∙ replace-asked o.stage refl)
 
   -- ---- a cancel
 
@@ -304,38 +313,48 @@ module _ (terms : List Terms) (before : History) (m : Message) (port : Port) (se
     tokens-home None e = tt
     tokens-home (Some q) e = (home-kept terms before en H next-en o.new (token_of q) (f.holds.replace q e).0, tt)
 
+    cancel-keeps : (reports limit : ℕ) → reports_in before ≤ reports → 1_000_000 * length before ≤ limit → Keeps reports limit k_order
+    cancel-keeps reports limit more more' = let k = Keeps-more (reports_in before) (1_000_000 * length before) reports limit o more more' f.keeps in record {
+      sound = with_cancel-sound c_next o kind f.keeps.sound;
+      apart = record {
+        requests = λ q c is_q is_c. ap (λ (x : Cancelling). bytes_eq (text 11 x.request.message) (text 11 q.message)) (sym (same_some c_next c is_c)) ∙ unused-other (issued client before) (text 11 q.message) (text 11 m) (f.holds.replace q is_q).2 unused;
+        current = k.apart.current;
+      };
+      first = k.first;
+      over_replace = k.over_replace;
+      over_cancel = λ e. absurd (not_closed e);
+      left = λ c is_c none. (let it : c_next ≡ c = same_some c_next c is_c in let bad : (live_token o ∷ replacements o.replace) ≡ [] = ap (λ (x : Cancelling). x.tokens) it ∙ none in cc);
+      idle = k.idle;
+      rejected = k.rejected;
+      none_waiting = k.none_waiting;
+      none_closed = k.none_closed;
+      small = k.small;
+      numbered = k.numbered;
+    }
+
+    cancel-asked : (s : Stage) → o.stage ≡ s → (x : Option Entry) → o.replace ≡ x → (asked_as terms o ++ cancel_asked o.new (Some c_next)) ≡ asked_as terms k_order
+    cancel-asked Waiting e None is_x = rw (e, is_x, no_c) refl
+    cancel-asked Waiting e (Some q) is_x = rw (e, is_x, no_c) refl
+    cancel-asked Working e None is_x = rw (e, is_x, no_c) refl
+    cancel-asked Working e (Some q) is_x = rw (e, is_x, no_c) refl
+    cancel-asked Closed e x is_x = absurd (not_closed e)
+
     pub cancel-Holds : Holds terms (coming_turn client m port (c_report ∷ []) sends ∷ before) × Each (IsTrueToMarket terms (coming_turn client m port (c_report ∷ []) sends) before) (news (accepted terms (coming_turn client m port (c_report ∷ []) sends ∷ before)))
-    cancel-Holds = asked-Holds c_report o.replace (Some c_next) refl refl cancel-tells refl keeps-now
+    cancel-Holds = asked-Holds c_report o.replace (Some c_next) refl refl cancel-tells refl cancel-keeps
         (λ q e. (home-kept terms before en H next-en o.new (token_of q) (f.holds.replace q e).0, found-kept terms before en H next-en client (text 11 q.message) (f.holds.replace q e).2 ∙ (f.holds.replace q e).1, inr e))
         (λ d e. (let it : c_next ≡ d = same_some c_next d e in (
           subst (λ (x : Cancelling). Each (IsHome terms (en ∷ A) o.new) x.tokens) it (home-kept terms before en H next-en o.new (live_token o) f.holds.front, tokens-home o.replace refl),
           subst (λ (x : Cancelling). IsFound (en ∷ A) o.new x.request) it found-en,
           ap (λ (x : Cancelling). x.request) (sym it),
         )))
-        (asks-own (cancel_asked o.new (Some c_next)) cancel-asks (cancel-own (live_token o ∷ replacements o.replace)) ∙ asked-now o.stage refl o.replace refl)
-      where
-        keeps-now : (reports limit : ℕ) → reports_in before ≤ reports → 1_000_000 * length before ≤ limit → Keeps reports limit k_order
-        keeps-now reports limit more more' = let k = Keeps-more (reports_in before) (1_000_000 * length before) reports limit o more more' f.keeps in record {
-          sound = with_cancel-sound c_next o kind f.keeps.sound;
-          apart = record {
-            requests = λ q c is_q is_c. ap (λ (x : Cancelling). bytes_eq (text 11 x.request.message) (text 11 q.message)) (sym (same_some c_next c is_c)) ∙ unused-other (issued client before) (text 11 q.message) (text 11 m) (f.holds.replace q is_q).2 unused;
-            current = k.apart.current;
-          };
-          first = k.first;
-          over_replace = k.over_replace;
-          over_cancel = λ e. absurd (not_closed e);
-          left = λ c is_c none. (let it : c_next ≡ c = same_some c_next c is_c in let bad : (live_token o ∷ replacements o.replace) ≡ [] = ap (λ (x : Cancelling). x.tokens) it ∙ none in cc);
-          idle = k.idle;
-          rejected = k.rejected;
-          none_waiting = k.none_waiting;
-          none_closed = k.none_closed;
-          small = k.small;
-          numbered = k.numbered;
-        }
+        (asks-own (cancel_asked o.new (Some c_next)) cancel-asks (cancel-own (live_token o ∷ replacements o.replace)) ∙ cancel-asked o.stage refl o.replace refl)
 
-        asked-now : (s : Stage) → o.stage ≡ s → (x : Option Entry) → o.replace ≡ x → (asked_as terms o ++ cancel_asked o.new (Some c_next)) ≡ asked_as terms k_order
-        asked-now Waiting e None is_x = rw (e, is_x, no_c) refl
-        asked-now Waiting e (Some q) is_x = rw (e, is_x, no_c) refl
-        asked-now Working e None is_x = rw (e, is_x, no_c) refl
-        asked-now Working e (Some q) is_x = rw (e, is_x, no_c) refl
-        asked-now Closed e x is_x = absurd (not_closed e)
+    pub cancel-fits : FitsIn terms (coming_turn client m port (c_report ∷ []) sends ∷ before) k_order × StillBeside o.new.order terms (coming_turn client m port (c_report ∷ []) sends) before
+    cancel-fits = asked-fits c_report o.replace (Some c_next) refl refl cancel-tells refl cancel-keeps
+        (λ q e. (home-kept terms before en H next-en o.new (token_of q) (f.holds.replace q e).0, found-kept terms before en H next-en client (text 11 q.message) (f.holds.replace q e).2 ∙ (f.holds.replace q e).1, inr e))
+        (λ d e. (let it : c_next ≡ d = same_some c_next d e in (
+          subst (λ (x : Cancelling). Each (IsHome terms (en ∷ A) o.new) x.tokens) it (home-kept terms before en H next-en o.new (live_token o) f.holds.front, tokens-home o.replace refl),
+          subst (λ (x : Cancelling). IsFound (en ∷ A) o.new x.request) it found-en,
+          ap (λ (x : Cancelling). x.request) (sym it),
+        )))
+        (asks-own (cancel_asked o.new (Some c_next)) cancel-asks (cancel-own (live_token o ∷ replacements o.replace)) ∙ cancel-asked o.stage refl o.replace refl)

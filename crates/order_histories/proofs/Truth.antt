@@ -12,14 +12,14 @@ use Rattle.order_law.specs.History.{Entry, Heard, History, Terms, Turn, accepted
 use Rattle.order_law.specs.Lawful.{judgement, order_token}
 use Rattle.order_law.specs.Told.{Told, answers_last_cancel, nobody, opens, price_after, reports_in, told, told_by_type, told_on, to_client_of}
 use Rattle.order_law.specs.Headline.{Each, IsTrueToMarket, said_in}
-use Rattle.order_histories.specs.OrderRecord.{OrderRecord, shown_as}
+use Rattle.order_histories.specs.OrderRecord.{OrderRecord, after_request, at, live_token, replacements, shown_as}
 use Rattle.order_histories.proofs.Texts.{and-parts}
 use Rattle.order_histories.proofs.Fits.{named}
 use Rattle.order_histories.specs.Told.{AreBytes, IsTold, IsToldTurn, fault_of}
 use Rattle.std.specs.Prelude.{nat_lt, take, drop, fold, option_and_then}
 use Rattle.std.specs.List.{list_all}
 use Rattle.std.proofs.lemmas.Bool.Decides.{nat_tests}
-use Rattle.order_histories.proofs.Holds.{FitsIn, HasRecord, Holds, news, port_of, record-of}
+use Rattle.order_histories.proofs.Holds.{FitsIn, HasRecord, Holds, StillBeside, news, port_of, record-of}
 use Rattle.order_histories.proofs.Hearing.{fault-Holds, heard_turn, tokenless-Holds}
 use Rattle.order_histories.proofs.Lawfully.{lawful-Holds, token-of}
 use Rattle.order_histories.proofs.Judged.{lawful}
@@ -81,7 +81,7 @@ module _ (terms : List Terms) (before : History) (port : ℕ) (m : List ℕ) (cl
 
   skipped : (type : ℕ) → type_of m ≡ type → is_type (codes "A") m ≡ false → is_type (codes "U") m ≡ false → is_type (codes "C") m ≡ false → is_type (codes "E") m ≡ false → is_type (codes "B") m ≡ false → is_type (codes "J") m ≡ false → is_type (codes "I") m ≡ false
       → told terms (Heard port m) before ≡ nobody → Next terms (heard_turn port m client bodies sends None) before
-  skipped type is_type' a u c e b j i none = told-nobody none None (tokenless-Holds terms before port m sends H a u c e b j i)
+  skipped type is_type' a u c e b j i none = (let next = tokenless-Holds terms before port m sends H a u c e b j i in told-nobody none None (next.0, next.1))
 
   handled-next : judgement terms port m before ≡ None → (t s : Bool) → is_type (codes "T") m ≡ t → is_type (codes "S") m ≡ s → Next terms (heard_turn port m client bodies sends None) before
   handled-next judged true s is_t is_s =
@@ -98,7 +98,7 @@ module _ (terms : List Terms) (before : History) (port : ℕ) (m : List ℕ) (cl
 
   heard-next : (fault : Option ℕ) → fault ≡ judgement terms port m before → Next terms (heard_turn port m client bodies sends fault) before
   heard-next None judged = handled-next (sym judged) (is_type (codes "T") m) (is_type (codes "S") m) refl refl
-  heard-next (Some n) judged = told-nobody (rw (sym judged) refl) (Some n) (fault-Holds terms before port m sends n H)
+  heard-next (Some n) judged = (let next = fault-Holds terms before port m sends n H in told-nobody (rw (sym judged) refl) (Some n) (next.0, next.1))
 
 -- ---- a client's message
 
@@ -118,11 +118,11 @@ module _ (terms : List Terms) (before : History) (client : ℕ) (m : Message) (p
   -- a request that is refused, by what it names
   refused-request : (code : ℕ) (why : List ℕ) → verdict terms (issued client before) A port m ≡ Refused code why → is_new_order m ≡ false
       → (x : Option (List ℕ)) → named_order (text 41 m) (issued client before) ≡ x → Comes (refused_request m (shown_in terms before x) code why)
-  refused-request code why v old None named = unknown-refused terms before client m port sends H short code why v old
+  refused-request code why v old None named = let next = unknown-refused terms before client m port sends H short code why v old in (next.0, next.1)
   refused-request code why v old (Some k) named =
       let found = named-record (text 41 m) k named in
       let known : new_of k A ≡ Some found.0 = subst (λ (i : List ℕ). new_of i A ≡ Some found.0) found.2 (subst (λ (e : Entry). new_of e.order A ≡ Some e) found.1.same found.1.fits.known) in
-      rw known (known-refused terms before client m port sends H short code why v old found.0 found.1)
+      let next = known-refused terms before client m port sends H short code why v old found.0 found.1 in rw known (next.0, next.1)
 
 abbrev RequestOf : List Terms → History → Message → Port → ℕ → Type 0
 RequestOf terms before m port client = RequestSays (issued client before) (option_and_then (standing_of terms (issued client before) (accepted terms before)) (named_order (text 41 m) (issued client before))) (given (accepted terms before)) m
@@ -147,15 +147,39 @@ module _ (terms : List Terms) (before : History) (m : Message) (port : Port) (se
   abbrev Comes' : List Message → Type 0
   Comes' bodies = Next terms (coming_turn o.new.client m port bodies sends) before
 
+  abbrev token : Option ℕ
+  token = if is_replace m then Some (given (accepted terms before) + 1) else None
+
+  abbrev pub entry : Entry
+  entry = record { client = o.new.client; message = m; order = o.new.order; token = token }
+
+  told-as : told_by_verdict terms o.new.client m port before (verdict terms (issued o.new.client before) (accepted terms before) port m) ≡ Rattle.order_law.specs.Told.accepted_request (reports_in before + 1) entry (Some (shown_as o))
+  told-as = requested.told-so terms before m port sends H short o f v old named says.unused lives_on no_c says.token token refl
+
+  abbrev BodiesTold : List Message
+  BodiesTold = told_by_verdict terms o.new.client m port before (verdict terms (issued o.new.client before) (accepted terms before) port m)
+
+  abbrev Then : List Message → Type 0
+  Then bodies = FitsIn terms (coming_turn o.new.client m port bodies sends ∷ before) (after_request entry o) × StillBeside o.new.order terms (coming_turn o.new.client m port bodies sends) before
+
+  -- the order is as the request makes it, and each other one as it was
+  pub accepted-fits : Then BodiesTold
+  accepted-fits = by_kind (is_replace m) refl
+    where
+      by_kind : (b : Bool) → is_replace m ≡ b → Then BodiesTold
+      by_kind true kind =
+          let no_r = requested.no-replace o (ap (λ (x : Bool). x && has_pending_replace (chained o)) (sym kind) ∙ parts.1) in
+          let now : after_request entry o ≡ at o (Some entry) o.cancel = rw kind refl in
+          subst Then (sym (told-as ∙ requested.replace-told terms before m port sends H short o f v old named says.unused lives_on no_c says.token token refl kind no_r))
+          (let fits = requested.replace-fits terms before m port sends H short o f v old named says.unused lives_on no_c says.token token refl kind no_r in (subst (FitsIn terms _) (sym now) fits.0, fits.1))
+      by_kind false kind =
+          let now : after_request entry o ≡ at o o.replace (Some (record { request = entry; tokens = live_token o ∷ replacements o.replace })) = rw kind refl in
+          subst Then (sym (told-as ∙ requested.cancel-told terms before m port sends H short o f v old named says.unused lives_on no_c says.token token refl kind))
+          (let fits = requested.cancel-fits terms before m port sends H short o f v old named says.unused lives_on no_c says.token token refl kind in (subst (FitsIn terms _) (sym now) fits.0, fits.1))
+
   accepted-request : Comes' (told_by_verdict terms o.new.client m port before (verdict terms (issued o.new.client before) (accepted terms before) port m))
   accepted-request = by_kind (is_replace m) refl
     where
-      token : Option ℕ
-      token = if is_replace m then Some (given (accepted terms before) + 1) else None
-
-      told-as : told_by_verdict terms o.new.client m port before (verdict terms (issued o.new.client before) (accepted terms before) port m) ≡ Rattle.order_law.specs.Told.accepted_request (reports_in before + 1) (record { client = o.new.client; message = m; order = o.new.order; token = token }) (Some (shown_as o))
-      told-as = requested.told-so terms before m port sends H short o f v old named says.unused lives_on no_c says.token token refl
-
       by_kind : (b : Bool) → is_replace m ≡ b → Comes' (told_by_verdict terms o.new.client m port before (verdict terms (issued o.new.client before) (accepted terms before) port m))
       by_kind true kind =
           let no_r = requested.no-replace o (ap (λ (x : Bool). x && has_pending_replace (chained o)) (sym kind) ∙ parts.1) in
@@ -210,7 +234,7 @@ module _ (terms : List Terms) (before : History) (client : ℕ) (m : Message) (p
     where
       by_new : (b : Bool) → is_new_order m ≡ b → (w : Verdict) → verdict terms (issued client before) (accepted terms before) port m ≡ w → ComesBy (told_by_verdict terms client m port before w)
       by_new true new Accepted v = subst ComesBy (sym (new-told new v)) (new-taken terms before client m port sends H short v new)
-      by_new true new (Refused code why) v = subst ComesBy (sym (refusal-told code why new)) (new-refused terms before client m port sends H short code why v new)
+      by_new true new (Refused code why) v = (let next = new-refused terms before client m port sends H short code why v new in subst ComesBy (sym (refusal-told code why new)) (next.0, next.1))
       by_new false old Accepted v = subst (λ (w : Verdict). ComesBy (told_by_verdict terms client m port before w)) v
           (on-order v old (request-says (issued client before) (option_and_then (standing_of terms (issued client before) (accepted terms before)) (named_order (text 41 m) (issued client before))) port (given (accepted terms before)) m (own-verdict old v)))
       by_new false old (Refused code why) v = subst ComesBy (sym (reject-told code why old)) (refused-request terms before client m port sends H short code why v old (named_order (text 41 m) (issued client before)) refl)
