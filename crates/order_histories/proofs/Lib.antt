@@ -31,3 +31,5 @@ pub mod Requested
 pub mod Truth
 pub mod Finding
 pub mod Linked
+pub mod Placed
+pub mod Ids

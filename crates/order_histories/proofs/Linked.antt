@@ -25,12 +25,7 @@ use Rattle.order_histories.proofs.Executed.{count-more}
 use Rattle.order_histories.proofs.Finding.{Each-found, and-turned, count-each, find-each, find-filter, find-map, find-same, length-map, map-filter, map-map}
 use Rattle.order_histories.proofs.Fits.{life-of, tokens-are}
 use Rattle.order_histories.proofs.Holds.{FitsIn, Holds, news, orders_of, port_of}
-use Rattle.order_histories.proofs.Lists.{length-filter_reverse}
-
--- all OrderIDs are different
-abbrev pub AreDistinct : List OrderRecord → Type 0
-AreDistinct [] = Unit {0}
-AreDistinct (o ∷ os) = Each (λ (x : OrderRecord). has_number o.new.order x ≡ false) os × AreDistinct os
+use Rattle.order_histories.proofs.Placed.{AreDistinct}
 
 -- an accepted replace has a token
 abbrev pub HasOwnToken : Entry → Type 0
@@ -41,7 +36,7 @@ pub record IsTable (terms : List Terms) (h : History) (s : State) : Type 0 where
   pub held : Holds terms h
   pub listed : map (λ (o : OrderRecord). o.new) s.orders ≡ news (accepted terms h)
   pub fit : Each (FitsIn terms h) s.orders
-  pub distinct : AreDistinct s.orders
+  pub distinct : AreDistinct (news (accepted terms h))
   pub tokens : s.tokens ≡ map (token_given terms) (filter (λ (e : Entry). is_some e.token) (accepted terms h))
   pub replaces : Each HasOwnToken (accepted terms h)
   pub used : (c : ℕ) (id : List ℕ) → has_used s.used c id ≡ is_used id (issued c h)

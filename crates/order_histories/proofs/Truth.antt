@@ -33,7 +33,7 @@ use Rattle.order_law.specs.Chain.{goes_by, named as named_order, has_pending_can
 use Rattle.order_law.specs.Reading.{Reading}
 use Rattle.order_law.specs.Verdicts.{Accepted, Port, Refused, Verdict, is_replace, verdict_of_request, Named}
 use Rattle.order_law.specs.History.{Came, Event, standing_of, verdict}
-use Rattle.order_law.specs.Told.{Shown, refused_request, reject, shown, shown_in, status_of, told_by_verdict}
+use Rattle.order_law.specs.Told.{Shown, on_request, refused_request, reject, report, shown, shown_in, status_of, told_by_verdict}
 use Rattle.order_histories.specs.OrderRecord.{chained}
 
 abbrev pub AllTrue : List Terms → Turn → History → Type 0
@@ -162,6 +162,10 @@ module _ (terms : List Terms) (before : History) (m : Message) (port : Port) (se
   abbrev Then : List Message → Type 0
   Then bodies = FitsIn terms (coming_turn o.new.client m port bodies sends ∷ before) (after_request entry o) × StillBeside o.new.order terms (coming_turn o.new.client m port bodies sends) before
 
+  fits-then : (bodies : List Message) (p : OrderRecord) → after_request entry o ≡ p
+      → FitsIn terms (coming_turn o.new.client m port bodies sends ∷ before) p × StillBeside o.new.order terms (coming_turn o.new.client m port bodies sends) before → Then bodies
+  fits-then bodies p now fits = (subst (FitsIn terms (coming_turn o.new.client m port bodies sends ∷ before)) (sym now) fits.0, fits.1)
+
   -- the order is as the request makes it, and each other one as it was
   pub accepted-fits : Then BodiesTold
   accepted-fits = by_kind (is_replace m) refl
@@ -171,11 +175,11 @@ module _ (terms : List Terms) (before : History) (m : Message) (port : Port) (se
           let no_r = requested.no-replace o (ap (λ (x : Bool). x && has_pending_replace (chained o)) (sym kind) ∙ parts.1) in
           let now : after_request entry o ≡ at o (Some entry) o.cancel = rw kind refl in
           subst Then (sym (told-as ∙ requested.replace-told terms before m port sends H short o f v old named says.unused lives_on no_c says.token token refl kind no_r))
-          (let fits = requested.replace-fits terms before m port sends H short o f v old named says.unused lives_on no_c says.token token refl kind no_r in (subst (FitsIn terms _) (sym now) fits.0, fits.1))
+          (fits-then (report (reports_in before + 1) (on_request (codes "E") entry) (shown_as (at o (Some entry) o.cancel)) ∷ []) (at o (Some entry) o.cancel) now (requested.replace-fits terms before m port sends H short o f v old named says.unused lives_on no_c says.token token refl kind no_r))
       by_kind false kind =
           let now : after_request entry o ≡ at o o.replace (Some (record { request = entry; tokens = live_token o ∷ replacements o.replace })) = rw kind refl in
           subst Then (sym (told-as ∙ requested.cancel-told terms before m port sends H short o f v old named says.unused lives_on no_c says.token token refl kind))
-          (let fits = requested.cancel-fits terms before m port sends H short o f v old named says.unused lives_on no_c says.token token refl kind in (subst (FitsIn terms _) (sym now) fits.0, fits.1))
+          (fits-then (report (reports_in before + 1) (on_request (codes "6") entry) (shown_as (at o o.replace (Some (record { request = entry; tokens = live_token o ∷ replacements o.replace })))) ∷ []) (at o o.replace (Some (record { request = entry; tokens = live_token o ∷ replacements o.replace }))) now (requested.cancel-fits terms before m port sends H short o f v old named says.unused lives_on no_c says.token token refl kind))
 
   accepted-request : Comes' (told_by_verdict terms o.new.client m port before (verdict terms (issued o.new.client before) (accepted terms before) port m))
   accepted-request = by_kind (is_replace m) refl
