@@ -173,7 +173,7 @@ module _ (terms : List Terms) (before : History) (port : ℕ) (m : List ℕ) (cl
   own-token : IsToken terms before port (heard.token m) o.new
   own-token = token-of terms before port (heard.token m) o.new H on'
 
-  abbrev B : List Message
+  abbrev pub B : List Message
   B = told_by_type (reports_in before) m (lived o) (answers_last m (asked_as terms o)) (map fill_of o.trades) (shown_as o)
 
   asked-own : answers_last_cancel o.new.order m (outstanding terms port before) ≡ answers_last m (asked_as terms o)
@@ -201,10 +201,10 @@ module _ (terms : List Terms) (before : History) (port : ℕ) (m : List ℕ) (cl
   said : IsIssued o.new bodies B client
   said = told-issued o.new B client bodies told-to
 
-  issued-mine : issued o.new.client (t ∷ before) ≡ onto B (issued o.new.client before)
+  pub issued-mine : issued o.new.client (t ∷ before) ≡ onto B (issued o.new.client before)
   issued-mine = said.mine (issued o.new.client before)
 
-  issued-other : (c : ℕ) → o.new.client ≢ c → issued c (t ∷ before) ≡ issued c before
+  pub issued-other : (c : ℕ) → o.new.client ≢ c → issued c (t ∷ before) ≡ issued c before
   issued-other c apart = said.others c apart (issued c before)
 
   on-order : Each (IsOn o.new.order) B

@@ -33,3 +33,4 @@ pub mod Finding
 pub mod Linked
 pub mod Placed
 pub mod Ids
+pub mod Stepping

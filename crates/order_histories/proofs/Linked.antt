@@ -16,7 +16,7 @@ use Rattle.order_law.specs.Verdicts.{Named, Port, Verdict, first_row, is_replace
 use Rattle.order_law.specs.History.{Entry, History, Terms, accepted, given, handled, is_new_order, issued, life_of, new_of, numbered, pending_tokens, standing_of, terms_of, token_of, verdict}
 use Rattle.order_law.specs.Lawful.{bytes_fault, has_token, is_lawful_on, judged_by, judged_bytes, judged_on, judged_tokens, judgement, order_of_token, order_token, profile, row_holds, token_fault}
 use Rattle.order_law.specs.Told.{reports_in}
-use Rattle.order_law.specs.Headline.{Each, Headline}
+use Rattle.order_law.specs.Headline.{Each}
 use Rattle.order_histories.specs.OrderRecord.{OrderRecord, chained, lived, read, replacements}
 use Rattle.order_histories.specs.Told.{IsTold}
 use Rattle.order_histories.specs.Table.{GivenToken, State, by_id, by_number, by_token, has_number, has_used, is_named, is_open_of, is_replacement_of, is_token, named_as, open_count, token_given}
@@ -44,7 +44,6 @@ pub record IsTable (terms : List Terms) (h : History) (s : State) : Type 0 where
   pub exec_ids : s.exec_ids ≡ reports_in h
   pub few : reports_in h ≤ 2 * length h
   pub is_told : IsTold terms h
-  pub headline : Headline terms h
 
 -- ---- counts
 
@@ -179,7 +178,7 @@ module _ (terms : List Terms) (h : History) (s : State) (t : IsTable terms h s) 
       named_by : ℕ → Reading → Chain → ℕ → Named
       named_by capacity x y n = record { side = text 54 o.new.message; symbol = text 55 o.new.message; capacity = capacity; reading = x; chain = y; replaces = n }
 
-  named-client : (c : ℕ) (id : List ℕ) (o : OrderRecord) → by_id s c id ≡ Some o → o.new.client ≡ c
+  pub named-client : (c : ℕ) (id : List ℕ) (o : OrderRecord) → by_id s c id ≡ Some o → o.new.client ≡ c
   named-client c id o e = by_test (o.new.client == c) refl (Rattle.order_histories.proofs.Lists.found-passes (is_named c id) s.orders o e)
     where
       by_test : (b : Bool) → (o.new.client == c) ≡ b → (b && goes_by id (chained o)) ≡ true → o.new.client ≡ c

@@ -124,7 +124,7 @@ module _ (terms : List Terms) (before : History) (client : ℕ) (m : Message) (p
       let known : new_of k A ≡ Some found.0 = subst (λ (i : List ℕ). new_of i A ≡ Some found.0) found.2 (subst (λ (e : Entry). new_of e.order A ≡ Some e) found.1.same found.1.fits.known) in
       let next = known-refused terms before client m port sends H short code why v old found.0 found.1 in rw known (next.0, next.1)
 
-abbrev RequestOf : List Terms → History → Message → Port → ℕ → Type 0
+abbrev pub RequestOf : List Terms → History → Message → Port → ℕ → Type 0
 RequestOf terms before m port client = RequestSays (issued client before) (option_and_then (standing_of terms (issued client before) (accepted terms before)) (named_order (text 41 m) (issued client before))) (given (accepted terms before)) m
 
 -- a request that is accepted, on its order
@@ -147,19 +147,19 @@ module _ (terms : List Terms) (before : History) (m : Message) (port : Port) (se
   abbrev Comes' : List Message → Type 0
   Comes' bodies = Next terms (coming_turn o.new.client m port bodies sends) before
 
-  abbrev token : Option ℕ
+  abbrev pub token : Option ℕ
   token = if is_replace m then Some (given (accepted terms before) + 1) else None
 
   abbrev pub entry : Entry
   entry = record { client = o.new.client; message = m; order = o.new.order; token = token }
 
-  told-as : told_by_verdict terms o.new.client m port before (verdict terms (issued o.new.client before) (accepted terms before) port m) ≡ Rattle.order_law.specs.Told.accepted_request (reports_in before + 1) entry (Some (shown_as o))
+  pub told-as : told_by_verdict terms o.new.client m port before (verdict terms (issued o.new.client before) (accepted terms before) port m) ≡ Rattle.order_law.specs.Told.accepted_request (reports_in before + 1) entry (Some (shown_as o))
   told-as = requested.told-so terms before m port sends H short o f v old named says.unused lives_on no_c says.token token refl
 
-  abbrev BodiesTold : List Message
+  abbrev pub BodiesTold : List Message
   BodiesTold = told_by_verdict terms o.new.client m port before (verdict terms (issued o.new.client before) (accepted terms before) port m)
 
-  abbrev Then : List Message → Type 0
+  abbrev pub Then : List Message → Type 0
   Then bodies = FitsIn terms (coming_turn o.new.client m port bodies sends ∷ before) (after_request entry o) × StillBeside o.new.order terms (coming_turn o.new.client m port bodies sends) before
 
   fits-then : (bodies : List Message) (p : OrderRecord) → after_request entry o ≡ p
