@@ -368,6 +368,9 @@ module _ (terms : List Terms) (before : History) (port : ℕ) (m : List ℕ) (cl
   still-moves : MovesTo (record next { new = o.new })
   still-moves = subst MovesTo back moves
 
+  pub next-new : next.new ≡ o.new
+  next-new = moves.same
+
   pub own-fits : FitsIn terms (t ∷ before) next
   own-fits = subst (FitsIn terms (t ∷ before)) (sym back) (moved-fits next still-moves)
 

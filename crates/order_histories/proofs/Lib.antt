@@ -34,3 +34,5 @@ pub mod Linked
 pub mod Placed
 pub mod Ids
 pub mod Stepping
+pub mod Answering
+pub mod Running

@@ -68,7 +68,7 @@ four-small (a ∷ b ∷ c ∷ d ∷ bs) e =
     let r = and-parts (nat_lt c 256) (nat_lt d 256 && list_all (λ byte. nat_lt byte 256) bs) q.1 in
     let x = below a p.0 in let y = below b q.0 in let z = below c r.0 in let w = below d (and-parts (nat_lt d 256) (list_all (λ byte. nat_lt byte 256) bs) r.1).0 in omega arith
 
-price-small : (m : List ℕ) → AreBytes m → heard.executed_price m < 2 ^ 128
+pub price-small : (m : List ℕ) → AreBytes m → heard.executed_price m < 2 ^ 128
 price-small m e = let x : heard.executed_price m < 2 ^ 32 = four-small (drop 27 m) (bytes-drop 27 m e) in omega arith
 
 -- a turn of a port by its parts
@@ -245,7 +245,7 @@ module _ (terms : List Terms) (before : History) (client : ℕ) (m : Message) (p
 
 -- ---- every told history
 
-empty-Holds : (terms : List Terms) → Holds terms []
+pub empty-Holds : (terms : List Terms) → Holds terms []
 empty-Holds terms = record {
   entries = tt;
   short = omega arith;
