@@ -1,0 +1,14 @@
+//! The table of orders: the accepted orders and the tokens that were given, and what is looked up in it.
+//!
+//! It knows nothing of messages from the market and of reports. Contracts see it as `order_histories`' table.
+#![tactic(auto)]
+
+mod order;
+mod places;
+mod progress;
+mod table;
+
+pub use order::{Order, ToldTrade};
+pub use progress::Progress;
+pub use table::{GivenToken, Table};
+

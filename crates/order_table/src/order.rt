@@ -1,0 +1,58 @@
+//! An accepted order.
+
+use crate::progress::Progress;
+use fix_types::NewOrder;
+use order_law::Trade;
+use std::marker::Model;
+
+/// A trade, and the ExecID (17) under which its client was told of it.
+#[derive(Clone, Copy, Debug, PartialEq, Eq)]
+pub struct ToldTrade {
+    pub trade: Trade,
+    pub number: u64,
+}
+
+/// An accepted order. Contracts see it as `order_histories`' record.
+#[derive(Debug, Drop)]
+pub struct Order {
+    /// The number of its client, from 1.
+    pub client: u16,
+    /// OrderID (37).
+    pub order_id: u64,
+    /// The number of its token.
+    pub token: u64,
+    /// What its client asked.
+    pub message: NewOrder,
+    /// How far it has come.
+    pub progress: Progress,
+    /// Its trades, the oldest first.
+    pub trades: Vec<ToldTrade>,
+}
+
+impl Model for Order {
+    ghost use Rattle.std.specs.Prelude.{[], ◌∷◌, Some, None, decimal, map, reverse};
+    ghost use Rattle.fix_types.specs.NewOrder.{new_order_fields};
+    ghost use Rattle.tokens.specs.TokenText.{token_text};
+    ghost use Rattle.order_law.specs.Messages.{text};
+    ghost use Rattle.order_histories.specs.OrderRecord as record_of;
+    ghost use Rattle.order_table.specs.Seen.{told_seen};
+
+    ghost Value = { record_of.OrderRecord };
+
+    ghost view = { λ o. record {
+      new = record { client = o.client; message = new_order_fields o.message; order = decimal o.order_id; token = Some o.token };
+      stage = o.progress.stage;
+      is_refused = o.progress.is_refused;
+      id = text 11 (new_order_fields o.message);
+      total = o.progress.total;
+      price = o.progress.price;
+      unfilled = o.progress.unfilled;
+      executed = o.progress.executed;
+      cancelled = o.progress.cancelled;
+      value = o.progress.value;
+      tokens = token_text o.token ∷ [];
+      trades = reverse (map told_seen o.trades.items);
+      replace = None;
+      cancel = None;
+    } };
+}
