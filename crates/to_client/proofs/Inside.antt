@@ -1,0 +1,38 @@
+-- Texts that no SOH stands in.
+use Rattle.std.proofs.Common.{◌≡◌, Bool, true, false, ℕ, ◌+◌, ◌/◌, ◌%◌, ◌^◌, ◌<◌, zero, suc, List, [], ◌∷◌, ◌++◌, take, refl, ◌∙◌, arith, decimal}
+use Rattle.std.specs.Prelude.{◌==◌, if◌then◌else◌}
+use Rattle.std.specs.List.{list_all}
+use Rattle.std.proofs.lemmas.Bool.Decides.{nat_tests}
+use Rattle.std.proofs.lemmas.List.Folds.{list_all-append}
+use Rattle.fix_fields.specs.Field.{is_inside}
+use Rattle.fix_fields.proofs.Tags.{and_parts}
+use Rattle.fix_values.proofs.Numbers.{inside-decimal}
+use Rattle.fixed_point.specs.Price.{four_digits, significant, fraction_text, price_text}
+
+pub inside-append : (xs ys : List ℕ) → list_all is_inside xs ≡ true → list_all is_inside ys ≡ true → list_all is_inside (xs ++ ys) ≡ true
+inside-append xs ys h i = list_all-append is_inside xs ys ∙ rw (h, i) refl
+
+inside_digit : (n : ℕ) → is_inside (48 + n) ≡ true
+inside_digit n = grind (arith, nat_tests)
+
+inside-four_digits : (n : ℕ) → list_all is_inside (four_digits n) ≡ true
+inside-four_digits n = rw (inside_digit (n / 1000), inside_digit (n / 100 % 10), inside_digit (n / 10 % 10), inside_digit (n % 10)) refl
+
+inside-take : (k : ℕ) (xs : List ℕ) → list_all is_inside xs ≡ true → list_all is_inside (take k xs) ≡ true
+inside-take zero xs h = refl
+inside-take (suc k) [] h = refl
+inside-take (suc k) (x ∷ xs) h =
+    let p = and_parts (is_inside x) (list_all is_inside xs) h in
+    rw (p.0, inside-take k xs p.1) refl
+
+inside-fraction_text : (n : ℕ) → list_all is_inside (fraction_text n) ≡ true
+inside-fraction_text n = by_test (n == 0)
+  where
+    by_test : (test : Bool) → list_all is_inside (if test then [] else (46 ∷ take (significant n) (four_digits n))) ≡ true
+    by_test true = refl
+    by_test false = inside-take (significant n) (four_digits n) (inside-four_digits n)
+
+-- no printed price has one
+pub inside-price_text : (n : ℕ) → n < 2 ^ 64 → list_all is_inside (price_text n) ≡ true
+unfolding price_text
+inside-price_text n h = inside-append (decimal (n / 10_000)) (fraction_text (n % 10_000)) (inside-decimal (n / 10_000) (omega arith)) (inside-fraction_text (n % 10_000))
