@@ -1,11 +1,10 @@
 -- When a market message is lawful, and which fault it is if not: read from the lists so far. (OUCH 4.2, "Outbound
 -- Messages".)
-use Rattle.std.specs.Prelude.{ℕ, ◌==◌, Bool, true, false, not, ◌&&◌, ◌||◌, nat_le, List, [], ◌∷◌, length, Option, Some, None, if◌then◌else◌, bytes_eq, codes, is_some, slice_index}
+use Rattle.std.specs.Prelude.{ℕ, ◌==◌, Bool, true, false, not, ◌&&◌, ◌||◌, nat_le, List, length, Option, Some, None, if◌then◌else◌, bytes_eq, codes, is_some}
 use Rattle.std.specs.List.{find, list_any}
 use Rattle.ouch_codec.specs.declared.layout.Kind.{Kind}
 use Rattle.ouch_codec.specs.Layout.{is_message}
-use Rattle.ouch_codec.specs.Layouts as layouts
-use Rattle.ouch_codec.specs.Decoding.{layout_in}
+use Rattle.ouch_codec.specs.Decoding.{layout_in, outbound_layouts}
 use Rattle.ouch_codec.specs.Parts.{type_of}
 use Rattle.ouch_codec.specs.FromMarket as heard
 use Rattle.order_law.specs.Messages.{text, character}
@@ -28,20 +27,6 @@ row_fault = 3
 
 abbrev pub type_fault : ℕ
 type_fault = 4
-
--- the types of the profile, each with its layout
-abbrev pub profile : List (ℕ × List Kind)
-profile =
-    (slice_index (codes "S") 0, layouts.system_event)
-    ∷ (slice_index (codes "A") 0, layouts.accepted)
-    ∷ (slice_index (codes "U") 0, layouts.replaced)
-    ∷ (slice_index (codes "C") 0, layouts.canceled)
-    ∷ (slice_index (codes "E") 0, layouts.executed)
-    ∷ (slice_index (codes "B") 0, layouts.broken)
-    ∷ (slice_index (codes "J") 0, layouts.rejected)
-    ∷ (slice_index (codes "P") 0, layouts.cancel_pending)
-    ∷ (slice_index (codes "I") 0, layouts.cancel_reject)
-    ∷ []
 
 -- an accepted message of a client of this port has the token
 abbrev pub has_token : List Terms → ℕ → List ℕ → Entry → Bool
@@ -146,4 +131,4 @@ judged_bytes terms port m before (Some layout) =
 abbrev pub judgement : List Terms → ℕ → List ℕ → History → Option ℕ
 judgement terms port m before =
     if length m == 0 then Some bytes_fault
-    else (if is_type (codes "T") m then None else judged_bytes terms port m before (layout_in profile (type_of m)))
+    else (if is_type (codes "T") m then None else judged_bytes terms port m before (layout_in outbound_layouts (type_of m)))
