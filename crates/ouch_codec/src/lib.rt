@@ -14,8 +14,6 @@ mod order_state;
 mod outbound;
 mod refusal;
 mod side;
-#[cfg(test)]
-mod tests;
 
 pub use inbound::{Cancel, EnterOrder, Inbound, Replace};
 pub use order_state::OrderState;
