@@ -6,7 +6,7 @@ use crate::vectors::{
 };
 use ouch_codec::{
     Accepted, Broken, CancelPending, CancelReject, Canceled, DecodeRefusal, Executed, OrderState,
-    Outbound, Rejected, Replaced, Side, SystemEvent, decode,
+    Outbound, Rejected, Replaced, Side, SystemEvent, decode, one_answer,
 };
 use std::process::Abort;
 use wire_law::FixedWire;
@@ -121,6 +121,7 @@ fn system_event() -> SystemEvent {
 
 #[test]
 fn each_message_is_decoded_from_its_bytes(rt: HostRuntime) {
+    one_answer();
     assert_eq!(rt;
         decode(&SYSTEM_EVENT),
         Ok(Outbound::SystemEvent(system_event()))

@@ -1,4 +1,4 @@
--- What the bytes of a System Event say, by the offsets of its layout, are the fields that it was made of.
+-- The bytes of a System Event are one.
 use Rattle.std.proofs.Common.{◌≡◌, ℕ, true, List}
 use Rattle.std.specs.Prelude.{codes, slice_index}
 use Rattle.ouch_codec.specs.declared.outbound.system_event.SystemEvent.{SystemEvent}
@@ -10,12 +10,12 @@ use Rattle.ouch_codec.specs.SystemEventLaws.{system_event_laid_out}
 use Rattle.ouch_codec.specs.Parts.{type_of}
 use Rattle.ouch_codec.specs.PartLaws.{byte_at-one}
 
--- these bytes are a System Event. What it says is read by no rule.
+-- These bytes are a System Event. What happened, and when, no rule reads.
 pub record SaysSystemEvent (m : SystemEvent) (bytes : List ℕ) : Type 0 where
   pub is_one : is_message system_event bytes ≡ true
   pub type : type_of bytes ≡ slice_index (codes "S") 0
 
--- a System Event is written as bytes that say it
+-- a System Event is written as such bytes
 pub SaysSystemEvent-written : (m : SystemEvent) → SaysSystemEvent m (spelled system_event (system_event_row m))
 SaysSystemEvent-written m =
     let bytes = written system_event_laid_out m in

@@ -19,7 +19,7 @@ pub use inbound::{Cancel, EnterOrder, Inbound, Replace};
 pub use order_state::OrderState;
 pub use outbound::{
     Accepted, Broken, CancelPending, CancelReject, Canceled, Executed, Outbound, Rejected,
-    Replaced, SystemEvent, decode,
+    Replaced, SystemEvent, decode, one_answer,
 };
 pub use refusal::DecodeRefusal;
 pub use side::Side;

@@ -10,7 +10,7 @@ mod rejected;
 mod replaced;
 mod system_event;
 
-ghost use Rattle.std.specs.Prelude.{◌≡◌, IfOk, IfErr};
+ghost use Rattle.std.specs.Prelude.{◌≡◌, ℕ, List, Result, IfOk, IfErr};
 ghost use Rattle.ouch_codec.specs.Decoding.{Decodes, RefusesAs};
 
 use crate::refusal::DecodeRefusal;
@@ -76,6 +76,12 @@ pub fn decode(payload: &[u8]) -> Result<Outbound, DecodeRefusal>
         _ => Err(DecodeRefusal::Type),
     }
 }
+
+/// At most one answer of `decode` is right of any bytes: a written message is decoded as itself. It does nothing: its
+/// contract is the law, for callers to cite.
+pub fn one_answer()
+    ensures { (payload : List ℕ) (a b : Result Outbound DecodeRefusal) → Decodes payload a → Decodes payload b → a ≡ b }
+{}
 
 /// The message that bytes of its type are.
 fn read<M: FixedWire>(payload: &[u8]) -> Result<M, DecodeRefusal>
