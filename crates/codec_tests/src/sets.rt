@@ -1,5 +1,6 @@
 //! Each byte of each message in turn takes each value: which are read follows from the field that it stands in.
 
+use crate::fields;
 use crate::vectors::{
     ACCEPTED, BROKEN, CANCEL, CANCEL_PENDING, CANCEL_REJECT, CANCELED, ENTER_ORDER, EXECUTED,
     REJECTED, REPLACE, REPLACED, SYSTEM_EVENT,
@@ -12,8 +13,6 @@ use std::process::Abort;
 use wire_law::FixedWire;
 
 /// Whether a byte of such a field may have this value, or `None` for shares, whose four bytes are one range.
-///
-/// `p` is printable, `s` a side, `o` an order state, `n` of a number, `h` of shares, and a capital letter a type.
 fn is_taken(field: u8, byte: u8) -> Option<bool> {
     match field {
         b'p' => Some(byte >= 32 && byte <= 126),
@@ -67,107 +66,22 @@ fn each_byte<M: FixedWire + Copy, const N: usize>(
 
 #[test]
 fn sets_of_messages_to_the_market(rt: HostRuntime) {
-    let enter_order = [
-        (1, b'O'),
-        (14, b'p'),
-        (1, b's'),
-        (4, b'h'),
-        (8, b'p'),
-        (4, b'n'),
-        (4, b'n'),
-        (4, b'p'),
-        (1, b'p'),
-        (1, b'p'),
-        (1, b'p'),
-        (4, b'n'),
-        (1, b'p'),
-        (1, b'p'),
-    ];
-    each_byte::<EnterOrder, 49>(&rt, ENTER_ORDER, &enter_order);
-    let replace = [
-        (1, b'U'),
-        (14, b'p'),
-        (14, b'p'),
-        (4, b'h'),
-        (4, b'n'),
-        (4, b'n'),
-        (1, b'p'),
-        (1, b'p'),
-        (4, b'n'),
-    ];
-    each_byte::<Replace, 47>(&rt, REPLACE, &replace);
-    each_byte::<Cancel, 19>(&rt, CANCEL, &[(1, b'X'), (14, b'p'), (4, b'h')]);
+    each_byte::<EnterOrder, 49>(&rt, ENTER_ORDER, &fields::ENTER_ORDER);
+    each_byte::<Replace, 47>(&rt, REPLACE, &fields::REPLACE);
+    each_byte::<Cancel, 19>(&rt, CANCEL, &fields::CANCEL);
 }
 
 #[test]
-fn sets_of_orders_that_the_market_says(rt: HostRuntime) {
-    let accepted = [
-        (1, b'A'),
-        (8, b'n'),
-        (14, b'p'),
-        (1, b's'),
-        (4, b'h'),
-        (8, b'p'),
-        (4, b'n'),
-        (4, b'n'),
-        (4, b'p'),
-        (1, b'p'),
-        (8, b'n'),
-        (1, b'p'),
-        (1, b'p'),
-        (4, b'n'),
-        (1, b'p'),
-        (1, b'o'),
-        (1, b'p'),
-    ];
-    each_byte::<Accepted, 66>(&rt, ACCEPTED, &accepted);
-    let replaced = [
-        (1, b'U'),
-        (8, b'n'),
-        (14, b'p'),
-        (1, b's'),
-        (4, b'h'),
-        (8, b'p'),
-        (4, b'n'),
-        (4, b'n'),
-        (4, b'p'),
-        (1, b'p'),
-        (8, b'n'),
-        (1, b'p'),
-        (1, b'p'),
-        (4, b'n'),
-        (1, b'p'),
-        (1, b'o'),
-        (14, b'p'),
-        (1, b'p'),
-    ];
-    each_byte::<Replaced, 80>(&rt, REPLACED, &replaced);
-}
-
-#[test]
-fn sets_of_what_the_market_says_of_an_order(rt: HostRuntime) {
-    let canceled = [(1, b'C'), (8, b'n'), (14, b'p'), (4, b'n'), (1, b'p')];
-    each_byte::<Canceled, 28>(&rt, CANCELED, &canceled);
-    let executed = [
-        (1, b'E'),
-        (8, b'n'),
-        (14, b'p'),
-        (4, b'n'),
-        (4, b'n'),
-        (1, b'p'),
-        (8, b'n'),
-    ];
-    each_byte::<Executed, 40>(&rt, EXECUTED, &executed);
-    let broken = [(1, b'B'), (8, b'n'), (14, b'p'), (8, b'n'), (1, b'p')];
-    each_byte::<Broken, 32>(&rt, BROKEN, &broken);
-    each_byte::<Rejected, 24>(
-        &rt,
-        REJECTED,
-        &[(1, b'J'), (8, b'n'), (14, b'p'), (1, b'p')],
-    );
-    each_byte::<CancelPending, 23>(&rt, CANCEL_PENDING, &[(1, b'P'), (8, b'n'), (14, b'p')]);
-    each_byte::<CancelReject, 23>(&rt, CANCEL_REJECT, &[(1, b'I'), (8, b'n'), (14, b'p')]);
-    each_byte::<SystemEvent, 10>(&rt, SYSTEM_EVENT, &[(1, b'S'), (8, b'n'), (1, b'p')]);
+fn sets_of_messages_from_the_market(rt: HostRuntime) {
+    each_byte::<SystemEvent, 10>(&rt, SYSTEM_EVENT, &fields::SYSTEM_EVENT);
+    each_byte::<Accepted, 66>(&rt, ACCEPTED, &fields::ACCEPTED);
+    each_byte::<Replaced, 80>(&rt, REPLACED, &fields::REPLACED);
+    each_byte::<Canceled, 28>(&rt, CANCELED, &fields::CANCELED);
+    each_byte::<Executed, 40>(&rt, EXECUTED, &fields::EXECUTED);
+    each_byte::<Broken, 32>(&rt, BROKEN, &fields::BROKEN);
+    each_byte::<Rejected, 24>(&rt, REJECTED, &fields::REJECTED);
+    each_byte::<CancelPending, 23>(&rt, CANCEL_PENDING, &fields::CANCEL_PENDING);
+    each_byte::<CancelReject, 23>(&rt, CANCEL_REJECT, &fields::CANCEL_REJECT);
 }
 
 /// The same bytes, but for the four from `at` on.
