@@ -6,7 +6,7 @@ use fix_fields::{Fields, SOH};
 use fix_types::AppBody;
 use itoa::Buffer;
 use order_core::{CoreOut, MarketOut};
-use ouch_codec::{Cancel, EnterOrder, Inbound};
+use ouch_codec::{Cancel, EnterOrder, Inbound, Replace};
 use std::alloc::{AllocError, Global};
 use wire_law::TextWire;
 
@@ -75,6 +75,7 @@ fn push_send(text: &mut Vec<u8>, port: Port, message: &Inbound) -> Result<(), Al
     text.extend_from_slice(b" >")?;
     match message {
         Inbound::Enter(enter_order) => push_enter_order(text, enter_order)?,
+        Inbound::Replace(replace) => push_replace(text, replace)?,
         Inbound::Cancel(cancel) => push_cancel(text, cancel)?,
     }
     text.push(b'\n')?;
@@ -125,6 +126,21 @@ fn push_enter_order(text: &mut Vec<u8>, message: &EnterOrder) -> Result<(), Allo
     push_number(text, message.minimum_quantity)?;
     push_word(text, &[message.cross_type])?;
     push_word(text, &[message.customer_type])
+}
+
+/// Adds a Replace, in the layout's order.
+///
+/// Source: OUCH 4.2, "Replace Order Message".
+fn push_replace(text: &mut Vec<u8>, message: &Replace) -> Result<(), AllocError> {
+    push_word(text, b"U")?;
+    push_word(text, &message.token)?;
+    push_word(text, &message.replacement_token)?;
+    push_number(text, message.shares)?;
+    push_number(text, message.price)?;
+    push_number(text, message.time_in_force)?;
+    push_word(text, &[message.display])?;
+    push_word(text, &[message.intermarket_sweep])?;
+    push_number(text, message.minimum_quantity)
 }
 
 /// Adds a Cancel, in the layout's order.

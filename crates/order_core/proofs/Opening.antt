@@ -3,7 +3,7 @@ use Rattle.std.proofs.Common.{◌≡◌, ◌≢◌, ℕ, ◌-◌, ◌≤◌, Boo
 use Rattle.std.proofs.lemmas.Bool.Decides.{nat_tests}
 use Rattle.std.proofs.lemmas.List.{length-drop}
 use Rattle.std.specs.List.{find, position_or_len}
-use Rattle.std.specs.Prelude.{Option, Some, None, Ok, MatchOption, ◌==◌, codes, slice_index, if◌then◌else◌}
+use Rattle.std.specs.Prelude.{Option, Some, None, Ok, MatchOption, ◌==◌, ◌||◌, codes, slice_index, if◌then◌else◌}
 use Rattle.ouch_codec.specs.declared.order_state.OrderState.{OrderState}
 use Rattle.ouch_codec.specs.declared.order_state.OrderState.TheVariants.{Live, Dead}
 use Rattle.ouch_codec.specs.declared.outbound.accepted.Accepted.{Accepted}
@@ -22,6 +22,7 @@ use Rattle.ouch_codec.specs.Rows.{accepted_row}
 use Rattle.order_law.specs.Lawful.{bytes_fault, row_fault, type_fault}
 use Rattle.order_law.specs.Life.{is_type}
 use Rattle.order_machine.specs.Table.{Order, State, goes_by}
+use Rattle.order_machine.specs.Runs.{IsServed}
 use Rattle.order_machine.specs.Machine.{Given, accepted_by, accepted_step, faulty, market_step, silent}
 use Rattle.order_core.specs.Opening.{fault_of_refusal, may_take, taken_as, taken_by, taken_step}
 
@@ -123,10 +124,29 @@ refused_accepted s port b bs refusals.Length is_a h = unread s port b bs is_a (�
 refused_accepted s port b bs refusals.Type is_a h = absurd h
 refused_accepted s port b bs refusals.Field is_a h = unread s port b bs is_a h.1
 
+-- of the types that are served only Accepted is listed
+served_layout : (s a u c e b j p i : Bool) (on_s on_a on_u on_c on_e on_b on_j on_p on_i : Option (List Kind))
+    → (s || (u || (e || (c || (b || (j || (p || (i || false)))))))) ≡ false
+    → (if s then on_s else (if a then on_a else (if u then on_u else (if c then on_c else (if e then on_e else (if b then on_b else (if j then on_j else (if p then on_p else (if i then on_i else None))))))))) ≡ (if a then on_a else None)
+served_layout true a u c e b j p i on_s on_a on_u on_c on_e on_b on_j on_p on_i h = absurd cc
+served_layout false a true c e b j p i on_s on_a on_u on_c on_e on_b on_j on_p on_i h = absurd cc
+served_layout false a false c true b j p i on_s on_a on_u on_c on_e on_b on_j on_p on_i h = absurd cc
+served_layout false a false true false b j p i on_s on_a on_u on_c on_e on_b on_j on_p on_i h = absurd cc
+served_layout false a false false false true j p i on_s on_a on_u on_c on_e on_b on_j on_p on_i h = absurd cc
+served_layout false a false false false false true p i on_s on_a on_u on_c on_e on_b on_j on_p on_i h = absurd cc
+served_layout false a false false false false false true i on_s on_a on_u on_c on_e on_b on_j on_p on_i h = absurd cc
+served_layout false a false false false false false false true on_s on_a on_u on_c on_e on_b on_j on_p on_i h = absurd cc
+served_layout false a false false false false false false false on_s on_a on_u on_c on_e on_b on_j on_p on_i h = refl
+
 -- bytes that are refused are the machine's fault
-pub refused_step : (s : State) (port : ℕ) (bytes : List ℕ) (refusal : DecodeRefusal) → Refuses bytes refusal → market_step s port bytes ≡ faulty s (fault_of_refusal refusal)
-refused_step s port [] refusal h = ap (λ (r : DecodeRefusal). faulty s (fault_of_refusal r)) (sym h)
-refused_step s port (b ∷ bs) refusal h = by_type (65 == b) refl h
+pub refused_step : (s : State) (port : ℕ) (bytes : List ℕ) (refusal : DecodeRefusal) → IsServed bytes → Refuses bytes refusal → market_step s port bytes ≡ faulty s (fault_of_refusal refusal)
+refused_step s port [] refusal served h = ap (λ (r : DecodeRefusal). faulty s (fault_of_refusal r)) (sym h)
+refused_step s port (b ∷ bs) refusal served h =
+    by_type (65 == b) refl
+    (subst
+    (λ (x : Option (List Kind)). MatchOption x ((b ≢ 84) × (refusal ≡ refusals.Type)) (λ layout. RefusesAs (total layout) (IsMessage layout) (b ∷ bs) refusal))
+    (served_layout (83 == b) (65 == b) (85 == b) (67 == b) (69 == b) (66 == b) (74 == b) (80 == b) (73 == b) _ _ _ _ _ _ _ _ _ served)
+    h)
   where
     by_type : (test : Bool) → (65 == b) ≡ test
         → MatchOption (if test then Some layouts.accepted else None) ((b ≢ 84) × (refusal ≡ refusals.Type)) (λ layout. RefusesAs (total layout) (IsMessage layout) (b ∷ bs) refusal)

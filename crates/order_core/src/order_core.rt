@@ -106,8 +106,9 @@ impl OrderCore {
     /// Steps a payload that a market port's session gave.
     ///
     /// Any fault leaves the machine as it was. The faults, the first that holds: `OutsideProfile` (a type that isn't
-    /// handled), `Undecodable` (another length than its type's, a field outside its set, or no byte at all),
-    /// `UnknownToken` (no order of this port has it), `NotLawful` (it doesn't fit what the order is waiting for).
+    /// known, or a whole message of one that isn't handled yet), `Undecodable` (another length than its type's, a field
+    /// outside its set, or no byte at all), `UnknownToken` (no order of this port has it), `NotLawful` (it doesn't fit
+    /// what the order is waiting for).
     pub fn market(
         &mut self,
         alloc: Global,
@@ -155,7 +156,7 @@ impl OrderCore {
         payload: &[u8],
     ) -> Result<MarketOut, MarketFault>
         requires room { HasRoom self.old }
-        ensures meets { MeetsMarket (market_step self.old port payload.now) result self.new }
+        ensures meets { IsServed payload.now → MeetsMarket (market_step self.old port payload.now) result self.new }
         ensures clients { clients self.new ≡ clients self.old }
         ensures issued { issued self.new ≤ issued self.old + 3 }
         ensures err { OnErr result (self.new ≡ self.old) }
@@ -164,6 +165,16 @@ impl OrderCore {
             Err(refusal) => Err(fault_of(refusal)),
             Ok(Outbound::Skipped) => Ok(MarketOut::nothing(alloc)),
             Ok(Outbound::Accepted(accepted)) => self.accepted(alloc, port, &accepted),
+            Ok(
+                Outbound::SystemEvent(_)
+                | Outbound::Replaced(_)
+                | Outbound::Canceled(_)
+                | Outbound::Executed(_)
+                | Outbound::Broken(_)
+                | Outbound::Rejected(_)
+                | Outbound::CancelPending(_)
+                | Outbound::CancelReject(_),
+            ) => Err(MarketFault::OutsideProfile),
         }
     }
 }

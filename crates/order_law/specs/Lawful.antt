@@ -1,11 +1,14 @@
 -- When a market message is lawful, and which fault it is if not: read from the lists so far. (OUCH 4.2, "Outbound
 -- Messages".)
+<<<<<<< HEAD
 use Rattle.std.specs.Prelude.{ℕ, ◌==◌, Bool, true, false, not, ◌&&◌, ◌||◌, nat_le, List, [], ◌∷◌, length, Option, Some, None, if◌then◌else◌, bytes_eq, codes, is_some, option_map, slice_index}
+=======
+use Rattle.std.specs.Prelude.{ℕ, ◌==◌, Bool, true, false, not, ◌&&◌, ◌||◌, nat_le, List, length, Option, Some, None, if◌then◌else◌, bytes_eq, codes, is_some}
+>>>>>>> 16ecfde39e5969d0d0bd727c5d166a11f3aa54d7
 use Rattle.std.specs.List.{find, list_any}
 use Rattle.ouch_codec.specs.declared.layout.Kind.{Kind}
 use Rattle.ouch_codec.specs.Layout.{is_message}
-use Rattle.ouch_codec.specs.Layouts as layouts
-use Rattle.ouch_codec.specs.Decoding.{layout_in}
+use Rattle.ouch_codec.specs.Decoding.{layout_in, outbound_layouts}
 use Rattle.ouch_codec.specs.Parts.{type_of}
 use Rattle.ouch_codec.specs.FromMarket as heard
 use Rattle.order_law.specs.Messages.{text, character}
@@ -28,20 +31,6 @@ row_fault = 3
 
 abbrev pub type_fault : ℕ
 type_fault = 4
-
--- the types of the profile, each with its layout
-abbrev pub profile : List (ℕ × List Kind)
-profile =
-    (slice_index (codes "S") 0, layouts.system_event)
-    ∷ (slice_index (codes "A") 0, layouts.accepted)
-    ∷ (slice_index (codes "U") 0, layouts.replaced)
-    ∷ (slice_index (codes "C") 0, layouts.canceled)
-    ∷ (slice_index (codes "E") 0, layouts.executed)
-    ∷ (slice_index (codes "B") 0, layouts.broken)
-    ∷ (slice_index (codes "J") 0, layouts.rejected)
-    ∷ (slice_index (codes "P") 0, layouts.cancel_pending)
-    ∷ (slice_index (codes "I") 0, layouts.cancel_reject)
-    ∷ []
 
 -- an accepted message of a client of this port has the token
 abbrev pub has_token : List Terms → ℕ → List ℕ → Entry → Bool
@@ -138,6 +127,7 @@ judged_bytes row_on m (Some layout) =
 abbrev pub judged_by : (List ℕ → Option Bool) → List ℕ → Option ℕ
 judged_by row_on m =
     if length m == 0 then Some bytes_fault
+<<<<<<< HEAD
     else (if is_type (codes "T") m then None else judged_bytes row_on m (layout_in profile (type_of m)))
 
 -- lawful of the order that a token leads to, as the lists have it
@@ -151,3 +141,6 @@ is_lawful_on terms port m before token = option_map row_of (order_of_token terms
 
 abbrev pub judgement : List Terms → ℕ → List ℕ → History → Option ℕ
 judgement terms port m before = judged_by (is_lawful_on terms port m before) m
+=======
+    else (if is_type (codes "T") m then None else judged_bytes terms port m before (layout_in outbound_layouts (type_of m)))
+>>>>>>> 16ecfde39e5969d0d0bd727c5d166a11f3aa54d7

@@ -1,13 +1,13 @@
--- An Accepted is its row: it has 66 bytes, they are a message, and no other Accepted has them.
-use Rattle.std.proofs.Common.{◌≡◌, refl, length}
+-- An Accepted is its row.
+use Rattle.std.proofs.Common.{refl}
 use Rattle.ouch_codec.specs.declared.outbound.accepted.Accepted.{Accepted}
-use Rattle.ouch_codec.specs.Layout.{IsMessage, Row, AreValues, spelled, ◌⨾◌}
+use Rattle.ouch_codec.specs.Layout.{Row, AreValues, ◌⨾◌}
 use Rattle.ouch_codec.specs.Layouts.{accepted}
 use Rattle.ouch_codec.specs.Rows.{accepted_row}
-use Rattle.ouch_codec.specs.LayoutLaws.{length-spelled, IsMessage-spelled, same_message}
+use Rattle.ouch_codec.specs.LaidOut.{LaidOut}
 
 -- each value of its row is one that the field can say
-abbrev pub known : (m : Accepted) → AreValues accepted (accepted_row m)
+abbrev known : (m : Accepted) → AreValues accepted (accepted_row m)
 known m =
     tt
     ⨾ m.timestamp_set
@@ -63,11 +63,5 @@ accepted_of (_, (timestamp, (token, (side, (shares, (stock, (price, (time_in_for
   bbo_weight_set = bbo_weight_set;
 }
 
-pub length-accepted : (m : Accepted) → length (spelled accepted (accepted_row m)) ≡ 66
-length-accepted m = length-spelled accepted (accepted_row m) (known m)
-
-pub IsMessage-accepted : (m : Accepted) → IsMessage accepted (spelled accepted (accepted_row m))
-IsMessage-accepted m = IsMessage-spelled accepted (accepted_row m) (known m)
-
-pub same_accepted : (m n : Accepted) → spelled accepted (accepted_row m) ≡ spelled accepted (accepted_row n) → m ≡ n
-same_accepted = same_message accepted accepted_row known accepted_of (λ m. refl)
+abbrev pub accepted_laid_out : LaidOut Accepted accepted
+accepted_laid_out = record { row = accepted_row; known = known; make = accepted_of; made = λ m. refl }

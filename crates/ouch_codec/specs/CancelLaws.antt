@@ -1,10 +1,10 @@
--- A Cancel is its row: it has 19 bytes, they are a message, and no other Cancel has them.
-use Rattle.std.proofs.Common.{◌≡◌, refl, length}
+-- A Cancel Order is its row.
+use Rattle.std.proofs.Common.{refl}
 use Rattle.ouch_codec.specs.declared.inbound.cancel.Cancel.{Cancel}
-use Rattle.ouch_codec.specs.Layout.{IsMessage, Row, AreValues, spelled, ◌⨾◌}
+use Rattle.ouch_codec.specs.Layout.{Row, AreValues, ◌⨾◌}
 use Rattle.ouch_codec.specs.Layouts.{cancel}
 use Rattle.ouch_codec.specs.Rows.{cancel_row}
-use Rattle.ouch_codec.specs.LayoutLaws.{length-spelled, IsMessage-spelled, same_message}
+use Rattle.ouch_codec.specs.LaidOut.{LaidOut}
 
 -- each value of its row is one that the field can say
 abbrev known : (m : Cancel) → AreValues cancel (cancel_row m)
@@ -23,11 +23,5 @@ cancel_of (_, (token, (shares, _))) (_, (token_set, (shares_set, _))) = record {
   shares_set = shares_set;
 }
 
-pub length-cancel : (m : Cancel) → length (spelled cancel (cancel_row m)) ≡ 19
-length-cancel m = length-spelled cancel (cancel_row m) (known m)
-
-pub IsMessage-cancel : (m : Cancel) → IsMessage cancel (spelled cancel (cancel_row m))
-IsMessage-cancel m = IsMessage-spelled cancel (cancel_row m) (known m)
-
-pub same_cancel : (m n : Cancel) → spelled cancel (cancel_row m) ≡ spelled cancel (cancel_row n) → m ≡ n
-same_cancel = same_message cancel cancel_row known cancel_of (λ m. refl)
+abbrev pub cancel_laid_out : LaidOut Cancel cancel
+cancel_laid_out = record { row = cancel_row; known = known; make = cancel_of; made = λ m. refl }

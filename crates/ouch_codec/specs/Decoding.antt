@@ -2,17 +2,25 @@
 use Rattle.std.specs.Prelude.{◌≡◌, ◌≢◌, ℕ, List, length, Option, Some, None, Result, Ok, Err, MatchOption, if◌then◌else◌, ◌==◌, [], ◌∷◌, slice_index, slice_get, codes}
 use Rattle.ouch_codec.specs.declared.layout.Kind.{Kind}
 use Rattle.ouch_codec.specs.declared.outbound.Outbound.{Outbound}
-use Rattle.ouch_codec.specs.declared.outbound.Outbound.TheVariants.{Accepted, Skipped}
+use Rattle.ouch_codec.specs.declared.outbound.Outbound.TheVariants.{SystemEvent, Accepted, Replaced, Canceled, Executed, Broken, Rejected, CancelPending, CancelReject, Skipped}
 use Rattle.ouch_codec.specs.declared.refusal.DecodeRefusal.{DecodeRefusal}
 use Rattle.ouch_codec.specs.declared.refusal.DecodeRefusal.TheVariants as refusals
 use Rattle.ouch_codec.specs.Layout.{IsMessage, total, spelled}
-use Rattle.ouch_codec.specs.Layouts.{accepted}
-use Rattle.ouch_codec.specs.Rows.{accepted_row}
+use Rattle.ouch_codec.specs.Layouts.{system_event, accepted, replaced, canceled, executed, broken, rejected, cancel_pending, cancel_reject}
+use Rattle.ouch_codec.specs.Rows.{system_event_row, accepted_row, replaced_row, canceled_row, executed_row, broken_row, rejected_row, cancel_pending_row, cancel_reject_row}
 
 -- the types that are read, each with its layout
-abbrev outbound_layouts : List (ℕ × List Kind)
+abbrev pub outbound_layouts : List (ℕ × List Kind)
 outbound_layouts =
-    (slice_index (codes "A") 0, accepted)
+    (slice_index (codes "S") 0, system_event)
+    ∷ (slice_index (codes "A") 0, accepted)
+    ∷ (slice_index (codes "U") 0, replaced)
+    ∷ (slice_index (codes "C") 0, canceled)
+    ∷ (slice_index (codes "E") 0, executed)
+    ∷ (slice_index (codes "B") 0, broken)
+    ∷ (slice_index (codes "J") 0, rejected)
+    ∷ (slice_index (codes "P") 0, cancel_pending)
+    ∷ (slice_index (codes "I") 0, cancel_reject)
     ∷ []
 
 abbrev pub layout_in : List (ℕ × List Kind) → ℕ → Option (List Kind)
@@ -30,7 +38,7 @@ RefusesAs len is_spelled payload refusals.Field = (length payload ≡ len) × (i
 RefusesAs len is_spelled payload refusals.Type = ⊥
 
 -- The refusal of bytes that begin with this letter. 84 is `T`, Priority Update, which is skipped.
-abbrev RefusesByType : ℕ → List ℕ → DecodeRefusal → Type 0
+abbrev pub RefusesByType : ℕ → List ℕ → DecodeRefusal → Type 0
 RefusesByType letter payload refusal =
     MatchOption (outbound_layout letter)
     ((letter ≢ 84) × (refusal ≡ refusals.Type))
@@ -45,7 +53,15 @@ Refuses payload refusal =
 
 -- what `decode` answers: the message that is written as these bytes, or why there is none
 abbrev pub Decodes : List ℕ → Result Outbound DecodeRefusal → Type 0
+Decodes payload (Ok (SystemEvent m)) = payload ≡ spelled system_event (system_event_row m)
 Decodes payload (Ok (Accepted m)) = payload ≡ spelled accepted (accepted_row m)
+Decodes payload (Ok (Replaced m)) = payload ≡ spelled replaced (replaced_row m)
+Decodes payload (Ok (Canceled m)) = payload ≡ spelled canceled (canceled_row m)
+Decodes payload (Ok (Executed m)) = payload ≡ spelled executed (executed_row m)
+Decodes payload (Ok (Broken m)) = payload ≡ spelled broken (broken_row m)
+Decodes payload (Ok (Rejected m)) = payload ≡ spelled rejected (rejected_row m)
+Decodes payload (Ok (CancelPending m)) = payload ≡ spelled cancel_pending (cancel_pending_row m)
+Decodes payload (Ok (CancelReject m)) = payload ≡ spelled cancel_reject (cancel_reject_row m)
 Decodes payload (Ok Skipped) = slice_get payload 0 ≡ Some 84
 Decodes payload (Err refusal) = Refuses payload refusal
 

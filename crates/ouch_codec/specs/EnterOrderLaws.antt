@@ -1,13 +1,13 @@
--- An Enter Order is its row: it has 49 bytes, they are a message, and no other Enter Order has them.
-use Rattle.std.proofs.Common.{◌≡◌, refl, length}
+-- An Enter Order is its row.
+use Rattle.std.proofs.Common.{refl}
 use Rattle.ouch_codec.specs.declared.inbound.enter_order.EnterOrder.{EnterOrder}
-use Rattle.ouch_codec.specs.Layout.{IsMessage, Row, AreValues, spelled, ◌⨾◌}
+use Rattle.ouch_codec.specs.Layout.{Row, AreValues, ◌⨾◌}
 use Rattle.ouch_codec.specs.Layouts.{enter_order}
 use Rattle.ouch_codec.specs.Rows.{enter_order_row}
-use Rattle.ouch_codec.specs.LayoutLaws.{length-spelled, IsMessage-spelled, same_message}
+use Rattle.ouch_codec.specs.LaidOut.{LaidOut}
 
 -- each value of its row is one that the field can say
-abbrev pub known : (m : EnterOrder) → AreValues enter_order (enter_order_row m)
+abbrev known : (m : EnterOrder) → AreValues enter_order (enter_order_row m)
 known m =
     tt
     ⨾ m.token_set
@@ -55,11 +55,5 @@ enter_order_of (_, (token, (side, (shares, (stock, (price, (time_in_force, (firm
   customer_type_set = customer_type_set;
 }
 
-pub length-enter_order : (m : EnterOrder) → length (spelled enter_order (enter_order_row m)) ≡ 49
-length-enter_order m = length-spelled enter_order (enter_order_row m) (known m)
-
-pub IsMessage-enter_order : (m : EnterOrder) → IsMessage enter_order (spelled enter_order (enter_order_row m))
-IsMessage-enter_order m = IsMessage-spelled enter_order (enter_order_row m) (known m)
-
-pub same_enter_order : (m n : EnterOrder) → spelled enter_order (enter_order_row m) ≡ spelled enter_order (enter_order_row n) → m ≡ n
-same_enter_order = same_message enter_order enter_order_row known enter_order_of (λ m. refl)
+abbrev pub enter_order_laid_out : LaidOut EnterOrder enter_order
+enter_order_laid_out = record { row = enter_order_row; known = known; make = enter_order_of; made = λ m. refl }

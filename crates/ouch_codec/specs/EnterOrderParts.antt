@@ -6,10 +6,10 @@ use Rattle.ouch_codec.specs.Letters.{side_letter}
 use Rattle.ouch_codec.specs.Layout.{is_message, spelled}
 use Rattle.ouch_codec.specs.Layouts.{enter_order}
 use Rattle.ouch_codec.specs.Rows.{enter_order_row}
-use Rattle.ouch_codec.specs.EnterOrderLaws.{known, IsMessage-enter_order}
-use Rattle.ouch_codec.specs.MessageLaws.{is_message-passes}
-use Rattle.ouch_codec.specs.Parts.{bytes_at, type_of, unpadded}
-use Rattle.ouch_codec.specs.PartLaws.{bytes_at-spelled, byte_at-one, number_at-four, text_at-unpadded, offset_of, width_of, part}
+use Rattle.ouch_codec.specs.LaidOut.{written, is_message-written, at_place}
+use Rattle.ouch_codec.specs.EnterOrderLaws.{enter_order_laid_out}
+use Rattle.ouch_codec.specs.Parts.{type_of, unpadded}
+use Rattle.ouch_codec.specs.PartLaws.{byte_at-one, number_at-four, text_at-unpadded}
 use Rattle.ouch_codec.specs.ToMarket as said
 
 -- these bytes are an Enter Order that says the fields of this one
@@ -30,29 +30,25 @@ pub record SaysEnterOrder (m : EnterOrder) (bytes : List ℕ) : Type 0 where
   pub cross : said.enter_cross bytes ≡ m.cross_type
   pub customer : said.enter_customer bytes ≡ m.customer_type
 
--- what it is written as
-abbrev written : EnterOrder → List ℕ
-written m = spelled enter_order (enter_order_row m)
-
-at_place : (m : EnterOrder) (place : ℕ) → bytes_at (offset_of enter_order place) (width_of enter_order place) (written m) ≡ part enter_order (enter_order_row m) place
-at_place m place = bytes_at-spelled enter_order (enter_order_row m) place (known m)
-
 -- an Enter Order is written as bytes that say it
 pub SaysEnterOrder-written : (m : EnterOrder) → SaysEnterOrder m (spelled enter_order (enter_order_row m))
-SaysEnterOrder-written m = record {
-  is_one = is_message-passes enter_order (written m) (IsMessage-enter_order m);
-  type = byte_at-one 0 _ (written m) (at_place m 0);
-  token = at_place m 1;
-  side = byte_at-one 15 _ (written m) (at_place m 2);
-  shares = number_at-four 16 m.shares (written m) (omega (arith, m.shares_set.1)) (at_place m 3);
-  stock = text_at-unpadded 20 8 (written m) m.stock (at_place m 4);
-  price = number_at-four 28 m.price (written m) m.price_set (at_place m 5);
-  time_in_force = number_at-four 32 m.time_in_force (written m) m.time_in_force_set (at_place m 6);
-  firm = at_place m 7;
-  display = byte_at-one 40 _ (written m) (at_place m 8);
-  capacity = byte_at-one 41 _ (written m) (at_place m 9);
-  sweep = byte_at-one 42 _ (written m) (at_place m 10);
-  minimum = number_at-four 43 m.minimum_quantity (written m) m.minimum_quantity_set (at_place m 11);
-  cross = byte_at-one 47 _ (written m) (at_place m 12);
-  customer = byte_at-one 48 _ (written m) (at_place m 13);
-}
+SaysEnterOrder-written m =
+    let bytes = written enter_order_laid_out m in
+    let place = at_place enter_order_laid_out m in
+    record {
+      is_one = is_message-written enter_order_laid_out m;
+      type = byte_at-one 0 _ bytes (place 0);
+      token = place 1;
+      side = byte_at-one 15 _ bytes (place 2);
+      shares = number_at-four 16 m.shares bytes (omega (arith, m.shares_set.1)) (place 3);
+      stock = text_at-unpadded 20 8 bytes m.stock (place 4);
+      price = number_at-four 28 m.price bytes m.price_set (place 5);
+      time_in_force = number_at-four 32 m.time_in_force bytes m.time_in_force_set (place 6);
+      firm = place 7;
+      display = byte_at-one 40 _ bytes (place 8);
+      capacity = byte_at-one 41 _ bytes (place 9);
+      sweep = byte_at-one 42 _ bytes (place 10);
+      minimum = number_at-four 43 m.minimum_quantity bytes m.minimum_quantity_set (place 11);
+      cross = byte_at-one 47 _ bytes (place 12);
+      customer = byte_at-one 48 _ bytes (place 13);
+    }

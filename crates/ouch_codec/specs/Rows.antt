@@ -1,9 +1,18 @@
 -- What each message says, in the order of its layout. The type of a message says nothing further: `tt`.
 use Rattle.ouch_codec.specs.declared.inbound.enter_order.EnterOrder.{EnterOrder}
+use Rattle.ouch_codec.specs.declared.inbound.replace.Replace.{Replace}
 use Rattle.ouch_codec.specs.declared.inbound.cancel.Cancel.{Cancel}
+use Rattle.ouch_codec.specs.declared.outbound.system_event.SystemEvent.{SystemEvent}
 use Rattle.ouch_codec.specs.declared.outbound.accepted.Accepted.{Accepted}
+use Rattle.ouch_codec.specs.declared.outbound.replaced.Replaced.{Replaced}
+use Rattle.ouch_codec.specs.declared.outbound.canceled.Canceled.{Canceled}
+use Rattle.ouch_codec.specs.declared.outbound.executed.Executed.{Executed}
+use Rattle.ouch_codec.specs.declared.outbound.broken.Broken.{Broken}
+use Rattle.ouch_codec.specs.declared.outbound.rejected.Rejected.{Rejected}
+use Rattle.ouch_codec.specs.declared.outbound.cancel_pending.CancelPending.{CancelPending}
+use Rattle.ouch_codec.specs.declared.outbound.cancel_reject.CancelReject.{CancelReject}
 use Rattle.ouch_codec.specs.Layout.{Row, ◌⨾◌}
-use Rattle.ouch_codec.specs.Layouts.{enter_order, cancel, accepted}
+use Rattle.ouch_codec.specs.Layouts.{enter_order, replace, cancel, system_event, accepted, replaced, canceled, executed, broken, rejected, cancel_pending, cancel_reject}
 
 abbrev pub enter_order_row : EnterOrder → Row enter_order
 enter_order_row m =
@@ -23,11 +32,31 @@ enter_order_row m =
     ⨾ m.customer_type
     ⨾ tt
 
+abbrev pub replace_row : Replace → Row replace
+replace_row m =
+    tt
+    ⨾ m.token
+    ⨾ m.replacement_token
+    ⨾ m.shares
+    ⨾ m.price
+    ⨾ m.time_in_force
+    ⨾ m.display
+    ⨾ m.intermarket_sweep
+    ⨾ m.minimum_quantity
+    ⨾ tt
+
 abbrev pub cancel_row : Cancel → Row cancel
 cancel_row m =
     tt
     ⨾ m.token
     ⨾ m.shares
+    ⨾ tt
+
+abbrev pub system_event_row : SystemEvent → Row system_event
+system_event_row m =
+    tt
+    ⨾ m.timestamp
+    ⨾ m.event
     ⨾ tt
 
 abbrev pub accepted_row : Accepted → Row accepted
@@ -49,4 +78,77 @@ accepted_row m =
     ⨾ m.cross_type
     ⨾ m.order_state
     ⨾ m.bbo_weight
+    ⨾ tt
+
+abbrev pub replaced_row : Replaced → Row replaced
+replaced_row m =
+    tt
+    ⨾ m.timestamp
+    ⨾ m.token
+    ⨾ m.side
+    ⨾ m.shares
+    ⨾ m.stock
+    ⨾ m.price
+    ⨾ m.time_in_force
+    ⨾ m.firm
+    ⨾ m.display
+    ⨾ m.order_reference
+    ⨾ m.capacity
+    ⨾ m.intermarket_sweep
+    ⨾ m.minimum_quantity
+    ⨾ m.cross_type
+    ⨾ m.order_state
+    ⨾ m.previous_token
+    ⨾ m.bbo_weight
+    ⨾ tt
+
+abbrev pub canceled_row : Canceled → Row canceled
+canceled_row m =
+    tt
+    ⨾ m.timestamp
+    ⨾ m.token
+    ⨾ m.decrement
+    ⨾ m.reason
+    ⨾ tt
+
+abbrev pub executed_row : Executed → Row executed
+executed_row m =
+    tt
+    ⨾ m.timestamp
+    ⨾ m.token
+    ⨾ m.shares
+    ⨾ m.price
+    ⨾ m.liquidity
+    ⨾ m.match_number
+    ⨾ tt
+
+abbrev pub broken_row : Broken → Row broken
+broken_row m =
+    tt
+    ⨾ m.timestamp
+    ⨾ m.token
+    ⨾ m.match_number
+    ⨾ m.reason
+    ⨾ tt
+
+abbrev pub rejected_row : Rejected → Row rejected
+rejected_row m =
+    tt
+    ⨾ m.timestamp
+    ⨾ m.token
+    ⨾ m.reason
+    ⨾ tt
+
+abbrev pub cancel_pending_row : CancelPending → Row cancel_pending
+cancel_pending_row m =
+    tt
+    ⨾ m.timestamp
+    ⨾ m.token
+    ⨾ tt
+
+abbrev pub cancel_reject_row : CancelReject → Row cancel_reject
+cancel_reject_row m =
+    tt
+    ⨾ m.timestamp
+    ⨾ m.token
     ⨾ tt

@@ -2,12 +2,14 @@
 
 mod cancel;
 mod enter_order;
+mod replace;
 
 ghost use Rattle.std.specs.Prelude.{◌≡◌, length};
 ghost use Rattle.ouch_codec.specs.Inbound.{inbound_bytes};
 
 pub use cancel::Cancel;
 pub use enter_order::EnterOrder;
+pub use replace::Replace;
 use wire_law::FixedWire;
 
 /// A message towards the market. (Inbound is OUCH's own word, seen from the market.)
@@ -17,6 +19,8 @@ use wire_law::FixedWire;
 pub enum Inbound {
     /// A new order.
     Enter(EnterOrder),
+    /// A request to replace an order by one with other terms.
+    Replace(Replace),
     /// A request to cancel what is open of an order, or a part of it.
     Cancel(Cancel),
 }
@@ -28,6 +32,7 @@ impl Inbound {
     {
         match self {
             Inbound::Enter(_) => EnterOrder::LEN,
+            Inbound::Replace(_) => Replace::LEN,
             Inbound::Cancel(_) => Cancel::LEN,
         }
     }
@@ -39,6 +44,7 @@ impl Inbound {
     {
         match self {
             Inbound::Enter(enter_order) => enter_order.put(out),
+            Inbound::Replace(replace) => replace.put(out),
             Inbound::Cancel(cancel) => cancel.put(out),
         }
     }

@@ -1,4 +1,4 @@
-//! The part of OUCH 4.2 that the gateway speaks: Enter Order and Cancel Order towards the market, Accepted from it.
+//! The messages of OUCH 4.2 that the gateway and the market exchange: three towards the market, nine from it.
 //!
 //! A message has a fixed number of bytes: numbers are big-endian, texts are padded right with spaces. What a layout
 //! is stands in `specs/Layout.antt`, and the layouts themselves, field by field as the manual has them, in
@@ -14,11 +14,12 @@ mod order_state;
 mod outbound;
 mod refusal;
 mod side;
-#[cfg(test)]
-mod tests;
 
-pub use inbound::{Cancel, EnterOrder, Inbound};
+pub use inbound::{Cancel, EnterOrder, Inbound, Replace};
 pub use order_state::OrderState;
-pub use outbound::{Accepted, Outbound, decode};
+pub use outbound::{
+    Accepted, Broken, CancelPending, CancelReject, Canceled, Executed, Outbound, Rejected,
+    Replaced, SystemEvent, decode, one_answer,
+};
 pub use refusal::DecodeRefusal;
 pub use side::Side;

@@ -1,12 +1,28 @@
 //! Messages from the market, and which of them some bytes are.
 
 mod accepted;
+mod broken;
+mod cancel_pending;
+mod cancel_reject;
+mod canceled;
+mod executed;
+mod rejected;
+mod replaced;
+mod system_event;
 
-ghost use Rattle.std.specs.Prelude.{◌≡◌, IfOk, IfErr};
+ghost use Rattle.std.specs.Prelude.{◌≡◌, ℕ, List, Result, IfOk, IfErr};
 ghost use Rattle.ouch_codec.specs.Decoding.{Decodes, RefusesAs};
 
 use crate::refusal::DecodeRefusal;
 pub use accepted::Accepted;
+pub use broken::Broken;
+pub use cancel_pending::CancelPending;
+pub use cancel_reject::CancelReject;
+pub use canceled::Canceled;
+pub use executed::Executed;
+pub use rejected::Rejected;
+pub use replaced::Replaced;
+pub use system_event::SystemEvent;
 use wire_law::FixedWire;
 
 /// A message from the market. (Outbound is OUCH's own word, seen from the market.)
@@ -14,8 +30,24 @@ use wire_law::FixedWire;
 /// Source: OUCH 4.2, "Outbound Messages".
 #[derive(Clone, Copy, Debug, PartialEq, Eq)]
 pub enum Outbound {
+    /// Something happened that is no order's own.
+    SystemEvent(SystemEvent),
     /// The market took a new order.
     Accepted(Accepted),
+    /// An order goes by another token from now on, with other terms.
+    Replaced(Replaced),
+    /// Shares of an order left the book without a trade.
+    Canceled(Canceled),
+    /// Shares of an order were traded.
+    Executed(Executed),
+    /// A trade of an order is taken back.
+    Broken(Broken),
+    /// The market didn't take a new order, or a replacement.
+    Rejected(Rejected),
+    /// The market will cancel an order once it may.
+    CancelPending(CancelPending),
+    /// The market doesn't cancel an order.
+    CancelReject(CancelReject),
     /// A Priority Update, `T`, whatever its length: it says nothing that the gateway reports.
     Skipped,
 }
@@ -31,11 +63,25 @@ pub fn decode(payload: &[u8]) -> Result<Outbound, DecodeRefusal>
 {
     match payload {
         [] => Err(DecodeRefusal::Length),
+        [b'S', ..] => Ok(Outbound::SystemEvent(read(payload)?)),
         [b'A', ..] => Ok(Outbound::Accepted(read(payload)?)),
+        [b'U', ..] => Ok(Outbound::Replaced(read(payload)?)),
+        [b'C', ..] => Ok(Outbound::Canceled(read(payload)?)),
+        [b'E', ..] => Ok(Outbound::Executed(read(payload)?)),
+        [b'B', ..] => Ok(Outbound::Broken(read(payload)?)),
+        [b'J', ..] => Ok(Outbound::Rejected(read(payload)?)),
+        [b'P', ..] => Ok(Outbound::CancelPending(read(payload)?)),
+        [b'I', ..] => Ok(Outbound::CancelReject(read(payload)?)),
         [b'T', ..] => Ok(Outbound::Skipped),
         _ => Err(DecodeRefusal::Type),
     }
 }
+
+/// At most one answer of `decode` is right of any bytes: a written message is decoded as itself. It does nothing: its
+/// contract is the law, for callers to cite.
+pub fn one_answer()
+    ensures { (payload : List ℕ) (a b : Result Outbound DecodeRefusal) → Decodes payload a → Decodes payload b → a ≡ b }
+{}
 
 /// The message that bytes of its type are.
 fn read<M: FixedWire>(payload: &[u8]) -> Result<M, DecodeRefusal>

@@ -35,7 +35,8 @@ impl FixedWire for Cancel {
     ghost use Rattle.ouch_codec.specs.Layout.{IsMessage, spelled};
     ghost use Rattle.ouch_codec.specs.Layouts.{cancel};
     ghost use Rattle.ouch_codec.specs.Rows.{cancel_row};
-    ghost use Rattle.ouch_codec.specs.CancelLaws.{length-cancel, IsMessage-cancel, same_cancel};
+    ghost use Rattle.ouch_codec.specs.LaidOut.{length-written, IsMessage-written, same_written};
+    ghost use Rattle.ouch_codec.specs.CancelLaws.{cancel_laid_out};
 
     const LEN: usize = 19;
 
@@ -45,11 +46,11 @@ impl FixedWire for Cancel {
 
     ghost is_spelled = { IsMessage cancel };
 
-    ghost fixed = { length-cancel };
+    ghost fixed = { length-written cancel_laid_out };
 
-    ghost again = { IsMessage-cancel };
+    ghost again = { IsMessage-written cancel_laid_out };
 
-    ghost one_value = { same_cancel };
+    ghost one_value = { same_written cancel_laid_out };
 
     fn put(&self, out: &mut [u8]) {
         put_fields(out, &[b"X", &self.token, &number_bytes(self.shares)]);

@@ -79,7 +79,8 @@ impl FixedWire for EnterOrder {
     ghost use Rattle.ouch_codec.specs.Layout.{IsMessage, spelled};
     ghost use Rattle.ouch_codec.specs.Layouts.{enter_order};
     ghost use Rattle.ouch_codec.specs.Rows.{enter_order_row};
-    ghost use Rattle.ouch_codec.specs.EnterOrderLaws.{length-enter_order, IsMessage-enter_order, same_enter_order};
+    ghost use Rattle.ouch_codec.specs.LaidOut.{length-written, IsMessage-written, same_written};
+    ghost use Rattle.ouch_codec.specs.EnterOrderLaws.{enter_order_laid_out};
 
     const LEN: usize = 49;
 
@@ -89,11 +90,11 @@ impl FixedWire for EnterOrder {
 
     ghost is_spelled = { IsMessage enter_order };
 
-    ghost fixed = { length-enter_order };
+    ghost fixed = { length-written enter_order_laid_out };
 
-    ghost again = { IsMessage-enter_order };
+    ghost again = { IsMessage-written enter_order_laid_out };
 
-    ghost one_value = { same_enter_order };
+    ghost one_value = { same_written enter_order_laid_out };
 
     fn put(&self, out: &mut [u8]) {
         put_fields(

@@ -93,7 +93,8 @@ impl FixedWire for Accepted {
     ghost use Rattle.ouch_codec.specs.Layout.{IsMessage, spelled};
     ghost use Rattle.ouch_codec.specs.Layouts.{accepted};
     ghost use Rattle.ouch_codec.specs.Rows.{accepted_row};
-    ghost use Rattle.ouch_codec.specs.AcceptedLaws.{length-accepted, IsMessage-accepted, same_accepted};
+    ghost use Rattle.ouch_codec.specs.LaidOut.{length-written, IsMessage-written, same_written};
+    ghost use Rattle.ouch_codec.specs.AcceptedLaws.{accepted_laid_out};
 
     const LEN: usize = 66;
 
@@ -103,11 +104,11 @@ impl FixedWire for Accepted {
 
     ghost is_spelled = { IsMessage accepted };
 
-    ghost fixed = { length-accepted };
+    ghost fixed = { length-written accepted_laid_out };
 
-    ghost again = { IsMessage-accepted };
+    ghost again = { IsMessage-written accepted_laid_out };
 
-    ghost one_value = { same_accepted };
+    ghost one_value = { same_written accepted_laid_out };
 
     fn put(&self, out: &mut [u8]) {
         put_fields(

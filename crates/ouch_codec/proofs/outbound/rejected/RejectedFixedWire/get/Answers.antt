@@ -1,0 +1,25 @@
+use Rattle.std.proofs.Common.{rules, arith}
+use Rattle.ouch_codec.specs.Layout.{IsMessage}
+use Rattle.ouch_codec.specs.Layouts.{rejected}
+use Rattle.ouch_codec.specs.RejectedLaws.{rejected_of}
+use Rattle.ouch_codec.proofs.Reading.{AreBytes, row_at, AreValues-row_at, spelled-row_at}
+use Rattle.ouch_codec.proofs.outbound.rejected.RejectedFixedWire.get.Goals as goal
+
+pub invariant_of-result : goal.invariant_of-result
+invariant_of-result c =
+    let b = c.args.b.now in
+    let below : AreBytes b = λ i. omega (arith, c.type_inv.b i) in
+    let message : IsMessage rejected b = search rules in
+    let read = rejected_of (row_at rejected 0 b) (AreValues-row_at rejected 0 b below message) in
+    record {
+      timestamp_set = rw c.long_number_at.ensures read.timestamp_set;
+      token_set = rw c.text_at.ensures read.token_set;
+      reason_set = read.reason_set;
+    }
+
+pub returns-clause-same : goal.returns-clause-same
+returns-clause-same c =
+    let b = c.args.b.now in
+    let below : AreBytes b = λ i. omega (arith, c.type_inv.b i) in
+    let message : IsMessage rejected b = search rules in
+    rw (c.long_number_at.ensures, c.text_at.ensures) (spelled-row_at rejected 0 b below message)
