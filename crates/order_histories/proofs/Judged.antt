@@ -13,11 +13,7 @@ use Rattle.ouch_codec.specs.FromMarket as heard
 use Rattle.order_law.specs.Life.{is_type}
 use Rattle.order_law.specs.Chain.{chain}
 use Rattle.order_law.specs.History.{Entry, History, Terms, accepted, handled, issued, life_of, pending_tokens}
-<<<<<<< HEAD
-use Rattle.order_law.specs.Lawful.{bytes_fault, is_lawful_on, judged_bytes, judged_on, judged_tokens, judgement, order_of_token, order_token, profile, row_fault, row_holds, token_fault}
-=======
-use Rattle.order_law.specs.Lawful.{bytes_fault, is_known_token, judged_bytes, judged_on, judged_tokens, judgement, order_of_token, order_token, row_fault, row_holds, token_fault}
->>>>>>> 16ecfde39e5969d0d0bd727c5d166a11f3aa54d7
+use Rattle.order_law.specs.Lawful.{bytes_fault, is_lawful_on, judged_bytes, judged_on, judged_tokens, judgement, order_of_token, order_token, row_fault, row_holds, token_fault}
 use Rattle.order_histories.proofs.Texts.{and-parts}
 
 -- a payload that is no fault, on an order: the row of its type holds
@@ -33,40 +29,24 @@ module _ (terms : List Terms) (port : ℕ) (m : List ℕ) (before : History) (no
   not-some : (n : ℕ) → ◌≡◌ {A = Option ℕ} (Some n) None → ⊥
   not-some n e = cc
 
-<<<<<<< HEAD
   abbrev Row : Entry → Bool
   Row new = row_holds m (life_of new.order (accepted terms before) (handled port before)) new (pending_tokens new.client (chain new.order (issued new.client before)) (accepted terms before))
 
-  lawful-on : (layout : List Kind) → layout_in profile (type_of m) ≡ Some layout → is_message layout m ≡ true
+  lawful-on : (layout : List Kind) → layout_in outbound_layouts (type_of m) ≡ Some layout → is_message layout m ≡ true
       → (x : Option Entry) → order_of_token terms port (accepted terms before) (order_token m) ≡ x → judged_on (option_map Row x) ≡ None → IsLawful terms port m before
   lawful-on layout listed message None on e = absurd (not-some token_fault e)
   lawful-on layout listed message (Some new) on e = by_row (Row new) refl e
-=======
-  lawful-on : (layout : List Kind) → layout_in outbound_layouts (type_of m) ≡ Some layout → is_message layout m ≡ true → is_known_token terms port (accepted terms before) (heard.token m) ≡ true
-      → (x : Option Entry) → order_of_token terms port (accepted terms before) (order_token m) ≡ x → judged_on terms port m before x ≡ None → IsLawful terms port m before
-  lawful-on layout listed message known None on e = absurd (not-some token_fault e)
-  lawful-on layout listed message known (Some new) on e = by_row (row_holds m (life_of new.order (accepted terms before) (handled port before)) new (pending_tokens new.client (chain new.order (issued new.client before)) (accepted terms before))) refl e
->>>>>>> 16ecfde39e5969d0d0bd727c5d166a11f3aa54d7
     where
       by_row : (b : Bool) → Row new ≡ b → (if b then None else Some row_fault) ≡ None → IsLawful terms port m before
       by_row true row e = record { layout = layout; listed = listed; message = message; new = new; on = on; row = row }
       by_row false row e = absurd (not-some row_fault e)
 
-<<<<<<< HEAD
-  lawful-tokens : (layout : List Kind) → layout_in profile (type_of m) ≡ Some layout → is_message layout m ≡ true
+  lawful-tokens : (layout : List Kind) → layout_in outbound_layouts (type_of m) ≡ Some layout → is_message layout m ≡ true
       → (b : Bool) → (if b then judged_on (option_map Row (order_of_token terms port (accepted terms before) (order_token m))) else Some token_fault) ≡ None → IsLawful terms port m before
   lawful-tokens layout listed message true e = lawful-on layout listed message (order_of_token terms port (accepted terms before) (order_token m)) refl e
   lawful-tokens layout listed message false e = absurd (not-some token_fault e)
 
-  lawful-bytes : (x : Option (List Kind)) → layout_in profile (type_of m) ≡ x → judged_bytes (is_lawful_on terms port m before) m x ≡ None → IsLawful terms port m before
-=======
-  lawful-tokens : (layout : List Kind) → layout_in outbound_layouts (type_of m) ≡ Some layout → is_message layout m ≡ true
-      → (b : Bool) → is_known_token terms port (accepted terms before) (heard.token m) ≡ b → (if b then judged_on terms port m before (order_of_token terms port (accepted terms before) (order_token m)) else Some token_fault) ≡ None → IsLawful terms port m before
-  lawful-tokens layout listed message true known e = lawful-on layout listed message known (order_of_token terms port (accepted terms before) (order_token m)) refl e
-  lawful-tokens layout listed message false known e = absurd (not-some token_fault e)
-
-  lawful-bytes : (x : Option (List Kind)) → layout_in outbound_layouts (type_of m) ≡ x → judged_bytes terms port m before x ≡ None → IsLawful terms port m before
->>>>>>> 16ecfde39e5969d0d0bd727c5d166a11f3aa54d7
+  lawful-bytes : (x : Option (List Kind)) → layout_in outbound_layouts (type_of m) ≡ x → judged_bytes (is_lawful_on terms port m before) m x ≡ None → IsLawful terms port m before
   lawful-bytes None listed e = absurd (not-some Rattle.order_law.specs.Lawful.type_fault e)
   lawful-bytes (Some layout) listed e = by_message (is_message layout m) refl (is_type (codes "S") m) no_s e
     where
@@ -78,11 +58,7 @@ module _ (terms : List Terms) (port : ℕ) (m : List ℕ) (before : History) (no
   pub lawful : judgement terms port m before ≡ None → IsLawful terms port m before
   lawful e = by_length (length m == 0) (is_type (codes "T") m) no_t e
     where
-<<<<<<< HEAD
-      by_length : (b t : Bool) → t ≡ false → (if b then Some bytes_fault else (if t then None else judged_bytes (is_lawful_on terms port m before) m (layout_in profile (type_of m)))) ≡ None → IsLawful terms port m before
-=======
-      by_length : (b t : Bool) → t ≡ false → (if b then Some bytes_fault else (if t then None else judged_bytes terms port m before (layout_in outbound_layouts (type_of m)))) ≡ None → IsLawful terms port m before
->>>>>>> 16ecfde39e5969d0d0bd727c5d166a11f3aa54d7
+      by_length : (b t : Bool) → t ≡ false → (if b then Some bytes_fault else (if t then None else judged_bytes (is_lawful_on terms port m before) m (layout_in outbound_layouts (type_of m)))) ≡ None → IsLawful terms port m before
       by_length true t is_t e = absurd (not-some bytes_fault e)
       by_length false true is_t e = absurd (cc)
       by_length false false is_t e = lawful-bytes (layout_in outbound_layouts (type_of m)) refl e

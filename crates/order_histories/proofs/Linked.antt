@@ -6,7 +6,7 @@ use Rattle.order_law.specs.Messages.{Message, text}
 use Rattle.order_law.specs.Asks.{capacity_of}
 use Rattle.ouch_codec.specs.declared.layout.Kind.{Kind}
 use Rattle.ouch_codec.specs.Layout.{is_message}
-use Rattle.ouch_codec.specs.Decoding.{layout_in}
+use Rattle.ouch_codec.specs.Decoding.{layout_in, outbound_layouts}
 use Rattle.ouch_codec.specs.Parts.{type_of}
 use Rattle.ouch_codec.specs.FromMarket as heard
 use Rattle.order_law.specs.Life.{is_closed, is_type}
@@ -14,7 +14,7 @@ use Rattle.order_law.specs.Reading.{Reading, reading}
 use Rattle.order_law.specs.Chain.{Chain, chain, goes_by, is_used, named, orders}
 use Rattle.order_law.specs.Verdicts.{Named, Port, Verdict, first_row, is_replace, open_orders, rows_of_new, rows_of_request}
 use Rattle.order_law.specs.History.{Entry, History, Terms, accepted, given, handled, is_new_order, issued, life_of, new_of, numbered, pending_tokens, standing_of, terms_of, token_of, verdict}
-use Rattle.order_law.specs.Lawful.{bytes_fault, has_token, is_lawful_on, judged_by, judged_bytes, judged_on, judged_tokens, judgement, order_of_token, order_token, profile, row_holds, token_fault}
+use Rattle.order_law.specs.Lawful.{bytes_fault, has_token, is_lawful_on, judged_by, judged_bytes, judged_on, judged_tokens, judgement, order_of_token, order_token, row_holds, token_fault}
 use Rattle.order_law.specs.Told.{reports_in}
 use Rattle.order_law.specs.Headline.{Each}
 use Rattle.order_histories.specs.OrderRecord.{OrderRecord, chained, lived, read, replacements}
@@ -219,7 +219,7 @@ module _ (f g : List ℕ → Option Bool) (m : List ℕ) (same : (token : List �
   judged_bytes-same (Some layout) = ap (λ (y : Option ℕ). if not (is_message layout m) then Some bytes_fault else (if is_type (codes "S") m then None else y)) judged_tokens-same
 
   judged-same : judged_by f m ≡ judged_by g m
-  judged-same = ap (λ (y : Option ℕ). if length m == 0 then Some bytes_fault else (if is_type (codes "T") m then None else y)) (judged_bytes-same (layout_in profile (type_of m)))
+  judged-same = ap (λ (y : Option ℕ). if length m == 0 then Some bytes_fault else (if is_type (codes "T") m then None else y)) (judged_bytes-same (layout_in outbound_layouts (type_of m)))
 
 -- ---- the fault of a payload
 

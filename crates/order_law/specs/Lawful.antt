@@ -1,10 +1,6 @@
 -- When a market message is lawful, and which fault it is if not: read from the lists so far. (OUCH 4.2, "Outbound
 -- Messages".)
-<<<<<<< HEAD
 use Rattle.std.specs.Prelude.{ℕ, ◌==◌, Bool, true, false, not, ◌&&◌, ◌||◌, nat_le, List, [], ◌∷◌, length, Option, Some, None, if◌then◌else◌, bytes_eq, codes, is_some, option_map, slice_index}
-=======
-use Rattle.std.specs.Prelude.{ℕ, ◌==◌, Bool, true, false, not, ◌&&◌, ◌||◌, nat_le, List, length, Option, Some, None, if◌then◌else◌, bytes_eq, codes, is_some}
->>>>>>> 16ecfde39e5969d0d0bd727c5d166a11f3aa54d7
 use Rattle.std.specs.List.{find, list_any}
 use Rattle.ouch_codec.specs.declared.layout.Kind.{Kind}
 use Rattle.ouch_codec.specs.Layout.{is_message}
@@ -127,8 +123,7 @@ judged_bytes row_on m (Some layout) =
 abbrev pub judged_by : (List ℕ → Option Bool) → List ℕ → Option ℕ
 judged_by row_on m =
     if length m == 0 then Some bytes_fault
-<<<<<<< HEAD
-    else (if is_type (codes "T") m then None else judged_bytes row_on m (layout_in profile (type_of m)))
+    else (if is_type (codes "T") m then None else judged_bytes row_on m (layout_in outbound_layouts (type_of m)))
 
 -- lawful of the order that a token leads to, as the lists have it
 abbrev pub is_lawful_on : List Terms → ℕ → List ℕ → History → List ℕ → Option Bool
@@ -141,6 +136,3 @@ is_lawful_on terms port m before token = option_map row_of (order_of_token terms
 
 abbrev pub judgement : List Terms → ℕ → List ℕ → History → Option ℕ
 judgement terms port m before = judged_by (is_lawful_on terms port m before) m
-=======
-    else (if is_type (codes "T") m then None else judged_bytes terms port m before (layout_in outbound_layouts (type_of m)))
->>>>>>> 16ecfde39e5969d0d0bd727c5d166a11f3aa54d7
