@@ -19,8 +19,9 @@ pub struct Order {
     pub client: u16,
     /// OrderID (37).
     pub order_id: u64,
-    /// The number of its token.
-    pub token: u64,
+    /// The market's name for it, and that token's number.
+    pub token: [u8; 14],
+    pub token_number: u64,
     /// What its client asked.
     pub message: NewOrder,
     /// How far it has come.
@@ -32,7 +33,6 @@ pub struct Order {
 impl Model for Order {
     ghost use Rattle.std.specs.Prelude.{[], ◌∷◌, Some, None, decimal, map, reverse};
     ghost use Rattle.fix_types.specs.NewOrder.{new_order_fields};
-    ghost use Rattle.tokens.specs.TokenText.{token_text};
     ghost use Rattle.order_law.specs.Messages.{text};
     ghost use Rattle.order_histories.specs.OrderRecord as record_of;
     ghost use Rattle.order_table.specs.Seen.{told_seen};
@@ -40,7 +40,7 @@ impl Model for Order {
     ghost Value = { record_of.OrderRecord };
 
     ghost view = { λ o. record {
-      new = record { client = o.client; message = new_order_fields o.message; order = decimal o.order_id; token = Some o.token };
+      new = record { client = o.client; message = new_order_fields o.message; order = decimal o.order_id; token = Some o.token_number };
       stage = o.progress.stage;
       is_refused = o.progress.is_refused;
       id = text 11 (new_order_fields o.message);
@@ -50,7 +50,7 @@ impl Model for Order {
       executed = o.progress.executed;
       cancelled = o.progress.cancelled;
       value = o.progress.value;
-      tokens = token_text o.token ∷ [];
+      tokens = o.token ∷ [];
       trades = reverse (map told_seen o.trades.items);
       replace = None;
       cancel = None;

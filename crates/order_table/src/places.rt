@@ -63,5 +63,5 @@ fn tokens_behind(tokens: &[GivenToken], port: u16, token: &[u8; 14]) -> Option<u
 fn is_token(port: u16, token: &[u8; 14], given: &GivenToken) -> bool
     ensures { result ≡ table.is_token port token.now given.now }
 {
-    given.port == port && given.token.bytes() == *token
+    given.port == port && given.token == *token
 }

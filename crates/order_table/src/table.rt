@@ -9,14 +9,14 @@ use crate::progress::Progress;
 use order_law::Stage;
 use std::alloc::{AllocError, Global};
 use std::marker::Model;
-use tokens::Token;
 
 /// A token that was given for an order.
 #[derive(Debug, Drop)]
 pub struct GivenToken {
     /// The number of the port that knows it, from 1.
     pub port: u16,
-    pub token: Token,
+    /// Its text, padded right with spaces.
+    pub token: [u8; 14],
     /// OrderID (37) of its order.
     pub order_id: u64,
 }
