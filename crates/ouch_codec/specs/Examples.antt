@@ -1,8 +1,10 @@
 -- Messages as bytes, and what the layouts say of them, computed. The Enter Order is one that was written elsewhere.
-use Rattle.std.specs.Prelude.{◌≡◌, ℕ, ◌+◌, ◌-◌, ◌*◌, true, false, List, [], ◌∷◌, ◌++◌, take, nat_le, if◌then◌else◌, codes, refl}
+use Rattle.std.specs.Prelude.{◌≡◌, ℕ, ◌+◌, ◌-◌, ◌*◌, true, false, List, [], ◌∷◌, ◌++◌, take, nat_le, if◌then◌else◌, Some, None, codes, refl}
 use Rattle.ouch_codec.specs.declared.layout.Kind.{Kind}
 use Rattle.ouch_codec.specs.Layout.{is_message, total}
 use Rattle.ouch_codec.specs.Layouts.{enter_order, replace, cancel, system_event, accepted, replaced, canceled, executed, broken, rejected, cancel_pending, cancel_reject}
+use Rattle.ouch_codec.specs.Parts.{type_of}
+use Rattle.ouch_codec.specs.Decoding.{outbound_layout}
 use Rattle.ouch_codec.specs.ToMarket as to_market
 use Rattle.ouch_codec.specs.FromMarket as from_market
 
@@ -110,6 +112,21 @@ sets :
     × (is_message cancel (bytes (codes "584730303030303030303030303031000f4240")) ≡ false)  -- 1,000,000 shares
     × (is_message canceled (bytes (codes "4300000000000000004730303030303030303030303031ffffffff55")) ≡ true)  -- a decrement may be any number
 sets = (refl, refl, refl, refl, refl, refl, refl, refl, refl, refl, refl, refl, refl, refl)
+
+-- those from the market are listed by their types, and no others are
+listed :
+    (outbound_layout (type_of system_event_bytes) ≡ Some system_event)
+    × (outbound_layout (type_of accepted_bytes) ≡ Some accepted)
+    × (outbound_layout (type_of replaced_bytes) ≡ Some replaced)
+    × (outbound_layout (type_of canceled_bytes) ≡ Some canceled)
+    × (outbound_layout (type_of executed_bytes) ≡ Some executed)
+    × (outbound_layout (type_of broken_bytes) ≡ Some broken)
+    × (outbound_layout (type_of rejected_bytes) ≡ Some rejected)
+    × (outbound_layout (type_of cancel_pending_bytes) ≡ Some cancel_pending)
+    × (outbound_layout (type_of cancel_reject_bytes) ≡ Some cancel_reject)
+    × (outbound_layout (type_of enter_order_bytes) ≡ None)
+    × (outbound_layout (type_of (codes "T")) ≡ None)
+listed = (refl, refl, refl, refl, refl, refl, refl, refl, refl, refl, refl)
 
 -- what they say
 said :
