@@ -2,8 +2,10 @@
 
 ghost use Rattle.std.specs.Prelude.{◌<◌, ◌^◌, ◌∷◌, List, filter, length};
 ghost use Rattle.order_law.specs.History.{Entry, History, Terms, Turn, accepted, is_new_order};
-ghost use Rattle.order_law.specs.Headline.{Each, IsTrueToMarket};
+ghost use Rattle.order_law.specs.Headline.{Each, Headline, IsTrueToMarket};
 ghost use Rattle.order_law.specs.Told.{reports_in};
+ghost use Rattle.order_histories.specs.Runs.{Leaves};
+ghost use Rattle.order_histories.specs.Table.{State};
 ghost use Rattle.order_histories.specs.Told.{IsTold};
 
 /// In every history whose turns tell what the law tells, with the faults that it judges, each accepted order is true to the
@@ -12,4 +14,10 @@ ghost use Rattle.order_histories.specs.Told.{IsTold};
 pub fn told_orders_are_true()
     ensures { (terms : List Terms) (t : Turn) (before : History) → length (t ∷ before) < 2 ^ 59 → reports_in (t ∷ before) < 10 ^ 64 → IsTold terms (t ∷ before)
         → Each (IsTrueToMarket terms t before) (filter (λ (e : Entry). is_new_order e.message) (accepted terms (t ∷ before))) }
+{}
+
+/// The turns that lead to a table have the headline, for every list of clients' messages and market payloads, of all types.
+/// It does nothing: its contract is the law, for callers to cite.
+pub fn tables_have_the_headline()
+    ensures { (terms : List Terms) (h : History) (s : State) → length h < 2 ^ 59 → Leaves terms h s → Headline terms h }
 {}

@@ -1,9 +1,10 @@
-//! What holds of every history of the order level whose turns tell what the law tells: each order is true to the market.
+//! What holds of every history of the order level whose turns tell what the law tells: each order is true to the market; and
+//! a table of orders with a step for every message, of which each run has the headline.
 //!
-//! It is definitions and lemmas over lists alone. Nothing of the code's table is in them: whoever meets the law's tellings,
-//! sends and faults has the rest of the headline from here.
+//! It is definitions and lemmas over lists alone. Whoever meets the table's steps, or the law's tellings, sends and faults,
+//! has the headline from here.
 #![tactic(auto)]
 
 mod laws;
 
-pub use laws::told_orders_are_true;
+pub use laws::{tables_have_the_headline, told_orders_are_true};
