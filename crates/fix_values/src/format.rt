@@ -120,7 +120,7 @@ fn is_order_id(value: &[u8]) -> bool
 }
 
 /// Whether a text is `NONE`, as OrderID (37) has it of an order that isn't known.
-pub fn is_none(value: &[u8]) -> bool
+fn is_none(value: &[u8]) -> bool
     ensures { result ≡ spec.is_none_text value.now }
 {
     value == b"NONE".as_slice()
