@@ -22,7 +22,7 @@ const VALUE_IS_INCORRECT: u8 = 5;
 const INCORRECT_DATA_FORMAT: u8 = 6;
 
 /// What the value of a field has to be.
-#[derive(Clone, Copy, Debug, PartialEq, Eq)]
+#[derive(Clone, Copy)]
 pub enum Format {
     /// 1 to 64 bytes.
     ClOrdId,
@@ -43,7 +43,7 @@ pub enum Format {
 }
 
 /// A row of a message's table: the value of this tag has this format, where it is there.
-#[derive(Clone, Copy, Debug, PartialEq, Eq)]
+#[derive(Clone, Copy)]
 pub struct Row {
     pub tag: u32,
     pub format: Format,
