@@ -80,11 +80,7 @@ fn what_a_cancel_is_refused_with(rt: HostRuntime) -> Result<(), Fail> {
         (b"35=F|11=A2|41=|".as_slice(), 41, 5),
     ] {
         let read = CancelRequest::get(rt.alloc(), &fields_of(rt.alloc(), text)?);
-        assert_eq!(rt;
-            refusal_of(read),
-            Some(SessionRefusal { tag, reason }),
-            "at {tag}"
-        );
+        assert_eq!(rt; refusal_of(read), Some(SessionRefusal { tag, reason }));
     }
     Ok(())
 }
@@ -115,11 +111,7 @@ fn what_a_replace_is_refused_with(rt: HostRuntime) -> Result<(), Fail> {
         (b"35=G|11=A2|41=A1|38=1|40=2|110=.|".as_slice(), 110, 6),
     ] {
         let read = ReplaceRequest::get(rt.alloc(), &fields_of(rt.alloc(), text)?);
-        assert_eq!(rt;
-            refusal_of(read),
-            Some(SessionRefusal { tag, reason }),
-            "at {tag}"
-        );
+        assert_eq!(rt; refusal_of(read), Some(SessionRefusal { tag, reason }));
     }
     Ok(())
 }
@@ -175,11 +167,7 @@ fn what_is_no_reject(rt: HostRuntime) -> Result<(), Fail> {
         ),
     ] {
         let read = CancelReject::get(rt.alloc(), &fields_of(rt.alloc(), text)?);
-        assert_eq!(rt;
-            refusal_of(read),
-            Some(SessionRefusal { tag, reason }),
-            "at {tag}"
-        );
+        assert_eq!(rt; refusal_of(read), Some(SessionRefusal { tag, reason }));
     }
     Ok(())
 }
@@ -217,11 +205,7 @@ fn the_first_field_that_is_missing_or_has_another_format(rt: HostRuntime) -> Res
         (b"35=D|11=A|54=1|55=I|38=1|40=2|110=.|".as_slice(), 110, 6),
     ] {
         let read = NewOrder::get(rt.alloc(), &fields_of(rt.alloc(), text)?);
-        assert_eq!(rt;
-            refusal_of(read),
-            Some(SessionRefusal { tag, reason }),
-            "at {tag}"
-        );
+        assert_eq!(rt; refusal_of(read), Some(SessionRefusal { tag, reason }));
     }
     Ok(())
 }
