@@ -14,7 +14,7 @@ use wire_law::TextWire;
 /// Why the gateway doesn't serve a message that is well formed.
 ///
 /// Source: FIX 4.4 Volume 2, "Business Message Reject", with the fields that this gateway writes, in this order.
-#[derive(Debug, Drop)]
+#[derive(Drop)]
 pub struct BusinessReject {
     /// RefSeqNum (45): the number of the message.
     pub ref_seq_num: u64,

@@ -30,6 +30,3 @@ pub use new_order::NewOrder;
 pub use replace_request::ReplaceRequest;
 pub use report::Report;
 pub use requests::{cancel_refusal, new_order_refusal, replace_refusal};
-
-#[cfg(test)]
-mod tests;

@@ -8,7 +8,7 @@ use std::marker::Model;
 /// The value of a field of type char: one byte, which is not SOH. Contracts see the byte.
 ///
 /// Source: FIX 4.4 Volume 1, data type char.
-#[derive(Clone, Copy, Debug, PartialEq, Eq)]
+#[derive(Clone, Copy, Debug)]
 pub struct Character {
     byte: u8,
 }

@@ -8,7 +8,7 @@ ghost use Rattle.fix_values.specs.Letters.{response_letter};
 /// Which request an OrderCancelReject answers.
 ///
 /// Source: FIX 4.4 Volume 6, CxlRejResponseTo (434).
-#[derive(Clone, Copy, Debug, PartialEq, Eq)]
+#[derive(Clone, Copy, Debug)]
 pub enum CxlRejResponseTo {
     /// An OrderCancelRequest (35=F).
     Cancel,

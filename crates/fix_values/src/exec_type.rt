@@ -8,7 +8,7 @@ ghost use Rattle.fix_values.specs.Letters.{exec_letter};
 /// What happened to an order.
 ///
 /// Source: FIX 4.4 Volume 6, ExecType (150).
-#[derive(Clone, Copy, Debug, PartialEq, Eq)]
+#[derive(Clone, Copy, Debug)]
 pub enum ExecType {
     /// Accepted by the gateway, not yet by the market.
     PendingNew,

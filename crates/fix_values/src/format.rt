@@ -22,7 +22,7 @@ const VALUE_IS_INCORRECT: u8 = 5;
 const INCORRECT_DATA_FORMAT: u8 = 6;
 
 /// What the value of a field has to be.
-#[derive(Clone, Copy, Debug, PartialEq, Eq)]
+#[derive(Clone, Copy)]
 pub enum Format {
     /// 1 to 64 bytes.
     ClOrdId,
@@ -43,7 +43,7 @@ pub enum Format {
 }
 
 /// A row of a message's table: the value of this tag has this format, where it is there.
-#[derive(Clone, Copy, Debug, PartialEq, Eq)]
+#[derive(Clone, Copy)]
 pub struct Row {
     pub tag: u32,
     pub format: Format,
@@ -120,7 +120,7 @@ fn is_order_id(value: &[u8]) -> bool
 }
 
 /// Whether a text is `NONE`, as OrderID (37) has it of an order that isn't known.
-pub fn is_none(value: &[u8]) -> bool
+fn is_none(value: &[u8]) -> bool
     ensures { result ≡ spec.is_none_text value.now }
 {
     value == b"NONE".as_slice()

@@ -8,7 +8,7 @@ ghost use Rattle.fix_values.specs.Letters.{status_letter};
 /// The state that an order is in, the one of highest precedence.
 ///
 /// Source: FIX 4.4 Volume 6, OrdStatus (39).
-#[derive(Clone, Copy, Debug, PartialEq, Eq)]
+#[derive(Clone, Copy, Debug)]
 pub enum OrdStatus {
     /// Waiting for the market.
     PendingNew,

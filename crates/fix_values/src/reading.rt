@@ -12,7 +12,7 @@ use crate::cl_ord_id::ClOrdId;
 use crate::cxl_rej_response_to::CxlRejResponseTo;
 use crate::exec_type::ExecType;
 use crate::float_text::FloatText;
-use crate::format::{is_none, number_of};
+use crate::format::number_of;
 use crate::ord_status::OrdStatus;
 use fix_fields::{Fields, Text};
 use std::alloc::{AllocError, Global};
@@ -173,8 +173,5 @@ pub fn order_id_in(fields: &Fields, tag: u32) -> Option<u64>
     ensures kept { IfSome result (λ n. n < 2 ^ 64) }
 {
     let text = value_at(fields, tag);
-    if is_none(text) {
-        return None;
-    }
     number_of(text)
 }

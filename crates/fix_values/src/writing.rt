@@ -1,7 +1,7 @@
 //! Adding the fields of a message, one after another.
 
-ghost use Rattle.std.specs.Prelude.{◌≡◌, ◌≤◌, ◌<◌, ◌^◌, ◌++◌, ◌∷◌, [], true, OnOk, IfSome, decimal};
-ghost use Rattle.fix_fields.specs.Field.{IsValue};
+ghost use Rattle.std.specs.Prelude.{◌≡◌, ◌<◌, ◌^◌, ◌++◌, ◌∷◌, [], true, OnOk, IfSome, decimal};
+ghost use Rattle.fix_fields.specs.Field.{IsTag, IsValue};
 ghost use Rattle.fix_values.specs.declared.format.Format.TheVariants as formats;
 ghost use Rattle.fix_values.specs.Texts.{is_cl_ord_id, is_float};
 ghost use Rattle.fix_values.specs.Formats.{passes};
@@ -16,7 +16,7 @@ use std::alloc::AllocError;
 
 /// Adds a letter.
 pub fn push_letter(fields: &mut Fields, tag: u32, letter: u8) -> Result<(), AllocError>
-    requires tag { (1 ≤ tag) × (tag ≤ 999_999_999) }
+    requires tag { IsTag tag }
     requires letter { IsValue (letter ∷ []) }
     ensures { OnOk result (fields.new ≡ fields.old ++ slot_fields (field tag (letter ∷ []))) }
 {
@@ -25,7 +25,7 @@ pub fn push_letter(fields: &mut Fields, tag: u32, letter: u8) -> Result<(), Allo
 
 /// Adds a value of one byte.
 pub fn push_char(fields: &mut Fields, tag: u32, value: Character) -> Result<(), AllocError>
-    requires { (1 ≤ tag) × (tag ≤ 999_999_999) }
+    requires { IsTag tag }
     ensures { OnOk result (fields.new ≡ fields.old ++ slot_fields (field tag (value ∷ []))) }
 {
     push_letter(fields, tag, value.byte())
@@ -37,7 +37,7 @@ pub fn push_optional_char(
     tag: u32,
     value: Option<Character>,
 ) -> Result<(), AllocError>
-    requires { (1 ≤ tag) × (tag ≤ 999_999_999) }
+    requires { IsTag tag }
     ensures { OnOk result (fields.new ≡ fields.old ++ slot_fields (slot tag (char_text value))) }
 {
     match value {
@@ -48,7 +48,7 @@ pub fn push_optional_char(
 
 /// Adds a text.
 pub fn push_text(fields: &mut Fields, tag: u32, text: &Text) -> Result<(), AllocError>
-    requires { (1 ≤ tag) × (tag ≤ 999_999_999) }
+    requires { IsTag tag }
     ensures { OnOk result (fields.new ≡ fields.old ++ slot_fields (field tag text.now)) }
 {
     fields.push(tag, text.as_slice())
@@ -60,7 +60,7 @@ pub fn push_optional_text(
     tag: u32,
     text: &Option<Text>,
 ) -> Result<(), AllocError>
-    requires { (1 ≤ tag) × (tag ≤ 999_999_999) }
+    requires { IsTag tag }
     ensures { OnOk result (fields.new ≡ fields.old ++ slot_fields (slot tag text.now)) }
 {
     match text {
@@ -71,7 +71,7 @@ pub fn push_optional_text(
 
 /// Adds a float as it was written.
 pub fn push_float(fields: &mut Fields, tag: u32, float: &FloatText) -> Result<(), AllocError>
-    requires { (1 ≤ tag) × (tag ≤ 999_999_999) }
+    requires { IsTag tag }
     ensures written { OnOk result (fields.new ≡ fields.old ++ slot_fields (field tag float.now)) }
     ensures kept { is_float float.now ≡ true }
 {
@@ -84,7 +84,7 @@ pub fn push_optional_float(
     tag: u32,
     float: &Option<FloatText>,
 ) -> Result<(), AllocError>
-    requires { (1 ≤ tag) × (tag ≤ 999_999_999) }
+    requires { IsTag tag }
     ensures written { OnOk result (fields.new ≡ fields.old ++ slot_fields (slot tag float.now)) }
     ensures kept { passes formats.Float float.now ≡ true }
 {
@@ -100,7 +100,7 @@ pub fn push_optional_id(
     tag: u32,
     id: &Option<ClOrdId>,
 ) -> Result<(), AllocError>
-    requires { (1 ≤ tag) × (tag ≤ 999_999_999) }
+    requires { IsTag tag }
     ensures written { OnOk result (fields.new ≡ fields.old ++ slot_fields (slot tag id.now)) }
     ensures kept { passes formats.ClOrdId id.now ≡ true }
 {
@@ -112,7 +112,7 @@ pub fn push_optional_id(
 
 /// Adds a number in decimal.
 pub fn push_number(fields: &mut Fields, tag: u32, number: u64) -> Result<(), AllocError>
-    requires { (1 ≤ tag) × (tag ≤ 999_999_999) }
+    requires { IsTag tag }
     ensures written { OnOk result (fields.new ≡ fields.old ++ slot_fields (field tag (decimal number))) }
     ensures kept { number < 2 ^ 64 }
 {
@@ -126,7 +126,7 @@ pub fn push_optional_number(
     tag: u32,
     number: Option<u64>,
 ) -> Result<(), AllocError>
-    requires { (1 ≤ tag) × (tag ≤ 999_999_999) }
+    requires { IsTag tag }
     ensures written { OnOk result (fields.new ≡ fields.old ++ slot_fields (slot tag (number_text number))) }
     ensures kept { IfSome number (λ n. n < 2 ^ 64) }
 {
@@ -138,7 +138,7 @@ pub fn push_optional_number(
 
 /// Adds a ClOrdID.
 pub fn push_id(fields: &mut Fields, tag: u32, id: &ClOrdId) -> Result<(), AllocError>
-    requires { (1 ≤ tag) × (tag ≤ 999_999_999) }
+    requires { IsTag tag }
     ensures written { OnOk result (fields.new ≡ fields.old ++ slot_fields (field tag id.now)) }
     ensures kept { is_cl_ord_id id.now ≡ true }
 {
@@ -147,7 +147,7 @@ pub fn push_id(fields: &mut Fields, tag: u32, id: &ClOrdId) -> Result<(), AllocE
 
 /// Adds the number of an order in decimal, or `NONE` where there is none.
 pub fn push_order_id(fields: &mut Fields, tag: u32, order_id: Option<u64>) -> Result<(), AllocError>
-    requires { (1 ≤ tag) × (tag ≤ 999_999_999) }
+    requires { IsTag tag }
     ensures written { OnOk result (fields.new ≡ fields.old ++ slot_fields (field tag (order_id_text order_id))) }
     ensures kept { IfSome order_id (λ n. n < 2 ^ 64) }
 {

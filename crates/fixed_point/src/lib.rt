@@ -26,6 +26,3 @@ pub use printing::print_price;
 pub use refusal::DecimalRefusal;
 pub use shares::Shares;
 pub use worth::{WorthRefusal, parse_worth};
-
-#[cfg(test)]
-mod tests;

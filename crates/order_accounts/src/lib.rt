@@ -15,6 +15,3 @@ mod reading_fault;
 pub use life::{Life, life_of};
 pub use reading::{Reading, reading_of};
 pub use reading_fault::ReadingFault;
-
-#[cfg(test)]
-mod tests;

@@ -4,7 +4,7 @@ ghost use Rattle.std.specs.Prelude.{◌≡◌};
 
 use fix_fields::{Fields, Text, split};
 use fix_session::{Session, SessionOut, SessionTurn};
-use fix_types::{AppBody, Report};
+use fix_types::{AppBody, CancelReject, Report};
 use itoa::Buffer;
 use std::alloc::{AllocError, Global};
 use std::test::Fail;
@@ -76,8 +76,8 @@ fn shown(alloc: Global, turn: &SessionTurn) -> Result<Vec<u8>, Fail> {
     Ok(shown)
 }
 
-/// Does what a line says: `up`, `gone`, `tick`, `issue` and a report's fields, `raw` and all fields of a message; any
-/// other line is a message of C1.
+/// Does what a line says: `up`, `gone`, `tick`, `issue` and the fields of a report or a reject, `raw` and all fields of a
+/// message; any other line is a message of C1.
 fn turn_of(
     alloc: Global,
     session: &mut Session,
@@ -97,14 +97,22 @@ fn turn_of(
         return Err("the numbers are small".into());
     }
     if let Some(text) = line.strip_prefix(b"issue ") {
-        let body = AppBody::Report(Report::get(alloc, &fields_of(alloc, text)?)?);
-        return Ok(session.issue(alloc, &body, at)?);
+        return Ok(session.issue(alloc, &body_of(alloc, text)?, at)?);
     }
     let message = match line.strip_prefix(b"raw ") {
         Some(text) => fields_of(alloc, text)?,
         None => from_client(alloc, line)?,
     };
     Ok(session.on_message(alloc, &message, at)?)
+}
+
+/// The report or the reject of some fields.
+fn body_of(alloc: Global, text: &[u8]) -> Result<AppBody, Fail> {
+    let fields = fields_of(alloc, text)?;
+    if text.starts_with(b"35=9") {
+        return Ok(AppBody::CancelReject(CancelReject::get(alloc, &fields)?));
+    }
+    Ok(AppBody::Report(Report::get(alloc, &fields)?))
 }
 
 /// A session of C1 with the gateway.

@@ -62,6 +62,29 @@ fn bodies_are_sent_again_with_their_numbers(rt: HostRuntime) -> Result<(), Fail>
 }
 
 #[test]
+fn a_reject_is_issued_and_sent_again(rt: HostRuntime) -> Result<(), Fail> {
+    assert!(rt;
+        shows(
+            rt.alloc(),
+            &[
+                (0, LOGON, b"35=A|34=1|98=0|108=30|\n"),
+                (
+                    0,
+                    b"issue 35=9|37=NONE|11=A2|41=A1|39=8|434=2|102=1|58=unknown order",
+                    b"35=9|34=2|37=NONE|11=A2|41=A1|39=8|434=2|102=1|58=unknown order|\n"
+                ),
+                (
+                    0,
+                    b"35=2|34=2|7=2|16=0",
+                    b"35=9|34=2|43=Y|37=NONE|11=A2|41=A1|39=8|434=2|102=1|58=unknown order|\n"
+                ),
+            ]
+        )?
+    );
+    Ok(())
+}
+
+#[test]
 fn a_logon_in_bytes(rt: HostRuntime) -> Result<(), Fail> {
     let alloc = rt.alloc();
     let mut session = new_session(alloc)?;

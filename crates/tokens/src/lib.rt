@@ -9,6 +9,3 @@
 mod token;
 
 pub use token::{Token, TokenRefusal, one_number_a_token};
-
-#[cfg(test)]
-mod tests;

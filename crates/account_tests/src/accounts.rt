@@ -1,5 +1,7 @@
-use crate::{ReadingFault, life_of, reading_of};
+//! One order, traded, broken and cancelled, read twice.
+
 use fix_fields::{Fields, split};
+use order_accounts::{ReadingFault, life_of, reading_of};
 use order_law::Account;
 use std::alloc::Global;
 use std::test::Fail;

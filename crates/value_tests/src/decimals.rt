@@ -1,6 +1,11 @@
-use super::DecimalRefusal::{NotExact, NotFloat, OutOfRange};
-use super::WorthRefusal::{NoWorth, TooLarge};
-use super::*;
+//! Prices, quantities, worths and averages.
+
+use fixed_point::DecimalRefusal::{NotExact, NotFloat, OutOfRange};
+use fixed_point::WorthRefusal::{NoWorth, TooLarge};
+use fixed_point::{
+    DecimalRefusal, Price4, Shares, average, parse_price, parse_qty, parse_worth, print_price,
+    printed_denotes, printed_reads_back, said_in_range,
+};
 use std::test::Fail;
 
 fn price(text: &[u8]) -> Result<u32, DecimalRefusal> {

@@ -1,5 +1,7 @@
-use super::*;
+//! Tokens and their numbers.
+
 use std::test::Fail;
+use tokens::{Token, TokenRefusal, one_number_a_token};
 
 #[test]
 fn a_number_and_its_token(rt: HostRuntime) -> Result<(), Fail> {

@@ -1,0 +1,5 @@
+//! Tests of the public calls of `order_accounts`.
+#![tactic(auto)]
+
+#[cfg(test)]
+mod accounts;
