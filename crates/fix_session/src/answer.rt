@@ -29,7 +29,6 @@ pub fn answer(
     requires given { (made session.now draft.old).state.given ≡ session.now.given }
     requires expected { draft.old.expected < 2 ^ 61 }
     requires row { RowInRange (length session.now.given) row }
-    requires room { length session.now.given < 2 ^ 60 }
     ensures { OnOk result (made session.now draft.new
         ≡ answered at (made session.now draft.old).state (row_answer session.now m.now (table.numbered m.now) session.now.expected row)) }
 {
