@@ -1,7 +1,11 @@
-pub mod Tables
-pub mod Lookups
-pub mod Numbers
-pub mod Floats
-pub mod Written
+pub mod NewOrderValues
+pub mod CancelRequestValues
+pub mod ReplaceRequestValues
+pub mod ReportValues
+pub mod CancelRejectValues
+pub mod WrittenNewOrder
+pub mod WrittenCancelRequest
+pub mod WrittenReplaceRequest
 pub mod WrittenReport
-pub mod WrittenReject
+pub mod WrittenCancelReject
+pub mod WrittenBusinessReject

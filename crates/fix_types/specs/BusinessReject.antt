@@ -1,12 +1,12 @@
 -- BusinessMessageReject as fields. (FIX 4.4 Volume 2, "Business Message Reject".)
 use Rattle.std.specs.Prelude.{ℕ, ◌<◌, ◌^◌, List, [], ◌∷◌, Option, decimal}
 use Rattle.fix_fields.specs.Field.{Field}
-use Rattle.fix_types.specs.declared.format.Format.TheVariants as formats
-use Rattle.fix_types.specs.declared.format.Row.{Row}
+use Rattle.fix_values.specs.declared.format.Format.TheVariants as formats
+use Rattle.fix_values.specs.declared.format.Row.{Row}
 use Rattle.fix_fields.specs.declared.session_refusal.SessionRefusal.{SessionRefusal}
 use Rattle.fix_types.specs.declared.business_reject.BusinessReject.{BusinessReject}
-use Rattle.fix_types.specs.Formats.{first_refusal}
-use Rattle.fix_types.specs.Slots.{Slot, field, fields_of, text_of, number_at}
+use Rattle.fix_values.specs.Formats.{first_refusal}
+use Rattle.fix_values.specs.Slots.{Slot, field, fields_of, text_of, number_at}
 
 -- the tags that have to be there, in the order in which they are judged
 abbrev pub required : List ℕ

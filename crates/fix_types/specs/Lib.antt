@@ -1,8 +1,7 @@
-pub mod Texts
-pub mod Letters
-pub mod Formats
-pub mod Slots
-pub mod NewOrder
-pub mod Report
-pub mod BusinessReject
 pub mod Requests
+pub mod NewOrder
+pub mod CancelRequest
+pub mod ReplaceRequest
+pub mod Report
+pub mod CancelReject
+pub mod BusinessReject

@@ -1,34 +1,11 @@
 -- NewOrderSingle as fields. (FIX 4.4 Volume 4, "New Order - Single".)
-use Rattle.std.specs.Prelude.{◌≡◌, ℕ, true, List, [], ◌∷◌, Option}
+use Rattle.std.specs.Prelude.{◌≡◌, true, List, [], ◌∷◌}
 use Rattle.fix_fields.specs.Field.{Field, first_value}
-use Rattle.fix_types.specs.declared.format.Format.TheVariants as formats
-use Rattle.fix_types.specs.declared.format.Row.{Row}
-use Rattle.fix_fields.specs.declared.session_refusal.SessionRefusal.{SessionRefusal}
+use Rattle.fix_values.specs.declared.format.Format.TheVariants as formats
 use Rattle.fix_types.specs.declared.new_order.NewOrder.{NewOrder}
-use Rattle.fix_types.specs.Texts.{is_cl_ord_id, is_float}
-use Rattle.fix_types.specs.Formats.{first_refusal, passes}
-use Rattle.fix_types.specs.Slots.{Slot, slot, field, fields_of, char_text, text_of, char_of, optional_char}
-
--- the tags that have to be there, in the order in which they are judged
-abbrev pub required : List ℕ
-required = 11 ∷ 54 ∷ 55 ∷ 38 ∷ 40 ∷ []
-
--- what values have to be, in the order in which they are judged
-abbrev pub rows : List Row
-rows =
-    record { tag = 11; format = formats.ClOrdId }
-    ∷ record { tag = 54; format = formats.Char }
-    ∷ record { tag = 38; format = formats.Float }
-    ∷ record { tag = 40; format = formats.Char }
-    ∷ record { tag = 44; format = formats.Float }
-    ∷ record { tag = 59; format = formats.Char }
-    ∷ record { tag = 528; format = formats.Char }
-    ∷ record { tag = 110; format = formats.Float }
-    ∷ []
-
--- the first refusal that fields meet as a new order
-abbrev pub new_order_refusal : List Field → Option SessionRefusal
-new_order_refusal fs = first_refusal required rows fs
+use Rattle.fix_values.specs.Texts.{is_cl_ord_id, is_float}
+use Rattle.fix_values.specs.Formats.{passes}
+use Rattle.fix_values.specs.Slots.{Slot, slot, field, fields_of, char_text, text_of, char_of, optional_char}
 
 -- the fields that a new order is written as, in their order
 abbrev pub new_order_slots : NewOrder → List Slot

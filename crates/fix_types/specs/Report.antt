@@ -1,14 +1,14 @@
 -- ExecutionReport as fields. (FIX 4.4 Volume 4, "Execution Report".)
 use Rattle.std.specs.Prelude.{◌≡◌, ℕ, ◌<◌, ◌^◌, true, List, [], ◌∷◌, ◌++◌, Option, IfSome, decimal}
 use Rattle.fix_fields.specs.Field.{Field, first_value}
-use Rattle.fix_types.specs.declared.format.Format.TheVariants as formats
-use Rattle.fix_types.specs.declared.format.Row.{Row}
+use Rattle.fix_values.specs.declared.format.Format.TheVariants as formats
+use Rattle.fix_values.specs.declared.format.Row.{Row}
 use Rattle.fix_fields.specs.declared.session_refusal.SessionRefusal.{SessionRefusal}
 use Rattle.fix_types.specs.declared.report.Report.{Report}
-use Rattle.fix_types.specs.Texts.{is_cl_ord_id}
-use Rattle.fix_types.specs.Letters.{exec_letter, exec_type_of, status_letter, status_of}
-use Rattle.fix_types.specs.Formats.{first_refusal, passes}
-use Rattle.fix_types.specs.Slots.{Slot, slot, field, fields_of, number_text, text_of, char_of, number_at, optional_number}
+use Rattle.fix_values.specs.Texts.{is_cl_ord_id}
+use Rattle.fix_values.specs.Letters.{exec_letter, exec_type_of, status_letter, status_of}
+use Rattle.fix_values.specs.Formats.{first_refusal, passes}
+use Rattle.fix_values.specs.Slots.{Slot, slot, field, fields_of, number_text, text_of, char_of, number_at, optional_number}
 
 -- the tags that have to be there, in the order in which they are judged
 abbrev pub required : List ℕ

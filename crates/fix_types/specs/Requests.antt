@@ -1,11 +1,33 @@
--- What the fields of a cancel request and of a replace request have to be.
--- (FIX 4.4 Volume 4, "Order Cancel Request" and "Order Cancel/Replace Request", with the fields that the gateway reads.)
+-- What the fields of a new order, of a cancel request and of a replace request have to be.
+-- (FIX 4.4 Volume 4, "New Order - Single", "Order Cancel Request" and "Order Cancel/Replace Request", with the fields that
+-- the gateway reads.)
 use Rattle.std.specs.Prelude.{ℕ, List, [], ◌∷◌, Option}
 use Rattle.fix_fields.specs.Field.{Field}
-use Rattle.fix_types.specs.declared.format.Format.TheVariants as formats
-use Rattle.fix_types.specs.declared.format.Row.{Row}
+use Rattle.fix_values.specs.declared.format.Format.TheVariants as formats
+use Rattle.fix_values.specs.declared.format.Row.{Row}
 use Rattle.fix_fields.specs.declared.session_refusal.SessionRefusal.{SessionRefusal}
-use Rattle.fix_types.specs.Formats.{first_refusal}
+use Rattle.fix_values.specs.Formats.{first_refusal}
+
+-- the tags that have to be there, in the order in which they are judged
+abbrev pub new_order_required : List ℕ
+new_order_required = 11 ∷ 54 ∷ 55 ∷ 38 ∷ 40 ∷ []
+
+-- what values have to be, in the order in which they are judged
+abbrev pub new_order_rows : List Row
+new_order_rows =
+    record { tag = 11; format = formats.ClOrdId }
+    ∷ record { tag = 54; format = formats.Char }
+    ∷ record { tag = 38; format = formats.Float }
+    ∷ record { tag = 40; format = formats.Char }
+    ∷ record { tag = 44; format = formats.Float }
+    ∷ record { tag = 59; format = formats.Char }
+    ∷ record { tag = 528; format = formats.Char }
+    ∷ record { tag = 110; format = formats.Float }
+    ∷ []
+
+-- the first refusal that fields meet as a new order
+abbrev pub new_order_refusal : List Field → Option SessionRefusal
+new_order_refusal fs = first_refusal new_order_required new_order_rows fs
 
 -- of an OrderCancelRequest (35=F) the two ids alone are read
 abbrev pub cancel_required : List ℕ

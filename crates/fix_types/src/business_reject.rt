@@ -2,13 +2,12 @@
 
 ghost use Rattle.std.specs.Prelude.{◌≡◌, None, IfOk, OnOk};
 ghost use Rattle.fix_types.specs.BusinessReject.{body_slots, business_reject_of, business_reject_refusal, IsBusinessReject};
-ghost use Rattle.fix_types.specs.Slots.{appended};
+ghost use Rattle.fix_values.specs.Slots.{appended};
 
-use crate::format::{Format, Row, first_refusal};
-use crate::reading::{number_in, text_at};
-use crate::refusal::TextFault;
-use crate::writing::{push_letter, push_number, push_text};
 use fix_fields::{Fields, Text};
+use fix_values::reading::{number_in, text_at};
+use fix_values::writing::{push_letter, push_number, push_text};
+use fix_values::{Format, Row, TextFault, first_refusal};
 use std::alloc::{AllocError, Global};
 use wire_law::TextWire;
 
@@ -38,10 +37,10 @@ const ROWS: [Row; 2] = [
 ];
 
 impl TextWire<Fields, TextFault> for BusinessReject {
-    ghost use Rattle.fix_types.specs.declared.refusal.TextFault.TheVariants.{NoMemory};
+    ghost use Rattle.fix_values.specs.declared.refusal.TextFault.TheVariants.{NoMemory};
     ghost use Rattle.std.specs.Prelude.{◌≡◌, None, IfOk, IfErr, MatchResult};
     ghost use Rattle.fix_types.specs.declared.business_reject.BusinessReject.{BusinessReject};
-    ghost use Rattle.fix_types.specs.Formats.{Tells};
+    ghost use Rattle.fix_values.specs.Formats.{Tells};
     ghost use Rattle.fix_types.specs.BusinessReject.{business_reject_fields, business_reject_refusal, business_reject_of, IsBusinessReject};
 
     ghost text = { business_reject_fields };

@@ -1,16 +1,13 @@
 //! NewOrderSingle: 35=D.
 
-use crate::character::Character;
-use crate::cl_ord_id::ClOrdId;
-use crate::float_text::FloatText;
-use crate::format::{Format, Row, first_refusal};
 use crate::new_order_reading::read_new_order;
-use crate::refusal::TextFault;
-use crate::writing::{
+use crate::requests::new_order_refusal;
+use fix_fields::{Fields, Text};
+use fix_values::writing::{
     push_char, push_float, push_id, push_letter, push_optional_char, push_optional_float,
     push_optional_text, push_text,
 };
-use fix_fields::{Fields, Text};
+use fix_values::{Character, ClOrdId, FloatText, TextFault, copied_float, copied_text};
 use std::alloc::{AllocError, Global};
 use wire_law::TextWire;
 
@@ -41,28 +38,35 @@ pub struct NewOrder {
     pub min_qty: Option<FloatText>,
 }
 
-/// The tags that have to be there, in the order in which they are judged.
-pub const REQUIRED: [u32; 5] = [11, 54, 55, 38, 40];
+impl NewOrder {
+    ghost use Rattle.std.specs.Prelude.{◌≡◌, IfOk};
 
-/// What values have to be, in the order in which they are judged.
-#[rattlefmt::skip]
-pub const ROWS: [Row; 8] = [
-    Row { tag: 11, format: Format::ClOrdId },
-    Row { tag: 54, format: Format::Char },
-    Row { tag: 38, format: Format::Float },
-    Row { tag: 40, format: Format::Char },
-    Row { tag: 44, format: Format::Float },
-    Row { tag: 59, format: Format::Char },
-    Row { tag: 528, format: Format::Char },
-    Row { tag: 110, format: Format::Float },
-];
+    /// The same order again, in memory of its own. A growth for each text.
+    pub fn copied(&self, alloc: Global) -> Result<NewOrder, AllocError>
+        ensures { IfOk result (λ copy. copy ≡ self.now) }
+    {
+        Ok(NewOrder {
+            cl_ord_id: ClOrdId::copied(alloc, self.cl_ord_id.as_slice())?,
+            side: self.side,
+            symbol: Text::copied(alloc, self.symbol.as_slice())?,
+            order_qty: FloatText::copied(alloc, self.order_qty.as_slice())?,
+            ord_type: self.ord_type,
+            price: copied_float(alloc, &self.price)?,
+            time_in_force: self.time_in_force,
+            exec_inst: copied_text(alloc, &self.exec_inst)?,
+            order_capacity: self.order_capacity,
+            min_qty: copied_float(alloc, &self.min_qty)?,
+        })
+    }
+}
 
 impl TextWire<Fields, TextFault> for NewOrder {
-    ghost use Rattle.fix_types.specs.declared.refusal.TextFault.TheVariants.{NoMemory};
+    ghost use Rattle.fix_values.specs.declared.refusal.TextFault.TheVariants.{NoMemory};
     ghost use Rattle.std.specs.Prelude.{◌≡◌, None, IfOk, IfErr, MatchResult};
     ghost use Rattle.fix_types.specs.declared.new_order.NewOrder.{NewOrder};
-    ghost use Rattle.fix_types.specs.Formats.{Tells};
-    ghost use Rattle.fix_types.specs.NewOrder.{new_order_fields, new_order_refusal, new_order_of, IsNewOrder};
+    ghost use Rattle.fix_values.specs.Formats.{Tells};
+    ghost use Rattle.fix_types.specs.NewOrder.{new_order_fields, new_order_of, IsNewOrder};
+    ghost use Rattle.fix_types.specs.Requests as requests;
 
     ghost text = { new_order_fields };
 
@@ -90,10 +94,10 @@ impl TextWire<Fields, TextFault> for NewOrder {
         ensures read { (value : NewOrder) → IsNewOrder value → fields.now ≡ new_order_fields value
             → MatchResult result (λ read. read ≡ value) (λ fault. fault ≡ NoMemory) }
         ensures kept { IfOk result IsNewOrder }
-        ensures said { IfOk result (λ said. (new_order_refusal fields.now ≡ None) × (said ≡ new_order_of fields.now)) }
-        ensures refused { IfErr result (Tells (new_order_refusal fields.now)) }
+        ensures said { IfOk result (λ said. (requests.new_order_refusal fields.now ≡ None) × (said ≡ new_order_of fields.now)) }
+        ensures refused { IfErr result (Tells (requests.new_order_refusal fields.now)) }
     {
-        match first_refusal(fields, &REQUIRED, &ROWS) {
+        match new_order_refusal(fields) {
             Some(refusal) => Err(TextFault::Refused(refusal)),
             None => Ok(read_new_order(alloc, fields)?),
         }

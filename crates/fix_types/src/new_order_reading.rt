@@ -1,13 +1,14 @@
 //! Reading a new order from fields that have passed its table.
 
 ghost use Rattle.std.specs.Prelude.{◌≡◌, None, IfOk};
-ghost use Rattle.fix_types.specs.NewOrder.{new_order_refusal, new_order_of, IsNewOrder};
+ghost use Rattle.fix_types.specs.NewOrder.{new_order_of, IsNewOrder};
+ghost use Rattle.fix_types.specs.Requests.{new_order_refusal};
 
 use crate::new_order::NewOrder;
-use crate::reading::{
+use fix_fields::Fields;
+use fix_values::reading::{
     char_at, float_at, id_at, optional_char_at, optional_float_at, optional_text_at, text_at,
 };
-use fix_fields::Fields;
 use std::alloc::{AllocError, Global};
 
 /// The new order that fields say, which meet no refusal.

@@ -1,15 +1,10 @@
 //! ExecutionReport: 35=8.
 
-use crate::character::Character;
-use crate::cl_ord_id::ClOrdId;
-use crate::exec_type::ExecType;
-use crate::format::{Format, Row, first_refusal};
-use crate::ord_status::OrdStatus;
-use crate::refusal::TextFault;
 use crate::report_fields::{push_amounts, push_head};
 use crate::report_reading::read_report;
-use crate::writing::push_letter;
 use fix_fields::{Fields, Text};
+use fix_values::writing::push_letter;
+use fix_values::{Character, ClOrdId, ExecType, Format, OrdStatus, Row, TextFault, first_refusal};
 use std::alloc::{AllocError, Global};
 use wire_law::TextWire;
 
@@ -96,10 +91,10 @@ impl Report {
 }
 
 impl TextWire<Fields, TextFault> for Report {
-    ghost use Rattle.fix_types.specs.declared.refusal.TextFault.TheVariants.{NoMemory};
+    ghost use Rattle.fix_values.specs.declared.refusal.TextFault.TheVariants.{NoMemory};
     ghost use Rattle.std.specs.Prelude.{◌≡◌, None, IfOk, IfErr, MatchResult};
     ghost use Rattle.fix_types.specs.declared.report.Report.{Report};
-    ghost use Rattle.fix_types.specs.Formats.{Tells};
+    ghost use Rattle.fix_values.specs.Formats.{Tells};
     ghost use Rattle.fix_types.specs.Report.{report_fields, report_refusal, report_of, IsReport};
 
     ghost text = { report_fields };

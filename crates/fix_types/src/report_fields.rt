@@ -1,15 +1,15 @@
 //! The fields of an execution report, in the order in which they are written.
 
 ghost use Rattle.std.specs.Prelude.{◌≡◌, OnOk};
-ghost use Rattle.fix_types.specs.Slots.{appended};
+ghost use Rattle.fix_values.specs.Slots.{appended};
 ghost use Rattle.fix_types.specs.Report.{head_slots, amount_slots, KeepsHead, KeepsAmounts};
 
 use crate::report::Report;
-use crate::writing::{
+use fix_fields::Fields;
+use fix_values::writing::{
     push_char, push_id, push_letter, push_number, push_optional_id, push_optional_number,
     push_optional_text, push_text,
 };
-use fix_fields::Fields;
 use std::alloc::AllocError;
 
 /// Adds what a report is of, and what happened.

@@ -3,12 +3,12 @@
 ghost use Rattle.std.specs.Prelude.{◌≡◌, None, IfOk};
 ghost use Rattle.fix_types.specs.Report.{report_refusal, report_of, IsReport};
 
-use crate::reading::{
+use crate::report::Report;
+use fix_fields::Fields;
+use fix_values::reading::{
     char_at, exec_type_at, id_at, number_in, optional_id_at, optional_number_in, optional_text_at,
     ord_status_at, text_at,
 };
-use crate::report::Report;
-use fix_fields::Fields;
 use std::alloc::{AllocError, Global};
 
 /// The report that fields say, which meet no refusal.

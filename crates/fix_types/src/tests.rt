@@ -1,5 +1,6 @@
 use super::*;
 use fix_fields::{Fields, Text, split};
+use fix_values::{Character, ClOrdId, TextFault};
 use std::alloc::Global;
 use std::test::Fail;
 use wire_law::TextWire;

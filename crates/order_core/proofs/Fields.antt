@@ -6,43 +6,14 @@ use Rattle.std.specs.Result.{result_unwrap_or}
 use Rattle.fixed_point.specs.Decimal.{price, quantity}
 use Rattle.fix_fields.specs.Field.{first_value}
 use Rattle.fix_types.specs.declared.new_order.NewOrder.{NewOrder}
-use Rattle.fix_types.specs.Slots.{char_text}
-use Rattle.fix_types.specs.NewOrder.{new_order_slots, new_order_fields}
-use Rattle.fix_types.proofs.Lookups.{first_value-fields_of}
-use Rattle.fix_types.proofs.Written.{value_is}
+use Rattle.fix_values.specs.Slots.{char_text}
+use Rattle.fix_types.specs.NewOrder.{new_order_fields}
+use Rattle.fix_types.proofs.NewOrderValues.{side-value, symbol-value, quantity-value, type-value, price-value, life_time-value, instruction-value, capacity-value, minimum-value}
 use Rattle.order_law.specs.Messages.{Message, has, text, is, is_one_of, character}
 use Rattle.order_law.specs.Asks.{Day, Immediate, total_of, limit_of, minimum_of, display_of, life_time_of, capacity_of}
 use Rattle.order_law.specs.Verdicts.{Row, field_rows, sides, life_times, capacities, is_symbol, is_minimum}
 use Rattle.order_core.specs.declared.refusal.Refusal.TheVariants as refusals
 use Rattle.order_core.specs.FieldRows.{is_among, is_other, life_time, display, minimum, is_no_minimum, is_out_of_range, row, rows_of}
-
--- the value of each tag
-pub side-value : (m : NewOrder) → first_value 54 (new_order_fields m) ≡ Some (m.side ∷ [])
-side-value m = first_value-fields_of 54 (new_order_slots m)
-
-pub symbol-value : (m : NewOrder) → first_value 55 (new_order_fields m) ≡ Some m.symbol
-symbol-value m = first_value-fields_of 55 (new_order_slots m)
-
-pub quantity-value : (m : NewOrder) → first_value 38 (new_order_fields m) ≡ Some m.order_qty
-quantity-value m = first_value-fields_of 38 (new_order_slots m)
-
-pub type-value : (m : NewOrder) → first_value 40 (new_order_fields m) ≡ Some (m.ord_type ∷ [])
-type-value m = first_value-fields_of 40 (new_order_slots m)
-
-pub price-value : (m : NewOrder) → first_value 44 (new_order_fields m) ≡ m.price
-price-value m = value_is 44 m m.price refl
-
-pub life_time-value : (m : NewOrder) → first_value 59 (new_order_fields m) ≡ char_text m.time_in_force
-life_time-value m = value_is 59 m (char_text m.time_in_force) refl
-
-pub instruction-value : (m : NewOrder) → first_value 18 (new_order_fields m) ≡ m.exec_inst
-instruction-value m = value_is 18 m m.exec_inst refl
-
-pub capacity-value : (m : NewOrder) → first_value 528 (new_order_fields m) ≡ char_text m.order_capacity
-capacity-value m = value_is 528 m (char_text m.order_capacity) refl
-
-pub minimum-value : (m : NewOrder) → first_value 110 (new_order_fields m) ≡ m.min_qty
-minimum-value m = value_is 110 m m.min_qty refl
 
 -- the tests on a value that may be missing
 other_test : (wanted : List (List ℕ)) (v : Option (List ℕ)) → (is_some v && not (list_any (λ wanted_text. bytes_eq (unwrap_or v []) wanted_text) wanted)) ≡ is_other wanted v

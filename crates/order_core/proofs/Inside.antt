@@ -6,7 +6,7 @@ use Rattle.std.proofs.lemmas.Bool.Decides.{nat_tests}
 use Rattle.std.proofs.lemmas.List.Folds.{list_all-append}
 use Rattle.fix_fields.specs.Field.{is_inside}
 use Rattle.fix_fields.proofs.Tags.{and_parts}
-use Rattle.fix_types.proofs.Numbers.{inside-decimal}
+use Rattle.fix_values.proofs.Numbers.{inside-decimal}
 use Rattle.fixed_point.specs.Price.{four_digits, significant, fraction_text, price_text}
 
 pub inside-append : (xs ys : List ℕ) → list_all is_inside xs ≡ true → list_all is_inside ys ≡ true → list_all is_inside (xs ++ ys) ≡ true

@@ -7,7 +7,7 @@ use Rattle.wire_law.specs.Printable.{is_visible}
 use Rattle.fixed_point.specs.Decimal.{price, quantity}
 use Rattle.fixed_point.specs.declared.refusal.DecimalRefusal.{DecimalRefusal}
 use Rattle.fix_types.specs.declared.new_order.NewOrder.{NewOrder}
-use Rattle.fix_types.specs.Slots.{char_text}
+use Rattle.fix_values.specs.Slots.{char_text}
 use Rattle.fix_types.specs.NewOrder.{new_order_fields}
 use Rattle.order_law.specs.Verdicts.{first_row, field_rows, sides, life_times, capacities, is_symbol}
 use Rattle.order_core.specs.declared.refusal.Refusal.TheVariants as refusals

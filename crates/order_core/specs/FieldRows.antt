@@ -7,7 +7,7 @@ use Rattle.fixed_point.specs.Decimal.{price, quantity}
 use Rattle.fixed_point.specs.declared.refusal.DecimalRefusal.{DecimalRefusal}
 use Rattle.fixed_point.specs.declared.refusal.DecimalRefusal.TheVariants.{NotFloat, NotExact, OutOfRange}
 use Rattle.fix_types.specs.declared.new_order.NewOrder.{NewOrder}
-use Rattle.fix_types.specs.Slots.{char_text}
+use Rattle.fix_values.specs.Slots.{char_text}
 use Rattle.order_law.specs.Asks.{LifeTime, Day, Immediate}
 use Rattle.order_law.specs.Verdicts.{Row, sides, life_times, capacities, is_symbol}
 use Rattle.order_core.specs.declared.refusal.Refusal.{Refusal}

@@ -1,8 +1,8 @@
 -- What an Accepted makes of the table, by its fields. `proofs/Opening.antt` has that the machine makes the same of its bytes.
 use Rattle.std.specs.Prelude.{ℕ, ◌+◌, ◌&&◌, Bool, List, [], ◌∷◌, length, Option, Some, None, if◌then◌else◌, bytes_eq}
 use Rattle.std.specs.List.{find, position_or_len}
-use Rattle.fix_types.specs.declared.exec_type.ExecType.TheVariants as kinds
-use Rattle.fix_types.specs.declared.ord_status.OrdStatus.TheVariants as statuses
+use Rattle.fix_values.specs.declared.exec_type.ExecType.TheVariants as kinds
+use Rattle.fix_values.specs.declared.ord_status.OrdStatus.TheVariants as statuses
 use Rattle.fix_types.specs.declared.report.Report.{Report}
 use Rattle.ouch_codec.specs.declared.order_state.OrderState.{OrderState}
 use Rattle.ouch_codec.specs.declared.order_state.OrderState.TheVariants.{Live, Dead}

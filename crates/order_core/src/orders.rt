@@ -5,7 +5,7 @@ ghost use Rattle.std.specs.List.{find, position, position_or_len};
 ghost use Rattle.order_machine.specs.Table as table;
 
 use fix_fields::Text;
-use fix_types::{Character, ClOrdId};
+use fix_values::{Character, ClOrdId};
 use order_law::Stage;
 use std::marker::Model;
 

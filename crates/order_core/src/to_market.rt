@@ -4,7 +4,7 @@ ghost use Rattle.std.specs.Prelude.{◌≡◌, ℕ, ◌-◌, List, ◌++◌, ◌
 ghost use Rattle.wire_law.specs.Printable.{is_printable, ArePrintable};
 ghost use Rattle.fixed_point.specs.Decimal as decimal;
 ghost use Rattle.fix_types.specs.NewOrder.{new_order_fields};
-ghost use Rattle.fix_types.specs.Slots.{char_text};
+ghost use Rattle.fix_values.specs.Slots.{char_text};
 ghost use Rattle.ouch_codec.specs.Letters.{side_letter};
 ghost use Rattle.order_law.specs.Asks.{side_of_letter, life_time_of_seconds};
 ghost use Rattle.order_law.specs.Headline.{Says};
@@ -20,7 +20,8 @@ mod new_ask;
 use crate::client_terms::ClientTerms;
 use crate::refusal::Refusal;
 use fix_fields::Text;
-use fix_types::{Character, FloatText, NewOrder};
+use fix_types::NewOrder;
+use fix_values::{Character, FloatText};
 use fixed_point::{DecimalRefusal, Price4, Shares, parse_price, parse_qty};
 pub use new_ask::NewAsk;
 use ouch_codec::{EnterOrder, Side};

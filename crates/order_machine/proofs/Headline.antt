@@ -2,8 +2,8 @@
 use Rattle.std.proofs.Common.{codes, ◌≡◌, ℕ, ◌+◌, ◌*◌, ◌<◌, ◌≤◌, ◌^◌, Bool, List, [], ◌∷◌, length, reverse, refl, sym, ap, ◌∙◌, subst, arith, Some, None, Option, eq-eqb, ne_eqb}
 use Rattle.std.specs.Prelude.{filter}
 use Rattle.fix_types.specs.declared.new_order.NewOrder.{NewOrder}
-use Rattle.fix_types.specs.declared.exec_type.ExecType.TheVariants as kinds
-use Rattle.fix_types.specs.declared.ord_status.OrdStatus.TheVariants as statuses
+use Rattle.fix_values.specs.declared.exec_type.ExecType.TheVariants as kinds
+use Rattle.fix_values.specs.declared.ord_status.OrdStatus.TheVariants as statuses
 use Rattle.fix_types.specs.NewOrder.{new_order_fields}
 use Rattle.fix_types.specs.Report.{report_fields}
 use Rattle.tokens.specs.TokenText.{token_text}

@@ -2,10 +2,10 @@
 use Rattle.std.proofs.Common.{◌≡◌, ℕ, ◌+◌, ◌-◌, ◌<◌, ◌≤◌, ◌^◌, false, List, [], ◌∷◌, refl, arith, decimal, codes, ne_eqb}
 use Rattle.std.specs.Prelude.{◌==◌}
 use Rattle.std.specs.Str.Parse.{digits_value}
-use Rattle.fix_types.specs.declared.exec_type.ExecType.TheVariants as kinds
-use Rattle.fix_types.specs.declared.exec_type.ExecType.{ExecType}
-use Rattle.fix_types.specs.declared.ord_status.OrdStatus.TheVariants as statuses
-use Rattle.fix_types.specs.declared.ord_status.OrdStatus.{OrdStatus}
+use Rattle.fix_values.specs.declared.exec_type.ExecType.TheVariants as kinds
+use Rattle.fix_values.specs.declared.exec_type.ExecType.{ExecType}
+use Rattle.fix_values.specs.declared.ord_status.OrdStatus.TheVariants as statuses
+use Rattle.fix_values.specs.declared.ord_status.OrdStatus.{OrdStatus}
 use Rattle.fix_types.specs.Report.{report_fields}
 use Rattle.order_law.specs.declared.stage.Stage.TheVariants.{Waiting, Working, Closed}
 use Rattle.order_law.specs.Messages.{Message}

@@ -5,8 +5,8 @@ use Rattle.std.specs.List.{list_any}
 use Rattle.std.proofs.lemmas.List.Folds.{list_any-append}
 use Rattle.std.proofs.lemmas.Fmt.{decimal_injective}
 use Rattle.fix_types.specs.declared.new_order.NewOrder.{NewOrder}
-use Rattle.fix_types.specs.declared.exec_type.ExecType.TheVariants as kinds
-use Rattle.fix_types.specs.declared.ord_status.OrdStatus.TheVariants as statuses
+use Rattle.fix_values.specs.declared.exec_type.ExecType.TheVariants as kinds
+use Rattle.fix_values.specs.declared.ord_status.OrdStatus.TheVariants as statuses
 use Rattle.fix_types.specs.NewOrder.{new_order_fields}
 use Rattle.fix_types.specs.Report.{report_fields}
 use Rattle.ouch_codec.specs.Parts.{type_of}

@@ -8,7 +8,7 @@ use Rattle.fixed_point.proofs.SaidInRange.{quantity_range}
 use Rattle.fix_types.specs.declared.new_order.NewOrder.{NewOrder}
 use Rattle.fix_types.specs.NewOrder.{new_order_fields, new_order_slots}
 use Rattle.fix_types.specs.Report.{report_fields}
-use Rattle.fix_types.proofs.Lookups.{first_value-fields_of, option_or-none}
+use Rattle.fix_values.proofs.Lookups.{first_value-fields_of, option_or-none}
 use Rattle.std.specs.Fmt.{digits}
 use Rattle.order_law.specs.Messages.{text}
 use Rattle.order_law.specs.Asks.{total_of}

@@ -7,10 +7,10 @@ use Rattle.fixed_point.specs.Price.{price_text}
 use Rattle.tokens.specs.TokenText.{token_text}
 use Rattle.fix_types.specs.declared.new_order.NewOrder.{NewOrder}
 use Rattle.fix_types.specs.declared.report.Report.{Report}
-use Rattle.fix_types.specs.declared.exec_type.ExecType.{ExecType}
-use Rattle.fix_types.specs.declared.exec_type.ExecType.TheVariants as kinds
-use Rattle.fix_types.specs.declared.ord_status.OrdStatus.{OrdStatus}
-use Rattle.fix_types.specs.declared.ord_status.OrdStatus.TheVariants as statuses
+use Rattle.fix_values.specs.declared.exec_type.ExecType.{ExecType}
+use Rattle.fix_values.specs.declared.exec_type.ExecType.TheVariants as kinds
+use Rattle.fix_values.specs.declared.ord_status.OrdStatus.{OrdStatus}
+use Rattle.fix_values.specs.declared.ord_status.OrdStatus.TheVariants as statuses
 use Rattle.fix_types.specs.NewOrder.{new_order_fields}
 use Rattle.ouch_codec.specs.Layout.{is_message}
 use Rattle.ouch_codec.specs.Layouts as layouts

@@ -5,7 +5,8 @@ use crate::shown::{fields_of, from_client, show_turn, with_soh};
 use fix_fields::{Fields, Text};
 use fix_framing::{FrameFault, Framer};
 use fix_session::Session;
-use fix_types::{AppBody, Report, TextFault};
+use fix_types::{AppBody, Report};
+use fix_values::TextFault;
 use std::alloc::{AllocError, Global};
 use wire_law::TextWire;
 

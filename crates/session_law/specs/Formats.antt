@@ -2,8 +2,7 @@
 -- (FIX 4.4 Volume 4, "New Order - Single", "Order Cancel Request", "Order Cancel/Replace Request"; the tables are fix_types'.)
 use Rattle.std.specs.Prelude.{Option, if◌then◌else◌, codes}
 use Rattle.fix_fields.specs.declared.session_refusal.SessionRefusal.{SessionRefusal}
-use Rattle.fix_types.specs.NewOrder.{new_order_refusal}
-use Rattle.fix_types.specs.Requests.{cancel_refusal, replace_refusal}
+use Rattle.fix_types.specs.Requests.{new_order_refusal, cancel_refusal, replace_refusal}
 use Rattle.session_law.specs.Messages.{Fields, is}
 
 -- what an application message is refused with, by its type

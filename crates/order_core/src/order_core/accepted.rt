@@ -1,8 +1,8 @@
 //! Accepted: the market took a new order.
 
 ghost use Rattle.std.specs.Prelude.{◌≡◌, ◌≤◌, ◌+◌, ◌<◌, ◌^◌, ◌∷◌, [], ◌&&◌, Some, length, map, bytes_eq, slice_get, slice_set, IfOk, OnErr, MatchResult};
-ghost use Rattle.fix_types.specs.declared.exec_type.ExecType.TheVariants as kinds;
-ghost use Rattle.fix_types.specs.declared.ord_status.OrdStatus.TheVariants as statuses;
+ghost use Rattle.fix_values.specs.declared.exec_type.ExecType.TheVariants as kinds;
+ghost use Rattle.fix_values.specs.declared.ord_status.OrdStatus.TheVariants as statuses;
 ghost use Rattle.ouch_codec.specs.Letters.{side_letter};
 ghost use Rattle.ouch_codec.specs.Parts.{unpadded};
 ghost use Rattle.order_law.specs.Asks.{side_of_letter};
@@ -17,7 +17,8 @@ use crate::orders::{Order, order_at, place_of};
 use crate::outcome::MarketOut;
 use crate::to_client::{Amounts, report};
 use fix_fields::Text;
-use fix_types::{AppBody, Character, ExecType, OrdStatus, Report};
+use fix_types::{AppBody, Report};
+use fix_values::{Character, ExecType, OrdStatus};
 use order_law::Stage;
 use ouch_codec::{Accepted, OrderState, Side};
 use std::alloc::{AllocError, Global};

@@ -2,8 +2,8 @@
 
 ghost use Rattle.std.specs.Prelude.{◌≡◌, ◌≤◌, ◌+◌, ◌<◌, ◌^◌, ◌++◌, ◌∷◌, [], ℕ, List, Option, true, false, nat_le, slice_get, Some, length, map, vec_len, vec_capacity, IfOk, OnErr, MatchResult};
 ghost use Rattle.tokens.specs.TokenText.{token_text};
-ghost use Rattle.fix_types.specs.declared.exec_type.ExecType.TheVariants as kinds;
-ghost use Rattle.fix_types.specs.declared.ord_status.OrdStatus.TheVariants as statuses;
+ghost use Rattle.fix_values.specs.declared.exec_type.ExecType.TheVariants as kinds;
+ghost use Rattle.fix_values.specs.declared.ord_status.OrdStatus.TheVariants as statuses;
 ghost use Rattle.ouch_codec.specs.Inbound.{inbound_bytes};
 ghost use Rattle.order_law.specs.Asks.{Standing};
 ghost use Rattle.order_law.specs.Headline.{Says, Sends};
@@ -23,7 +23,8 @@ use crate::refusal::Refusal;
 use crate::to_client::{Amounts, refusal_report, report};
 use crate::to_market::{ask_of, enter_order, refuse_if};
 use fix_fields::Text;
-use fix_types::{AppBody, ClOrdId, ExecType, NewOrder, OrdStatus, Report};
+use fix_types::{AppBody, NewOrder, Report};
+use fix_values::{ClOrdId, ExecType, OrdStatus};
 use order_law::Stage;
 use ouch_codec::{EnterOrder, Inbound};
 use std::alloc::{AllocError, Global};

@@ -1,5 +1,5 @@
 use Rattle.fix_types.specs.Report.{required, rows}
-use Rattle.fix_types.proofs.Tables.{passed}
+use Rattle.fix_values.proofs.Tables.{passed}
 use Rattle.fix_types.proofs.report_reading.read_report.Goals as goal
 
 pub number_in-requires : goal.number_in-requires

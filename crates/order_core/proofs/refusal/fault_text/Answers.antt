@@ -2,7 +2,7 @@ use Rattle.std.proofs.Common.{◌≡◌, ◌<◌, ◌^◌, ◌++◌, true, ℕ, 
 use Rattle.std.specs.Prelude.{codes}
 use Rattle.std.specs.List.{list_all}
 use Rattle.fix_fields.specs.Field.{is_inside}
-use Rattle.fix_types.proofs.Numbers.{inside-decimal}
+use Rattle.fix_values.proofs.Numbers.{inside-decimal}
 use Rattle.order_core.proofs.Inside.{inside-append}
 use Rattle.order_core.proofs.refusal.fault_text.Goals as goal
 

@@ -1,7 +1,7 @@
 use Rattle.std.proofs.Common.{ℕ, List, ap, ◌∙◌, arith}
 use Rattle.std.specs.List.{list_all}
 use Rattle.fix_fields.specs.Field.{is_inside}
-use Rattle.fix_types.proofs.Numbers.{inside-decimal}
+use Rattle.fix_values.proofs.Numbers.{inside-decimal}
 use Rattle.order_core.proofs.to_client.number_text.Goals as goal
 
 pub copied-requires : goal.copied-requires

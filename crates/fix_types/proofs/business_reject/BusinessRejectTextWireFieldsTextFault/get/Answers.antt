@@ -1,6 +1,6 @@
 use Rattle.std.proofs.Common.{ap, ◌∙◌}
 use Rattle.fix_types.specs.BusinessReject.{business_reject_of}
-use Rattle.fix_types.proofs.WrittenReject.{business_reject_passes, business_reject_of-fields}
+use Rattle.fix_types.proofs.WrittenBusinessReject.{business_reject_passes, business_reject_of-fields}
 use Rattle.fix_types.proofs.business_reject.BusinessRejectTextWireFieldsTextFault.get.Goals as goal
 
 pub returns-in-Some-clause-read : goal.returns-in-Some-clause-read

@@ -1,4 +1,4 @@
-use Rattle.fix_types.proofs.Written.{new_order_passes}
+use Rattle.fix_types.proofs.WrittenNewOrder.{new_order_passes}
 use Rattle.fix_types.proofs.new_order.NewOrderTextWireFieldsTextFault.get.Goals as goal
 
 pub returns-in-Some-clause-read : goal.returns-in-Some-clause-read

@@ -1,6 +1,0 @@
-use Rattle.std.proofs.Common.{◌≡◌, drop}
-use Rattle.fix_types.specs.Formats as spec
-use Rattle.fix_types.proofs.format.first_misfit.Given as goal
-
-abbrev pub invariant-loop-row : goal.invariant-loop-row
-invariant-loop-row l = spec.first_misfit (drop l.row-index l.rows) l.fields ≡ spec.first_misfit l.rows l.fields

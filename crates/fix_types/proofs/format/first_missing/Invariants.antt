@@ -1,6 +1,0 @@
-use Rattle.std.proofs.Common.{◌≡◌, drop}
-use Rattle.fix_types.specs.Formats as spec
-use Rattle.fix_types.proofs.format.first_missing.Given as goal
-
-abbrev pub invariant-loop-tag : goal.invariant-loop-tag
-invariant-loop-tag l = spec.first_missing (drop l.tag-index l.tags) l.fields ≡ spec.first_missing l.tags l.fields

@@ -1,0 +1,22 @@
+-- OrderCancelRequest as fields. (FIX 4.4 Volume 4, "Order Cancel Request".)
+use Rattle.std.specs.Prelude.{◌≡◌, true, List, [], ◌∷◌}
+use Rattle.fix_fields.specs.Field.{Field}
+use Rattle.fix_types.specs.declared.cancel_request.CancelRequest.{CancelRequest}
+use Rattle.fix_values.specs.Texts.{is_cl_ord_id}
+use Rattle.fix_values.specs.Slots.{Slot, field, fields_of, text_of}
+
+-- the fields that a cancel request is written as, in their order
+abbrev pub cancel_request_slots : CancelRequest → List Slot
+cancel_request_slots m = field 35 (70 ∷ []) ∷ field 11 m.cl_ord_id ∷ field 41 m.orig_cl_ord_id ∷ []
+
+abbrev pub cancel_request_fields : CancelRequest → List Field
+cancel_request_fields m = fields_of (cancel_request_slots m)
+
+-- the cancel request that fields say
+abbrev pub cancel_request_of : List Field → CancelRequest
+cancel_request_of fs = record { cl_ord_id = text_of 11 fs; orig_cl_ord_id = text_of 41 fs }
+
+-- what each cancel request keeps
+pub record IsCancelRequest (m : CancelRequest) : Type 0 where
+  pub cl_ord_id : is_cl_ord_id m.cl_ord_id ≡ true
+  pub orig_cl_ord_id : is_cl_ord_id m.orig_cl_ord_id ≡ true

@@ -1,0 +1,110 @@
+//! OrderCancelReplaceRequest: 35=G.
+
+use crate::replace_request_reading::read_replace_request;
+use crate::requests::replace_refusal;
+use fix_fields::{Fields, Text};
+use fix_values::writing::{
+    push_char, push_float, push_id, push_letter, push_optional_char, push_optional_float,
+    push_optional_text,
+};
+use fix_values::{Character, ClOrdId, FloatText, TextFault, copied_float, copied_text};
+use std::alloc::{AllocError, Global};
+use wire_law::TextWire;
+
+/// What a client asks with a replace: the texts of its fields, which are judged elsewhere.
+///
+/// Side, symbol and capacity can't be replaced: they may be missing, and are judged where they are there.
+/// Source: FIX 4.4 Volume 4, "Order Cancel/Replace Request"; tags that it doesn't name here are passed over.
+#[derive(Debug, Drop)]
+pub struct ReplaceRequest {
+    /// ClOrdID (11): the request's own.
+    pub cl_ord_id: ClOrdId,
+    /// OrigClOrdID (41): that of the order, or of the last replace of it.
+    pub orig_cl_ord_id: ClOrdId,
+    /// Side (54).
+    pub side: Option<Character>,
+    /// Symbol (55).
+    pub symbol: Option<Text>,
+    /// OrderQty (38): the total, with what is executed already.
+    pub order_qty: FloatText,
+    /// OrdType (40).
+    pub ord_type: Character,
+    /// Price (44).
+    pub price: Option<FloatText>,
+    /// TimeInForce (59).
+    pub time_in_force: Option<Character>,
+    /// ExecInst (18).
+    pub exec_inst: Option<Text>,
+    /// OrderCapacity (528).
+    pub order_capacity: Option<Character>,
+    /// MinQty (110).
+    pub min_qty: Option<FloatText>,
+}
+
+impl ReplaceRequest {
+    ghost use Rattle.std.specs.Prelude.{◌≡◌, IfOk};
+
+    /// The same request again, in memory of its own. A growth for each text.
+    pub fn copied(&self, alloc: Global) -> Result<ReplaceRequest, AllocError>
+        ensures { IfOk result (λ copy. copy ≡ self.now) }
+    {
+        Ok(ReplaceRequest {
+            cl_ord_id: ClOrdId::copied(alloc, self.cl_ord_id.as_slice())?,
+            orig_cl_ord_id: ClOrdId::copied(alloc, self.orig_cl_ord_id.as_slice())?,
+            side: self.side,
+            symbol: copied_text(alloc, &self.symbol)?,
+            order_qty: FloatText::copied(alloc, self.order_qty.as_slice())?,
+            ord_type: self.ord_type,
+            price: copied_float(alloc, &self.price)?,
+            time_in_force: self.time_in_force,
+            exec_inst: copied_text(alloc, &self.exec_inst)?,
+            order_capacity: self.order_capacity,
+            min_qty: copied_float(alloc, &self.min_qty)?,
+        })
+    }
+}
+
+impl TextWire<Fields, TextFault> for ReplaceRequest {
+    ghost use Rattle.fix_values.specs.declared.refusal.TextFault.TheVariants.{NoMemory};
+    ghost use Rattle.std.specs.Prelude.{◌≡◌, None, IfOk, IfErr, MatchResult};
+    ghost use Rattle.fix_types.specs.declared.replace_request.ReplaceRequest.{ReplaceRequest};
+    ghost use Rattle.fix_values.specs.Formats.{Tells};
+    ghost use Rattle.fix_types.specs.ReplaceRequest.{replace_request_fields, replace_request_of, IsReplaceRequest};
+    ghost use Rattle.fix_types.specs.Requests as requests;
+
+    ghost text = { replace_request_fields };
+
+    ghost is_value = { IsReplaceRequest };
+
+    ghost is_no_memory = { λ fault. fault ≡ NoMemory };
+
+    fn put(&self, alloc: Global) -> Result<Fields, AllocError> {
+        let mut fields = Fields::with_capacity(alloc, 12, 128)?;
+        push_letter(&mut fields, 35, b'G')?;
+        push_id(&mut fields, 11, &self.cl_ord_id)?;
+        push_id(&mut fields, 41, &self.orig_cl_ord_id)?;
+        push_optional_char(&mut fields, 54, self.side)?;
+        push_optional_text(&mut fields, 55, &self.symbol)?;
+        push_float(&mut fields, 38, &self.order_qty)?;
+        push_char(&mut fields, 40, self.ord_type)?;
+        push_optional_float(&mut fields, 44, &self.price)?;
+        push_optional_char(&mut fields, 59, self.time_in_force)?;
+        push_optional_text(&mut fields, 18, &self.exec_inst)?;
+        push_optional_char(&mut fields, 528, self.order_capacity)?;
+        push_optional_float(&mut fields, 110, &self.min_qty)?;
+        Ok(fields)
+    }
+
+    fn get(alloc: Global, fields: &Fields) -> Result<Self, TextFault>
+        ensures read { (value : ReplaceRequest) → IsReplaceRequest value → fields.now ≡ replace_request_fields value
+            → MatchResult result (λ read. read ≡ value) (λ fault. fault ≡ NoMemory) }
+        ensures kept { IfOk result IsReplaceRequest }
+        ensures said { IfOk result (λ said. (requests.replace_refusal fields.now ≡ None) × (said ≡ replace_request_of fields.now)) }
+        ensures refused { IfErr result (Tells (requests.replace_refusal fields.now)) }
+    {
+        match replace_refusal(fields) {
+            Some(refusal) => Err(TextFault::Refused(refusal)),
+            None => Ok(read_replace_request(alloc, fields)?),
+        }
+    }
+}

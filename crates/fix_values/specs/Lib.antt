@@ -1,0 +1,4 @@
+pub mod Texts
+pub mod Letters
+pub mod Formats
+pub mod Slots

@@ -1,0 +1,223 @@
+//! The table of what a message's fields have to be, and the first that isn't.
+
+ghost use Rattle.std.specs.Prelude.{◌≡◌, ◌≤◌, length, MatchOption, true, false};
+ghost use Rattle.std.specs.Option.{option_copied};
+ghost use Rattle.std.specs.Char.{is_ascii_digit};
+ghost use Rattle.std.specs.List.{list_all};
+ghost use Rattle.fix_fields.specs.Front as front;
+ghost use Rattle.fix_values.specs.Formats as spec;
+ghost use Rattle.fix_values.specs.Texts as texts;
+
+use crate::cxl_rej_response_to::CxlRejResponseTo;
+use crate::exec_type::ExecType;
+use crate::ord_status::OrdStatus;
+use fix_fields::{Fields, SessionRefusal};
+use fixed_point::{DecimalRefusal, parse_price};
+
+/// SessionRejectReason (373): required tag missing.
+const REQUIRED_TAG_MISSING: u8 = 1;
+/// SessionRejectReason (373): value is incorrect for this tag.
+const VALUE_IS_INCORRECT: u8 = 5;
+/// SessionRejectReason (373): incorrect data format for value.
+const INCORRECT_DATA_FORMAT: u8 = 6;
+
+/// What the value of a field has to be.
+#[derive(Clone, Copy, Debug, PartialEq, Eq)]
+pub enum Format {
+    /// 1 to 64 bytes.
+    ClOrdId,
+    /// One byte.
+    Char,
+    /// A decimal text.
+    Float,
+    /// 1 to 20 digits of a number that 64 bits hold.
+    Number,
+    /// A letter of `ExecType`.
+    ExecType,
+    /// A letter of `OrdStatus`.
+    OrdStatus,
+    /// `NONE`, or a number as `Number` is.
+    OrderId,
+    /// A digit of `CxlRejResponseTo`.
+    CxlRejResponseTo,
+}
+
+/// A row of a message's table: the value of this tag has this format, where it is there.
+#[derive(Clone, Copy, Debug, PartialEq, Eq)]
+pub struct Row {
+    pub tag: u32,
+    pub format: Format,
+}
+
+/// Whether a value has this format.
+pub fn fits(format: Format, value: &[u8]) -> bool
+    ensures { result ≡ spec.fits format value.now }
+{
+    match format {
+        Format::ClOrdId => is_cl_ord_id(value),
+        Format::Char => value.len() == 1,
+        Format::Float => is_float(value),
+        Format::Number => is_number(value),
+        Format::ExecType => is_exec_type(value),
+        Format::OrdStatus => is_ord_status(value),
+        Format::OrderId => is_order_id(value),
+        Format::CxlRejResponseTo => is_response(value),
+    }
+}
+
+/// Whether a text denotes a number.
+fn is_float(value: &[u8]) -> bool
+    ensures { result ≡ texts.is_float value.now }
+{
+    match parse_price(value) {
+        Ok(_) => true,
+        Err(DecimalRefusal::NotFloat) => false,
+        Err(DecimalRefusal::NotExact) => true,
+        Err(DecimalRefusal::OutOfRange) => true,
+    }
+}
+
+/// Whether a text may be a ClOrdID: 1 to 64 bytes.
+fn is_cl_ord_id(value: &[u8]) -> bool
+    ensures { result ≡ texts.is_cl_ord_id value.now }
+{
+    value.len() >= 1 && value.len() <= 64
+}
+
+/// Whether a text is 1 to 20 digits of a number that 64 bits hold.
+fn is_number(value: &[u8]) -> bool
+    ensures { result ≡ spec.is_number value.now }
+{
+    number_of(value).is_some()
+}
+
+/// Whether a text is a letter of ExecType (150).
+fn is_exec_type(value: &[u8]) -> bool
+    ensures { result ≡ spec.is_one_of spec.exec_types value.now }
+{
+    value.len() == 1 && ExecType::of_letter(value[0]).is_some()
+}
+
+/// Whether a text is a letter of OrdStatus (39).
+fn is_ord_status(value: &[u8]) -> bool
+    ensures { result ≡ spec.is_one_of spec.ord_statuses value.now }
+{
+    value.len() == 1 && OrdStatus::of_letter(value[0]).is_some()
+}
+
+/// Whether a text is a digit of CxlRejResponseTo (434).
+fn is_response(value: &[u8]) -> bool
+    ensures { result ≡ spec.is_one_of spec.responses value.now }
+{
+    value.len() == 1 && CxlRejResponseTo::of_letter(value[0]).is_some()
+}
+
+/// Whether a text is `NONE` or a number.
+fn is_order_id(value: &[u8]) -> bool
+    ensures { result ≡ spec.is_order_id value.now }
+{
+    is_none(value) || is_number(value)
+}
+
+/// Whether a text is `NONE`, as OrderID (37) has it of an order that isn't known.
+fn is_none(value: &[u8]) -> bool
+    ensures { result ≡ spec.is_none_text value.now }
+{
+    value == b"NONE".as_slice()
+}
+
+/// The number that 1 to 20 digits write; `None` where a byte is no digit or 64 bits don't hold it.
+pub fn number_of(digits: &[u8]) -> Option<u64>
+    ensures { MatchOption result
+        (spec.is_number digits.now ≡ false)
+        (λ n. (spec.is_number digits.now ≡ true) × (n ≡ front.number_of digits.now)) }
+{
+    if digits.is_empty() {
+        return None;
+    }
+    if digits.len() > 20 {
+        return None;
+    }
+    let number = wide_number_of(digits)?;
+    if number > u128::from(u64::MAX) {
+        return None;
+    }
+    Some(number as u64)
+}
+
+/// The number that at most 20 digits write; `None` where a byte is no digit.
+fn wide_number_of(digits: &[u8]) -> Option<u128>
+    requires { length digits.now ≤ 20 }
+    ensures { MatchOption result
+        (list_all is_ascii_digit digits.now ≡ false)
+        (λ n. (list_all is_ascii_digit digits.now ≡ true) × (n ≡ front.number_of digits.now)) }
+{
+    let mut number = 0u128;
+    for digit in digits {
+        if !digit.is_ascii_digit() {
+            return None;
+        }
+        number = 10 * number + u128::from(*digit - b'0');
+    }
+    Some(number)
+}
+
+/// What a value of another format is refused with.
+fn misfit_reason(format: Format) -> u8
+    ensures { result ≡ spec.misfit_reason format }
+{
+    match format {
+        Format::ClOrdId => VALUE_IS_INCORRECT,
+        Format::ExecType | Format::OrdStatus | Format::CxlRejResponseTo => VALUE_IS_INCORRECT,
+        Format::Char | Format::Float | Format::Number | Format::OrderId => INCORRECT_DATA_FORMAT,
+    }
+}
+
+/// The first refusal that fields meet: the first of these tags that none has, or else the first of these rows whose
+/// value has another format. Takes no memory.
+pub fn first_refusal(fields: &Fields, tags: &[u32], rows: &[Row]) -> Option<SessionRefusal>
+    ensures { result ≡ spec.first_refusal tags.now rows.now fields.now }
+{
+    match first_missing(fields, tags) {
+        Some(refusal) => Some(refusal),
+        None => first_misfit(fields, rows),
+    }
+}
+
+fn first_missing(fields: &Fields, tags: &[u32]) -> Option<SessionRefusal>
+    ensures { result ≡ spec.first_missing tags.now fields.now }
+{
+    for tag in tags {
+        if fields.first(*tag).is_none() {
+            return Some(SessionRefusal {
+                tag: *tag,
+                reason: REQUIRED_TAG_MISSING,
+            });
+        }
+    }
+    None
+}
+
+fn first_misfit(fields: &Fields, rows: &[Row]) -> Option<SessionRefusal>
+    ensures { result ≡ spec.first_misfit rows.now fields.now }
+{
+    for row in rows {
+        if !passes(row.format, fields.first(row.tag)) {
+            return Some(SessionRefusal {
+                tag: row.tag,
+                reason: misfit_reason(row.format),
+            });
+        }
+    }
+    None
+}
+
+/// Whether a value has this format, where it is there.
+fn passes(format: Format, value: Option<&[u8]>) -> bool
+    ensures { result ≡ spec.passes format (option_copied value.entry) }
+{
+    match value {
+        None => true,
+        Some(value) => fits(format, value),
+    }
+}

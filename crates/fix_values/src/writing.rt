@@ -1,0 +1,158 @@
+//! Adding the fields of a message, one after another.
+
+ghost use Rattle.std.specs.Prelude.{◌≡◌, ◌≤◌, ◌<◌, ◌^◌, ◌++◌, ◌∷◌, [], true, OnOk, IfSome, decimal};
+ghost use Rattle.fix_fields.specs.Field.{IsValue};
+ghost use Rattle.fix_values.specs.declared.format.Format.TheVariants as formats;
+ghost use Rattle.fix_values.specs.Texts.{is_cl_ord_id, is_float};
+ghost use Rattle.fix_values.specs.Formats.{passes};
+ghost use Rattle.fix_values.specs.Slots.{slot, field, slot_fields, char_text, number_text, order_id_text};
+
+use crate::character::Character;
+use crate::cl_ord_id::ClOrdId;
+use crate::float_text::FloatText;
+use fix_fields::{Fields, Text};
+use itoa::Buffer;
+use std::alloc::AllocError;
+
+/// Adds a letter.
+pub fn push_letter(fields: &mut Fields, tag: u32, letter: u8) -> Result<(), AllocError>
+    requires tag { (1 ≤ tag) × (tag ≤ 999_999_999) }
+    requires letter { IsValue (letter ∷ []) }
+    ensures { OnOk result (fields.new ≡ fields.old ++ slot_fields (field tag (letter ∷ []))) }
+{
+    fields.push(tag, &[letter])
+}
+
+/// Adds a value of one byte.
+pub fn push_char(fields: &mut Fields, tag: u32, value: Character) -> Result<(), AllocError>
+    requires { (1 ≤ tag) × (tag ≤ 999_999_999) }
+    ensures { OnOk result (fields.new ≡ fields.old ++ slot_fields (field tag (value ∷ []))) }
+{
+    push_letter(fields, tag, value.byte())
+}
+
+/// Adds a value of one byte, where there is one.
+pub fn push_optional_char(
+    fields: &mut Fields,
+    tag: u32,
+    value: Option<Character>,
+) -> Result<(), AllocError>
+    requires { (1 ≤ tag) × (tag ≤ 999_999_999) }
+    ensures { OnOk result (fields.new ≡ fields.old ++ slot_fields (slot tag (char_text value))) }
+{
+    match value {
+        None => Ok(()),
+        Some(value) => push_char(fields, tag, value),
+    }
+}
+
+/// Adds a text.
+pub fn push_text(fields: &mut Fields, tag: u32, text: &Text) -> Result<(), AllocError>
+    requires { (1 ≤ tag) × (tag ≤ 999_999_999) }
+    ensures { OnOk result (fields.new ≡ fields.old ++ slot_fields (field tag text.now)) }
+{
+    fields.push(tag, text.as_slice())
+}
+
+/// Adds a text, where there is one.
+pub fn push_optional_text(
+    fields: &mut Fields,
+    tag: u32,
+    text: &Option<Text>,
+) -> Result<(), AllocError>
+    requires { (1 ≤ tag) × (tag ≤ 999_999_999) }
+    ensures { OnOk result (fields.new ≡ fields.old ++ slot_fields (slot tag text.now)) }
+{
+    match text {
+        None => Ok(()),
+        Some(text) => push_text(fields, tag, text),
+    }
+}
+
+/// Adds a float as it was written.
+pub fn push_float(fields: &mut Fields, tag: u32, float: &FloatText) -> Result<(), AllocError>
+    requires { (1 ≤ tag) × (tag ≤ 999_999_999) }
+    ensures written { OnOk result (fields.new ≡ fields.old ++ slot_fields (field tag float.now)) }
+    ensures kept { is_float float.now ≡ true }
+{
+    fields.push(tag, float.as_slice())
+}
+
+/// Adds a float as it was written, where there is one.
+pub fn push_optional_float(
+    fields: &mut Fields,
+    tag: u32,
+    float: &Option<FloatText>,
+) -> Result<(), AllocError>
+    requires { (1 ≤ tag) × (tag ≤ 999_999_999) }
+    ensures written { OnOk result (fields.new ≡ fields.old ++ slot_fields (slot tag float.now)) }
+    ensures kept { passes formats.Float float.now ≡ true }
+{
+    match float {
+        None => Ok(()),
+        Some(float) => push_float(fields, tag, float),
+    }
+}
+
+/// Adds a ClOrdID, where there is one.
+pub fn push_optional_id(
+    fields: &mut Fields,
+    tag: u32,
+    id: &Option<ClOrdId>,
+) -> Result<(), AllocError>
+    requires { (1 ≤ tag) × (tag ≤ 999_999_999) }
+    ensures written { OnOk result (fields.new ≡ fields.old ++ slot_fields (slot tag id.now)) }
+    ensures kept { passes formats.ClOrdId id.now ≡ true }
+{
+    match id {
+        None => Ok(()),
+        Some(id) => push_id(fields, tag, id),
+    }
+}
+
+/// Adds a number in decimal.
+pub fn push_number(fields: &mut Fields, tag: u32, number: u64) -> Result<(), AllocError>
+    requires { (1 ≤ tag) × (tag ≤ 999_999_999) }
+    ensures written { OnOk result (fields.new ≡ fields.old ++ slot_fields (field tag (decimal number))) }
+    ensures kept { number < 2 ^ 64 }
+{
+    let mut buffer = Buffer::new();
+    fields.push(tag, buffer.format(number).as_bytes())
+}
+
+/// Adds a number in decimal, where there is one.
+pub fn push_optional_number(
+    fields: &mut Fields,
+    tag: u32,
+    number: Option<u64>,
+) -> Result<(), AllocError>
+    requires { (1 ≤ tag) × (tag ≤ 999_999_999) }
+    ensures written { OnOk result (fields.new ≡ fields.old ++ slot_fields (slot tag (number_text number))) }
+    ensures kept { IfSome number (λ n. n < 2 ^ 64) }
+{
+    match number {
+        None => Ok(()),
+        Some(number) => push_number(fields, tag, number),
+    }
+}
+
+/// Adds a ClOrdID.
+pub fn push_id(fields: &mut Fields, tag: u32, id: &ClOrdId) -> Result<(), AllocError>
+    requires { (1 ≤ tag) × (tag ≤ 999_999_999) }
+    ensures written { OnOk result (fields.new ≡ fields.old ++ slot_fields (field tag id.now)) }
+    ensures kept { is_cl_ord_id id.now ≡ true }
+{
+    fields.push(tag, id.as_slice())
+}
+
+/// Adds the number of an order in decimal, or `NONE` where there is none.
+pub fn push_order_id(fields: &mut Fields, tag: u32, order_id: Option<u64>) -> Result<(), AllocError>
+    requires { (1 ≤ tag) × (tag ≤ 999_999_999) }
+    ensures written { OnOk result (fields.new ≡ fields.old ++ slot_fields (field tag (order_id_text order_id))) }
+    ensures kept { IfSome order_id (λ n. n < 2 ^ 64) }
+{
+    match order_id {
+        None => fields.push(tag, b"NONE"),
+        Some(number) => push_number(fields, tag, number),
+    }
+}
