@@ -5,8 +5,10 @@ ghost use Rattle.std.specs.Prelude.{max, fold, ◌≤◌, ◌≡◌, ◌+◌, �
 
 use crate::session::Session;
 use fix_fields::Fields;
+use fix_types::AppMsg;
 use session_frames::{append_resend, ask_body, echo_body, reject_body, text_body};
 use session_law::{Frame, Kept, Kind, Logged, Out, Phase};
+use session_rows::application_of;
 use std::alloc::{AllocError, Global};
 
 /// What a call gives, as far as it is made.
@@ -21,13 +23,14 @@ pub struct Draft {
     pub slots: Vec<Option<Kept>>,
     pub outs: Vec<Out>,
     /// The message, where it is given up as the application's.
-    pub app: Option<Fields>,
+    pub app: Option<AppMsg>,
 }
 
 impl Draft {
     ghost use Rattle.session_law.specs.Runs.{at_moment, heard};
     ghost use Rattle.session_law.specs.Table.{is_logged_on};
     ghost use Rattle.session_law.specs.Session.{quiet, logged, reset, Logon, perform, numbered, said, kept, next_out, on_written, Given, Say, Shut, Grow, Expect, Slot, AskAgain, Test, GiveUp, sent_again};
+    ghost use Rattle.session_law.specs.Formats.{application_refusal};
     ghost use Rattle.session_law.specs.Table.{reject, log_out, log_out_silently};
     ghost use Rattle.fix_fields.specs.Field.{IsValue};
     ghost use Rattle.fix_session.specs.Made.{made};
@@ -304,9 +307,10 @@ impl Draft {
         m: &Fields,
         at: u64,
     ) -> Result<(), AllocError>
+        requires { application_refusal m.now ≡ None }
         ensures { OnOk result (made session.now self.new ≡ perform at (made session.now self.old) (GiveUp m.now)) }
     {
-        self.app = Some(m.copied(alloc)?);
+        self.app = Some(application_of(alloc, m)?);
         Ok(())
     }
 

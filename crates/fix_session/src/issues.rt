@@ -14,6 +14,7 @@ pub fn kind_of(body: &AppBody) -> Kind
 {
     match body {
         AppBody::Report(_) => Kind::Report,
+        AppBody::CancelReject(_) => Kind::CancelReject,
     }
 }
 
@@ -23,5 +24,6 @@ pub fn body_of(alloc: Global, body: &AppBody) -> Result<Fields, AllocError>
 {
     match body {
         AppBody::Report(report) => report.body(alloc),
+        AppBody::CancelReject(reject) => reject.body(alloc),
     }
 }

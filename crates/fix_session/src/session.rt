@@ -10,7 +10,7 @@ use crate::judge::{judge, judge_logon};
 use crate::logon::answer_logon;
 use crate::ticks::do_due;
 use fix_fields::{Fields, Text};
-use fix_types::AppBody;
+use fix_types::{AppBody, AppMsg};
 use session_frames::{SessionOut, fields_of_frame, written};
 use session_law::{Frame, Kept, Kind, Phase};
 use session_rows::due_at;
@@ -55,7 +55,7 @@ pub struct SessionTurn {
     /// What goes to the link, in order.
     pub outs: Vec<SessionOut>,
     /// The message, where it is given up as the application's.
-    pub app: Option<Fields>,
+    pub app: Option<AppMsg>,
 }
 
 impl Session {

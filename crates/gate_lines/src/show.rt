@@ -61,6 +61,7 @@ fn push_body(
 ) -> Result<(), AllocError> {
     let fields = match body {
         AppBody::Report(report) => report.put(alloc)?,
+        AppBody::CancelReject(reject) => reject.put(alloc)?,
     };
     push_name(text, b'C', client)?;
     text.extend_from_slice(b" > ")?;

@@ -5,7 +5,7 @@ use crate::shown::{fields_of, from_client, show_turn, with_soh};
 use fix_fields::{Fields, Text};
 use fix_framing::{FrameFault, Framer};
 use fix_session::Session;
-use fix_types::{AppBody, Report};
+use fix_types::{AppBody, CancelReject, Report};
 use fix_values::TextFault;
 use std::alloc::{AllocError, Global};
 use wire_law::TextWire;
@@ -73,13 +73,13 @@ impl Conversation {
         show_turn(alloc, &mut self.shown, &turn, self.is_whole)
     }
 
-    /// Issues a report, and again where memory is wanting; false where the text is none.
+    /// Issues a body, and again where memory is wanting; false where the text is none.
     fn issue(&mut self, alloc: Global, text: &[u8]) -> Result<bool, AllocError> {
         let Some(fields) = fields_of(alloc, text)? else {
             return Ok(false);
         };
-        let body = match Report::get(alloc, &fields) {
-            Ok(report) => AppBody::Report(report),
+        let body = match body_of(alloc, &fields) {
+            Ok(body) => body,
             Err(TextFault::NoMemory) => return Err(AllocError),
             Err(TextFault::Refused(_)) => return Ok(false),
         };
@@ -122,5 +122,13 @@ impl Conversation {
             Err(FrameFault::TooLong) => self.shown.extend_from_slice(b"too long\n"),
             Err(FrameFault::NoMemory) => Err(AllocError),
         }
+    }
+}
+
+/// The report or the cancel reject that fields say.
+fn body_of(alloc: Global, fields: &Fields) -> Result<AppBody, TextFault> {
+    match fields.first(35) {
+        Some(b"9") => Ok(AppBody::CancelReject(CancelReject::get(alloc, fields)?)),
+        _ => Ok(AppBody::Report(Report::get(alloc, fields)?)),
     }
 }

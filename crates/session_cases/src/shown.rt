@@ -2,8 +2,10 @@
 
 use fix_fields::{Fields, split};
 use fix_session::{SessionOut, SessionTurn};
+use fix_types::AppMsg;
 use itoa::Buffer;
 use std::alloc::{AllocError, Global};
+use wire_law::TextWire;
 
 /// The bytes with SOH for each bar.
 pub fn with_soh(alloc: Global, text: &[u8]) -> Result<Vec<u8>, AllocError> {
@@ -33,6 +35,22 @@ fn is_hidden(tag: u32) -> bool {
     matches!(tag, 8 | 9 | 10 | 49 | 56 | 52 | 122 | 60)
 }
 
+/// Adds fields as they are shown, and ends the line.
+fn show_fields(shown: &mut Vec<u8>, fields: &Fields, is_whole: bool) -> Result<(), AllocError> {
+    for i in 0..fields.len() {
+        let field = fields.at(i);
+        if is_whole || !is_hidden(field.tag) {
+            let mut buffer = Buffer::new();
+            shown.extend_from_slice(buffer.format(field.tag).as_bytes())?;
+            shown.push(b'=')?;
+            shown.extend_from_slice(field.value)?;
+            shown.push(b'|')?;
+        }
+    }
+    shown.push(b'\n')?;
+    Ok(())
+}
+
 /// Adds a frame as it is shown, in a line of its own.
 fn show_frame(
     alloc: Global,
@@ -40,20 +58,24 @@ fn show_frame(
     bytes: &[u8],
     is_whole: bool,
 ) -> Result<(), AllocError> {
-    if let Some(fields) = split(alloc, bytes)? {
-        for i in 0..fields.len() {
-            let field = fields.at(i);
-            if is_whole || !is_hidden(field.tag) {
-                let mut buffer = Buffer::new();
-                shown.extend_from_slice(buffer.format(field.tag).as_bytes())?;
-                shown.push(b'=')?;
-                shown.extend_from_slice(field.value)?;
-                shown.push(b'|')?;
-            }
+    match split(alloc, bytes)? {
+        Some(fields) => show_fields(shown, &fields, is_whole),
+        None => {
+            shown.extend_from_slice(b"no fields\n")?;
+            Ok(())
         }
     }
-    shown.push(b'\n')?;
-    Ok(())
+}
+
+/// Adds a message that is given up, by the fields that its type keeps.
+fn show_message(alloc: Global, shown: &mut Vec<u8>, message: &AppMsg) -> Result<(), AllocError> {
+    let fields = match message {
+        AppMsg::New(order) => order.put(alloc)?,
+        AppMsg::Cancel(request) => request.put(alloc)?,
+        AppMsg::Replace(request) => request.put(alloc)?,
+    };
+    shown.extend_from_slice(b"given up ")?;
+    show_fields(shown, &fields, true)
 }
 
 /// Adds a turn as it is shown: a line for each output, and one for a message that is given up.
@@ -69,8 +91,8 @@ pub fn show_turn(
             SessionOut::Frame(bytes) => show_frame(alloc, shown, bytes.as_slice(), is_whole)?,
         }
     }
-    if turn.app.is_some() {
-        shown.extend_from_slice(b"given up\n")?;
+    match &turn.app {
+        Some(message) => show_message(alloc, shown, message),
+        None => Ok(()),
     }
-    Ok(())
 }
