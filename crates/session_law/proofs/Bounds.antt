@@ -15,7 +15,7 @@ use Rattle.session_law.specs.declared.phase.Phase.TheVariants.{Down, AwaitingLog
 use Rattle.session_law.specs.declared.phase.Logged.{Logged}
 use Rattle.session_law.specs.Messages.{Fields, number, number_in, first_fault, is}
 use Rattle.session_law.specs.Formats.{application_refusal}
-use Rattle.session_law.specs.Session.{State, Slot, Given, Act, Grow, Expect, Say, Test, AskAgain, SayUnsupported, GiveUp, Shut, Logon, Range, Answer, perform, quiet, opened, sent_again, answered, kept}
+use Rattle.session_law.specs.Session.{State, Slot, Given, Act, Grow, Expect, Say, Test, AskAgain, SayUnsupported, GiveUp, Shut, Logon, Range, Answer, perform, opened, sent_again, answered}
 use Rattle.session_law.specs.Table as table
 use Rattle.session_law.specs.Table.{numbered, first_row, resend_rows, resend_answer, ask_again, expected_rows, logged_on_rows, logon_rows, message_rows, tick_rows, waiting_rows, silence_rows, reject, log_out, refused, fault_acts, asked_number, is_from, is_plain_reset}
 use Rattle.session_law.specs.Runs.{Call, Linked, Came, Ticked, Issued, step, by_rows, heard, at_moment}
@@ -23,7 +23,7 @@ use Rattle.session_law.specs.Expected.{by_logon, by_message, is_gap_fill, is_nam
 use Rattle.session_law.specs.Bounds.{MovesLittle, most_taken}
 use Rattle.session_law.proofs.Rows.{Firsts, first-holds, tick-quiet}
 use Rattle.session_law.proofs.Moves.{move, moves, logged-on-moves}
-use Rattle.session_law.proofs.Expects.{ByLogon, logon-moves, Still, tick-still}
+use Rattle.session_law.proofs.Expects.{ByLogon, logon-moves, tick-still}
 
 -- ---- a number has at most 18 digits
 
@@ -225,9 +225,28 @@ taken-few a few = omega arith
 
 logged-on-few : (s : State) (m : Fields) (n e : ℕ) → Few 2 (first_row (logged_on_rows s m n e))
 unfolding Firsts
-logged-on-few s m n e = first-holds (Few 2) (logged_on_rows s m n e)
-    (λ _. one-of-two, λ _. (λ _. names-few (n == e) m (if is 49 s.client m then 56 else 49), λ _. (λ _. none, λ _. (λ _. one-of-two, λ _. (λ _. none, λ _. (λ _. one-of-two, λ _. (λ _. one-of-two,
-    λ _. (λ _. gap-few s n (resend_answer (length s.given) m) (resend-few (length s.given) m), λ _. (λ _. ask-of-two s n, λ _. (λ _. taken-few (first_row (expected_rows (length s.given) m)) (expected-few (length s.given) m), λ _. none))))))))))
+logged-on-few s m n e = first-holds (Few 2) (logged_on_rows s m n e) (
+  λ _. one-of-two,
+  λ _. (
+    λ _. names-few (n == e) m (if is 49 s.client m then 56 else 49),
+    λ _. (
+      λ _. none,
+      λ _. (
+        λ _. one-of-two,
+        λ _. (
+          λ _. none,
+          λ _. (
+            λ _. one-of-two,
+            λ _. (
+              λ _. one-of-two,
+              λ _. (λ _. gap-few s n (resend_answer (length s.given) m) (resend-few (length s.given) m), λ _. (λ _. ask-of-two s n, λ _. (λ _. taken-few (first_row (expected_rows (length s.given) m)) (expected-few (length s.given) m), λ _. none))),
+            ),
+          ),
+        ),
+      ),
+    ),
+  ),
+)
 
 logon-few : (s : State) (m : Fields) (n e : ℕ) → Few 2 (first_row (logon_rows s m n e))
 unfolding Firsts

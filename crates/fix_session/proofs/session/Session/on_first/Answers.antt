@@ -1,4 +1,4 @@
-use Rattle.std.proofs.Common.{◌≡◌, ap, ◌∙◌, sym, arith}
+use Rattle.std.proofs.Common.{ap, ◌∙◌, sym, arith}
 use Rattle.session_law.specs.Session.{Given, Answer, answered}
 use Rattle.session_law.specs.Runs.{at_moment, heard}
 use Rattle.session_law.proofs.Bounds.{logon-little}

@@ -1,4 +1,4 @@
-use Rattle.std.proofs.Common.{◌≡◌, ap, ◌∙◌, sym, arith, length}
+use Rattle.std.proofs.Common.{ap, ◌∙◌, sym, arith}
 use Rattle.session_law.specs.Session.{Given, Answer, answered}
 use Rattle.session_law.specs.Runs.{at_moment, heard}
 use Rattle.session_law.specs.Table.{numbered}
@@ -14,7 +14,7 @@ take-requires c =
     let row = row_answer s m (numbered m) s.expected c.judge-row.result in
     let little = (logged-on-little s c.args.at m).expected in
     let same = ap (λ (g : Given). g.state.expected) c.in_ok-answer.ensures
-        ∙ ap (λ (g : Given). (answered c.args.at g.state row).state.expected) c.heard_at-draft.ensures.made
-        ∙ ap (λ (a : Answer). (answered c.args.at begun a).state.expected) (sym c.judge-row.ensures.answer) in
+    ∙ ap (λ (g : Given). (answered c.args.at g.state row).state.expected) c.heard_at-draft.ensures.made
+    ∙ ap (λ (a : Answer). (answered c.args.at begun a).state.expected) (sym c.judge-row.ensures.answer) in
     let low = c.requires.expected in
     record { expected = rw same (omega arith) }
