@@ -18,6 +18,14 @@ uint64_t bench_frame(const uint8_t *body, size_t length, uint32_t times);
 uint64_t bench_stamps(uint64_t from, uint32_t times);
 uint64_t bench_feed_packets(const uint8_t *piece, size_t length, uint32_t times);
 uint32_t bench_parse_price(const uint8_t *text, size_t length);
+uint64_t bench_make_messages(const uint8_t *head, size_t head_length, const uint8_t *tail, size_t tail_length,
+                             uint32_t times);
+uint64_t bench_on_message(const uint8_t *logon, size_t logon_length, const uint8_t *head, size_t head_length,
+                          const uint8_t *tail, size_t tail_length, uint32_t times);
+uint64_t bench_issue(const uint8_t *logon, size_t logon_length, const uint8_t *report, size_t report_length,
+                     uint32_t times);
+uint64_t bench_resends(const uint8_t *logon, size_t logon_length, const uint8_t *report, size_t report_length,
+                       uint32_t bodies, uint32_t times);
 bool bench_put_enter_order(const uint8_t *bytes, size_t length, uint32_t times, uint8_t *out, size_t room);
 
 enum {
@@ -28,6 +36,9 @@ enum {
     ENTER_ORDER = 49,
     REPORT_FRAME = 179,
     EXECUTED_PACKET = 43,
+    // A session is asked for this many calls before the next one begins, since it keeps what it issues.
+    SESSION_CALLS = 2000,
+    RESENDS = 20,
 };
 
 // A NewOrderSingle, the whole frame: 160 bytes in 17 fields, its body length and its check sum right.
@@ -51,6 +62,19 @@ static const char REPORT[] =
 // An Executed as sequenced data.
 static const char EXECUTED[] =
     "\000\051SE\000\000\000\000\000\000\000\001G0000000000001\000\000\000\144\000\003\224\004L\000\000\000\000\000\000\000\007";
+
+// C1 logs on.
+static const char LOGON[] = "35=A\00149=C1\00156=GATE\00134=1\00198=0\001108=30\001";
+
+// A NewOrderSingle of C1, before its number and behind it.
+static const char HEAD[] = "35=D\00149=C1\00156=GATE\001";
+static const char TAIL[] =
+    "52=20260102-14:30:00\00111=ORD0000017\00155=INTC\00154=1\00138=300\00140=2\00144=23.45\00159=0\001528=A\001"
+    "60=20260102-14:30:00\001";
+
+// What an ExecutionReport says.
+static const char BODY[] =
+    "35=8\00137=1\00111=A1\00117=1\001150=A\00139=A\00155=INTC\00154=1\00138=300\00144=23.45\001151=300\00114=0\0016=0\001";
 
 static const uint64_t LEAP_DAY_OF_2000 = 951782400000;
 
@@ -108,6 +132,57 @@ static void put_calls(void) {
     uint8_t out[ENTER_ORDER];
     sum += bench_put_enter_order(hidden(ORDER), ENTER_ORDER, CALLS, out, sizeof out);
     sum += hidden(out)[ENTER_ORDER - 1];
+}
+
+static uint64_t on_message(uint32_t times) {
+    return bench_on_message(hidden(LOGON), sizeof LOGON - 1, hidden(HEAD), sizeof HEAD - 1, hidden(TAIL), sizeof TAIL - 1,
+                            times);
+}
+
+static uint64_t issue(uint32_t times) {
+    return bench_issue(hidden(LOGON), sizeof LOGON - 1, hidden(BODY), sizeof BODY - 1, times);
+}
+
+static uint64_t resends(uint32_t bodies, uint32_t times) {
+    return bench_resends(hidden(LOGON), sizeof LOGON - 1, hidden(BODY), sizeof BODY - 1, bodies, times);
+}
+
+static uint64_t make_messages(uint32_t times) {
+    return bench_make_messages(hidden(HEAD), sizeof HEAD - 1, hidden(TAIL), sizeof TAIL - 1, times);
+}
+
+static void make_messages_calls(void) {
+    for (int i = 0; i < CALLS / SESSION_CALLS; i++) {
+        sum += make_messages(SESSION_CALLS);
+    }
+}
+
+static void on_message_calls(void) {
+    for (int i = 0; i < CALLS / SESSION_CALLS; i++) {
+        sum += on_message(SESSION_CALLS);
+    }
+}
+
+static void issue_calls(void) {
+    for (int i = 0; i < CALLS / SESSION_CALLS; i++) {
+        sum += issue(SESSION_CALLS);
+    }
+}
+
+// The best time of a resend of so many bodies: of a session that is asked RESENDS times, less that of one that isn't asked.
+static double best_resend(uint32_t bodies) {
+    double least_without = 1e18;
+    double least_with = 1e18;
+    for (int repeat = 0; repeat < REPEATS; repeat++) {
+        double start = now();
+        sum += resends(bodies, 0);
+        double middle = now();
+        sum += resends(bodies, RESENDS);
+        double end = now();
+        least_without = middle - start < least_without ? middle - start : least_without;
+        least_with = end - middle < least_with ? end - middle : least_with;
+    }
+    return (least_with - least_without) / RESENDS;
 }
 
 static double best(void (*calls)(void)) {
@@ -182,6 +257,11 @@ static bool put_is_right(void) {
            bench_put_enter_order(order, ENTER_ORDER, 1, out, sizeof out) && memcmp(out, ORDER, ENTER_ORDER) == 0;
 }
 
+// Each order is given up; each report is one frame; a resend is a gap fill for the Logon, and each body.
+static bool session_is_right(void) {
+    return on_message(7) == 7 && make_messages(3) == 3 * 14 && issue(5) == 5 && resends(9, 2) == 2 * 10;
+}
+
 int main(void) {
     if (!frame_is_right() || !split_is_right() || !parse_price_is_right() || !put_is_right()) {
         fprintf(stderr, "wrong: the frame is right %d, split %d, parse_price %d, put %d\n", frame_is_right(),
@@ -193,6 +273,11 @@ int main(void) {
                 frames_are_right(), stamp_is_right(), packets_are_right());
         return 1;
     }
+    if (!session_is_right()) {
+        fprintf(stderr, "wrong: a session's messages %d, made %d, reports %d, resends %d\n", on_message(7) == 7,
+                make_messages(3) == 3 * 14, issue(5) == 5, resends(9, 2) == 2 * 10);
+        return 1;
+    }
     double split = best(split_calls);
     printf("%-44s %7.1f   aim: below 400\n", "split, a NewOrderSingle frame of 160 bytes", split);
     printf("%-44s %7.1f   aim: below 150\n", "first_fault of its fields, the difference", best(first_fault_calls) - split);
@@ -202,6 +287,18 @@ int main(void) {
     printf("%-44s %7.1f   aim: below  60\n", "Packets::feed, an Executed's packet", best(feed_packets_calls));
     printf("%-44s %7.1f   aim: below  25\n", "parse_price, the text 23.45", best(parse_price_calls));
     printf("%-44s %7.1f   aim: below  25\n", "EnterOrder::put, 49 bytes", best(put_calls));
+    double made = best(make_messages_calls);
+    printf("%-44s %7.1f   aim: below 600\n", "Session::on_message, an order in sequence", best(on_message_calls) - made);
+    printf("%-44s %7.1f   aim: below 1500\n", "Session::issue, a report", best(issue_calls));
+    double first = best_resend(1000);
+    printf("%-44s %7.1f   no aim\n", "a resend of 1,000 bodies, for each", first / 1000);
+    double before = first;
+    for (uint32_t bodies = 2000; bodies <= 8000; bodies *= 2) {
+        double resend = best_resend(bodies);
+        printf("a resend of %u,000 bodies, for each %17.1f   aim: the resend below 3 times the one before: %.2f\n", bodies / 1000,
+               resend / bodies, resend / before);
+        before = resend;
+    }
     printf("nanoseconds a call, the best of %d times %d calls\n", REPEATS, CALLS);
     return sum == 0;
 }

@@ -8,7 +8,7 @@ set -euo pipefail
 
 here=$(cd "$(dirname "${BASH_SOURCE[0]}")" && pwd)
 repository=$(dirname "$here")
-measured=(fix_fields fix_framing fix_stamp fixed_point ouch_codec soup_packets wire_law)
+measured=(fix_fields fix_framing fix_session fix_stamp fix_types fixed_point ouch_codec session_frames soup_packets wire_law)
 seconds_to_build=1500
 seconds_to_run=120
 

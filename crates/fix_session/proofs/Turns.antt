@@ -3,6 +3,8 @@ use Rattle.std.proofs.Common.{ℕ, List, ◌∷◌, sym, subst}
 use Rattle.session_law.specs.Session.{State}
 use Rattle.session_law.specs.Runs.{Call, History, Leaves, turn_of, turn_after, step}
 use Rattle.session_law.specs.Numbers.{Headline}
+use Rattle.session_law.specs.Bounds.{MovesLittle, most_taken}
+use Rattle.session_law.proofs.Bounds.{step-little}
 use Rattle.session_law.proofs.Runs.{Leaves-more, Leaves-headline}
 use Rattle.fix_session.specs.declared.session.SessionTurn.{SessionTurn}
 use Rattle.fix_session.specs.Meets.{Meets, Tells}
@@ -20,3 +22,7 @@ one-more gate client h old at call turn new m l =
 pub one-more-headline : (gate client : List ℕ) (h : History) (old : State) (at : ℕ) (call : Call) (turn : SessionTurn) (new : State)
     → Meets old (step old at call) turn new → Leaves gate client h old → Headline (turn_after old at call ∷ h)
 one-more-headline gate client h old at call turn new m l = Leaves-headline gate client (turn_after old at call ∷ h) new (one-more gate client h old at call turn new m l)
+
+-- a call that meets the table moves the numbers no further than the law says
+pub little : (old : State) (at : ℕ) (call : Call) (turn : SessionTurn) (new : State) → Meets old (step old at call) turn new → MovesLittle (most_taken call) old new
+little old at call turn new m = subst (λ (s : State). MovesLittle (most_taken call) old s) (sym m.state) (step-little old at call)

@@ -1,12 +1,7 @@
 -- What a draft is seen as.
-use Rattle.std.specs.Prelude.{◌<◌, ◌^◌, length, [], ◌++◌, if◌then◌else◌}
+use Rattle.std.specs.Prelude.{[], ◌++◌, if◌then◌else◌}
 use Rattle.session_law.specs.Session.{State, Given}
 use Rattle.fix_session.specs.declared.draft.Draft.{Draft}
-
--- its numbers are far below where they could not be counted on
-pub record HasRoom (s : State) : Type 0 where
-  pub expected : s.expected < 2 ^ 60
-  pub given : length s.given < 2 ^ 60
 
 -- what a draft has made of a session
 abbrev pub made : State → Draft → Given

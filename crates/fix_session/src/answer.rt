@@ -6,7 +6,7 @@ ghost use Rattle.session_law.specs.Session.{State, Given, perform, quiet, answer
 ghost use Rattle.session_law.specs.Table as table;
 ghost use Rattle.session_law.specs.Messages as law;
 ghost use Rattle.fix_session.specs.Made.{made};
-ghost use Rattle.session_rows.specs.Judged.{taken_answer, row_answer, RowInRange};
+ghost use Rattle.session_rows.specs.Judged.{taken_answer, row_answer, RowFits, TakenFits};
 
 use crate::draft::Draft;
 use crate::session::Session;
@@ -28,8 +28,7 @@ pub fn answer(
     requires quiet { made session.now draft.old ≡ quiet (made session.now draft.old).state }
     requires given { (made session.now draft.old).state.given ≡ session.now.given }
     requires expected { draft.old.expected < 2 ^ 61 }
-    requires row { RowInRange (length session.now.given) row }
-    requires room { length session.now.given < 2 ^ 60 }
+    requires row { RowFits m.now (length session.now.given) row }
     ensures { OnOk result (made session.now draft.new
         ≡ answered at (made session.now draft.old).state (row_answer session.now m.now (table.numbered m.now) session.now.expected row)) }
 {
@@ -114,6 +113,7 @@ fn act(
     taken: Taken,
     at: u64,
 ) -> Result<(), AllocError>
+    requires { TakenFits m.now (length session.now.given) taken }
     ensures { OnOk result (made session.now draft.new ≡ fold (perform at) (made session.now draft.old) (taken_answer m.now taken).acts) }
 {
     match taken {

@@ -5,8 +5,10 @@ ghost use Rattle.std.specs.Prelude.{max, fold, ◌≤◌, ◌≡◌, ◌+◌, �
 
 use crate::session::Session;
 use fix_fields::Fields;
+use fix_types::AppMsg;
 use session_frames::{append_resend, ask_body, echo_body, reject_body, text_body};
 use session_law::{Frame, Kept, Kind, Logged, Out, Phase};
+use session_rows::application_of;
 use std::alloc::{AllocError, Global};
 
 /// What a call gives, as far as it is made.
@@ -21,23 +23,24 @@ pub struct Draft {
     pub slots: Vec<Option<Kept>>,
     pub outs: Vec<Out>,
     /// The message, where it is given up as the application's.
-    pub app: Option<Fields>,
+    pub app: Option<AppMsg>,
 }
 
 impl Draft {
     ghost use Rattle.session_law.specs.Runs.{at_moment, heard};
     ghost use Rattle.session_law.specs.Table.{is_logged_on};
     ghost use Rattle.session_law.specs.Session.{quiet, logged, reset, Logon, perform, numbered, said, kept, next_out, on_written, Given, Say, Shut, Grow, Expect, Slot, AskAgain, Test, GiveUp, sent_again};
+    ghost use Rattle.session_law.specs.Formats.{application_refusal};
     ghost use Rattle.session_law.specs.Table.{reject, log_out, log_out_silently};
     ghost use Rattle.fix_fields.specs.Field.{IsValue};
-    ghost use Rattle.fix_session.specs.Made.{made, HasRoom};
+    ghost use Rattle.fix_session.specs.Made.{made};
 
     /// Nothing yet, at this moment.
     pub fn at(alloc: Global, session: &Session, at: u64) -> Draft
         ensures made { made session.now result ≡ quiet (at_moment at session.now) }
         ensures fresh { result.resets ≡ false }
         ensures none { result.slots.items ≡ [] }
-        ensures expected { result.expected ≡ session.now.expected }
+        ensures expected { result.expected ≤ 10 ^ 18 }
     {
         Draft {
             phase: session.phase(),
@@ -55,7 +58,7 @@ impl Draft {
         ensures made { made session.now result ≡ quiet (heard (at_moment at session.now)) }
         ensures fresh { result.resets ≡ false }
         ensures none { result.slots.items ≡ [] }
-        ensures expected { result.expected ≡ session.now.expected }
+        ensures expected { result.expected ≤ 10 ^ 18 }
     {
         let mut draft = Draft::at(alloc, session, at);
         if let Phase::LoggedOn(on) = draft.phase {
@@ -78,7 +81,7 @@ impl Draft {
     ) -> Draft
         ensures made { (l : Logon) → l.interval ≡ interval → l.resets ≡ resets
             → made session.now result ≡ quiet (logged l (reset resets (heard (at_moment at session.now)))) }
-        ensures expected { result.expected ≤ max 1 session.now.expected }
+        ensures expected { result.expected ≤ 10 ^ 18 }
     {
         let latest = session.latest().max(at);
         Draft {
@@ -304,9 +307,10 @@ impl Draft {
         m: &Fields,
         at: u64,
     ) -> Result<(), AllocError>
+        requires { application_refusal m.now ≡ None }
         ensures { OnOk result (made session.now self.new ≡ perform at (made session.now self.old) (GiveUp m.now)) }
     {
-        self.app = Some(m.copied(alloc)?);
+        self.app = Some(application_of(alloc, m)?);
         Ok(())
     }
 
@@ -322,7 +326,6 @@ impl Draft {
         requires given { (made session.now self.old).state.given ≡ session.now.given }
         requires from { 1 ≤ from }
         requires to { to ≤ length session.now.given }
-        requires room { length session.now.given < 2 ^ 60 }
         ensures { OnOk result (made session.now self.new ≡ sent_again at (made session.now self.old) (Some (record { from = from; to = to }))) }
     {
         let before = self.outs.len();

@@ -5,7 +5,7 @@ ghost use Rattle.std.specs.Prelude.{◌≡◌, ◌≤◌, ◌<◌, ◌^◌, leng
 ghost use Rattle.session_law.specs.Messages as law;
 ghost use Rattle.session_law.specs.Table as table;
 ghost use Rattle.session_law.specs.Table.{first_row, resend_answer, with_acts, ask_again};
-ghost use Rattle.session_rows.specs.Judged.{row_answer, RowInRange};
+ghost use Rattle.session_rows.specs.Judged.{row_answer, RowFits};
 ghost use Rattle.fix_session.specs.Logons.{logon_answer};
 
 use crate::draft::first_number;
@@ -27,7 +27,7 @@ fn is_from_client(session: &Session, m: &Fields) -> bool
 pub fn judge(session: &Session, m: &Fields) -> Row
     ensures answer { first_row (table.logged_on_rows session.now m.now (table.numbered m.now) session.now.expected)
         ≡ row_answer session.now m.now (table.numbered m.now) session.now.expected result }
-    ensures range { RowInRange (length session.now.given) result }
+    ensures fits { RowFits m.now (length session.now.given) result }
 {
     let received = numbered(m);
     let expected = session.expected();
@@ -55,7 +55,7 @@ pub fn judge(session: &Session, m: &Fields) -> Row
 
 /// A number above the expected one.
 fn judge_high(session: &Session, m: &Fields) -> Row
-    ensures range { RowInRange (length session.now.given) result }
+    ensures fits { RowFits m.now (length session.now.given) result }
     ensures answer { row_answer session.now m.now (table.numbered m.now) session.now.expected result
         ≡ (if table.is_type (codes "5") m.now then table.acts table.log_out_silently
         else (if table.is_type (codes "2") m.now then with_acts (resend_answer (length session.now.given) m.now) (ask_again session.now (table.numbered m.now))

@@ -1,6 +1,6 @@
 //! What the lines of a link that isn't logged on give.
 
-ghost use Rattle.std.specs.Prelude.{◌≡◌, ◌<◌, ◌^◌, IfOk, Some};
+ghost use Rattle.std.specs.Prelude.{◌≡◌, ◌≤◌, ◌^◌, IfOk, Some};
 ghost use Rattle.session_law.specs.Session.{answered, opened};
 ghost use Rattle.session_law.specs.Runs.{at_moment, heard};
 ghost use Rattle.session_law.specs.Table as table;
@@ -26,7 +26,6 @@ pub fn answer_logon(
     row: LogonRow,
     at: u64,
 ) -> Result<Draft, AllocError>
-    requires room { session.now.expected < 2 ^ 60 }
     ensures { IfOk result (λ draft. made session.now draft
         ≡ answered at (heard (at_moment at session.now)) (logon_answer m.now (table.numbered m.now) row)) }
 {
@@ -63,10 +62,9 @@ fn open(
     resets: bool,
     at: u64,
 ) -> Result<Draft, AllocError>
-    requires room { session.now.expected < 2 ^ 60 }
     ensures opened { IfOk result (λ draft. made session.now draft
         ≡ opened at (heard (at_moment at session.now)) (Some (record { interval_text = law.text 108 m.now; interval = interval; resets = resets }))) }
-    ensures expected { IfOk result (λ draft. draft.expected < 2 ^ 61) }
+    ensures expected { IfOk result (λ draft. draft.expected ≤ 10 ^ 18) }
 {
     let body = logon_body(alloc, m, resets)?;
     let mut draft = Draft::opened_at(alloc, session, interval, resets, at);

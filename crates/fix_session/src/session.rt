@@ -1,6 +1,6 @@
 //! The session and its calls.
 
-ghost use Rattle.std.specs.Prelude.{◌≡◌, ◌+◌, ◌<◌, ◌^◌, ◌∷◌, [], List, ℕ, length, nat_le, if◌then◌else◌, IfOk, OnErr, OnOk, Some, None, IsTrue, ◌↔◌};
+ghost use Rattle.std.specs.Prelude.{◌≡◌, ◌≤◌, ◌<◌, ◌+◌, ◌^◌, ◌∷◌, [], List, ℕ, length, nat_le, if◌then◌else◌, IfOk, OnErr, OnOk, Some, None};
 ghost use Rattle.session_law.specs.Messages.{Fields as Message};
 
 use crate::answer::answer;
@@ -10,7 +10,7 @@ use crate::judge::{judge, judge_logon};
 use crate::logon::answer_logon;
 use crate::ticks::do_due;
 use fix_fields::{Fields, Text};
-use fix_types::AppBody;
+use fix_types::{AppBody, AppMsg};
 use session_frames::{SessionOut, fields_of_frame, written};
 use session_law::{Frame, Kept, Kind, Phase};
 use session_rows::due_at;
@@ -23,7 +23,7 @@ pub struct Session {
     gate: Text,
     client: Text,
     phase: Phase,
-    /// The number that is expected next.
+    /// The number that is expected next: at most one above a number of 18 digits.
     expected: u64,
     /// What each number from 1 was given to: a body that is kept, or a frame that is gap filled.
     given: Vec<Option<Kept>>,
@@ -33,6 +33,7 @@ pub struct Session {
 
 impl Model for Session {
     ghost use Rattle.session_law.specs.Session as law;
+    ghost use Rattle.std.specs.Prelude.{◌≤◌, ◌^◌};
 
     ghost Value = { law.State };
 
@@ -44,6 +45,8 @@ impl Model for Session {
       given = s.given.items;
       latest = s.latest;
     } };
+
+    ghost invariant = { λ s. s.expected ≤ 10 ^ 18 };
 }
 
 /// What a call gives.
@@ -52,7 +55,7 @@ pub struct SessionTurn {
     /// What goes to the link, in order.
     pub outs: Vec<SessionOut>,
     /// The message, where it is given up as the application's.
-    pub app: Option<Fields>,
+    pub app: Option<AppMsg>,
 }
 
 impl Session {
@@ -67,7 +70,8 @@ impl Session {
     ghost use Rattle.session_law.specs.Frames.{frame_fields};
     ghost use Rattle.fix_stamp.specs.Stamp.{stamp_text};
     ghost use Rattle.fix_fields.specs.Field.{IsValue};
-    ghost use Rattle.fix_session.specs.Made.{made, HasRoom};
+    ghost use Rattle.fix_session.specs.Made.{made};
+    ghost use Rattle.session_law.specs.Bounds.{MovesLittle};
 
     /// A session of a client with the gateway, by their names: no link, and number 1 on both sides.
     #[tactic(auto, unfolding(session_law::specs::Runs::Leaves))]
@@ -84,25 +88,17 @@ impl Session {
         }
     }
 
-    /// Whether the numbers are below 2^60, as `on_message` and `issue` ask. They grow by at most 2 a call, or to a number
-    /// of 18 digits that the client gives: so they are, for as long as anybody can wait.
-    pub fn has_room(&self) -> bool
-        ensures { IsTrue result ↔ HasRoom self.now }
-    {
-        self.expected < 1 << 60 && self.given.len() < 1 << 60
-    }
-
     /// The number of the next frame or issued body.
     pub fn next_out(&self) -> u64
-        requires { HasRoom self.now }
         ensures { (gate client : List ℕ) (h : History) → Leaves gate client h self.now → result ≡ length (given h) + 1 }
     {
-        self.next_number()
+        self.last() + 1
     }
 
     /// The number that is expected of the client.
     pub fn next_in(&self) -> u64
-        ensures { (gate client : List ℕ) (h : History) → Leaves gate client h self.now → result ≡ expected gate client h }
+        ensures number { (gate client : List ℕ) (h : History) → Leaves gate client h self.now → result ≡ expected gate client h }
+        ensures small { result ≤ 10 ^ 18 }
     {
         self.expected()
     }
@@ -114,12 +110,12 @@ impl Session {
         body: &AppBody,
         at: u64,
     ) -> Result<SessionTurn, AllocError>
-        requires room { HasRoom self.old }
         ensures turn { IfOk result (λ turn. Tells self.old.gate self.old.client turn (turn_after self.old at (issued body.now))) }
         ensures leaves { OnOk result ((gate client : List ℕ) (h : History) → Leaves gate client h self.old
             → Leaves gate client (turn_after self.old at (issued body.now) ∷ h) self.new) }
         ensures headline { OnOk result ((gate client : List ℕ) (h : History) → Leaves gate client h self.old
             → Headline (turn_after self.old at (issued body.now) ∷ h)) }
+        ensures numbers { OnOk result (MovesLittle 1 self.old self.new) }
         ensures err { OnErr result (self.new ≡ self.old) }
     {
         let fields = body_of(alloc, body)?;
@@ -133,12 +129,11 @@ impl Session {
         body: &AppBody,
         at: u64,
     ) -> Result<Fields, AllocError>
-        requires room { HasRoom self.now }
         ensures { IfOk result (λ fields. fields ≡ frame_fields stamp_text self.now.gate self.now.client
             (fresh (next_out self.now) (issues.kind_of body.now) (issues.body_of body.now) at)) }
     {
         let frame = Frame {
-            number: self.next_number(),
+            number: self.last() + 1,
             kind: kind_of(body),
             body: body_of(alloc, body)?,
             at,
@@ -154,12 +149,12 @@ impl Session {
         m: &Fields,
         at: u64,
     ) -> Result<SessionTurn, AllocError>
-        requires room { HasRoom self.old }
         ensures turn { IfOk result (λ turn. Tells self.old.gate self.old.client turn (turn_after self.old at (Came m.now))) }
         ensures leaves { OnOk result ((gate client : List ℕ) (h : History) → Leaves gate client h self.old
             → Leaves gate client (turn_after self.old at (Came m.now) ∷ h) self.new) }
         ensures headline { OnOk result ((gate client : List ℕ) (h : History) → Leaves gate client h self.old
             → Headline (turn_after self.old at (Came m.now) ∷ h)) }
+        ensures numbers { OnOk result (MovesLittle 2 self.old self.new) }
         ensures err { OnErr result (self.new ≡ self.old) }
     {
         self.message_step(alloc, m, at)
@@ -172,6 +167,7 @@ impl Session {
             → Leaves gate client (turn_after self.old at Ticked ∷ h) self.new) }
         ensures headline { OnOk result ((gate client : List ℕ) (h : History) → Leaves gate client h self.old
             → Headline (turn_after self.old at Ticked ∷ h)) }
+        ensures numbers { OnOk result (MovesLittle 1 self.old self.new) }
         ensures err { OnErr result (self.new ≡ self.old) }
     {
         self.tick_step(alloc, at)
@@ -184,15 +180,9 @@ impl Session {
             → Leaves gate client (turn_after self.old at (Linked up) ∷ h) self.new }
         ensures headline { (gate client : List ℕ) (h : History) → Leaves gate client h self.old
             → Headline (turn_after self.old at (Linked up) ∷ h) }
+        ensures numbers { MovesLittle 0 self.old self.new }
     {
         self.link_step(alloc, up, at)
-    }
-
-    pub(crate) fn next_number(&self) -> u64
-        requires { HasRoom self.now }
-        ensures { result ≡ next_out self.now }
-    {
-        self.given.len() as u64 + 1
     }
 
     pub(crate) fn phase(&self) -> Phase
@@ -202,7 +192,8 @@ impl Session {
     }
 
     pub(crate) fn expected(&self) -> u64
-        ensures { result ≡ self.now.expected }
+        ensures number { result ≡ self.now.expected }
+        ensures small { result ≤ 10 ^ 18 }
     {
         self.expected
     }
@@ -239,7 +230,8 @@ impl Session {
 
     /// The last number that was given, 0 where none was.
     pub(crate) fn last(&self) -> u64
-        ensures { result ≡ length self.now.given }
+        ensures number { result ≡ length self.now.given }
+        ensures room { result < 2 ^ 63 }
     {
         self.given.len() as u64
     }
@@ -258,7 +250,6 @@ impl Session {
         body: Fields,
         at: u64,
     ) -> Result<SessionTurn, AllocError>
-        requires room { HasRoom self.old }
         ensures meets { IfOk result (λ turn. Meets self.old (step self.old at (Issued kind body)) turn self.new) }
         ensures err { OnErr result (self.new ≡ self.old) }
     {
@@ -274,7 +265,6 @@ impl Session {
         m: &Fields,
         at: u64,
     ) -> Result<SessionTurn, AllocError>
-        requires room { HasRoom self.old }
         ensures meets { IfOk result (λ turn. Meets self.old (step self.old at (Came m.now)) turn self.new) }
         ensures err { OnErr result (self.new ≡ self.old) }
     {
@@ -290,7 +280,7 @@ impl Session {
 
     /// A frame of a link that isn't logged on.
     fn on_first(&mut self, alloc: Global, m: &Fields, at: u64) -> Result<SessionTurn, AllocError>
-        requires room { HasRoom self.old }
+        requires expected { self.old.expected ≤ 10 ^ 18 }
         ensures meets { IfOk result (λ turn. Meets self.old (by_rows at (heard (at_moment at self.old))
             (logon_rows self.old m.now (numbered m.now) (if resets m.now then 1 else self.old.expected))) turn self.new) }
         ensures err { OnErr result (self.new ≡ self.old) }
@@ -302,7 +292,7 @@ impl Session {
 
     /// A frame of a client that is logged on.
     fn on_next(&mut self, alloc: Global, m: &Fields, at: u64) -> Result<SessionTurn, AllocError>
-        requires room { HasRoom self.old }
+        requires expected { self.old.expected ≤ 10 ^ 18 }
         ensures meets { IfOk result (λ turn. Meets self.old (by_rows at (heard (at_moment at self.old))
             (logged_on_rows self.old m.now (numbered m.now) self.old.expected)) turn self.new) }
         ensures err { OnErr result (self.new ≡ self.old) }
@@ -331,6 +321,7 @@ impl Session {
 
     /// Takes over what a draft has made, all of it or nothing.
     fn take(&mut self, alloc: Global, draft: Draft) -> Result<SessionTurn, AllocError>
+        requires expected { draft.expected ≤ 10 ^ 18 }
         ensures ok { IfOk result (λ turn. Meets self.old (made self.old draft) turn self.new) }
         ensures err { OnErr result (self.new ≡ self.old) }
     {

@@ -18,7 +18,7 @@ fn append_resent(
     first: u64,
     at: u64,
 ) -> Result<(), AllocError>
-    requires { first + length slots.now < 2 ^ 63 }
+    requires { first + length slots.now < 2 ^ 64 }
     ensures { OnOk result (outs.new.items ≡ outs.old.items ++ map Write (law.resent at first first slots.now)) }
 {
     let mut start = first;
@@ -91,7 +91,6 @@ pub fn append_resend(
 ) -> Result<(), AllocError>
     requires from { 1 ≤ from }
     requires to { to ≤ length given.now }
-    requires room { length given.now < 2 ^ 60 }
     ensures { OnOk result (outs.new.items ≡ outs.old.items ++ map Write (law.resend at given.now from to)) }
 {
     if from > to {

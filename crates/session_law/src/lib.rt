@@ -8,5 +8,5 @@ mod phase;
 
 pub use frame::{Frame, Kept, Out};
 pub use kind::Kind;
-pub use laws::{calls_determine_runs, runs_keep_their_numbers};
+pub use laws::{calls_determine_runs, calls_move_numbers_little, runs_keep_their_numbers};
 pub use phase::{Logged, Phase};

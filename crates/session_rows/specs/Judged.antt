@@ -1,6 +1,7 @@
 -- The answer of each line of the table, as the code names them.
-use Rattle.std.specs.Prelude.{◌≤◌, ℕ, [], ◌∷◌, ◌++◌, if◌then◌else◌, codes}
+use Rattle.std.specs.Prelude.{◌≡◌, ◌≤◌, ℕ, None, [], ◌∷◌, ◌++◌, if◌then◌else◌, codes}
 use Rattle.session_law.specs.Messages.{Fields, field, text}
+use Rattle.session_law.specs.Formats.{application_refusal}
 use Rattle.session_law.specs.Session.{State, Answer, Grow, Expect, Say, Heartbeat, SayUnsupported, GiveUp}
 use Rattle.session_law.specs.Table.{acts, reject, log_out, log_out_silently, send_again, unsupported_body, too_low, with_acts, after_acts, ask_again}
 use Rattle.session_rows.specs.declared.taken.Taken.{Taken}
@@ -32,26 +33,26 @@ row_answer s m n e (rows.GapWithResend t) = with_acts (taken_answer m t) (ask_ag
 row_answer s m n e rows.Gap = acts (ask_again s n)
 row_answer s m n e (rows.Taken t) = after_acts (Grow ∷ []) (taken_answer m t)
 
--- numbers sent again are numbers that were given
-abbrev pub TakenInRange : ℕ → Taken → Type 0
-TakenInRange last taken.Nothing = Unit {0}
-TakenInRange last (taken.Rejected tag reason) = Unit {0}
-TakenInRange last taken.Echoed = Unit {0}
-TakenInRange last (taken.SentAgain from to) = (1 ≤ from) × (to ≤ last)
-TakenInRange last (taken.Expects n) = Unit {0}
-TakenInRange last taken.LoggedOut = Unit {0}
-TakenInRange last taken.AlreadyLoggedOn = Unit {0}
-TakenInRange last taken.GivenUp = Unit {0}
-TakenInRange last taken.Unsupported = Unit {0}
+-- what is named can be done: numbers sent again are numbers that were given, and nothing refuses a message that is given up
+abbrev pub TakenFits : Fields → ℕ → Taken → Type 0
+TakenFits m last taken.Nothing = Unit {0}
+TakenFits m last (taken.Rejected tag reason) = Unit {0}
+TakenFits m last taken.Echoed = Unit {0}
+TakenFits m last (taken.SentAgain from to) = (1 ≤ from) × (to ≤ last)
+TakenFits m last (taken.Expects n) = Unit {0}
+TakenFits m last taken.LoggedOut = Unit {0}
+TakenFits m last taken.AlreadyLoggedOn = Unit {0}
+TakenFits m last taken.GivenUp = application_refusal m ≡ None
+TakenFits m last taken.Unsupported = Unit {0}
 
-abbrev pub RowInRange : ℕ → Row → Type 0
-RowInRange last rows.NumberMissing = Unit {0}
-RowInRange last (rows.NamesWrong is_expected tag) = Unit {0}
-RowInRange last (rows.Expects number) = Unit {0}
-RowInRange last (rows.Rejected reason) = Unit {0}
-RowInRange last rows.Passed = Unit {0}
-RowInRange last rows.TooLow = Unit {0}
-RowInRange last rows.LoggedOut = Unit {0}
-RowInRange last (rows.GapWithResend t) = TakenInRange last t
-RowInRange last rows.Gap = Unit {0}
-RowInRange last (rows.Taken t) = TakenInRange last t
+abbrev pub RowFits : Fields → ℕ → Row → Type 0
+RowFits m last rows.NumberMissing = Unit {0}
+RowFits m last (rows.NamesWrong is_expected tag) = Unit {0}
+RowFits m last (rows.Expects number) = Unit {0}
+RowFits m last (rows.Rejected reason) = Unit {0}
+RowFits m last rows.Passed = Unit {0}
+RowFits m last rows.TooLow = Unit {0}
+RowFits m last rows.LoggedOut = Unit {0}
+RowFits m last (rows.GapWithResend t) = TakenFits m last t
+RowFits m last rows.Gap = Unit {0}
+RowFits m last (rows.Taken t) = TakenFits m last t

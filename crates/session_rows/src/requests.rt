@@ -1,12 +1,18 @@
 //! Application messages, before anybody judges their values.
 
-ghost use Rattle.std.specs.Prelude.{◌≡◌};
+ghost use Rattle.std.specs.Prelude.{◌≡◌, IfOk, None};
 ghost use Rattle.session_law.specs.Table as table;
+ghost use Rattle.session_law.specs.Formats as formats;
 ghost use Rattle.session_law.specs.Formats.{application_refusal};
 
 use crate::message::is_type;
 use fix_fields::Fields;
-use fix_types::{SessionRefusal, cancel_refusal, new_order_refusal, replace_refusal};
+use fix_types::{
+    AppMsg, CancelRequest, NewOrder, ReplaceRequest, SessionRefusal, cancel_refusal,
+    new_order_refusal, replace_refusal,
+};
+use std::alloc::{AllocError, Global};
+use wire_law::TextWire;
 
 /// Whether a message is the application's: NewOrderSingle, OrderCancelRequest, OrderCancelReplaceRequest.
 pub fn is_application(m: &Fields) -> bool
@@ -25,5 +31,28 @@ pub fn refusal_of(m: &Fields) -> Option<SessionRefusal>
         cancel_refusal(m)
     } else {
         replace_refusal(m)
+    }
+}
+
+/// An application message as a type. Nothing refuses it, so a reader's error is want of memory.
+pub fn application_of(alloc: Global, m: &Fields) -> Result<AppMsg, AllocError>
+    requires { application_refusal m.now ≡ None }
+    ensures { IfOk result (λ said. said ≡ formats.application_of m.now) }
+{
+    if is_type(m, b"D") {
+        match NewOrder::get(alloc, m) {
+            Ok(order) => Ok(AppMsg::New(order)),
+            Err(_) => Err(AllocError),
+        }
+    } else if is_type(m, b"F") {
+        match CancelRequest::get(alloc, m) {
+            Ok(request) => Ok(AppMsg::Cancel(request)),
+            Err(_) => Err(AllocError),
+        }
+    } else {
+        match ReplaceRequest::get(alloc, m) {
+            Ok(request) => Ok(AppMsg::Replace(request)),
+            Err(_) => Err(AllocError),
+        }
     }
 }

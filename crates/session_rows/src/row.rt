@@ -4,7 +4,7 @@ ghost use Rattle.std.specs.Prelude.{◌≡◌, true, false, unwrap_or, codes, if
 ghost use Rattle.session_law.specs.Messages as law;
 ghost use Rattle.session_law.specs.Table as table;
 ghost use Rattle.session_rows.specs.declared.row.Row.TheVariants as rows;
-ghost use Rattle.session_rows.specs.Judged.{RowInRange};
+ghost use Rattle.session_rows.specs.Judged.{RowFits};
 
 use crate::message::new_number;
 use crate::taken::Taken;
@@ -38,7 +38,7 @@ pub enum Row {
 
 /// A SequenceReset without GapFill, judged before its number is.
 pub fn judge_plain_reset(m: &Fields, expected: u64) -> Row
-    ensures range { (last : ℕ) → RowInRange last result }
+    ensures fits { (last : ℕ) → RowFits m.now last result }
     ensures above { table.is_from expected (law.number 36 m.now) ≡ true → result ≡ rows.Expects (unwrap_or (law.number 36 m.now) 0) }
     ensures below { table.is_from expected (law.number 36 m.now) ≡ false → result ≡ rows.Rejected (if law.has 36 m.now then 5 else 1) }
 {
@@ -52,7 +52,7 @@ pub fn judge_plain_reset(m: &Fields, expected: u64) -> Row
 
 /// A number below the expected one.
 pub fn judge_low(m: &Fields) -> Row
-    ensures range { (last : ℕ) → RowInRange last result }
+    ensures fits { (last : ℕ) → RowFits m.now last result }
     ensures again { law.is 43 (codes "Y") m.now ≡ true → result ≡ rows.Passed }
     ensures fresh { law.is 43 (codes "Y") m.now ≡ false → result ≡ rows.TooLow }
 {

@@ -6,7 +6,7 @@ ghost use Rattle.session_law.specs.Table as table;
 ghost use Rattle.session_law.specs.Table.{first_row};
 ghost use Rattle.session_law.specs.Formats.{application_refusal};
 ghost use Rattle.session_rows.specs.declared.taken.Taken.TheVariants as taken;
-ghost use Rattle.session_rows.specs.Judged.{taken_answer, TakenInRange};
+ghost use Rattle.session_rows.specs.Judged.{taken_answer, TakenFits};
 
 use crate::message::{
     is_other_type, is_sequence_reset, is_silent, is_type, new_number, new_number_reason, numbered,
@@ -41,7 +41,7 @@ pub enum Taken {
 /// What a ResendRequest brings, where so many numbers were given.
 pub fn judge_resend(m: &Fields, last: u64) -> Taken
     ensures answer { table.resend_answer last m.now ≡ taken_answer m.now result }
-    ensures range { TakenInRange last result }
+    ensures fits { TakenFits m.now last result }
 {
     if !has(m, 7) {
         return Taken::Rejected { tag: 7, reason: 1 };
@@ -75,7 +75,7 @@ fn until(last: u64, to: u64) -> u64
 /// What the message with the expected number brings, where so many numbers were given.
 pub fn judge_taken(m: &Fields, last: u64) -> Taken
     ensures answer { first_row (table.expected_rows last m.now) ≡ taken_answer m.now result }
-    ensures range { TakenInRange last result }
+    ensures fits { TakenFits m.now last result }
 {
     match m.first_fault() {
         Some(fault) => Taken::Rejected {
@@ -90,7 +90,7 @@ pub fn judge_taken(m: &Fields, last: u64) -> Taken
 fn judge_faultless(m: &Fields, last: u64) -> Taken
     requires { law.first_fault m.now ≡ None }
     ensures answer { first_row (table.expected_rows last m.now) ≡ taken_answer m.now result }
-    ensures range { TakenInRange last result }
+    ensures fits { TakenFits m.now last result }
 {
     if is_silent(m) {
         return Taken::Nothing;
@@ -124,7 +124,7 @@ fn judge_faultless(m: &Fields, last: u64) -> Taken
 
 /// What a TestRequest brings.
 fn judge_test(m: &Fields) -> Taken
-    ensures range { (last : ℕ) → TakenInRange last result }
+    ensures fits { (last : ℕ) → TakenFits m.now last result }
     ensures with { law.has 112 m.now ≡ true → result ≡ taken.Echoed }
     ensures without { law.has 112 m.now ≡ false → result ≡ taken.Rejected 112 1 }
 {
@@ -140,7 +140,7 @@ fn judge_test(m: &Fields) -> Taken
 
 /// What a SequenceReset with GapFill brings.
 fn judge_gap_fill(m: &Fields) -> Taken
-    ensures range { (last : ℕ) → TakenInRange last result }
+    ensures fits { (last : ℕ) → TakenFits m.now last result }
     ensures above { table.is_from (table.numbered m.now + 1) (law.number 36 m.now) ≡ true → result ≡ taken.Expects (unwrap_or (law.number 36 m.now) 0) }
     ensures below { table.is_from (table.numbered m.now + 1) (law.number 36 m.now) ≡ false → result ≡ taken.Rejected 36 (table.new_number_reason m.now) }
 {
@@ -155,7 +155,7 @@ fn judge_gap_fill(m: &Fields) -> Taken
 
 /// What an application message brings.
 fn judge_application(m: &Fields) -> Taken
-    ensures range { (last : ℕ) → TakenInRange last result }
+    ensures fits { (last : ℕ) → TakenFits m.now last result }
     ensures answer { table.acts (table.refused m.now (application_refusal m.now)) ≡ taken_answer m.now result }
 {
     match refusal_of(m) {

@@ -1,0 +1,98 @@
+//! Fields as they are typed, and outputs as they are shown: `|` for SOH.
+
+use fix_fields::{Fields, split};
+use fix_session::{SessionOut, SessionTurn};
+use fix_types::AppMsg;
+use itoa::Buffer;
+use std::alloc::{AllocError, Global};
+use wire_law::TextWire;
+
+/// The bytes with SOH for each bar.
+pub fn with_soh(alloc: Global, text: &[u8]) -> Result<Vec<u8>, AllocError> {
+    let mut bytes = Vec::with_capacity(alloc, text.len())?;
+    for byte in text {
+        bytes.push(if *byte == b'|' { 1 } else { *byte })?;
+    }
+    Ok(bytes)
+}
+
+/// The fields of a text in which a bar ends each field but the last; none where it is no fields.
+pub fn fields_of(alloc: Global, text: &[u8]) -> Result<Option<Fields>, AllocError> {
+    let mut bytes = with_soh(alloc, text)?;
+    bytes.push(1)?;
+    split(alloc, bytes.as_slice())
+}
+
+/// The fields of a message of C1 to GATE: its text, with the names behind.
+pub fn from_client(alloc: Global, text: &[u8]) -> Result<Option<Fields>, AllocError> {
+    let mut whole = Vec::from_slice(alloc, text)?;
+    whole.extend_from_slice(b"|49=C1|56=GATE")?;
+    fields_of(alloc, whole.as_slice())
+}
+
+/// Whether a field is shown only in whole frames: framing, names, moments.
+fn is_hidden(tag: u32) -> bool {
+    matches!(tag, 8 | 9 | 10 | 49 | 56 | 52 | 122 | 60)
+}
+
+/// Adds fields as they are shown, and ends the line.
+fn show_fields(shown: &mut Vec<u8>, fields: &Fields, is_whole: bool) -> Result<(), AllocError> {
+    for i in 0..fields.len() {
+        let field = fields.at(i);
+        if is_whole || !is_hidden(field.tag) {
+            let mut buffer = Buffer::new();
+            shown.extend_from_slice(buffer.format(field.tag).as_bytes())?;
+            shown.push(b'=')?;
+            shown.extend_from_slice(field.value)?;
+            shown.push(b'|')?;
+        }
+    }
+    shown.push(b'\n')?;
+    Ok(())
+}
+
+/// Adds a frame as it is shown, in a line of its own.
+fn show_frame(
+    alloc: Global,
+    shown: &mut Vec<u8>,
+    bytes: &[u8],
+    is_whole: bool,
+) -> Result<(), AllocError> {
+    match split(alloc, bytes)? {
+        Some(fields) => show_fields(shown, &fields, is_whole),
+        None => {
+            shown.extend_from_slice(b"no fields\n")?;
+            Ok(())
+        }
+    }
+}
+
+/// Adds a message that is given up, by the fields that its type keeps.
+fn show_message(alloc: Global, shown: &mut Vec<u8>, message: &AppMsg) -> Result<(), AllocError> {
+    let fields = match message {
+        AppMsg::New(order) => order.put(alloc)?,
+        AppMsg::Cancel(request) => request.put(alloc)?,
+        AppMsg::Replace(request) => request.put(alloc)?,
+    };
+    shown.extend_from_slice(b"given up ")?;
+    show_fields(shown, &fields, true)
+}
+
+/// Adds a turn as it is shown: a line for each output, and one for a message that is given up.
+pub fn show_turn(
+    alloc: Global,
+    shown: &mut Vec<u8>,
+    turn: &SessionTurn,
+    is_whole: bool,
+) -> Result<(), AllocError> {
+    for out in &turn.outs {
+        match out {
+            SessionOut::Close => shown.extend_from_slice(b"close\n")?,
+            SessionOut::Frame(bytes) => show_frame(alloc, shown, bytes.as_slice(), is_whole)?,
+        }
+    }
+    match &turn.app {
+        Some(message) => show_message(alloc, shown, message),
+        None => Ok(()),
+    }
+}
