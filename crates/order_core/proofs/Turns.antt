@@ -1,5 +1,5 @@
 -- A call that meets the machine leads on, as a turn.
-use Rattle.std.proofs.Common.{◌≡◌, ℕ, List, [], ◌∷◌, map, refl, sym, ap, ◌∙◌, Some, None, Result, Ok, Err}
+use Rattle.std.proofs.Common.{◌≡◌, ℕ, true, List, [], ◌∷◌, map, refl, sym, ap, ◌∙◌, Some, None, Result, Ok, Err}
 use Rattle.std.specs.Prelude.{MatchResult}
 use Rattle.fix_types.specs.declared.application.AppMsg.{AppMsg}
 use Rattle.fix_types.specs.declared.application.AppMsg.TheVariants as messages
@@ -20,7 +20,7 @@ use Rattle.order_core.specs.declared.outcome.MarketOut.{MarketOut}
 use Rattle.order_core.specs.declared.port_state.PortState.{PortState}
 use Rattle.order_core.specs.Meets.{GivesMarket, MeetsMarket, MeetsMessage}
 use Rattle.order_core.specs.Seen.{body, number_of, port_seen}
-use Rattle.order_core.specs.Turns.{IsTurn, body_fields, client_turn, fault_turn, market_turn, told_turn}
+use Rattle.order_core.specs.Turns.{IsTurn, body_fields, is_served_message, client_turn, fault_turn, market_turn, told_turn}
 
 same-bodies : (reports : List Report) → map body_fields (map body reports) ≡ map report_fields reports
 same-bodies [] = refl
@@ -38,8 +38,10 @@ for-client s client d (Refused code why) = refl
 
 -- a client's call
 pub Leaves-client : (terms : List Terms) (before : History) (old : State) (client : ℕ) (message : AppMsg) (port : PortState) (out : CoreOut) (new : State)
-    → MeetsMessage old client message (port_seen port) out new → Leaves terms before old → Leaves terms (client_turn client message port out ∷ before) new
-Leaves-client terms before old client (messages.New d) port out new meets leaves =
+    → is_served_message message ≡ true → MeetsMessage old client message (port_seen port) out new → Leaves terms before old → Leaves terms (client_turn client message port out ∷ before) new
+Leaves-client terms before old client (messages.Cancel d) port out new served meets leaves = absurd (cc)
+Leaves-client terms before old client (messages.Replace d) port out new served meets leaves = absurd (cc)
+Leaves-client terms before old client (messages.New d) port out new served meets leaves =
     let v = verdict_in old client (port_seen port) d in
     Leaves-more terms before old (client_turn client (messages.New d) port out) new leaves (
       d,

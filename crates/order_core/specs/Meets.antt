@@ -1,8 +1,8 @@
 -- When the code's outcome is what the table's machine gives.
-use Rattle.std.specs.Prelude.{◌≡◌, ℕ, ◌+◌, List, Option, Some, None, Result, MatchResult, map}
+use Rattle.std.specs.Prelude.{◌≡◌, ℕ, ◌+◌, List, [], Option, Some, None, Result, MatchResult, map}
 use Rattle.tokens.specs.TokenText.{token_text}
 use Rattle.fix_types.specs.declared.application.AppMsg.{AppMsg}
-use Rattle.fix_types.specs.declared.application.AppMsg.TheVariants.{New}
+use Rattle.fix_types.specs.declared.application.AppMsg.TheVariants.{New, Cancel, Replace}
 use Rattle.fix_types.specs.declared.new_order.NewOrder.{NewOrder}
 use Rattle.fix_types.specs.NewOrder.{new_order_fields}
 use Rattle.ouch_codec.specs.declared.inbound.enter_order.EnterOrder.{EnterOrder}
@@ -31,9 +31,17 @@ abbrev pub MeetsClient : State → ℕ → NewOrder → Port → CoreOut → Sta
 MeetsClient old client d port out new =
     GivesClient (terms_of old.terms client).standing port (client_step old client d port) out new
 
+-- cancels and replaces aren't served yet: nothing comes of one
+pub record IsPassedOver (old : State) (out : CoreOut) (new : State) : Type 0 where
+  pub state : new ≡ old
+  pub bodies : out.bodies.items ≡ []
+  pub sends : out.sends.items ≡ []
+
 -- a client's message
 abbrev pub MeetsMessage : State → ℕ → AppMsg → Port → CoreOut → State → Type 0
 MeetsMessage old client (New d) port out new = MeetsClient old client d port out new
+MeetsMessage old client (Cancel request) port out new = IsPassedOver old out new
+MeetsMessage old client (Replace request) port out new = IsPassedOver old out new
 
 -- clients are told what the machine gives, and the table is the machine's
 pub record GivesMarket (g : Given) (out : MarketOut) (new : State) : Type 0 where

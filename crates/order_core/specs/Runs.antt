@@ -9,7 +9,7 @@ use Rattle.order_core.specs.declared.runs.Event.{Event}
 use Rattle.order_core.specs.declared.runs.Event.TheVariants.{Came, Heard}
 use Rattle.order_core.specs.declared.runs.Outcome.{Outcome}
 use Rattle.order_core.specs.Seen.{client_seen, port_seen}
-use Rattle.order_core.specs.Turns.{body_fields, message_fields}
+use Rattle.order_core.specs.Turns.{body_fields, is_served_message, message_fields}
 
 abbrev pub event_of : Event → law.Event
 event_of (Came client message port) = law.Came client (message_fields message) (port_seen port)
@@ -42,9 +42,9 @@ abbrev pub is_known : ℕ → Event → Bool
 is_known clients (Came client message port) = nat_le 1 client && nat_le client clients
 is_known clients (Heard port payload) = true
 
--- a payload is no message of a type that isn't served yet
+-- a message is a new order, and a payload no message of a type that isn't served yet
 abbrev pub is_served : Event → Bool
-is_served (Came client message port) = true
+is_served (Came client message port) = is_served_message message
 is_served (Heard port payload) = not (is_later_type (type_of payload.items))
 
 abbrev pub AreKnown : ℕ → List Event → Type 0

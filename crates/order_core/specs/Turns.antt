@@ -1,10 +1,13 @@
 -- Calls of the order machine as turns of a history.
-use Rattle.std.specs.Prelude.{ℕ, List, [], Some, None, map, Result, Ok, Err}
+use Rattle.std.specs.Prelude.{ℕ, Bool, true, false, List, [], Some, None, map, Result, Ok, Err}
 use Rattle.fix_types.specs.declared.application.AppBody.{AppBody}
 use Rattle.fix_types.specs.declared.application.AppBody.TheVariants as bodies
 use Rattle.fix_types.specs.declared.application.AppMsg.{AppMsg}
 use Rattle.fix_types.specs.declared.application.AppMsg.TheVariants as messages
+use Rattle.fix_types.specs.CancelReject.{cancel_reject_fields}
+use Rattle.fix_types.specs.CancelRequest.{cancel_request_fields}
 use Rattle.fix_types.specs.NewOrder.{new_order_fields}
+use Rattle.fix_types.specs.ReplaceRequest.{replace_request_fields}
 use Rattle.fix_types.specs.Report.{report_fields}
 use Rattle.ouch_codec.specs.Inbound.{inbound_bytes}
 use Rattle.order_law.specs.Messages.{Message}
@@ -19,9 +22,18 @@ use Rattle.order_core.specs.Seen.{client_seen, number_of, port_seen}
 -- a client's message, and a body for a client, as fields
 abbrev pub message_fields : AppMsg → Message
 message_fields (messages.New order) = new_order_fields order
+message_fields (messages.Cancel request) = cancel_request_fields request
+message_fields (messages.Replace request) = replace_request_fields request
 
 abbrev pub body_fields : AppBody → Message
 body_fields (bodies.Report report) = report_fields report
+body_fields (bodies.CancelReject reject) = cancel_reject_fields reject
+
+-- the messages that are served: new orders
+abbrev pub is_served_message : AppMsg → Bool
+is_served_message (messages.New order) = true
+is_served_message (messages.Cancel request) = false
+is_served_message (messages.Replace request) = false
 
 -- a client's turn
 abbrev pub client_turn : ℕ → AppMsg → PortState → CoreOut → Turn

@@ -53,14 +53,15 @@ impl Model for OrderCore {
 }
 
 impl OrderCore {
+    ghost use Rattle.std.specs.Prelude.{true, false};
     ghost use Rattle.order_law.specs.Headline.{Headline};
     ghost use Rattle.order_law.specs.History.{History, Terms};
     ghost use Rattle.order_machine.specs.Machine.{market_step};
     ghost use Rattle.order_machine.specs.Runs.{IsServed, Leaves};
     ghost use Rattle.order_core.specs.Seen.{port_seen, terms_seen};
-    ghost use Rattle.order_core.specs.Meets.{MeetsMarket, MeetsMessage};
+    ghost use Rattle.order_core.specs.Meets.{IsPassedOver, MeetsMarket, MeetsMessage};
     ghost use Rattle.order_core.specs.State.{clients, IsClient, issued, HasRoom};
-    ghost use Rattle.order_core.specs.Turns.{IsTurn, client_turn, market_turn};
+    ghost use Rattle.order_core.specs.Turns.{IsTurn, client_turn, is_served_message, market_turn};
 
     /// The machine of these clients, with no orders.
     #[tactic(auto, unfolding(order_machine::specs::Runs::Leaves))]
@@ -82,7 +83,7 @@ impl OrderCore {
     /// Steps an application message of a client, whose port stands as given. The client is one of the terms'.
     ///
     /// A new order is accepted, with a report and, where the port is up, the message that asks it of the market; or it
-    /// is refused by the first row of its table that holds, in one report. `AllocError` leaves the machine as it was.
+    /// is refused by the first row of its table that holds, in one report. Nothing comes of a cancel or a replace yet. `AllocError` leaves the machine as it was.
     pub fn client(
         &mut self,
         alloc: Global,
@@ -92,10 +93,11 @@ impl OrderCore {
     ) -> Result<CoreOut, AllocError>
         requires client { IsClient self.old client }
         requires room { HasRoom self.old }
-        ensures leaves { IfOk result (λ out. (terms : List Terms) (before : History) → Leaves terms before self.old
-            → Leaves terms (client_turn client message.now port out ∷ before) self.new) }
-        ensures headline { IfOk result (λ out. (terms : List Terms) (before : History) → length before < 2 ^ 58
-            → Leaves terms before self.old → Headline terms (client_turn client message.now port out ∷ before)) }
+        ensures leaves { IfOk result (λ out. is_served_message message.now ≡ true → (terms : List Terms) (before : History)
+            → Leaves terms before self.old → Leaves terms (client_turn client message.now port out ∷ before) self.new) }
+        ensures headline { IfOk result (λ out. is_served_message message.now ≡ true → (terms : List Terms) (before : History)
+            → length before < 2 ^ 58 → Leaves terms before self.old → Headline terms (client_turn client message.now port out ∷ before)) }
+        ensures passed { is_served_message message.now ≡ false → IfOk result (λ out. IsPassedOver self.old out self.new) }
         ensures clients { clients self.new ≡ clients self.old }
         ensures issued { issued self.new ≤ issued self.old + 3 }
         ensures err { OnErr result (self.new ≡ self.old) }
@@ -145,6 +147,7 @@ impl OrderCore {
     {
         match message {
             AppMsg::New(order) => self.new_order(alloc, client, order, port),
+            AppMsg::Cancel(_) | AppMsg::Replace(_) => Ok(CoreOut::nothing(alloc)),
         }
     }
 

@@ -7,7 +7,7 @@ ghost use Rattle.order_machine.specs.Runs.{IsRun, IsServed, Leaves};
 ghost use Rattle.order_core.specs.Runs.{AreKnown, AreServed, history, is_known, is_served, outcome_turn, turn_of};
 ghost use Rattle.order_core.specs.Seen.{port_seen, terms_seen};
 ghost use Rattle.order_core.specs.State.{clients, issued, HasRoom, IsClient};
-ghost use Rattle.order_core.specs.Turns.{message_fields};
+ghost use Rattle.order_core.specs.Turns.{is_served_message, message_fields};
 
 use crate::client_terms::ClientTerms;
 use crate::market_fault::MarketFault;
@@ -78,10 +78,10 @@ fn client_outcome(
 ) -> Result<Outcome, AllocError>
     requires client { IsClient core.old client }
     requires room { HasRoom core.old }
-    ensures leaves { IfOk result (λ outcome. (terms : List Terms) (before : History) → Leaves terms before core.old
-        → Leaves terms (outcome_turn (Came client (message_fields message.now) (port_seen port)) outcome ∷ before) core.new) }
-    ensures headline { IfOk result (λ outcome. (terms : List Terms) (before : History) → length before < 2 ^ 58
-        → Leaves terms before core.old
+    ensures leaves { IfOk result (λ outcome. is_served_message message.now ≡ true → (terms : List Terms) (before : History)
+        → Leaves terms before core.old → Leaves terms (outcome_turn (Came client (message_fields message.now) (port_seen port)) outcome ∷ before) core.new) }
+    ensures headline { IfOk result (λ outcome. is_served_message message.now ≡ true → (terms : List Terms) (before : History)
+        → length before < 2 ^ 58 → Leaves terms before core.old
         → Headline terms (outcome_turn (Came client (message_fields message.now) (port_seen port)) outcome ∷ before)) }
     ensures clients { clients core.new ≡ clients core.old }
     ensures issued { issued core.new ≤ issued core.old + 3 }
