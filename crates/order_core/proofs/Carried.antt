@@ -8,8 +8,8 @@ use Rattle.order_law.specs.Verdicts.{Port, Verdict}
 use Rattle.order_machine.specs.Table.{State}
 use Rattle.order_machine.specs.Machine.{Given, by_verdict, refuse, verdict_in}
 use Rattle.order_core.specs.declared.outcome.CoreOut.{CoreOut}
-use Rattle.order_core.specs.declared.refusal.Refusal.{Refusal}
-use Rattle.order_core.specs.Refusals.{code_of, refused_by, words_of}
+use Rattle.to_market.specs.declared.refusal.Refusal.{Refusal}
+use Rattle.to_market.specs.Refusals.{code_of, refused_by, words_of}
 use Rattle.order_core.specs.declared.market_fault.MarketFault.{MarketFault}
 use Rattle.order_core.specs.declared.outcome.MarketOut.{MarketOut}
 use Rattle.order_core.specs.Meets.{GivesClient, MeetsClient, MeetsMarket}

@@ -1,7 +1,3 @@
-pub mod Inside
-pub mod Fields
-pub mod Verdict
-pub mod EnterOrders
 pub mod Terms
 pub mod Places
 pub mod Opening

@@ -7,10 +7,10 @@ use Rattle.order_law.specs.Messages.{Message}
 use Rattle.order_law.specs.Verdicts.{Port, Row, Verdict, Accepted, Refused, first_row, field_rows, last_token, most_open, port_rows, rows_of_new}
 use Rattle.order_machine.specs.Table.{State, has_used, open_count}
 use Rattle.order_machine.specs.Machine.{verdict_in}
-use Rattle.order_core.specs.declared.refusal.Refusal.{Refusal}
-use Rattle.order_core.specs.declared.refusal.Refusal.TheVariants as refusals
-use Rattle.order_core.specs.FieldRows.{row}
-use Rattle.order_core.specs.Refusals.{refused_by}
+use Rattle.to_market.specs.declared.refusal.Refusal.{Refusal}
+use Rattle.to_market.specs.declared.refusal.Refusal.TheVariants as refusals
+use Rattle.to_market.specs.FieldRows.{row}
+use Rattle.to_market.specs.Refusals.{refused_by}
 
 -- the second verdict where the first accepts
 abbrev follows : Verdict → Verdict → Verdict

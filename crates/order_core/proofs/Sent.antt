@@ -9,10 +9,10 @@ use Rattle.order_law.specs.Headline.{Says, Sends}
 use Rattle.order_law.specs.History.{Asked, Terms, terms_of}
 use Rattle.order_law.specs.Verdicts.{Port, Down, Up, Ended, Faulted}
 use Rattle.order_machine.specs.Table.{State}
-use Rattle.order_core.specs.declared.client_terms.ClientTerms.{ClientTerms}
-use Rattle.order_core.specs.declared.to_market.new_ask.NewAsk.{NewAsk}
+use Rattle.to_market.specs.declared.client_terms.ClientTerms.{ClientTerms}
+use Rattle.to_market.specs.declared.new_ask.NewAsk.{NewAsk}
 use Rattle.order_core.specs.Meets.{AsksNext}
-use Rattle.order_core.specs.NewAsks.{AsksAs, asked_with, enter_bytes, standing_of}
+use Rattle.to_market.specs.NewAsks.{AsksAs, asked_with, enter_bytes, standing_of}
 use Rattle.order_core.specs.Seen.{terms_seen}
 
 -- where nothing is asked, nothing is sent, however the port stands

@@ -3,7 +3,7 @@ use Rattle.std.proofs.Common.{◌≡◌, ℕ, zero, suc, ◌+◌, ◌-◌, ◌�
 use Rattle.std.proofs.lemmas.Bool.Decides.{nat_tests}
 use Rattle.std.specs.Prelude.{Option, Some, slice_get, unwrap_or, ◌==◌}
 use Rattle.order_law.specs.History.{terms_of}
-use Rattle.order_core.specs.declared.client_terms.ClientTerms.{ClientTerms}
+use Rattle.to_market.specs.declared.client_terms.ClientTerms.{ClientTerms}
 use Rattle.order_core.specs.Seen.{terms_seen}
 
 at_place : (ts : List ClientTerms) (k : ℕ) (t : ClientTerms) → slice_get ts k ≡ Some t → terms_of (map terms_seen ts) (k + 1) ≡ terms_seen t

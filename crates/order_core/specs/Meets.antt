@@ -17,7 +17,7 @@ use Rattle.order_core.specs.declared.market_fault.MarketFault.{MarketFault}
 use Rattle.order_core.specs.declared.market_fault.MarketFault.TheVariants.{NoMemory, Undecodable, UnknownToken, NotLawful, OutsideProfile}
 use Rattle.order_core.specs.declared.outcome.CoreOut.{CoreOut}
 use Rattle.order_core.specs.declared.outcome.MarketOut.{MarketOut}
-use Rattle.order_core.specs.NewAsks.{enter_bytes}
+use Rattle.to_market.specs.NewAsks.{enter_bytes}
 use Rattle.order_core.specs.Seen.{body, client_seen, number_of}
 
 -- a client is told, and the market asked, what the machine gives, and the table is the machine's

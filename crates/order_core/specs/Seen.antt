@@ -5,7 +5,7 @@ use Rattle.fix_types.specs.declared.application.AppBody.TheVariants as bodies
 use Rattle.fix_types.specs.declared.report.Report.{Report}
 use Rattle.order_law.specs.History.{Terms}
 use Rattle.order_law.specs.Verdicts.{Port, Down, Up, Ended, Faulted}
-use Rattle.order_core.specs.declared.client_terms.ClientTerms.{ClientTerms}
+use Rattle.to_market.specs.declared.client_terms.ClientTerms.{ClientTerms}
 use Rattle.order_core.specs.declared.market_fault.MarketFault.{MarketFault}
 use Rattle.order_core.specs.declared.market_fault.MarketFault.TheVariants as faults
 use Rattle.order_core.specs.declared.port_state.PortState.{PortState}

@@ -6,18 +6,15 @@
 //! Source: FIX 4.4 Volume 4, "Order State Change Matrices"; OUCH 4.2, order messages.
 #![tactic(auto)]
 
-mod client_terms;
 mod market_fault;
 mod order_core;
 mod orders;
 mod outcome;
 mod port_state;
-mod refusal;
 mod runs;
 mod to_client;
-mod to_market;
 
-pub use client_terms::ClientTerms;
+pub use to_market::ClientTerms;
 pub use market_fault::MarketFault;
 pub use order_core::OrderCore;
 pub use outcome::{CoreOut, MarketOut};

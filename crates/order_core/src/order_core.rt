@@ -8,7 +8,6 @@ ghost use Rattle.order_machine.specs.Machine.{Given};
 ghost use Rattle.order_core.specs.Meets.{IsFaultOf};
 ghost use Rattle.order_core.specs.Opening.{fault_of_refusal};
 
-use crate::client_terms::ClientTerms;
 use crate::market_fault::MarketFault;
 use crate::orders::{Order, UsedId};
 use crate::outcome::{CoreOut, MarketOut};
@@ -17,6 +16,7 @@ use fix_types::AppMsg;
 use ouch_codec::{DecodeRefusal, Outbound, decode};
 use std::alloc::{AllocError, Global};
 use std::marker::Model;
+use to_market::ClientTerms;
 
 /// The orders of all clients, and what is promised of them.
 ///

@@ -9,13 +9,13 @@ ghost use Rattle.order_core.specs.Seen.{port_seen, terms_seen};
 ghost use Rattle.order_core.specs.State.{clients, issued, HasRoom, IsClient};
 ghost use Rattle.order_core.specs.Turns.{is_served_message, message_fields};
 
-use crate::client_terms::ClientTerms;
 use crate::market_fault::MarketFault;
 use crate::order_core::OrderCore;
 use crate::port_state::PortState;
 use fix_types::{AppBody, AppMsg};
 use ouch_codec::Inbound;
 use std::alloc::{AllocError, Global};
+use to_market::ClientTerms;
 
 /// What comes to the order level.
 #[derive(Debug, Drop)]

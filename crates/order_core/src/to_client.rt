@@ -3,17 +3,17 @@
 ghost use Rattle.std.specs.Prelude.{◌≡◌, IfOk, decimal};
 ghost use Rattle.fixed_point.specs.Price as spec;
 ghost use Rattle.order_machine.specs.Machine.{report_of, refusal_of};
-ghost use Rattle.order_core.specs.Refusals.{code_of, words_of};
+ghost use Rattle.to_market.specs.Refusals.{code_of, words_of};
 ghost use Rattle.order_core.specs.Amounts.{with_amounts};
 
 use crate::orders::Order;
-use crate::refusal::Refusal;
 use fix_fields::Text;
 use fix_types::{NewOrder, Report};
 use fix_values::{Character, ClOrdId, ExecType, FloatText, OrdStatus};
 use fixed_point::print_price;
 use itoa::Buffer;
 use std::alloc::{AllocError, Global};
+use to_market::Refusal;
 
 /// What a report says of an order in numbers.
 #[derive(Clone, Copy, Debug)]

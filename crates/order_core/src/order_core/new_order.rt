@@ -10,18 +10,15 @@ ghost use Rattle.order_law.specs.Headline.{Says, Sends};
 ghost use Rattle.order_law.specs.History.{Asked, terms_of};
 ghost use Rattle.order_law.specs.Verdicts.{Accepted, first_row, port_rows, last_token};
 ghost use Rattle.order_machine.specs.Machine.{report_of};
-ghost use Rattle.order_core.specs.NewAsks.{enter_bytes};
-ghost use Rattle.order_core.specs.Refusals.{refused_by};
+ghost use Rattle.to_market.specs.NewAsks.{enter_bytes};
+ghost use Rattle.to_market.specs.Refusals.{refused_by};
 ghost use Rattle.order_core.specs.Seen.{port_seen, terms_seen};
 
 use super::OrderCore;
-use crate::client_terms::ClientTerms;
 use crate::orders::{Order, UsedId, is_used, open_count};
 use crate::outcome::CoreOut;
 use crate::port_state::PortState;
-use crate::refusal::Refusal;
 use crate::to_client::{Amounts, refusal_report, report};
-use crate::to_market::{ask_of, enter_order, refuse_if};
 use fix_fields::Text;
 use fix_types::{AppBody, NewOrder, Report};
 use fix_values::{ClOrdId, ExecType, OrdStatus};
@@ -29,6 +26,7 @@ use order_law::Stage;
 use ouch_codec::{EnterOrder, Inbound};
 use std::alloc::{AllocError, Global};
 use tokens::Token;
+use to_market::{ClientTerms, Refusal, ask_of, enter_order, refuse_if};
 
 /// How many orders of a client may be open or waiting.
 const MOST_OPEN: usize = 10_000;
@@ -41,7 +39,7 @@ impl OrderCore {
     ghost use Rattle.order_machine.specs.Machine as machine;
     ghost use Rattle.order_machine.specs.Machine.{verdict_in};
     ghost use Rattle.order_core.specs.Meets.{AsksNext, GivesClient, MeetsClient};
-    ghost use Rattle.order_core.specs.Refusals.{code_of, refused_by, words_of};
+    ghost use Rattle.to_market.specs.Refusals.{code_of, refused_by, words_of};
     ghost use Rattle.order_core.specs.Seen.{port_seen, terms_seen};
     ghost use Rattle.order_core.specs.State.{clients, IsClient, issued, HasRoom};
 

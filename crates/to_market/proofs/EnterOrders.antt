@@ -13,9 +13,9 @@ use Rattle.order_law.specs.Headline.{Says}
 use Rattle.ouch_codec.specs.ToMarket as said
 use Rattle.order_law.specs.Messages.{Message, text, character}
 use Rattle.order_law.specs.Asks.{ask_of_bytes, asked_by_new, side_of_letter, life_time_of_seconds, total_of, limit_of, minimum_of, display_of, life_time_of, capacity_of}
-use Rattle.order_core.specs.declared.client_terms.ClientTerms.{ClientTerms}
-use Rattle.order_core.specs.declared.to_market.new_ask.NewAsk.{NewAsk}
-use Rattle.order_core.specs.NewAsks.{AsksAs, standing_of, asked_with}
+use Rattle.to_market.specs.declared.client_terms.ClientTerms.{ClientTerms}
+use Rattle.to_market.specs.declared.new_ask.NewAsk.{NewAsk}
+use Rattle.to_market.specs.NewAsks.{AsksAs, standing_of, asked_with}
 
 -- an Enter Order that has what was asked, and what its client's terms are
 pub record Enters (ask : NewAsk) (terms : ClientTerms) (enter : EnterOrder) : Type 0 where

@@ -12,8 +12,8 @@ use Rattle.fix_types.proofs.NewOrderValues.{side-value, symbol-value, quantity-v
 use Rattle.order_law.specs.Messages.{Message, has, text, is, is_one_of, character}
 use Rattle.order_law.specs.Asks.{Day, Immediate, total_of, limit_of, minimum_of, display_of, life_time_of, capacity_of}
 use Rattle.order_law.specs.Verdicts.{Row, field_rows, sides, life_times, capacities, is_symbol, is_minimum}
-use Rattle.order_core.specs.declared.refusal.Refusal.TheVariants as refusals
-use Rattle.order_core.specs.FieldRows.{is_among, is_other, life_time, display, minimum, is_no_minimum, is_out_of_range, row, rows_of}
+use Rattle.to_market.specs.declared.refusal.Refusal.TheVariants as refusals
+use Rattle.to_market.specs.FieldRows.{is_among, is_other, life_time, display, minimum, is_no_minimum, is_out_of_range, row, rows_of}
 
 -- the tests on a value that may be missing
 other_test : (wanted : List (List ℕ)) (v : Option (List ℕ)) → (is_some v && not (list_any (λ wanted_text. bytes_eq (unwrap_or v []) wanted_text) wanted)) ≡ is_other wanted v

@@ -1,7 +1,7 @@
 use Rattle.std.proofs.Common.{rules, refl}
 use Rattle.ouch_codec.specs.declared.inbound.enter_order.EnterOrder.{EnterOrder}
-use Rattle.order_core.proofs.EnterOrders.{Enters, says_what_is_asked}
-use Rattle.order_core.proofs.to_market.enter_order.Goals as goal
+use Rattle.to_market.proofs.EnterOrders.{Enters, says_what_is_asked}
+use Rattle.to_market.proofs.asking.enter_order.Goals as goal
 
 pub returns-clause-says : goal.returns-clause-says
 returns-clause-says c =

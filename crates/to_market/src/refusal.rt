@@ -2,7 +2,7 @@
 
 ghost use Rattle.std.specs.Prelude.{◌≡◌, ◌++◌, IfOk, codes, decimal};
 ghost use Rattle.fix_fields.specs.Field.{IsValue};
-ghost use Rattle.order_core.specs.Refusals.{code_of, words_of, fixed_words};
+ghost use Rattle.to_market.specs.Refusals.{code_of, words_of, fixed_words};
 
 use fix_fields::Text;
 use itoa::Buffer;

@@ -1,7 +1,7 @@
 -- What each refusal says, and the row of the verdicts that it stands for.
 use Rattle.std.specs.Prelude.{ℕ, List, ◌++◌, codes, decimal}
-use Rattle.order_core.specs.declared.refusal.Refusal.{Refusal}
-use Rattle.order_core.specs.declared.refusal.Refusal.TheVariants.{DuplicateClOrdId, PortEnded, PortFaulted, Side, Symbol, OrderType, TimeInForce, ExecutionInstruction, Capacity, Quantity, MinimumQuantity, PriceMissing, PriceNotExact, PriceOutOfRange, TooManyOpenOrders, NoTokenLeft}
+use Rattle.to_market.specs.declared.refusal.Refusal.{Refusal}
+use Rattle.to_market.specs.declared.refusal.Refusal.TheVariants.{DuplicateClOrdId, PortEnded, PortFaulted, Side, Symbol, OrderType, TimeInForce, ExecutionInstruction, Capacity, Quantity, MinimumQuantity, PriceMissing, PriceNotExact, PriceOutOfRange, TooManyOpenOrders, NoTokenLeft}
 use Rattle.order_law.specs.Verdicts.{Verdict, Refused}
 
 -- OrdRejReason (103)

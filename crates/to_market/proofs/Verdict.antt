@@ -10,13 +10,13 @@ use Rattle.fix_types.specs.declared.new_order.NewOrder.{NewOrder}
 use Rattle.fix_values.specs.Slots.{char_text}
 use Rattle.fix_types.specs.NewOrder.{new_order_fields}
 use Rattle.order_law.specs.Verdicts.{first_row, field_rows, sides, life_times, capacities, is_symbol}
-use Rattle.order_core.specs.declared.refusal.Refusal.TheVariants as refusals
-use Rattle.order_core.specs.Refusals.{refused_by}
-use Rattle.order_core.specs.FieldRows.{is_among, is_other, is_no_minimum, price_rows, amount_rows}
-use Rattle.order_core.specs.FieldRows.{life_time, display, minimum}
-use Rattle.order_core.specs.NewAsks.{AsksAs}
-use Rattle.order_core.specs.declared.to_market.new_ask.NewAsk.{NewAsk}
-use Rattle.order_core.proofs.Fields.{field_rows-fields, character-fields, symbol-fields, total_of-fields, limit_of-fields, life_time_of-fields, display_of-fields, capacity_of-fields, minimum_of-fields}
+use Rattle.to_market.specs.declared.refusal.Refusal.TheVariants as refusals
+use Rattle.to_market.specs.Refusals.{refused_by}
+use Rattle.to_market.specs.FieldRows.{is_among, is_other, is_no_minimum, price_rows, amount_rows}
+use Rattle.to_market.specs.FieldRows.{life_time, display, minimum}
+use Rattle.to_market.specs.NewAsks.{AsksAs}
+use Rattle.to_market.specs.declared.new_ask.NewAsk.{NewAsk}
+use Rattle.to_market.proofs.Fields.{field_rows-fields, character-fields, symbol-fields, total_of-fields, limit_of-fields, life_time_of-fields, display_of-fields, capacity_of-fields, minimum_of-fields}
 use Rattle.order_law.specs.Asks.{LifeTime, side_of_letter, life_time_of_seconds}
 use Rattle.ouch_codec.specs.Letters.{side_letter}
 use Rattle.ouch_codec.specs.Parts.{unpadded}

@@ -10,9 +10,9 @@ use Rattle.fix_types.specs.declared.new_order.NewOrder.{NewOrder}
 use Rattle.fix_values.specs.Slots.{char_text}
 use Rattle.order_law.specs.Asks.{LifeTime, Day, Immediate}
 use Rattle.order_law.specs.Verdicts.{Row, sides, life_times, capacities, is_symbol}
-use Rattle.order_core.specs.declared.refusal.Refusal.{Refusal}
-use Rattle.order_core.specs.declared.refusal.Refusal.TheVariants as refusals
-use Rattle.order_core.specs.Refusals.{code_of, words_of}
+use Rattle.to_market.specs.declared.refusal.Refusal.{Refusal}
+use Rattle.to_market.specs.declared.refusal.Refusal.TheVariants as refusals
+use Rattle.to_market.specs.Refusals.{code_of, words_of}
 
 abbrev letter : List ℕ → ℕ
 letter name = slice_index name 0

@@ -9,8 +9,8 @@ use Rattle.ouch_codec.specs.Rows.{enter_order_row}
 use Rattle.order_law.specs.Messages.{Message, text, character}
 use Rattle.order_law.specs.Asks.{Standing, total_of, limit_of, minimum_of, display_of, life_time_of, capacity_of, asked_by_new, side_of_letter, life_time_of_seconds}
 use Rattle.order_law.specs.History.{Asked, SaysNew}
-use Rattle.order_core.specs.declared.client_terms.ClientTerms.{ClientTerms}
-use Rattle.order_core.specs.declared.to_market.new_ask.NewAsk.{NewAsk}
+use Rattle.to_market.specs.declared.client_terms.ClientTerms.{ClientTerms}
+use Rattle.to_market.specs.declared.new_ask.NewAsk.{NewAsk}
 
 -- An ask says what a new order asks, field by field, of a client that has this capacity of its own.
 pub record AsksAs (ask : NewAsk) (own : ℕ) (m : Message) : Type 0 where

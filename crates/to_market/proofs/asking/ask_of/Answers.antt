@@ -1,8 +1,8 @@
 use Rattle.std.proofs.Common.{rules, ◌≡◌, ◌∙◌}
 use Rattle.order_law.specs.Verdicts.{Accepted, first_row}
-use Rattle.order_core.specs.FieldRows.{price_rows}
-use Rattle.order_core.proofs.Verdict.{PassesTerms, by_quantity, by_price, AsksAs-fields}
-use Rattle.order_core.proofs.to_market.ask_of.Goals as goal
+use Rattle.to_market.specs.FieldRows.{price_rows}
+use Rattle.to_market.proofs.Verdict.{PassesTerms, by_quantity, by_price, AsksAs-fields}
+use Rattle.to_market.proofs.asking.ask_of.Goals as goal
 
 pub returns-in_err-shares-clause-verdict : goal.returns-in_err-shares-clause-verdict
 returns-in_err-shares-clause-verdict c =

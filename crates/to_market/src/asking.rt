@@ -10,20 +10,18 @@ ghost use Rattle.order_law.specs.Asks.{side_of_letter, life_time_of_seconds};
 ghost use Rattle.order_law.specs.Headline.{Says};
 ghost use Rattle.order_law.specs.Messages.{Message};
 ghost use Rattle.order_law.specs.Verdicts.{Accepted, first_row, field_rows, sides, life_times, capacities, is_symbol};
-ghost use Rattle.order_core.specs.FieldRows.{is_among, is_other, is_no_minimum, price_rows};
-ghost use Rattle.order_core.specs.FieldRows as fields;
-ghost use Rattle.order_core.specs.NewAsks.{AsksAs, asked_with, enter_bytes, standing_of};
-ghost use Rattle.order_core.specs.Refusals.{refused_by};
-
-mod new_ask;
+ghost use Rattle.to_market.specs.FieldRows.{is_among, is_other, is_no_minimum, price_rows};
+ghost use Rattle.to_market.specs.FieldRows as fields;
+ghost use Rattle.to_market.specs.NewAsks.{AsksAs, asked_with, enter_bytes, standing_of};
+ghost use Rattle.to_market.specs.Refusals.{refused_by};
 
 use crate::client_terms::ClientTerms;
+use crate::new_ask::NewAsk;
 use crate::refusal::Refusal;
 use fix_fields::Text;
 use fix_types::NewOrder;
 use fix_values::{Character, FloatText};
 use fixed_point::{DecimalRefusal, Price4, Shares, parse_price, parse_qty};
-pub use new_ask::NewAsk;
 use ouch_codec::{EnterOrder, Side};
 use tokens::Token;
 use wire_law::{are_visible, padded};

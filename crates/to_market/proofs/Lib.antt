@@ -1,0 +1,4 @@
+pub mod Inside
+pub mod Fields
+pub mod Verdict
+pub mod EnterOrders
