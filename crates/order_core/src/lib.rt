@@ -14,12 +14,12 @@ mod port_state;
 mod runs;
 mod to_client;
 
-pub use to_market::ClientTerms;
 pub use market_fault::MarketFault;
 pub use order_core::OrderCore;
 pub use outcome::{CoreOut, MarketOut};
 pub use port_state::PortState;
 pub use runs::{Event, Outcome, run, step};
+pub use to_market::ClientTerms;
 
 #[cfg(test)]
 mod tests;

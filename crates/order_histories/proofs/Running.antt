@@ -43,7 +43,7 @@ module _ (terms : List Terms) (before : History) (s : State) (t : IsTable terms 
       by_found None e = absurd (never (has_used s.used client (text 11 m)) (length s.tokens) (rw (old, e) at v))
       by_found (Some o) e = (
         subst (λ (c : ℕ). by_id s c (text 41 m) ≡ Some o → verdict_in s c port m ≡ Accepted → Steps terms before s t short c m port sends (accept_on s c m (Some o))) (named-client terms before s t client (text 41 m) o e)
-        (λ here w. accept_on-Steps terms before s t short m port sends o here w old) e v,
+            (λ here w. accept_on-Steps terms before s t short m port sends o here w old) e v,
         refl,
         refl,
       )

@@ -155,10 +155,10 @@ module _ (terms : List Terms) (before : History) (s : State) (t : IsTable terms 
     pub refuse_new-Steps : Steps (refuse_new s client m code why)
     refuse_new-Steps = (
       refused-Table code why r_new v tells_new still_new refl (s.order_ids + 1) (s.exec_ids + 1)
-      (let one = one-if (is_new_order m) new in let more = numbered-came client m port (r_new ∷ []) sends before in omega (arith, t.order_ids, one, more)) reports_new (omega (arith, t.few, t.exec_ids, reports_new)),
+          (let one = one-if (is_new_order m) new in let more = numbered-came client m port (r_new ∷ []) sends before in omega (arith, t.order_ids, one, more)) reports_new (omega (arith, t.few, t.exec_ids, reports_new)),
       tells_new,
       refused-asks code why r_new v tells_new still_new refl (s.order_ids + 1) (s.exec_ids + 1)
-      (let one = one-if (is_new_order m) new in let more = numbered-came client m port (r_new ∷ []) sends before in omega (arith, t.order_ids, one, more)) reports_new (omega (arith, t.few, t.exec_ids, reports_new)),
+          (let one = one-if (is_new_order m) new in let more = numbered-came client m port (r_new ∷ []) sends before in omega (arith, t.order_ids, one, more)) reports_new (omega (arith, t.few, t.exec_ids, reports_new)),
     )
 
   -- ---- a request that is refused
@@ -195,8 +195,7 @@ module _ (terms : List Terms) (before : History) (s : State) (t : IsTable terms 
         let tells : law.told terms event before ≡ record { client = client; bodies = r ∷ [] } = tells_old x e ∙ ap (λ (bodies : List Message). record { client = client; bodies = bodies }) one in
         let orders_so : s.order_ids ≡ numbered (turn (r ∷ []) ∷ before) = (let more = count_old (r ∷ []) in omega (arith, t.order_ids, more)) in
         let reports_so : s.exec_ids ≡ reports_in (turn (r ∷ []) ∷ before) = (let more = one_reject r none in omega (arith, t.exec_ids, more)) in
-        let few : reports_in (turn (r ∷ []) ∷ before) ≤ 2 * length (turn (r ∷ []) ∷ before) = (let more = one_reject r none in omega (arith, t.few, more)) in
-        (
+        let few : reports_in (turn (r ∷ []) ∷ before) ≤ 2 * length (turn (r ∷ []) ∷ before) = (let more = one_reject r none in omega (arith, t.few, more)) in (
           subst (λ (bodies : List Message). IsTable terms (turn bodies ∷ before) (record s { used = s.used ++ used_by client m ∷ [] })) (sym one)
               (refused-Table code why r v tells still own_id s.order_ids s.exec_ids orders_so reports_so few),
           tells_old x e,
@@ -265,9 +264,11 @@ module _ (terms : List Terms) (before : History) (s : State) (t : IsTable terms 
         fits-new terms before client m port sends t.held short (law-is Accepted v) new,
         Each-map (FitsIn terms before) (FitsIn terms (turn (a_new ∷ []) ∷ before)) s.orders (λ x f. beside x f (ap (bytes_eq en.order) f.order_is ∙ apart f.number f.is_numbered)) t.fit,
       );
-      distinct = subst (λ (es : List Entry). AreDistinct (news es)) (sym more_entries) (subst AreDistinct (sym news-more)
-          (Each-filter (λ (x : Entry). bytes_eq en.order x.order ≡ false) (λ (x : Entry). is_new_order x.message) A
-          (Each-map (IsEntry terms A (numbered before)) (λ (x : Entry). bytes_eq en.order x.order ≡ false) A (λ x i. ap (bytes_eq en.order) i.order_is ∙ apart i.number i.is_numbered) t.held.entries), t.distinct));
+      distinct = subst (λ (es : List Entry). AreDistinct (news es)) (sym more_entries) (subst AreDistinct (sym news-more) (
+        Each-filter (λ (x : Entry). bytes_eq en.order x.order ≡ false) (λ (x : Entry). is_new_order x.message) A
+            (Each-map (IsEntry terms A (numbered before)) (λ (x : Entry). bytes_eq en.order x.order ≡ false) A (λ x i. ap (bytes_eq en.order) i.order_is ∙ apart i.number i.is_numbered) t.held.entries),
+        t.distinct,
+      ));
       tokens = ap (λ (ts : List Terms). with_token ts en s.tokens) t.same_terms ∙ token-pushed terms en s.tokens A t.tokens ∙ ap (λ (es : List Entry). map (token_given terms) (filter (λ (x : Entry). is_some x.token) es)) (sym more_entries);
       replaces = subst (λ (es : List Entry). Each HasOwnToken es) (sym more_entries) (λ kind. refl, t.replaces);
       used = used-push s.used client m port a_new sends before refl t.used;

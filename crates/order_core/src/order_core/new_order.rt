@@ -25,8 +25,8 @@ use fix_values::{ClOrdId, ExecType, OrdStatus};
 use order_law::Stage;
 use ouch_codec::{EnterOrder, Inbound};
 use std::alloc::{AllocError, Global};
-use tokens::Token;
 use to_market::{ClientTerms, Refusal, ask_of, enter_order, refuse_if};
+use tokens::Token;
 
 /// How many orders of a client may be open or waiting.
 const MOST_OPEN: usize = 10_000;
