@@ -1,6 +1,6 @@
 -- The newest order that passes a test, in a list that has the oldest first.
-use Rattle.std.proofs.Common.{◌≡◌, ◌≢◌, ℕ, zero, suc, ◌+◌, ◌-◌, ◌<◌, ◌≤◌, ◌^◌, Bool, true, false, List, [], ◌∷◌, ◌++◌, length, map, reverse, refl, sym, ap, ◌∙◌, arith, decimal, bytes_eq, get_or, slice_get, slice_set, eq-eqb, eqb-true, ne_eqb}
-use Rattle.std.specs.Prelude.{Option, Some, None, MatchOption, if◌then◌else◌, nat_lt, ◌==◌}
+use Rattle.std.proofs.Common.{◌≡◌, ℕ, zero, suc, ◌+◌, ◌-◌, ◌<◌, ◌≤◌, ◌^◌, Bool, true, false, List, [], ◌∷◌, ◌++◌, length, map, reverse, refl, sym, ap, ◌∙◌, arith, decimal, bytes_eq, get_or, slice_get, slice_set, eq-eqb, eqb-true}
+use Rattle.std.specs.Prelude.{Option, Some, None, if◌then◌else◌, nat_lt, ◌==◌}
 use Rattle.std.specs.List.{count_by, find, position, position_or_len}
 use Rattle.std.proofs.lemmas.Bool.Decides.{nat_tests}
 use Rattle.std.proofs.lemmas.List.{get_or-reverse, map-append, reverse-append}
@@ -105,12 +105,14 @@ newest-at {A = A} test xs k e = by_test (nat_lt (position_or_len test (reverse x
     by_test : (b : Bool) → nat_lt (position_or_len test (reverse xs)) (length (reverse xs)) ≡ b → ◌≡◌ {A = Option ℕ} (if b then Some (position_or_len test (reverse xs)) else None) (Some k) → (k < length xs) × IsNewest test xs (length xs - 1 - k)
     by_test true h same =
         let at : position_or_len test (reverse xs) ≡ k = cc in
-        let few : k < length xs = omega (arith, within (position_or_len test (reverse xs)) (length (reverse xs)) h, at, length-reverse xs) in
-        (few, record {
-          inside = omega (arith, few);
-          newest = find_at test (reverse xs) ∙ ap (slice_get (reverse xs)) at ∙ get-reverse xs k few;
-          at_end = omega (arith, at, few);
-        })
+        let few : k < length xs = omega (arith, within (position_or_len test (reverse xs)) (length (reverse xs)) h, at, length-reverse xs) in (
+          few,
+          record {
+            inside = omega (arith, few);
+            newest = find_at test (reverse xs) ∙ ap (slice_get (reverse xs)) at ∙ get-reverse xs k few;
+            at_end = omega (arith, at, few);
+          },
+        )
     by_test false h same = absurd (cc)
 
 pub newest-none : {A : Type 0} (test : A → Bool) (xs : List A) → position test (reverse xs) ≡ None → find test (reverse xs) ≡ None

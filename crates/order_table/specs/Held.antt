@@ -1,5 +1,5 @@
 -- What the table holds, and what is found in it: `order_histories`' words over the two lists.
-use Rattle.std.specs.Prelude.{ℕ, List, [], ◌∷◌, ◌++◌, Option, option_and_then, decimal}
+use Rattle.std.specs.Prelude.{ℕ, List, ◌∷◌, Option, option_and_then, decimal}
 use Rattle.std.specs.List.{find}
 use Rattle.order_histories.specs.OrderRecord.{OrderRecord, mark}
 use Rattle.order_histories.specs.OrderRecord as record_of

@@ -11,4 +11,3 @@ mod table;
 pub use order::{Order, ToldTrade};
 pub use progress::Progress;
 pub use table::{GivenToken, Table};
-

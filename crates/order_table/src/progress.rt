@@ -214,7 +214,9 @@ impl Progress {
             unfilled: self.unfilled,
             executed,
             cancelled: self.cancelled,
-            value: self.value.saturating_sub(u128::from(shares) * u128::from(price)),
+            value: self
+                .value
+                .saturating_sub(u128::from(shares) * u128::from(price)),
             ever: self.ever,
         }
     }

@@ -119,7 +119,12 @@ impl Table {
     }
 
     /// The order with an OrderID has come so far, with one trade more. `AllocError` leaves the table as it was.
-    pub fn trade(&mut self, order_id: u64, progress: Progress, told: ToldTrade) -> Result<(), AllocError>
+    pub fn trade(
+        &mut self,
+        order_id: u64,
+        progress: Progress,
+        told: ToldTrade,
+    ) -> Result<(), AllocError>
         ensures traded { IfOk result (λ nothing. (o : record_of.OrderRecord) → with_number self.old order_id ≡ Some o
             → self.new ≡ changed (with_trade (told_seen told) progress o) self.old) }
         ensures err { OnErr result (self.new ≡ self.old) }

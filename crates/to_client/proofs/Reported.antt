@@ -1,12 +1,11 @@
 -- A report with the fields of an occasion is the one that the law writes.
-use Rattle.std.proofs.Common.{◌≡◌, ℕ, List, [], ◌∷◌, Bool, true, false, refl, sym, ap, ◌∙◌, decimal, codes, map}
+use Rattle.std.proofs.Common.{◌≡◌, ℕ, List, [], ◌∷◌, Bool, true, false, refl, ap, ◌∙◌, decimal, codes}
 use Rattle.std.specs.Prelude.{Option, Some, None, option_map, ◌==◌, if◌then◌else◌}
 use Rattle.std.specs.Fmt.{digits}
 use Rattle.fixed_point.specs.Price.{price_text}
 use Rattle.fix_types.specs.declared.report.Report.{Report}
 use Rattle.fix_types.specs.Report.{report_fields}
 use Rattle.fix_values.specs.Letters.{exec_letter, status_letter}
-use Rattle.fix_values.specs.Slots.{char_text}
 use Rattle.order_law.specs.declared.stage.Stage.{Stage}
 use Rattle.order_law.specs.declared.stage.Stage.TheVariants.{Waiting, Working, Closed}
 use Rattle.order_law.specs.Messages.{Message, text}
@@ -19,7 +18,7 @@ use Rattle.order_table.specs.Seen.{progressed}
 use Rattle.to_client.specs.declared.occasion.Details.{Details}
 use Rattle.to_client.specs.declared.occasion.Occasion.{Occasion}
 use Rattle.to_client.specs.declared.occasion.Occasion.TheVariants as occasions
-use Rattle.to_client.specs.Occasions.{IsTold, average_of_text, details_of, leaves_in, occasion_seen, status_as, status_at}
+use Rattle.to_client.specs.Occasions.{IsTold, details_of, leaves_in, occasion_seen, status_as, status_at}
 
 -- OrdStatus, where no request is pending
 status-told : (p : Progress) (o : OrderRecord) → o.replace ≡ None → o.cancel ≡ None → status_letter (status_as p) ∷ [] ≡ law.status_of (shown_as (progressed p o))

@@ -1,5 +1,5 @@
 -- What an occasion says in a report, as the law has it and as the report's fields.
-use Rattle.std.specs.Prelude.{◌≡◌, ℕ, ◌==◌, List, [], ◌∷◌, Option, Some, None, option_map, decimal, if◌then◌else◌, codes}
+use Rattle.std.specs.Prelude.{◌≡◌, ℕ, ◌==◌, List, [], ◌∷◌, Some, None, option_map, decimal, if◌then◌else◌, codes}
 use Rattle.fix_types.specs.declared.report.Report.{Report}
 use Rattle.fix_values.specs.declared.exec_type.ExecType.{ExecType}
 use Rattle.fix_values.specs.declared.exec_type.ExecType.TheVariants as kinds
@@ -9,7 +9,7 @@ use Rattle.fix_values.specs.Slots.{char_text}
 use Rattle.fixed_point.specs.Price.{price_text}
 use Rattle.order_law.specs.declared.stage.Stage.{Stage}
 use Rattle.order_law.specs.declared.stage.Stage.TheVariants.{Waiting, Working, Closed}
-use Rattle.order_law.specs.Messages.{text, character}
+use Rattle.order_law.specs.Messages.{text}
 use Rattle.order_law.specs.Reading.{average_of}
 use Rattle.order_law.specs.Told as law
 use Rattle.order_histories.specs.OrderRecord.{OrderRecord}

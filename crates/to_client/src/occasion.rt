@@ -13,19 +13,13 @@ pub enum Occasion {
     /// The market took it.
     New,
     /// So many shares were traded, at this price in 1/10,000.
-    Trade {
-        shares: u32,
-        price: u32,
-    },
+    Trade { shares: u32, price: u32 },
     /// The market took something off what was open.
     Restated(u8),
     /// All that was open is cancelled.
     Canceled(Option<u8>),
     /// The trade that was told under this ExecID was taken back.
-    TradeCancel {
-        exec_id: u64,
-        reason: u8,
-    },
+    TradeCancel { exec_id: u64, reason: u8 },
     /// The market rejected it.
     Rejected(u8),
 }

@@ -1,4 +1,4 @@
-use Rattle.std.proofs.Common.{rules, ◌≡◌, List, decimal, refl, reverse, slice_get, ap, ◌∙◌}
+use Rattle.std.proofs.Common.{rules, ◌≡◌, List, decimal, refl, reverse, ap, ◌∙◌}
 use Rattle.std.specs.Prelude.{Some}
 use Rattle.std.specs.List.{find}
 use Rattle.order_histories.specs.OrderRecord.{OrderRecord}

@@ -1,4 +1,4 @@
-use Rattle.std.proofs.Common.{rules, reverse, sym, ap, ◌∙◌}
+use Rattle.std.proofs.Common.{rules, sym, ap, ◌∙◌}
 use Rattle.order_histories.specs.Table.{is_open_of, open_count}
 use Rattle.order_table.specs.Held.{Held}
 use Rattle.order_table.proofs.Newest.{count-reverse}

@@ -1,4 +1,4 @@
-use Rattle.std.proofs.Common.{rules, ◌≡◌, List, ◌∷◌, [], ◌++◌, decimal, map, refl, reverse, slice_get, slice_set, ap, ◌∙◌}
+use Rattle.std.proofs.Common.{rules, ◌≡◌, List, ◌∷◌, decimal, map, refl, reverse, slice_set, ap, ◌∙◌}
 use Rattle.std.specs.Prelude.{Some}
 use Rattle.std.specs.List.{find}
 use Rattle.order_histories.specs.OrderRecord.{OrderRecord}
@@ -14,7 +14,7 @@ pub returns-in_ok-push-clause-traded : goal.returns-in_ok-push-clause-traded
 returns-in_ok-push-clause-traded c = λ o found.
     let is_found : find (has_number (decimal c.args.order_id)) (reverse c.self.inside.orders.items) ≡ Some o = ap (λ (h : Held). with_number h c.args.order_id) c.self.view_is ∙ found in
     let trades : reverse (map told_seen c.push.new.self.items) ≡ told_seen c.args.told ∷ reverse (map told_seen c.order.inside.trades.items) =
-        ap (λ ts. reverse (map told_seen ts)) c.in_ok-push.ensures.items ∙ trades-pushed told_seen c.order.inside.trades.items c.args.told in
+    ap (λ ts. reverse (map told_seen ts)) c.in_ok-push.ensures.items ∙ trades-pushed told_seen c.order.inside.trades.items c.args.told in
     ap (λ (ts : List record_of.ToldTrade). record { orders = reverse (slice_set c.self.inside.orders.items c.in-Some.place (record (progressed c.args.progress (the_view c.order.inside)) { trades = ts })); tokens = reverse c.self.inside.tokens.items }) trades
     ∙ ap (λ (os : List OrderRecord). record { orders = os; tokens = reverse c.self.inside.tokens.items })
     (change-newest (decimal c.args.order_id) c.self.inside.orders.items c.in-Some.place (the_view c.order.inside) (with_trade (told_seen c.args.told) c.args.progress) (λ x. refl) (search rules) (at-place (has_number (decimal c.args.order_id)) c.self.inside.orders.items c.in-Some.place c.index_mut-order.result.now (the_view c.order.inside) (search rules) c.index_mut-order.ensures.value c.order.view_is) o is_found)
