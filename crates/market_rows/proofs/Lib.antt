@@ -1,0 +1,5 @@
+pub mod CanceledRow
+pub mod RejectedRow
+pub mod ExecutedRow
+pub mod AcceptedRow
+pub mod QuietRow

@@ -1,0 +1,4 @@
+pub mod Bytes
+pub mod Sides
+pub mod Meets
+pub mod May

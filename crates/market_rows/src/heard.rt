@@ -1,0 +1,51 @@
+//! What comes of a message on an order.
+
+ghost use Rattle.std.specs.Prelude.{◌≡◌};
+ghost use Rattle.market_rows.specs.declared.heard.RowFault.TheVariants.{NoMemory};
+
+use fix_types::Report;
+use order_table::{Progress, ToldTrade};
+use std::alloc::{AllocError, AllocFailed};
+use thiserror::Error;
+
+/// What becomes of the order.
+#[derive(Clone, Copy, Debug, PartialEq, Eq)]
+pub enum Change {
+    /// It has come so far.
+    To(Progress),
+    /// It has come so far, with one trade more.
+    Traded(Progress, ToldTrade),
+}
+
+/// What comes of a message that is lawful of an order.
+#[derive(Debug, Drop)]
+pub struct Heard {
+    pub change: Change,
+    /// What its client is told, in order.
+    pub reports: Vec<Report>,
+}
+
+/// Why nothing comes of a message.
+#[derive(Clone, Copy, Debug, PartialEq, Eq, Drop, Error)]
+pub enum RowFault {
+    #[error("out of memory")]
+    NoMemory,
+    #[error("a message that is not lawful here")]
+    NotLawful,
+}
+
+impl From<AllocError> for RowFault {
+    ghost from_gives = { λ _ fault. fault ≡ NoMemory };
+
+    fn from(_error: AllocError) -> RowFault {
+        RowFault::NoMemory
+    }
+}
+
+impl<T: Drop> From<AllocFailed<T>> for RowFault {
+    ghost from_gives = { λ _ fault. fault ≡ NoMemory };
+
+    fn from(_error: AllocFailed<T>) -> RowFault {
+        RowFault::NoMemory
+    }
+}
