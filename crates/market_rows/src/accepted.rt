@@ -1,12 +1,7 @@
 //! Accepted: the market took a new order.
 
-ghost use Rattle.std.specs.Prelude.{◌≡◌, ◌<◌, ◌^◌, ◌==◌, IfOk, bytes_eq, map};
-ghost use Rattle.fix_types.specs.Report.{report_fields};
+ghost use Rattle.std.specs.Prelude.{◌≡◌, ◌<◌, ◌^◌, ◌==◌, bytes_eq};
 ghost use Rattle.ouch_codec.specs.Parts.{unpadded};
-ghost use Rattle.order_law.specs.Told as law;
-ghost use Rattle.order_law.specs.declared.stage.Stage.TheVariants.{Waiting};
-ghost use Rattle.order_histories.specs.OrderRecord.{opened, gone, shown_as};
-ghost use Rattle.order_table.specs.Seen.{progressed};
 ghost use Rattle.market_rows.specs.Bytes.{accepted_bytes};
 ghost use Rattle.market_rows.specs.May.{may_open_as};
 ghost use Rattle.market_rows.specs.Meets.{MeetsRow};
@@ -14,12 +9,11 @@ ghost use Rattle.market_rows.specs.Sides.{fix_side};
 
 use crate::heard::{Change, Heard, RowFault};
 use fix_fields::Text;
-use fix_types::Report;
 use fix_values::Character;
 use order_law::Stage;
-use order_table::{Order, Progress};
+use order_table::Order;
 use ouch_codec::{Accepted, OrderState, Side};
-use std::alloc::{AllocError, Global};
+use std::alloc::Global;
 use to_client::{Occasion, report};
 
 /// Lawful for an order that waits under this token, with the side and stock that it asked: the order is open with the

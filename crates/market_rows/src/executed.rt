@@ -2,8 +2,6 @@
 
 ghost use Rattle.std.specs.Prelude.{◌≡◌, ◌<◌, ◌^◌, ◌==◌};
 ghost use Rattle.std.specs.List.{list_any};
-ghost use Rattle.order_law.specs.Told as law;
-ghost use Rattle.order_law.specs.declared.trade.Trade.{Trade};
 ghost use Rattle.market_rows.specs.Bytes.{executed_bytes};
 ghost use Rattle.market_rows.specs.May.{has_number, may_trade_as};
 ghost use Rattle.market_rows.specs.Meets.{MeetsRow};
