@@ -36,7 +36,13 @@ pub fn on_executed(
         order.progress.traded(shares, price)
     };
     let mut reports = Vec::with_capacity(alloc, 1)?;
-    reports.push(report(alloc, issued + 1, Occasion::Trade { shares, price }, order, &progress)?)?;
+    reports.push(report(
+        alloc,
+        issued + 1,
+        Occasion::Trade { shares, price },
+        order,
+        &progress,
+    )?)?;
     let trade = Trade {
         match_number: message.match_number,
         shares,

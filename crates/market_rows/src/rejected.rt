@@ -29,7 +29,13 @@ pub fn on_rejected(
     }
     let refused = order.progress.refused();
     let mut reports = Vec::with_capacity(alloc, 1)?;
-    reports.push(report(alloc, issued + 1, Occasion::Rejected(message.reason), order, &refused)?)?;
+    reports.push(report(
+        alloc,
+        issued + 1,
+        Occasion::Rejected(message.reason),
+        order,
+        &refused,
+    )?)?;
     Ok(Heard {
         change: Change::To(refused),
         reports,

@@ -39,37 +39,38 @@ returns c =
     let one : c.push.new.self.items ≡ r ∷ [] = c.in_ok-push.ensures.items ∙ ap (λ (xs : List Report). xs ++ r ∷ []) c.in_ok-reports.ensures.items in
     let is_told = ap (map report_fields) one ∙ ap (λ (f : Message). f ∷ []) c.in_ok-report.ensures.told in
     elim c.if-message-order.branch [
-      then-message-order w ↦
-        (let steps = w.filled-progress.ensures in
-        let is = w.progress-is in
-        let stage = ap (λ (x : Progress). x.stage) is ∙ steps.stage in
-        let refused = ap (λ (x : Progress). x.is_refused) is ∙ steps.refused ∙ ap (λ (x : OrderRecord). x.is_refused) same in
-        let total = ap (λ (x : Progress). x.total) is ∙ steps.total ∙ ap (λ (x : OrderRecord). x.total) same in
-        let price = ap (λ (x : Progress). x.price) is ∙ steps.price ∙ ap (λ (x : OrderRecord). x.price) same in
-        let unfilled = ap (λ (x : Progress). x.unfilled) is ∙ steps.unfilled ∙ ap (λ (x : OrderRecord). x.unfilled - m.shares) same in
-        let executed = ap (λ (x : Progress). x.executed) is ∙ steps.executed ∙ ap (λ (x : OrderRecord). x.executed + m.shares) same in
-        let cancelled = ap (λ (x : Progress). x.cancelled) is ∙ steps.cancelled ∙ ap (λ (x : OrderRecord). x.cancelled) same in
-        let value = ap (λ (x : Progress). x.value) is ∙ steps.value ∙ ap (λ (x : OrderRecord). x.value + m.shares * m.price) same in
-        let all = w.if-message-order.true ∙ ap (λ (x : OrderRecord). x.unfilled) same in
-        record {
-          lawful = executed-lawful m (executed_bytes m) o says ∙ may;
-          told = is_told ∙ sym (filled-told c.args.issued m (executed_bytes m) o p says no_r no_c may refused price unfilled executed cancelled value stage total all);
-          now = filled-now c.args.issued m (executed_bytes m) o p says no_r no_c may refused price unfilled executed cancelled value stage total all;
-        })
-    | else-message-order w ↦
-        (let steps = w.traded-progress.ensures in
-        let is = w.progress-is in
-        let stage = ap (λ (x : Progress). x.stage) is ∙ steps.stage ∙ ap (λ (x : OrderRecord). x.stage) same in
-        let refused = ap (λ (x : Progress). x.is_refused) is ∙ steps.refused ∙ ap (λ (x : OrderRecord). x.is_refused) same in
-        let total = ap (λ (x : Progress). x.total) is ∙ steps.total ∙ ap (λ (x : OrderRecord). (x.executed + m.shares) + (x.unfilled - m.shares)) same in
-        let price = ap (λ (x : Progress). x.price) is ∙ steps.price ∙ ap (λ (x : OrderRecord). x.price) same in
-        let unfilled = ap (λ (x : Progress). x.unfilled) is ∙ steps.unfilled ∙ ap (λ (x : OrderRecord). x.unfilled - m.shares) same in
-        let executed = ap (λ (x : Progress). x.executed) is ∙ steps.executed ∙ ap (λ (x : OrderRecord). x.executed + m.shares) same in
-        let cancelled = ap (λ (x : Progress). x.cancelled) is ∙ steps.cancelled ∙ ap (λ (x : OrderRecord). x.cancelled) same in
-        let value = ap (λ (x : Progress). x.value) is ∙ steps.value ∙ ap (λ (x : OrderRecord). x.value + m.shares * m.price) same in
-        let part : (m.shares ≡ o.unfilled) → ⊥ = λ e. w.if-message-order.false (e ∙ ap (λ (x : OrderRecord). x.unfilled) (sym same)) in
-        record {
-          lawful = executed-lawful m (executed_bytes m) o says ∙ may;
-          told = is_told ∙ sym (traded-told c.args.issued m (executed_bytes m) o p says no_r no_c may refused price unfilled executed cancelled value stage total part);
-          now = traded-now c.args.issued m (executed_bytes m) o p says no_r no_c may refused price unfilled executed cancelled value stage total part;
-        }) ]
+      | then-message-order w ↦
+          (let steps = w.filled-progress.ensures in
+          let is = w.progress-is in
+          let stage = ap (λ (x : Progress). x.stage) is ∙ steps.stage in
+          let refused = ap (λ (x : Progress). x.is_refused) is ∙ steps.refused ∙ ap (λ (x : OrderRecord). x.is_refused) same in
+          let total = ap (λ (x : Progress). x.total) is ∙ steps.total ∙ ap (λ (x : OrderRecord). x.total) same in
+          let price = ap (λ (x : Progress). x.price) is ∙ steps.price ∙ ap (λ (x : OrderRecord). x.price) same in
+          let unfilled = ap (λ (x : Progress). x.unfilled) is ∙ steps.unfilled ∙ ap (λ (x : OrderRecord). x.unfilled - m.shares) same in
+          let executed = ap (λ (x : Progress). x.executed) is ∙ steps.executed ∙ ap (λ (x : OrderRecord). x.executed + m.shares) same in
+          let cancelled = ap (λ (x : Progress). x.cancelled) is ∙ steps.cancelled ∙ ap (λ (x : OrderRecord). x.cancelled) same in
+          let value = ap (λ (x : Progress). x.value) is ∙ steps.value ∙ ap (λ (x : OrderRecord). x.value + m.shares * m.price) same in
+          let all = w.if-message-order.true ∙ ap (λ (x : OrderRecord). x.unfilled) same in
+          record {
+            lawful = executed-lawful m (executed_bytes m) o says ∙ may;
+            told = is_told ∙ sym (filled-told c.args.issued m (executed_bytes m) o p says no_r no_c may refused price unfilled executed cancelled value stage total all);
+            now = filled-now c.args.issued m (executed_bytes m) o p says no_r no_c may refused price unfilled executed cancelled value stage total all;
+          })
+      | else-message-order w ↦
+          (let steps = w.traded-progress.ensures in
+          let is = w.progress-is in
+          let stage = ap (λ (x : Progress). x.stage) is ∙ steps.stage ∙ ap (λ (x : OrderRecord). x.stage) same in
+          let refused = ap (λ (x : Progress). x.is_refused) is ∙ steps.refused ∙ ap (λ (x : OrderRecord). x.is_refused) same in
+          let total = ap (λ (x : Progress). x.total) is ∙ steps.total ∙ ap (λ (x : OrderRecord). (x.executed + m.shares) + (x.unfilled - m.shares)) same in
+          let price = ap (λ (x : Progress). x.price) is ∙ steps.price ∙ ap (λ (x : OrderRecord). x.price) same in
+          let unfilled = ap (λ (x : Progress). x.unfilled) is ∙ steps.unfilled ∙ ap (λ (x : OrderRecord). x.unfilled - m.shares) same in
+          let executed = ap (λ (x : Progress). x.executed) is ∙ steps.executed ∙ ap (λ (x : OrderRecord). x.executed + m.shares) same in
+          let cancelled = ap (λ (x : Progress). x.cancelled) is ∙ steps.cancelled ∙ ap (λ (x : OrderRecord). x.cancelled) same in
+          let value = ap (λ (x : Progress). x.value) is ∙ steps.value ∙ ap (λ (x : OrderRecord). x.value + m.shares * m.price) same in
+          let part : (m.shares ≡ o.unfilled) → ⊥ = λ e. w.if-message-order.false (e ∙ ap (λ (x : OrderRecord). x.unfilled) (sym same)) in
+          record {
+            lawful = executed-lawful m (executed_bytes m) o says ∙ may;
+            told = is_told ∙ sym (traded-told c.args.issued m (executed_bytes m) o p says no_r no_c may refused price unfilled executed cancelled value stage total part);
+            now = traded-now c.args.issued m (executed_bytes m) o p says no_r no_c may refused price unfilled executed cancelled value stage total part;
+          })
+    ]
