@@ -26,6 +26,13 @@ uint64_t bench_issue(const uint8_t *logon, size_t logon_length, const uint8_t *r
                      uint32_t times);
 uint64_t bench_resends(const uint8_t *logon, size_t logon_length, const uint8_t *report, size_t report_length,
                        uint32_t bodies, uint32_t times);
+uint64_t bench_decode(const uint8_t *bytes, size_t length);
+bool bench_decoded(const uint8_t *bytes, size_t length, uint8_t *out, size_t room);
+uint64_t bench_day(const uint8_t *order, size_t order_length, const uint8_t *accepted, size_t accepted_length,
+                   const uint8_t *executed, size_t executed_length, uint32_t open, uint32_t rounds, uint32_t taken);
+uint64_t bench_day_text(const uint8_t *order, size_t order_length, const uint8_t *accepted, size_t accepted_length,
+                        const uint8_t *executed, size_t executed_length, uint32_t open, uint32_t rounds, uint8_t *out,
+                        size_t room);
 bool bench_put_enter_order(const uint8_t *bytes, size_t length, uint32_t times, uint8_t *out, size_t room);
 
 enum {
@@ -36,6 +43,14 @@ enum {
     ENTER_ORDER = 49,
     REPORT_FRAME = 179,
     EXECUTED_PACKET = 43,
+    // The message within that packet.
+    EXECUTED_FROM = 3,
+    EXECUTED_LENGTH = 40,
+    ACCEPTED_LENGTH = 66,
+    // How many orders are open before the rounds of a day, and the steps that each of these and each round takes.
+    OPEN_ORDERS = 10,
+    STEPS_OF_OPEN = 2,
+    STEPS_OF_ROUND = 3,
     // A session is asked for this many calls before the next one begins, since it keeps what it issues.
     SESSION_CALLS = 2000,
     RESENDS = 20,
@@ -75,6 +90,12 @@ static const char TAIL[] =
 // What an ExecutionReport says.
 static const char BODY[] =
     "35=8\00137=1\00111=A1\00117=1\001150=A\00139=A\00155=INTC\00154=1\00138=300\00144=23.45\001151=300\00114=0\0016=0\001";
+
+// What a client asks of the order core but for its ClOrdID, and the market's Accepted of it.
+static const char CORE_ORDER[] = "35=D\00155=INTC\00154=1\00138=300\00140=2\00144=23.45\00159=0\001528=A\001";
+static const char ACCEPTED[] =
+    "A\000\000\000\000\000\000\000\001G0000000000001B\000\000\001,INTC    \000\003\224\004\000\001\206\236FIRMY"
+    "\000\000\000\000\000\000\000\001AN\000\000\000\000NLN";
 
 static const uint64_t LEAP_DAY_OF_2000 = 951782400000;
 
@@ -124,6 +145,12 @@ static void feed_packets_calls(void) {
 static void parse_price_calls(void) {
     for (int i = 0; i < CALLS; i++) {
         sum += bench_parse_price(hidden(PRICE), sizeof PRICE - 1);
+    }
+}
+
+static void decode_calls(void) {
+    for (int i = 0; i < CALLS; i++) {
+        sum += bench_decode(hidden(EXECUTED + EXECUTED_FROM), EXECUTED_LENGTH);
     }
 }
 
@@ -183,6 +210,32 @@ static double best_resend(uint32_t bodies) {
         least_with = end - middle < least_with ? end - middle : least_with;
     }
     return (least_with - least_without) / RESENDS;
+}
+
+static uint64_t day(uint32_t rounds, uint32_t taken) {
+    return bench_day(hidden(CORE_ORDER), sizeof CORE_ORDER - 1, hidden(ACCEPTED), ACCEPTED_LENGTH,
+                     hidden(EXECUTED + EXECUTED_FROM), EXECUTED_LENGTH, OPEN_ORDERS, rounds, taken);
+}
+
+// The best time of a round, where a day has so many: of days that take their rounds, less that of days that end before.
+static double best_round(uint32_t rounds, int days) {
+    uint32_t before = OPEN_ORDERS * STEPS_OF_OPEN;
+    double least_without = 1e18;
+    double least_with = 1e18;
+    for (int repeat = 0; repeat < REPEATS; repeat++) {
+        double start = now();
+        for (int i = 0; i < days; i++) {
+            sum += day(rounds, before);
+        }
+        double middle = now();
+        for (int i = 0; i < days; i++) {
+            sum += day(rounds, before + rounds * STEPS_OF_ROUND);
+        }
+        double end = now();
+        least_without = middle - start < least_without ? middle - start : least_without;
+        least_with = end - middle < least_with ? end - middle : least_with;
+    }
+    return (least_with - least_without) / days / rounds;
 }
 
 static double best(void (*calls)(void)) {
@@ -257,6 +310,55 @@ static bool put_is_right(void) {
            bench_put_enter_order(order, ENTER_ORDER, 1, out, sizeof out) && memcmp(out, ORDER, ENTER_ORDER) == 0;
 }
 
+static bool decode_is_right(void) {
+    uint8_t out[EXECUTED_LENGTH] = {0};
+    const uint8_t *executed = (const uint8_t *)EXECUTED + EXECUTED_FROM;
+    return bench_decode(executed, EXECUTED_LENGTH) == 7 && bench_decode(executed, EXECUTED_LENGTH - 1) == 0 &&
+           !bench_decoded((const uint8_t *)EXECUTED, EXECUTED_LENGTH, out, sizeof out) &&
+           bench_decoded(executed, EXECUTED_LENGTH, out, sizeof out) && memcmp(out, executed, sizeof out) == 0;
+}
+
+// Adds what comes of an order and its Accepted: it is pending, it is asked of the market, it is new.
+static char *add_order(char *at, char *end, int number) {
+    static const char ENTER_REST[] = "B\000\000\001,INTC    \000\003\224\004\000\001\206\236FIRMYAN\000\000\000\000NR";
+    int id = 1000000000 + number;
+    at += snprintf(at, (size_t)(end - at),
+                   "35=8%c37=%d%c11=%d%c17=%d%c150=A%c39=A%c55=INTC%c54=1%c38=300%c44=23.45%c151=300%c14=0%c6=0%c", 1, number, 1,
+                   id, 1, 2 * number - 1, 1, 1, 1, 1, 1, 1, 1, 1, 1, 1);
+    at += snprintf(at, (size_t)(end - at), "OG%013d", number);
+    memcpy(at, ENTER_REST, sizeof ENTER_REST - 1);
+    at += sizeof ENTER_REST - 1;
+    return at + snprintf(at, (size_t)(end - at),
+                         "35=8%c37=%d%c11=%d%c17=%d%c150=0%c39=0%c55=INTC%c54=1%c38=300%c44=23.45%c151=300%c14=0%c6=0%c", 1,
+                         number, 1, id, 1, 2 * number, 1, 1, 1, 1, 1, 1, 1, 1, 1, 1);
+}
+
+// Adds what comes of 100 shares at 23.45 that are traded of it: the report of this number.
+static char *add_trade(char *at, char *end, int number, int report) {
+    return at + snprintf(at, (size_t)(end - at),
+                         "35=8%c37=%d%c11=%d%c17=%d%c150=F%c39=1%c55=INTC%c54=1%c38=300%c44=23.45%c32=100%c31=23.45%c151=200%c"
+                         "14=100%c6=23.45%c",
+                         1, number, 1, 1000000000 + number, 1, report, 1, 1, 1, 1, 1, 1, 1, 1, 1, 1, 1, 1);
+}
+
+// A day of ten orders and one round tells and asks just this; each further round has three reports and a message.
+static bool day_is_right(void) {
+    static char due[8192];
+    static uint8_t out[8192];
+    char *at = due;
+    for (int number = 1; number <= OPEN_ORDERS + 1; number++) {
+        at = add_order(at, due + sizeof due, number);
+    }
+    at = add_trade(at, due + sizeof due, OPEN_ORDERS + 1, 2 * OPEN_ORDERS + 3);
+    size_t length = (size_t)(at - due);
+    uint64_t told = bench_day_text((const uint8_t *)CORE_ORDER, sizeof CORE_ORDER - 1, (const uint8_t *)ACCEPTED,
+                                   ACCEPTED_LENGTH, (const uint8_t *)EXECUTED + EXECUTED_FROM, EXECUTED_LENGTH, OPEN_ORDERS, 1,
+                                   out, sizeof out);
+    return sizeof ACCEPTED - 1 == ACCEPTED_LENGTH && told == length && memcmp(out, due, length) == 0 &&
+           day(2, OPEN_ORDERS * STEPS_OF_OPEN) == 3 * OPEN_ORDERS &&
+           day(2000, OPEN_ORDERS * STEPS_OF_OPEN + 2000 * STEPS_OF_ROUND) == 3 * OPEN_ORDERS + 4 * 2000;
+}
+
 // Each order is given up; each report is one frame; a resend is a gap fill for the Logon, and each body.
 static bool session_is_right(void) {
     return on_message(7) == 7 && make_messages(3) == 3 * 14 && issue(5) == 5 && resends(9, 2) == 2 * 10;
@@ -278,6 +380,10 @@ int main(void) {
                 make_messages(3) == 3 * 14, issue(5) == 5, resends(9, 2) == 2 * 10);
         return 1;
     }
+    if (!decode_is_right() || !day_is_right()) {
+        fprintf(stderr, "wrong: decode is right %d, a day of the order core %d\n", decode_is_right(), day_is_right());
+        return 1;
+    }
     double split = best(split_calls);
     printf("%-44s %7.1f   aim: below 400\n", "split, a NewOrderSingle frame of 160 bytes", split);
     printf("%-44s %7.1f   aim: below 150\n", "first_fault of its fields, the difference", best(first_fault_calls) - split);
@@ -287,6 +393,10 @@ int main(void) {
     printf("%-44s %7.1f   aim: below  60\n", "Packets::feed, an Executed's packet", best(feed_packets_calls));
     printf("%-44s %7.1f   aim: below  25\n", "parse_price, the text 23.45", best(parse_price_calls));
     printf("%-44s %7.1f   aim: below  25\n", "EnterOrder::put, 49 bytes", best(put_calls));
+    printf("%-44s %7.1f   aim: below  40\n", "decode, an Executed of 40 bytes", best(decode_calls));
+    printf("%-44s %7.0f   aim: below 6000\n", "D, its A and its E: a day's first round", best_round(1, 400));
+    printf("%-44s %7.0f   aim: below 6000\n", "D, its A and its E: rounds 1 to 50", best_round(50, 20));
+    printf("%-44s %7.0f   aim: below 6000\n", "D, its A and its E: rounds 1 to 2,000", best_round(2000, 1));
     double made = best(make_messages_calls);
     printf("%-44s %7.1f   aim: below 600\n", "Session::on_message, an order in sequence", best(on_message_calls) - made);
     printf("%-44s %7.1f   aim: below 1500\n", "Session::issue, a report", best(issue_calls));

@@ -1,13 +1,13 @@
 #!/usr/bin/env python3
-"""Puts wrong definitions into order_law, one at a time, and says which of them the computed examples refuse.
+"""Puts wrong definitions into order_law and order_histories, one at a time, and says which the computed examples refuse.
 
     scripts/try-wrong-definitions.py [WORD..] [--histories]
 
-Each entry of scripts/wrong-definitions.txt is a name, a file of order_law/specs/, a line as it stands and the wrong one, in
-which `\\n` is a line break; WORDs take those whose name has one, or those of the files with these names. The edits are made in a
-copy, with its `out/` folders, in which order_examples is checked without its law, so that an example refuses it and no lemma:
-fifteen to twenty seconds each after the first. What is refused is said with its first message. With `--histories` the lemmas
-of order_histories are checked too.
+Each entry of scripts/wrong-definitions.txt is a name, a file of order_law/specs/ or, with its crate before it, of
+order_histories/specs/, a line as it stands and the wrong one, in which `\\n` is a line break; WORDs take those whose name has
+one, or those of the files with these names. The edits are made in a copy, with its `out/` folders, in which order_examples is
+checked over definitions alone, so that an example refuses it and no lemma: fifteen to twenty seconds each after the first. What
+is refused is said with its first message. With `--histories` the lemmas of order_histories are checked too, in another copy.
 Exit status: 0 all but the known ones refused, 1 one more isn't, 2 an entry doesn't fit its file or is ill-formed.
 """
 
@@ -38,43 +38,53 @@ def first_error(crate: pathlib.Path) -> str:
     return next((line for line in lines if ": error:" in line), "no message")
 
 
-def without_law(examples: pathlib.Path) -> None:
-    """Takes the law on computed exchanges away, which stands on order_histories."""
-    (examples / "src/laws.rt").unlink()
-    shutil.rmtree(examples / "proofs")
-    head = examples / "src/lib.rt"
+def copied(folder: str, name: str) -> pathlib.Path:
+    """The crates of a copy of the repository."""
+    copy = pathlib.Path(folder) / name
+    shutil.copytree(TOP, copy, ignore=shutil.ignore_patterns(".git"))
+    (copy / ".git").mkdir()
+    return copy / "crates"
+
+
+def without_laws(crate: pathlib.Path) -> None:
+    """Takes a crate's laws and their lemmas away: the definitions stay."""
+    (crate / "src/laws.rt").unlink()
+    shutil.rmtree(crate / "proofs")
+    head = crate / "src/lib.rt"
     head.write_text("".join(line for line in head.read_text().splitlines(True) if "laws" not in line))
-    crates = examples.parent.parent / "crates.txt"
-    crates.write_text(crates.read_text().replace("order_examples: order_histories ", "order_examples: "))
 
 
 def main() -> int:
     words = [word for word in sys.argv[1:] if word != "--histories"] or [""]
-    crates = ["order_examples"] + (["order_histories"] if "--histories" in sys.argv else [])
     entries = (TOP / "scripts/wrong-definitions.txt").read_text().rstrip("\n").split("\n\n")
     status = 0
     with tempfile.TemporaryDirectory() as folder:
-        copy = pathlib.Path(folder) / "copy"
-        shutil.copytree(TOP, copy, ignore=shutil.ignore_patterns(".git"))
-        (copy / ".git").mkdir()
-        without_law(copy / "crates/order_examples")
-        for crate in crates:
-            if first_error(copy / "crates" / crate):
+        examples = copied(folder, "examples")
+        without_laws(examples / "order_examples")
+        without_laws(examples / "order_histories")
+        checked = {"order_examples": examples}
+        if "--histories" in sys.argv:
+            checked["order_histories"] = copied(folder, "lemmas")
+        for crate, crates in checked.items():
+            if first_error(crates / crate):
                 print(f"{crate} isn't proved as it stands")
                 return 2
         for entry in entries:
             name, file, right, wrong = entry.split("\n")
             if not any(word in name or word == file for word in words):
                 continue
-            path = copy / "crates/order_law/specs" / file
-            text = path.read_text()
+            home, _, definitions = file.rpartition("/")
+            place = pathlib.Path(home or "order_law") / "specs" / definitions
+            text = (examples / place).read_text()
             right, wrong = right.replace("\\n", "\n"), wrong.replace("\\n", "\n")
             if text.count(right) != 1:
                 print(f"doesn't fit: {name}", flush=True)
                 return 2
-            path.write_text(text.replace(right, wrong))
-            error = next(filter(None, (first_error(copy / "crates" / crate) for crate in crates)), "")
-            path.write_text(text)
+            for crates in checked.values():
+                (crates / place).write_text(text.replace(right, wrong))
+            error = next(filter(None, (first_error(crates / crate) for crate, crates in checked.items())), "")
+            for crates in checked.values():
+                (crates / place).write_text(text)
             if error and ": error: `" not in error:
                 print(f"ill-formed: {name}: {error}", flush=True)
                 status = 2

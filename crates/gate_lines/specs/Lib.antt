@@ -1,2 +1,3 @@
-pub mod Frame
+pub mod Ports
+pub mod Shown
 pub mod Status

@@ -1,25 +1,15 @@
 //! The order core with the script's settings, and how its ports stand.
 
-ghost use Rattle.std.specs.Prelude.{◌≡◌, ◌≤◌, ◌<◌, ◌+◌, ◌*◌, ◌^◌, IfOk};
+ghost use Rattle.std.specs.Prelude.{◌≡◌, ◌↔◌, ◌≤◌, ◌<◌, ◌+◌, ◌*◌, ◌^◌, ◌∷◌, [], IfOk, IsSome};
 ghost use Rattle.order_core.specs.State.{clients, issued};
+ghost use Rattle.to_market.specs.declared.port_state.PortState.TheVariants.{Up};
+ghost use Rattle.gate_lines.specs.Ports.{ports_after, state_of};
 
-use crate::settings::{Client, Port, client_terms};
+use crate::settings::client_terms;
 use fix_types::AppMsg;
-use order_core::{CoreOut, MarketFault, MarketOut, OrderCore, PortState};
-use ouch_codec::Accepted;
+use order_core::{Event, OrderCore, Outcome, PortState, step};
+use script_lines::{Client, Port};
 use std::alloc::{AllocError, Global};
-use wire_law::FixedWire;
-
-/// What a message from the market led to.
-#[derive(Debug, Drop)]
-pub enum Heard {
-    /// What a client is told.
-    Told(MarketOut),
-    /// The message is a fault of this number. The port hears no more.
-    Fault(u8),
-    /// Nothing: the port had a fault before.
-    Nothing,
-}
 
 /// The order core of a script, and how its two ports stand.
 ///
@@ -27,7 +17,8 @@ pub enum Heard {
 #[derive(Debug, Drop)]
 pub struct Desk {
     core: OrderCore,
-    ports: [PortState; 2],
+    /// How the ports stand, by their numbers.
+    pub ports: [PortState; 2],
     /// How often the core was asked.
     pub turns: u64,
     ghost three: { clients core ≡ 3 },
@@ -37,7 +28,8 @@ pub struct Desk {
 impl Desk {
     /// A desk with the script's settings. Both ports are up.
     pub fn new(alloc: Global) -> Result<Desk, AllocError>
-        ensures { IfOk result (λ desk. desk.turns ≡ 0) }
+        ensures turns { IfOk result (λ desk. desk.turns ≡ 0) }
+        ensures ports { IfOk result (λ desk. desk.ports ≡ Up ∷ Up ∷ []) }
     {
         Ok(Desk {
             core: OrderCore::new(alloc, &client_terms())?,
@@ -46,44 +38,51 @@ impl Desk {
         })
     }
 
-    /// Hears a client's message.
+    /// Hears a client's message, and gives what comes of it.
     pub fn client(
         &mut self,
         alloc: Global,
         client: Client,
-        message: &AppMsg,
-    ) -> Result<CoreOut, AllocError>
+        message: AppMsg,
+    ) -> Result<Outcome, AllocError>
         requires { self.old.turns < 2 ^ 58 }
-        ensures { self.new.turns ≡ self.old.turns + 1 }
+        ensures turns { self.new.turns ≡ self.old.turns + 1 }
+        ensures ports { self.new.ports ≡ self.old.ports }
     {
-        let port = self.ports[client.port().index()];
+        let event = Event::Came {
+            client: client.number(),
+            message,
+            port: self.ports[client.port().index()],
+        };
         self.turns += 1;
-        self.core.client(alloc, client.number(), message, port)
+        step(&mut self.core, alloc, &event)
     }
 
-    /// Hears the market's Accepted at a port. A fault closes the port's ear: what comes after it changes nothing.
+    /// Hears the market's payload at a port, and gives what comes of it: nothing where the port isn't up. A fault closes
+    /// the port's ear: what comes after it changes nothing. The other port stays as it is.
     pub fn market(
         &mut self,
         alloc: Global,
         port: Port,
-        message: &Accepted,
-    ) -> Result<Heard, AllocError>
+        payload: Vec<u8>,
+    ) -> Result<Option<Outcome>, AllocError>
         requires { self.old.turns < 2 ^ 58 }
-        ensures { self.new.turns ≤ self.old.turns + 1 }
+        ensures turns { self.new.turns ≤ self.old.turns + 1 }
+        ensures ports { IfOk result (λ heard. self.new.ports ≡ ports_after self.old.ports port heard) }
+        ensures heard { IfOk result (λ heard. IsSome heard ↔ (state_of self.old.ports port ≡ Up)) }
     {
         if self.ports[port.index()] != PortState::Up {
-            return Ok(Heard::Nothing);
+            return Ok(None);
         }
-        let mut payload = [0; Accepted::LEN];
-        message.put(&mut payload);
+        let event = Event::Heard {
+            port: port.number(),
+            payload,
+        };
         self.turns += 1;
-        match self.core.market(alloc, port.number(), &payload) {
-            Ok(out) => Ok(Heard::Told(out)),
-            Err(MarketFault::NoMemory) => Err(AllocError),
-            Err(fault) => {
-                self.ports[port.index()] = PortState::Faulted(fault.number());
-                Ok(Heard::Fault(fault.number()))
-            }
+        let outcome = step(&mut self.core, alloc, &event)?;
+        if let Some(fault) = outcome.fault {
+            self.ports[port.index()] = PortState::Faulted(fault);
         }
+        Ok(Some(outcome))
     }
 }

@@ -9,17 +9,9 @@
 #![tactic(auto)]
 
 mod desk;
-mod flags;
-mod frame;
-mod line;
 mod script;
 mod settings;
 mod show;
 mod stop;
-mod words;
 
-pub use flags::Flags;
-pub use script::run_script;
-
-#[cfg(test)]
-mod tests;
+pub use script::{run_program, run_script};

@@ -3,11 +3,9 @@
 ghost use Rattle.std.specs.Prelude.{◌≡◌, ◌≤◌, ◌<◌, ◌+◌, ◌*◌, ◌^◌, length, IfOk, OnOk};
 
 use crate::desk::Desk;
-use crate::flags::Flags;
-use crate::frame::NextNumbers;
-use crate::line::{Line, line_of};
-use crate::show::{client_text, market_text};
+use crate::show::outcome_text;
 use crate::stop::Stop;
+use script_lines::{Line, NextNumbers, line_of, payload_of};
 use std::alloc::{AllocError, Global};
 use std::io::{ErrorKind, Read, Write};
 
@@ -20,16 +18,15 @@ const PIECE: usize = 4_096;
 /// Runs a script: steps each line that `input` gives, and writes what it sends to `output`.
 ///
 /// Answers the status that the script's program ends with: 0 at the script's end; 2 at a line that isn't understood,
-/// with `line N: not understood` on `faults`; 1 where memory runs out, with `out of memory`, and where a read or a write
-/// fails or the script isn't at its end after 1,000,000,000 reads, with `read or write failed`. Nothing is stepped after
-/// that, and what earlier lines printed stays. An output that can't be flushed is a write that failed, whatever else
-/// ended the run. The last line needs no newline, and a read that was interrupted is made again.
+/// with `line N: not understood` on `faults`; 1 where memory runs out, with `out of memory`, and where a read or a
+/// write fails or the script isn't at its end after 1,000,000,000 reads, with `read or write failed`. Nothing is
+/// stepped after that, and what earlier lines printed stays. An output that can't be flushed is a write that failed,
+/// whatever else ended the run. The last line needs no newline, and a read that was interrupted is made again.
 pub fn run_script<R: Read, W: Write, F: Write>(
     alloc: Global,
     input: &mut R,
     output: &mut W,
     faults: &mut F,
-    _flags: Flags,
 ) -> u8
     ensures { result ≤ 2 }
 {
@@ -41,6 +38,25 @@ pub fn run_script<R: Read, W: Write, F: Write>(
             stop.status()
         }
     }
+}
+
+/// Runs the script's program: `run_script`, where the command line has no word but the program's name. With more
+/// `words` nothing is read, `gate_script: no arguments are taken` is told on `faults`, and the status is 2.
+pub fn run_program<R: Read, W: Write, F: Write>(
+    alloc: Global,
+    words: usize,
+    input: &mut R,
+    output: &mut W,
+    faults: &mut F,
+) -> u8
+    ensures status { result ≤ 2 }
+    ensures arguments { 1 < words → result ≡ 2 }
+{
+    if words > 1 {
+        let _ = writeln!(faults, "gate_script: no arguments are taken");
+        return 2;
+    }
+    run_script(alloc, input, output, faults)
 }
 
 /// How a run ended, once its output is flushed.
@@ -122,7 +138,7 @@ impl Script {
             Err(fault) => return Err(Stop::at_line(fault, self.lines)),
         };
         self.line.clear();
-        let text = step_line(alloc, &mut self.desk, &mut self.numbers, &line)?;
+        let text = step_line(alloc, &mut self.desk, &mut self.numbers, line)?;
         output.write_all(text.as_slice())?;
         Ok(())
     }
@@ -133,7 +149,7 @@ fn step_line(
     alloc: Global,
     desk: &mut Desk,
     numbers: &mut NextNumbers,
-    line: &Line,
+    line: Line,
 ) -> Result<Vec<u8>, AllocError>
     requires { desk.old.turns < 2 ^ 58 }
     ensures { desk.new.turns ≤ desk.old.turns + 1 }
@@ -141,13 +157,16 @@ fn step_line(
     match line {
         Line::Empty | Line::At(_) => Ok(Vec::new(alloc)),
         Line::Message(client, message) => {
-            numbers.advance(*client);
-            let out = desk.client(alloc, *client, message)?;
-            client_text(alloc, *client, &out)
+            numbers.advance(client);
+            let outcome = desk.client(alloc, client, message)?;
+            outcome_text(alloc, client.port(), &outcome)
         }
-        Line::Accepted(port, message) => {
-            let heard = desk.market(alloc, *port, message)?;
-            market_text(alloc, *port, &heard)
+        Line::Market(port, message) => {
+            let payload = payload_of(alloc, &message)?;
+            match desk.market(alloc, port, payload)? {
+                Some(outcome) => outcome_text(alloc, port, &outcome),
+                None => Ok(Vec::new(alloc)),
+            }
         }
     }
 }

@@ -2,9 +2,9 @@
 
 ghost use Rattle.std.specs.Prelude.{◌≡◌};
 ghost use Rattle.gate_lines.specs.declared.stop.Stop.TheVariants.{NoMemory, Stream};
-ghost use Rattle.gate_lines.specs.Status.{status_of};
+ghost use Rattle.gate_lines.specs.Status.{status_of, stop_at};
 
-use crate::line::LineFault;
+use script_lines::LineFault;
 use std::alloc::{AllocError, AllocFailed};
 use std::io;
 use thiserror::Error;
@@ -25,7 +25,9 @@ pub enum Stop {
 
 impl Stop {
     /// Why a run stops at the line of this number.
-    pub fn at_line(fault: LineFault, number: u64) -> Stop {
+    pub fn at_line(fault: LineFault, number: u64) -> Stop
+        ensures { result ≡ stop_at number fault }
+    {
         match fault {
             LineFault::NoMemory => Stop::NoMemory,
             LineFault::NotUnderstood => Stop::NotUnderstood(number),

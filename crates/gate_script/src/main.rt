@@ -4,39 +4,34 @@
 //! memory runs out or a read or a write fails. What ended a run is told on standard error.
 #![tactic(auto)]
 
-use gate_lines::{Flags, run_script};
+use gate_lines::run_program;
 use std::env;
 use std::io::{self, BufWriter, ErrorKind};
 use std::process::ExitCode;
 
 fn main(rt: HostRuntime) -> ExitCode {
     match env::args(&rt) {
-        Ok(words) if words.len() > 1 => arguments_refused(&rt),
-        Ok(_) => run(&rt),
+        Ok(words) => run(&rt, words.len()),
         Err(error) if error.kind() == ErrorKind::OutOfMemory => out_of_memory(&rt),
-        Err(_) => arguments_refused(&rt),
+        // an argument that can't be read is an argument
+        Err(_) => run(&rt, 2),
     }
 }
 
-/// Runs the script on standard input.
-fn run(rt: &HostRuntime) -> ExitCode {
+/// Runs the script on standard input, with so many words on the command line.
+fn run(rt: &HostRuntime, words: usize) -> ExitCode {
     let alloc = rt.alloc();
     let Ok(mut output) = BufWriter::new(alloc, io::writer(rt)) else {
         return out_of_memory(rt);
     };
-    let status = run_script(
+    let status = run_program(
         alloc,
+        words,
         &mut rt.reader(),
         &mut output,
         &mut rt.stderr(),
-        Flags::default(),
     );
     ExitCode::from(status)
-}
-
-fn arguments_refused(rt: &impl Eprint) -> ExitCode {
-    let _ = rt.eprintln("gate_script: no arguments are taken");
-    ExitCode::from(2)
 }
 
 fn out_of_memory(rt: &impl Eprint) -> ExitCode {

@@ -15,8 +15,8 @@ use Rattle.order_law.specs.declared.stage.Stage.TheVariants.{Working, Closed}
 use Rattle.order_law.specs.Messages.{Message, text, character}
 use Rattle.order_law.specs.Told as law
 use Rattle.order_histories.specs.OrderRecord.{OrderRecord, after_message, fill_of, last_of, lived, shown_as}
-use Rattle.order_table.specs.declared.progress.Progress.{Progress}
-use Rattle.order_table.specs.Seen.{progressed}
+use Rattle.orders.specs.declared.progress.Progress.{Progress}
+use Rattle.orders.specs.Seen.{progressed}
 use Rattle.to_client.specs.Occasions.{occasion_seen}
 use Rattle.to_client.specs.declared.occasion.Occasion.TheVariants as occasions
 use Rattle.market_rows.specs.May.{may_open_as}

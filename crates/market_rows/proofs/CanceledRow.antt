@@ -10,8 +10,8 @@ use Rattle.order_law.specs.declared.stage.Stage.TheVariants.{Waiting, Working, C
 use Rattle.order_law.specs.Life.{is_working}
 use Rattle.order_law.specs.Told as law
 use Rattle.order_histories.specs.OrderRecord.{OrderRecord, after_message, fill_of, last_of, live_token, lived, shown_as}
-use Rattle.order_table.specs.declared.progress.Progress.{Progress}
-use Rattle.order_table.specs.Seen.{progressed}
+use Rattle.orders.specs.declared.progress.Progress.{Progress}
+use Rattle.orders.specs.Seen.{progressed}
 use Rattle.to_client.specs.Occasions.{occasion_seen}
 use Rattle.to_client.specs.declared.occasion.Occasion.TheVariants as occasions
 use Rattle.market_rows.specs.May.{may_cancel_as}
@@ -26,6 +26,11 @@ module _ (m : Canceled) (b : List ℕ) (o : OrderRecord) (says : SaysCanceled m 
   pub canceled-lawful : is_lawful b o ≡ may_cancel_as m o
   canceled-lawful = rw (says.type, says.token, says.decrement) refl
 
+pub cancel-works : (m : Canceled) (o : OrderRecord) → may_cancel_as m o ≡ true → o.stage ≡ Working
+cancel-works m o may =
+    let live = and_parts (bytes_eq m.token (live_token o) && is_working o.stage) (nat_le 1 m.decrement && nat_le m.decrement o.unfilled) may in
+    works-is o.stage (and_parts (bytes_eq m.token (live_token o)) (is_working o.stage) live.0).1
+
 pub cancel-few : (m : Canceled) (o : OrderRecord) → may_cancel_as m o ≡ true → m.decrement ≤ o.unfilled
 cancel-few m o may = leb-true m.decrement o.unfilled (and_parts (nat_le 1 m.decrement) (nat_le m.decrement o.unfilled) (and_parts (bytes_eq m.token (live_token o) && is_working o.stage) (nat_le 1 m.decrement && nat_le m.decrement o.unfilled) may).1).1
 
@@ -35,7 +40,7 @@ module _ (issued : ℕ) (m : Canceled) (b : List ℕ) (o : OrderRecord) (p : Pro
   token = (and_parts (bytes_eq m.token (live_token o)) (is_working o.stage) (and_parts (bytes_eq m.token (live_token o) && is_working o.stage) (nat_le 1 m.decrement && nat_le m.decrement o.unfilled) may).0).0
 
   works : o.stage ≡ Working
-  works = works-is o.stage ((and_parts (bytes_eq m.token (live_token o)) (is_working o.stage) (and_parts (bytes_eq m.token (live_token o) && is_working o.stage) (nat_le 1 m.decrement && nat_le m.decrement o.unfilled) may).0).1)
+  works = cancel-works m o may
 
   few : m.decrement ≤ o.unfilled
   few = cancel-few m o may

@@ -11,10 +11,10 @@ use Rattle.order_law.specs.declared.trade.Trade.{Trade}
 use Rattle.order_law.specs.Life.{is_working}
 use Rattle.order_law.specs.Told as law
 use Rattle.order_histories.specs.OrderRecord.{OrderRecord, ToldTrade, after_message, fill_of, last_of, live_token, lived, shown_as}
-use Rattle.order_table.specs.declared.order.ToldTrade as table
-use Rattle.order_table.specs.declared.progress.Progress.{Progress}
-use Rattle.order_table.specs.Seen.{told_seen}
-use Rattle.order_table.specs.Seen.{progressed}
+use Rattle.orders.specs.declared.order.ToldTrade as table
+use Rattle.orders.specs.declared.progress.Progress.{Progress}
+use Rattle.orders.specs.Seen.{told_seen}
+use Rattle.orders.specs.Seen.{progressed}
 use Rattle.order_table.specs.Held.{with_trade}
 use Rattle.to_client.specs.Occasions.{occasion_seen}
 use Rattle.to_client.specs.declared.occasion.Occasion.TheVariants as occasions
@@ -67,6 +67,10 @@ trade-few m o may =
     leb-true m.shares o.unfilled
     (and_parts (nat_le 1 m.shares) (nat_le m.shares o.unfilled) (and_parts (is_open m o) (not (is_known m o)) (and_parts (is_found m o) (is_open m o && not (is_known m o)) may).1).0).1
 
+pub trade-works : (m : Executed) (o : OrderRecord) → may_trade_as m o ≡ true → o.stage ≡ Working
+trade-works m o may =
+    works-is o.stage (and_parts (bytes_eq m.token (live_token o)) (is_working o.stage) (and_parts (is_found m o) (is_open m o && not (is_known m o)) may).0).1
+
 module _ (issued : ℕ) (m : Executed) (b : List ℕ) (o : OrderRecord) (p : Progress) (says : SaysExecuted m b) (no_r : o.replace ≡ None) (no_c : o.cancel ≡ None) (may : may_trade_as m o ≡ true)
     (refused : p.is_refused ≡ o.is_refused) (price : p.price ≡ o.price) (unfilled : p.unfilled ≡ o.unfilled - m.shares) (executed : p.executed ≡ o.executed + m.shares)
     (cancelled : p.cancelled ≡ o.cancelled) (value : p.value ≡ o.value + m.shares * m.price) where
@@ -77,7 +81,7 @@ module _ (issued : ℕ) (m : Executed) (b : List ℕ) (o : OrderRecord) (p : Pro
   token = found.0
 
   works : o.stage ≡ Working
-  works = works-is o.stage found.1
+  works = trade-works m o may
 
   few : m.shares ≤ o.unfilled
   few = trade-few m o may

@@ -9,8 +9,8 @@ use Rattle.order_law.specs.declared.stage.Stage.TheVariants.{Waiting, Working, C
 use Rattle.order_law.specs.Life.{is_waiting}
 use Rattle.order_law.specs.Told as law
 use Rattle.order_histories.specs.OrderRecord.{OrderRecord, after_message, fill_of, last_of, live_token, lived, shown_as}
-use Rattle.order_table.specs.declared.progress.Progress.{Progress}
-use Rattle.order_table.specs.Seen.{progressed}
+use Rattle.orders.specs.declared.progress.Progress.{Progress}
+use Rattle.orders.specs.Seen.{progressed}
 use Rattle.to_client.specs.Occasions.{occasion_seen}
 use Rattle.to_client.specs.declared.occasion.Occasion.TheVariants as occasions
 use Rattle.market_rows.specs.May.{may_reject_as}
@@ -21,7 +21,7 @@ waits-is Waiting e = refl
 waits-is Working e = absurd (let x : false ≡ true = e in cc)
 waits-is Closed e = absurd (let x : false ≡ true = e in cc)
 
-or-false : (a : Bool) → (a || false) ≡ a
+pub or-false : (a : Bool) → (a || false) ≡ a
 or-false true = refl
 or-false false = refl
 

@@ -1,6 +1,6 @@
 //! What comes of a message on an order.
 
-ghost use Rattle.std.specs.Prelude.{◌≡◌};
+ghost use Rattle.std.specs.Prelude.{◌≡◌, ◌<◌, ◌≤◌, vec_len};
 ghost use Rattle.market_rows.specs.declared.heard.RowFault.TheVariants.{NoMemory};
 
 use fix_types::Report;
@@ -15,14 +15,18 @@ pub enum Change {
     To(Progress),
     /// It has come so far, with one trade more.
     Traded(Progress, ToldTrade),
+    /// It has come so far, with its trades of this match number marked as broken.
+    Broken(Progress, u64),
 }
 
 /// What comes of a message that is lawful of an order.
 #[derive(Debug, Drop)]
 pub struct Heard {
     pub change: Change,
-    /// What its client is told, in order.
+    /// What its client is told, in order: one report or two.
     pub reports: Vec<Report>,
+    ghost some: { 0 < vec_len reports },
+    ghost few: { vec_len reports ≤ 2 },
 }
 
 /// Why nothing comes of a message.

@@ -8,6 +8,7 @@
 #![tactic(auto)]
 
 mod accepted;
+mod broken;
 mod canceled;
 mod executed;
 mod heard;
@@ -15,8 +16,9 @@ mod quiet;
 mod rejected;
 
 pub use accepted::on_accepted;
+pub use broken::on_broken;
 pub use canceled::on_canceled;
 pub use executed::on_executed;
 pub use heard::{Change, Heard, RowFault};
-pub use quiet::is_cancel_rejected;
+pub use quiet::{is_cancel_rejected, is_replaced};
 pub use rejected::on_rejected;

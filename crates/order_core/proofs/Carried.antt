@@ -1,26 +1,27 @@
--- What is met of an outcome is met of its equal.
+-- What is met of a verdict is met of its equal.
 use Rattle.std.proofs.Common.{◌≡◌, ℕ, subst, sym}
-use Rattle.std.specs.Prelude.{Result}
 use Rattle.fix_types.specs.declared.new_order.NewOrder.{NewOrder}
-use Rattle.order_law.specs.Asks.{Standing}
-use Rattle.order_law.specs.History.{terms_of}
-use Rattle.order_law.specs.Verdicts.{Port, Verdict}
-use Rattle.order_machine.specs.Table.{State}
-use Rattle.order_machine.specs.Machine.{Given, by_verdict, refuse, verdict_in}
-use Rattle.order_core.specs.declared.outcome.CoreOut.{CoreOut}
+use Rattle.fix_types.specs.NewOrder.{new_order_fields}
+use Rattle.order_law.specs.History.{Terms, terms_of}
+use Rattle.order_law.specs.Verdicts.{Accepted, Port, Verdict}
+use Rattle.order_histories.specs.Table.{State}
+use Rattle.order_histories.specs.Machine.{accept_new, by_verdict, refuse_new, verdict_in}
 use Rattle.to_market.specs.declared.refusal.Refusal.{Refusal}
 use Rattle.to_market.specs.Refusals.{code_of, refused_by, words_of}
-use Rattle.order_core.specs.declared.market_fault.MarketFault.{MarketFault}
-use Rattle.order_core.specs.declared.outcome.MarketOut.{MarketOut}
-use Rattle.order_core.specs.Meets.{GivesClient, MeetsClient, MeetsMarket}
+use Rattle.order_core.specs.declared.outcome.CoreOut.{CoreOut}
+use Rattle.order_core.specs.Meets.{GivesClient, MeetsNew}
 
-pub carried : (g h : Given) (result : Result MarketOut MarketFault) (new : State) → g ≡ h → MeetsMarket h result new → MeetsMarket g result new
-carried g h result new e meets = rw e meets
+module _ (old : State) (client : ℕ) (d : NewOrder) (port : Port) (out : CoreOut) (new : State) where
+  -- what is given by a verdict
+  abbrev given : Verdict → Type 0
+  given v = GivesClient (terms_of old.terms client) port (by_verdict old client (new_order_fields d) v) out new
 
--- what is given where a new order is refused is met where that is the verdict
-pub refused : (old : State) (client : ℕ) (d : NewOrder) (port : Port) (refusal : Refusal) (out : CoreOut) (new : State)
-    → verdict_in old client port d ≡ refused_by refusal
-    → ((standing : Standing) (state : Port) → GivesClient standing state (refuse old client d (code_of refusal) (words_of refusal)) out new)
-    → MeetsClient old client d port out new
-refused old client d port refusal out new e gives =
-    subst (λ (v : Verdict). GivesClient (terms_of old.terms client).standing port (by_verdict old client d v) out new) (sym e) (gives (terms_of old.terms client).standing port)
+  pub refused : (row : Refusal) → verdict_in old client port (new_order_fields d) ≡ refused_by row
+      → ((terms : Terms) (state : Port) → GivesClient terms state (refuse_new old client (new_order_fields d) (code_of row) (words_of row)) out new)
+      → MeetsNew old client d port out new
+  refused row e gives = subst (λ (v : Verdict). given v) (sym e) (gives (terms_of old.terms client) port)
+
+  pub accepted : verdict_in old client port (new_order_fields d) ≡ Accepted
+      → GivesClient (terms_of old.terms client) port (accept_new old client (new_order_fields d)) out new
+      → MeetsNew old client d port out new
+  accepted e gives = subst (λ (v : Verdict). given v) (sym e) gives

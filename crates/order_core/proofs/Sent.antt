@@ -1,5 +1,5 @@
 -- What is sent of an ask.
-use Rattle.std.proofs.Common.{◌≡◌, ℕ, ◌+◌, List, [], refl, sym, subst₂, ◌∙◌, decimal}
+use Rattle.std.proofs.Common.{◌≡◌, ℕ, ◌+◌, List, [], length, refl, sym, subst₂, ◌∙◌, decimal}
 use Rattle.std.specs.Prelude.{Option}
 use Rattle.tokens.specs.TokenText.{token_text}
 use Rattle.fix_types.specs.declared.new_order.NewOrder.{NewOrder}
@@ -8,7 +8,7 @@ use Rattle.ouch_codec.specs.declared.inbound.enter_order.EnterOrder.{EnterOrder}
 use Rattle.order_law.specs.Headline.{Says, Sends}
 use Rattle.order_law.specs.History.{Asked, Terms, terms_of}
 use Rattle.order_law.specs.Verdicts.{Port, Down, Up, Ended, Faulted}
-use Rattle.order_machine.specs.Table.{State}
+use Rattle.order_histories.specs.Table.{State}
 use Rattle.to_market.specs.declared.client_terms.ClientTerms.{ClientTerms}
 use Rattle.to_market.specs.declared.new_ask.NewAsk.{NewAsk}
 use Rattle.order_core.specs.Meets.{AsksNext}
@@ -24,7 +24,7 @@ nothing_sent (Faulted n) P = refl
 
 -- an Enter Order that is made of what an order asks is the next one of its client
 pub asks_next : (s : State) (client : ℕ) (d : NewOrder) (terms : ClientTerms) (token : List ℕ) (ask : NewAsk) (enter : EnterOrder)
-    → terms_of s.terms client ≡ terms_seen terms → token ≡ token_text (s.tokens + 1) → AsksAs ask terms.capacity (new_order_fields d)
+    → terms_of s.terms client ≡ terms_seen terms → token ≡ token_text (length s.tokens + 1) → AsksAs ask terms.capacity (new_order_fields d)
     → enter.token ≡ token → enter.shares ≡ ask.shares → enter.price ≡ ask.price
     → ((order : List ℕ) (order_of : List ℕ → Option ℕ) → Says (standing_of terms) order_of (asked_with order token terms.capacity (new_order_fields d)) (enter_bytes enter))
     → AsksNext s client d enter

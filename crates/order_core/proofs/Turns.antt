@@ -1,104 +1,109 @@
--- A call that meets the machine leads on, as a turn.
-use Rattle.std.proofs.Common.{◌≡◌, ℕ, true, List, [], ◌∷◌, map, refl, sym, ap, ◌∙◌, Some, None, Result, Ok, Err}
-use Rattle.std.specs.Prelude.{MatchResult}
+-- A call that meets the table's step leads on, as a turn.
+use Rattle.std.proofs.Common.{◌≡◌, ℕ, suc, ◌<◌, true, false, List, [], ◌∷◌, refl, sym, ap, ◌∙◌, arith, None, Result, Ok, Err, get_or}
+use Rattle.std.specs.Prelude.{OnErr, nat_lt}
+use Rattle.std.proofs.lemmas.Bool.Decides.{nat_tests}
 use Rattle.fix_types.specs.declared.application.AppMsg.{AppMsg}
 use Rattle.fix_types.specs.declared.application.AppMsg.TheVariants as messages
 use Rattle.fix_types.specs.declared.new_order.NewOrder.{NewOrder}
-use Rattle.fix_types.specs.declared.report.Report.{Report}
-use Rattle.fix_types.specs.Report.{report_fields}
-use Rattle.order_law.specs.Verdicts.{Accepted, Refused, Verdict}
-use Rattle.order_law.specs.History.{History, Terms}
-use Rattle.order_machine.specs.Table.{State}
-use Rattle.order_machine.specs.Machine.{Given, accept, by_verdict, client_step, market_step, refuse, verdict_in}
-use Rattle.order_machine.specs.Runs.{IsServed, Leaves}
-use Rattle.order_machine.proofs.Faults.{market-alone}
-use Rattle.order_machine.proofs.Runs.{Leaves-more}
-use Rattle.order_core.specs.declared.market_fault.MarketFault.{MarketFault}
-use Rattle.order_core.specs.declared.market_fault.MarketFault.TheVariants as faults
+use Rattle.fix_types.specs.NewOrder.{new_order_fields}
+use Rattle.order_law.specs.Verdicts.{Accepted, Port, Refused, Verdict}
+use Rattle.order_law.specs.History.{History, Terms, Turn}
+use Rattle.order_histories.specs.Told.{AreBytes}
+use Rattle.order_histories.specs.Table.{State}
+use Rattle.order_histories.specs.Machine.{Given, by_verdict, faulty, market_step, verdict_in}
+use Rattle.order_histories.specs.Runs.{Leads, Leaves}
+use Rattle.market_turns.specs.Turns.{number_of}
+use Rattle.market_turns.specs.declared.market_fault.MarketFault.{MarketFault}
+use Rattle.order_core.specs.declared.market_error.MarketError.{MarketError}
+use Rattle.order_core.specs.declared.market_error.MarketError.TheVariants as errors
 use Rattle.order_core.specs.declared.outcome.CoreOut.{CoreOut}
 use Rattle.order_core.specs.declared.outcome.MarketOut.{MarketOut}
-use Rattle.order_core.specs.declared.port_state.PortState.{PortState}
-use Rattle.order_core.specs.Meets.{GivesMarket, MeetsMarket, MeetsMessage}
-use Rattle.order_core.specs.Seen.{body, number_of, port_seen}
-use Rattle.order_core.specs.Turns.{IsTurn, body_fields, is_served_message, client_turn, fault_turn, market_turn, told_turn}
+use Rattle.to_market.specs.declared.port_state.PortState.{PortState}
+use Rattle.order_core.specs.Meets.{GivesMarket, IsPassedOver, MeetsMarket, MeetsMessage}
+use Rattle.to_market.specs.PortsSeen.{port_seen}
+use Rattle.order_core.specs.Turns.{OfTurn, client_turn, fault_turn, is_served_message, told_turn}
 
-same-bodies : (reports : List Report) → map body_fields (map body reports) ≡ map report_fields reports
-same-bodies [] = refl
-same-bodies (r ∷ reports) = ap (λ bodies. report_fields r ∷ bodies) (same-bodies reports)
+-- the bytes of a slice are below 256
+pub all-bytes : (bytes : List ℕ) → ((i : ℕ) → get_or bytes i 0 < 256) → AreBytes bytes
+all-bytes [] below = refl
+all-bytes (byte ∷ bytes) below =
+    let first : nat_lt byte 256 ≡ true = grind (arith, nat_tests, below 0) in
+    rw (first, all-bytes bytes (λ i. below (suc i))) refl
 
-no-fault : (s : State) (client : ℕ) (d : NewOrder) (v : Verdict) → (by_verdict s client d v).fault ≡ None
-unfolding accept refuse
+Leaves-more : (terms : List Terms) (before : History) (old : State) (t : Turn) (new : State) → Leaves terms before old → Leads old t new → Leaves terms (t ∷ before) new
+unfolding Leaves
+Leaves-more terms before old t new leaves leads = (old, leaves, leads)
+
+no-fault : (s : State) (client : ℕ) (d : NewOrder) (v : Verdict) → (by_verdict s client (new_order_fields d) v).fault ≡ None
 no-fault s client d Accepted = refl
 no-fault s client d (Refused code why) = refl
 
-for-client : (s : State) (client : ℕ) (d : NewOrder) (v : Verdict) → (by_verdict s client d v).client ≡ client
-unfolding accept refuse
+for-client : (s : State) (client : ℕ) (d : NewOrder) (v : Verdict) → (by_verdict s client (new_order_fields d) v).client ≡ client
 for-client s client d Accepted = refl
 for-client s client d (Refused code why) = refl
 
 -- a client's call
 pub Leaves-client : (terms : List Terms) (before : History) (old : State) (client : ℕ) (message : AppMsg) (port : PortState) (out : CoreOut) (new : State)
-    → is_served_message message ≡ true → MeetsMessage old client message (port_seen port) out new → Leaves terms before old → Leaves terms (client_turn client message port out ∷ before) new
+    → is_served_message message ≡ true → MeetsMessage old client message (port_seen port) out new
+    → Leaves terms before old → Leaves terms (client_turn client message port out ∷ before) new
 Leaves-client terms before old client (messages.Cancel d) port out new served meets leaves = absurd (cc)
 Leaves-client terms before old client (messages.Replace d) port out new served meets leaves = absurd (cc)
 Leaves-client terms before old client (messages.New d) port out new served meets leaves =
-    let v = verdict_in old client (port_seen port) d in
-    Leaves-more terms before old (client_turn client (messages.New d) port out) new leaves (
-      d,
-      refl,
-      record {
-        outcome = record {
-          state = meets.state;
-          client = sym (for-client old client d v);
-          bodies = ap (map body_fields) meets.bodies ∙ same-bodies (client_step old client d (port_seen port)).bodies;
-          fault = sym (no-fault old client d v);
-        };
+    let v = verdict_in old client (port_seen port) (new_order_fields d) in
+    Leaves-more terms before old (client_turn client (messages.New d) port out) new leaves (record {
+      is_event = tt;
+      meets = record {
+        state = meets.state;
+        client = sym (for-client old client d v);
+        bodies = meets.bodies;
+        fault = sym (no-fault old client d v);
         sends = meets.sends;
-      },
-    )
+      };
+    })
 
--- a port's call that was handled
+-- a message that isn't served is passed over
+pub passed : (old : State) (client : ℕ) (message : AppMsg) (port : Port) (out : CoreOut) (new : State)
+    → is_served_message message ≡ false → MeetsMessage old client message port out new → IsPassedOver old out new
+passed old client (messages.Cancel d) port out new other meets = meets
+passed old client (messages.Replace d) port out new other meets = meets
+passed old client (messages.New d) port out new other meets = absurd (cc)
+
+-- a payload that was handled
 pub Leaves-told : (terms : List Terms) (before : History) (old : State) (port : ℕ) (payload : List ℕ) (out : MarketOut) (new : State)
-    → IsServed payload → GivesMarket (market_step old port payload) out new → Leaves terms before old → Leaves terms (told_turn port payload out ∷ before) new
-Leaves-told terms before old port payload out new served meets leaves =
-    Leaves-more terms before old (told_turn port payload out) new leaves (
-      served,
-      record {
-        outcome = record {
-          state = meets.state;
-          client = meets.client;
-          bodies = ap (map body_fields) meets.bodies ∙ same-bodies (market_step old port payload).bodies;
-          fault = sym meets.fault;
-        };
-        sends = refl;
-      },
-    )
+    → AreBytes payload → GivesMarket (market_step old port payload) out new
+    → Leaves terms before old → Leaves terms (told_turn port payload out ∷ before) new
+Leaves-told terms before old port payload out new bytes meets leaves =
+    Leaves-more terms before old (told_turn port payload out) new leaves (record {
+      is_event = λ executed. bytes;
+      meets = record { state = meets.state; client = meets.client; bodies = meets.bodies; fault = sym meets.fault; sends = refl };
+    })
 
 -- and one that is a fault
 pub Leaves-fault : (terms : List Terms) (before : History) (old : State) (port : ℕ) (payload : List ℕ) (fault : MarketFault) (new : State)
-    → IsServed payload → (market_step old port payload).fault ≡ Some (number_of fault) → new ≡ old → Leaves terms before old → Leaves terms (fault_turn port payload fault ∷ before) new
-Leaves-fault terms before old port payload fault new served is same leaves =
-    let alone = market-alone old port payload (number_of fault) is in
-    Leaves-more terms before old (fault_turn port payload fault) new leaves (
-      served,
-      record {
-        outcome = record {
-          state = same ∙ ap (λ (g : Given). g.state) (sym alone);
-          client = ap (λ (g : Given). g.client) (sym alone);
-          bodies = ap (λ (g : Given). map report_fields g.bodies) (sym alone);
-          fault = sym is;
-        };
+    → AreBytes payload → market_step old port payload ≡ faulty old (number_of fault) → new ≡ old
+    → Leaves terms before old → Leaves terms (fault_turn port payload fault ∷ before) new
+Leaves-fault terms before old port payload fault new bytes is same leaves =
+    Leaves-more terms before old (fault_turn port payload fault) new leaves (record {
+      is_event = λ executed. bytes;
+      meets = record {
+        state = same ∙ ap (λ (g : Given). g.state) (sym is);
+        client = ap (λ (g : Given). g.client) (sym is);
+        bodies = ap (λ (g : Given). g.bodies) (sym is);
+        fault = ap (λ (g : Given). g.fault) (sym is);
         sends = refl;
-      },
-    )
+      };
+    })
 
-pub Leaves-market : (terms : List Terms) (before : History) (old : State) (port : ℕ) (payload : List ℕ) (result : Result MarketOut MarketFault) (new : State)
-    → MeetsMarket (market_step old port payload) result new
-    → Rattle.std.specs.Prelude.OnErr result (new ≡ old)
-    → IsTurn result → IsServed payload → Leaves terms before old → Leaves terms (market_turn port payload result ∷ before) new
-Leaves-market terms before old port payload (Ok out) new meets same turn served leaves = Leaves-told terms before old port payload out new served meets leaves
-Leaves-market terms before old port payload (Err faults.NoMemory) new meets same turn served leaves = absurd turn
-Leaves-market terms before old port payload (Err faults.Undecodable) new meets same turn served leaves = Leaves-fault terms before old port payload faults.Undecodable new served meets same leaves
-Leaves-market terms before old port payload (Err faults.UnknownToken) new meets same turn served leaves = Leaves-fault terms before old port payload faults.UnknownToken new served meets same leaves
-Leaves-market terms before old port payload (Err faults.NotLawful) new meets same turn served leaves = Leaves-fault terms before old port payload faults.NotLawful new served meets same leaves
-Leaves-market terms before old port payload (Err faults.OutsideProfile) new meets same turn served leaves = Leaves-fault terms before old port payload faults.OutsideProfile new served meets same leaves
+-- what holds of every turn that may come of it
+pub OfTurn-weaker : (port : ℕ) (payload : List ℕ) (result : Result MarketOut MarketError) (P Q : Turn → Type 0) → ((t : Turn) → P t → Q t) → OfTurn port payload result P → OfTurn port payload result Q
+OfTurn-weaker port payload (Ok out) P Q weaker p = weaker (told_turn port payload out) p
+OfTurn-weaker port payload (Err errors.NoMemory) P Q weaker p = tt
+OfTurn-weaker port payload (Err (errors.Faulty fault)) P Q weaker p = weaker (fault_turn port payload fault) p
+
+pub Leaves-market : (old : State) (port : ℕ) (payload : List ℕ) (result : Result MarketOut MarketError) (new : State)
+    → AreBytes payload → MeetsMarket old (market_step old port payload) result new → OnErr result (new ≡ old)
+    → OfTurn port payload result (λ turn. (terms : List Terms) (before : History) → Leaves terms before old → Leaves terms (turn ∷ before) new)
+Leaves-market old port payload (Ok out) new bytes meets same = λ terms before leaves. Leaves-told terms before old port payload out new bytes meets leaves
+Leaves-market old port payload (Err errors.NoMemory) new bytes meets same = tt
+Leaves-market old port payload (Err (errors.Faulty fault)) new bytes meets same =
+    λ terms before leaves. Leaves-fault terms before old port payload fault new bytes meets same leaves

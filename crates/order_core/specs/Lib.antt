@@ -1,7 +1,5 @@
 pub mod State
 pub mod Seen
 pub mod Meets
-pub mod Opening
-pub mod Amounts
 pub mod Turns
 pub mod Runs

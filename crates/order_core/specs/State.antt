@@ -1,6 +1,6 @@
--- What callers see of the order machine: its table.
+-- What callers see of the table: how many clients and numbers there are.
 use Rattle.std.specs.Prelude.{ℕ, ◌+◌, ◌<◌, ◌≤◌, ◌^◌, length}
-use Rattle.order_machine.specs.Table.{State}
+use Rattle.order_histories.specs.Table.{State}
 
 -- how many clients there are
 abbrev pub clients : State → ℕ
@@ -13,7 +13,7 @@ pub record IsClient (s : State) (client : ℕ) : Type 0 where
 
 -- how many numbers were given, to orders, reports and tokens together
 abbrev pub issued : State → ℕ
-issued s = s.order_ids + s.exec_ids + s.tokens
+issued s = s.order_ids + s.exec_ids + length s.tokens
 
 -- numbers are left for one call more, and for far more than any day has
 abbrev pub HasRoom : State → Type 0

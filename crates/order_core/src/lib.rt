@@ -6,20 +6,15 @@
 //! Source: FIX 4.4 Volume 4, "Order State Change Matrices"; OUCH 4.2, order messages.
 #![tactic(auto)]
 
-mod market_fault;
+mod market_error;
 mod order_core;
-mod orders;
 mod outcome;
-mod port_state;
 mod runs;
-mod to_client;
+mod used_ids;
 
-pub use market_fault::MarketFault;
+pub use market_error::MarketError;
+pub use market_turns::MarketFault;
 pub use order_core::OrderCore;
 pub use outcome::{CoreOut, MarketOut};
-pub use port_state::PortState;
 pub use runs::{Event, Outcome, run, step};
-pub use to_market::ClientTerms;
-
-#[cfg(test)]
-mod tests;
+pub use to_market::{ClientTerms, PortState};

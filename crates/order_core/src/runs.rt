@@ -1,21 +1,22 @@
 //! Whole runs: what comes of a list of events, from no order on.
 
-ghost use Rattle.std.specs.Prelude.{◌≡◌, ◌≤◌, ◌<◌, ◌+◌, ◌^◌, ◌∷◌, true, List, length, map, IfOk, OnErr};
+ghost use Rattle.std.specs.Prelude.{◌≡◌, ◌≤◌, ◌<◌, ◌+◌, ◌^◌, ◌∷◌, true, false, Some, List, length, map, IfOk, OnErr};
 ghost use Rattle.order_law.specs.Headline.{Headline};
 ghost use Rattle.order_law.specs.History.{Came, Heard, History, Terms};
-ghost use Rattle.order_machine.specs.Runs.{IsRun, IsServed, Leaves};
-ghost use Rattle.order_core.specs.Runs.{AreKnown, AreServed, history, is_known, is_served, outcome_turn, turn_of};
-ghost use Rattle.order_core.specs.Seen.{port_seen, terms_seen};
+ghost use Rattle.order_histories.specs.Runs.{IsRun, Leaves};
+ghost use Rattle.order_core.specs.Runs.{AreKnown, AreServed, IsPassed, history, is_known, is_served, outcome_turn, sender, turn_of};
+ghost use Rattle.to_market.specs.PortsSeen.{port_seen};
+ghost use Rattle.order_core.specs.Seen.{terms_seen};
 ghost use Rattle.order_core.specs.State.{clients, issued, HasRoom, IsClient};
 ghost use Rattle.order_core.specs.Turns.{is_served_message, message_fields};
 
-use crate::market_fault::MarketFault;
+use crate::market_error::MarketError;
 use crate::order_core::OrderCore;
-use crate::port_state::PortState;
 use fix_types::{AppBody, AppMsg};
+use order_histories::tables_have_the_headline;
 use ouch_codec::Inbound;
 use std::alloc::{AllocError, Global};
-use to_market::ClientTerms;
+use to_market::{ClientTerms, PortState};
 
 /// What comes to the order level.
 #[derive(Debug, Drop)]
@@ -54,6 +55,7 @@ pub fn step(core: &mut OrderCore, alloc: Global, event: &Event) -> Result<Outcom
         → Leaves terms before core.old → Leaves terms (turn_of event.now outcome ∷ before) core.new) }
     ensures headline { IfOk result (λ outcome. is_served event.now ≡ true → (terms : List Terms) (before : History)
         → length before < 2 ^ 58 → Leaves terms before core.old → Headline terms (turn_of event.now outcome ∷ before)) }
+    ensures passed { is_served event.now ≡ false → IfOk result (λ outcome. IsPassed core.old (sender event.now) outcome core.new) }
     ensures clients { clients core.new ≡ clients core.old }
     ensures issued { issued core.new ≤ issued core.old + 3 }
     ensures err { OnErr result (core.new ≡ core.old) }
@@ -83,6 +85,7 @@ fn client_outcome(
     ensures headline { IfOk result (λ outcome. is_served_message message.now ≡ true → (terms : List Terms) (before : History)
         → length before < 2 ^ 58 → Leaves terms before core.old
         → Headline terms (outcome_turn (Came client (message_fields message.now) (port_seen port)) outcome ∷ before)) }
+    ensures passed { is_served_message message.now ≡ false → IfOk result (λ outcome. IsPassed core.old (Some client) outcome core.new) }
     ensures clients { clients core.new ≡ clients core.old }
     ensures issued { issued core.new ≤ issued core.old + 3 }
     ensures err { OnErr result (core.new ≡ core.old) }
@@ -104,10 +107,10 @@ fn market_outcome(
     payload: &[u8],
 ) -> Result<Outcome, AllocError>
     requires room { HasRoom core.old }
-    ensures leaves { IfOk result (λ outcome. IsServed payload.now → (terms : List Terms) (before : History)
+    ensures leaves { IfOk result (λ outcome. (terms : List Terms) (before : History)
         → Leaves terms before core.old
         → Leaves terms (outcome_turn (Heard port payload.now) outcome ∷ before) core.new) }
-    ensures headline { IfOk result (λ outcome. IsServed payload.now → (terms : List Terms) (before : History)
+    ensures headline { IfOk result (λ outcome. (terms : List Terms) (before : History)
         → length before < 2 ^ 58 → Leaves terms before core.old
         → Headline terms (outcome_turn (Heard port payload.now) outcome ∷ before)) }
     ensures clients { clients core.new ≡ clients core.old }
@@ -121,8 +124,8 @@ fn market_outcome(
             sends: Vec::new(alloc),
             fault: None,
         }),
-        Err(MarketFault::NoMemory) => Err(AllocError),
-        Err(fault) => Ok(Outcome {
+        Err(MarketError::NoMemory) => Err(AllocError),
+        Err(MarketError::Faulty(fault)) => Ok(Outcome {
             client: None,
             bodies: Vec::new(alloc),
             sends: Vec::new(alloc),
@@ -133,8 +136,8 @@ fn market_outcome(
 
 /// What comes of these events, one after another from no order on, for clients with these terms.
 ///
-/// Each outcome is just what the table's machine gives, and after each of them the headline holds of all turns so far. The
-/// payloads have types that are served.
+/// Where the clients' messages are new orders, each outcome is exactly what the table's step gives, and after each of them
+/// the headline holds of all turns so far, whatever the payloads are.
 pub fn run(
     alloc: Global,
     terms: &[ClientTerms],
@@ -148,6 +151,7 @@ pub fn run(
     ensures headline { AreServed events.now
         → IfOk result (λ outcomes. Headline (map terms_seen terms.now) (history events.now outcomes.items)) }
 {
+    tables_have_the_headline();
     let mut core = OrderCore::new(alloc, terms)?;
     let mut outcomes = Vec::new(alloc);
     for event in events {

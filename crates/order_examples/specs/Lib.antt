@@ -3,6 +3,7 @@ pub mod Exchanges
 pub mod Computed
 pub mod Lawful
 pub mod Outstanding
+pub mod AskedLists
 pub mod Stated
 pub mod Misstated
 pub mod AskRows

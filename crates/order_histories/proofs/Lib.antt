@@ -36,3 +36,7 @@ pub mod Ids
 pub mod Stepping
 pub mod Answering
 pub mod Running
+pub mod OnPorts
+pub mod Unanswered
+pub mod NewlyAsked
+pub mod AllAsked

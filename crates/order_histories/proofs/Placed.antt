@@ -1,11 +1,12 @@
 -- An order in its place in the table, and all others as they were.
-use Rattle.std.proofs.Common.{◌≡◌, ℕ, Bool, true, false, List, [], ◌∷◌, map, refl, sym, ap, ◌∙◌, bytes_eq}
+use Rattle.std.proofs.Common.{◌≡◌, ℕ, Bool, true, false, List, [], ◌∷◌, map, refl, sym, ap, ◌∙◌, bytes_eq, Some}
 use Rattle.std.specs.Prelude.{if◌then◌else◌}
+use Rattle.std.specs.List.{find}
 use Rattle.order_law.specs.History.{Entry}
 use Rattle.order_law.specs.Headline.{Each}
 use Rattle.order_histories.specs.OrderRecord.{OrderRecord}
 use Rattle.order_histories.specs.Table.{has_number, put}
-use Rattle.order_histories.proofs.Texts.{eq-is, eq-true, eq-turned}
+use Rattle.order_histories.proofs.Texts.{eq-is, eq-same, eq-turned}
 
 -- all OrderIDs are different
 abbrev pub AreDistinct : List Entry → Type 0
@@ -37,3 +38,24 @@ entries-put P p (o ∷ os) same each = by_number (has_number p.new.order o) refl
     by_number : (b : Bool) → has_number p.new.order o ≡ b → entries_of (put p os) ≡ entries_of os → entries_of (if b then p ∷ os else o ∷ put p os) ≡ o.new ∷ entries_of os
     by_number true here rest = ap (λ (e : Entry). e ∷ entries_of os) (sym (same o each.0 (eq-is o.new.order p.new.order here)))
     by_number false other rest = ap (λ es. o.new ∷ es) rest
+
+-- ---- what has a number then
+
+pub number-put_own : (p : OrderRecord) (os : List OrderRecord) (x : OrderRecord) → find (has_number p.new.order) os ≡ Some x → find (has_number p.new.order) (put p os) ≡ Some p
+number-put_own p [] x found = absurd (cc)
+number-put_own p (o ∷ os) x found = by_number (has_number p.new.order o) refl found (number-put_own p os x)
+  where
+    by_number : (b : Bool) → has_number p.new.order o ≡ b → (if b then Some o else find (has_number p.new.order) os) ≡ Some x
+        → (find (has_number p.new.order) os ≡ Some x → find (has_number p.new.order) (put p os) ≡ Some p)
+        → find (has_number p.new.order) (if b then p ∷ os else o ∷ put p os) ≡ Some p
+    by_number true here found later = rw (eq-same p.new.order) refl
+    by_number false other found later = rw other (later found)
+
+pub number-put_other : (p : OrderRecord) (k : List ℕ) → bytes_eq p.new.order k ≡ false → (os : List OrderRecord) → find (has_number k) (put p os) ≡ find (has_number k) os
+number-put_other p k apart [] = refl
+number-put_other p k apart (o ∷ os) = by_number (has_number p.new.order o) refl (number-put_other p k apart os)
+  where
+    by_number : (b : Bool) → has_number p.new.order o ≡ b → find (has_number k) (put p os) ≡ find (has_number k) os
+        → find (has_number k) (if b then p ∷ os else o ∷ put p os) ≡ find (has_number k) (o ∷ os)
+    by_number true here rest = let off : bytes_eq o.new.order k ≡ false = ap (λ i. bytes_eq i k) (eq-is o.new.order p.new.order here) ∙ apart in rw (apart, off) refl
+    by_number false other rest = rw rest refl

@@ -28,7 +28,7 @@ pub record Holding (terms : List Terms) (h : History) (s : State) : Type 0 where
 -- ---- a client's message
 
 module _ (terms : List Terms) (before : History) (s : State) (t : IsTable terms before s) (short : length before < 2 ^ 59) (client : ℕ) (m : Message) (port : Port) (sends : List (List ℕ)) where
-  abbrev Goes : Given → Type 0
+  abbrev pub Goes : Given → Type 0
   Goes g = Steps terms before s t short client m port sends g × (g.client ≡ client) × (g.fault ≡ None)
 
   -- a request on an order that isn't known is refused
@@ -48,7 +48,7 @@ module _ (terms : List Terms) (before : History) (s : State) (t : IsTable terms 
         refl,
       )
 
-  client-goes : Goes (client_step s client m port)
+  pub client-goes : Goes (client_step s client m port)
   client-goes = by_w (verdict_in s client port m) refl
     where
       accepted_by : (b : Bool) → is_new_order m ≡ b → verdict_in s client port m ≡ Accepted → Goes (if b then accept_new s client m else accept_request s client m)
@@ -138,7 +138,7 @@ module _ (terms : List Terms) (before : History) (s : State) (h : Holding terms 
       answers = market-Answers terms before s tb short port m is_event []
 
   -- a turn by its parts
-  same-turn : (t : Turn) (e : Event) (client : ℕ) (bodies : List Message) (sends : List (List ℕ)) (fault : Option ℕ) → t.event ≡ e → t.client ≡ client → t.bodies ≡ bodies → t.sends ≡ sends → t.fault ≡ fault
+  pub same-turn : (t : Turn) (e : Event) (client : ℕ) (bodies : List Message) (sends : List (List ℕ)) (fault : Option ℕ) → t.event ≡ e → t.client ≡ client → t.bodies ≡ bodies → t.sends ≡ sends → t.fault ≡ fault
       → record { event = e; client = client; bodies = bodies; sends = sends; fault = fault } ≡ t
   same-turn t e client bodies sends fault is_e is_client is_bodies is_sends is_fault = rw (sym is_e, sym is_client, sym is_bodies, sym is_sends, sym is_fault) refl
 

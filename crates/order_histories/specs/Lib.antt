@@ -3,3 +3,4 @@ pub mod Told
 pub mod Table
 pub mod Machine
 pub mod Runs
+pub mod Outstanding

@@ -1,9 +1,10 @@
 //! The law of told histories, for those who reason about runs.
 
-ghost use Rattle.std.specs.Prelude.{◌<◌, ◌^◌, ◌∷◌, List, filter, length};
-ghost use Rattle.order_law.specs.History.{Entry, History, Terms, Turn, accepted, is_new_order};
+ghost use Rattle.std.specs.Prelude.{ℕ, ◌≡◌, ◌<◌, ◌^◌, ◌∷◌, List, filter, length};
+ghost use Rattle.order_law.specs.History.{Entry, History, Terms, Turn, accepted, is_new_order, outstanding};
 ghost use Rattle.order_law.specs.Headline.{Each, Headline, IsTrueToMarket};
 ghost use Rattle.order_law.specs.Told.{reports_in};
+ghost use Rattle.order_histories.specs.Outstanding.{LeavesAsked, OnPort, on_port};
 ghost use Rattle.order_histories.specs.Runs.{Leaves};
 ghost use Rattle.order_histories.specs.Table.{State};
 ghost use Rattle.order_histories.specs.Told.{IsTold};
@@ -20,4 +21,13 @@ pub fn told_orders_are_true()
 /// It does nothing: its contract is the law, for callers to cite.
 pub fn tables_have_the_headline()
     ensures { (terms : List Terms) (h : History) (s : State) → length h < 2 ^ 59 → Leaves terms h s → Headline terms h }
+{}
+
+/// The list of what is asked and not answered, which is kept beside the table, has on each port what the law reads from all
+/// turns, in the order in which it was asked; and the turns leave the table without it too. It does nothing: its contract is
+/// the law, for callers to cite.
+pub fn lists_have_what_is_outstanding()
+    ensures lists { (terms : List Terms) (h : History) (s : State) (asked : List OnPort) → length h < 2 ^ 59 → LeavesAsked terms h s asked
+        → (port : ℕ) → on_port port asked ≡ outstanding terms port h }
+    ensures tables { (terms : List Terms) (h : History) (s : State) (asked : List OnPort) → LeavesAsked terms h s asked → Leaves terms h s }
 {}

@@ -7,4 +7,4 @@
 
 mod laws;
 
-pub use laws::{tables_have_the_headline, told_orders_are_true};
+pub use laws::{lists_have_what_is_outstanding, tables_have_the_headline, told_orders_are_true};

@@ -122,6 +122,11 @@ newest-none {A = A} test xs e = by_test (nat_lt (position_or_len test (reverse x
     by_test true h same = absurd (cc)
     by_test false h same = find_at test (reverse xs) ∙ slice_get_past (reverse xs) (position_or_len test (reverse xs)) (past (position_or_len test (reverse xs)) (length (reverse xs)) h)
 
+-- a place is of a test that something passes
+pub newest-there : {A : Type 0} (test : A → Bool) (xs : List A) (place : ℕ) → IsNewest test xs place → find test (reverse xs) ≡ None → ⊥
+newest-there test [] place newest none = absurd (omega (arith, newest.inside))
+newest-there test (x ∷ xs) place newest none = let at = slice_get-get_or (x ∷ xs) place x newest.inside in let found = newest.newest in cc
+
 -- an order with the number, written at the place
 pub put-newest : (order : List ℕ) (xs : List OrderRecord) (place : ℕ) (p : OrderRecord) → IsNewest (has_number order) xs place → p.new.order ≡ order → put p (reverse xs) ≡ reverse (slice_set xs place p)
 put-newest order xs place p newest same =

@@ -4,8 +4,8 @@ use Rattle.std.specs.List.{find}
 use Rattle.order_histories.specs.OrderRecord.{OrderRecord, mark}
 use Rattle.order_histories.specs.OrderRecord as record_of
 use Rattle.order_histories.specs.Table.{GivenToken, has_number, is_token, put}
-use Rattle.order_table.specs.declared.progress.Progress.{Progress}
-use Rattle.order_table.specs.Seen.{progressed}
+use Rattle.orders.specs.declared.progress.Progress.{Progress}
+use Rattle.orders.specs.Seen.{progressed}
 use Rattle.std.specs.Prelude.{map, ◌≡◌, ◌<◌, ◌-◌, Bool, length, reverse, slice_get}
 use Rattle.std.specs.List.{position_or_len}
 

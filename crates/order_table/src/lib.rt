@@ -5,9 +5,8 @@
 
 mod order;
 mod places;
-mod progress;
 mod table;
 
-pub use order::{Order, ToldTrade};
-pub use progress::Progress;
+pub use order::Order;
+pub use orders::{Progress, ToldTrade};
 pub use table::{GivenToken, Table};

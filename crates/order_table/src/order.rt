@@ -1,18 +1,13 @@
 //! An accepted order.
 
-use crate::progress::Progress;
+ghost use Rattle.std.specs.Prelude.{◌≡◌, []};
+ghost use Rattle.order_law.specs.declared.stage.Stage.TheVariants.{Waiting};
+
 use fix_types::NewOrder;
-use order_law::Trade;
+use orders::{Progress, ToldTrade};
 use std::marker::Model;
 
-/// A trade, and the ExecID (17) under which its client was told of it.
-#[derive(Clone, Copy, Debug, PartialEq, Eq)]
-pub struct ToldTrade {
-    pub trade: Trade,
-    pub number: u64,
-}
-
-/// An accepted order. Contracts see it as `order_histories`' record.
+/// An accepted order without requests. Contracts see it as `order_histories`' record.
 #[derive(Debug, Drop)]
 pub struct Order {
     /// The number of its client, from 1.
@@ -26,8 +21,9 @@ pub struct Order {
     pub message: NewOrder,
     /// How far it has come.
     pub progress: Progress,
-    /// Its trades, the oldest first.
+    /// Its trades, the oldest first: none while it waits.
     pub trades: Vec<ToldTrade>,
+    ghost trades_set: { progress.stage ≡ Waiting → trades.items ≡ [] },
 }
 
 impl Model for Order {
@@ -35,7 +31,7 @@ impl Model for Order {
     ghost use Rattle.fix_types.specs.NewOrder.{new_order_fields};
     ghost use Rattle.order_law.specs.Messages.{text};
     ghost use Rattle.order_histories.specs.OrderRecord as record_of;
-    ghost use Rattle.order_table.specs.Seen.{told_seen};
+    ghost use Rattle.orders.specs.Seen.{told_seen};
 
     ghost Value = { record_of.OrderRecord };
 

@@ -3,10 +3,10 @@
 ghost use Rattle.std.specs.Prelude.{◌≡◌, ◌<◌, ◌++◌, ◌∷◌, [], vec_len, vec_capacity};
 ghost use Rattle.order_histories.specs.Table as table;
 
-use crate::order::{Order, ToldTrade};
+use crate::order::Order;
 use crate::places::{place_of, token_place};
-use crate::progress::Progress;
 use order_law::Stage;
+use orders::{Progress, ToldTrade, mark};
 use std::alloc::{AllocError, Global};
 use std::marker::Model;
 
@@ -47,11 +47,12 @@ impl Model for Table {
 }
 
 impl Table {
-    ghost use Rattle.std.specs.Prelude.{[], ◌∷◌, IfOk, OnErr, MatchOption, Some, None, decimal, length};
+    ghost use Rattle.std.specs.Prelude.{◌≢◌, [], ◌∷◌, IfOk, OnErr, MatchOption, Some, None, decimal, length};
     ghost use Rattle.order_histories.specs.OrderRecord as record_of;
     ghost use Rattle.order_histories.specs.Table.{open_count};
+    ghost use Rattle.order_law.specs.declared.stage.Stage.TheVariants.{Waiting};
     ghost use Rattle.order_table.specs.Held.{changed, found, with_number, with_trade, without_trade};
-    ghost use Rattle.order_table.specs.Seen.{progressed, told_seen};
+    ghost use Rattle.orders.specs.Seen.{progressed, told_seen};
 
     /// No orders and no tokens. Takes no memory.
     pub fn new(alloc: Global) -> Table
@@ -109,24 +110,29 @@ impl Table {
         }
     }
 
-    /// The order with an OrderID has come so far.
+    /// The order with an OrderID has come so far. Where no order has it, nothing changes.
     pub fn change(&mut self, order_id: u64, progress: Progress)
-        ensures { (o : record_of.OrderRecord) → with_number self.old order_id ≡ Some o → self.new ≡ changed (progressed progress o) self.old }
+        requires { progress.stage ≢ Waiting }
+        ensures changed { (o : record_of.OrderRecord) → with_number self.old order_id ≡ Some o → self.new ≡ changed (progressed progress o) self.old }
+        ensures unknown { with_number self.old order_id ≡ None → self.new ≡ self.old }
     {
         if let Some(place) = place_of(&self.orders, order_id) {
             self.orders[place].progress = progress;
         }
     }
 
-    /// The order with an OrderID has come so far, with one trade more. `AllocError` leaves the table as it was.
+    /// The order with an OrderID has come so far, with one trade more. Where no order has it, nothing changes. `AllocError`
+    /// leaves the table as it was.
     pub fn trade(
         &mut self,
         order_id: u64,
         progress: Progress,
         told: ToldTrade,
     ) -> Result<(), AllocError>
+        requires { progress.stage ≢ Waiting }
         ensures traded { IfOk result (λ nothing. (o : record_of.OrderRecord) → with_number self.old order_id ≡ Some o
             → self.new ≡ changed (with_trade (told_seen told) progress o) self.old) }
+        ensures unknown { with_number self.old order_id ≡ None → self.new ≡ self.old }
         ensures err { OnErr result (self.new ≡ self.old) }
     {
         if let Some(place) = place_of(&self.orders, order_id) {
@@ -135,6 +141,21 @@ impl Table {
             order.progress = progress;
         }
         Ok(())
+    }
+
+    /// The order with an OrderID has come so far, with its trades of this match number marked as broken. Where no order
+    /// has it, nothing changes.
+    pub fn break_trade(&mut self, order_id: u64, progress: Progress, match_number: u64)
+        requires { progress.stage ≢ Waiting }
+        ensures broken { (o : record_of.OrderRecord) → with_number self.old order_id ≡ Some o
+            → self.new ≡ changed (without_trade match_number progress o) self.old }
+        ensures unknown { with_number self.old order_id ≡ None → self.new ≡ self.old }
+    {
+        if let Some(place) = place_of(&self.orders, order_id) {
+            let order = &mut self.orders[place];
+            mark(&mut order.trades, match_number);
+            order.progress = progress;
+        }
     }
 }
 

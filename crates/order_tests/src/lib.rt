@@ -1,4 +1,4 @@
-//! Tests of the public calls of `order_table` and `to_client`. Nothing else stands here.
+//! Tests of the public calls of `order_table`, `to_client` and `order_core`. Nothing else stands here.
 //!
 //! Expected numbers and texts are typed in, never taken from a run.
 #![tactic(auto)]
@@ -9,5 +9,7 @@ mod orders;
 mod progress;
 #[cfg(test)]
 mod reports;
+#[cfg(test)]
+mod runs;
 #[cfg(test)]
 mod tables;

@@ -33,6 +33,6 @@ inside-fraction_text n = by_test (n == 0)
     by_test false = inside-take (significant n) (four_digits n) (inside-four_digits n)
 
 -- no printed price has one
-pub inside-price_text : (n : ℕ) → n < 2 ^ 64 → list_all is_inside (price_text n) ≡ true
+pub inside-price_text : (n : ℕ) → n < 2 ^ 70 → list_all is_inside (price_text n) ≡ true
 unfolding price_text
 inside-price_text n h = inside-append (decimal (n / 10_000)) (fraction_text (n % 10_000)) (inside-decimal (n / 10_000) (omega arith)) (inside-fraction_text (n % 10_000))

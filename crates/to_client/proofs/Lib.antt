@@ -1,2 +1,6 @@
 pub mod Inside
+pub mod Statuses
 pub mod Reported
+pub mod Refused
+pub mod OnRequests
+pub mod Answered

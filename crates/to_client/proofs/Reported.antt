@@ -1,137 +1,200 @@
--- A report with the fields of an occasion is the one that the law writes.
-use Rattle.std.proofs.Common.{◌≡◌, ℕ, List, [], ◌∷◌, Bool, true, false, refl, ap, ◌∙◌, decimal, codes}
-use Rattle.std.specs.Prelude.{Option, Some, None, option_map, ◌==◌, if◌then◌else◌}
+-- A report that is filled in so is the one that the law writes.
+use Rattle.std.proofs.Common.{◌≡◌, ℕ, List, [], ◌∷◌, ◌++◌, refl, sym, ap, ◌∙◌, append_assoc, decimal, codes}
+use Rattle.std.proofs.lemmas.List.{append-nil}
+use Rattle.std.specs.Prelude.{Option, Some, None, map, option_map, unwrap_or}
 use Rattle.std.specs.Fmt.{digits}
+use Rattle.fix_fields.specs.Field.{Field}
 use Rattle.fixed_point.specs.Price.{price_text}
 use Rattle.fix_types.specs.declared.report.Report.{Report}
-use Rattle.fix_types.specs.Report.{report_fields}
+use Rattle.fix_types.specs.Report.{report_fields, report_slots}
 use Rattle.fix_values.specs.Letters.{exec_letter, status_letter}
-use Rattle.order_law.specs.declared.stage.Stage.{Stage}
-use Rattle.order_law.specs.declared.stage.Stage.TheVariants.{Waiting, Working, Closed}
+use Rattle.fix_values.specs.Slots.{Slot, appended, char_text, number_text, slot_fields, value_fields}
 use Rattle.order_law.specs.Messages.{Message, text}
-use Rattle.order_law.specs.Asks.{total_of}
+use Rattle.order_law.specs.History.{Entry}
 use Rattle.order_law.specs.Reading.{average_of}
 use Rattle.order_law.specs.Told as law
-use Rattle.order_histories.specs.OrderRecord.{OrderRecord, shown_as}
-use Rattle.order_table.specs.declared.progress.Progress.{Progress}
-use Rattle.order_table.specs.Seen.{progressed}
 use Rattle.to_client.specs.declared.occasion.Details.{Details}
 use Rattle.to_client.specs.declared.occasion.Occasion.{Occasion}
 use Rattle.to_client.specs.declared.occasion.Occasion.TheVariants as occasions
-use Rattle.to_client.specs.Occasions.{IsTold, details_of, leaves_in, occasion_seen, status_as, status_at}
+use Rattle.to_client.specs.declared.shown.Request.{Request}
+use Rattle.to_client.specs.declared.shown.Shown.{Shown}
+use Rattle.to_client.specs.Occasions.{average_of_text, details_of, occasion_seen}
+use Rattle.to_client.specs.Shows.{IsAnyRequest, IsOccasion, ShowsAs, id_told, orig_told, report_with}
+use Rattle.to_client.proofs.Statuses.{status-shown}
 
--- OrdStatus, where no request is pending
-status-told : (p : Progress) (o : OrderRecord) → o.replace ≡ None → o.cancel ≡ None → status_letter (status_as p) ∷ [] ≡ law.status_of (shown_as (progressed p o))
-status-told p o no_r no_c = rw (no_r, no_c) (by_flag p.is_refused)
-  where
-    by_total : (b : Bool) → status_letter (if b then Rattle.fix_values.specs.declared.ord_status.OrdStatus.TheVariants.Filled else Rattle.fix_values.specs.declared.ord_status.OrdStatus.TheVariants.Canceled) ∷ [] ≡ (if b then codes "2" else codes "4")
-    by_total true = refl
-    by_total false = refl
+-- slots one after another are their fields one after another
+appended-in_order : (fs : List Field) (slots : List Slot) → appended fs slots ≡ fs ++ law.in_order (map slot_fields slots)
+appended-in_order fs [] = sym (append-nil fs)
+appended-in_order fs (s ∷ slots) = appended-in_order (fs ++ slot_fields s) slots ∙ append_assoc fs (slot_fields s) (law.in_order (map slot_fields slots))
 
-    by_some : (b : Bool) → status_letter (if b then Rattle.fix_values.specs.declared.ord_status.OrdStatus.TheVariants.New else Rattle.fix_values.specs.declared.ord_status.OrdStatus.TheVariants.PartiallyFilled) ∷ [] ≡ (if b then codes "0" else codes "1")
-    by_some true = refl
-    by_some false = refl
+same_part : (tag : ℕ) (value : Option (List ℕ)) → value_fields tag value ≡ law.optional tag value
+same_part tag None = refl
+same_part tag (Some value) = refl
 
-    by_stage : (s : Stage) → status_letter (status_at s p) ∷ [] ≡ law.status_in (shown_as (progressed p o)) s
-    by_stage Closed = by_total (p.executed == p.total)
-    by_stage Waiting = refl
-    by_stage Working = by_some (p.executed == 0)
-
-    by_flag : (b : Bool) → status_letter (if b then Rattle.fix_values.specs.declared.ord_status.OrdStatus.TheVariants.Rejected else status_at p.stage p) ∷ [] ≡ (if b then codes "8" else law.status_in (shown_as (progressed p o)) p.stage)
-    by_flag true = refl
-    by_flag false = by_stage p.stage
-
--- LeavesQty, where the total of an order that waits is its message's
-leaves-told : (p : Progress) (asked : ℕ) → (p.stage ≡ Waiting → p.total ≡ asked) → leaves_in p ≡ law.leaves_at p.stage asked p.unfilled
-leaves-told p asked waiting = by_stage p.stage waiting
-  where
-    by_stage : (s : Stage) → (s ≡ Waiting → p.total ≡ asked) → law.leaves_at s p.total p.unfilled ≡ law.leaves_at s asked p.unfilled
-    by_stage Waiting w = w refl
-    by_stage Working w = refl
-    by_stage Closed w = refl
-
--- what a report says beside its occasion
+-- what a report says, field by field
 record Fields : Type 0 where
   order : List ℕ
   id : List ℕ
-  number : ℕ
+  orig : Option (List ℕ)
+  number : List ℕ
+  broken : Option (List ℕ)
+  kind : List ℕ
   status : List ℕ
+  code : Option (List ℕ)
+  restated : Option (List ℕ)
   symbol : List ℕ
   side : List ℕ
   total : List ℕ
   price : List ℕ
+  shares : Option (List ℕ)
+  at : Option (List ℕ)
   leaves : List ℕ
   executed : List ℕ
   average : List ℕ
+  why : Option (List ℕ)
 
--- the report with these fields, in the standard's order
-abbrev written : Fields → (kind : List ℕ) → (broken code restated shares at why : Option (List ℕ)) → Message
-written f kind broken code restated shares at why = law.in_order (
+-- in the standard's order
+abbrev written : Fields → Message
+written f = law.in_order (
     law.field 35 (codes "8")
     ∷ law.field 37 f.order
     ∷ law.field 11 f.id
-    ∷ law.optional 41 None
-    ∷ law.field 17 (decimal f.number)
-    ∷ law.optional 19 broken
-    ∷ law.field 150 kind
+    ∷ law.optional 41 f.orig
+    ∷ law.field 17 f.number
+    ∷ law.optional 19 f.broken
+    ∷ law.field 150 f.kind
     ∷ law.field 39 f.status
-    ∷ law.optional 103 code
-    ∷ law.optional 378 restated
+    ∷ law.optional 103 f.code
+    ∷ law.optional 378 f.restated
     ∷ law.field 55 f.symbol
     ∷ law.field 54 f.side
     ∷ law.field 38 f.total
     ∷ law.field 44 f.price
-    ∷ law.optional 32 shares
-    ∷ law.optional 31 at
+    ∷ law.optional 32 f.shares
+    ∷ law.optional 31 f.at
     ∷ law.field 151 f.leaves
     ∷ law.field 14 f.executed
     ∷ law.field 6 f.average
-    ∷ law.optional 58 why
+    ∷ law.optional 58 f.why
     ∷ [])
 
-abbrev fields_in : Report → Fields
-fields_in r = record {
+abbrev fields_in : Report → List ℕ → Fields
+fields_in r price = record {
   order = decimal r.order_id;
   id = r.cl_ord_id;
-  number = r.exec_id;
+  orig = r.orig_cl_ord_id;
+  number = decimal r.exec_id;
+  broken = number_text r.exec_ref_id;
+  kind = exec_letter r.exec_type ∷ [];
   status = status_letter r.ord_status ∷ [];
+  code = number_text r.ord_rej_reason;
+  restated = number_text r.exec_restatement_reason;
   symbol = r.symbol;
   side = r.side ∷ [];
   total = r.order_qty;
-  price = Rattle.std.specs.Prelude.unwrap_or r.price [];
+  price = price;
+  shares = number_text r.last_qty;
+  at = r.last_px;
   leaves = decimal r.leaves_qty;
   executed = decimal r.cum_qty;
   average = r.avg_px;
+  why = r.text;
 }
 
-abbrev numbers : Option ℕ → Option (List ℕ)
-numbers x = option_map (λ n. decimal n) x
+report-written : (r : Report) (price : List ℕ) → r.price ≡ Some price → report_fields r ≡ written (fields_in r price)
+report-written r price priced =
+    appended-in_order [] (report_slots r)
+    ∙ rw (priced, same_part 41 r.orig_cl_ord_id, same_part 19 (number_text r.exec_ref_id), same_part 103 (number_text r.ord_rej_reason), same_part 378 (number_text r.exec_restatement_reason), same_part 32 (number_text r.last_qty), same_part 31 r.last_px, same_part 58 r.text) refl
 
--- a report's own fields, for each of the patterns that occasions have
-module _ (r : Report) (orig : r.orig_cl_ord_id ≡ None) (price : List ℕ) (priced : r.price ≡ Some price) where
-  plain-fields : r.exec_ref_id ≡ None → r.ord_rej_reason ≡ None → r.exec_restatement_reason ≡ None → r.last_qty ≡ None → r.last_px ≡ None → r.text ≡ None
-      → report_fields r ≡ written (fields_in r) (exec_letter r.exec_type ∷ []) None None None None None None
-  plain-fields b c d s a w = rw (orig, priced, b, c, d, s, a, w) refl
+-- two that say the same
+record Same (f g : Fields) : Type 0 where
+  order : f.order ≡ g.order
+  id : f.id ≡ g.id
+  orig : f.orig ≡ g.orig
+  number : f.number ≡ g.number
+  broken : f.broken ≡ g.broken
+  kind : f.kind ≡ g.kind
+  status : f.status ≡ g.status
+  code : f.code ≡ g.code
+  restated : f.restated ≡ g.restated
+  symbol : f.symbol ≡ g.symbol
+  side : f.side ≡ g.side
+  total : f.total ≡ g.total
+  price : f.price ≡ g.price
+  shares : f.shares ≡ g.shares
+  at : f.at ≡ g.at
+  leaves : f.leaves ≡ g.leaves
+  executed : f.executed ≡ g.executed
+  average : f.average ≡ g.average
+  why : f.why ≡ g.why
 
-  why-fields : (why : List ℕ) → r.exec_ref_id ≡ None → r.ord_rej_reason ≡ None → r.exec_restatement_reason ≡ None → r.last_qty ≡ None → r.last_px ≡ None → r.text ≡ Some why
-      → report_fields r ≡ written (fields_in r) (exec_letter r.exec_type ∷ []) None None None None None (Some why)
-  why-fields why b c d s a w = rw (orig, priced, b, c, d, s, a, w) refl
+same_written : (f g : Fields) → Same f g → written f ≡ written g
+same_written f g s = rw (s.order, s.id, s.orig, s.number, s.broken, s.kind, s.status, s.code, s.restated, s.symbol, s.side, s.total, s.price, s.shares, s.at, s.leaves, s.executed, s.average, s.why) refl
 
-  trade-fields : (shares : ℕ) (at : List ℕ) → r.exec_ref_id ≡ None → r.ord_rej_reason ≡ None → r.exec_restatement_reason ≡ None → r.last_qty ≡ Some shares → r.last_px ≡ Some at → r.text ≡ None
-      → report_fields r ≡ written (fields_in r) (exec_letter r.exec_type ∷ []) None None None (Some (decimal shares)) (Some at) None
-  trade-fields shares at b c d s a w = rw (orig, priced, b, c, d, s, a, w) refl
+-- as the law has it
+abbrev fields_of : ℕ → law.Occasion → law.Shown → Fields
+fields_of number o s = record {
+  order = s.order;
+  id = unwrap_or (option_map (λ (q : Entry). text 11 q.message) o.request) s.id;
+  orig = option_map (λ (q : Entry). text 41 q.message) o.request;
+  number = decimal number;
+  broken = o.broken;
+  kind = o.exec_type;
+  status = law.status_of s;
+  code = o.code;
+  restated = o.restated;
+  symbol = s.symbol;
+  side = s.side;
+  total = decimal s.total;
+  price = price_text s.price;
+  shares = option_map (λ n. decimal n) o.shares;
+  at = option_map (λ n. price_text n) o.at;
+  leaves = decimal s.leaves;
+  executed = decimal s.executed;
+  average = price_text (average_of s.value s.executed);
+  why = o.why;
+}
 
-  restated-fields : (n : ℕ) (why : List ℕ) → r.exec_ref_id ≡ None → r.ord_rej_reason ≡ None → r.exec_restatement_reason ≡ Some n → r.last_qty ≡ None → r.last_px ≡ None → r.text ≡ Some why
-      → report_fields r ≡ written (fields_in r) (exec_letter r.exec_type ∷ []) None None (Some (decimal n)) None None (Some why)
-  restated-fields n why b c d s a w = rw (orig, priced, b, c, d, s, a, w) refl
+ids : (q : Option Request) (e : Option Entry) (x : Shown) (id : List ℕ) → IsAnyRequest q e → x.cl_ord_id.now ≡ id → id_told q x ≡ unwrap_or (option_map (λ (q : Entry). text 11 q.message) e) id
+ids None None x id is own = own
+ids None (Some e) x id is own = absurd is
+ids (Some q) None x id is own = absurd is
+ids (Some q) (Some e) x id is own = is.id
 
-  broken-fields : (n : ℕ) (why : List ℕ) → r.exec_ref_id ≡ Some n → r.ord_rej_reason ≡ None → r.exec_restatement_reason ≡ None → r.last_qty ≡ None → r.last_px ≡ None → r.text ≡ Some why
-      → report_fields r ≡ written (fields_in r) (exec_letter r.exec_type ∷ []) (Some (decimal n)) None None None None (Some why)
-  broken-fields n why b c d s a w = rw (orig, priced, b, c, d, s, a, w) refl
+origs : (q : Option Request) (e : Option Entry) → IsAnyRequest q e → orig_told q ≡ option_map (λ (q : Entry). text 41 q.message) e
+origs None None is = refl
+origs None (Some e) is = absurd is
+origs (Some q) None is = absurd is
+origs (Some q) (Some e) is = ap (λ (t : List ℕ). Some t) is.orig
 
-  refused-fields : (n : ℕ) (why : List ℕ) → r.exec_ref_id ≡ None → r.ord_rej_reason ≡ Some n → r.exec_restatement_reason ≡ None → r.last_qty ≡ None → r.last_px ≡ None → r.text ≡ Some why
-      → report_fields r ≡ written (fields_in r) (exec_letter r.exec_type ∷ []) None (Some (decimal n)) None None None (Some why)
-  refused-fields n why b c d s a w = rw (orig, priced, b, c, d, s, a, w) refl
+average-shown : (x : Shown) (s : law.Shown) → ShowsAs x s → average_of_text x.progress.now ≡ price_text (average_of s.value s.executed)
+average-shown x s shows = ap (λ v. price_text (average_of v x.progress.now.executed)) shows.value ∙ ap (λ e. price_text (average_of s.value e)) shows.executed
+
+-- the report on an order as it is shown, on this occasion
+pub report-told : (number : ℕ) (d : Details) (q : Option Request) (x : Shown) (o : law.Occasion) (s : law.Shown) → IsOccasion d q o → ShowsAs x s → report_fields (report_with number d q x) ≡ law.report number o s
+report-told number d q x o s is shows =
+    report-written (report_with number d q x) (price_text x.progress.now.price) refl
+    ∙ same_written (fields_in (report_with number d q x) (price_text x.progress.now.price)) (fields_of number o s) (record {
+      order = shows.order;
+      id = ids q o.request x s.id is.request shows.id;
+      orig = origs q o.request is.request;
+      number = refl;
+      broken = is.broken;
+      kind = is.exec_type;
+      status = status-shown x s shows;
+      code = is.code;
+      restated = is.restated;
+      symbol = shows.symbol;
+      side = shows.side;
+      total = ap decimal shows.total;
+      price = ap (λ n. price_text n) shows.price;
+      shares = ap (λ (v : Option ℕ). number_text v) is.shares;
+      at = ap (λ (v : Option ℕ). option_map (λ n. price_text n) v) is.at;
+      leaves = ap decimal shows.leaves;
+      executed = ap decimal shows.executed;
+      average = average-shown x s shows;
+      why = is.why;
+    })
 
 five : decimal 5 ≡ codes "5"
 unfolding digits
@@ -141,72 +204,26 @@ ninety-nine : decimal 99 ≡ codes "99"
 unfolding digits
 ninety-nine = refl
 
-module _ (number : ℕ) (p : Progress) (o : OrderRecord) (r : Report) (waiting : p.stage ≡ Waiting → p.total ≡ total_of o.new.message) where
-  -- the order's own fields are as it is shown
-  fields-shown : (d : Details) → IsTold number d p o r → fields_in r ≡ record {
-    order = o.new.order;
-    id = o.id;
-    number = number;
-    status = law.status_of (shown_as (progressed p o));
-    symbol = text 55 o.new.message;
-    side = text 54 o.new.message;
-    total = decimal p.total;
-    price = price_text p.price;
-    leaves = decimal (law.leaves_at p.stage (total_of o.new.message) p.unfilled);
-    executed = decimal p.executed;
-    average = price_text (average_of p.value p.executed);
-  }
-  fields-shown d t =
-      let status : status_letter r.ord_status ∷ [] ≡ law.status_of (shown_as (progressed p o)) = ap (λ st. status_letter st ∷ []) t.ord_status ∙ status-told p o t.no_replace t.no_cancel in
-      let leaves : decimal r.leaves_qty ≡ decimal (law.leaves_at p.stage (total_of o.new.message) p.unfilled) = ap decimal (t.leaves_qty ∙ leaves-told p (total_of o.new.message) waiting) in
-      let price : Rattle.std.specs.Prelude.unwrap_or r.price [] ≡ price_text p.price = ap (λ x. Rattle.std.specs.Prelude.unwrap_or x []) t.price in
-      ap (λ k. record (fields_in r) { order = k }) t.order
-      ∙ ap (λ k. record (fields_in r) { order = o.new.order; id = k }) t.id
-      ∙ ap (λ n. record (fields_in r) { order = o.new.order; id = o.id; number = n }) t.exec_id
-      ∙ ap (λ k. record (fields_in r) { order = o.new.order; id = o.id; number = number; status = k }) status
-      ∙ ap (λ k. record (fields_in r) { order = o.new.order; id = o.id; number = number; status = law.status_of (shown_as (progressed p o)); symbol = k }) t.symbol
-      ∙ ap (λ k. record (fields_in r) { order = o.new.order; id = o.id; number = number; status = law.status_of (shown_as (progressed p o)); symbol = text 55 o.new.message; side = k }) t.side
-      ∙ ap (λ k. record (fields_in r) { order = o.new.order; id = o.id; number = number; status = law.status_of (shown_as (progressed p o)); symbol = text 55 o.new.message; side = text 54 o.new.message; total = k }) t.order_qty
-      ∙ ap (λ k. record (fields_in r) { order = o.new.order; id = o.id; number = number; status = law.status_of (shown_as (progressed p o)); symbol = text 55 o.new.message; side = text 54 o.new.message; total = decimal p.total; price = k }) price
-      ∙ ap (λ k. record (fields_in r) { order = o.new.order; id = o.id; number = number; status = law.status_of (shown_as (progressed p o)); symbol = text 55 o.new.message; side = text 54 o.new.message; total = decimal p.total; price = price_text p.price; leaves = k }) leaves
-      ∙ ap (λ n. record (fields_in r) { order = o.new.order; id = o.id; number = number; status = law.status_of (shown_as (progressed p o)); symbol = text 55 o.new.message; side = text 54 o.new.message; total = decimal p.total; price = price_text p.price; leaves = decimal (law.leaves_at p.stage (total_of o.new.message) p.unfilled); executed = decimal n }) t.cum_qty
-      ∙ ap (λ k. record (fields_in r) { order = o.new.order; id = o.id; number = number; status = law.status_of (shown_as (progressed p o)); symbol = text 55 o.new.message; side = text 54 o.new.message; total = decimal p.total; price = price_text p.price; leaves = decimal (law.leaves_at p.stage (total_of o.new.message) p.unfilled); executed = decimal p.executed; average = k }) t.avg_px
+-- the occasions without a request
+plain : (d : Details) (o : law.Occasion) → exec_letter d.exec_type ∷ [] ≡ o.exec_type → o.request ≡ None → number_text d.exec_ref_id ≡ o.broken → number_text d.ord_rej_reason ≡ o.code → number_text d.exec_restatement_reason ≡ o.restated
+    → d.last_qty ≡ o.shares → d.last_px ≡ o.at → char_text d.reason ≡ o.why → IsOccasion d None o
+plain d o kind request broken code restated shares at why = record {
+  request = rw request tt;
+  exec_type = kind;
+  broken = broken;
+  code = code;
+  restated = restated;
+  shares = shares;
+  at = at;
+  why = why;
+}
 
-  abbrev Writes : Occasion → Type 0
-  Writes occasion = report_fields r ≡ law.report number (occasion_seen occasion) (shown_as (progressed p o))
-
-  pub report-told : (occasion : Occasion) → IsTold number (details_of occasion) p o r → Writes occasion
-  report-told occasions.PendingNew t =
-      plain-fields r t.no_orig (price_text p.price) t.price t.exec_ref_id t.ord_rej_reason t.exec_restatement_reason t.last_qty t.last_px t.words
-      ∙ ap (λ k. written (fields_in r) (exec_letter k ∷ []) None None None None None None) t.exec_type
-      ∙ ap (λ f. written f (codes "A") None None None None None None) (fields-shown (details_of occasions.PendingNew) t)
-  report-told occasions.New t =
-      plain-fields r t.no_orig (price_text p.price) t.price t.exec_ref_id t.ord_rej_reason t.exec_restatement_reason t.last_qty t.last_px t.words
-      ∙ ap (λ k. written (fields_in r) (exec_letter k ∷ []) None None None None None None) t.exec_type
-      ∙ ap (λ f. written f (codes "0") None None None None None None) (fields-shown (details_of occasions.New) t)
-  report-told (occasions.Trade shares price) t =
-      trade-fields r t.no_orig (price_text p.price) t.price shares (price_text price) t.exec_ref_id t.ord_rej_reason t.exec_restatement_reason t.last_qty t.last_px t.words
-      ∙ ap (λ k. written (fields_in r) (exec_letter k ∷ []) None None None (Some (decimal shares)) (Some (price_text price)) None) t.exec_type
-      ∙ ap (λ f. written f (codes "F") None None None (Some (decimal shares)) (Some (price_text price)) None) (fields-shown (details_of (occasions.Trade shares price)) t)
-  report-told (occasions.Restated reason) t =
-      restated-fields r t.no_orig (price_text p.price) t.price 5 (reason ∷ []) t.exec_ref_id t.ord_rej_reason t.exec_restatement_reason t.last_qty t.last_px t.words
-      ∙ ap (λ k. written (fields_in r) (exec_letter k ∷ []) None None (Some (decimal 5)) None None (Some (reason ∷ []))) t.exec_type
-      ∙ ap (λ k. written (fields_in r) (codes "D") None None (Some k) None None (Some (reason ∷ []))) five
-      ∙ ap (λ f. written f (codes "D") None None (Some (codes "5")) None None (Some (reason ∷ []))) (fields-shown (details_of (occasions.Restated reason)) t)
-  report-told (occasions.Canceled None) t =
-      plain-fields r t.no_orig (price_text p.price) t.price t.exec_ref_id t.ord_rej_reason t.exec_restatement_reason t.last_qty t.last_px t.words
-      ∙ ap (λ k. written (fields_in r) (exec_letter k ∷ []) None None None None None None) t.exec_type
-      ∙ ap (λ f. written f (codes "4") None None None None None None) (fields-shown (details_of (occasions.Canceled None)) t)
-  report-told (occasions.Canceled (Some reason)) t =
-      why-fields r t.no_orig (price_text p.price) t.price (reason ∷ []) t.exec_ref_id t.ord_rej_reason t.exec_restatement_reason t.last_qty t.last_px t.words
-      ∙ ap (λ k. written (fields_in r) (exec_letter k ∷ []) None None None None None (Some (reason ∷ []))) t.exec_type
-      ∙ ap (λ f. written f (codes "4") None None None None None (Some (reason ∷ []))) (fields-shown (details_of (occasions.Canceled (Some reason))) t)
-  report-told (occasions.TradeCancel exec_id reason) t =
-      broken-fields r t.no_orig (price_text p.price) t.price exec_id (reason ∷ []) t.exec_ref_id t.ord_rej_reason t.exec_restatement_reason t.last_qty t.last_px t.words
-      ∙ ap (λ k. written (fields_in r) (exec_letter k ∷ []) (Some (decimal exec_id)) None None None None (Some (reason ∷ []))) t.exec_type
-      ∙ ap (λ f. written f (codes "H") (Some (decimal exec_id)) None None None None (Some (reason ∷ []))) (fields-shown (details_of (occasions.TradeCancel exec_id reason)) t)
-  report-told (occasions.Rejected reason) t =
-      refused-fields r t.no_orig (price_text p.price) t.price 99 (reason ∷ []) t.exec_ref_id t.ord_rej_reason t.exec_restatement_reason t.last_qty t.last_px t.words
-      ∙ ap (λ k. written (fields_in r) (exec_letter k ∷ []) None (Some (decimal 99)) None None None (Some (reason ∷ []))) t.exec_type
-      ∙ ap (λ k. written (fields_in r) (codes "8") None (Some k) None None None (Some (reason ∷ []))) ninety-nine
-      ∙ ap (λ f. written f (codes "8") None (Some (codes "99")) None None None (Some (reason ∷ []))) (fields-shown (details_of (occasions.Rejected reason)) t)
+pub occasion-seen : (occasion : Occasion) → IsOccasion (details_of occasion) None (occasion_seen occasion)
+occasion-seen occasions.PendingNew = plain _ _ refl refl refl refl refl refl refl refl
+occasion-seen occasions.New = plain _ _ refl refl refl refl refl refl refl refl
+occasion-seen (occasions.Trade shares price) = plain _ _ refl refl refl refl refl refl refl refl
+occasion-seen (occasions.Restated reason) = plain _ _ refl refl refl refl (ap (λ (t : List ℕ). Some t) five) refl refl refl
+occasion-seen (occasions.Canceled None) = plain _ _ refl refl refl refl refl refl refl refl
+occasion-seen (occasions.Canceled (Some reason)) = plain _ _ refl refl refl refl refl refl refl refl
+occasion-seen (occasions.TradeCancel exec_id reason) = plain _ _ refl refl refl refl refl refl refl refl
+occasion-seen (occasions.Rejected reason) = plain _ _ refl refl refl (ap (λ (t : List ℕ). Some t) ninety-nine) refl refl refl refl

@@ -1,1 +1,4 @@
 pub mod Occasions
+pub mod Refusals
+pub mod Shows
+pub mod Pending

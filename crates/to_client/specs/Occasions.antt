@@ -1,19 +1,15 @@
 -- What an occasion says in a report, as the law has it and as the report's fields.
-use Rattle.std.specs.Prelude.{◌≡◌, ℕ, ◌==◌, List, [], ◌∷◌, Some, None, option_map, decimal, if◌then◌else◌, codes}
-use Rattle.fix_types.specs.declared.report.Report.{Report}
+use Rattle.std.specs.Prelude.{ℕ, ◌==◌, List, [], ◌∷◌, Some, None, decimal, if◌then◌else◌, codes}
 use Rattle.fix_values.specs.declared.exec_type.ExecType.{ExecType}
 use Rattle.fix_values.specs.declared.exec_type.ExecType.TheVariants as kinds
 use Rattle.fix_values.specs.declared.ord_status.OrdStatus.{OrdStatus}
 use Rattle.fix_values.specs.declared.ord_status.OrdStatus.TheVariants as statuses
-use Rattle.fix_values.specs.Slots.{char_text}
 use Rattle.fixed_point.specs.Price.{price_text}
 use Rattle.order_law.specs.declared.stage.Stage.{Stage}
 use Rattle.order_law.specs.declared.stage.Stage.TheVariants.{Waiting, Working, Closed}
-use Rattle.order_law.specs.Messages.{text}
 use Rattle.order_law.specs.Reading.{average_of}
 use Rattle.order_law.specs.Told as law
-use Rattle.order_histories.specs.OrderRecord.{OrderRecord}
-use Rattle.order_table.specs.declared.progress.Progress.{Progress}
+use Rattle.orders.specs.declared.progress.Progress.{Progress}
 use Rattle.to_client.specs.declared.occasion.Details.{Details}
 use Rattle.to_client.specs.declared.occasion.Occasion.{Occasion}
 use Rattle.to_client.specs.declared.occasion.Occasion.TheVariants as occasions
@@ -33,7 +29,7 @@ occasion_seen (occasions.Canceled (Some reason)) = record (law.plain (codes "4")
 occasion_seen (occasions.TradeCancel exec_id reason) = record (law.plain (codes "H")) { broken = Some (decimal exec_id); why = Some (letter reason) }
 occasion_seen (occasions.Rejected reason) = record (law.plain (codes "8")) { code = Some (codes "99"); why = Some (letter reason) }
 
-abbrev plain_details : ExecType → Details
+abbrev pub plain_details : ExecType → Details
 plain_details exec_type = record { exec_type = exec_type; exec_ref_id = None; ord_rej_reason = None; exec_restatement_reason = None; last_qty = None; last_px = None; reason = None }
 
 -- as fields
@@ -62,28 +58,3 @@ leaves_in p = law.leaves_at p.stage p.total p.unfilled
 -- AvgPx (6)
 abbrev pub average_of_text : Progress → List ℕ
 average_of_text p = price_text (average_of p.value p.executed)
-
--- a report with these details on an order that has come so far
-pub record IsTold (number : ℕ) (d : Details) (p : Progress) (o : OrderRecord) (r : Report) : Type 0 where
-  -- no request is pending
-  pub no_replace : o.replace ≡ None
-  pub no_cancel : o.cancel ≡ None
-  pub order : decimal r.order_id ≡ o.new.order
-  pub id : r.cl_ord_id ≡ o.id
-  pub no_orig : r.orig_cl_ord_id ≡ None
-  pub exec_id : r.exec_id ≡ number
-  pub exec_ref_id : r.exec_ref_id ≡ d.exec_ref_id
-  pub exec_type : r.exec_type ≡ d.exec_type
-  pub ord_status : r.ord_status ≡ status_as p
-  pub ord_rej_reason : r.ord_rej_reason ≡ d.ord_rej_reason
-  pub exec_restatement_reason : r.exec_restatement_reason ≡ d.exec_restatement_reason
-  pub symbol : r.symbol ≡ text 55 o.new.message
-  pub side : r.side ∷ [] ≡ text 54 o.new.message
-  pub order_qty : r.order_qty ≡ decimal p.total
-  pub price : r.price ≡ Some (price_text p.price)
-  pub last_qty : r.last_qty ≡ d.last_qty
-  pub last_px : r.last_px ≡ option_map (λ n. price_text n) d.last_px
-  pub leaves_qty : r.leaves_qty ≡ leaves_in p
-  pub cum_qty : r.cum_qty ≡ p.executed
-  pub avg_px : r.avg_px ≡ average_of_text p
-  pub words : r.text ≡ char_text d.reason

@@ -1,10 +1,24 @@
-//! What a client is told of an order: execution reports.
+//! What a client is told of an order and of its requests: execution reports and rejects.
 #![tactic(auto)]
 
+mod endings;
 mod occasion;
+mod pending;
+mod refusing;
+mod rejecting;
 mod reporting;
+mod request_reports;
+mod shown;
+mod status;
 mod texts;
 
+pub use endings::{push_cancel_rejected, push_canceled, push_reject, push_report, push_too_late};
 pub use occasion::Occasion;
-pub use reporting::{report, status_of};
+pub use pending::Pending;
+pub use refusing::refusal;
+pub use rejecting::cancel_reject;
+pub use reporting::{report, report_of, shown_of};
+pub use request_reports::{report_canceled, report_pending, report_replaced};
+pub use shown::{Request, Shown};
+pub use status::{status_of, status_shown};
 pub use texts::{number_text, price_text};

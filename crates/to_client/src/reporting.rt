@@ -2,20 +2,22 @@
 
 ghost use Rattle.std.specs.Prelude.{◌≡◌, ◌∷◌, [], true, IfOk, IfSome};
 ghost use Rattle.fix_types.specs.Report.{report_fields};
-ghost use Rattle.fix_values.specs.Letters.{status_letter};
 ghost use Rattle.wire_law.specs.Printable.{is_printable};
 ghost use Rattle.order_law.specs.Asks.{total_of};
 ghost use Rattle.order_law.specs.Told as law;
 ghost use Rattle.order_law.specs.declared.stage.Stage.TheVariants.{Waiting};
 ghost use Rattle.order_histories.specs.OrderRecord.{shown_as};
-ghost use Rattle.order_table.specs.Seen.{progressed};
-ghost use Rattle.to_client.specs.Occasions.{IsTold, average_of_text, details_of, leaves_in, occasion_seen, status_as};
+ghost use Rattle.orders.specs.Seen.{progressed};
+ghost use Rattle.to_client.specs.Occasions.{average_of_text, details_of, leaves_in, occasion_seen};
+ghost use Rattle.to_client.specs.Shows.{IsOccasion, ShowsAs, id_told, orig_told, report_with};
 
 use crate::occasion::{Details, Occasion, fields_given_by};
+use crate::shown::{Request, Shown};
+use crate::status::status_shown;
 use crate::texts::{letter_text, number_text, optional_price_text, price_text};
 use fix_fields::Text;
 use fix_types::Report;
-use fix_values::{ClOrdId, OrdStatus};
+use fix_values::ClOrdId;
 use fixed_point::average;
 use order_law::Stage;
 use order_table::{Order, Progress};
@@ -23,8 +25,8 @@ use std::alloc::{AllocError, Global};
 
 /// The report, with an ExecID of this number, of what happened to an order that has then come so far.
 ///
-/// The total of an order that waits is that of its own message; the market's letters are printable. The one error is that
-/// memory ran out.
+/// The total of an order that waits is that of its own message; the market's letters are printable. The one error is
+/// that memory ran out.
 ///
 /// Source: FIX 4.4 Volume 4, "Execution Report".
 pub fn report(
@@ -38,34 +40,83 @@ pub fn report(
     requires reason { IfSome (details_of occasion).reason (λ byte. is_printable byte ≡ true) }
     ensures told { IfOk result (λ r. report_fields r ≡ law.report number (occasion_seen occasion) (shown_as (progressed progress.now order.now))) }
 {
-    filled_in(alloc, number, &fields_given_by(occasion), order, progress)
+    report_of(alloc, number, occasion, &shown_of(order, progress))
 }
 
-/// The report with these details.
+/// The report, with an ExecID of this number, of what happened to an order that is then shown so. The market's letters
+/// are printable. The one error is that memory ran out.
+///
+/// Source: FIX 4.4 Volume 4, "Execution Report".
+pub fn report_of(
+    alloc: Global,
+    number: u64,
+    occasion: Occasion,
+    shown: &Shown,
+) -> Result<Report, AllocError>
+    requires reason { IfSome (details_of occasion).reason (λ byte. is_printable byte ≡ true) }
+    ensures told { IfOk result (λ r. (s : law.Shown) → ShowsAs shown.now s → report_fields r ≡ law.report number (occasion_seen occasion) s) }
+{
+    report_on(alloc, number, &fields_given_by(occasion), &None, shown)
+}
+
+/// An order without requests, as it is shown once it has come so far. The total of an order that waits is that of its
+/// own message.
+pub fn shown_of<'a>(order: &'a Order, progress: &'a Progress) -> Shown<'a>
+    requires { progress.now.stage ≡ Waiting → progress.now.total ≡ total_of order.now.new.message }
+    ensures { ShowsAs result (shown_as (progressed progress.now order.now)) }
+{
+    Shown {
+        order_id: order.order_id,
+        cl_ord_id: &order.message.cl_ord_id,
+        symbol: &order.message.symbol,
+        side: order.message.side,
+        progress,
+        has_pending_cancel: false,
+        has_pending_replace: false,
+    }
+}
+
+/// The report with these details, on a request where there is one.
+pub fn report_on(
+    alloc: Global,
+    number: u64,
+    details: &Details,
+    request: &Option<Request>,
+    shown: &Shown,
+) -> Result<Report, AllocError>
+    requires { IfSome details.now.reason (λ byte. is_printable byte ≡ true) }
+    ensures told { IfOk result (λ r. (o : law.Occasion) (s : law.Shown) → IsOccasion details.now request.now o → ShowsAs shown.now s
+        → report_fields r ≡ law.report number o s) }
+{
+    filled_in(alloc, number, details, request, shown)
+}
+
+/// The same, field by field.
 fn filled_in(
     alloc: Global,
     number: u64,
     details: &Details,
-    order: &Order,
-    progress: &Progress,
+    request: &Option<Request>,
+    shown: &Shown,
 ) -> Result<Report, AllocError>
-    requires reason { IfSome details.now.reason (λ byte. is_printable byte ≡ true) }
-    ensures told { IfOk result (λ r. IsTold number details.now progress.now order.now r) }
+    requires { IfSome details.now.reason (λ byte. is_printable byte ≡ true) }
+    ensures { IfOk result (λ r. r ≡ report_with number details.now request.now shown.now) }
 {
+    let progress = shown.progress;
     Ok(Report {
-        order_id: order.order_id,
-        cl_ord_id: ClOrdId::copied(alloc, order.message.cl_ord_id.as_slice())?,
-        orig_cl_ord_id: None,
+        order_id: shown.order_id,
+        cl_ord_id: own_id(alloc, request, shown)?,
+        orig_cl_ord_id: orig_id(alloc, request)?,
         exec_id: number,
         exec_ref_id: details.exec_ref_id,
         exec_type: details.exec_type,
-        ord_status: status_of(progress),
+        ord_status: status_shown(shown),
         ord_rej_reason: details.ord_rej_reason,
         exec_restatement_reason: details.exec_restatement_reason,
-        symbol: Text::copied(alloc, order.message.symbol.as_slice())?,
-        side: order.message.side,
+        symbol: Text::copied(alloc, shown.symbol.as_slice())?,
+        side: shown.side,
         order_qty: number_text(alloc, progress.total)?,
-        price: Some(price_text(alloc, u64::from(progress.price))?),
+        price: Some(price_text(alloc, u128::from(progress.price))?),
         last_qty: details.last_qty,
         last_px: optional_price_text(alloc, details.last_px)?,
         leaves_qty: leaves(progress),
@@ -75,22 +126,23 @@ fn filled_in(
     })
 }
 
-/// OrdStatus (39) of an order without requests, the first that holds: rejected; closed, with all of it executed or not;
-/// waiting; open, with something executed or not.
-///
-/// Source: FIX 4.4 Volume 6, OrdStatus, with its order of precedence.
-pub fn status_of(progress: &Progress) -> OrdStatus
-    ensures { result ≡ status_as progress.now }
+/// ClOrdID (11): the request's own, or that of the order.
+fn own_id(alloc: Global, request: &Option<Request>, shown: &Shown) -> Result<ClOrdId, AllocError>
+    ensures { IfOk result (λ id. id ≡ id_told request.now shown.now) }
 {
-    if progress.is_refused {
-        return OrdStatus::Rejected;
+    match request {
+        None => ClOrdId::copied(alloc, shown.cl_ord_id.as_slice()),
+        Some(request) => ClOrdId::copied(alloc, request.cl_ord_id.as_slice()),
     }
-    match progress.stage {
-        Stage::Closed if progress.executed == progress.total => OrdStatus::Filled,
-        Stage::Closed => OrdStatus::Canceled,
-        Stage::Waiting => OrdStatus::PendingNew,
-        Stage::Working if progress.executed == 0 => OrdStatus::New,
-        Stage::Working => OrdStatus::PartiallyFilled,
+}
+
+/// OrigClOrdID (41): as the request gave it.
+fn orig_id(alloc: Global, request: &Option<Request>) -> Result<Option<ClOrdId>, AllocError>
+    ensures { IfOk result (λ id. id ≡ orig_told request.now) }
+{
+    match request {
+        None => Ok(None),
+        Some(request) => Ok(Some(ClOrdId::copied(alloc, request.orig_cl_ord_id.as_slice())?)),
     }
 }
 
@@ -109,5 +161,5 @@ fn leaves(progress: &Progress) -> u64
 fn average_text(alloc: Global, progress: &Progress) -> Result<Text, AllocError>
     ensures { IfOk result (λ text. text ≡ average_of_text progress.now) }
 {
-    price_text(alloc, average(progress.value, progress.executed) as u64)
+    price_text(alloc, average(progress.value, progress.executed))
 }

@@ -18,11 +18,12 @@ pub fn number_text(alloc: Global, number: u64) -> Result<Text, AllocError>
     Text::copied(alloc, buffer.format(number).as_bytes())
 }
 
-/// A price in 1/10,000 as its one text.
-pub fn price_text(alloc: Global, units: u64) -> Result<Text, AllocError>
+/// A price in 1/10,000 as its one text: of any price, and of any average.
+pub fn price_text(alloc: Global, units: u128) -> Result<Text, AllocError>
+    requires { units < 2 ^ 70 }
     ensures { IfOk result (λ text. text ≡ spec.price_text units) }
 {
-    Ok(Text::from_vec(print_price(alloc, u128::from(units))?))
+    Ok(Text::from_vec(print_price(alloc, units)?))
 }
 
 /// The text of a price, where there is one.
@@ -31,7 +32,7 @@ pub fn optional_price_text(alloc: Global, units: Option<u32>) -> Result<Option<T
 {
     match units {
         None => Ok(None),
-        Some(units) => Ok(Some(price_text(alloc, u64::from(units))?)),
+        Some(units) => Ok(Some(price_text(alloc, u128::from(units))?)),
     }
 }
 

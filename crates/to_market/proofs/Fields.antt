@@ -13,23 +13,24 @@ use Rattle.order_law.specs.Messages.{Message, has, text, is, is_one_of, characte
 use Rattle.order_law.specs.Asks.{Day, Immediate, total_of, limit_of, minimum_of, display_of, life_time_of, capacity_of}
 use Rattle.order_law.specs.Verdicts.{Row, field_rows, sides, life_times, capacities, is_symbol, is_minimum}
 use Rattle.to_market.specs.declared.refusal.Refusal.TheVariants as refusals
-use Rattle.to_market.specs.FieldRows.{is_among, is_other, life_time, display, minimum, is_no_minimum, is_out_of_range, row, rows_of}
+use Rattle.to_market.specs.FieldRows.{is_among, is_other, life_time, display, minimum, is_no_minimum, row}
+use Rattle.to_market.proofs.Rows.{price_rows, price_rows_of}
 
 -- the tests on a value that may be missing
 other_test : (wanted : List (List ℕ)) (v : Option (List ℕ)) → (is_some v && not (list_any (λ wanted_text. bytes_eq (unwrap_or v []) wanted_text) wanted)) ≡ is_other wanted v
 other_test wanted None = refl
 other_test wanted (Some value) = refl
 
-other-same : (tag : ℕ) (wanted : List (List ℕ)) (m : Message) (v : Option (List ℕ)) → first_value tag m ≡ v → (has tag m && not (is_one_of tag wanted m)) ≡ is_other wanted v
+pub other-same : (tag : ℕ) (wanted : List (List ℕ)) (m : Message) (v : Option (List ℕ)) → first_value tag m ≡ v → (has tag m && not (is_one_of tag wanted m)) ≡ is_other wanted v
 other-same tag wanted m v e = rw e (other_test wanted v)
 
-no_minimum : (total : ℕ) (v : Option (List ℕ)) (m : Message) → first_value 110 m ≡ v → total_of m ≡ total → (has 110 m && not (is_minimum m)) ≡ is_no_minimum total v
+pub no_minimum : (total : ℕ) (v : Option (List ℕ)) (m : Message) → first_value 110 m ≡ v → total_of m ≡ total → (has 110 m && not (is_minimum m)) ≡ is_no_minimum total v
 no_minimum total None m e t = rw e refl
 no_minimum total (Some value) m e t = rw (e, t) refl
 
--- the rows as a table of their tests
-unfoldable table : (side symbol type life instruction capacity quantity minimum missing inexact outside : Bool) → List Row
-table side symbol type life instruction capacity quantity minimum missing inexact outside =
+-- the rows as a table of their tests, and those on 44
+unfoldable pub table : (side symbol type life instruction capacity quantity minimum : Bool) → List Row → List Row
+table side symbol type life instruction capacity quantity minimum prices =
     row side refusals.Side
     ∷ row symbol refusals.Symbol
     ∷ row type refusals.OrderType
@@ -38,21 +39,18 @@ table side symbol type life instruction capacity quantity minimum missing inexac
     ∷ row capacity refusals.Capacity
     ∷ row quantity refusals.Quantity
     ∷ row minimum refusals.MinimumQuantity
-    ∷ row missing refusals.PriceMissing
-    ∷ row inexact refusals.PriceNotExact
-    ∷ row outside refusals.PriceOutOfRange
-    ∷ []
+    ∷ prices
 
-as_table : (m : Message) → field_rows m ≡ table (not (is_one_of 54 sides m)) (not (is_symbol (text 55 m))) (not (is 40 (codes "2") m)) (has 59 m && not (is_one_of 59 life_times m)) (has 18 m && not (is_one_of 18 (codes "6" ∷ []) m)) (has 528 m && not (is_one_of 528 capacities m)) (not (is_ok (quantity 1 (text 38 m)))) (has 110 m && not (is_minimum m)) (not (has 44 m)) (not (is_ok (price (text 44 m))) && not (is_out_of_range (price (text 44 m)))) (is_out_of_range (price (text 44 m)))
+as_table : (m : Message) → field_rows m ≡ table (not (is_one_of 54 sides m)) (not (is_symbol (text 55 m))) (not (is 40 (codes "2") m)) (has 59 m && not (is_one_of 59 life_times m)) (has 18 m && not (is_one_of 18 (codes "6" ∷ []) m)) (has 528 m && not (is_one_of 528 capacities m)) (not (is_ok (quantity 1 (text 38 m)))) (has 110 m && not (is_minimum m)) (price_rows (not (has 44 m)) (price (text 44 m)))
 unfolding table
 as_table m = refl
 
-table_of : (m : NewOrder) → table (not (is_among sides (m.side ∷ []))) (not (is_symbol m.symbol)) (not (bytes_eq (m.ord_type ∷ []) (codes "2"))) (is_other life_times (char_text m.time_in_force)) (is_other (codes "6" ∷ []) m.exec_inst) (is_other capacities (char_text m.order_capacity)) (not (is_ok (quantity 1 m.order_qty))) (is_no_minimum (result_unwrap_or (quantity 1 m.order_qty) 0) m.min_qty) (not (is_some m.price)) (not (is_ok (price (unwrap_or m.price []))) && not (is_out_of_range (price (unwrap_or m.price [])))) (is_out_of_range (price (unwrap_or m.price []))) ≡ rows_of m
-unfolding table
-table_of m = refl
+-- of a message's own fields
+abbrev pub rows_of : NewOrder → List Row
+rows_of m = table (not (is_among sides (m.side ∷ []))) (not (is_symbol m.symbol)) (not (bytes_eq (m.ord_type ∷ []) (codes "2"))) (is_other life_times (char_text m.time_in_force)) (is_other (codes "6" ∷ []) m.exec_inst) (is_other capacities (char_text m.order_capacity)) (not (is_ok (quantity 1 m.order_qty))) (is_no_minimum (result_unwrap_or (quantity 1 m.order_qty) 0) m.min_qty) (price_rows_of m.price)
 
 -- a field that is always there
-text_there : (tag : ℕ) (m : Message) (value : List ℕ) → first_value tag m ≡ Some value → text tag m ≡ value
+pub text_there : (tag : ℕ) (m : Message) (value : List ℕ) → first_value tag m ≡ Some value → text tag m ≡ value
 text_there tag m value e = ap (λ (v : Option (List ℕ)). unwrap_or v []) e
 
 pub total_of-fields : (m : NewOrder) → total_of (new_order_fields m) ≡ result_unwrap_or (quantity 1 m.order_qty) 0
@@ -69,7 +67,7 @@ field_rows-fields m =
     let missing : not (has 44 fs) ≡ not (is_some m.price) = ap (λ (v : Option (List ℕ)). not (is_some v)) (price-value m) in
     let text_of_price : text 44 fs ≡ unwrap_or m.price [] = ap (λ (v : Option (List ℕ)). unwrap_or v []) (price-value m) in
     as_table fs
-    ∙ rw (side, symbol, type, other-same 59 life_times fs _ (life_time-value m), other-same 18 (codes "6" ∷ []) fs _ (instruction-value m), other-same 528 capacities fs _ (capacity-value m), quantity_there, no_minimum _ m.min_qty fs (minimum-value m) (total_of-fields m), missing, text_of_price) (table_of m)
+    ∙ rw (side, symbol, type, other-same 59 life_times fs _ (life_time-value m), other-same 18 (codes "6" ∷ []) fs _ (instruction-value m), other-same 528 capacities fs _ (capacity-value m), quantity_there, no_minimum _ m.min_qty fs (minimum-value m) (total_of-fields m), missing, text_of_price) refl
 
 pub character-fields : (m : NewOrder) → character 54 (new_order_fields m) ≡ m.side
 character-fields m = ap (λ (t : List ℕ). slice_index t 0) (text_there 54 (new_order_fields m) _ (side-value m))
@@ -80,14 +78,14 @@ symbol-fields m = text_there 55 (new_order_fields m) m.symbol (symbol-value m)
 pub limit_of-fields : (m : NewOrder) → limit_of (new_order_fields m) ≡ result_unwrap_or (price (unwrap_or m.price [])) 0
 limit_of-fields m = ap (λ (v : Option (List ℕ)). result_unwrap_or (price (unwrap_or v [])) 0) (price-value m)
 
-life_time_test : (v : Option (List ℕ)) → (if bytes_eq (unwrap_or v []) (codes "3") then Immediate else Day) ≡ life_time v
+pub life_time_test : (v : Option (List ℕ)) → (if bytes_eq (unwrap_or v []) (codes "3") then Immediate else Day) ≡ life_time v
 life_time_test None = refl
 life_time_test (Some value) = refl
 
 pub life_time_of-fields : (m : NewOrder) → life_time_of (new_order_fields m) ≡ life_time (char_text m.time_in_force)
 life_time_of-fields m = ap (λ (v : Option (List ℕ)). if bytes_eq (unwrap_or v []) (codes "3") then Immediate else Day) (life_time-value m) ∙ life_time_test (char_text m.time_in_force)
 
-display_test : (v : Option (List ℕ)) → (if bytes_eq (unwrap_or v []) (codes "6") then 80 else 89) ≡ display v
+pub display_test : (v : Option (List ℕ)) → (if bytes_eq (unwrap_or v []) (codes "6") then 80 else 89) ≡ display v
 display_test None = refl
 display_test (Some value) = refl
 
@@ -101,7 +99,7 @@ capacity_test own (Some byte) = refl
 pub capacity_of-fields : (own : ℕ) (m : NewOrder) → capacity_of own (new_order_fields m) ≡ unwrap_or m.order_capacity own
 capacity_of-fields own m = ap (λ (v : Option (List ℕ)). if is_some v then slice_index (unwrap_or v []) 0 else own) (capacity-value m) ∙ capacity_test own m.order_capacity
 
-minimum_test : (v : Option (List ℕ)) → (if is_some v then result_unwrap_or (quantity 0 (unwrap_or v [])) 0 else 0) ≡ minimum v
+pub minimum_test : (v : Option (List ℕ)) → (if is_some v then result_unwrap_or (quantity 0 (unwrap_or v [])) 0 else 0) ≡ minimum v
 minimum_test None = refl
 minimum_test (Some value) = refl
 

@@ -1,4 +1,9 @@
 pub mod Inside
+pub mod Rows
 pub mod Fields
 pub mod Verdict
 pub mod EnterOrders
+pub mod ReplaceFields
+pub mod RequestBytes
+pub mod RequestVerdict
+pub mod FirstRows

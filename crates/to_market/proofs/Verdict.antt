@@ -1,6 +1,6 @@
 -- The verdict of the rows on a new order's fields, one row after another.
-use Rattle.std.proofs.Common.{◌≡◌, true, false, ℕ, ◌-◌, List, [], ◌∷◌, ◌++◌, length, replicate, refl, sym, ap, ◌∙◌}
-use Rattle.std.specs.Prelude.{◌&&◌, nat_le, is_ok, bytes_eq, codes, Result, Ok, Some, unwrap_or}
+use Rattle.std.proofs.Common.{◌≡◌, Bool, true, false, ℕ, ◌-◌, List, [], ◌∷◌, ◌++◌, length, replicate, refl, sym, ap, ◌∙◌}
+use Rattle.std.specs.Prelude.{◌&&◌, not, nat_le, is_ok, bytes_eq, codes, Result, Ok, Some, unwrap_or}
 use Rattle.std.specs.List.{list_all}
 use Rattle.std.specs.Result.{result_unwrap_or}
 use Rattle.wire_law.specs.Printable.{is_visible}
@@ -9,14 +9,15 @@ use Rattle.fixed_point.specs.declared.refusal.DecimalRefusal.{DecimalRefusal}
 use Rattle.fix_types.specs.declared.new_order.NewOrder.{NewOrder}
 use Rattle.fix_values.specs.Slots.{char_text}
 use Rattle.fix_types.specs.NewOrder.{new_order_fields}
-use Rattle.order_law.specs.Verdicts.{first_row, field_rows, sides, life_times, capacities, is_symbol}
+use Rattle.order_law.specs.Verdicts.{Row, first_row, field_rows, sides, life_times, capacities, is_symbol}
 use Rattle.to_market.specs.declared.refusal.Refusal.TheVariants as refusals
 use Rattle.to_market.specs.Refusals.{refused_by}
-use Rattle.to_market.specs.FieldRows.{is_among, is_other, is_no_minimum, price_rows, amount_rows}
+use Rattle.to_market.specs.FieldRows.{is_among, is_other, is_no_minimum, row}
 use Rattle.to_market.specs.FieldRows.{life_time, display, minimum}
 use Rattle.to_market.specs.NewAsks.{AsksAs}
 use Rattle.to_market.specs.declared.new_ask.NewAsk.{NewAsk}
-use Rattle.to_market.proofs.Fields.{field_rows-fields, character-fields, symbol-fields, total_of-fields, limit_of-fields, life_time_of-fields, display_of-fields, capacity_of-fields, minimum_of-fields}
+use Rattle.to_market.proofs.Rows.{price_rows_of}
+use Rattle.to_market.proofs.Fields.{table, field_rows-fields, character-fields, symbol-fields, total_of-fields, limit_of-fields, life_time_of-fields, display_of-fields, capacity_of-fields, minimum_of-fields}
 use Rattle.order_law.specs.Asks.{LifeTime, side_of_letter, life_time_of_seconds}
 use Rattle.ouch_codec.specs.Letters.{side_letter}
 use Rattle.ouch_codec.specs.Parts.{unpadded}
@@ -33,7 +34,11 @@ pub record PassesTerms (m : NewOrder) : Type 0 where
   pub capacity : is_other capacities (char_text m.order_capacity) ≡ false
 
 -- then those decide
-pub by_amounts : (m : NewOrder) → PassesTerms m → first_row (field_rows (new_order_fields m)) ≡ first_row (amount_rows m)
+abbrev amounts : (quantity minimum : Bool) → List Row → List Row
+amounts quantity minimum prices = row quantity refusals.Quantity ∷ row minimum refusals.MinimumQuantity ∷ prices
+
+pub by_amounts : (m : NewOrder) → PassesTerms m → first_row (field_rows (new_order_fields m)) ≡ first_row (amounts (not (is_ok (quantity 1 m.order_qty))) (is_no_minimum (result_unwrap_or (quantity 1 m.order_qty) 0) m.min_qty) (price_rows_of m.price))
+unfolding table
 by_amounts m passes = ap first_row (field_rows-fields m) ∙ rw (passes.side, passes.symbol, passes.type, passes.life_time, passes.instruction, passes.capacity) refl
 
 pub by_quantity : (m : NewOrder) → PassesTerms m → is_ok (quantity 1 m.order_qty) ≡ false → first_row (field_rows (new_order_fields m)) ≡ refused_by refusals.Quantity
@@ -44,7 +49,7 @@ pub by_minimum : (m : NewOrder) (shares : ℕ) → PassesTerms m → ◌≡◌ {
 by_minimum m shares passes said bad = by_amounts m passes ∙ rw (said, bad) refl
 
 -- and a minimum
-pub by_price : (m : NewOrder) (shares : ℕ) → PassesTerms m → ◌≡◌ {A = Result ℕ DecimalRefusal} (quantity 1 m.order_qty) (Ok shares) → is_no_minimum shares m.min_qty ≡ false → first_row (field_rows (new_order_fields m)) ≡ first_row (price_rows m.price)
+pub by_price : (m : NewOrder) (shares : ℕ) → PassesTerms m → ◌≡◌ {A = Result ℕ DecimalRefusal} (quantity 1 m.order_qty) (Ok shares) → is_no_minimum shares m.min_qty ≡ false → first_row (field_rows (new_order_fields m)) ≡ first_row (price_rows_of m.price)
 by_price m shares passes said good = by_amounts m passes ∙ rw (said, good) refl
 
 unpadded-symbol : (symbol : List ℕ) → is_symbol symbol ≡ true → unpadded (symbol ++ replicate (8 - length symbol) 32) ≡ symbol

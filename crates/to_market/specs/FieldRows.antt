@@ -1,15 +1,13 @@
--- The rows of a new order on its fields, each over the field alone, and what a field that is refused by none says.
--- `proofs/Fields.antt` has that they are the rows of `order_law` on the message's tags, and say what the message asks.
-use Rattle.std.specs.Prelude.{ℕ, Bool, true, false, not, ◌&&◌, nat_le, List, [], ◌∷◌, Option, Some, None, Result, Ok, Err, is_some, is_ok, unwrap_or, slice_index, if◌then◌else◌, bytes_eq, codes}
+-- What the tables judge of a field, over the field alone, and what a field that no row refuses says. The rows themselves stand in
+-- `order_law`; `proofs/Fields.antt` and `proofs/ReplaceFields.antt` have that these are what they judge of a message's tags.
+use Rattle.std.specs.Prelude.{◌≡◌, ℕ, Bool, true, false, not, nat_le, List, Option, Some, None, option_map, Result, Ok, Err, slice_index, if◌then◌else◌, bytes_eq, codes}
 use Rattle.std.specs.List.{list_any}
 use Rattle.std.specs.Result.{result_unwrap_or}
 use Rattle.fixed_point.specs.Decimal.{price, quantity}
 use Rattle.fixed_point.specs.declared.refusal.DecimalRefusal.{DecimalRefusal}
 use Rattle.fixed_point.specs.declared.refusal.DecimalRefusal.TheVariants.{NotFloat, NotExact, OutOfRange}
-use Rattle.fix_types.specs.declared.new_order.NewOrder.{NewOrder}
-use Rattle.fix_values.specs.Slots.{char_text}
 use Rattle.order_law.specs.Asks.{LifeTime, Day, Immediate}
-use Rattle.order_law.specs.Verdicts.{Row, sides, life_times, capacities, is_symbol}
+use Rattle.order_law.specs.Verdicts.{Row}
 use Rattle.to_market.specs.declared.refusal.Refusal.{Refusal}
 use Rattle.to_market.specs.declared.refusal.Refusal.TheVariants as refusals
 use Rattle.to_market.specs.Refusals.{code_of, words_of}
@@ -58,32 +56,18 @@ is_out_of_range (Err NotFloat) = false
 is_out_of_range (Err NotExact) = false
 is_out_of_range (Err OutOfRange) = true
 
--- a row that gives this refusal
+-- a row of new orders that gives this refusal
 abbrev pub row : Bool → Refusal → Row
 row holds refusal = record { holds = holds; code = code_of refusal; why = words_of refusal }
 
--- the rows on 44
-abbrev pub price_rows : Option (List ℕ) → List Row
-price_rows value =
-    row (not (is_some value)) refusals.PriceMissing
-    ∷ row (not (is_ok (price (unwrap_or value []))) && not (is_out_of_range (price (unwrap_or value [])))) refusals.PriceNotExact
-    ∷ row (is_out_of_range (price (unwrap_or value []))) refusals.PriceOutOfRange
-    ∷ []
+-- 44, where it is there, as a price
+abbrev pub price_read : Option (List ℕ) → Option (Result ℕ DecimalRefusal)
+price_read value = option_map (λ t. price t) value
 
--- the rows on 38 and 110, and those on 44
-abbrev pub amount_rows : NewOrder → List Row
-amount_rows m =
-    row (not (is_ok (quantity 1 m.order_qty))) refusals.Quantity
-    ∷ row (is_no_minimum (result_unwrap_or (quantity 1 m.order_qty) 0) m.min_qty) refusals.MinimumQuantity
-    ∷ price_rows m.price
-
--- all of them, in their order
-abbrev pub rows_of : NewOrder → List Row
-rows_of m =
-    row (not (is_among sides (m.side ∷ []))) refusals.Side
-    ∷ row (not (is_symbol m.symbol)) refusals.Symbol
-    ∷ row (not (bytes_eq (m.ord_type ∷ []) (codes "2"))) refusals.OrderType
-    ∷ row (is_other life_times (char_text m.time_in_force)) refusals.TimeInForce
-    ∷ row (is_other (codes "6" ∷ []) m.exec_inst) refusals.ExecutionInstruction
-    ∷ row (is_other capacities (char_text m.order_capacity)) refusals.Capacity
-    ∷ amount_rows m
+-- a price that can't be taken as it was read is refused so
+abbrev pub RefusesPrice : Option (Result ℕ DecimalRefusal) → Refusal → Type 0
+RefusesPrice None refusal = refusal ≡ refusals.PriceMissing
+RefusesPrice (Some (Ok n)) refusal = ⊥
+RefusesPrice (Some (Err NotFloat)) refusal = refusal ≡ refusals.PriceNotExact
+RefusesPrice (Some (Err NotExact)) refusal = refusal ≡ refusals.PriceNotExact
+RefusesPrice (Some (Err OutOfRange)) refusal = refusal ≡ refusals.PriceOutOfRange

@@ -1,10 +1,10 @@
--- What each refusal says, and the row of the verdicts that it stands for.
-use Rattle.std.specs.Prelude.{ℕ, List, ◌++◌, codes, decimal}
+-- What each refusal says, and the verdict that it is: of a new order, and of a cancel or replace.
+use Rattle.std.specs.Prelude.{◌≡◌, ℕ, List, ◌++◌, MatchResult, Result, codes, decimal}
 use Rattle.to_market.specs.declared.refusal.Refusal.{Refusal}
-use Rattle.to_market.specs.declared.refusal.Refusal.TheVariants.{DuplicateClOrdId, PortEnded, PortFaulted, Side, Symbol, OrderType, TimeInForce, ExecutionInstruction, Capacity, Quantity, MinimumQuantity, PriceMissing, PriceNotExact, PriceOutOfRange, TooManyOpenOrders, NoTokenLeft}
-use Rattle.order_law.specs.Verdicts.{Verdict, Refused}
+use Rattle.to_market.specs.declared.refusal.Refusal.TheVariants.{DuplicateClOrdId, PortEnded, PortFaulted, Side, Symbol, OrderType, TimeInForce, ExecutionInstruction, Capacity, Quantity, MinimumQuantity, PriceMissing, PriceNotExact, PriceOutOfRange, TooManyOpenOrders, NoTokenLeft, UnknownOrder, TooLate, AlreadyPending, OtherTerms, TotalNotAboveExecuted, ReplaceLimit}
+use Rattle.order_law.specs.Verdicts.{Verdict, Accepted, Refused}
 
--- OrdRejReason (103)
+-- OrdRejReason (103); 99 of a row that only requests have
 abbrev pub code_of : Refusal → ℕ
 code_of DuplicateClOrdId = 6
 code_of PortEnded = 2
@@ -22,6 +22,37 @@ code_of PriceNotExact = 99
 code_of PriceOutOfRange = 99
 code_of TooManyOpenOrders = 3
 code_of NoTokenLeft = 99
+code_of UnknownOrder = 99
+code_of TooLate = 99
+code_of AlreadyPending = 99
+code_of OtherTerms = 99
+code_of TotalNotAboveExecuted = 99
+code_of ReplaceLimit = 99
+
+-- CxlRejReason (102); 99 of a row that only new orders have
+abbrev pub request_code_of : Refusal → ℕ
+request_code_of DuplicateClOrdId = 6
+request_code_of PortEnded = 2
+request_code_of (PortFaulted n) = 2
+request_code_of Side = 99
+request_code_of Symbol = 99
+request_code_of OrderType = 99
+request_code_of TimeInForce = 99
+request_code_of ExecutionInstruction = 99
+request_code_of Capacity = 99
+request_code_of Quantity = 99
+request_code_of MinimumQuantity = 99
+request_code_of PriceMissing = 99
+request_code_of PriceNotExact = 99
+request_code_of PriceOutOfRange = 99
+request_code_of TooManyOpenOrders = 99
+request_code_of NoTokenLeft = 2
+request_code_of UnknownOrder = 1
+request_code_of TooLate = 0
+request_code_of AlreadyPending = 3
+request_code_of OtherTerms = 99
+request_code_of TotalNotAboveExecuted = 99
+request_code_of ReplaceLimit = 2
 
 -- Text (58), but for the number of a fault
 abbrev pub fixed_words : Refusal → List ℕ
@@ -41,12 +72,26 @@ fixed_words PriceNotExact = codes "price not in 1/10000"
 fixed_words PriceOutOfRange = codes "price out of range"
 fixed_words TooManyOpenOrders = codes "too many open orders"
 fixed_words NoTokenLeft = codes "no token left"
+fixed_words UnknownOrder = codes "unknown order"
+fixed_words TooLate = codes "too late"
+fixed_words AlreadyPending = codes "already pending"
+fixed_words OtherTerms = codes "side, symbol or capacity"
+fixed_words TotalNotAboveExecuted = codes "total not above executed"
+fixed_words ReplaceLimit = codes "replace limit"
 
 -- Text (58)
 abbrev pub words_of : Refusal → List ℕ
 words_of (PortFaulted n) = fixed_words (PortFaulted n) ++ decimal n
 words_of refusal = fixed_words refusal
 
--- the verdict that a refusal is
+-- the verdict on a new order that a refusal is
 abbrev pub refused_by : Refusal → Verdict
 refused_by refusal = Refused (code_of refusal) (words_of refusal)
+
+-- the verdict on a cancel or replace
+abbrev pub request_refused_by : Refusal → Verdict
+request_refused_by refusal = Refused (request_code_of refusal) (words_of refusal)
+
+-- a call decides on a cancel or replace as this verdict does: it gives something where that accepts, else the row that refuses
+abbrev pub Decides : {A : Type 0} → Result A Refusal → Verdict → Type 0
+Decides result verdict = MatchResult result (λ given. verdict ≡ Accepted) (λ refusal. verdict ≡ request_refused_by refusal)

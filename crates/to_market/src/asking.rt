@@ -1,37 +1,28 @@
 //! What a new order asks, in the market's words, or the first reason why it can't be asked.
 
-ghost use Rattle.std.specs.Prelude.{◌≡◌, ℕ, ◌-◌, List, ◌++◌, ◌∷◌, [], Option, true, false, length, replicate, unwrap_or, codes, is_ok, Ok, Some, IfSome, IfOk, MatchOption, MatchResult};
+ghost use Rattle.std.specs.Prelude.{◌≡◌, ℕ, ◌-◌, List, ◌++◌, ◌∷◌, [], Option, true, false, length, replicate, unwrap_or, Some, IfSome, IfOk, MatchOption, MatchResult};
 ghost use Rattle.wire_law.specs.Printable.{is_printable, ArePrintable};
-ghost use Rattle.fixed_point.specs.Decimal as decimal;
 ghost use Rattle.fix_types.specs.NewOrder.{new_order_fields};
 ghost use Rattle.fix_values.specs.Slots.{char_text};
 ghost use Rattle.ouch_codec.specs.Letters.{side_letter};
-ghost use Rattle.order_law.specs.Asks.{side_of_letter, life_time_of_seconds};
+ghost use Rattle.order_law.specs.Asks.{side_of_letter};
 ghost use Rattle.order_law.specs.Headline.{Says};
 ghost use Rattle.order_law.specs.Messages.{Message};
-ghost use Rattle.order_law.specs.Verdicts.{Accepted, first_row, field_rows, sides, life_times, capacities, is_symbol};
-ghost use Rattle.to_market.specs.FieldRows.{is_among, is_other, is_no_minimum, price_rows};
-ghost use Rattle.to_market.specs.FieldRows as fields;
+ghost use Rattle.order_law.specs.Verdicts.{Accepted, first_row, field_rows, sides, capacities, is_symbol};
+ghost use Rattle.to_market.specs.FieldRows.{is_among, is_other};
 ghost use Rattle.to_market.specs.NewAsks.{AsksAs, asked_with, enter_bytes, standing_of};
 ghost use Rattle.to_market.specs.Refusals.{refused_by};
 
 use crate::client_terms::ClientTerms;
+use crate::limits::{LIMIT, display_of, minimum_of, price_of, shares_of, time_in_force_of};
 use crate::new_ask::NewAsk;
 use crate::refusal::Refusal;
 use fix_fields::Text;
 use fix_types::NewOrder;
-use fix_values::{Character, FloatText};
-use fixed_point::{DecimalRefusal, Price4, Shares, parse_price, parse_qty};
+use fix_values::Character;
 use ouch_codec::{EnterOrder, Side};
 use tokens::Token;
 use wire_law::{are_visible, padded};
-
-/// FIX's OrdType (40): limit.
-const LIMIT: u8 = b'2';
-/// OUCH's time in force of an order that lives until the market closes.
-const DAY: u32 = 99_998;
-/// OUCH's time in force of an order that is executed at once or cancelled.
-const IMMEDIATE: u32 = 0;
 
 /// What a new order asks, or the first of the table's rows on its fields that holds.
 pub fn ask_of(order: &NewOrder, terms: &ClientTerms) -> Result<NewAsk, Refusal>
@@ -130,39 +121,6 @@ fn stock_of(symbol: &Text) -> Option<[u8; 8]>
     Some(padded(symbol))
 }
 
-/// TimeInForce (59): 0 or missing day, 3 immediate or cancel.
-fn time_in_force_of(time_in_force: Option<Character>) -> Option<u32>
-    ensures { MatchOption result
-        (is_other life_times (char_text time_in_force) ≡ true)
-        (λ seconds. (is_other life_times (char_text time_in_force) ≡ false)
-        × (life_time_of_seconds seconds ≡ Some (fields.life_time (char_text time_in_force)))) }
-{
-    let Some(time_in_force) = time_in_force else {
-        return Some(DAY);
-    };
-    match time_in_force.byte() {
-        b'0' => Some(DAY),
-        b'3' => Some(IMMEDIATE),
-        _ => None,
-    }
-}
-
-/// ExecInst (18): 6 participate don't initiate, which is displayed as post-only; missing, displayed.
-fn display_of(exec_inst: &Option<Text>) -> Option<u8>
-    ensures row { MatchOption result
-        (is_other (codes "6" ∷ []) exec_inst.now ≡ true)
-        (λ display. (is_other (codes "6" ∷ []) exec_inst.now ≡ false) × (display ≡ fields.display exec_inst.now)) }
-    ensures printable { IfSome result (λ display. is_printable display ≡ true) }
-{
-    let Some(exec_inst) = exec_inst else {
-        return Some(b'Y');
-    };
-    match exec_inst.as_slice() {
-        b"6" => Some(b'P'),
-        _ => None,
-    }
-}
-
 /// OrderCapacity (528): A agency, P principal, R riskless principal; missing, the client's own.
 fn capacity_of(order_capacity: Option<Character>, terms: &ClientTerms) -> Option<u8>
     ensures row { MatchOption result
@@ -179,48 +137,5 @@ fn capacity_of(order_capacity: Option<Character>, terms: &ClientTerms) -> Option
         b'P' => Some(b'P'),
         b'R' => Some(b'R'),
         _ => None,
-    }
-}
-
-/// OrderQty (38): a whole number of shares from 1 to 999,999.
-fn shares_of(order_qty: &FloatText) -> Option<Shares>
-    ensures { MatchOption result
-        (is_ok (decimal.quantity 1 order_qty.now) ≡ false)
-        (λ shares. decimal.quantity 1 order_qty.now ≡ Ok shares) }
-{
-    match parse_qty(order_qty.as_slice(), Shares::LEAST) {
-        Ok(count) => Some(Shares::new(count)),
-        Err(_) => None,
-    }
-}
-
-/// MinQty (110): a whole number of shares from 0 to the order's; missing, 0.
-fn minimum_of(min_qty: &Option<FloatText>, shares: Shares) -> Option<u32>
-    ensures { MatchOption result
-        (is_no_minimum shares min_qty.now ≡ true)
-        (λ minimum. (is_no_minimum shares min_qty.now ≡ false) × (minimum ≡ fields.minimum min_qty.now)) }
-{
-    let Some(min_qty) = min_qty else {
-        return Some(0);
-    };
-    match parse_qty(min_qty.as_slice(), 0) {
-        Ok(minimum) if minimum <= shares.count() => Some(minimum),
-        _ => None,
-    }
-}
-
-/// Price (44): there, exact in 1/10,000, and in range.
-fn price_of(price: &Option<FloatText>) -> Result<Price4, Refusal>
-    ensures { MatchResult result
-        (λ limit. (first_row (price_rows price.now) ≡ Accepted) × (decimal.price (unwrap_or price.now []) ≡ Ok limit))
-        (λ refusal. first_row (price_rows price.now) ≡ refused_by refusal) }
-{
-    let Some(price) = price else {
-        return Err(Refusal::PriceMissing);
-    };
-    match parse_price(price.as_slice()) {
-        Ok(price) => Ok(price),
-        Err(DecimalRefusal::OutOfRange) => Err(Refusal::PriceOutOfRange),
-        Err(_) => Err(Refusal::PriceNotExact),
     }
 }

@@ -1,16 +1,21 @@
-//! The table of verdicts on a new order: a row each, in the order in which they are judged.
+//! The tables of verdicts on new orders, cancels and replaces: what each row says where it refuses.
+//!
+//! A row that two tables have stands once, with its code in either: 103 and 102 have codes of their own.
+//!
+//! Source: FIX 4.4 Volume 6, OrdRejReason (103) and CxlRejReason (102); the rows and their texts are this gateway's own.
 
 ghost use Rattle.std.specs.Prelude.{◌≡◌, ◌++◌, IfOk, codes, decimal};
 ghost use Rattle.fix_fields.specs.Field.{IsValue};
-ghost use Rattle.to_market.specs.Refusals.{code_of, words_of, fixed_words};
+ghost use Rattle.to_market.specs.Refusals.{code_of, request_code_of, words_of, fixed_words};
 
 use fix_fields::Text;
 use itoa::Buffer;
 use std::alloc::{AllocError, Global};
 
-/// Why a new order isn't accepted: the first row of the table that holds.
+/// Why a new order, a cancel or a replace isn't accepted: the first row of its table that holds.
 ///
-/// Source: FIX 4.4 Volume 4, "New Order - Single"; the rows and their order are this gateway's own.
+/// Source: FIX 4.4 Volume 4, "New Order - Single", "Order Cancel Request", "Order Cancel/Replace Request"; the rows and
+/// their order are this gateway's own.
 #[derive(Clone, Copy, Debug, PartialEq, Eq)]
 pub enum Refusal {
     /// ClOrdID (11) stands as 11 in a report to this client already.
@@ -45,11 +50,23 @@ pub enum Refusal {
     TooManyOpenOrders,
     /// All tokens are given.
     NoTokenLeft,
+    /// OrigClOrdID (41) names no order of the client.
+    UnknownOrder,
+    /// The order is closed.
+    TooLate,
+    /// A cancel of the order is pending; for a replace also a replace.
+    AlreadyPending,
+    /// A replace has a side, symbol or capacity (54, 55, 528) that isn't the order's.
+    OtherTerms,
+    /// The total of a replace (38) isn't above what is executed.
+    TotalNotAboveExecuted,
+    /// 65,535 replaces of the order were accepted.
+    ReplaceLimit,
 }
 
 impl Refusal {
     /// OrdRejReason (103): 1 unknown symbol, 2 exchange closed, 3 order exceeds limit, 6 duplicate order, 11
-    /// unsupported order characteristic, 13 incorrect quantity, 99 other.
+    /// unsupported order characteristic, 13 incorrect quantity, 99 other. A row that only requests have is 99.
     pub fn code(self) -> u64
         ensures { result ≡ code_of self }
     {
@@ -66,8 +83,45 @@ impl Refusal {
             Refusal::PriceMissing
             | Refusal::PriceNotExact
             | Refusal::PriceOutOfRange
-            | Refusal::NoTokenLeft => 99,
+            | Refusal::NoTokenLeft
+            | Refusal::UnknownOrder
+            | Refusal::TooLate
+            | Refusal::AlreadyPending
+            | Refusal::OtherTerms
+            | Refusal::TotalNotAboveExecuted
+            | Refusal::ReplaceLimit => 99,
             Refusal::TooManyOpenOrders => 3,
+        }
+    }
+
+    /// CxlRejReason (102): 0 too late to cancel, 1 unknown order, 2 broker option, 3 already pending, 6 duplicate
+    /// ClOrdID, 99 other. A row that only new orders have is 99.
+    pub fn request_code(self) -> u64
+        ensures { result ≡ request_code_of self }
+    {
+        match self {
+            Refusal::DuplicateClOrdId => 6,
+            Refusal::UnknownOrder => 1,
+            Refusal::TooLate => 0,
+            Refusal::PortEnded
+            | Refusal::PortFaulted(_)
+            | Refusal::ReplaceLimit
+            | Refusal::NoTokenLeft => 2,
+            Refusal::AlreadyPending => 3,
+            Refusal::Side
+            | Refusal::Symbol
+            | Refusal::OrderType
+            | Refusal::TimeInForce
+            | Refusal::ExecutionInstruction
+            | Refusal::Capacity
+            | Refusal::Quantity
+            | Refusal::MinimumQuantity
+            | Refusal::PriceMissing
+            | Refusal::PriceNotExact
+            | Refusal::PriceOutOfRange
+            | Refusal::TooManyOpenOrders
+            | Refusal::OtherTerms
+            | Refusal::TotalNotAboveExecuted => 99,
         }
     }
 
@@ -103,6 +157,12 @@ impl Refusal {
             Refusal::PriceOutOfRange => b"price out of range",
             Refusal::TooManyOpenOrders => b"too many open orders",
             Refusal::NoTokenLeft => b"no token left",
+            Refusal::UnknownOrder => b"unknown order",
+            Refusal::TooLate => b"too late",
+            Refusal::AlreadyPending => b"already pending",
+            Refusal::OtherTerms => b"side, symbol or capacity",
+            Refusal::TotalNotAboveExecuted => b"total not above executed",
+            Refusal::ReplaceLimit => b"replace limit",
         }
     }
 }

@@ -1,6 +1,7 @@
 use Rattle.std.proofs.Common.{rules, ◌≡◌, ◌+◌, true, false, sym, ap, ◌∙◌, map, [], ◌∷◌, ◌++◌, List}
 use Rattle.fix_types.specs.Report.{report_fields}
 use Rattle.fix_types.specs.declared.report.Report.{Report}
+use Rattle.order_law.specs.declared.stage.Stage.TheVariants.{Waiting, Working, Closed}
 use Rattle.order_law.specs.Messages.{Message}
 use Rattle.order_histories.specs.OrderRecord.{OrderRecord}
 use Rattle.ouch_codec.specs.AcceptedParts.{SaysAccepted-written}
@@ -39,6 +40,7 @@ returns-in-Live c =
       told = ap (map report_fields) one ∙ ap (λ (f : Message). f ∷ []) c.in_ok-report.ensures.told
           ∙ sym (live-told c.args.issued m (accepted_bytes m) o p says no_r no_c steps.stage refused total steps.price steps.unfilled executed cancelled value c.in-Live.is);
       now = live-now c.args.issued m (accepted_bytes m) o p says no_r no_c steps.stage refused total steps.price steps.unfilled executed cancelled value c.in-Live.is;
+      answered = λ e. (let x : Working ≡ Waiting = sym steps.stage ∙ e in cc);
     }
 
 pub returns-in_ok-push-in-Dead : goal.returns-in_ok-push-in-Dead
@@ -69,4 +71,5 @@ returns-in_ok-push-in-Dead c =
           ∙ two-told c.in_ok-report.ensures.told c.in_ok-report-in-Dead.ensures.told
           ∙ sym (dead-told c.args.issued m (accepted_bytes m) o p says no_r no_c steps.stage refused total steps.price steps.unfilled executed cancelled value q c.in-Dead.is then.stage then.refused then.total then.price then.unfilled then.executed then.cancelled then.value);
       now = dead-now c.args.issued m (accepted_bytes m) o p says no_r no_c steps.stage refused total steps.price steps.unfilled executed cancelled value q c.in-Dead.is then.stage then.refused then.total then.price then.unfilled then.executed then.cancelled then.value;
+      answered = λ e. (let x : Closed ≡ Waiting = sym then.stage ∙ e in cc);
     }

@@ -1,12 +1,13 @@
 use Rattle.std.proofs.Common.{rules, arith, ◌≡◌, ◌+◌, ◌-◌, true, false, sym, ap, ◌∙◌, map, [], ◌∷◌, ◌++◌, List}
 use Rattle.fix_types.specs.Report.{report_fields}
 use Rattle.fix_types.specs.declared.report.Report.{Report}
+use Rattle.order_law.specs.declared.stage.Stage.TheVariants.{Waiting, Working, Closed}
 use Rattle.order_law.specs.Messages.{Message}
 use Rattle.order_histories.specs.OrderRecord.{OrderRecord}
 use Rattle.ouch_codec.specs.CanceledParts.{SaysCanceled-written}
 use Rattle.market_rows.specs.Bytes.{canceled_bytes}
 use Rattle.market_rows.specs.May.{may_cancel_as}
-use Rattle.market_rows.proofs.CanceledRow.{cancel-few, canceled-lawful, gone-now, gone-told, reduced-now, reduced-told}
+use Rattle.market_rows.proofs.CanceledRow.{cancel-few, cancel-works, canceled-lawful, gone-now, gone-told, reduced-now, reduced-told}
 use Rattle.market_rows.proofs.canceled.on_canceled.Goals as goal
 
 pub reduced-reduced-requires-clause-open : goal.reduced-reduced-requires-clause-open
@@ -41,6 +42,7 @@ returns-in_ok-push c =
       told = ap (map report_fields) one ∙ ap (λ (f : Message). f ∷ []) c.in_ok-report.ensures.told
           ∙ sym (gone-told c.args.issued m (canceled_bytes m) o p says no_r no_c may refused price executed value steps.stage total steps.unfilled cancelled all);
       now = gone-now c.args.issued m (canceled_bytes m) o p says no_r no_c may refused price executed value steps.stage total steps.unfilled cancelled all;
+      answered = λ e. (let x : Closed ≡ Waiting = sym steps.stage ∙ e in cc);
     }
 
 pub returns-in_ok-push-2 : goal.returns-in_ok-push-2
@@ -69,6 +71,7 @@ returns-in_ok-push-2 c =
       told = ap (map report_fields) one ∙ ap (λ (f : Message). f ∷ []) c.in_ok-report-2.ensures.told
           ∙ sym (reduced-told c.args.issued m (canceled_bytes m) o p says no_r no_c may refused price executed value stage total unfilled cancelled (λ e. c.if-message-order.false (e ∙ ap (λ (x : OrderRecord). x.unfilled) (sym same))));
       now = reduced-now c.args.issued m (canceled_bytes m) o p says no_r no_c may refused price executed value stage total unfilled cancelled (λ e. c.if-message-order.false (e ∙ ap (λ (x : OrderRecord). x.unfilled) (sym same)));
+      answered = λ e. (let x : Working ≡ Waiting = sym (cancel-works m o may) ∙ sym stage ∙ e in cc);
     }
 
 pub returns-then-not-may_cancel : goal.returns-then-not-may_cancel

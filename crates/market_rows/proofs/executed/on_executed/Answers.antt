@@ -1,13 +1,14 @@
 use Rattle.std.proofs.Common.{rules, arith, ◌≡◌, ◌+◌, ◌-◌, ◌*◌, true, false, sym, ap, ◌∙◌, map, [], ◌∷◌, ◌++◌, List}
 use Rattle.fix_types.specs.Report.{report_fields}
 use Rattle.fix_types.specs.declared.report.Report.{Report}
+use Rattle.order_law.specs.declared.stage.Stage.TheVariants.{Waiting, Working, Closed}
 use Rattle.order_law.specs.Messages.{Message}
 use Rattle.order_histories.specs.OrderRecord.{OrderRecord}
-use Rattle.order_table.specs.declared.progress.Progress.{Progress}
+use Rattle.orders.specs.declared.progress.Progress.{Progress}
 use Rattle.ouch_codec.specs.ExecutedParts.{SaysExecuted-written}
 use Rattle.market_rows.specs.Bytes.{executed_bytes}
 use Rattle.market_rows.specs.May.{may_trade_as}
-use Rattle.market_rows.proofs.ExecutedRow.{executed-lawful, filled-now, filled-told, trade-few, traded-now, traded-told}
+use Rattle.market_rows.proofs.ExecutedRow.{executed-lawful, filled-now, filled-told, trade-few, traded-now, traded-told, trade-works}
 use Rattle.market_rows.proofs.executed.on_executed.Goals.{then-message-order, else-message-order}
 use Rattle.market_rows.proofs.executed.on_executed.Goals as goal
 
@@ -55,6 +56,7 @@ returns c =
             lawful = executed-lawful m (executed_bytes m) o says ∙ may;
             told = is_told ∙ sym (filled-told c.args.issued m (executed_bytes m) o p says no_r no_c may refused price unfilled executed cancelled value stage total all);
             now = filled-now c.args.issued m (executed_bytes m) o p says no_r no_c may refused price unfilled executed cancelled value stage total all;
+            answered = λ e. (let x : Closed ≡ Waiting = sym stage ∙ e in cc);
           })
       | else-message-order w ↦
           (let steps = w.traded-progress.ensures in
@@ -72,5 +74,6 @@ returns c =
             lawful = executed-lawful m (executed_bytes m) o says ∙ may;
             told = is_told ∙ sym (traded-told c.args.issued m (executed_bytes m) o p says no_r no_c may refused price unfilled executed cancelled value stage total part);
             now = traded-now c.args.issued m (executed_bytes m) o p says no_r no_c may refused price unfilled executed cancelled value stage total part;
+            answered = λ e. (let x : Working ≡ Waiting = sym (trade-works m o may) ∙ sym stage ∙ e in cc);
           })
     ]

@@ -1,6 +1,7 @@
 use Rattle.std.proofs.Common.{rules, ◌≡◌, true, false, sym, ap, ◌∙◌, map, [], ◌∷◌, ◌++◌, List}
 use Rattle.fix_types.specs.Report.{report_fields}
 use Rattle.fix_types.specs.declared.report.Report.{Report}
+use Rattle.order_law.specs.declared.stage.Stage.TheVariants.{Waiting, Closed}
 use Rattle.order_law.specs.Messages.{Message}
 use Rattle.order_histories.specs.OrderRecord.{OrderRecord}
 use Rattle.ouch_codec.specs.RejectedParts.{SaysRejected-written}
@@ -33,6 +34,7 @@ returns c =
       told = ap (map report_fields) one ∙ ap (λ (f : Message). f ∷ []) c.in_ok-report.ensures.told
           ∙ sym (refused-told c.args.issued m (rejected_bytes m) o p says no_r no_c may steps.stage steps.refused total price unfilled executed cancelled value);
       now = refused-now c.args.issued m (rejected_bytes m) o p says no_r no_c may steps.stage steps.refused total price unfilled executed cancelled value;
+      answered = λ e. (let x : Closed ≡ Waiting = sym steps.stage ∙ e in cc);
     }
 
 pub returns-then-not-may_reject : goal.returns-then-not-may_reject

@@ -1,7 +1,6 @@
 use Rattle.std.proofs.Common.{[], length, take, map, sym, subst, ap, ◌∙◌, arith, take_all, length-append}
 use Rattle.order_law.specs.History.{History}
-use Rattle.order_machine.specs.Runs.{Leaves}
-use Rattle.order_machine.proofs.Runs.{Leaves-headline}
+use Rattle.order_histories.specs.Runs.{Leaves}
 use Rattle.order_core.specs.Runs.{history, is_known, is_served}
 use Rattle.order_core.specs.Seen.{terms_seen}
 use Rattle.order_core.proofs.Histories.{history-more, length-onto, passes-at}
@@ -42,4 +41,4 @@ returns-clause-exact c = λ served.
 pub returns-clause-headline : goal.returns-clause-headline
 returns-clause-headline c = λ served.
     let l = rw (take_all c.loop-event.event-index c.args.events.now (omega arith)) at c.loop-event.invariant.leaves served in
-    Leaves-headline (map terms_seen c.args.terms.now) (history c.args.events.now c.loop-event.outcomes.items) c.loop-event.core (omega (arith, length-onto c.args.events.now c.loop-event.outcomes.items [], c.requires.short)) l
+    c.tables_have_the_headline.ensures (map terms_seen c.args.terms.now) (history c.args.events.now c.loop-event.outcomes.items) c.loop-event.core (omega (arith, length-onto c.args.events.now c.loop-event.outcomes.items [], c.requires.short)) l

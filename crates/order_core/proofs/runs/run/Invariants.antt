@@ -1,5 +1,5 @@
 use Rattle.std.proofs.Common.{◌≡◌, ◌≤◌, ◌*◌, take, length, map}
-use Rattle.order_machine.specs.Runs.{Leaves}
+use Rattle.order_histories.specs.Runs.{Leaves}
 use Rattle.order_core.specs.Runs.{AreServed, history}
 use Rattle.order_core.specs.Seen.{terms_seen}
 use Rattle.order_core.specs.State.{clients, issued}

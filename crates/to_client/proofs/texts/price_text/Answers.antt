@@ -8,4 +8,4 @@ use Rattle.to_client.proofs.texts.price_text.Goals as goal
 pub from_vec-requires : goal.from_vec-requires
 from_vec-requires c =
     ap (λ (l : List ℕ). list_all is_inside l) c.in_ok-print_price.ensures.text
-    ∙ ap (λ n. list_all is_inside (price_text n)) c.from.ensures ∙ inside-price_text c.args.units (omega arith)
+    ∙ inside-price_text c.args.units (omega arith)

@@ -1,6 +1,5 @@
-use Rattle.std.proofs.Common.{rules, ◌≡◌, ◌∙◌}
-use Rattle.order_law.specs.Verdicts.{Accepted, first_row}
-use Rattle.to_market.specs.FieldRows.{price_rows}
+use Rattle.std.proofs.Common.{rules, ◌∙◌}
+use Rattle.to_market.proofs.Rows.{price-limit, price-refused, price-taken}
 use Rattle.to_market.proofs.Verdict.{PassesTerms, by_quantity, by_price, AsksAs-fields}
 use Rattle.to_market.proofs.asking.ask_of.Goals as goal
 
@@ -29,7 +28,7 @@ returns-in_err-price-clause-verdict c =
       instruction = search rules;
       capacity = search rules;
     } in
-    let verdict = by_price m c.in_ok-shares.shares passes (search rules) (search rules) in
+    let verdict = by_price m c.in_ok-shares.shares passes (search rules) (search rules) ∙ price-refused m.price c.in_err-price.field-0.0 (search rules) in
     search (rules, verdict)
 
 pub returns-clause-verdict : goal.returns-clause-verdict
@@ -43,8 +42,7 @@ returns-clause-verdict c =
       instruction = search rules;
       capacity = search rules;
     } in
-    let accepted : first_row (price_rows m.price) ≡ Accepted = search rules in
-    by_price m c.in_ok-shares.shares passes (search rules) (search rules) ∙ accepted
+    by_price m c.in_ok-shares.shares passes (search rules) (search rules) ∙ price-taken m.price c.in_ok-price.price (search rules)
 
 pub returns-clause-asks : goal.returns-clause-asks
 returns-clause-asks c =
@@ -52,7 +50,7 @@ returns-clause-asks c =
       side = search rules;
       shares = search rules;
       stock = search rules;
-      price = search rules;
+      price = price-limit c.args.order.now.price c.in_ok-price.price (search rules);
       life_time = search rules;
       display = search rules;
       capacity = search rules;

@@ -1,11 +1,9 @@
 use Rattle.std.proofs.Common.{rules}
-use Rattle.order_machine.specs.Machine.{accept}
 use Rattle.order_core.proofs.order_core.OrderCore.accept.Goals as goal
 
 pub returns-clause-meets : goal.returns-clause-meets
-unfolding accept
 returns-clause-meets c = record {
   state = search rules;
   bodies = search rules;
-  sends = λ order_of. c.in_ok-sends.ensures _ order_of _ (c.requires.enter.says order_of);
+  sends = λ order_of leads. c.in_ok-sends.ensures _ order_of _ (c.requires.enter.says order_of);
 }

@@ -1,5 +1,5 @@
 use Rattle.std.proofs.Common.{rules}
-use Rattle.order_core.specs.Seen.{port_seen}
+use Rattle.to_market.specs.PortsSeen.{port_seen}
 use Rattle.order_core.proofs.NewVerdict.{Passes, by_fields, full, spent}
 use Rattle.order_core.proofs.Sent.{asks_next}
 use Rattle.order_core.proofs.order_core.OrderCore.verdict.Goals as goal

@@ -1,0 +1,70 @@
+use Rattle.std.proofs.Common.{◌≡◌, ℕ, List, refl, sym, subst, ap, ◌∙◌, Ok}
+use Rattle.std.specs.Prelude.{IfOk}
+use Rattle.ouch_codec.specs.declared.outbound.Outbound.{Outbound}
+use Rattle.ouch_codec.specs.Decoding.{Decodes}
+use Rattle.ouch_codec.specs.Layouts as layouts
+use Rattle.ouch_codec.specs.Rows as rows
+use Rattle.ouch_codec.specs.Layout.{spelled}
+use Rattle.ouch_codec.specs.SystemEventParts.{SaysSystemEvent-written}
+use Rattle.order_histories.specs.Machine.{faulty, market_step}
+use Rattle.market_turns.specs.Turns.{Steps, number_of}
+use Rattle.market_turns.specs.declared.market_fault.MarketFault.{MarketFault}
+use Rattle.market_turns.proofs.Refused.{event, refused, skipped}
+use Rattle.market_turns.proofs.hearing.hear.Goals as goal
+
+pub returns-in-Err : goal.returns-in-Err
+returns-in-Err c = λ s same_orders same_tokens same_ids.
+    refused s c.args.port c.args.payload.now c.in-Err.refusal c.in-Err.ensures
+    ∙ ap (λ (f : MarketFault). faulty s (number_of f)) (sym c.fault_of.ensures)
+
+pub returns-in-Ok-Skipped : goal.returns-in-Ok-Skipped
+returns-in-Ok-Skipped c = λ s same_orders same_tokens same_ids.
+    skipped s c.args.port c.args.payload.now (subst (λ (o : Outbound). Decodes c.args.payload.now (Ok o)) c.in-Ok-Skipped.field-0-is c.in-Ok-Skipped.ensures)
+
+pub returns-in-Ok-SystemEvent : goal.returns-in-Ok-SystemEvent
+returns-in-Ok-SystemEvent c = λ s same_orders same_tokens same_ids.
+    let m = c.in-Ok-SystemEvent.field-0-0 in
+    let b = spelled layouts.system_event (rows.system_event_row m) in
+    let says = SaysSystemEvent-written m in
+    let same : c.args.payload.now ≡ b = subst (λ (o : Outbound). Decodes c.args.payload.now (Ok o)) c.in-Ok-SystemEvent.field-0-is c.in-Ok-SystemEvent.ensures in
+    ap (market_step s c.args.port) same ∙ event s c.args.port b layouts.system_event says.type refl says.is_one
+
+pub returns-in-Ok-Accepted : goal.returns-in-Ok-Accepted
+returns-in-Ok-Accepted c =
+    let same : c.args.payload.now ≡ spelled layouts.accepted (rows.accepted_row c.in-Ok-Accepted.message) = subst (λ (o : Outbound). Decodes c.args.payload.now (Ok o)) c.in-Ok-Accepted.field-0-is c.in-Ok-Accepted.ensures in
+    subst (λ (b : List ℕ). IfOk c.hear_accepted.result (Steps c.args.issued c.args.port b c.args.table.now)) (sym same) c.hear_accepted.ensures
+
+pub returns-in-Ok-Executed : goal.returns-in-Ok-Executed
+returns-in-Ok-Executed c =
+    let same : c.args.payload.now ≡ spelled layouts.executed (rows.executed_row c.in-Ok-Executed.message) = subst (λ (o : Outbound). Decodes c.args.payload.now (Ok o)) c.in-Ok-Executed.field-0-is c.in-Ok-Executed.ensures in
+    subst (λ (b : List ℕ). IfOk c.hear_executed.result (Steps c.args.issued c.args.port b c.args.table.now)) (sym same) c.hear_executed.ensures
+
+pub returns-in-Ok-Canceled : goal.returns-in-Ok-Canceled
+returns-in-Ok-Canceled c =
+    let same : c.args.payload.now ≡ spelled layouts.canceled (rows.canceled_row c.in-Ok-Canceled.message) = subst (λ (o : Outbound). Decodes c.args.payload.now (Ok o)) c.in-Ok-Canceled.field-0-is c.in-Ok-Canceled.ensures in
+    subst (λ (b : List ℕ). IfOk c.hear_canceled.result (Steps c.args.issued c.args.port b c.args.table.now)) (sym same) c.hear_canceled.ensures
+
+pub returns-in-Ok-Broken : goal.returns-in-Ok-Broken
+returns-in-Ok-Broken c =
+    let same : c.args.payload.now ≡ spelled layouts.broken (rows.broken_row c.in-Ok-Broken.message) = subst (λ (o : Outbound). Decodes c.args.payload.now (Ok o)) c.in-Ok-Broken.field-0-is c.in-Ok-Broken.ensures in
+    subst (λ (b : List ℕ). IfOk c.hear_broken.result (Steps c.args.issued c.args.port b c.args.table.now)) (sym same) c.hear_broken.ensures
+
+pub returns-in-Ok-Rejected : goal.returns-in-Ok-Rejected
+returns-in-Ok-Rejected c =
+    let same : c.args.payload.now ≡ spelled layouts.rejected (rows.rejected_row c.in-Ok-Rejected.message) = subst (λ (o : Outbound). Decodes c.args.payload.now (Ok o)) c.in-Ok-Rejected.field-0-is c.in-Ok-Rejected.ensures in
+    subst (λ (b : List ℕ). IfOk c.hear_rejected.result (Steps c.args.issued c.args.port b c.args.table.now)) (sym same) c.hear_rejected.ensures
+
+pub returns-in-Ok-Replaced : goal.returns-in-Ok-Replaced
+returns-in-Ok-Replaced c =
+    let same : c.args.payload.now ≡ spelled layouts.replaced (rows.replaced_row c.in-Ok-Replaced.message) = subst (λ (o : Outbound). Decodes c.args.payload.now (Ok o)) c.in-Ok-Replaced.field-0-is c.in-Ok-Replaced.ensures in
+    subst (λ (b : List ℕ). Steps c.args.issued c.args.port b c.args.table.now c.hear_replaced.result) (sym same) (c.hear_replaced.ensures c.args.issued)
+
+pub returns-in-Ok-CancelPending : goal.returns-in-Ok-CancelPending
+returns-in-Ok-CancelPending c =
+    let same : c.args.payload.now ≡ spelled layouts.cancel_pending (rows.cancel_pending_row c.in-Ok-CancelPending.message) = subst (λ (o : Outbound). Decodes c.args.payload.now (Ok o)) c.in-Ok-CancelPending.field-0-is c.in-Ok-CancelPending.ensures in
+    subst (λ (b : List ℕ). Steps c.args.issued c.args.port b c.args.table.now c.hear_cancel_pending.result) (sym same) (c.hear_cancel_pending.ensures c.args.issued)
+
+pub returns-in-Ok-CancelReject : goal.returns-in-Ok-CancelReject
+returns-in-Ok-CancelReject c =
+    let same : c.args.payload.now ≡ spelled layouts.cancel_reject (rows.cancel_reject_row c.in-Ok-CancelReject.message) = subst (λ (o : Outbound). Decodes c.args.payload.now (Ok o)) c.in-Ok-CancelReject.field-0-is c.in-Ok-CancelReject.ensures in
+    subst (λ (b : List ℕ). Steps c.args.issued c.args.port b c.args.table.now c.hear_cancel_reject.result) (sym same) (c.hear_cancel_reject.ensures c.args.issued)

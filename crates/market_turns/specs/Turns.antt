@@ -1,0 +1,52 @@
+-- What a payload of the market makes of a table, as one answer. (OUCH 4.2, "Outbound Messages".)
+use Rattle.std.specs.Prelude.{◌≡◌, ◌≢◌, ℕ, ◌+◌, ◌≤◌, List, [], length, map, Some, decimal}
+use Rattle.fix_types.specs.Report.{report_fields}
+use Rattle.ouch_codec.specs.declared.refusal.DecodeRefusal.{DecodeRefusal}
+use Rattle.ouch_codec.specs.declared.refusal.DecodeRefusal.TheVariants as refusals
+use Rattle.order_law.specs.declared.stage.Stage.TheVariants.{Waiting}
+use Rattle.order_law.specs.Lawful.{bytes_fault, row_fault, token_fault, type_fault}
+use Rattle.order_histories.specs.Machine.{faulty, market_step, silent, tells}
+use Rattle.order_histories.specs.OrderRecord.{OrderRecord}
+use Rattle.order_histories.specs.Table.{State, by_number, put}
+use Rattle.order_table.specs.Held.{Held}
+use Rattle.market_rows.specs.declared.heard.Heard.{Heard}
+use Rattle.market_rows.specs.Meets.{changed_by, progress_of}
+use Rattle.market_turns.specs.declared.judged.Judged.{Judged}
+use Rattle.market_turns.specs.declared.judged.Judged.TheVariants.{Faulty, Silent, Told}
+use Rattle.market_turns.specs.declared.market_fault.MarketFault.{MarketFault}
+use Rattle.market_turns.specs.declared.market_fault.MarketFault.TheVariants.{NotLawful, OutsideProfile, Undecodable, UnknownToken}
+
+-- the law's number of a fault
+abbrev pub number_of : MarketFault → ℕ
+number_of Undecodable = bytes_fault
+number_of UnknownToken = token_fault
+number_of NotLawful = row_fault
+number_of OutsideProfile = type_fault
+
+-- the fault of bytes that are no message
+abbrev pub fault_of_refusal : DecodeRefusal → MarketFault
+fault_of_refusal refusals.Length = Undecodable
+fault_of_refusal refusals.Field = Undecodable
+fault_of_refusal refusals.Type = OutsideProfile
+
+-- the order with this OrderID is changed, and its client, of this number, is told these reports
+pub record IsTold (s : State) (port : ℕ) (m : List ℕ) (order_id client : ℕ) (h : Heard) : Type 0 where
+  pub order : OrderRecord
+  pub found : by_number s (decimal order_id) ≡ Some order
+  pub of_client : order.new.client ≡ client
+  pub few : length h.reports.items ≤ 2
+  pub answered : (progress_of h.change).stage ≢ Waiting
+  pub gives : market_step s port m
+      ≡ tells (record s { orders = put (changed_by h.change order) s.orders; exec_ids = s.exec_ids + length h.reports.items }) client (map report_fields h.reports.items) []
+
+-- an answer is what the table makes of a payload on a port
+abbrev pub IsJudged : State → ℕ → List ℕ → Judged → Type 0
+IsJudged s port m Silent = market_step s port m ≡ silent s
+IsJudged s port m (Faulty fault) = market_step s port m ≡ faulty s (number_of fault)
+IsJudged s port m (Told order_id client h) = IsTold s port m order_id client h
+
+-- of every state with this table, after so many reports
+abbrev pub Steps : ℕ → ℕ → List ℕ → Held → Judged → Type 0
+Steps issued port m held j =
+    (s : State) → s.orders ≡ held.orders → s.tokens ≡ held.tokens → s.exec_ids ≡ issued
+    → IsJudged s port m j

@@ -1,0 +1,44 @@
+//! A payload of the market, judged by the table of orders.
+
+ghost use Rattle.std.specs.Prelude.{◌≡◌, ◌<◌, ◌^◌, IfOk};
+ghost use Rattle.market_turns.specs.Turns.{Steps};
+
+use crate::judged::Judged;
+use crate::market_fault::fault_of;
+use crate::on_orders::{hear_accepted, hear_broken, hear_canceled, hear_executed, hear_rejected};
+use crate::passing::{hear_cancel_pending, hear_cancel_reject, hear_replaced};
+use order_table::Table;
+use ouch_codec::{Outbound, decode};
+use std::alloc::{AllocError, Global};
+
+/// What a payload that a port's session gave comes to, where so many reports were issued, of all clients.
+///
+/// The faults, the first that holds: `OutsideProfile` (the type of no message), `Undecodable` (another length than its
+/// type's, a field outside its set, or no byte at all), `UnknownToken` (no order of this port has it), `NotLawful` (it doesn't
+/// fit the order). A Priority Update and a System Event come to nothing. The one error is that memory ran out.
+///
+/// Source: OUCH 4.2, "Outbound Messages".
+pub fn hear(
+    alloc: Global,
+    issued: u64,
+    table: &Table,
+    port: u16,
+    payload: &[u8],
+) -> Result<Judged, AllocError>
+    requires { issued < 2 ^ 60 }
+    ensures { IfOk result (Steps issued port payload.now table.now) }
+{
+    match decode(payload) {
+        Err(refusal) => Ok(Judged::Faulty(fault_of(refusal))),
+        Ok(Outbound::Skipped) => Ok(Judged::Silent),
+        Ok(Outbound::SystemEvent(_)) => Ok(Judged::Silent),
+        Ok(Outbound::Accepted(message)) => hear_accepted(alloc, issued, table, port, &message),
+        Ok(Outbound::Executed(message)) => hear_executed(alloc, issued, table, port, &message),
+        Ok(Outbound::Canceled(message)) => hear_canceled(alloc, issued, table, port, &message),
+        Ok(Outbound::Broken(message)) => hear_broken(alloc, issued, table, port, &message),
+        Ok(Outbound::Rejected(message)) => hear_rejected(alloc, issued, table, port, &message),
+        Ok(Outbound::Replaced(message)) => Ok(hear_replaced(table, port, &message)),
+        Ok(Outbound::CancelPending(message)) => Ok(hear_cancel_pending(table, port, &message)),
+        Ok(Outbound::CancelReject(message)) => Ok(hear_cancel_reject(table, port, &message)),
+    }
+}

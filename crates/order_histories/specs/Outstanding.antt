@@ -1,0 +1,57 @@
+-- What the market is asked and hasn't answered, as one list of all ports beside the table: the law reads it from the list of
+-- all turns.
+--
+-- Nobody has to believe it: on each port it is what the law says is outstanding, which is a theorem about its runs.
+use Rattle.std.specs.Prelude.{◌≡◌, ℕ, ◌==◌, Bool, not, ◌&&◌, ◌||◌, List, [], ◌∷◌, ◌++◌, map, filter, Option, Some, None, bytes_eq, codes, if◌then◌else◌}
+use Rattle.ouch_codec.specs.FromMarket as heard
+use Rattle.order_law.specs.Life.{is_closed, is_type}
+use Rattle.order_law.specs.History.{Asked, Came, Event, Heard, History, Terms, answers, terms_of}
+use Rattle.order_histories.specs.OrderRecord.{OrderRecord, after_message}
+use Rattle.order_histories.specs.Table.{State, by_token, empty}
+use Rattle.order_histories.specs.Machine.{client_step, fault_in}
+use Rattle.order_histories.specs.Runs.{Leads}
+
+-- one message that a port is asked
+pub record OnPort : Type 0 where
+  pub port : ℕ
+  pub asked : Asked
+
+abbrev pub is_on : ℕ → OnPort → Bool
+is_on port q = q.port == port
+
+-- what a port is asked, in order
+abbrev pub on_port : ℕ → List OnPort → List Asked
+on_port port asked = map (λ (q : OnPort). q.asked) (filter (is_on port) asked)
+
+abbrev pub asked_on : ℕ → List Asked → List OnPort
+asked_on port asks = map (λ (a : Asked). record { port = port; asked = a }) asks
+
+-- A message on a port, after which its order is this one: it answers what it says it does of that port, and, where the order
+-- is closed then, all that is asked of it.
+abbrev pub is_answered : ℕ → List ℕ → OrderRecord → OnPort → Bool
+is_answered port m o q = is_on port q && (answers m q.asked.said || (is_closed o.stage && bytes_eq q.asked.order o.new.order))
+
+abbrev pub unanswered_by : ℕ → List ℕ → OrderRecord → List OnPort → List OnPort
+unanswered_by port m o asked = filter (λ (q : OnPort). not (is_answered port m o q)) asked
+
+-- after a message on an order
+abbrev pub still_asked_on : State → ℕ → List ℕ → Option OrderRecord → List OnPort → List OnPort
+still_asked_on s port m None asked = asked
+still_asked_on s port m (Some o) asked = unanswered_by port m (after_message s.exec_ids m o) asked
+
+-- after a payload: a fault answers nothing, nor do `T` and `S`, which have no token
+abbrev pub still_asked : State → ℕ → List ℕ → Option ℕ → List OnPort → List OnPort
+still_asked s port m (Some fault) asked = asked
+still_asked s port m None asked =
+    if is_type (codes "T") m || is_type (codes "S") m then asked else still_asked_on s port m (by_token s port (heard.token m)) asked
+
+-- what is asked after an event, from this table on: what a client's message asks stands behind, on the client's port
+abbrev pub asked_after : State → Event → List OnPort → List OnPort
+asked_after s (Came client m port) asked = asked ++ asked_on (terms_of s.terms client).port (client_step s client m port).asks
+asked_after s (Heard port m) asked = still_asked s port m (fault_in s port m) asked
+
+-- the turns, the newest first, leave this table and this list
+unfoldable pub LeavesAsked : List Terms → History → State → List OnPort → Type 0
+LeavesAsked terms [] s asked = (s ≡ empty terms) × (asked ≡ [])
+LeavesAsked terms (t ∷ before) s asked =
+    (old : State) × (was : List OnPort) × LeavesAsked terms before old was × Leads old t s × (asked ≡ asked_after old t.event was)

@@ -1,0 +1,10 @@
+use Rattle.std.proofs.Common.{rules, sym, ap, ◌∙◌}
+use Rattle.order_histories.specs.Table.{is_open_of, open_count}
+use Rattle.order_lists.specs.Held.{Held}
+use Rattle.order_lists.proofs.Newest.{count-reverse}
+use Rattle.order_lists.proofs.table.Table.open_count.Goals as goal
+
+pub returns : goal.returns
+returns c =
+    (search rules) ∙ sym (count-reverse (is_open_of c.args.client) c.self.inside.orders.items)
+    ∙ ap (λ (h : Held). open_count h.orders c.args.client) c.self.view_is

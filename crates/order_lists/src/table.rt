@@ -1,0 +1,230 @@
+//! The list of orders, and the list of tokens that were given.
+
+ghost use Rattle.std.specs.Prelude.{◌≡◌, ◌<◌, ◌++◌, ◌∷◌, [], true, decimal, vec_len, vec_capacity};
+ghost use Rattle.std.specs.List.{count_by, list_all};
+ghost use Rattle.order_histories.specs.Table as table;
+ghost use Rattle.order_lists.specs.Held.{is_counted};
+
+use crate::places::{named_place, place_of, token_place};
+use order_law::Stage;
+use orders::{Cancelling, Change, Order, Replacing};
+use std::alloc::{AllocError, Global};
+use std::marker::Model;
+
+/// A token that was given for an order.
+#[derive(Debug, Drop)]
+pub struct GivenToken {
+    /// The number of the port that knows it, from 1.
+    pub port: u16,
+    /// Its text, padded right with spaces.
+    pub token: [u8; 14],
+    /// OrderID (37) of its order.
+    pub order_id: u64,
+    /// A replace asked for it, and not the new order.
+    pub is_replacement: bool,
+}
+
+impl Model for GivenToken {
+    ghost use Rattle.std.specs.Prelude.{decimal};
+    ghost use Rattle.order_histories.specs.Table as table;
+
+    ghost Value = { table.GivenToken };
+
+    ghost view = { λ g. record { port = g.port; text = g.token; order = decimal g.order_id; is_replacement = g.is_replacement } };
+}
+
+/// The accepted orders and the tokens that were given. Contracts see the newest first.
+#[derive(Debug, Drop)]
+pub struct Table {
+    orders: Vec<Order>,
+    tokens: Vec<GivenToken>,
+    ghost counted: { list_all (is_counted tokens.items) orders.items ≡ true },
+}
+
+impl Model for Table {
+    ghost use Rattle.std.specs.Prelude.{reverse};
+    ghost use Rattle.order_lists.specs.Held as held;
+
+    ghost Value = { held.Held };
+
+    ghost view = { λ t. record { orders = reverse t.orders.items; tokens = reverse t.tokens.items } };
+}
+
+impl Table {
+    ghost use Rattle.std.specs.Prelude.{◌≤◌, ◌+◌, [], ◌∷◌, IfOk, OnErr, MatchOption, Some, None, decimal, length, option_to_list};
+    ghost use Rattle.std.specs.List.{count_by};
+    ghost use Rattle.order_histories.specs.OrderRecord as record_of;
+    ghost use Rattle.order_histories.specs.OrderRecord.{at};
+    ghost use Rattle.order_histories.specs.Table.{is_replacement_of, open_count, put};
+    ghost use Rattle.orders.specs.Changes.{Fits, changed_by};
+    ghost use Rattle.order_lists.specs.Held.{changed, found, named, with_number};
+    ghost use Rattle.orders.specs.Seen.{cancel_seen, replace_seen};
+
+    /// No orders and no tokens. Takes no memory.
+    pub fn new(alloc: Global) -> Table
+        ensures orders { result.orders ≡ [] }
+        ensures tokens { result.tokens ≡ [] }
+    {
+        Table {
+            orders: Vec::new(alloc),
+            tokens: Vec::new(alloc),
+        }
+    }
+
+    /// One order more, which has had one token and has no pending replace, and the token that it was given. `AllocError`
+    /// leaves the table as it was.
+    pub fn add(&mut self, order: Order, given: GivenToken) -> Result<(), AllocError>
+        requires { length order.tokens + length (option_to_list order.replace) ≤ 1 }
+        ensures added { IfOk result (λ nothing. self.new ≡ record { orders = order ∷ self.old.orders; tokens = given ∷ self.old.tokens }) }
+        ensures err { OnErr result (self.new ≡ self.old) }
+    {
+        self.tokens.reserve(1)?;
+        self.orders.push(order)?;
+        push_token(&mut self.tokens, given);
+        Ok(())
+    }
+
+    /// How many tokens were given.
+    pub fn token_count(&self) -> usize
+        ensures { result ≡ length self.now.tokens }
+    {
+        self.tokens.len()
+    }
+
+    /// How many orders of a client aren't closed.
+    pub fn open_count(&self, client: u16) -> usize
+        ensures { result ≡ open_count self.now.orders client }
+    {
+        count_open(&self.orders, client)
+    }
+
+    /// The order that a token of a port leads to.
+    pub fn by_token(&self, port: u16, token: &[u8; 14]) -> Option<&Order>
+        ensures { MatchOption result (found self.now port token.now ≡ None) (λ order. found self.now port token.now ≡ Some order.now) }
+    {
+        match token_place(&self.tokens, port, token) {
+            None => None,
+            Some(place) => self.by_number(self.tokens[place].order_id),
+        }
+    }
+
+    /// The order with an OrderID (37).
+    pub fn by_number(&self, order_id: u64) -> Option<&Order>
+        ensures { MatchOption result (with_number self.now order_id ≡ None) (λ order. with_number self.now order_id ≡ Some order.now) }
+    {
+        match place_of(&self.orders, order_id) {
+            None => None,
+            Some(place) => Some(&self.orders[place]),
+        }
+    }
+
+    /// The order of a client that goes by this ClOrdID: its own, that of the last replace of it, or that of a pending
+    /// request.
+    pub fn by_id(&self, client: u16, id: &[u8]) -> Option<&Order>
+        ensures { MatchOption result (named self.now client id.now ≡ None) (λ order. named self.now client id.now ≡ Some order.now) }
+    {
+        match named_place(&self.orders, client, id) {
+            None => None,
+            Some(place) => Some(&self.orders[place]),
+        }
+    }
+
+    /// How many replaces of the order with an OrderID were accepted.
+    pub fn replace_count(&self, order_id: u64) -> usize
+        ensures { result ≡ count_by (is_replacement_of (decimal order_id)) self.now.tokens }
+    {
+        count_replacements(&self.tokens, order_id)
+    }
+
+    /// The order with an OrderID, as a message of the market changes it, which fits it. Where no order has it, nothing
+    /// changes. `AllocError` leaves the table as it was.
+    pub fn apply(&mut self, order_id: u64, change: Change) -> Result<(), AllocError>
+        requires { (o : record_of.OrderRecord) → with_number self.old order_id ≡ Some o → Fits change o }
+        ensures changed { IfOk result (λ nothing. (o : record_of.OrderRecord) → with_number self.old order_id ≡ Some o
+            → self.new ≡ changed (changed_by change o) self.old) }
+        ensures unknown { with_number self.old order_id ≡ None → self.new ≡ self.old }
+        ensures err { OnErr result (self.new ≡ self.old) }
+    {
+        if let Some(place) = place_of(&self.orders, order_id) {
+            self.orders[place].apply(change)?;
+        }
+        Ok(())
+    }
+
+    /// A replace of the order with an OrderID is pending, which was given a token; it isn't the 65,536th. Where no order has
+    /// the OrderID, nothing changes. `AllocError` leaves the table as it was.
+    pub fn accept_replace(
+        &mut self,
+        order_id: u64,
+        replacing: Replacing,
+        given: GivenToken,
+    ) -> Result<(), AllocError>
+        requires room { count_by (is_replacement_of (decimal order_id)) self.old.tokens < 65_535 }
+        requires of_order { given.order ≡ decimal order_id }
+        requires is_replacement { given.is_replacement ≡ true }
+        ensures accepted { IfOk result (λ nothing. (o : record_of.OrderRecord) → with_number self.old order_id ≡ Some o
+            → self.new ≡ record { orders = put (at o (Some (replace_seen o.new.client order_id replacing)) o.cancel) self.old.orders; tokens = given ∷ self.old.tokens }) }
+        ensures unknown { with_number self.old order_id ≡ None → self.new ≡ self.old }
+        ensures err { OnErr result (self.new ≡ self.old) }
+    {
+        self.tokens.reserve(1)?;
+        if let Some(place) = place_of(&self.orders, order_id) {
+            push_token(&mut self.tokens, given);
+            self.orders[place].accept_replace(replacing);
+        }
+        Ok(())
+    }
+
+    /// A cancel of the order with an OrderID is pending. Where no order has it, nothing changes.
+    pub fn accept_cancel(&mut self, order_id: u64, cancelling: Cancelling)
+        ensures accepted { (o : record_of.OrderRecord) → with_number self.old order_id ≡ Some o
+            → self.new ≡ changed (at o o.replace (Some (cancel_seen o.new.client order_id cancelling))) self.old }
+        ensures unknown { with_number self.old order_id ≡ None → self.new ≡ self.old }
+    {
+        if let Some(place) = place_of(&self.orders, order_id) {
+            self.orders[place].accept_cancel(cancelling);
+        }
+    }
+}
+
+/// Adds a token, where there is room for it.
+fn push_token(tokens: &mut Vec<GivenToken>, given: GivenToken)
+    requires { vec_len tokens.old < vec_capacity tokens.old }
+    ensures { tokens.new.items ≡ tokens.old.items ++ given ∷ [] }
+{
+    let _ = tokens.push(given);
+}
+
+/// Whether an order is the client's and not closed.
+fn is_open_of(client: u16, order: &Order) -> bool
+    ensures { result ≡ table.is_open_of client order.now }
+{
+    order.client == client && order.progress.stage != Stage::Closed
+}
+
+/// How many orders of a client aren't closed, of these.
+fn count_open(orders: &[Order], client: u16) -> usize
+    ensures { result ≡ table.open_count orders.now client }
+{
+    orders
+        .iter()
+        .filter(|order| is_open_of(client, order))
+        .count()
+}
+
+/// How many tokens replaces of an order were given, of these.
+fn count_replacements(tokens: &[GivenToken], order_id: u64) -> usize
+    ensures { result ≡ count_by (table.is_replacement_of (decimal order_id)) tokens.now }
+{
+    tokens
+        .iter()
+        .filter(|given| is_replacement_of(order_id, given))
+        .count()
+}
+
+/// Whether a replace of an order was given the token.
+fn is_replacement_of(order_id: u64, given: &GivenToken) -> bool
+    ensures { result ≡ table.is_replacement_of (decimal order_id) given.now }
+{
+    given.order_id == order_id && given.is_replacement
+}

@@ -1,3 +1,0 @@
-pub mod Table
-pub mod Machine
-pub mod Runs

@@ -1,0 +1,38 @@
+use Rattle.std.proofs.Common.{◌≡◌, Bool, true, false, sym, ap, ◌∙◌}
+use Rattle.std.specs.Prelude.{◌||◌}
+use Rattle.order_rows.specs.May.{may_refuse_as, may_reject_replace_as}
+use Rattle.order_rows.proofs.RejectedRow.{not_replaced-now, refuse-waits, refused-now, rejected-lawful}
+use Rattle.order_rows.proofs.rejected.on_rejected.Goals as goal
+
+pub returns-then-may_refuse : goal.returns-then-may_refuse
+returns-then-may_refuse c = λ b says.
+    let m = c.args.message.now in
+    let o = c.args.order.now in
+    let may : may_refuse_as m o ≡ true = sym c.if-may_refuse.ensures in
+    record {
+      lawful = rejected-lawful m b o says ∙ ap (λ (x : Bool). x || may_reject_replace_as m o) may;
+      told = c.in_ok-tell_refused.ensures.told b says;
+      now = refused-now c.args.issued m b o says may;
+      fits = refuse-waits c.args.issued m b o says may;
+    }
+
+pub returns-then-may_reject_replace : goal.returns-then-may_reject_replace
+returns-then-may_reject_replace c = λ b says.
+    let m = c.args.message.now in
+    let o = c.args.order.now in
+    let not_new : may_refuse_as m o ≡ false = sym c.if-may_refuse.ensures in
+    let may : may_reject_replace_as m o ≡ true = sym c.if-may_reject_replace.ensures in
+    record {
+      lawful = rejected-lawful m b o says ∙ ap (λ (x : Bool). x || may_reject_replace_as m o) not_new ∙ may;
+      told = c.in_ok-tell_not_replaced.ensures.told c.args.issued b says;
+      now = not_replaced-now c.args.issued m b o says not_new;
+      fits = tt;
+    }
+
+pub returns : goal.returns
+returns c = λ b says.
+    let m = c.args.message.now in
+    let o = c.args.order.now in
+    let not_new : may_refuse_as m o ≡ false = sym c.if-may_refuse.ensures in
+    let not_so : may_reject_replace_as m o ≡ false = sym c.if-may_reject_replace.ensures in
+    rejected-lawful m b o says ∙ ap (λ (x : Bool). x || may_reject_replace_as m o) not_new ∙ not_so

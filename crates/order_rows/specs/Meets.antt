@@ -1,0 +1,43 @@
+-- When what comes of a message on an order is what the law says.
+use Rattle.std.specs.Prelude.{◌≡◌, ℕ, Bool, true, false, List, [], map, Result, Ok, Err}
+use Rattle.order_law.specs.declared.stage.Stage.TheVariants.{Waiting, Closed}
+use Rattle.order_law.specs.Messages.{Message}
+use Rattle.order_law.specs.Lawful.{row_holds}
+use Rattle.order_law.specs.Told.{told_by_type}
+use Rattle.order_histories.specs.OrderRecord.{OrderRecord, after_message, fill_of, last_of, lived, replacements, shown_as}
+use Rattle.orders.specs.Changes.{Fits, changed_by}
+use Rattle.to_client.specs.Pending.{body_fields}
+use Rattle.order_rows.specs.declared.heard.Heard.{Heard}
+use Rattle.order_rows.specs.declared.heard.RowFault.{RowFault}
+use Rattle.order_rows.specs.declared.heard.RowFault.TheVariants.{NoMemory, NotLawful}
+
+-- the message is lawful of the order
+abbrev pub is_lawful : List ℕ → OrderRecord → Bool
+is_lawful m o = row_holds m (lived o) o.new (replacements o.replace)
+
+-- what its client is told, after so many reports
+abbrev pub told_of : ℕ → List ℕ → OrderRecord → List Message
+told_of issued m o = told_by_type issued m (lived o) (last_of m o.cancel) (map fill_of o.trades) (shown_as o)
+
+-- after so many reports: it is lawful, its client is told what the law tells, and what it changes fits the order and makes of it
+-- what the law makes
+pub record IsHeard (issued : ℕ) (m : List ℕ) (o : OrderRecord) (h : Heard) : Type 0 where
+  pub lawful : is_lawful m o ≡ true
+  pub told : map body_fields h.bodies.items ≡ told_of issued m o
+  pub now : changed_by h.change o ≡ after_message issued m o
+  pub fits : Fits h.change o
+
+-- nobody is told anything, and the order stays as it is
+pub record IsQuiet (issued : ℕ) (m : List ℕ) (o : OrderRecord) : Type 0 where
+  pub told : told_of issued m o ≡ []
+  pub now : after_message issued m o ≡ o
+
+-- nothing is traded while it waits, and nothing is open once it is closed
+pub record IsSteady (o : OrderRecord) : Type 0 where
+  pub idle : o.stage ≡ Waiting → o.trades ≡ []
+  pub none_closed : o.stage ≡ Closed → o.unfilled ≡ 0
+
+abbrev pub MeetsRow : ℕ → List ℕ → OrderRecord → Result Heard RowFault → Type 0
+MeetsRow issued m o (Ok h) = IsHeard issued m o h
+MeetsRow issued m o (Err NoMemory) = Unit {0}
+MeetsRow issued m o (Err NotLawful) = is_lawful m o ≡ false

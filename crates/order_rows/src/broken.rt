@@ -1,0 +1,122 @@
+//! Broken Trade: a trade of an order is taken back.
+
+ghost use Rattle.std.specs.Prelude.{◌≡◌, ◌≤◌, ◌<◌, ◌^◌, ◌∷◌, [], length, map, IfOk, Some, option_map, reverse, ℕ, List};
+ghost use Rattle.std.specs.List.{find, position};
+ghost use Rattle.order_histories.specs.OrderRecord.{stands_told};
+ghost use Rattle.orders.specs.Seen.{told_seen};
+ghost use Rattle.ouch_codec.specs.BrokenParts.{SaysBroken};
+ghost use Rattle.to_client.specs.Pending.{body_fields};
+ghost use Rattle.order_rows.specs.May.{broken_in, is_standing, was_in_book_as};
+ghost use Rattle.order_rows.specs.Meets.{IsSteady, MeetsRow, told_of};
+
+use crate::heard::{Heard, RowFault};
+use crate::shown::shown_of;
+use fix_types::AppBody;
+use order_law::Stage;
+use orders::{Change, Order, ToldTrade};
+use ouch_codec::Broken;
+use std::alloc::{AllocError, Global};
+use to_client::{Occasion, push_report, report_of};
+
+/// Lawful for an order that has been in the book, closed or not, and goes or went by this token, of a trade that stands
+/// under the match number: it is taken back, which a report says with the ExecID of the trade's own. What is open stays open.
+///
+/// Source: OUCH 4.2, "Broken Trade Message"; FIX 4.4 Volume 4, "Execution Report", Trade Cancel.
+pub fn on_broken(
+    alloc: Global,
+    issued: u64,
+    order: &Order,
+    message: &Broken,
+) -> Result<Heard, RowFault>
+    requires { issued < 2 ^ 60 }
+    ensures { (b : List ℕ) → SaysBroken message.now b → MeetsRow issued b order.now result }
+{
+    let Some(told) = trade_of(order, message) else {
+        return Err(RowFault::NotLawful);
+    };
+    Ok(Heard {
+        change: Change::Broken(told),
+        bodies: tell_broken(alloc, issued, order, message, told)?,
+    })
+}
+
+/// What its client is told, where this trade is the one that it takes back.
+fn tell_broken(
+    alloc: Global,
+    issued: u64,
+    order: &Order,
+    message: &Broken,
+    told: ToldTrade,
+) -> Result<Vec<AppBody>, AllocError>
+    requires issued { issued < 2 ^ 60 }
+    requires may { broken_in message.now order.now ≡ Some (told_seen told) }
+    requires steady { IsSteady order.now }
+    ensures told { IfOk result (λ bodies. (b : List ℕ) → SaysBroken message.now b → map body_fields bodies.items ≡ told_of issued b order.now) }
+    ensures few { IfOk result (λ bodies. length bodies.items ≤ 3) }
+{
+    let progress = order.progress_after(Change::Broken(told));
+    let occasion = Occasion::TradeCancel {
+        exec_id: told.number,
+        reason: message.reason,
+    };
+    let mut bodies = Vec::with_capacity(alloc, 1)?;
+    let shown = shown_of(order, &progress);
+    let report = report_of(alloc, issued + 1, occasion, &shown)?;
+    push_report(&mut bodies, report)?;
+    Ok(bodies)
+}
+
+/// The newest trade of an order that the message may take back: the order has been in the book and had the token, and the
+/// trade stands under the match number.
+fn trade_of(order: &Order, message: &Broken) -> Option<ToldTrade>
+    ensures trade { option_map told_seen result ≡ broken_in message.now order.now }
+    ensures steady { IsSteady order.now }
+{
+    if was_in_book(order, message) {
+        standing_in(order, message.match_number)
+    } else {
+        None
+    }
+}
+
+/// Whether an order has been in the book, and had the message's token.
+fn was_in_book(order: &Order, message: &Broken) -> bool
+    ensures so { result ≡ was_in_book_as message.now order.now }
+    ensures steady { IsSteady order.now }
+{
+    order.has_had(&message.token) && order.progress.stage != Stage::Waiting
+}
+
+/// The newest trade of an order that stands under the match number.
+fn standing_in(order: &Order, match_number: u64) -> Option<ToldTrade>
+    ensures { option_map told_seen result ≡ find (stands_told match_number) order.now.trades }
+{
+    standing(&order.trades, match_number)
+}
+
+/// The newest of these trades that stands under the match number.
+fn standing(trades: &[ToldTrade], match_number: u64) -> Option<ToldTrade>
+    ensures { option_map told_seen result ≡ find (stands_told match_number) (reverse (map told_seen trades.now)) }
+{
+    match standing_behind(trades, match_number) {
+        None => None,
+        Some(behind) => Some(trades[trades.len() - 1 - behind]),
+    }
+}
+
+/// How many trades are newer than it.
+fn standing_behind(trades: &[ToldTrade], match_number: u64) -> Option<usize>
+    ensures { result ≡ position (is_standing match_number) (reverse trades.now) }
+{
+    trades
+        .iter()
+        .rev()
+        .position(|told| stands(match_number, told))
+}
+
+/// Whether a trade stands under the match number.
+fn stands(match_number: u64, told: &ToldTrade) -> bool
+    ensures { result ≡ is_standing match_number told.now }
+{
+    told.trade.match_number == match_number && !told.trade.is_broken
+}

@@ -1,0 +1,16 @@
+use Rattle.std.proofs.Common.{◌≡◌, map, reverse, ap, ◌∙◌}
+use Rattle.order_histories.specs.OrderRecord.{broken, mark}
+use Rattle.orders.specs.Seen.{told_seen}
+use Rattle.orders.specs.contracts.order.Order.{the_view}
+use Rattle.orders.proofs.Broken.{broken-is}
+use Rattle.orders.proofs.Marks.{marked-seen}
+use Rattle.orders.proofs.order.Order.break_trade.Goals as goal
+
+pub returns : goal.returns
+returns c =
+    let trades : reverse (map told_seen c.mark.new.trades.items) ≡ map (mark c.args.told.trade.match_number) (reverse (map told_seen c.self.inside.trades.items)) =
+    ap (λ ts. reverse (map told_seen ts)) c.mark.ensures ∙ marked-seen c.args.told.trade.match_number c.self.inside.trades.items in
+    let is = c.broken-self-inside.ensures in
+    broken-is c.args.told (the_view c.self.inside) c.broken-self-inside.result (reverse (map told_seen c.mark.new.trades.items)) trades
+    is.stage is.refused is.total_closed is.total_open is.price is.unfilled is.executed is.cancelled is.value
+    ∙ ap (broken (told_seen c.args.told)) c.self.view_is

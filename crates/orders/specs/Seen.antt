@@ -1,0 +1,57 @@
+-- How an order of the table is seen: as its record.
+use Rattle.std.specs.Prelude.{ℕ, Bool, false, List, ◌∷◌, Option, Some, None, bytes_eq, decimal, if◌then◌else◌, option_to_list}
+use Rattle.fix_types.specs.CancelRequest.{cancel_request_fields}
+use Rattle.fix_types.specs.ReplaceRequest.{replace_request_fields}
+use Rattle.order_law.specs.History.{Entry}
+use Rattle.order_law.specs.Messages.{text}
+use Rattle.orders.specs.declared.requests.Cancelling.{Cancelling}
+use Rattle.orders.specs.declared.requests.Replacing.{Replacing}
+use Rattle.order_law.specs.Life.{marked}
+use Rattle.orders.specs.declared.order.ToldTrade.{ToldTrade}
+use Rattle.orders.specs.declared.progress.Progress.{Progress}
+use Rattle.order_histories.specs.OrderRecord.{OrderRecord}
+use Rattle.order_histories.specs.OrderRecord as record_of
+
+abbrev pub told_seen : ToldTrade → record_of.ToldTrade
+told_seen t = record { trade = t.trade; number = t.number }
+
+-- a trade, marked as broken where it has this match number
+abbrev pub told_marked : ℕ → ToldTrade → ToldTrade
+told_marked match_number t = record t { trade = marked match_number t.trade }
+
+-- an order that has come so far
+abbrev pub progressed : Progress → OrderRecord → OrderRecord
+progressed p o = record o {
+  stage = p.stage;
+  is_refused = p.is_refused;
+  total = p.total;
+  price = p.price;
+  unfilled = p.unfilled;
+  executed = p.executed;
+  cancelled = p.cancelled;
+  value = p.value;
+}
+
+-- the pending requests of an order of a client, with its OrderID
+abbrev pub replace_seen : ℕ → ℕ → Replacing → Entry
+replace_seen client order_id r = record { client = client; message = replace_request_fields r.message; order = decimal order_id; token = Some r.token_number }
+
+abbrev pub cancel_seen : ℕ → ℕ → Cancelling → record_of.Cancelling
+cancel_seen client order_id c = record {
+  request = record { client = client; message = cancel_request_fields c.message; order = decimal order_id; token = None };
+  tokens = c.first ∷ option_to_list c.second;
+}
+
+-- a token, where it is another than this one
+abbrev pub other_than : List ℕ → Option (List ℕ) → Option (List ℕ)
+other_than token None = None
+other_than token (Some other) = if bytes_eq token other then None else Some other
+
+-- a pending request has this ClOrdID
+abbrev pub has_id : List ℕ → Option Entry → Bool
+has_id id None = false
+has_id id (Some q) = bytes_eq (text 11 q.message) id
+
+abbrev pub has_cancel_id : List ℕ → Option record_of.Cancelling → Bool
+has_cancel_id id None = false
+has_cancel_id id (Some c) = bytes_eq (text 11 c.request.message) id

@@ -1,0 +1,55 @@
+//! What is left of a cancel once the market has answered a Cancel Order of it.
+
+ghost use Rattle.std.specs.Prelude.{◌≡◌, ℕ, Some, is_none, option_map};
+ghost use Rattle.orders.specs.Changes.{is_last_of, still_without};
+ghost use Rattle.orders.specs.Seen.{cancel_seen, other_than};
+
+use crate::requests::Cancelling;
+
+impl Cancelling {
+    /// Whether no other Cancel Order than that of a token is left.
+    pub fn is_last(&self, token: &[u8; 14]) -> bool
+        ensures { (client order_id : ℕ) → result ≡ is_last_of token.now (Some (cancel_seen client order_id self.now)) }
+    {
+        *token == self.first && is_no_other(&self.second, token)
+    }
+
+    /// The cancel once the Cancel Order of a token is answered; `None` where no other is left.
+    pub fn without(self, token: [u8; 14]) -> Option<Cancelling>
+        ensures { (client order_id : ℕ) → option_map (cancel_seen client order_id) result ≡ still_without token (Some (cancel_seen client order_id self)) }
+    {
+        match (token == self.first, second_without(self.second, token)) {
+            (true, None) => None,
+            (true, Some(second)) => Some(Cancelling {
+                message: self.message,
+                first: second,
+                second: None,
+            }),
+            (false, second) => Some(Cancelling {
+                message: self.message,
+                first: self.first,
+                second,
+            }),
+        }
+    }
+}
+
+/// The second token, where it is another than this one.
+fn second_without(second: Option<[u8; 14]>, token: [u8; 14]) -> Option<[u8; 14]>
+    ensures { result ≡ other_than token second }
+{
+    match second {
+        Some(other) if token != other => Some(other),
+        _ => None,
+    }
+}
+
+/// Whether there is no second token but this one.
+fn is_no_other(second: &Option<[u8; 14]>, token: &[u8; 14]) -> bool
+    ensures { result ≡ is_none (other_than token.now second.now) }
+{
+    match second {
+        None => true,
+        Some(other) => *token == *other,
+    }
+}

@@ -1,0 +1,34 @@
+//! What a message of the market changes of an order.
+
+use crate::order::ToldTrade;
+
+/// What a message of the market changes of an order, by its type. What is told of it isn't said here.
+///
+/// Source: OUCH 4.2, "Outbound Messages".
+#[derive(Clone, Copy, Debug, PartialEq, Eq)]
+pub enum Change {
+    /// Accepted: it is in the book with so many shares at a price in 1/10,000, or dead at once.
+    Opened {
+        shares: u32,
+        price: u32,
+        is_dead: bool,
+    },
+    /// Replaced: the same, under the token and the ClOrdID of its pending replace. Nothing where none is pending.
+    Replaced {
+        shares: u32,
+        price: u32,
+        is_dead: bool,
+    },
+    /// Canceled: so many shares fewer are open.
+    Canceled(u32),
+    /// Executed: one trade more.
+    Traded(ToldTrade),
+    /// Broken Trade: this trade is taken back.
+    Broken(ToldTrade),
+    /// Rejected, of the new order.
+    Refused,
+    /// Rejected, of its pending replace, which had this token.
+    NotReplaced([u8; 14]),
+    /// Cancel Reject, on this token.
+    NotCanceled([u8; 14]),
+}

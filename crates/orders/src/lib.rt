@@ -1,0 +1,19 @@
+//! An accepted order: what its client asked, how far it has come, the tokens that it had, its trades, and the requests on it
+//! that aren't answered; and what a message of the market changes of it.
+//!
+//! It knows nothing of a message's bytes and of reports. Contracts see an order as `order_histories`' record.
+#![tactic(auto)]
+
+mod answering;
+mod change;
+mod earlier;
+mod order;
+mod progress;
+mod requests;
+mod trades;
+
+pub use change::Change;
+pub use order::{Order, ToldTrade};
+pub use progress::Progress;
+pub use requests::{Cancelling, Replacing};
+pub use trades::mark;

@@ -1,0 +1,354 @@
+//! An accepted order.
+
+ghost use Rattle.std.specs.Prelude.{◌≡◌, ◌≢◌, ◌≤◌, ◌<◌, ◌+◌, false, [], IfOk, length, option_to_list};
+ghost use Rattle.order_law.specs.declared.stage.Stage.TheVariants.{Waiting, Working};
+ghost use Rattle.fix_types.specs.NewOrder.{new_order_fields};
+ghost use Rattle.order_law.specs.Asks.{total_of};
+ghost use Rattle.order_histories.specs.OrderRecord.{OrderRecord};
+ghost use Rattle.orders.specs.Changes.{over_if, with_quantities};
+ghost use Rattle.orders.specs.Seen.{progressed};
+
+use crate::change::Change;
+use crate::earlier::{is_among, push_earlier};
+use crate::progress::Progress;
+use crate::requests::{Cancelling, Replacing};
+use crate::trades::mark;
+use fix_types::NewOrder;
+use fix_values::ClOrdId;
+use order_law::Trade;
+use std::alloc::{AllocError, Global};
+use std::marker::Model;
+
+/// A trade, and the ExecID (17) under which its client was told of it.
+#[derive(Clone, Copy, Debug, PartialEq, Eq)]
+pub struct ToldTrade {
+    pub trade: Trade,
+    pub number: u64,
+}
+
+/// An accepted order. Contracts see it as `order_histories`' record.
+#[derive(Debug, Drop)]
+pub struct Order {
+    /// The number of its client, from 1.
+    pub client: u16,
+    /// OrderID (37).
+    pub order_id: u64,
+    /// The market's name for it, and the number of the first that it had.
+    pub token: [u8; 14],
+    pub token_number: u64,
+    /// The names that it had before, the oldest first.
+    pub earlier: Vec<[u8; 14]>,
+    /// What its client asked.
+    pub message: NewOrder,
+    /// ClOrdID (11): its own, or that of the last replace of it that was done.
+    pub cl_ord_id: ClOrdId,
+    /// How far it has come.
+    pub progress: Progress,
+    /// Its trades, the oldest first: none while it waits.
+    pub trades: Vec<ToldTrade>,
+    /// The pending replace of it, and the pending cancel, which was accepted after it.
+    pub replace: Option<Replacing>,
+    pub cancel: Option<Cancelling>,
+    ghost trades_set: { progress.stage ≡ Waiting → trades.items ≡ [] },
+    ghost counted: { progress.tokens ≤ 1 + length earlier.items },
+    ghost total_set: { progress.stage ≡ Waiting → progress.total ≡ total_of (new_order_fields message) },
+    ghost replace_set: { progress.tokens + length (option_to_list replace) ≤ 65_536 },
+}
+
+impl Model for Order {
+    ghost use Rattle.std.specs.Prelude.{[], ◌∷◌, Some, None, decimal, map, option_map, reverse};
+    ghost use Rattle.fix_types.specs.NewOrder.{new_order_fields};
+    ghost use Rattle.order_histories.specs.OrderRecord as record_of;
+    ghost use Rattle.orders.specs.Seen.{cancel_seen, replace_seen, told_seen};
+
+    ghost Value = { record_of.OrderRecord };
+
+    ghost view = { λ o. record {
+      new = record { client = o.client; message = new_order_fields o.message; order = decimal o.order_id; token = Some o.token_number };
+      stage = o.progress.stage;
+      is_refused = o.progress.is_refused;
+      id = o.cl_ord_id;
+      total = o.progress.total;
+      price = o.progress.price;
+      unfilled = o.progress.unfilled;
+      executed = o.progress.executed;
+      cancelled = o.progress.cancelled;
+      value = o.progress.value;
+      tokens = o.token ∷ reverse o.earlier.items;
+      trades = reverse (map told_seen o.trades.items);
+      replace = option_map (replace_seen o.client o.order_id) o.replace;
+      cancel = option_map (cancel_seen o.client o.order_id) o.cancel;
+    } };
+}
+
+impl Order {
+    ghost use Rattle.std.specs.Prelude.{ℕ, OnErr, Some, bytes_eq, decimal};
+    ghost use Rattle.std.specs.List.{list_any};
+    ghost use Rattle.tokens.specs.TokenText.{token_text};
+    ghost use Rattle.fix_types.specs.NewOrder.{new_order_fields};
+    ghost use Rattle.order_law.specs.Asks.{limit_of};
+    ghost use Rattle.order_histories.specs.OrderRecord.{at, entered, live_token, replacements, unasked};
+    ghost use Rattle.orders.specs.Changes.{Fits, changed_by, is_last_of, replaced_as, still_without, with_quantities};
+    ghost use Rattle.orders.specs.Seen.{cancel_seen, progressed, replace_seen};
+    ghost use Rattle.orders.specs.declared.change.Change.TheVariants as changes;
+
+    /// A new order that was accepted: it waits for the market. Its token is that of the number, its total and price are
+    /// what its message asks. The one error is that memory ran out.
+    pub fn entered(
+        alloc: Global,
+        client: u16,
+        order_id: u64,
+        token: [u8; 14],
+        token_number: u64,
+        message: NewOrder,
+        progress: Progress,
+    ) -> Result<Order, AllocError>
+        requires token { token ≡ token_text token_number }
+        requires waits { progress.stage ≡ Waiting }
+        requires refused { progress.is_refused ≡ false }
+        requires total { progress.total ≡ total_of (new_order_fields message) }
+        requires price { progress.price ≡ limit_of (new_order_fields message) }
+        requires executed { progress.executed ≡ 0 }
+        requires value { progress.value ≡ 0 }
+        requires tokens { progress.tokens ≡ 1 }
+        ensures { IfOk result (λ o. o ≡ entered (record { client = client; message = new_order_fields message; order = decimal order_id; token = Some token_number })) }
+    {
+        let cl_ord_id = ClOrdId::copied(alloc, message.cl_ord_id.as_slice())?;
+        Ok(Order {
+            client,
+            order_id,
+            token,
+            token_number,
+            earlier: Vec::new(alloc),
+            message,
+            cl_ord_id,
+            progress,
+            trades: Vec::new(alloc),
+            replace: None,
+            cancel: None,
+        })
+    }
+
+    /// The order as a message of the market changes it, which fits it. `AllocError` leaves it as it was.
+    pub fn apply(&mut self, change: Change) -> Result<(), AllocError>
+        requires { Fits change self.old }
+        ensures changed { IfOk result (λ nothing. self.new ≡ changed_by change self.old) }
+        ensures err { OnErr result (self.new ≡ self.old) }
+    {
+        match change {
+            Change::Opened {
+                shares,
+                price,
+                is_dead,
+            } => self.open(shares, price, is_dead),
+            Change::Replaced {
+                shares,
+                price,
+                is_dead,
+            } => self.replace_by(shares, price, is_dead)?,
+            Change::Canceled(shares) => self.reduce(shares),
+            Change::Traded(told) => self.add_trade(told)?,
+            Change::Broken(told) => self.break_trade(told),
+            Change::Refused => self.refuse(),
+            Change::NotReplaced(token) => self.end_replace(token),
+            Change::NotCanceled(token) => self.answer(token),
+        }
+        Ok(())
+    }
+
+    /// How far it has come once a message of the market has changed it, which fits it.
+    pub fn progress_after(&self, change: Change) -> Progress
+        requires { Fits change self.now }
+        ensures after { progressed result self.now ≡ with_quantities (changed_by change self.now) self.now }
+        ensures waiting { result.stage ≡ Waiting → result.total ≡ total_of self.now.new.message }
+    {
+        match change {
+            Change::Opened {
+                shares,
+                price,
+                is_dead,
+            } => over_if(is_dead, self.progress.opened(shares, price)),
+            Change::Replaced {
+                shares,
+                price,
+                is_dead,
+            } => match &self.replace {
+                None => self.progress,
+                Some(_) => over_if(is_dead, self.progress.replaced(shares, price)),
+            },
+            Change::Canceled(shares) if shares == self.progress.unfilled => self.progress.gone(),
+            Change::Canceled(shares) => self.progress.reduced(shares),
+            Change::Traded(told) if told.trade.shares == self.progress.unfilled => {
+                self.progress.filled(told.trade.shares, told.trade.price)
+            }
+            Change::Traded(told) => self.progress.traded(told.trade.shares, told.trade.price),
+            Change::Broken(told) => self.progress.broken(told.trade.shares, told.trade.price),
+            Change::Refused => self.progress.refused(),
+            Change::NotReplaced(_) | Change::NotCanceled(_) => self.progress,
+        }
+    }
+
+    /// Whether a token is or was the one that it goes by.
+    pub fn has_had(&self, token: &[u8; 14]) -> bool
+        ensures { result ≡ list_any (bytes_eq token.now) self.now.tokens }
+    {
+        *token == self.token || is_among(&self.earlier, token)
+    }
+
+    /// Whether a token is that of its pending replace.
+    pub fn awaits(&self, token: &[u8; 14]) -> bool
+        ensures { result ≡ list_any (bytes_eq token.now) (replacements self.now.replace) }
+    {
+        match &self.replace {
+            None => false,
+            Some(replacing) => *token == replacing.token,
+        }
+    }
+
+    /// Whether the Cancel Order of a token is the last of its pending cancel that isn't answered.
+    pub fn is_last(&self, token: &[u8; 14]) -> bool
+        ensures { result ≡ is_last_of token.now self.now.cancel }
+    {
+        match &self.cancel {
+            None => false,
+            Some(cancelling) => cancelling.is_last(token),
+        }
+    }
+
+    /// A replace of it is pending. It has had fewer than 65,536 tokens.
+    pub fn accept_replace(&mut self, replacing: Replacing)
+        requires { length self.old.tokens < 65_536 }
+        ensures { (order_id : ℕ) → self.old.new.order ≡ decimal order_id
+            → self.new ≡ at self.old (Some (replace_seen self.old.new.client order_id replacing)) self.old.cancel }
+    {
+        self.replace = Some(replacing);
+    }
+
+    /// A cancel of it is pending.
+    pub fn accept_cancel(&mut self, cancelling: Cancelling)
+        ensures { (order_id : ℕ) → self.old.new.order ≡ decimal order_id
+            → self.new ≡ at self.old self.old.replace (Some (cancel_seen self.old.new.client order_id cancelling)) }
+    {
+        self.cancel = Some(cancelling);
+    }
+
+    /// It is in the book, or dead at once.
+    fn open(&mut self, shares: u32, price: u32, is_dead: bool)
+        requires { Fits (changes.Opened shares price is_dead) self.old }
+        ensures { self.new ≡ changed_by (changes.Opened shares price is_dead) self.old }
+    {
+        let opened = self.progress.opened(shares, price);
+        if is_dead {
+            self.progress = opened.gone();
+            self.unask();
+        } else {
+            self.progress = opened;
+        }
+    }
+
+    /// It is in the book under its pending replace, or dead at once. `AllocError` leaves it as it was.
+    fn replace_by(&mut self, shares: u32, price: u32, is_dead: bool) -> Result<(), AllocError>
+        requires { Fits (changes.Replaced shares price is_dead) self.old }
+        ensures changed { IfOk result (λ nothing. self.new ≡ replaced_as shares price is_dead self.old self.old.replace) }
+        ensures err { OnErr result (self.new ≡ self.old) }
+    {
+        self.earlier.reserve(1)?;
+        if let Some(replacing) = self.replace.take() {
+            let live = self.token;
+            let token = replacing.token;
+            let message = replacing.message;
+            self.progress = self.progress.replaced(shares, price);
+            push_earlier(&mut self.earlier, live);
+            self.token = token;
+            self.cl_ord_id = message.cl_ord_id;
+            self.answer(live);
+            if is_dead {
+                self.progress = self.progress.gone();
+                self.unask();
+            }
+        }
+        Ok(())
+    }
+
+    /// So many shares fewer are open; it is over where none is left.
+    fn reduce(&mut self, shares: u32)
+        requires { Fits (changes.Canceled shares) self.old }
+        ensures { self.new ≡ changed_by (changes.Canceled shares) self.old }
+    {
+        if shares == self.progress.unfilled {
+            self.progress = self.progress.gone();
+            self.unask();
+        } else {
+            self.progress = self.progress.reduced(shares);
+        }
+    }
+
+    /// One trade more; it is over where nothing is left. `AllocError` leaves it as it was.
+    fn add_trade(&mut self, told: ToldTrade) -> Result<(), AllocError>
+        requires { Fits (changes.Traded told) self.old }
+        ensures changed { IfOk result (λ nothing. self.new ≡ changed_by (changes.Traded told) self.old) }
+        ensures err { OnErr result (self.new ≡ self.old) }
+    {
+        self.trades.push(told)?;
+        let (shares, price) = (told.trade.shares, told.trade.price);
+        if shares == self.progress.unfilled {
+            self.progress = self.progress.filled(shares, price);
+            self.unask();
+        } else {
+            self.progress = self.progress.traded(shares, price);
+        }
+        Ok(())
+    }
+
+    /// A trade is taken back.
+    fn break_trade(&mut self, told: ToldTrade)
+        requires { Fits (changes.Broken told) self.old }
+        ensures { self.new ≡ changed_by (changes.Broken told) self.old }
+    {
+        mark(&mut self.trades, told.trade.match_number);
+        self.progress = self.progress.broken(told.trade.shares, told.trade.price);
+    }
+
+    /// The market rejects it.
+    fn refuse(&mut self)
+        requires { Fits changes.Refused self.old }
+        ensures { self.new ≡ changed_by changes.Refused self.old }
+    {
+        self.progress = self.progress.refused();
+        self.unask();
+    }
+
+    /// Its pending replace is rejected, which had this token.
+    fn end_replace(&mut self, token: [u8; 14])
+        ensures { self.new ≡ changed_by (changes.NotReplaced token) self.old }
+    {
+        self.replace = None;
+        self.answer(token);
+    }
+
+    /// The Cancel Order of a token is answered.
+    fn answer(&mut self, token: [u8; 14])
+        ensures { self.new ≡ at self.old self.old.replace (still_without token self.old.cancel) }
+    {
+        self.cancel = match self.cancel.take() {
+            None => None,
+            Some(cancelling) => cancelling.without(token),
+        };
+    }
+
+    /// No request is pending.
+    fn unask(&mut self)
+        ensures { self.new ≡ unasked self.old }
+    {
+        self.replace = None;
+        self.cancel = None;
+    }
+}
+
+/// The progress, over where the order is dead at once.
+fn over_if(is_dead: bool, progress: Progress) -> Progress
+    ensures answered { progress.stage ≡ Working → result.stage ≢ Waiting }
+    ensures after { (o : OrderRecord) → progressed result o ≡ with_quantities (over_if is_dead (progressed progress o)) o }
+{
+    if is_dead { progress.gone() } else { progress }
+}

@@ -1,0 +1,27 @@
+//! Requests on an order that were accepted and aren't answered.
+
+ghost use Rattle.std.specs.Prelude.{◌≡◌};
+ghost use Rattle.tokens.specs.TokenText.{token_text};
+
+use fix_types::{CancelRequest, ReplaceRequest};
+
+/// A replace that was accepted and isn't answered.
+#[derive(Debug, Drop)]
+pub struct Replacing {
+    /// What its client asked.
+    pub message: ReplaceRequest,
+    /// The market's name for the order once it is replaced, and that token's number.
+    pub token: [u8; 14],
+    pub token_number: u64,
+    ghost text_set: { token ≡ token_text token_number },
+}
+
+/// A cancel that was accepted and isn't answered.
+#[derive(Debug, Drop)]
+pub struct Cancelling {
+    /// What its client asked.
+    pub message: CancelRequest,
+    /// The tokens whose Cancel Order isn't answered: one, or two where a replace was pending.
+    pub first: [u8; 14],
+    pub second: Option<[u8; 14]>,
+}

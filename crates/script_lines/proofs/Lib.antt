@@ -1,0 +1,4 @@
+pub mod Begins
+pub mod Numerals
+pub mod Spaces
+pub mod Tests

@@ -1,0 +1,9 @@
+pub mod Forms
+pub mod Frame
+pub mod Lines
+pub mod Market
+pub mod Message
+pub mod Names
+pub mod Understood
+pub mod Words
+pub mod WorkedLines

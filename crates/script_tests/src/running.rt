@@ -1,0 +1,62 @@
+//! Running a script over memory.
+
+use gate_lines::run_script;
+use std::alloc::{AllocError, Global};
+use std::process::Abort;
+use std::str;
+
+/// What a run left behind.
+#[derive(Debug, Drop)]
+pub struct Run {
+    pub output: Vec<u8>,
+    pub faults: Vec<u8>,
+    pub status: u8,
+}
+
+/// Runs a script.
+pub fn run_of(alloc: Global, script: &[u8]) -> Run {
+    let mut input = script;
+    let mut output = Vec::new(alloc);
+    let mut faults = Vec::new(alloc);
+    let status = run_script(alloc, &mut input, &mut output, &mut faults);
+    Run {
+        output,
+        faults,
+        status,
+    }
+}
+
+/// The script runs to its end and prints this.
+pub fn assert_prints(rt: &(impl Abort + AllocGlobal), script: &str, output: &str) {
+    let run = run_of(rt.alloc(), script.as_bytes());
+    assert_eq!(rt;
+        str::from_utf8(run.output.as_slice()),
+        Ok(output),
+        "{script}"
+    );
+    assert_eq!(rt; str::from_utf8(run.faults.as_slice()), Ok(""), "{script}");
+    assert_eq!(rt; run.status, 0, "{script}");
+}
+
+/// The script prints this, and then stops at the line of this number, which isn't understood.
+pub fn assert_stops(
+    rt: &(impl Abort + AllocGlobal),
+    script: &[u8],
+    output: &str,
+    line: u64,
+) -> Result<(), AllocError> {
+    let run = run_of(rt.alloc(), script);
+    let told = format!(in rt.alloc(); "line {line}: not understood\n")?;
+    assert_eq!(rt;
+        str::from_utf8(run.output.as_slice()),
+        Ok(output),
+        "{script:?}"
+    );
+    assert_eq!(rt;
+        str::from_utf8(run.faults.as_slice()),
+        Ok(told.as_str()),
+        "{script:?}"
+    );
+    assert_eq!(rt; run.status, 2, "{script:?}");
+    Ok(())
+}

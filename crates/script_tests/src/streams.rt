@@ -1,0 +1,251 @@
+//! Readers and writers that fail.
+
+use gate_lines::{run_program, run_script};
+use std::alloc::Global;
+use std::io::{self, ErrorKind, Read, Write};
+use std::test::Fail;
+
+/// One order, and the market's answer.
+const SCRIPT: &[u8] = b"\
+C1 msg 35=D|11=A1|54=1|55=INTC|38=300|40=2|44=23.45|59=0|528=P
+P1 A 1 B 300 INTC 234500 99998 L
+";
+
+/// What the order prints.
+const ORDER_OUTPUT: &[u8] = b"\
+C1 > 35=8|37=1|11=A1|17=1|150=A|39=A|55=INTC|54=1|38=300|44=23.45|151=300|14=0|6=0
+P1 > O G0000000000001 B 300 INTC 234500 99998 FIRM Y P N 0 N R
+";
+
+/// What the answer prints.
+const ANSWER_OUTPUT: &[u8] = b"\
+C1 > 35=8|37=1|11=A1|17=2|150=0|39=0|55=INTC|54=1|38=300|44=23.45|151=300|14=0|6=0
+";
+
+/// A reader that gives one byte at a time, interrupted before each, and fails when these are given.
+#[derive(Drop)]
+struct Torn<'a> {
+    rest: &'a [u8],
+    interrupted: bool,
+    kind: ErrorKind,
+}
+
+impl<'a> Read for Torn<'a> {
+    fn read(&mut self, buf: &mut [u8]) -> io::Result<usize> {
+        self.interrupted = !self.interrupted;
+        if self.interrupted {
+            return Err(io::Error::from(ErrorKind::Interrupted));
+        }
+        match (self.rest, buf) {
+            ([first, rest @ ..], [place, ..]) => {
+                *place = *first;
+                self.rest = rest;
+                Ok(1)
+            }
+            _ => Err(io::Error::from(self.kind)),
+        }
+    }
+}
+
+/// A writer that takes so many writes, and fails at the next; or fails when it is flushed.
+#[derive(Drop)]
+struct Failing {
+    taken: Vec<u8>,
+    writes_left: usize,
+    flushes: bool,
+}
+
+impl Write for Failing {
+    fn write(&mut self, buf: &[u8]) -> io::Result<usize> {
+        if self.writes_left == 0 {
+            return Err(io::Error::from(ErrorKind::BrokenPipe));
+        }
+        self.writes_left -= 1;
+        self.taken.extend_from_slice(buf)?;
+        Ok(buf.len())
+    }
+
+    fn flush(&mut self) -> io::Result<()> {
+        if self.flushes {
+            Ok(())
+        } else {
+            Err(io::Error::from(ErrorKind::BrokenPipe))
+        }
+    }
+}
+
+/// A reader that gives one byte at a time, to the end.
+#[derive(Drop)]
+struct Slow<'a> {
+    rest: &'a [u8],
+}
+
+impl<'a> Read for Slow<'a> {
+    fn read(&mut self, buf: &mut [u8]) -> io::Result<usize> {
+        match (self.rest, buf) {
+            ([first, rest @ ..], [place, ..]) => {
+                *place = *first;
+                self.rest = rest;
+                Ok(1)
+            }
+            _ => Ok(0),
+        }
+    }
+}
+
+/// A writer that takes one byte a write, and gives on what it took only when it is flushed.
+#[derive(Drop)]
+struct Holding {
+    held: Vec<u8>,
+    given: Vec<u8>,
+}
+
+impl Holding {
+    fn new(alloc: Global) -> Holding {
+        Holding {
+            held: Vec::new(alloc),
+            given: Vec::new(alloc),
+        }
+    }
+}
+
+impl Write for Holding {
+    fn write(&mut self, buf: &[u8]) -> io::Result<usize> {
+        match buf {
+            [first, ..] => {
+                self.held.push(*first)?;
+                Ok(1)
+            }
+            [] => Ok(0),
+        }
+    }
+
+    fn flush(&mut self) -> io::Result<()> {
+        self.given.extend_from_slice(self.held.as_slice())?;
+        self.held.clear();
+        Ok(())
+    }
+}
+
+/// Scripts by their last line: at the end, at a line that isn't understood, and after more than 1,000 reads.
+#[test]
+fn a_writer_that_holds_back_and_takes_one_byte(rt: HostRuntime) -> Result<(), Fail> {
+    for (last, status, told) in [
+        (b"".as_slice(), 0, b"".as_slice()),
+        (b"C9".as_slice(), 2, b"line 3: not understood\n".as_slice()),
+    ] {
+        let mut output = Holding::new(rt.alloc());
+        let mut faults = Vec::new(rt.alloc());
+        let script = [SCRIPT, last].concat(rt.alloc())?;
+        let mut input = script.as_slice();
+        let ended = run_script(rt.alloc(), &mut input, &mut output, &mut faults);
+        assert_eq!(rt;
+            output.given.as_slice(),
+            [ORDER_OUTPUT, ANSWER_OUTPUT].concat(rt.alloc())?.as_slice()
+        );
+        assert_eq!(rt; output.held.as_slice(), b"".as_slice());
+        assert_eq!(rt; faults.as_slice(), told);
+        assert_eq!(rt; ended, status);
+    }
+    Ok(())
+}
+
+#[test]
+fn a_reader_of_one_byte_at_a_time(rt: HostRuntime) -> Result<(), Fail> {
+    let mut script = Vec::new(rt.alloc());
+    for _ in 0..3_000 {
+        script.push(b'\n')?;
+    }
+    script.extend_from_slice(SCRIPT)?;
+    let mut input = Slow {
+        rest: script.as_slice(),
+    };
+    let mut output = Vec::new(rt.alloc());
+    let mut faults = Vec::new(rt.alloc());
+    let status = run_script(rt.alloc(), &mut input, &mut output, &mut faults);
+    assert_eq!(rt;
+        output.as_slice(),
+        [ORDER_OUTPUT, ANSWER_OUTPUT].concat(rt.alloc())?.as_slice()
+    );
+    assert_eq!(rt; faults.as_slice(), b"".as_slice());
+    assert_eq!(rt; status, 0);
+    Ok(())
+}
+
+#[test]
+fn a_reader_that_fails_in_mid_stream(rt: HostRuntime) {
+    for kind in [ErrorKind::Other, ErrorKind::OutOfMemory] {
+        let mut input = Torn {
+            rest: &SCRIPT[..70],
+            interrupted: false,
+            kind,
+        };
+        let mut output = Vec::new(rt.alloc());
+        let mut faults = Vec::new(rt.alloc());
+        let status = run_script(rt.alloc(), &mut input, &mut output, &mut faults);
+        assert_eq!(rt; output.as_slice(), ORDER_OUTPUT);
+        assert_eq!(rt; faults.as_slice(), b"read or write failed\n".as_slice());
+        assert_eq!(rt; status, 1);
+    }
+}
+
+#[test]
+fn a_writer_that_fails(rt: HostRuntime) -> Result<(), Fail> {
+    for (writes_left, flushes, taken) in [
+        (0, true, b"".as_slice()),
+        (1, true, ORDER_OUTPUT),
+        (
+            9,
+            false,
+            [ORDER_OUTPUT, ANSWER_OUTPUT].concat(rt.alloc())?.as_slice(),
+        ),
+    ] {
+        let mut output = Failing {
+            taken: Vec::new(rt.alloc()),
+            writes_left,
+            flushes,
+        };
+        let mut faults = Vec::new(rt.alloc());
+        let mut input = SCRIPT;
+        let status = run_script(rt.alloc(), &mut input, &mut output, &mut faults);
+        assert_eq!(rt; output.taken.as_slice(), taken);
+        assert_eq!(rt; faults.as_slice(), b"read or write failed\n".as_slice());
+        assert_eq!(rt; status, 1);
+    }
+    Ok(())
+}
+
+#[test]
+fn faults_that_cannot_be_told(rt: HostRuntime) {
+    let mut input = b"C1".as_slice();
+    let mut output = Vec::new(rt.alloc());
+    let mut faults = Failing {
+        taken: Vec::new(rt.alloc()),
+        writes_left: 0,
+        flushes: true,
+    };
+    let status = run_script(rt.alloc(), &mut input, &mut output, &mut faults);
+    assert_eq!(rt; status, 2);
+}
+
+/// With an argument nothing is read; without one the script runs.
+#[test]
+fn a_command_line_with_an_argument(rt: HostRuntime) {
+    for (words, status, printed, told) in [
+        (
+            2,
+            2,
+            b"".as_slice(),
+            b"gate_script: no arguments are taken\n".as_slice(),
+        ),
+        (1, 0, b"P1 fault 2\n", b""),
+    ] {
+        let mut input = b"P1 A 1 B 300 INTC 234500 99998 L\n".as_slice();
+        let mut output = Vec::new(rt.alloc());
+        let mut faults = Vec::new(rt.alloc());
+        let ended = run_program(rt.alloc(), words, &mut input, &mut output, &mut faults);
+        assert_eq!(rt; output.as_slice(), printed);
+        assert_eq!(rt; faults.as_slice(), told);
+        assert_eq!(rt; ended, status);
+    }
+}

@@ -1,0 +1,147 @@
+//! What answers the requests on an order, and what ends it: bodies behind those that are told already.
+//!
+//! The one error of each is that memory ran out; then the bodies are of no use any more.
+
+ghost use Rattle.std.specs.Prelude.{◌≡◌, ◌≤◌, ◌+◌, ◌++◌, ◌∷◌, [], ℕ, true, codes, length, map, IfOk, IfSome, Option};
+ghost use Rattle.std.specs.List.{list_all};
+ghost use Rattle.fix_fields.specs.Field.{is_inside};
+ghost use Rattle.fix_types.specs.Report.{report_fields};
+ghost use Rattle.fix_values.specs.Slots.{char_text};
+ghost use Rattle.wire_law.specs.Printable.{is_printable};
+ghost use Rattle.order_law.specs.History.{Entry};
+ghost use Rattle.order_law.specs.Told as law;
+ghost use Rattle.to_client.specs.Pending.{IsPending, body_fields, rejects_of};
+ghost use Rattle.to_client.specs.Shows.{IsAnyRequest, ShowsAs};
+
+use crate::occasion::{Occasion, fields_given_by};
+use crate::pending::Pending;
+use crate::rejecting::cancel_reject;
+use crate::reporting::report_on;
+use crate::shown::{Request, Shown};
+use fix_fields::Text;
+use fix_types::{AppBody, Report};
+use std::alloc::{AllocError, Global};
+
+/// A report as one body more.
+pub fn push_report(bodies: &mut Vec<AppBody>, report: Report) -> Result<(), AllocError>
+    ensures told { IfOk result (λ nothing. map body_fields bodies.new.items ≡ map body_fields bodies.old.items ++ report_fields report ∷ []) }
+    ensures few { length bodies.new.items ≤ length bodies.old.items + 1 }
+{
+    bodies.push(AppBody::Report(report))?;
+    Ok(())
+}
+
+/// The reject of a pending request, where there is one, with a code (102) and a text (58). The order is shown without it.
+///
+/// Source: FIX 4.4 Volume 4, "Order Cancel Reject".
+pub fn push_reject(
+    alloc: Global,
+    bodies: &mut Vec<AppBody>,
+    request: &Option<Request>,
+    shown: &Shown,
+    code: u64,
+    text: &[u8],
+) -> Result<(), AllocError>
+    requires { list_all is_inside text.now ≡ true }
+    ensures told { IfOk result (λ nothing. (q : Option Entry) (s : law.Shown) → IsAnyRequest request.now q → ShowsAs shown.now s
+        → map body_fields bodies.new.items ≡ map body_fields bodies.old.items ++ rejects_of s q code text.now) }
+    ensures few { length bodies.new.items ≤ length bodies.old.items + 1 }
+{
+    if let Some(request) = request {
+        let text = Text::copied(alloc, text)?;
+        let order = Shown {
+            order_id: shown.order_id,
+            ..*shown
+        };
+        let reject = cancel_reject(alloc, request, &Some(order), code, text)?;
+        bodies.push(AppBody::CancelReject(reject))?;
+    }
+    Ok(())
+}
+
+/// An order is closed, and each request that is pending is too late: a reject for each, in order of acceptance.
+///
+/// Source: FIX 4.4 Volume 6, CxlRejReason, 0: too late to cancel.
+pub fn push_too_late(
+    alloc: Global,
+    bodies: &mut Vec<AppBody>,
+    shown: &Shown,
+    pending: &Pending,
+) -> Result<(), AllocError>
+    ensures told { IfOk result (λ nothing. (replace cancel : Option Entry) (s : law.Shown) → ShowsAs shown.now s → IsPending pending.now replace cancel s
+        → map body_fields bodies.new.items ≡ map body_fields bodies.old.items ++ law.too_late s) }
+    ensures few { length bodies.new.items ≤ length bodies.old.items + 2 }
+{
+    let rest = Shown {
+        has_pending_replace: false,
+        ..*shown
+    };
+    push_reject(alloc, bodies, &pending.replace, &rest, 0, b"too late")?;
+    let last = Shown {
+        has_pending_cancel: false,
+        ..rest
+    };
+    push_reject(alloc, bodies, &pending.cancel, &last, 0, b"too late")
+}
+
+/// All that was open of an order is cancelled, and it is closed: 150=4, with the market's letter where it gave one, which
+/// answers a pending cancel; then a pending replace is too late.
+///
+/// Source: FIX 4.4 Volume 4, "Execution Report", ExecType Canceled.
+pub fn push_canceled(
+    alloc: Global,
+    bodies: &mut Vec<AppBody>,
+    number: u64,
+    reason: Option<u8>,
+    shown: &Shown,
+    pending: &Pending,
+) -> Result<(), AllocError>
+    requires { IfSome reason (λ byte. is_printable byte ≡ true) }
+    ensures told { IfOk result (λ nothing. (replace cancel : Option Entry) (s : law.Shown) → ShowsAs shown.now s → IsPending pending.now replace cancel s
+        → map body_fields bodies.new.items ≡ map body_fields bodies.old.items ++ law.cancelled number (char_text reason) s) }
+    ensures few { length bodies.new.items ≤ length bodies.old.items + 2 }
+{
+    let rest = Shown {
+        has_pending_cancel: false,
+        ..*shown
+    };
+    let details = fields_given_by(Occasion::Canceled(reason));
+    let report = report_on(alloc, number, &details, &pending.cancel, &rest)?;
+    push_report(bodies, report)?;
+    let last = Shown {
+        has_pending_replace: false,
+        ..rest
+    };
+    push_reject(alloc, bodies, &pending.replace, &last, 0, b"too late")
+}
+
+/// The last Cancel Order of a pending cancel is answered, and the order isn't closed: its reject.
+///
+/// Source: OUCH 4.2, "Cancel Reject Message"; FIX 4.4 Volume 4, "Order Cancel Reject".
+pub fn push_cancel_rejected(
+    alloc: Global,
+    bodies: &mut Vec<AppBody>,
+    is_last: bool,
+    shown: &Shown,
+    pending: &Pending,
+) -> Result<(), AllocError>
+    ensures told { IfOk result (λ nothing. (replace cancel : Option Entry) (s : law.Shown) → ShowsAs shown.now s → IsPending pending.now replace cancel s
+        → map body_fields bodies.new.items ≡ map body_fields bodies.old.items ++ law.cancel_rejected is_last s) }
+    ensures few { length bodies.new.items ≤ length bodies.old.items + 1 }
+{
+    if is_last {
+        let rest = Shown {
+            has_pending_cancel: false,
+            ..*shown
+        };
+        push_reject(
+            alloc,
+            bodies,
+            &pending.cancel,
+            &rest,
+            2,
+            b"cancel rejected by market",
+        )?;
+    }
+    Ok(())
+}

@@ -1,0 +1,76 @@
+//! A report that refuses a new order.
+
+ghost use Rattle.std.specs.Prelude.{◌≡◌, ◌<◌, ◌^◌, IfOk};
+ghost use Rattle.fix_types.specs.NewOrder.{new_order_fields};
+ghost use Rattle.fix_types.specs.Report.{report_fields};
+ghost use Rattle.order_law.specs.Told as law;
+ghost use Rattle.to_client.specs.Refusals.{refusal_of};
+
+use crate::texts::number_text;
+use fix_fields::Text;
+use fix_types::{NewOrder, Report};
+use fix_values::{ClOrdId, ExecType, FloatText, OrdStatus};
+use std::alloc::{AllocError, Global};
+
+/// The report, with an OrderID (37) and an ExecID (17) of these numbers, that refuses a new order for a reason:
+/// OrdRejReason (103) and Text (58). It has the order's own texts of quantity and price; nothing is open or executed.
+///
+/// The one error is that memory ran out.
+///
+/// Source: FIX 4.4 Volume 4, "Execution Report".
+pub fn refusal(
+    alloc: Global,
+    order_id: u64,
+    exec_id: u64,
+    order: &NewOrder,
+    code: u64,
+    why: Text,
+) -> Result<Report, AllocError>
+    ensures told { IfOk result (λ r. report_fields r ≡ law.refusal exec_id order_id (new_order_fields order.now) code why) }
+{
+    refused(alloc, order_id, exec_id, order, code, why)
+}
+
+/// The same, by its fields.
+fn refused(
+    alloc: Global,
+    order_id: u64,
+    exec_id: u64,
+    order: &NewOrder,
+    code: u64,
+    why: Text,
+) -> Result<Report, AllocError>
+    ensures { IfOk result (λ r. r ≡ refusal_of order_id exec_id code why order.now) }
+{
+    Ok(Report {
+        order_id,
+        cl_ord_id: ClOrdId::copied(alloc, order.cl_ord_id.as_slice())?,
+        orig_cl_ord_id: None,
+        exec_id,
+        exec_ref_id: None,
+        exec_type: ExecType::Rejected,
+        ord_status: OrdStatus::Rejected,
+        ord_rej_reason: Some(code),
+        exec_restatement_reason: None,
+        symbol: Text::copied(alloc, order.symbol.as_slice())?,
+        side: order.side,
+        order_qty: Text::copied(alloc, order.order_qty.as_slice())?,
+        price: own_price(alloc, &order.price)?,
+        last_qty: None,
+        last_px: None,
+        leaves_qty: 0,
+        cum_qty: 0,
+        avg_px: number_text(alloc, 0)?,
+        text: Some(why),
+    })
+}
+
+/// A price as the client wrote it, where there is one.
+fn own_price(alloc: Global, price: &Option<FloatText>) -> Result<Option<Text>, AllocError>
+    ensures { IfOk result (λ own. own ≡ price.now) }
+{
+    match price {
+        None => Ok(None),
+        Some(price) => Ok(Some(Text::copied(alloc, price.as_slice())?)),
+    }
+}
