@@ -1,6 +1,6 @@
--- Accepted of an order without requests.
-use Rattle.std.proofs.Common.{◌≡◌, ℕ, ◌+◌, Bool, List, [], ◌∷◌, map, refl, ap, bytes_eq, None}
-use Rattle.std.specs.Prelude.{◌&&◌, ◌==◌, slice_index, Some}
+-- Accepted of an order.
+use Rattle.std.proofs.Common.{◌≡◌, ℕ, ◌+◌, Bool, true, false, List, [], ◌∷◌, refl, ap, ◌∙◌, bytes_eq, codes, None}
+use Rattle.std.specs.Prelude.{◌&&◌, slice_index, Some, if◌then◌else◌}
 use Rattle.fix_fields.specs.Field.{first_value}
 use Rattle.fix_types.specs.declared.new_order.NewOrder.{NewOrder}
 use Rattle.fix_types.specs.NewOrder.{new_order_fields}
@@ -10,18 +10,18 @@ use Rattle.ouch_codec.specs.declared.order_state.OrderState.TheVariants.{Live, D
 use Rattle.ouch_codec.specs.declared.side.Side.{Side}
 use Rattle.ouch_codec.specs.declared.side.Side.TheVariants.{Buy, Sell, SellShort, SellShortExempt}
 use Rattle.ouch_codec.specs.AcceptedParts.{SaysAccepted}
-use Rattle.ouch_codec.specs.Parts.{unpadded}
-use Rattle.order_law.specs.declared.stage.Stage.TheVariants.{Working, Closed}
 use Rattle.order_law.specs.Messages.{Message, text, character}
 use Rattle.order_law.specs.Told as law
-use Rattle.order_histories.specs.OrderRecord.{OrderRecord, after_message, fill_of, last_of, lived, shown_as}
-use Rattle.orders.specs.declared.progress.Progress.{Progress}
-use Rattle.orders.specs.Seen.{progressed}
-use Rattle.to_client.specs.Occasions.{occasion_seen}
-use Rattle.to_client.specs.declared.occasion.Occasion.TheVariants as occasions
-use Rattle.market_rows.specs.May.{may_open_as}
-use Rattle.market_rows.specs.Meets.{is_lawful}
-use Rattle.market_rows.specs.Sides.{fix_side}
+use Rattle.order_histories.specs.OrderRecord.{OrderRecord, after_message, live_token, shown_as}
+use Rattle.std.proofs.lemmas.Bool.{and_parts}
+use Rattle.ouch_codec.specs.declared.order_state.OrderState.{OrderState}
+use Rattle.order_law.specs.Life.{is_dead_state, is_waiting}
+use Rattle.order_law.specs.declared.stage.Stage.TheVariants.{Waiting}
+use Rattle.orders.specs.Changes.{changed_by, with_quantities}
+use Rattle.orders.specs.declared.change.Change.TheVariants as changes
+use Rattle.market_rows.specs.May.{dead_as, has_terms, may_open_as}
+use Rattle.market_rows.specs.Meets.{is_lawful, told_of}
+use Rattle.market_rows.proofs.Stages.{waits-is}
 
 -- ---- what a new order's fields are read as
 
@@ -45,28 +45,42 @@ accepted-lawful m b o says = by_side m.side refl
     by_side SellShort e = rw (says.type, says.token, says.stock, says.side, e) refl
     by_side SellShortExempt e = rw (says.type, says.token, says.stock, says.side, e) refl
 
-abbrev has_terms : Accepted → OrderRecord → Bool
-has_terms m o = bytes_eq (unpadded m.stock) (text 55 o.new.message) && (fix_side m.side == character 54 o.new.message)
+dead-is : (m : Accepted) (b : List ℕ) → SaysAccepted m b → is_dead_state b ≡ dead_as m.order_state
+dead-is m b says = by_state m.order_state refl
+  where
+    by_state : (x : OrderState) → m.order_state ≡ x → is_dead_state b ≡ dead_as m.order_state
+    by_state Live e = rw (says.state, e) refl
+    by_state Dead e = rw (says.state, e) refl
 
-module _ (issued : ℕ) (m : Accepted) (b : List ℕ) (o : OrderRecord) (p : Progress) (says : SaysAccepted m b) (no_r : o.replace ≡ None) (no_c : o.cancel ≡ None)
-    (stage : p.stage ≡ Working) (refused : p.is_refused ≡ o.is_refused) (total : p.total ≡ o.executed + m.shares) (price : p.price ≡ m.price) (unfilled : p.unfilled ≡ m.shares)
-    (executed : p.executed ≡ o.executed) (cancelled : p.cancelled ≡ o.cancelled) (value : p.value ≡ o.value) where
-  module _ (state : m.order_state ≡ Live) where
-    pub live-told : law.told_by_type issued b (lived o) (last_of b o.cancel) (map fill_of o.trades) (shown_as o) ≡ law.report (issued + 1) (occasion_seen occasions.New) (shown_as (progressed p o)) ∷ []
-    live-told = rw (says.type, says.shares, says.price, says.state, state, no_r, no_c, stage, refused, price, executed, value, total, unfilled) refl
+module _ (issued : ℕ) (m : Accepted) (b : List ℕ) (o : OrderRecord) (says : SaysAccepted m b) where
+  abbrev pub alive : OrderRecord
+  alive = with_quantities (changed_by (changes.Opened m.shares m.price false) o) o
 
-    pub live-now : progressed p o ≡ after_message issued b o
-    live-now = rw (says.type, says.shares, says.price, says.state, state, no_r, no_c, stage, refused, price, executed, value, total, unfilled, cancelled) refl
+  abbrev pub over : OrderRecord
+  over = with_quantities (changed_by (changes.Opened m.shares m.price true) o) o
 
-  module _ (q : Progress) (state : m.order_state ≡ Dead) (stage_then : q.stage ≡ Closed) (refused_then : q.is_refused ≡ p.is_refused) (total_then : q.total ≡ p.total) (price_then : q.price ≡ p.price)
-      (unfilled_then : q.unfilled ≡ 0) (executed_then : q.executed ≡ p.executed) (cancelled_then : q.cancelled ≡ p.cancelled + p.unfilled) (value_then : q.value ≡ p.value) where
-    pub dead-told : law.told_by_type issued b (lived o) (last_of b o.cancel) (map fill_of o.trades) (shown_as o)
-        ≡ law.report (issued + 1) (occasion_seen occasions.New) (shown_as (progressed p o)) ∷ law.report (issued + 2) (occasion_seen (occasions.Canceled None)) (shown_as (progressed q o)) ∷ []
-    dead-told = rw (says.type, says.shares, says.price, says.state, state, no_r, no_c, stage_then, refused_then, price_then, executed_then, value_then, total_then, stage, refused, price, executed, value, total, unfilled) refl
+  opened-shown : law.opened b (shown_as o) ≡ shown_as alive
+  opened-shown = rw (says.shares, says.price) refl
 
-    pub dead-now : progressed q o ≡ after_message issued b o
-    dead-now = rw (says.type, says.shares, says.price, says.state, state, no_r, no_c, stage_then, refused_then, price_then, executed_then, value_then, total_then, unfilled_then, cancelled_then, refused, price, executed, value, total, unfilled, cancelled) refl
+  closed-shown : law.closed (law.opened b (shown_as o)) ≡ shown_as over
+  closed-shown = rw (says.shares, says.price) refl
 
--- two reports, each as it was told
-pub two-told : {a b c d : Message} → a ≡ c → b ≡ d → ◌≡◌ {A = List Message} (a ∷ b ∷ []) (c ∷ d ∷ [])
-two-told e f = rw (e, f) refl
+  pub accepted-now : changed_by (changes.Opened m.shares m.price (dead_as m.order_state)) o ≡ after_message issued b o
+  accepted-now = rw (says.type, says.shares, says.price, dead-is m b says) refl
+
+  told : told_of issued b o ≡ law.report (issued + 1) (law.plain (codes "0")) (shown_as alive) ∷ (if dead_as m.order_state then law.cancelled (issued + 2) None (shown_as over) else [])
+  told =
+      rw says.type (
+      ap (λ (s : law.Shown). law.report (issued + 1) (law.plain (codes "0")) s ∷ (if is_dead_state b then law.cancelled (issued + 2) None (law.closed (law.opened b (shown_as o))) else [])) opened-shown
+      ∙ ap (λ (x : Bool). law.report (issued + 1) (law.plain (codes "0")) (shown_as alive) ∷ (if x then law.cancelled (issued + 2) None (law.closed (law.opened b (shown_as o))) else [])) (dead-is m b says)
+      ∙ ap (λ (s : law.Shown). law.report (issued + 1) (law.plain (codes "0")) (shown_as alive) ∷ (if dead_as m.order_state then law.cancelled (issued + 2) None s else [])) closed-shown
+      )
+
+  pub live-told : dead_as m.order_state ≡ false → told_of issued b o ≡ law.report (issued + 1) (law.plain (codes "0")) (shown_as alive) ∷ []
+  live-told e = told ∙ ap (λ (x : Bool). law.report (issued + 1) (law.plain (codes "0")) (shown_as alive) ∷ (if x then law.cancelled (issued + 2) None (shown_as over) else [])) e
+
+  pub dead-told : dead_as m.order_state ≡ true → told_of issued b o ≡ law.report (issued + 1) (law.plain (codes "0")) (shown_as alive) ∷ law.cancelled (issued + 2) None (shown_as over)
+  dead-told e = told ∙ ap (λ (x : Bool). law.report (issued + 1) (law.plain (codes "0")) (shown_as alive) ∷ (if x then law.cancelled (issued + 2) None (shown_as over) else [])) e
+
+pub open-waits : (m : Accepted) (o : OrderRecord) → may_open_as m o ≡ true → o.stage ≡ Waiting
+open-waits m o may = waits-is o.stage (and_parts (is_waiting o.stage) (has_terms m.stock m.side o) (and_parts (bytes_eq m.token (live_token o)) (is_waiting o.stage && has_terms m.stock m.side o) may).1).0

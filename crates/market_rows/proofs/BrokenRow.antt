@@ -1,6 +1,6 @@
--- Broken Trade of an order without requests.
-use Rattle.std.proofs.Common.{◌≡◌, ℕ, ◌+◌, ◌-◌, ◌*◌, Bool, true, false, List, [], ◌∷◌, map, reverse, refl, sym, ap, ◌∙◌, subst, bytes_eq, decimal, Option, Some, None, eqb-true}
-use Rattle.std.specs.Prelude.{◌==◌, ◌&&◌, ◌||◌, not, if◌then◌else◌, is_some, option_map}
+-- Broken Trade of an order.
+use Rattle.std.proofs.Common.{◌≡◌, ℕ, ◌+◌, Bool, true, false, List, [], ◌∷◌, map, reverse, refl, sym, ap, ◌∙◌, subst, bytes_eq, decimal, Option, Some, None, eqb-true}
+use Rattle.std.specs.Prelude.{◌==◌, ◌&&◌, ◌||◌, not, bytes_eq, if◌then◌else◌, is_some, option_map}
 use Rattle.std.specs.List.{find, list_any}
 use Rattle.ouch_codec.specs.declared.outbound.broken.Broken.{Broken}
 use Rattle.ouch_codec.specs.BrokenParts.{SaysBroken}
@@ -9,20 +9,20 @@ use Rattle.order_law.specs.declared.stage.Stage.{Stage}
 use Rattle.order_law.specs.declared.stage.Stage.TheVariants.{Waiting, Working, Closed}
 use Rattle.order_law.specs.declared.trade.Trade.{Trade}
 use Rattle.order_law.specs.Asks.{total_of}
-use Rattle.order_law.specs.Life.{after, is_closed, is_of, is_waiting, marked, stands_as}
+use Rattle.order_law.specs.Life.{after, is_of, is_waiting, marked, stands_as}
 use Rattle.order_law.specs.Told as law
-use Rattle.order_histories.specs.OrderRecord.{OrderRecord, ToldTrade, after_message, broken, fill_of, last_of, live_token, lived, mark, shown_as, stands_told}
+use Rattle.order_histories.specs.OrderRecord.{OrderRecord, ToldTrade, after_message, broken, fill_of, lived, mark, shown_as, stands_told}
 use Rattle.order_histories.proofs.Finding.{find-map, map-map}
 use Rattle.orders.specs.declared.order.ToldTrade as table
-use Rattle.orders.specs.declared.progress.Progress.{Progress}
-use Rattle.orders.specs.Seen.{progressed, told_seen}
-use Rattle.order_table.specs.Held.{without_trade}
+use Rattle.orders.specs.Changes.{changed_by, with_quantities}
+use Rattle.orders.specs.declared.change.Change.TheVariants as changes
+use Rattle.orders.specs.Seen.{told_seen}
 use Rattle.orders.proofs.Marks.{map-reverse}
 use Rattle.to_client.specs.Occasions.{occasion_seen}
 use Rattle.to_client.specs.declared.occasion.Occasion.TheVariants as occasions
 use Rattle.market_rows.specs.May.{broken_in, is_standing}
-use Rattle.market_rows.specs.Meets.{IsSteady, is_lawful}
-use Rattle.market_rows.proofs.RejectedRow.{or-false, waits-is}
+use Rattle.market_rows.specs.Meets.{IsSteady, is_lawful, told_of}
+use Rattle.market_rows.proofs.Stages.{waits-is}
 
 abbrev trade_of : ToldTrade → Trade
 trade_of t = t.trade
@@ -75,57 +75,47 @@ marks-same n ts = map-map trade_of (marked n) ts ∙ sym (map-map (mark n) trade
 
 -- ---- when it is lawful
 
--- an order that has had one token
-pub one-token : (o : OrderRecord) (token : List ℕ) → token ∷ [] ≡ o.tokens → o.tokens ≡ live_token o ∷ []
-one-token o token e = sym e ∙ ap (λ (ts : List (List ℕ)). Rattle.order_law.specs.Life.first_token ts ∷ []) e
-
-own-token : (token : List ℕ) (o : OrderRecord) → o.tokens ≡ live_token o ∷ [] → list_any (bytes_eq token) o.tokens ≡ bytes_eq token (live_token o)
-own-token token o one = ap (list_any (bytes_eq token)) one ∙ or-false (bytes_eq token (live_token o))
-
-broken-lawful : (m : Broken) (b : List ℕ) (o : OrderRecord) → SaysBroken m b → o.tokens ≡ live_token o ∷ []
-    → is_lawful b o ≡ (bytes_eq m.token (live_token o) && is_some (find (stands_told m.match_number) o.trades))
-broken-lawful m b o says one =
+broken-lawful : (m : Broken) (b : List ℕ) (o : OrderRecord) → SaysBroken m b → is_lawful b o ≡ (list_any (bytes_eq m.token) o.tokens && is_some (find (stands_told m.match_number) o.trades))
+broken-lawful m b o says =
     rw (says.type, says.token, says.match_number)
-    (ap (λ (x : Bool). x && list_any (stands_as m.match_number) (map trade_of o.trades)) (own-token m.token o one)
-    ∙ ap (λ (x : Bool). bytes_eq m.token (live_token o) && x) (any-stands m.match_number o.trades))
+    (ap (λ (x : Bool). list_any (bytes_eq m.token) o.tokens && x) (any-stands m.match_number o.trades))
 
 -- a trade of an order that may be taken back
 pub record MayBreak (m : Broken) (o : OrderRecord) (t : ToldTrade) : Type 0 where
-  pub own : bytes_eq m.token (live_token o) ≡ true
+  pub own : list_any (bytes_eq m.token) o.tokens ≡ true
   pub accepted : is_waiting o.stage ≡ false
   pub here : find (stands_told m.match_number) o.trades ≡ Some t
 
 pub may-break : (m : Broken) (o : OrderRecord) (t : ToldTrade) → broken_in m o ≡ Some t → MayBreak m o t
-may-break m o t e = by_tests (bytes_eq m.token (live_token o)) refl (is_waiting o.stage) refl e
+may-break m o t e = by_tests (list_any (bytes_eq m.token) o.tokens) refl (is_waiting o.stage) refl e
   where
-    by_tests : (b : Bool) → bytes_eq m.token (live_token o) ≡ b → (w : Bool) → is_waiting o.stage ≡ w → (if b && not w then find (stands_told m.match_number) o.trades else None) ≡ Some t → MayBreak m o t
+    by_tests : (b : Bool) → list_any (bytes_eq m.token) o.tokens ≡ b → (w : Bool) → is_waiting o.stage ≡ w → (if b && not w then find (stands_told m.match_number) o.trades else None) ≡ Some t → MayBreak m o t
     by_tests true own true waits e = absurd (cc)
     by_tests true own false accepted e = record { own = own; accepted = accepted; here = e }
     by_tests false own w accepted e = absurd (cc)
 
-pub broken-unlawful : (m : Broken) (b : List ℕ) (o : OrderRecord) → SaysBroken m b → o.tokens ≡ live_token o ∷ [] → IsSteady o → broken_in m o ≡ None → is_lawful b o ≡ false
-broken-unlawful m b o says one steady none = broken-lawful m b o says one ∙ by_tests (bytes_eq m.token (live_token o)) (is_waiting o.stage) refl none
+pub broken-unlawful : (m : Broken) (b : List ℕ) (o : OrderRecord) → SaysBroken m b → IsSteady o → broken_in m o ≡ None → is_lawful b o ≡ false
+broken-unlawful m b o says steady none = broken-lawful m b o says ∙ by_tests (list_any (bytes_eq m.token) o.tokens) (is_waiting o.stage) refl none
   where
     by_tests : (b w : Bool) → is_waiting o.stage ≡ w → (if b && not w then find (stands_told m.match_number) o.trades else None) ≡ None → (b && is_some (find (stands_told m.match_number) o.trades)) ≡ false
     by_tests true true waits e = ap (λ (ts : List ToldTrade). is_some (find (stands_told m.match_number) ts)) (steady.idle (waits-is o.stage waits))
     by_tests true false accepted e = ap (λ (x : Option ToldTrade). is_some x) e
     by_tests false w accepted e = refl
 
-pub broken-is-lawful : (m : Broken) (b : List ℕ) (o : OrderRecord) (t : ToldTrade) → SaysBroken m b → o.tokens ≡ live_token o ∷ [] → MayBreak m o t → is_lawful b o ≡ true
-broken-is-lawful m b o t says one may = broken-lawful m b o says one ∙ rw (may.own, may.here) refl
+pub broken-is-lawful : (m : Broken) (b : List ℕ) (o : OrderRecord) (t : ToldTrade) → SaysBroken m b → MayBreak m o t → is_lawful b o ≡ true
+broken-is-lawful m b o t says may = broken-lawful m b o says ∙ rw (may.own, may.here) refl
 
 -- ---- the row
 
-pub total-of : (s : Stage) (x closed others : ℕ) → (s ≡ Closed → x ≡ closed) → ((s ≡ Closed → ⊥) → x ≡ others) → x ≡ (if is_closed s then closed else others)
-total-of Waiting x closed others at_close else_so = else_so (λ e. cc)
-total-of Working x closed others at_close else_so = else_so (λ e. cc)
-total-of Closed x closed others at_close else_so = at_close refl
+module _ (issued : ℕ) (m : Broken) (b : List ℕ) (o : OrderRecord) (told : table.ToldTrade) (says : SaysBroken m b) (steady : IsSteady o) (may : MayBreak m o (told_seen told)) where
+  abbrev t : ToldTrade
+  t = told_seen told
 
-module _ (issued : ℕ) (m : Broken) (b : List ℕ) (o : OrderRecord) (p : Progress) (t : ToldTrade) (says : SaysBroken m b) (one : o.tokens ≡ live_token o ∷ []) (steady : IsSteady o) (may : MayBreak m o t)
-    (stage : p.stage ≡ o.stage) (refused : p.is_refused ≡ o.is_refused) (total : p.total ≡ (if is_closed o.stage then o.total else (o.executed - t.trade.shares) + o.unfilled)) (price : p.price ≡ o.price)
-    (unfilled : p.unfilled ≡ o.unfilled) (executed : p.executed ≡ o.executed - t.trade.shares) (cancelled : p.cancelled ≡ o.cancelled) (value : p.value ≡ o.value - t.trade.shares * t.trade.price) where
+  abbrev pub left : OrderRecord
+  left = with_quantities (changed_by (changes.Broken told) o) o
+
   own : is_of (lived o) (heard.token b) ≡ true
-  own = ap (is_of (lived o)) says.token ∙ own-token m.token o one ∙ may.own
+  own = ap (is_of (lived o)) says.token ∙ may.own
 
   here : find (stands_told (heard.broken_match b)) o.trades ≡ Some t
   here = ap (λ (n : ℕ). find (stands_told n) o.trades) says.match_number ∙ may.here
@@ -140,23 +130,21 @@ module _ (issued : ℕ) (m : Broken) (b : List ℕ) (o : OrderRecord) (p : Progr
       let marks = marks-same (heard.broken_match b) o.trades in
       rw (says.type, own, found, marks, same) refl
 
-  left : law.leaves_at o.stage (total_of o.new.message) o.unfilled ≡ o.unfilled
-  left = by_stage o.stage refl
+  open_as : law.leaves_at o.stage (total_of o.new.message) o.unfilled ≡ o.unfilled
+  open_as = by_stage o.stage refl
     where
       by_stage : (s : Stage) → o.stage ≡ s → law.leaves_at s (total_of o.new.message) o.unfilled ≡ o.unfilled
       by_stage Waiting e = absurd (let x : is_waiting Waiting ≡ false = ap is_waiting (sym e) ∙ may.accepted in cc)
       by_stage Working e = refl
       by_stage Closed e = sym (steady.none_closed e)
 
-  told : law.told_by_type issued b (lived o) (last_of b o.cancel) (map fill_of o.trades) (shown_as o)
-      ≡ law.report (issued + 1) (occasion_seen (occasions.TradeCancel t.number m.reason)) (law.lived (lived (broken t o)) (shown_as o)) ∷ []
-  told = let exec = first.exec_id in rw (lives, says.type, exec, says.reason) refl
+  shown : law.lived (lived (broken t o)) (shown_as o) ≡ shown_as left
+  shown = rw open_as refl
 
-  shown : law.lived (lived (broken t o)) (shown_as o) ≡ shown_as (progressed p o)
-  shown = rw (stage, refused, total, price, unfilled, executed, value, left) refl
+  pub broken-told : told_of issued b o ≡ law.report (issued + 1) (occasion_seen (occasions.TradeCancel told.number m.reason)) (shown_as left) ∷ []
+  broken-told =
+      (let exec = first.exec_id in rw (lives, says.type, exec, says.reason) refl)
+      ∙ ap (λ (s : law.Shown). law.report (issued + 1) (occasion_seen (occasions.TradeCancel told.number m.reason)) s ∷ []) shown
 
-  pub broken-told : law.told_by_type issued b (lived o) (last_of b o.cancel) (map fill_of o.trades) (shown_as o) ≡ law.report (issued + 1) (occasion_seen (occasions.TradeCancel t.number m.reason)) (shown_as (progressed p o)) ∷ []
-  broken-told = told ∙ ap (λ (s : law.Shown). law.report (issued + 1) (occasion_seen (occasions.TradeCancel t.number m.reason)) s ∷ []) shown
-
-  pub broken-now : without_trade m.match_number p o ≡ after_message issued b o
-  broken-now = let same = first.same_match ∙ says.match_number in rw (says.type, here, same, stage, refused, total, price, unfilled, executed, cancelled, value) refl
+  pub broken-now : changed_by (changes.Broken told) o ≡ after_message issued b o
+  broken-now = rw (says.type, here) refl

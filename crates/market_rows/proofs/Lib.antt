@@ -1,6 +1,9 @@
-pub mod CanceledRow
-pub mod RejectedRow
-pub mod ExecutedRow
+pub mod Stages
+pub mod Tells
 pub mod AcceptedRow
+pub mod CanceledRow
+pub mod ExecutedRow
 pub mod BrokenRow
-pub mod QuietRow
+pub mod CancelRejectRow
+pub mod RejectedRow
+pub mod ReplacedRow

@@ -1,44 +1,135 @@
--- Rejected of an order without requests.
-use Rattle.std.proofs.Common.{◌≡◌, ℕ, ◌+◌, Bool, true, false, List, [], ◌∷◌, map, refl, bytes_eq, None}
-use Rattle.std.specs.Prelude.{◌&&◌, ◌||◌}
+-- Rejected of a new order, or of a replace.
+use Rattle.std.proofs.Common.{◌≡◌, ℕ, ◌+◌, Bool, true, false, List, [], ◌∷◌, ◌++◌, map, refl, sym, ap, ◌∙◌, bytes_eq, None}
+use Rattle.std.specs.Prelude.{◌&&◌, ◌||◌, not, filter, option_to_list, IfSome, Option, Some}
+use Rattle.std.specs.List.{find, list_any}
 use Rattle.std.proofs.lemmas.Bool.{and_parts}
 use Rattle.ouch_codec.specs.declared.outbound.rejected.Rejected.{Rejected}
 use Rattle.ouch_codec.specs.RejectedParts.{SaysRejected}
-use Rattle.order_law.specs.declared.stage.Stage.{Stage}
-use Rattle.order_law.specs.declared.stage.Stage.TheVariants.{Waiting, Working, Closed}
+use Rattle.order_law.specs.declared.stage.Stage.TheVariants.{Waiting}
+use Rattle.order_law.specs.History.{Entry, SaysCancel, answers, token_of}
 use Rattle.order_law.specs.Life.{is_waiting}
 use Rattle.order_law.specs.Told as law
-use Rattle.order_histories.specs.OrderRecord.{OrderRecord, after_message, fill_of, last_of, live_token, lived, shown_as}
-use Rattle.orders.specs.declared.progress.Progress.{Progress}
-use Rattle.orders.specs.Seen.{progressed}
+use Rattle.order_law.specs.Verdicts.{is_replace}
+use Rattle.order_histories.specs.OrderRecord.{Cancelling, OrderRecord, after_message, live_token, replacements, shown_as}
+use Rattle.order_histories.proofs.Texts.{eq-is, eq-true}
+use Rattle.orders.specs.Changes.{changed_by, is_last_of, with_quantities}
+use Rattle.orders.specs.declared.change.Change.TheVariants as changes
 use Rattle.to_client.specs.Occasions.{occasion_seen}
 use Rattle.to_client.specs.declared.occasion.Occasion.TheVariants as occasions
-use Rattle.market_rows.specs.May.{may_reject_as}
-use Rattle.market_rows.specs.Meets.{is_lawful}
+use Rattle.to_client.specs.Pending.{cancel_in, rejects_of}
+use Rattle.market_rows.specs.May.{may_refuse_as, may_reject_replace_as}
+use Rattle.market_rows.specs.Meets.{is_lawful, told_of}
+use Rattle.market_rows.proofs.CancelRejectRow.{last-same, still-same}
+use Rattle.market_rows.proofs.Stages.{waits-is}
 
-pub waits-is : (s : Stage) → is_waiting s ≡ true → s ≡ Waiting
-waits-is Waiting e = refl
-waits-is Working e = absurd (let x : false ≡ true = e in cc)
-waits-is Closed e = absurd (let x : false ≡ true = e in cc)
+pub rejected-lawful : (m : Rejected) (b : List ℕ) (o : OrderRecord) → SaysRejected m b → is_lawful b o ≡ (may_refuse_as m o || may_reject_replace_as m o)
+rejected-lawful m b o says = rw (says.type, says.token) refl
 
-pub or-false : (a : Bool) → (a || false) ≡ a
-or-false true = refl
-or-false false = refl
+-- ---- of the new order
 
-pub rejected-lawful : (m : Rejected) (b : List ℕ) (o : OrderRecord) → SaysRejected m b → o.replace ≡ None → is_lawful b o ≡ may_reject_as m o
-rejected-lawful m b o says no_r = rw (says.type, says.token, no_r) (or-false (bytes_eq m.token (live_token o) && is_waiting o.stage))
+module _ (issued : ℕ) (m : Rejected) (b : List ℕ) (o : OrderRecord) (says : SaysRejected m b) (may : may_refuse_as m o ≡ true) where
+  abbrev pub over : OrderRecord
+  over = with_quantities (changed_by changes.Refused o) o
 
-module _ (issued : ℕ) (m : Rejected) (b : List ℕ) (o : OrderRecord) (p : Progress) (says : SaysRejected m b) (no_r : o.replace ≡ None) (no_c : o.cancel ≡ None) (may : may_reject_as m o ≡ true)
-    (stage : p.stage ≡ Closed) (refused : p.is_refused ≡ true) (total : p.total ≡ o.total) (price : p.price ≡ o.price) (unfilled : p.unfilled ≡ o.unfilled) (executed : p.executed ≡ o.executed)
-    (cancelled : p.cancelled ≡ o.cancelled) (value : p.value ≡ o.value) where
   token : bytes_eq m.token (live_token o) ≡ true
   token = (and_parts (bytes_eq m.token (live_token o)) (is_waiting o.stage) may).0
 
-  waits : o.stage ≡ Waiting
-  waits = waits-is o.stage ((and_parts (bytes_eq m.token (live_token o)) (is_waiting o.stage) may).1)
+  pub refuse-waits : o.stage ≡ Waiting
+  refuse-waits = waits-is o.stage ((and_parts (bytes_eq m.token (live_token o)) (is_waiting o.stage) may).1)
 
-  pub refused-told : law.told_by_type issued b (lived o) (last_of b o.cancel) (map fill_of o.trades) (shown_as o) ≡ law.report (issued + 1) (occasion_seen (occasions.Rejected m.reason)) (shown_as (progressed p o)) ∷ []
-  refused-told = rw (says.type, says.token, says.reason, token, waits, no_r, no_c, stage, refused, price, executed, value, total) refl
+  pub refused-told : told_of issued b o ≡ law.report (issued + 1) (occasion_seen (occasions.Rejected m.reason)) (shown_as over) ∷ law.too_late (shown_as over)
+  refused-told = rw (says.type, says.token, says.reason, token, refuse-waits) refl
 
-  pub refused-now : progressed p o ≡ after_message issued b o
-  refused-now = rw (says.type, says.token, token, waits, no_r, no_c, stage, refused, price, executed, value, total, unfilled, cancelled) refl
+  pub refused-now : changed_by changes.Refused o ≡ after_message issued b o
+  refused-now = rw (says.type, says.token, token, refuse-waits) refl
+
+-- ---- of a replace
+
+-- the pending replace that a token is of
+pub the-replace : (token : List ℕ) (o : OrderRecord) (q : Entry) → list_any (bytes_eq token) (replacements o.replace) ≡ true → o.replace ≡ Some q → token ≡ token_of q
+the-replace token o q may some = eq-is token (token_of q) (first-of (bytes_eq token (token_of q)) (ap (λ (r : Option Entry). list_any (bytes_eq token) (replacements r)) (sym some) ∙ may))
+  where
+    first-of : (x : Bool) → (x || false) ≡ true → x ≡ true
+    first-of true e = refl
+    first-of false e = e
+
+pub none-replacing : (token : List ℕ) (o : OrderRecord) → list_any (bytes_eq token) (replacements o.replace) ≡ true → o.replace ≡ None → ⊥
+none-replacing token o may none = let x : false ≡ true = ap (λ (r : Option Entry). list_any (bytes_eq token) (replacements r)) (sym none) ∙ may in cc
+
+module _ (token : List ℕ) (q : Entry) (c : Option Entry) (own : token ≡ token_of q) (is_g : is_replace q.message ≡ true) (is_f : IfSome c (λ (p : Entry). is_replace p.message ≡ false)) where
+  here : bytes_eq (token_of q) token ≡ true
+  here = eq-true (token_of q) token (sym own)
+
+  pub found-replace : find (law.has_token token) (q ∷ option_to_list c) ≡ Some q
+  found-replace = rw (is_g, here) refl
+
+  cancels : (x : Option Entry) → IfSome x (λ (p : Entry). is_replace p.message ≡ false) → filter (law.has_token token) (option_to_list x) ≡ []
+  cancels None t = refl
+  cancels (Some p) t = rw t refl
+
+  others : (x : Option Entry) → IfSome x (λ (p : Entry). is_replace p.message ≡ false) → filter (λ (p : Entry). not (law.has_token token p)) (option_to_list x) ≡ option_to_list x
+  others None t = refl
+  others (Some p) t = rw t refl
+
+  pub only-replace : filter (law.has_token token) (q ∷ option_to_list c) ≡ q ∷ []
+  only-replace = rw (is_g, here) (ap (λ (ps : List Entry). q ∷ ps) (cancels c is_f))
+
+  pub without-replace : filter (λ (p : Entry). not (law.has_token token p)) (q ∷ option_to_list c) ≡ option_to_list c
+  without-replace = rw (is_g, here) (others c is_f)
+
+and-turned : (x y : Bool) → (x && y) ≡ false → (y && x) ≡ false
+and-turned true true e = e
+and-turned true false e = refl
+and-turned false true e = refl
+and-turned false false e = refl
+
+module _ (issued : ℕ) (m : Rejected) (b : List ℕ) (o : OrderRecord) (q : Entry) (says : SaysRejected m b) (not_new : may_refuse_as m o ≡ false) (some : o.replace ≡ Some q) (own : m.token ≡ token_of q)
+    (is_g : is_replace q.message ≡ true) (is_f : IfSome (cancel_in o.cancel) (λ (p : Entry). is_replace p.message ≡ false)) (in_order : (shown_as o).pending ≡ option_to_list o.replace ++ option_to_list (cancel_in o.cancel)) where
+  answered : (other : List ℕ) → answers b (SaysCancel other) ≡ bytes_eq m.token other
+  answered other = rw (says.type, says.token) refl
+
+  abbrev pub rest : law.Shown
+  rest = record (shown_as (with_quantities (changed_by (changes.NotReplaced m.token) o) o)) { pending = option_to_list (cancel_in o.cancel) }
+
+  not_refused : (is_waiting o.stage && bytes_eq m.token (live_token o)) ≡ false
+  not_refused = and-turned (bytes_eq m.token (live_token o)) (is_waiting o.stage) not_new
+
+  listed : (shown_as o).pending ≡ q ∷ option_to_list (cancel_in o.cancel)
+  listed = in_order ∙ ap (λ (r : Option Entry). option_to_list r ++ option_to_list (cancel_in o.cancel)) some
+
+  left : law.without_replace m.token (shown_as o) ≡ rest
+  left = ap (λ (ps : List Entry). record (shown_as o) { pending = filter (λ (p : Entry). not (law.has_token m.token p)) ps }) listed
+      ∙ ap (λ (ps : List Entry). record (shown_as o) { pending = ps }) (without-replace m.token q (cancel_in o.cancel) own is_g is_f)
+
+  pub not_replaced-told : told_of issued b o ≡ rejects_of rest o.replace 2 (m.reason ∷ []) ++ law.cancel_rejected (is_last_of m.token o.cancel) rest
+  not_replaced-told =
+      rw (says.type, says.token, says.reason, not_refused) (
+      ap (λ (x : Bool). map (λ (p : Entry). law.answered_no (law.without_replace m.token (shown_as o)) p 2 (m.reason ∷ [])) (filter (law.has_token m.token) (shown_as o).pending) ++ law.cancel_rejected x (law.without_replace m.token (shown_as o))) (last-same b m.token answered o.cancel)
+      ∙ ap (λ (ps : List Entry). map (λ (p : Entry). law.answered_no (law.without_replace m.token (shown_as o)) p 2 (m.reason ∷ [])) (filter (law.has_token m.token) ps) ++ law.cancel_rejected (is_last_of m.token o.cancel) (law.without_replace m.token (shown_as o))) listed
+      ∙ ap (λ (ps : List Entry). map (λ (p : Entry). law.answered_no (law.without_replace m.token (shown_as o)) p 2 (m.reason ∷ [])) ps ++ law.cancel_rejected (is_last_of m.token o.cancel) (law.without_replace m.token (shown_as o))) (only-replace m.token q (cancel_in o.cancel) own is_g is_f)
+      ∙ ap (λ (s : law.Shown). law.answered_no s q 2 (m.reason ∷ []) ∷ law.cancel_rejected (is_last_of m.token o.cancel) s) left
+      ∙ ap (λ (r : Option Entry). rejects_of rest r 2 (m.reason ∷ []) ++ law.cancel_rejected (is_last_of m.token o.cancel) rest) (sym some)
+      )
+
+module _ (issued : ℕ) (m : Rejected) (b : List ℕ) (o : OrderRecord) (says : SaysRejected m b) (not_new : may_refuse_as m o ≡ false) where
+  answers-token : (other : List ℕ) → answers b (SaysCancel other) ≡ bytes_eq m.token other
+  answers-token other = rw (says.type, says.token) refl
+
+  pub not_replaced-now : changed_by (changes.NotReplaced m.token) o ≡ after_message issued b o
+  not_replaced-now =
+      let not_refused : (is_waiting o.stage && bytes_eq m.token (live_token o)) ≡ false = and-turned (bytes_eq m.token (live_token o)) (is_waiting o.stage) not_new in
+      rw (says.type, says.token, not_refused) (ap (λ (c : Option Cancelling). record o { replace = None; cancel = c }) (still-same b m.token answers-token o.cancel))
+
+-- with any pending replace
+pub not_replaced-is : (issued : ℕ) (m : Rejected) (b : List ℕ) (o : OrderRecord) → SaysRejected m b → may_refuse_as m o ≡ false → list_any (bytes_eq m.token) (replacements o.replace) ≡ true
+    → IfSome o.replace (λ (q : Entry). is_replace q.message ≡ true) → IfSome (cancel_in o.cancel) (λ (p : Entry). is_replace p.message ≡ false) → (shown_as o).pending ≡ option_to_list o.replace ++ option_to_list (cancel_in o.cancel)
+    → (rest : law.Shown) → rest ≡ record (shown_as (with_quantities (changed_by (changes.NotReplaced m.token) o) o)) { pending = option_to_list (cancel_in o.cancel) }
+    → rejects_of rest o.replace 2 (m.reason ∷ []) ++ law.cancel_rejected (is_last_of m.token o.cancel) rest ≡ told_of issued b o
+not_replaced-is issued m b o says not_new awaits typed is_f in_order rest same = by_replace o.replace refl typed
+  where
+    by_replace : (r : Option Entry) → o.replace ≡ r → IfSome r (λ (q : Entry). is_replace q.message ≡ true)
+        → rejects_of rest o.replace 2 (m.reason ∷ []) ++ law.cancel_rejected (is_last_of m.token o.cancel) rest ≡ told_of issued b o
+    by_replace None none is_g = absurd (none-replacing m.token o awaits none)
+    by_replace (Some q) some is_g =
+        ap (λ (s : law.Shown). rejects_of s o.replace 2 (m.reason ∷ []) ++ law.cancel_rejected (is_last_of m.token o.cancel) s) same
+        ∙ sym (not_replaced-told issued m b o q says not_new some (the-replace m.token o q awaits some) is_g is_f in_order)

@@ -1,4 +1,3 @@
-pub mod Bytes
 pub mod Sides
 pub mod Meets
 pub mod May

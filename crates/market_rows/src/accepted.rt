@@ -1,24 +1,24 @@
 //! Accepted: the market took a new order.
 
-ghost use Rattle.std.specs.Prelude.{◌≡◌, ◌<◌, ◌^◌, ◌==◌, bytes_eq};
-ghost use Rattle.ouch_codec.specs.Parts.{unpadded};
-ghost use Rattle.market_rows.specs.Bytes.{accepted_bytes};
-ghost use Rattle.market_rows.specs.May.{may_open_as};
-ghost use Rattle.market_rows.specs.Meets.{MeetsRow};
-ghost use Rattle.market_rows.specs.Sides.{fix_side};
+ghost use Rattle.std.specs.Prelude.{◌≡◌, ◌≤◌, ◌<◌, ◌^◌, true, length, map, IfOk, ℕ, List};
+ghost use Rattle.orders.specs.declared.change.Change.TheVariants.{Opened};
+ghost use Rattle.ouch_codec.specs.AcceptedParts.{SaysAccepted};
+ghost use Rattle.to_client.specs.Pending.{body_fields};
+ghost use Rattle.market_rows.specs.May.{dead_as, may_open_as};
+ghost use Rattle.market_rows.specs.Meets.{MeetsRow, told_of};
 
-use crate::heard::{Change, Heard, RowFault};
-use fix_fields::Text;
-use fix_values::Character;
+use crate::heard::{Heard, RowFault};
+use crate::terms::is_same_terms;
+use fix_types::AppBody;
 use order_law::Stage;
-use order_table::Order;
-use ouch_codec::{Accepted, OrderState, Side};
-use std::alloc::Global;
-use to_client::{Occasion, report};
+use orders::{Change, Order};
+use ouch_codec::{Accepted, OrderState};
+use std::alloc::{AllocError, Global};
+use to_client::{Occasion, pending_of, push_canceled, push_report, report_of, shown_of};
 
 /// Lawful for an order that waits under this token, with the side and stock that it asked: the order is open with the
 /// shares and the price given, and reported as new. Where its state is dead, all of it is cancelled at once, which a
-/// second report says.
+/// second report says; a pending cancel is answered by it, and a pending replace is too late.
 ///
 /// Source: OUCH 4.2, "Accepted Message".
 pub fn on_accepted(
@@ -28,27 +28,62 @@ pub fn on_accepted(
     message: &Accepted,
 ) -> Result<Heard, RowFault>
     requires { issued < 2 ^ 60 }
-    ensures { MeetsRow issued (accepted_bytes message.now) order.now result }
+    ensures { (b : List ℕ) → SaysAccepted message.now b → MeetsRow issued b order.now result }
 {
     if !may_open(order, message) {
         return Err(RowFault::NotLawful);
     }
-    let opened = order.progress.opened(message.shares, message.price);
-    let mut reports = Vec::with_capacity(alloc, 2)?;
-    reports.push(report(alloc, issued + 1, Occasion::New, order, &opened)?)?;
-    match message.order_state {
-        OrderState::Live => Ok(Heard {
-            change: Change::To(opened),
-            reports,
-        }),
-        OrderState::Dead => {
-            let gone = opened.gone();
-            reports.push(report(alloc, issued + 2, Occasion::Canceled(None), order, &gone)?)?;
-            Ok(Heard {
-                change: Change::To(gone),
-                reports,
-            })
-        }
+    Ok(Heard {
+        change: opened_by(message, is_dead(message.order_state)),
+        bodies: tell_accepted(alloc, issued, order, message)?,
+    })
+}
+
+/// What its client is told, where it is lawful.
+fn tell_accepted(
+    alloc: Global,
+    issued: u64,
+    order: &Order,
+    message: &Accepted,
+) -> Result<Vec<AppBody>, AllocError>
+    requires issued { issued < 2 ^ 60 }
+    requires may { may_open_as message.now order.now ≡ true }
+    ensures told { IfOk result (λ bodies. (b : List ℕ) → SaysAccepted message.now b → map body_fields bodies.items ≡ told_of issued b order.now) }
+    ensures few { IfOk result (λ bodies. length bodies.items ≤ 3) }
+{
+    let opened = order.progress_after(opened_by(message, false));
+    let mut bodies = Vec::with_capacity(alloc, 3)?;
+    let shown = shown_of(order, &opened);
+    let report = report_of(alloc, issued + 1, Occasion::New, &shown)?;
+    push_report(&mut bodies, report)?;
+    if is_dead(message.order_state) {
+        let gone = order.progress_after(opened_by(message, true));
+        let closed = shown_of(order, &gone);
+        let pending = pending_of(order);
+        push_canceled(alloc, &mut bodies, issued + 2, None, &closed, &pending)?;
+        return Ok(bodies);
+    }
+    Ok(bodies)
+}
+
+/// What it changes, where it is dead or not.
+fn opened_by(message: &Accepted, is_dead: bool) -> Change
+    ensures { result ≡ Opened message.now.shares message.now.price is_dead }
+{
+    Change::Opened {
+        shares: message.shares,
+        price: message.price,
+        is_dead,
+    }
+}
+
+/// Whether an order isn't in the book, though it was taken.
+pub fn is_dead(state: OrderState) -> bool
+    ensures { result ≡ dead_as state }
+{
+    match state {
+        OrderState::Live => false,
+        OrderState::Dead => true,
     }
 }
 
@@ -58,36 +93,5 @@ fn may_open(order: &Order, message: &Accepted) -> bool
 {
     message.token == order.token
         && (order.progress.stage == Stage::Waiting
-            && (is_stock(&message.stock, &order.message.symbol)
-                && is_same_side(order.message.side, message.side)))
-}
-
-/// Whether a stock is this symbol.
-fn is_stock(stock: &[u8; 8], symbol: &Text) -> bool
-    ensures { result ≡ bytes_eq (unpadded stock.now) symbol.now }
-{
-    trimmed(stock) == symbol.as_slice()
-}
-
-/// A text without the spaces behind it.
-fn trimmed(text: &[u8]) -> &[u8]
-    ensures { result.now ≡ unpadded text.now }
-{
-    match text {
-        [front @ .., b' '] => trimmed(front),
-        _ => text,
-    }
-}
-
-/// Whether FIX's side is the market's.
-fn is_same_side(side: Character, of_market: Side) -> bool
-    ensures { result ≡ (fix_side of_market == side) }
-{
-    let byte = match of_market {
-        Side::Buy => b'1',
-        Side::Sell => b'2',
-        Side::SellShort => b'5',
-        Side::SellShortExempt => b'6',
-    };
-    byte == side.byte()
+            && is_same_terms(order, &message.stock, message.side))
 }

@@ -1,22 +1,24 @@
 //! Broken Trade: a trade of an order is taken back.
 
-ghost use Rattle.std.specs.Prelude.{◌≡◌, ◌<◌, ◌^◌, ◌∷◌, [], map, option_map, reverse};
+ghost use Rattle.std.specs.Prelude.{◌≡◌, ◌≤◌, ◌<◌, ◌^◌, ◌∷◌, [], length, map, IfOk, Some, option_map, reverse, ℕ, List};
 ghost use Rattle.std.specs.List.{find, position};
-ghost use Rattle.order_histories.specs.OrderRecord.{live_token, stands_told};
+ghost use Rattle.order_histories.specs.OrderRecord.{stands_told};
 ghost use Rattle.orders.specs.Seen.{told_seen};
-ghost use Rattle.market_rows.specs.Bytes.{broken_bytes};
+ghost use Rattle.ouch_codec.specs.BrokenParts.{SaysBroken};
+ghost use Rattle.to_client.specs.Pending.{body_fields};
 ghost use Rattle.market_rows.specs.May.{broken_in, is_standing, was_in_book_as};
-ghost use Rattle.market_rows.specs.Meets.{IsSteady, MeetsRow};
+ghost use Rattle.market_rows.specs.Meets.{IsSteady, MeetsRow, told_of};
 
-use crate::heard::{Change, Heard, RowFault};
+use crate::heard::{Heard, RowFault};
+use fix_types::AppBody;
 use order_law::Stage;
-use order_table::{Order, ToldTrade};
+use orders::{Change, Order, ToldTrade};
 use ouch_codec::Broken;
-use std::alloc::Global;
-use to_client::{Occasion, report};
+use std::alloc::{AllocError, Global};
+use to_client::{Occasion, push_report, report_of, shown_of};
 
-/// Lawful for an order that has been in the book under this token, closed or not, of a trade that stands under the match
-/// number: it is taken back, which a report says with the ExecID of the trade's own. What is open stays open.
+/// Lawful for an order that has been in the book, closed or not, and goes or went by this token, of a trade that stands
+/// under the match number: it is taken back, which a report says with the ExecID of the trade's own. What is open stays open.
 ///
 /// Source: OUCH 4.2, "Broken Trade Message"; FIX 4.4 Volume 4, "Execution Report", Trade Cancel.
 pub fn on_broken(
@@ -26,29 +28,47 @@ pub fn on_broken(
     message: &Broken,
 ) -> Result<Heard, RowFault>
     requires { issued < 2 ^ 60 }
-    ensures { MeetsRow issued (broken_bytes message.now) order.now result }
+    ensures { (b : List ℕ) → SaysBroken message.now b → MeetsRow issued b order.now result }
 {
     let Some(told) = trade_of(order, message) else {
         return Err(RowFault::NotLawful);
     };
-    let progress = order.progress.broken(told.trade.shares, told.trade.price);
+    Ok(Heard {
+        change: Change::Broken(told),
+        bodies: tell_broken(alloc, issued, order, message, told)?,
+    })
+}
+
+/// What its client is told, where this trade is the one that it takes back.
+fn tell_broken(
+    alloc: Global,
+    issued: u64,
+    order: &Order,
+    message: &Broken,
+    told: ToldTrade,
+) -> Result<Vec<AppBody>, AllocError>
+    requires issued { issued < 2 ^ 60 }
+    requires may { broken_in message.now order.now ≡ Some (told_seen told) }
+    requires steady { IsSteady order.now }
+    ensures told { IfOk result (λ bodies. (b : List ℕ) → SaysBroken message.now b → map body_fields bodies.items ≡ told_of issued b order.now) }
+    ensures few { IfOk result (λ bodies. length bodies.items ≤ 3) }
+{
+    let progress = order.progress_after(Change::Broken(told));
     let occasion = Occasion::TradeCancel {
         exec_id: told.number,
         reason: message.reason,
     };
-    let mut reports = Vec::with_capacity(alloc, 1)?;
-    reports.push(report(alloc, issued + 1, occasion, order, &progress)?)?;
-    Ok(Heard {
-        change: Change::Broken(progress, message.match_number),
-        reports,
-    })
+    let mut bodies = Vec::with_capacity(alloc, 1)?;
+    let shown = shown_of(order, &progress);
+    let report = report_of(alloc, issued + 1, occasion, &shown)?;
+    push_report(&mut bodies, report)?;
+    Ok(bodies)
 }
 
-/// The newest trade of an order that the message may take back: the order has been in the book under the token, and the
+/// The newest trade of an order that the message may take back: the order has been in the book and had the token, and the
 /// trade stands under the match number.
 fn trade_of(order: &Order, message: &Broken) -> Option<ToldTrade>
     ensures trade { option_map told_seen result ≡ broken_in message.now order.now }
-    ensures one { order.now.tokens ≡ live_token order.now ∷ [] }
     ensures steady { IsSteady order.now }
 {
     if was_in_book(order, message) {
@@ -58,13 +78,12 @@ fn trade_of(order: &Order, message: &Broken) -> Option<ToldTrade>
     }
 }
 
-/// Whether an order has been in the book under the message's token.
+/// Whether an order has been in the book, and had the message's token.
 fn was_in_book(order: &Order, message: &Broken) -> bool
     ensures so { result ≡ was_in_book_as message.now order.now }
-    ensures one { order.now.tokens ≡ live_token order.now ∷ [] }
     ensures steady { IsSteady order.now }
 {
-    message.token == order.token && order.progress.stage != Stage::Waiting
+    order.has_had(&message.token) && order.progress.stage != Stage::Waiting
 }
 
 /// The newest trade of an order that stands under the match number.

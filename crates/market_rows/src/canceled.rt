@@ -1,19 +1,21 @@
 //! Canceled: shares of an order left the book without a trade.
 
-ghost use Rattle.std.specs.Prelude.{◌≡◌, ◌<◌, ◌^◌};
-ghost use Rattle.market_rows.specs.Bytes.{canceled_bytes};
+ghost use Rattle.std.specs.Prelude.{◌≡◌, ◌≤◌, ◌<◌, ◌^◌, true, length, map, IfOk, ℕ, List};
+ghost use Rattle.ouch_codec.specs.CanceledParts.{SaysCanceled};
+ghost use Rattle.to_client.specs.Pending.{body_fields};
 ghost use Rattle.market_rows.specs.May.{may_cancel_as};
-ghost use Rattle.market_rows.specs.Meets.{MeetsRow};
+ghost use Rattle.market_rows.specs.Meets.{MeetsRow, told_of};
 
-use crate::heard::{Change, Heard, RowFault};
+use crate::heard::{Heard, RowFault};
+use fix_types::AppBody;
 use order_law::Stage;
-use order_table::Order;
+use orders::{Change, Order};
 use ouch_codec::Canceled;
-use std::alloc::Global;
-use to_client::{Occasion, report};
+use std::alloc::{AllocError, Global};
+use to_client::{Occasion, pending_of, push_canceled, push_report, report_of, shown_of};
 
 /// Lawful for an order in the book under this token, of shares that are open: so many are cancelled. Where nothing is
-/// left, the order is over; else its total is restated.
+/// left, the order is over, which answers a pending cancel, and a pending replace is too late; else its total is restated.
 ///
 /// Source: OUCH 4.2, "Canceled Message".
 pub fn on_canceled(
@@ -23,29 +25,43 @@ pub fn on_canceled(
     message: &Canceled,
 ) -> Result<Heard, RowFault>
     requires { issued < 2 ^ 60 }
-    ensures { MeetsRow issued (canceled_bytes message.now) order.now result }
+    ensures { (b : List ℕ) → SaysCanceled message.now b → MeetsRow issued b order.now result }
 {
     if !may_cancel(order, message) {
         return Err(RowFault::NotLawful);
     }
-    let mut reports = Vec::with_capacity(alloc, 1)?;
+    Ok(Heard {
+        change: Change::Canceled(message.decrement),
+        bodies: tell_canceled(alloc, issued, order, message)?,
+    })
+}
+
+/// What its client is told, where it is lawful.
+fn tell_canceled(
+    alloc: Global,
+    issued: u64,
+    order: &Order,
+    message: &Canceled,
+) -> Result<Vec<AppBody>, AllocError>
+    requires issued { issued < 2 ^ 60 }
+    requires may { may_cancel_as message.now order.now ≡ true }
+    ensures told { IfOk result (λ bodies. (b : List ℕ) → SaysCanceled message.now b → map body_fields bodies.items ≡ told_of issued b order.now) }
+    ensures few { IfOk result (λ bodies. length bodies.items ≤ 3) }
+{
+    let progress = order.progress_after(Change::Canceled(message.decrement));
+    let mut bodies = Vec::with_capacity(alloc, 3)?;
     if message.decrement == order.progress.unfilled {
-        let gone = order.progress.gone();
-        let occasion = Occasion::Canceled(Some(message.reason));
-        reports.push(report(alloc, issued + 1, occasion, order, &gone)?)?;
-        Ok(Heard {
-            change: Change::To(gone),
-            reports,
-        })
-    } else {
-        let reduced = order.progress.reduced(message.decrement);
-        let occasion = Occasion::Restated(message.reason);
-        reports.push(report(alloc, issued + 1, occasion, order, &reduced)?)?;
-        Ok(Heard {
-            change: Change::To(reduced),
-            reports,
-        })
+        let shown = shown_of(order, &progress);
+        let reason = Some(message.reason);
+        let pending = pending_of(order);
+        push_canceled(alloc, &mut bodies, issued + 1, reason, &shown, &pending)?;
+        return Ok(bodies);
     }
+    let occasion = Occasion::Restated(message.reason);
+    let reduced = shown_of(order, &progress);
+    let report = report_of(alloc, issued + 1, occasion, &reduced)?;
+    push_report(&mut bodies, report)?;
+    Ok(bodies)
 }
 
 /// Whether so many shares of an order may leave the book.

@@ -1,20 +1,23 @@
 //! Executed: shares of an order were traded.
 
-ghost use Rattle.std.specs.Prelude.{◌≡◌, ◌<◌, ◌^◌, ◌==◌};
+ghost use Rattle.std.specs.Prelude.{◌≡◌, ◌≤◌, ◌<◌, ◌^◌, ◌==◌, true, length, map, IfOk, ℕ, List};
 ghost use Rattle.std.specs.List.{list_any};
-ghost use Rattle.market_rows.specs.Bytes.{executed_bytes};
-ghost use Rattle.market_rows.specs.May.{has_number, may_trade_as};
-ghost use Rattle.market_rows.specs.Meets.{MeetsRow};
+ghost use Rattle.ouch_codec.specs.ExecutedParts.{SaysExecuted};
+ghost use Rattle.to_client.specs.Pending.{body_fields};
+ghost use Rattle.market_rows.specs.May.{has_number, may_trade_as, trade_said};
+ghost use Rattle.market_rows.specs.Meets.{MeetsRow, told_of};
 
-use crate::heard::{Change, Heard, RowFault};
+use crate::heard::{Heard, RowFault};
+use fix_types::AppBody;
 use order_law::{Stage, Trade};
-use order_table::{Order, ToldTrade};
+use orders::{Change, Order, ToldTrade};
 use ouch_codec::Executed;
-use std::alloc::Global;
-use to_client::{Occasion, report};
+use std::alloc::{AllocError, Global};
+use to_client::{Occasion, pending_of, push_report, push_too_late, report_of, shown_of};
 
 /// Lawful for an order in the book under this token, of shares that are open, under a match number that none of its
-/// trades has: so many shares are executed at this price. Where nothing is left, the order is over.
+/// trades has: so many shares are executed at this price. Where nothing is left, the order is over, and each pending request
+/// is too late.
 ///
 /// Source: OUCH 4.2, "Executed Order Message".
 pub fn on_executed(
@@ -24,39 +27,57 @@ pub fn on_executed(
     message: &Executed,
 ) -> Result<Heard, RowFault>
     requires { issued < 2 ^ 60 }
-    ensures { MeetsRow issued (executed_bytes message.now) order.now result }
+    ensures { (b : List ℕ) → SaysExecuted message.now b → MeetsRow issued b order.now result }
 {
     if !may_trade(order, message) {
         return Err(RowFault::NotLawful);
     }
-    let (shares, price) = (message.shares, message.price);
-    let progress = if message.shares == order.progress.unfilled {
-        order.progress.filled(shares, price)
-    } else {
-        order.progress.traded(shares, price)
-    };
-    let mut reports = Vec::with_capacity(alloc, 1)?;
-    reports.push(report(
-        alloc,
-        issued + 1,
-        Occasion::Trade { shares, price },
-        order,
-        &progress,
-    )?)?;
-    let trade = Trade {
-        match_number: message.match_number,
-        shares,
-        price,
-        is_broken: false,
-    };
-    let told = ToldTrade {
-        trade,
-        number: issued + 1,
-    };
     Ok(Heard {
-        change: Change::Traded(progress, told),
-        reports,
+        change: Change::Traded(told_trade(message, issued + 1)),
+        bodies: tell_executed(alloc, issued, order, message)?,
     })
+}
+
+/// What its client is told, where it is lawful.
+fn tell_executed(
+    alloc: Global,
+    issued: u64,
+    order: &Order,
+    message: &Executed,
+) -> Result<Vec<AppBody>, AllocError>
+    requires issued { issued < 2 ^ 60 }
+    requires may { may_trade_as message.now order.now ≡ true }
+    ensures told { IfOk result (λ bodies. (b : List ℕ) → SaysExecuted message.now b → map body_fields bodies.items ≡ told_of issued b order.now) }
+    ensures few { IfOk result (λ bodies. length bodies.items ≤ 3) }
+{
+    let (shares, price) = (message.shares, message.price);
+    let told = told_trade(message, issued + 1);
+    let progress = order.progress_after(Change::Traded(told));
+    let mut bodies = Vec::with_capacity(alloc, 3)?;
+    let shown = shown_of(order, &progress);
+    let occasion = Occasion::Trade { shares, price };
+    let report = report_of(alloc, issued + 1, occasion, &shown)?;
+    push_report(&mut bodies, report)?;
+    if shares == order.progress.unfilled {
+        push_too_late(alloc, &mut bodies, &shown, &pending_of(order))?;
+        return Ok(bodies);
+    }
+    Ok(bodies)
+}
+
+/// The trade, told under an ExecID (17).
+fn told_trade(message: &Executed, number: u64) -> ToldTrade
+    ensures { result ≡ trade_said message.now number }
+{
+    ToldTrade {
+        trade: Trade {
+            match_number: message.match_number,
+            shares: message.shares,
+            price: message.price,
+            is_broken: false,
+        },
+        number,
+    }
 }
 
 /// Whether so many shares of an order may be traded under this match number.

@@ -1,32 +1,21 @@
 //! What comes of a message on an order.
 
-ghost use Rattle.std.specs.Prelude.{◌≡◌, ◌<◌, ◌≤◌, vec_len};
+ghost use Rattle.std.specs.Prelude.{◌≡◌, ◌≤◌, length};
 ghost use Rattle.market_rows.specs.declared.heard.RowFault.TheVariants.{NoMemory};
 
-use fix_types::Report;
-use order_table::{Progress, ToldTrade};
+use fix_types::AppBody;
+use orders::Change;
 use std::alloc::{AllocError, AllocFailed};
 use thiserror::Error;
-
-/// What becomes of the order.
-#[derive(Clone, Copy, Debug, PartialEq, Eq)]
-pub enum Change {
-    /// It has come so far.
-    To(Progress),
-    /// It has come so far, with one trade more.
-    Traded(Progress, ToldTrade),
-    /// It has come so far, with its trades of this match number marked as broken.
-    Broken(Progress, u64),
-}
 
 /// What comes of a message that is lawful of an order.
 #[derive(Debug, Drop)]
 pub struct Heard {
+    /// What it changes of the order.
     pub change: Change,
-    /// What its client is told, in order: one report or two.
-    pub reports: Vec<Report>,
-    ghost some: { 0 < vec_len reports },
-    ghost few: { vec_len reports ≤ 2 },
+    /// What its client is told, in order: three bodies at most, or none.
+    pub bodies: Vec<AppBody>,
+    ghost few: { length bodies.items ≤ 3 },
 }
 
 /// Why nothing comes of a message.

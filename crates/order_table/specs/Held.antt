@@ -1,13 +1,8 @@
 -- What the table holds, and what is found in it: `order_histories`' words over the two lists.
-use Rattle.std.specs.Prelude.{ℕ, List, ◌∷◌, Option, option_and_then, decimal}
-use Rattle.std.specs.List.{find}
-use Rattle.order_histories.specs.OrderRecord.{OrderRecord, mark}
-use Rattle.order_histories.specs.OrderRecord as record_of
-use Rattle.order_histories.specs.Table.{GivenToken, has_number, is_token, put}
-use Rattle.orders.specs.declared.progress.Progress.{Progress}
-use Rattle.orders.specs.Seen.{progressed}
-use Rattle.std.specs.Prelude.{map, ◌≡◌, ◌<◌, ◌-◌, Bool, length, reverse, slice_get}
-use Rattle.std.specs.List.{position_or_len}
+use Rattle.std.specs.Prelude.{◌≡◌, ◌<◌, ℕ, ◌+◌, ◌-◌, nat_le, Bool, List, length, reverse, Option, option_and_then, option_to_list, decimal, slice_get}
+use Rattle.std.specs.List.{count_by, find, position_or_len}
+use Rattle.order_histories.specs.OrderRecord.{OrderRecord}
+use Rattle.order_histories.specs.Table.{GivenToken, has_number, is_named, is_replacement_of, is_token, put}
 
 -- the newest first
 pub record Held : Type 0 where
@@ -24,12 +19,13 @@ found h port token = option_and_then (λ (g : GivenToken). find (has_number g.or
 abbrev pub changed : OrderRecord → Held → Held
 changed o h = record h { orders = put o h.orders }
 
--- an order that has come so far, with one trade more, or with one that was taken back
-abbrev pub with_trade : record_of.ToldTrade → Progress → OrderRecord → OrderRecord
-with_trade t p o = record (progressed p o) { trades = t ∷ o.trades }
+-- the order of a client that goes by this ClOrdID
+abbrev pub named : Held → ℕ → List ℕ → Option OrderRecord
+named h client id = find (is_named client id) h.orders
 
-abbrev pub without_trade : ℕ → Progress → OrderRecord → OrderRecord
-without_trade match_number p o = record (progressed p o) { trades = map (mark match_number) o.trades }
+-- An order has had, or is to have, at most one token more than replaces of it were accepted.
+abbrev pub is_counted : List GivenToken → OrderRecord → Bool
+is_counted tokens o = nat_le (length o.tokens + length (option_to_list o.replace)) (1 + count_by (is_replacement_of o.new.order) tokens)
 
 -- what a place is to the newest that passes
 pub record IsNewest {A : Type 0} (test : A → Bool) (xs : List A) (place : ℕ) : Type 0 where

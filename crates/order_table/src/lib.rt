@@ -3,10 +3,7 @@
 //! It knows nothing of messages from the market and of reports. Contracts see it as `order_histories`' table.
 #![tactic(auto)]
 
-mod order;
 mod places;
 mod table;
 
-pub use order::Order;
-pub use orders::{Progress, ToldTrade};
 pub use table::{GivenToken, Table};

@@ -1,12 +1,13 @@
 //! The list of orders, and the list of tokens that were given.
 
-ghost use Rattle.std.specs.Prelude.{◌≡◌, ◌<◌, ◌++◌, ◌∷◌, [], vec_len, vec_capacity};
+ghost use Rattle.std.specs.Prelude.{◌≡◌, ◌<◌, ◌++◌, ◌∷◌, [], true, decimal, vec_len, vec_capacity};
+ghost use Rattle.std.specs.List.{count_by, list_all};
 ghost use Rattle.order_histories.specs.Table as table;
+ghost use Rattle.order_table.specs.Held.{is_counted};
 
-use crate::order::Order;
-use crate::places::{place_of, token_place};
+use crate::places::{named_place, place_of, token_place};
 use order_law::Stage;
-use orders::{Progress, ToldTrade, mark};
+use orders::{Cancelling, Change, Order, Replacing};
 use std::alloc::{AllocError, Global};
 use std::marker::Model;
 
@@ -19,15 +20,17 @@ pub struct GivenToken {
     pub token: [u8; 14],
     /// OrderID (37) of its order.
     pub order_id: u64,
+    /// A replace asked for it, and not the new order.
+    pub is_replacement: bool,
 }
 
 impl Model for GivenToken {
-    ghost use Rattle.std.specs.Prelude.{decimal, false};
+    ghost use Rattle.std.specs.Prelude.{decimal};
     ghost use Rattle.order_histories.specs.Table as table;
 
     ghost Value = { table.GivenToken };
 
-    ghost view = { λ g. record { port = g.port; text = g.token; order = decimal g.order_id; is_replacement = false } };
+    ghost view = { λ g. record { port = g.port; text = g.token; order = decimal g.order_id; is_replacement = g.is_replacement } };
 }
 
 /// The accepted orders and the tokens that were given. Contracts see the newest first.
@@ -35,6 +38,7 @@ impl Model for GivenToken {
 pub struct Table {
     orders: Vec<Order>,
     tokens: Vec<GivenToken>,
+    ghost counted: { list_all (is_counted tokens.items) orders.items ≡ true },
 }
 
 impl Model for Table {
@@ -47,12 +51,14 @@ impl Model for Table {
 }
 
 impl Table {
-    ghost use Rattle.std.specs.Prelude.{◌≢◌, [], ◌∷◌, IfOk, OnErr, MatchOption, Some, None, decimal, length};
+    ghost use Rattle.std.specs.Prelude.{◌≤◌, ◌+◌, [], ◌∷◌, IfOk, OnErr, MatchOption, Some, None, decimal, length, option_to_list};
+    ghost use Rattle.std.specs.List.{count_by};
     ghost use Rattle.order_histories.specs.OrderRecord as record_of;
-    ghost use Rattle.order_histories.specs.Table.{open_count};
-    ghost use Rattle.order_law.specs.declared.stage.Stage.TheVariants.{Waiting};
-    ghost use Rattle.order_table.specs.Held.{changed, found, with_number, with_trade, without_trade};
-    ghost use Rattle.orders.specs.Seen.{progressed, told_seen};
+    ghost use Rattle.order_histories.specs.OrderRecord.{at};
+    ghost use Rattle.order_histories.specs.Table.{is_replacement_of, open_count, put};
+    ghost use Rattle.orders.specs.Changes.{Fits, changed_by};
+    ghost use Rattle.order_table.specs.Held.{changed, found, named, with_number};
+    ghost use Rattle.orders.specs.Seen.{cancel_seen, replace_seen};
 
     /// No orders and no tokens. Takes no memory.
     pub fn new(alloc: Global) -> Table
@@ -65,8 +71,10 @@ impl Table {
         }
     }
 
-    /// One order more, and the token that it was given. `AllocError` leaves the table as it was.
+    /// One order more, which has had one token and has no pending replace, and the token that it was given. `AllocError`
+    /// leaves the table as it was.
     pub fn add(&mut self, order: Order, given: GivenToken) -> Result<(), AllocError>
+        requires { length order.tokens + length (option_to_list order.replace) ≤ 1 }
         ensures added { IfOk result (λ nothing. self.new ≡ record { orders = order ∷ self.old.orders; tokens = given ∷ self.old.tokens }) }
         ensures err { OnErr result (self.new ≡ self.old) }
     {
@@ -110,51 +118,71 @@ impl Table {
         }
     }
 
-    /// The order with an OrderID has come so far. Where no order has it, nothing changes.
-    pub fn change(&mut self, order_id: u64, progress: Progress)
-        requires { progress.stage ≢ Waiting }
-        ensures changed { (o : record_of.OrderRecord) → with_number self.old order_id ≡ Some o → self.new ≡ changed (progressed progress o) self.old }
-        ensures unknown { with_number self.old order_id ≡ None → self.new ≡ self.old }
+    /// The order of a client that goes by this ClOrdID: its own, that of the last replace of it, or that of a pending
+    /// request.
+    pub fn by_id(&self, client: u16, id: &[u8]) -> Option<&Order>
+        ensures { MatchOption result (named self.now client id.now ≡ None) (λ order. named self.now client id.now ≡ Some order.now) }
     {
-        if let Some(place) = place_of(&self.orders, order_id) {
-            self.orders[place].progress = progress;
+        match named_place(&self.orders, client, id) {
+            None => None,
+            Some(place) => Some(&self.orders[place]),
         }
     }
 
-    /// The order with an OrderID has come so far, with one trade more. Where no order has it, nothing changes. `AllocError`
-    /// leaves the table as it was.
-    pub fn trade(
-        &mut self,
-        order_id: u64,
-        progress: Progress,
-        told: ToldTrade,
-    ) -> Result<(), AllocError>
-        requires { progress.stage ≢ Waiting }
-        ensures traded { IfOk result (λ nothing. (o : record_of.OrderRecord) → with_number self.old order_id ≡ Some o
-            → self.new ≡ changed (with_trade (told_seen told) progress o) self.old) }
+    /// How many replaces of the order with an OrderID were accepted.
+    pub fn replace_count(&self, order_id: u64) -> usize
+        ensures { result ≡ count_by (is_replacement_of (decimal order_id)) self.now.tokens }
+    {
+        count_replacements(&self.tokens, order_id)
+    }
+
+    /// The order with an OrderID, as a message of the market changes it, which fits it. Where no order has it, nothing
+    /// changes. `AllocError` leaves the table as it was.
+    pub fn apply(&mut self, order_id: u64, change: Change) -> Result<(), AllocError>
+        requires { (o : record_of.OrderRecord) → with_number self.old order_id ≡ Some o → Fits change o }
+        ensures changed { IfOk result (λ nothing. (o : record_of.OrderRecord) → with_number self.old order_id ≡ Some o
+            → self.new ≡ changed (changed_by change o) self.old) }
         ensures unknown { with_number self.old order_id ≡ None → self.new ≡ self.old }
         ensures err { OnErr result (self.new ≡ self.old) }
     {
         if let Some(place) = place_of(&self.orders, order_id) {
-            let order = &mut self.orders[place];
-            order.trades.push(told)?;
-            order.progress = progress;
+            self.orders[place].apply(change)?;
         }
         Ok(())
     }
 
-    /// The order with an OrderID has come so far, with its trades of this match number marked as broken. Where no order
-    /// has it, nothing changes.
-    pub fn break_trade(&mut self, order_id: u64, progress: Progress, match_number: u64)
-        requires { progress.stage ≢ Waiting }
-        ensures broken { (o : record_of.OrderRecord) → with_number self.old order_id ≡ Some o
-            → self.new ≡ changed (without_trade match_number progress o) self.old }
+    /// A replace of the order with an OrderID is pending, which was given a token; it isn't the 65,536th. Where no order has
+    /// the OrderID, nothing changes. `AllocError` leaves the table as it was.
+    pub fn accept_replace(
+        &mut self,
+        order_id: u64,
+        replacing: Replacing,
+        given: GivenToken,
+    ) -> Result<(), AllocError>
+        requires room { count_by (is_replacement_of (decimal order_id)) self.old.tokens < 65_535 }
+        requires of_order { given.order ≡ decimal order_id }
+        requires is_replacement { given.is_replacement ≡ true }
+        ensures accepted { IfOk result (λ nothing. (o : record_of.OrderRecord) → with_number self.old order_id ≡ Some o
+            → self.new ≡ record { orders = put (at o (Some (replace_seen o.new.client order_id replacing)) o.cancel) self.old.orders; tokens = given ∷ self.old.tokens }) }
+        ensures unknown { with_number self.old order_id ≡ None → self.new ≡ self.old }
+        ensures err { OnErr result (self.new ≡ self.old) }
+    {
+        self.tokens.reserve(1)?;
+        if let Some(place) = place_of(&self.orders, order_id) {
+            push_token(&mut self.tokens, given);
+            self.orders[place].accept_replace(replacing);
+        }
+        Ok(())
+    }
+
+    /// A cancel of the order with an OrderID is pending. Where no order has it, nothing changes.
+    pub fn accept_cancel(&mut self, order_id: u64, cancelling: Cancelling)
+        ensures accepted { (o : record_of.OrderRecord) → with_number self.old order_id ≡ Some o
+            → self.new ≡ changed (at o o.replace (Some (cancel_seen o.new.client order_id cancelling))) self.old }
         ensures unknown { with_number self.old order_id ≡ None → self.new ≡ self.old }
     {
         if let Some(place) = place_of(&self.orders, order_id) {
-            let order = &mut self.orders[place];
-            mark(&mut order.trades, match_number);
-            order.progress = progress;
+            self.orders[place].accept_cancel(cancelling);
         }
     }
 }
@@ -182,4 +210,21 @@ fn count_open(orders: &[Order], client: u16) -> usize
         .iter()
         .filter(|order| is_open_of(client, order))
         .count()
+}
+
+/// How many tokens replaces of an order were given, of these.
+fn count_replacements(tokens: &[GivenToken], order_id: u64) -> usize
+    ensures { result ≡ count_by (table.is_replacement_of (decimal order_id)) tokens.now }
+{
+    tokens
+        .iter()
+        .filter(|given| is_replacement_of(order_id, given))
+        .count()
+}
+
+/// Whether a replace of an order was given the token.
+fn is_replacement_of(order_id: u64, given: &GivenToken) -> bool
+    ensures { result ≡ table.is_replacement_of (decimal order_id) given.now }
+{
+    given.order_id == order_id && given.is_replacement
 }

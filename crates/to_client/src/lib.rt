@@ -2,6 +2,7 @@
 #![tactic(auto)]
 
 mod endings;
+mod from_orders;
 mod occasion;
 mod pending;
 mod refusing;
@@ -13,11 +14,12 @@ mod status;
 mod texts;
 
 pub use endings::{push_cancel_rejected, push_canceled, push_reject, push_report, push_too_late};
+pub use from_orders::{pending_of, shown_of};
 pub use occasion::Occasion;
 pub use pending::Pending;
 pub use refusing::refusal;
 pub use rejecting::cancel_reject;
-pub use reporting::{report, report_of, shown_of};
+pub use reporting::report_of;
 pub use request_reports::{report_canceled, report_pending, report_replaced};
 pub use shown::{Request, Shown};
 pub use status::{status_of, status_shown};

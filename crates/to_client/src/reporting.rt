@@ -3,11 +3,7 @@
 ghost use Rattle.std.specs.Prelude.{◌≡◌, ◌∷◌, [], true, IfOk, IfSome};
 ghost use Rattle.fix_types.specs.Report.{report_fields};
 ghost use Rattle.wire_law.specs.Printable.{is_printable};
-ghost use Rattle.order_law.specs.Asks.{total_of};
 ghost use Rattle.order_law.specs.Told as law;
-ghost use Rattle.order_law.specs.declared.stage.Stage.TheVariants.{Waiting};
-ghost use Rattle.order_histories.specs.OrderRecord.{shown_as};
-ghost use Rattle.orders.specs.Seen.{progressed};
 ghost use Rattle.to_client.specs.Occasions.{average_of_text, details_of, leaves_in, occasion_seen};
 ghost use Rattle.to_client.specs.Shows.{IsOccasion, ShowsAs, id_told, orig_told, report_with};
 
@@ -20,28 +16,8 @@ use fix_types::Report;
 use fix_values::ClOrdId;
 use fixed_point::average;
 use order_law::Stage;
-use order_table::{Order, Progress};
+use orders::Progress;
 use std::alloc::{AllocError, Global};
-
-/// The report, with an ExecID of this number, of what happened to an order that has then come so far.
-///
-/// The total of an order that waits is that of its own message; the market's letters are printable. The one error is
-/// that memory ran out.
-///
-/// Source: FIX 4.4 Volume 4, "Execution Report".
-pub fn report(
-    alloc: Global,
-    number: u64,
-    occasion: Occasion,
-    order: &Order,
-    progress: &Progress,
-) -> Result<Report, AllocError>
-    requires waiting { progress.now.stage ≡ Waiting → progress.now.total ≡ total_of order.now.new.message }
-    requires reason { IfSome (details_of occasion).reason (λ byte. is_printable byte ≡ true) }
-    ensures told { IfOk result (λ r. report_fields r ≡ law.report number (occasion_seen occasion) (shown_as (progressed progress.now order.now))) }
-{
-    report_of(alloc, number, occasion, &shown_of(order, progress))
-}
 
 /// The report, with an ExecID of this number, of what happened to an order that is then shown so. The market's letters
 /// are printable. The one error is that memory ran out.
@@ -57,23 +33,6 @@ pub fn report_of(
     ensures told { IfOk result (λ r. (s : law.Shown) → ShowsAs shown.now s → report_fields r ≡ law.report number (occasion_seen occasion) s) }
 {
     report_on(alloc, number, &fields_given_by(occasion), &None, shown)
-}
-
-/// An order without requests, as it is shown once it has come so far. The total of an order that waits is that of its
-/// own message.
-pub fn shown_of<'a>(order: &'a Order, progress: &'a Progress) -> Shown<'a>
-    requires { progress.now.stage ≡ Waiting → progress.now.total ≡ total_of order.now.new.message }
-    ensures { ShowsAs result (shown_as (progressed progress.now order.now)) }
-{
-    Shown {
-        order_id: order.order_id,
-        cl_ord_id: &order.message.cl_ord_id,
-        symbol: &order.message.symbol,
-        side: order.message.side,
-        progress,
-        has_pending_cancel: false,
-        has_pending_replace: false,
-    }
 }
 
 /// The report with these details, on a request where there is one.

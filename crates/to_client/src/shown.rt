@@ -3,7 +3,7 @@
 use fix_fields::Text;
 use fix_types::{CancelRequest, ReplaceRequest};
 use fix_values::{Character, ClOrdId, CxlRejResponseTo};
-use order_table::Progress;
+use orders::Progress;
 
 /// An order as a report or reject shows it: as it is after what is told.
 #[derive(Clone, Copy)]

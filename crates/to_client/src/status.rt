@@ -7,7 +7,7 @@ ghost use Rattle.to_client.specs.Shows.{status_any, status_with};
 use crate::shown::Shown;
 use fix_values::OrdStatus;
 use order_law::Stage;
-use order_table::Progress;
+use orders::Progress;
 
 /// OrdStatus (39) of an order without requests, the first that holds: rejected; closed, with all of it executed or not;
 /// waiting; open, with something executed or not.

@@ -1,46 +1,38 @@
-use Rattle.std.proofs.Common.{rules, ◌≡◌, true, false, sym, ap, ◌∙◌, map, [], ◌∷◌, ◌++◌, List}
-use Rattle.fix_types.specs.Report.{report_fields}
-use Rattle.fix_types.specs.declared.report.Report.{Report}
-use Rattle.order_law.specs.declared.stage.Stage.TheVariants.{Waiting, Closed}
-use Rattle.order_law.specs.Messages.{Message}
-use Rattle.order_histories.specs.OrderRecord.{OrderRecord}
-use Rattle.ouch_codec.specs.RejectedParts.{SaysRejected-written}
-use Rattle.market_rows.specs.Bytes.{rejected_bytes}
-use Rattle.market_rows.specs.May.{may_reject_as}
-use Rattle.market_rows.proofs.RejectedRow.{refused-now, refused-told, rejected-lawful}
+use Rattle.std.proofs.Common.{◌≡◌, Bool, true, false, sym, ap, ◌∙◌}
+use Rattle.std.specs.Prelude.{◌||◌}
+use Rattle.market_rows.specs.May.{may_refuse_as, may_reject_replace_as}
+use Rattle.market_rows.proofs.RejectedRow.{not_replaced-now, refuse-waits, refused-now, rejected-lawful}
 use Rattle.market_rows.proofs.rejected.on_rejected.Goals as goal
 
-pub returns : goal.returns
-returns c =
+pub returns-then-may_refuse : goal.returns-then-may_refuse
+returns-then-may_refuse c = λ b says.
     let m = c.args.message.now in
     let o = c.args.order.now in
-    let p = c.refused-refused.result in
-    let steps = c.refused-refused.ensures in
-    let says = SaysRejected-written m in
-    let same = c.order.view_is in
-    let no_r = c.may_reject.ensures.no_replace in
-    let no_c = ap (λ (x : OrderRecord). x.cancel) (sym same) in
-    let may : may_reject_as m o ≡ true = (search rules) in
-    let total = steps.total ∙ ap (λ (x : OrderRecord). x.total) same in
-    let price = steps.price ∙ ap (λ (x : OrderRecord). x.price) same in
-    let unfilled = steps.unfilled ∙ ap (λ (x : OrderRecord). x.unfilled) same in
-    let executed = steps.executed ∙ ap (λ (x : OrderRecord). x.executed) same in
-    let cancelled = steps.cancelled ∙ ap (λ (x : OrderRecord). x.cancelled) same in
-    let value = steps.value ∙ ap (λ (x : OrderRecord). x.value) same in
-    let r = c.in_ok-report.field-0 in
-    let one : c.push.new.self.items ≡ r ∷ [] = c.in_ok-push.ensures.items ∙ ap (λ (xs : List Report). xs ++ r ∷ []) c.in_ok-reports.ensures.items in
+    let may : may_refuse_as m o ≡ true = sym c.if-may_refuse.ensures in
     record {
-      lawful = rejected-lawful m (rejected_bytes m) o says no_r ∙ may;
-      told = ap (map report_fields) one ∙ ap (λ (f : Message). f ∷ []) c.in_ok-report.ensures.told
-          ∙ sym (refused-told c.args.issued m (rejected_bytes m) o p says no_r no_c may steps.stage steps.refused total price unfilled executed cancelled value);
-      now = refused-now c.args.issued m (rejected_bytes m) o p says no_r no_c may steps.stage steps.refused total price unfilled executed cancelled value;
-      answered = λ e. (let x : Closed ≡ Waiting = sym steps.stage ∙ e in cc);
+      lawful = rejected-lawful m b o says ∙ ap (λ (x : Bool). x || may_reject_replace_as m o) may;
+      told = c.in_ok-tell_refused.ensures.told b says;
+      now = refused-now c.args.issued m b o says may;
+      fits = refuse-waits c.args.issued m b o says may;
     }
 
-pub returns-then-not-may_reject : goal.returns-then-not-may_reject
-returns-then-not-may_reject c =
+pub returns-then-may_reject_replace : goal.returns-then-may_reject_replace
+returns-then-may_reject_replace c = λ b says.
     let m = c.args.message.now in
     let o = c.args.order.now in
-    let no_r = c.may_reject.ensures.no_replace in
-    let not_so : may_reject_as m o ≡ false = (search rules) in
-    rejected-lawful m (rejected_bytes m) o (SaysRejected-written m) no_r ∙ not_so
+    let not_new : may_refuse_as m o ≡ false = sym c.if-may_refuse.ensures in
+    let may : may_reject_replace_as m o ≡ true = sym c.if-may_reject_replace.ensures in
+    record {
+      lawful = rejected-lawful m b o says ∙ ap (λ (x : Bool). x || may_reject_replace_as m o) not_new ∙ may;
+      told = c.in_ok-tell_not_replaced.ensures.told c.args.issued b says;
+      now = not_replaced-now c.args.issued m b o says not_new;
+      fits = tt;
+    }
+
+pub returns : goal.returns
+returns c = λ b says.
+    let m = c.args.message.now in
+    let o = c.args.order.now in
+    let not_new : may_refuse_as m o ≡ false = sym c.if-may_refuse.ensures in
+    let not_so : may_reject_replace_as m o ≡ false = sym c.if-may_reject_replace.ensures in
+    rejected-lawful m b o says ∙ ap (λ (x : Bool). x || may_reject_replace_as m o) not_new ∙ not_so

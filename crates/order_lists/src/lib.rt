@@ -1,9 +1,0 @@
-//! The table of orders: the accepted orders and the tokens that were given, and what is looked up in it.
-//!
-//! It knows nothing of messages from the market and of reports. Contracts see it as `order_histories`' table.
-#![tactic(auto)]
-
-mod places;
-mod table;
-
-pub use table::{GivenToken, Table};

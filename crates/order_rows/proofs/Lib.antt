@@ -1,9 +1,0 @@
-pub mod Stages
-pub mod Tells
-pub mod AcceptedRow
-pub mod CanceledRow
-pub mod ExecutedRow
-pub mod BrokenRow
-pub mod CancelRejectRow
-pub mod RejectedRow
-pub mod ReplacedRow

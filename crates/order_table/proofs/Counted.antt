@@ -1,0 +1,162 @@
+-- How many tokens the orders of a table have had: at most one more than replaces were accepted.
+use Rattle.std.proofs.Common.{◌≡◌, ℕ, zero, suc, ◌+◌, ◌-◌, ◌<◌, ◌≤◌, Bool, true, false, List, [], ◌∷◌, ◌++◌, length, reverse, refl, sym, ap, ◌∙◌, arith, slice_get, slice_set, leb-true}
+use Rattle.std.specs.Prelude.{◌&&◌, ◌==◌, nat_le, IfOk, OnErr, Result, Ok, Err, Option, Some, None, if◌then◌else◌, option_to_list, bytes_eq, decimal}
+use Rattle.std.specs.List.{count_by, find, list_all}
+use Rattle.std.proofs.lemmas.Bool.{and_parts}
+use Rattle.std.proofs.lemmas.Bool.Decides.{nat_tests}
+use Rattle.std.proofs.lemmas.List.Folds.{list_all-append}
+use Rattle.order_law.specs.History.{Entry}
+use Rattle.order_histories.specs.OrderRecord.{OrderRecord, at, filled, gone, live_token, reduced, refused, traded, unasked}
+use Rattle.order_histories.specs.Table.{GivenToken, has_number, is_replacement_of}
+use Rattle.order_histories.proofs.Lists.{count-push, found-passes}
+use Rattle.order_histories.proofs.Texts.{eq-is, eq-true}
+use Rattle.orders.specs.Changes.{changed_by, opened_at, over_if, renamed, replaced_as, still_without}
+use Rattle.orders.specs.declared.change.Change.{Change}
+use Rattle.orders.specs.declared.change.Change.TheVariants as changes
+use Rattle.orders.specs.declared.order.ToldTrade.{ToldTrade}
+use Rattle.order_table.specs.Held.{IsNewest, is_counted}
+
+within : (m n : ℕ) → m ≤ n → nat_le m n ≡ true
+within m n few = grind (arith, nat_tests)
+
+-- the tokens that it has had, and that of its pending replace
+abbrev pub had : OrderRecord → ℕ
+had o = length o.tokens + length (option_to_list o.replace)
+
+abbrev count_of : List GivenToken → OrderRecord → ℕ
+count_of ts o = count_by (is_replacement_of o.new.order) ts
+
+pub counted-few : (ts : List GivenToken) (o : OrderRecord) → is_counted ts o ≡ true → had o ≤ 1 + count_of ts o
+counted-few ts o h = leb-true (had o) (1 + count_of ts o) h
+
+-- ---- lists
+
+both : (a b : Bool) → a ≡ true → b ≡ true → (a && b) ≡ true
+both a b x y = rw (x, y) refl
+
+pub all-at : {A : Type 0} (test : A → Bool) (xs : List A) (i : ℕ) (x : A) → list_all test xs ≡ true → slice_get xs i ≡ Some x → test x ≡ true
+all-at test [] i x all at_i = absurd (cc)
+all-at test (y ∷ ys) zero x all at_i = let same : y ≡ x = cc in ap test (sym same) ∙ (and_parts (test y) (list_all test ys) all).0
+all-at test (y ∷ ys) (suc i) x all at_i = all-at test ys i x (and_parts (test y) (list_all test ys) all).1 at_i
+
+all-set : {A : Type 0} (test : A → Bool) (xs : List A) (i : ℕ) (x : A) → list_all test xs ≡ true → test x ≡ true → list_all test (slice_set xs i x) ≡ true
+all-set test [] i x all passes = refl
+all-set test (y ∷ ys) zero x all passes = both (test x) (list_all test ys) passes (and_parts (test y) (list_all test ys) all).1
+all-set test (y ∷ ys) (suc i) x all passes =
+    both (test y) (list_all test (slice_set ys i x)) (and_parts (test y) (list_all test ys) all).0 (all-set test ys i x (and_parts (test y) (list_all test ys) all).1 passes)
+
+-- ---- a further token
+
+more_or_same : (b : Bool) (n : ℕ) → n ≤ n + (if b then 1 else 0)
+more_or_same true n = omega arith
+more_or_same false n = omega arith
+
+more-tokens : (ts : List GivenToken) (t : GivenToken) (o : OrderRecord) → count_of ts o ≤ count_of (ts ++ t ∷ []) o
+more-tokens ts t o = let pushed = count-push (is_replacement_of o.new.order) ts t in let more = more_or_same (is_replacement_of o.new.order t) (count_of ts o) in omega (arith, pushed, more)
+
+still-counted : (ts : List GivenToken) (t : GivenToken) (o : OrderRecord) → is_counted ts o ≡ true → is_counted (ts ++ t ∷ []) o ≡ true
+still-counted ts t o h = let few = counted-few ts o h in let more = more-tokens ts t o in within (had o) (1 + count_of (ts ++ t ∷ []) o) (omega (arith, few, more))
+
+all-more : (ts : List GivenToken) (t : GivenToken) (os : List OrderRecord) → list_all (is_counted ts) os ≡ true → list_all (is_counted (ts ++ t ∷ [])) os ≡ true
+all-more ts t [] all = refl
+all-more ts t (o ∷ os) all =
+    both (is_counted (ts ++ t ∷ []) o) (list_all (is_counted (ts ++ t ∷ [])) os) (still-counted ts t o (and_parts (is_counted ts o) (list_all (is_counted ts) os) all).0)
+    (all-more ts t os (and_parts (is_counted ts o) (list_all (is_counted ts) os) all).1)
+
+-- ---- what the table's calls leave
+
+-- one order more, and its token
+pub added : (ts : List GivenToken) (t : GivenToken) (os : List OrderRecord) (o : OrderRecord) → list_all (is_counted ts) os ≡ true → had o ≤ 1 → list_all (is_counted (ts ++ t ∷ [])) (os ++ o ∷ []) ≡ true
+added ts t os o all few =
+    list_all-append (is_counted (ts ++ t ∷ [])) os (o ∷ [])
+    ∙ both (list_all (is_counted (ts ++ t ∷ [])) os) (list_all (is_counted (ts ++ t ∷ [])) (o ∷ [])) (all-more ts t os all)
+    (both (is_counted (ts ++ t ∷ []) o) true (within (had o) (1 + count_of (ts ++ t ∷ []) o) (omega (arith, few))) refl)
+
+-- an order that has had no more tokens than the one in whose place it stands
+pub kept : (ts : List GivenToken) (os : List OrderRecord) (i : ℕ) (o p : OrderRecord) → list_all (is_counted ts) os ≡ true → slice_get os i ≡ Some o → p.new ≡ o.new → had p ≤ had o
+    → list_all (is_counted ts) (slice_set os i p) ≡ true
+kept ts os i o p all at_i same few =
+    let was = counted-few ts o (all-at (is_counted ts) os i o all at_i) in
+    let count : count_of ts p ≡ count_of ts o = ap (λ (e : Entry). count_by (is_replacement_of e.order) ts) same in
+    all-set (is_counted ts) os i p all (within (had p) (1 + count_of ts p) (omega (arith, was, few, count)))
+
+-- an order whose replace was given a token
+pub replacing : (ts : List GivenToken) (t : GivenToken) (os : List OrderRecord) (i : ℕ) (o p : OrderRecord) → list_all (is_counted ts) os ≡ true → slice_get os i ≡ Some o → p.new ≡ o.new
+    → is_replacement_of o.new.order t ≡ true → had p ≤ had o + 1 → list_all (is_counted (ts ++ t ∷ [])) (slice_set os i p) ≡ true
+replacing ts t os i o p all at_i same own few =
+    let was = counted-few ts o (all-at (is_counted ts) os i o all at_i) in
+    let pushed : count_of (ts ++ t ∷ []) o ≡ count_of ts o + 1 = count-push (is_replacement_of o.new.order) ts t ∙ ap (λ (b : Bool). count_of ts o + (if b then 1 else 0)) own in
+    let count : count_of (ts ++ t ∷ []) p ≡ count_of (ts ++ t ∷ []) o = ap (λ (e : Entry). count_by (is_replacement_of e.order) (ts ++ t ∷ [])) same in
+    all-set (is_counted (ts ++ t ∷ [])) os i p (all-more ts t os all) (within (had p) (1 + count_of (ts ++ t ∷ []) p) (omega (arith, was, few, count, pushed)))
+
+-- ---- what a change makes of it
+
+over-few : (b : Bool) (o : OrderRecord) → had (over_if b o) ≤ had o
+over-few true o = omega arith
+over-few false o = omega arith
+
+over-new : (b : Bool) (o : OrderRecord) → (over_if b o).new ≡ o.new
+over-new true o = refl
+over-new false o = refl
+
+replaced-few : (shares price : ℕ) (is_dead : Bool) (o : OrderRecord) (q : Option Entry) → o.replace ≡ q → had (replaced_as shares price is_dead o q) ≤ had o
+replaced-few shares price is_dead o None e = omega arith
+replaced-few shares price is_dead o (Some q) e =
+    let over = over-few is_dead (at (opened_at shares price (renamed q o)) None (still_without (live_token o) o.cancel)) in
+    let one : length (option_to_list o.replace) ≡ 1 = ap (λ (x : Option Entry). length (option_to_list x)) e in
+    omega (arith, over, one)
+
+replaced-new : (shares price : ℕ) (is_dead : Bool) (o : OrderRecord) (q : Option Entry) → (replaced_as shares price is_dead o q).new ≡ o.new
+replaced-new shares price is_dead o None = refl
+replaced-new shares price true o (Some q) = refl
+replaced-new shares price false o (Some q) = refl
+
+pub change-few : (change : Change) (o : OrderRecord) → had (changed_by change o) ≤ had o
+change-few (changes.Opened shares price is_dead) o = over-few is_dead (opened_at shares price o)
+change-few (changes.Replaced shares price is_dead) o = replaced-few shares price is_dead o o.replace refl
+change-few (changes.Canceled shares) o = by_rest (o.unfilled - shares == 0)
+  where
+    by_rest : (b : Bool) → had (if b then unasked (gone o) else reduced shares o) ≤ had o
+    by_rest true = omega arith
+    by_rest false = omega arith
+change-few (changes.Traded t) o = by_rest (o.unfilled - t.trade.shares == 0)
+  where
+    by_rest : (b : Bool) → had (if b then unasked (filled t.number t.trade o) else traded t.number t.trade o) ≤ had o
+    by_rest true = omega arith
+    by_rest false = omega arith
+change-few (changes.Broken t) o = omega arith
+change-few changes.Refused o = omega arith
+change-few (changes.NotReplaced token) o = omega arith
+change-few (changes.NotCanceled token) o = omega arith
+
+pub change-new : (change : Change) (o : OrderRecord) → (changed_by change o).new ≡ o.new
+change-new (changes.Opened shares price is_dead) o = over-new is_dead (opened_at shares price o)
+change-new (changes.Replaced shares price is_dead) o = replaced-new shares price is_dead o o.replace
+change-new (changes.Canceled shares) o = by_rest (o.unfilled - shares == 0)
+  where
+    by_rest : (b : Bool) → (if b then unasked (gone o) else reduced shares o).new ≡ o.new
+    by_rest true = refl
+    by_rest false = refl
+change-new (changes.Traded t) o = by_rest (o.unfilled - t.trade.shares == 0)
+  where
+    by_rest : (b : Bool) → (if b then unasked (filled t.number t.trade o) else traded t.number t.trade o).new ≡ o.new
+    by_rest true = refl
+    by_rest false = refl
+change-new (changes.Broken t) o = refl
+change-new changes.Refused o = refl
+change-new (changes.NotReplaced token) o = refl
+change-new (changes.NotCanceled token) o = refl
+
+-- ---- the order with an OrderID
+
+pub own-number : (order : List ℕ) (os : List OrderRecord) (i : ℕ) (o : OrderRecord) → IsNewest (has_number order) os i → slice_get os i ≡ Some o → o.new.order ≡ order
+own-number order os i o newest at_i = eq-is o.new.order order (found-passes (has_number order) (reverse os) o (newest.newest ∙ at_i))
+
+-- a token that a replace of it was given
+pub own-token : (order : List ℕ) (t : GivenToken) (o : OrderRecord) → o.new.order ≡ order → t.order ≡ order → t.is_replacement ≡ true → is_replacement_of o.new.order t ≡ true
+own-token order t o own of_order is_replacement = both (bytes_eq t.order o.new.order) t.is_replacement (eq-true t.order o.new.order (of_order ∙ sym own)) is_replacement
+
+-- a change that was made, or that memory ran out of
+pub either-way : {E : Type 0} (r : Result (Unit {0}) E) (change : Change) (o p : OrderRecord) → IfOk r (λ nothing. p ≡ changed_by change o) → OnErr r (p ≡ o) → (p.new ≡ o.new) × (had p ≤ had o)
+either-way (Ok nothing) change o p done err = (ap (λ (x : OrderRecord). x.new) done ∙ change-new change o, rw done (change-few change o))
+either-way (Err e) change o p done err = (ap (λ (x : OrderRecord). x.new) err, rw err (omega arith))

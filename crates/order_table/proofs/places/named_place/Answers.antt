@@ -1,0 +1,10 @@
+use Rattle.std.proofs.Common.{rules}
+use Rattle.order_histories.specs.Table as table
+use Rattle.order_table.proofs.Newest.{newest-at, newest-none}
+use Rattle.order_table.proofs.places.named_place.Goals as goal
+
+pub returns-in-None : goal.returns-in-None
+returns-in-None c = newest-none (table.is_named c.args.client c.args.id.now) c.args.orders.now (search rules)
+
+pub returns-in-Some : goal.returns-in-Some
+returns-in-Some c = (newest-at (table.is_named c.args.client c.args.id.now) c.args.orders.now c.in-Some.behind (search rules)).1

@@ -1,0 +1,12 @@
+use Rattle.std.proofs.Common.{decimal, sym, ap, ◌∙◌}
+use Rattle.std.specs.List.{count_by}
+use Rattle.order_histories.specs.Table.{is_replacement_of}
+use Rattle.order_table.specs.Held.{Held}
+use Rattle.order_table.proofs.Newest.{count-reverse}
+use Rattle.order_table.proofs.table.Table.replace_count.Goals as goal
+
+pub returns : goal.returns
+returns c =
+    c.count_replacements.ensures ∙ ap (count_by (is_replacement_of (decimal c.args.order_id))) c.deref.ensures.value
+    ∙ sym (count-reverse (is_replacement_of (decimal c.args.order_id)) c.self.inside.tokens.items)
+    ∙ ap (λ (h : Held). count_by (is_replacement_of (decimal c.args.order_id)) h.tokens) c.self.view_is
