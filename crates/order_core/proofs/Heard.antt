@@ -1,11 +1,14 @@
 -- What a payload comes to, and what is given of it.
-use Rattle.std.proofs.Common.{◌≡◌, ℕ, ◌+◌, List, [], map, sym, ap, ◌∙◌, Option, Some, None, decimal}
+use Rattle.std.proofs.Common.{◌≡◌, ℕ, ◌+◌, ◌≤◌, Bool, true, false, List, [], ◌∷◌, length, map, refl, sym, ap, ◌∙◌, arith, Option, Some, None, decimal}
+use Rattle.std.specs.Prelude.{if◌then◌else◌}
+use Rattle.fix_types.specs.declared.application.AppBody.{AppBody}
 use Rattle.std.specs.List.{count_by}
 use Rattle.order_law.specs.Reading.{is_report}
 use Rattle.order_law.specs.Told.{to_client_of}
 use Rattle.order_histories.specs.OrderRecord.{OrderRecord}
 use Rattle.order_histories.specs.Table.{State, by_number, put}
 use Rattle.order_histories.specs.Machine.{Given, market_step, silent}
+use Rattle.order_histories.proofs.Executed.{count-more}
 use Rattle.orders.specs.Changes.{changed_by}
 use Rattle.order_table.specs.Held.{Held}
 use Rattle.to_client.specs.Pending.{body_fields}
@@ -13,7 +16,7 @@ use Rattle.market_rows.specs.declared.heard.Heard.{Heard}
 use Rattle.market_turns.specs.Turns.{IsTold}
 use Rattle.order_core.specs.declared.outcome.MarketOut.{MarketOut}
 use Rattle.order_core.specs.Meets.{GivesMarket}
-use Rattle.order_core.specs.Seen.{client_seen}
+use Rattle.order_core.specs.Seen.{client_seen, tells_report}
 
 -- where nothing comes of it
 pub silent-meets : (old : State) (port : ℕ) (m : List ℕ) (out : MarketOut) → out.client ≡ None → out.bodies.items ≡ [] → market_step old port m ≡ silent old → GivesMarket (market_step old port m) out old
@@ -40,3 +43,12 @@ module _ (old : State) (port : ℕ) (m : List ℕ) (order_id client : ℕ) (h : 
 
 pub same_order : (o p : OrderRecord) → ◌≡◌ {A = Option OrderRecord} (Some o) (Some p) → o ≡ p
 same_order o p e = cc
+
+-- the reports among bodies are those among their fields
+pub reports-same : (bs : List AppBody) → count_by tells_report bs ≡ count_by is_report (map body_fields bs)
+unfolding tells_report
+reports-same [] = refl
+reports-same (b ∷ bs) =
+    count-more tells_report b bs
+    ∙ ap (λ (n : ℕ). (if is_report (body_fields b) then 1 else 0) + n) (reports-same bs)
+    ∙ sym (count-more is_report (body_fields b) (map body_fields bs))

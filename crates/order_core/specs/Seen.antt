@@ -1,6 +1,9 @@
 -- How the code's values are seen by the law.
-use Rattle.std.specs.Prelude.{ℕ, Option, Some, None}
+use Rattle.std.specs.Prelude.{ℕ, Bool, Option, Some, None}
+use Rattle.fix_types.specs.declared.application.AppBody.{AppBody}
+use Rattle.order_law.specs.Reading.{is_report}
 use Rattle.order_law.specs.History.{Terms}
+use Rattle.to_client.specs.Pending.{body_fields}
 use Rattle.to_market.specs.declared.client_terms.ClientTerms.{ClientTerms}
 
 abbrev pub terms_seen : ClientTerms → Terms
@@ -10,3 +13,7 @@ terms_seen terms = record { port = terms.port; capacity = terms.capacity; standi
 abbrev pub client_seen : Option ℕ → ℕ
 client_seen None = 0
 client_seen (Some client) = client
+
+-- a body is a report, which has an ExecID
+unfoldable pub tells_report : AppBody → Bool
+tells_report body = is_report (body_fields body)

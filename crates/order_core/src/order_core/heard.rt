@@ -3,10 +3,9 @@
 ghost use Rattle.std.specs.Prelude.{◌≡◌, ◌≤◌, ◌+◌, ◌<◌, ◌^◌, ◌∷◌, [], List, length, map, IfOk, OnErr};
 ghost use Rattle.std.specs.List.{count_by};
 ghost use Rattle.order_law.specs.History.{Entry};
-ghost use Rattle.order_law.specs.Reading as law;
 ghost use Rattle.order_law.specs.Told.{to_client_of};
 ghost use Rattle.to_client.specs.Pending.{body_fields};
-ghost use Rattle.order_core.specs.Seen.{client_seen};
+ghost use Rattle.order_core.specs.Seen.{client_seen, tells_report};
 
 use super::OrderCore;
 use crate::market_error::MarketError;
@@ -66,15 +65,20 @@ fn told_client(client: u16, bodies: &[AppBody]) -> Option<u16>
 
 /// How many of these bodies are reports, which have ExecIDs.
 fn report_count(bodies: &[AppBody]) -> usize
-    ensures count { result ≡ count_by law.is_report (map body_fields bodies.now) }
+    ensures count { result ≡ count_by tells_report bodies.now }
     ensures few { result ≤ length bodies.now }
 {
-    bodies.iter().filter(|body| is_report(body)).count()
+    let [body, rest @ ..] = bodies else {
+        return 0;
+    };
+    let behind = report_count(rest);
+    if is_report(body) { 1 + behind } else { behind }
 }
 
 /// Whether a body is a report.
+#[tactic(auto, unfolding(crate::specs::Seen::tells_report))]
 fn is_report(body: &AppBody) -> bool
-    ensures { result ≡ law.is_report (body_fields body.now) }
+    ensures { result ≡ tells_report body.now }
 {
     match body {
         AppBody::Report(_) => true,
