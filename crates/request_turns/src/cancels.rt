@@ -149,10 +149,10 @@ fn cancels_of(alloc: Global, order: &Order) -> Result<Vec<Inbound>, AllocError>
 {
     let live = say_cancel(&order.token);
     match &order.replace {
-        None => vec![in alloc; Inbound::Cancel(live)],
+        None => Ok(vec![in alloc; Inbound::Cancel(live)]?),
         Some(replacing) => {
             let next = say_cancel(&replacing.token);
-            vec![in alloc; Inbound::Cancel(live), Inbound::Cancel(next)]
+            Ok(vec![in alloc; Inbound::Cancel(live), Inbound::Cancel(next)]?)
         }
     }
 }

@@ -145,7 +145,7 @@ fn replaces_sent(
     match port {
         PortState::Up => {
             let message = say_replace(ask, &order.token);
-            vec![in alloc; Inbound::Replace(message)]
+            Ok(vec![in alloc; Inbound::Replace(message)]?)
         }
         PortState::Waiting | PortState::Ended | PortState::Faulted(_) => Ok(Vec::new(alloc)),
     }
