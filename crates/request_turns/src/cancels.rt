@@ -1,6 +1,6 @@
 //! A cancel of a client.
 
-ghost use Rattle.std.specs.Prelude.{◌≡◌, ◌<◌, ◌^◌, ◌∷◌, [], ℕ, List, Option, Some, None, IfOk, codes, decimal, map, option_to_list};
+ghost use Rattle.std.specs.Prelude.{◌≡◌, ◌<◌, ◌^◌, ◌∷◌, ℕ, List, Option, Some, None, IfOk, codes, map, option_to_list};
 ghost use Rattle.fix_types.specs.CancelRequest.{cancel_request_fields};
 ghost use Rattle.ouch_codec.specs.Inbound.{inbound_bytes};
 ghost use Rattle.order_law.specs.Asks.{Standing};

@@ -3,7 +3,6 @@
 ghost use Rattle.std.specs.Prelude.{◌≡◌, unwrap_or};
 ghost use Rattle.std.specs.List.{count_by};
 ghost use Rattle.order_law.specs.History.{terms_of};
-ghost use Rattle.order_histories.specs.Machine as machine;
 ghost use Rattle.order_histories.specs.OrderRecord.{shown_as};
 ghost use Rattle.order_histories.specs.Table.{State, is_replacement_of, named_as};
 ghost use Rattle.to_client.specs.Shows.{ShowsAs};

@@ -1,15 +1,13 @@
 //! A replace of a client.
 
-ghost use Rattle.std.specs.Prelude.{◌≡◌, ◌+◌, ◌<◌, ◌^◌, ◌∷◌, [], ℕ, List, Option, Some, None, IfOk, codes, decimal, length, map};
-ghost use Rattle.std.specs.List.{count_by};
+ghost use Rattle.std.specs.Prelude.{◌≡◌, ◌+◌, ◌<◌, ◌^◌, ℕ, List, Option, Some, None, IfOk, length, map};
 ghost use Rattle.fix_types.specs.ReplaceRequest.{replace_request_fields};
 ghost use Rattle.ouch_codec.specs.Inbound.{inbound_bytes};
 ghost use Rattle.tokens.specs.TokenText.{token_text};
 ghost use Rattle.order_law.specs.Asks.{Standing};
 ghost use Rattle.order_law.specs.Headline.{Each, Says, Sends};
 ghost use Rattle.order_law.specs.Messages.{Message, text};
-ghost use Rattle.order_histories.specs.OrderRecord.{live_token};
-ghost use Rattle.order_histories.specs.Table.{State, is_replacement_of};
+ghost use Rattle.order_histories.specs.Table.{State};
 ghost use Rattle.order_table.specs.Held.{named};
 ghost use Rattle.to_market.specs.PortsSeen.{port_seen};
 ghost use Rattle.to_market.specs.RequestAsks.{AsksToReplace};

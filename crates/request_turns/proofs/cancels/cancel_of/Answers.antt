@@ -4,7 +4,7 @@ use Rattle.fix_types.specs.CancelRequest.{cancel_request_fields}
 use Rattle.order_histories.specs.OrderRecord.{OrderRecord, shown_as}
 use Rattle.order_histories.specs.Table.{named_as}
 use Rattle.to_market.specs.PortsSeen.{port_seen}
-use Rattle.request_turns.proofs.Standing.{capacity-in, named-in, replaces-in}
+use Rattle.request_turns.proofs.Standing.{named-in, read-in}
 use Rattle.request_turns.proofs.Steps.{refused-in, verdict-is}
 use Rattle.request_turns.proofs.cancels.cancel_of.Goals as goal
 
@@ -16,9 +16,7 @@ returns-in_ok-body-in-Err c = λ s stands.
     let held = c.args.table.now in
     let of_order : o.new.order ≡ decimal c.order.inside.order_id = ap (λ (x : OrderRecord). x.new.order) (sym c.order.view_is) in
     let named = named-in s c.args.issued sender held r.cl_ord_id c.args.is_used r.orig_cl_ord_id (Some o) stands c.requires.named in
-    let reads = c.named_of.ensures s
-    (capacity-in s c.args.issued sender held r.cl_ord_id c.args.is_used r.orig_cl_ord_id o stands named)
-    (replaces-in s c.args.issued sender held r.cl_ord_id c.args.is_used o c.order.inside.order_id c.replace_count-replaces.result stands of_order c.replace_count-replaces.ensures) in
+    let reads = read-in s c.args.issued sender held r.cl_ord_id c.args.is_used r.orig_cl_ord_id o c.order.inside.order_id c.replace_count-replaces.result c.named_of.result stands named of_order c.replace_count-replaces.ensures c.named_of.ensures in
     refused-in s sender (cancel_request_fields r) (Some o) c.in-Err.refusal c.in_ok-body-in-Err.body refl named
     (verdict-is s sender.client (cancel_request_fields r) (port_seen sender.port) c.args.is_used (Some o) refl stands.used named
     ∙ c.in-Err.ensures (cancel_request_fields r) (Some (named_as s o)) (length s.tokens) refl reads)
@@ -34,9 +32,7 @@ returns-in-Ok c =
     let held = c.args.table.now in
     let of_order : o.new.order ≡ decimal c.order.inside.order_id = ap (λ (x : OrderRecord). x.new.order) (sym c.order.view_is) in
     let named = named-in s c.args.issued sender held r.cl_ord_id c.args.is_used r.orig_cl_ord_id (Some o) stands c.requires.named in
-    let reads = c.named_of.ensures s
-    (capacity-in s c.args.issued sender held r.cl_ord_id c.args.is_used r.orig_cl_ord_id o stands named)
-    (replaces-in s c.args.issued sender held r.cl_ord_id c.args.is_used o c.order.inside.order_id c.replace_count-replaces.result stands of_order c.replace_count-replaces.ensures) in
+    let reads = read-in s c.args.issued sender held r.cl_ord_id c.args.is_used r.orig_cl_ord_id o c.order.inside.order_id c.replace_count-replaces.result c.named_of.result stands named of_order c.replace_count-replaces.ensures c.named_of.ensures in
     accepts s (record {
       reports = stands.reports;
       named = named;

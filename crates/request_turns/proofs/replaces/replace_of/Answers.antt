@@ -1,11 +1,11 @@
-use Rattle.std.proofs.Common.{◌≡◌, ◌<◌, ℕ, List, refl, sym, ap, ◌∙◌, subst, length, decimal, Some}
+use Rattle.std.proofs.Common.{◌≡◌, ◌<◌, ℕ, refl, sym, ap, ◌∙◌, subst, decimal, Some}
 use Rattle.std.proofs.lemmas.Result.{IfOk-weaker}
 use Rattle.fix_types.specs.ReplaceRequest.{replace_request_fields}
 use Rattle.order_histories.specs.OrderRecord.{OrderRecord, shown_as}
-use Rattle.order_histories.specs.Table.{GivenToken, named_as}
+use Rattle.order_histories.specs.Table.{named_as}
 use Rattle.order_law.specs.Verdicts.{first_row, rows_of_request}
 use Rattle.to_market.specs.PortsSeen.{port_seen}
-use Rattle.request_turns.proofs.Standing.{capacity-in, named-in, replaces-in}
+use Rattle.request_turns.proofs.Standing.{given-in, named-in, read-in}
 use Rattle.request_turns.proofs.Steps.{refused-in, verdict-is}
 use Rattle.request_turns.proofs.replaces.replace_of.Goals as goal
 
@@ -17,10 +17,8 @@ returns-in_ok-body-in-Err c = λ s stands.
     let held = c.args.table.now in
     let of_order : o.new.order ≡ decimal c.order.inside.order_id = ap (λ (x : OrderRecord). x.new.order) (sym c.order.view_is) in
     let named = named-in s c.args.issued sender held r.cl_ord_id c.args.is_used r.orig_cl_ord_id (Some o) stands c.requires.named in
-    let reads = c.named_of.ensures s
-    (capacity-in s c.args.issued sender held r.cl_ord_id c.args.is_used r.orig_cl_ord_id o stands named)
-    (replaces-in s c.args.issued sender held r.cl_ord_id c.args.is_used o c.order.inside.order_id c.replace_count-replaces.result stands of_order c.replace_count-replaces.ensures) in
-    let given : length s.tokens ≡ c.token_count-given.result = ap (λ (ts : List GivenToken). length ts) stands.tokens ∙ sym c.token_count-given.ensures in
+    let reads = read-in s c.args.issued sender held r.cl_ord_id c.args.is_used r.orig_cl_ord_id o c.order.inside.order_id c.replace_count-replaces.result c.named_of.result stands named of_order c.replace_count-replaces.ensures c.named_of.ensures in
+    let given = given-in s c.args.issued sender held r.cl_ord_id c.args.is_used c.token_count-given.result stands c.token_count-given.ensures in
     refused-in s sender (replace_request_fields r) (Some o) c.in-Err.refusal c.in_ok-body-in-Err.body refl named
     (verdict-is s sender.client (replace_request_fields r) (port_seen sender.port) c.args.is_used (Some o) refl stands.used named
     ∙ ap (λ (n : ℕ). first_row (rows_of_request c.args.is_used (Some (named_as s o)) (port_seen sender.port) n (replace_request_fields r))) given
@@ -37,10 +35,8 @@ returns-in-Ok c =
     let held = c.args.table.now in
     let of_order : o.new.order ≡ decimal c.order.inside.order_id = ap (λ (x : OrderRecord). x.new.order) (sym c.order.view_is) in
     let named = named-in s c.args.issued sender held r.cl_ord_id c.args.is_used r.orig_cl_ord_id (Some o) stands c.requires.named in
-    let reads = c.named_of.ensures s
-    (capacity-in s c.args.issued sender held r.cl_ord_id c.args.is_used r.orig_cl_ord_id o stands named)
-    (replaces-in s c.args.issued sender held r.cl_ord_id c.args.is_used o c.order.inside.order_id c.replace_count-replaces.result stands of_order c.replace_count-replaces.ensures) in
-    let given : length s.tokens ≡ c.token_count-given.result = ap (λ (ts : List GivenToken). length ts) stands.tokens ∙ sym c.token_count-given.ensures in
+    let reads = read-in s c.args.issued sender held r.cl_ord_id c.args.is_used r.orig_cl_ord_id o c.order.inside.order_id c.replace_count-replaces.result c.named_of.result stands named of_order c.replace_count-replaces.ensures c.named_of.ensures in
+    let given = given-in s c.args.issued sender held r.cl_ord_id c.args.is_used c.token_count-given.result stands c.token_count-given.ensures in
     accepts s (record {
       reports = stands.reports;
       named = named;
