@@ -13,7 +13,7 @@ use Rattle.to_market.specs.declared.client_terms.ClientTerms.{ClientTerms}
 use Rattle.to_market.specs.declared.new_ask.NewAsk.{NewAsk}
 use Rattle.order_core.specs.Meets.{AsksNext}
 use Rattle.to_market.specs.NewAsks.{AsksAs, asked_with, enter_bytes, standing_of}
-use Rattle.order_core.specs.Seen.{terms_seen}
+use Rattle.to_market.specs.TermsSeen.{terms_seen}
 
 -- where nothing is asked, nothing is sent, however the port stands
 pub nothing_sent : (port : Port) (P : Asked → List ℕ → Type 0) → Sends port P [] []

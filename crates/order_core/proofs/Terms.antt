@@ -4,7 +4,7 @@ use Rattle.std.proofs.lemmas.Bool.Decides.{nat_tests}
 use Rattle.std.specs.Prelude.{Option, Some, slice_get, unwrap_or, ◌==◌}
 use Rattle.order_law.specs.History.{terms_of}
 use Rattle.to_market.specs.declared.client_terms.ClientTerms.{ClientTerms}
-use Rattle.order_core.specs.Seen.{terms_seen}
+use Rattle.to_market.specs.TermsSeen.{terms_seen}
 
 at_place : (ts : List ClientTerms) (k : ℕ) (t : ClientTerms) → slice_get ts k ≡ Some t → terms_of (map terms_seen ts) (k + 1) ≡ terms_seen t
 at_place [] k t e = absurd cc

@@ -2,12 +2,7 @@
 use Rattle.std.specs.Prelude.{ℕ, Bool, Option, Some, None}
 use Rattle.fix_types.specs.declared.application.AppBody.{AppBody}
 use Rattle.order_law.specs.Reading.{is_report}
-use Rattle.order_law.specs.History.{Terms}
 use Rattle.to_client.specs.Pending.{body_fields}
-use Rattle.to_market.specs.declared.client_terms.ClientTerms.{ClientTerms}
-
-abbrev pub terms_seen : ClientTerms → Terms
-terms_seen terms = record { port = terms.port; capacity = terms.capacity; standing = record { firm = terms.firm; customer = terms.customer } }
 
 -- a client's number, 0 for nobody
 abbrev pub client_seen : Option ℕ → ℕ

@@ -32,7 +32,7 @@ pub struct OrderCore {
 impl Model for OrderCore {
     ghost use Rattle.std.specs.Prelude.{map};
     ghost use Rattle.order_histories.specs.Table as record_of;
-    ghost use Rattle.order_core.specs.Seen.{terms_seen};
+    ghost use Rattle.to_market.specs.TermsSeen.{terms_seen};
 
     ghost Value = { record_of.State };
 
@@ -53,7 +53,7 @@ impl OrderCore {
     ghost use Rattle.order_histories.specs.Machine.{market_step};
     ghost use Rattle.order_histories.specs.Runs.{Leaves};
     ghost use Rattle.to_market.specs.PortsSeen.{port_seen};
-    ghost use Rattle.order_core.specs.Seen.{terms_seen};
+    ghost use Rattle.to_market.specs.TermsSeen.{terms_seen};
     ghost use Rattle.order_core.specs.Meets.{MeetsMarket, MeetsMessage};
     ghost use Rattle.order_core.specs.State.{clients, IsClient, issued, HasRoom};
     ghost use Rattle.order_core.specs.Turns.{OfTurn, client_turn, is_served_message};

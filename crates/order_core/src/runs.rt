@@ -6,7 +6,7 @@ ghost use Rattle.order_law.specs.History.{Came, Heard, History, Terms};
 ghost use Rattle.order_histories.specs.Runs.{IsRun, Leaves};
 ghost use Rattle.order_core.specs.Runs.{AreKnown, AreServed, IsPassed, history, is_known, is_served, outcome_turn, sender, turn_of};
 ghost use Rattle.to_market.specs.PortsSeen.{port_seen};
-ghost use Rattle.order_core.specs.Seen.{terms_seen};
+ghost use Rattle.to_market.specs.TermsSeen.{terms_seen};
 ghost use Rattle.order_core.specs.State.{clients, issued, HasRoom, IsClient};
 ghost use Rattle.order_core.specs.Turns.{is_served_message, message_fields};
 

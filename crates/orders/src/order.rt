@@ -7,6 +7,7 @@ ghost use Rattle.order_law.specs.Asks.{total_of};
 ghost use Rattle.order_histories.specs.OrderRecord.{OrderRecord};
 ghost use Rattle.orders.specs.Changes.{over_if, with_quantities};
 ghost use Rattle.orders.specs.Seen.{progressed};
+ghost use Rattle.wire_law.specs.Printable.{ArePrintable};
 
 use crate::change::Change;
 use crate::earlier::{is_among, push_earlier};
@@ -49,6 +50,7 @@ pub struct Order {
     /// The pending replace of it, and the pending cancel, which was accepted after it.
     pub replace: Option<Replacing>,
     pub cancel: Option<Cancelling>,
+    ghost token_set: { ArePrintable token },
     ghost trades_set: { progress.stage ≡ Waiting → trades.items ≡ [] },
     ghost counted: { progress.tokens ≤ 1 + length earlier.items },
     ghost total_set: { progress.stage ≡ Waiting → progress.total ≡ total_of (new_order_fields message) },

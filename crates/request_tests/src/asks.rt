@@ -5,7 +5,6 @@ use fix_fields::Text;
 use fix_values::Character;
 use std::test::Fail;
 use to_market::{NamedOrder, PortState, ask_of_replace, refuse_cancel, say_cancel, say_replace};
-use tokens::Token;
 use wire_law::FixedWire;
 
 /// An order in the book with 100 shares executed.
@@ -34,7 +33,7 @@ fn a_replace_is_asked(rt: HostRuntime) -> Result<(), Fail> {
     let ask = ask_of_replace(&replace, false, &order, PortState::Waiting, 1)
         .ok()
         .ok_or("it is accepted")?;
-    let message = say_replace(&ask, Token::of(1)?);
+    let message = say_replace(&ask, b"G0000000000001");
     let mut bytes = [0u8; 47];
     message.put(&mut bytes);
     assert_eq!(rt;
@@ -64,7 +63,7 @@ fn a_replace_of_no_more_than_is_executed(rt: HostRuntime) -> Result<(), Fail> {
 #[test]
 fn a_cancel_is_asked(rt: HostRuntime) -> Result<(), Fail> {
     let mut bytes = [0u8; 19];
-    say_cancel(Token::of(2)?).put(&mut bytes);
+    say_cancel(b"G0000000000002").put(&mut bytes);
     assert_eq!(rt;
         bytes.as_slice(),
         b"XG0000000000002\x00\x00\x00\x00".as_slice()

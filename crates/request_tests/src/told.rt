@@ -3,7 +3,7 @@
 use crate::given::{cancel, new_order, replace, text};
 use fix_fields::Text;
 use fix_types::NewOrder;
-use order_table::Progress;
+use orders::Progress;
 use std::test::Fail;
 use to_client::{Request, Shown, cancel_reject, report_canceled, report_pending, report_replaced};
 use wire_law::TextWire;

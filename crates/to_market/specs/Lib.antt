@@ -4,3 +4,4 @@ pub mod NewAsks
 pub mod PortsSeen
 pub mod Names
 pub mod RequestAsks
+pub mod TermsSeen

@@ -1,6 +1,6 @@
 //! What a cancel or a replace of an order asks, in the market's words, or the first reason why it can't be asked.
 
-ghost use Rattle.std.specs.Prelude.{◌≡◌, ℕ, ◌+◌, ◌||◌, List, ◌∷◌, [], Bool, Option, true, false, nat_le, codes, Some, IfOk, MatchResult};
+ghost use Rattle.std.specs.Prelude.{◌≡◌, ℕ, ◌+◌, ◌<◌, ◌||◌, List, ◌∷◌, [], Bool, Option, true, false, nat_le, codes, Some, IfOk, MatchResult};
 ghost use Rattle.std.specs.Str.Parse.{digits_value};
 ghost use Rattle.tokens.specs.TokenText.{token_text};
 ghost use Rattle.fix_types.specs.ReplaceRequest.{replace_request_fields};
@@ -9,10 +9,12 @@ ghost use Rattle.order_law.specs.Asks.{Standing};
 ghost use Rattle.order_law.specs.Headline.{Says};
 ghost use Rattle.order_law.specs.Messages.{Message, text};
 ghost use Rattle.order_law.specs.Verdicts.{Accepted, Named, Port, first_row, is_replace, last_token, port_rows, rows_of_request};
+ghost use Rattle.to_market.specs.declared.named_order.NamedOrder.{NamedOrder};
 ghost use Rattle.to_market.specs.FieldRows.{is_other};
 ghost use Rattle.to_market.specs.Names.{HasRead, IsRead, ReachesTerms, changes_terms};
 ghost use Rattle.to_market.specs.PortsSeen.{port_seen};
 ghost use Rattle.to_market.specs.Refusals.{Decides, refused_by};
+ghost use Rattle.wire_law.specs.Printable.{ArePrintable};
 ghost use Rattle.to_market.specs.RequestAsks.{AsksToReplace, cancel_asked_with, cancel_bytes, replace_asked_with, replace_bytes};
 
 use crate::asking::refuse_if;
@@ -52,7 +54,8 @@ pub fn refuse_cancel(
 }
 
 /// What a replace asks, or the first of the table's rows that refuses it. `given` tokens were given so far; it takes
-/// the next one. The rest is as of `refuse_cancel`.
+/// the next one. What is taken has room: fewer than 65,535 replaces of its order were accepted. The rest is as of
+/// `refuse_cancel`.
 ///
 /// Source: FIX 4.4 Volume 4, "Order Cancel/Replace Request".
 pub fn ask_of_replace(
@@ -66,6 +69,7 @@ pub fn ask_of_replace(
         → Decides result (first_row (rows_of_request is_used n (port_seen port) given (replace_request_fields request.now))) }
     ensures asks { IfOk result (λ ask. AsksToReplace ask (replace_request_fields request.now)) }
     ensures token { IfOk result (λ ask. ask.token ≡ token_text (given + 1)) }
+    ensures room { IfOk result (λ ask. (o : NamedOrder) → order.now ≡ Some o → o.replaces < 65_535) }
 {
     refuse_if(is_used, Refusal::DuplicateClOrdId)?;
     let Some(order) = order else {
@@ -87,6 +91,7 @@ fn change_of(
         → Decides result (first_row (rows_of_request is_used (Some n) port given (replace_request_fields request.now))) }
     ensures asks { IfOk result (λ ask. AsksToReplace ask (replace_request_fields request.now)) }
     ensures token { IfOk result (λ ask. ask.token ≡ token_text (given + 1)) }
+    ensures room { IfOk result (λ ask. order.now.replaces < 65_535) }
 {
     refuse_if(has_other_terms(request, order), Refusal::OtherTerms)?;
     refuse_if(request.ord_type.byte() != LIMIT, Refusal::OrderType)?;
@@ -109,18 +114,19 @@ fn change_of(
     })
 }
 
-/// The message that asks a replace of the order that goes by `live`: it says the total, not what is open.
+/// The message that asks a replace of the order that goes by `live`, a token: it says the total, not what is open.
 ///
 /// Source: OUCH 4.2, "Replace Order Message".
-pub fn say_replace(ask: &ReplaceAsk, live: Token) -> Replace
-    ensures token { result.token ≡ live }
+pub fn say_replace(ask: &ReplaceAsk, live: &[u8; 14]) -> Replace
+    requires { ArePrintable live.now }
+    ensures token { result.token ≡ live.now }
     ensures replacement { result.replacement_token ≡ ask.now.token }
     ensures says { (m : Message) → AsksToReplace ask.now m → (order : List ℕ) (standing : Standing) (order_of : List ℕ → Option ℕ)
-        → order_of live ≡ Some (digits_value 10 order)
-        → Says standing order_of (replace_asked_with order live ask.now.token m) (replace_bytes result) }
+        → order_of live.now ≡ Some (digits_value 10 order)
+        → Says standing order_of (replace_asked_with order live.now ask.now.token m) (replace_bytes result) }
 {
     Replace {
-        token: live.bytes(),
+        token: *live,
         replacement_token: ask.token.bytes(),
         shares: ask.shares.count(),
         price: ask.price.units(),
@@ -134,14 +140,15 @@ pub fn say_replace(ask: &ReplaceAsk, live: Token) -> Replace
 /// The message that asks that nothing more is executed under a token: that an order goes by, or is to go by.
 ///
 /// Source: OUCH 4.2, "Cancel Order Message".
-pub fn say_cancel(token: Token) -> Cancel
-    ensures token { result.token ≡ token }
+pub fn say_cancel(token: &[u8; 14]) -> Cancel
+    requires { ArePrintable token.now }
+    ensures token { result.token ≡ token.now }
     ensures says { (m : Message) → text 35 m ≡ codes "F" → (order : List ℕ) (standing : Standing) (order_of : List ℕ → Option ℕ)
-        → order_of token ≡ Some (digits_value 10 order)
-        → Says standing order_of (cancel_asked_with order token m) (cancel_bytes result) }
+        → order_of token.now ≡ Some (digits_value 10 order)
+        → Says standing order_of (cancel_asked_with order token.now m) (cancel_bytes result) }
 {
     Cancel {
-        token: token.bytes(),
+        token: *token,
         shares: 0,
     }
 }

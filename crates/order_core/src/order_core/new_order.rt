@@ -10,7 +10,7 @@ ghost use Rattle.order_law.specs.History.{Asked, terms_of};
 ghost use Rattle.order_law.specs.Verdicts.{last_token};
 ghost use Rattle.to_market.specs.NewAsks.{enter_bytes};
 ghost use Rattle.to_market.specs.PortsSeen.{port_seen};
-ghost use Rattle.order_core.specs.Seen.{terms_seen};
+ghost use Rattle.to_market.specs.TermsSeen.{terms_seen};
 
 use super::OrderCore;
 use crate::outcome::CoreOut;
@@ -38,7 +38,7 @@ impl OrderCore {
     ghost use Rattle.order_core.specs.Meets.{AsksNext, GivesClient, MeetsNew};
     ghost use Rattle.to_market.specs.Refusals.{code_of, refused_by, words_of};
     ghost use Rattle.to_market.specs.PortsSeen.{port_seen};
-    ghost use Rattle.order_core.specs.Seen.{terms_seen};
+    ghost use Rattle.to_market.specs.TermsSeen.{terms_seen};
     ghost use Rattle.order_core.specs.State.{clients, IsClient, issued, HasRoom};
 
     /// A new order of a client.

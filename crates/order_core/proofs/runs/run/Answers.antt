@@ -2,7 +2,7 @@ use Rattle.std.proofs.Common.{[], length, take, map, sym, subst, ap, ◌∙◌, 
 use Rattle.order_law.specs.History.{History}
 use Rattle.order_histories.specs.Runs.{Leaves}
 use Rattle.order_core.specs.Runs.{history, is_known, is_served}
-use Rattle.order_core.specs.Seen.{terms_seen}
+use Rattle.to_market.specs.TermsSeen.{terms_seen}
 use Rattle.order_core.proofs.Histories.{history-more, length-onto, passes-at}
 use Rattle.order_core.proofs.runs.run.Goals as goal
 

@@ -1,7 +1,7 @@
 use Rattle.std.proofs.Common.{◌≡◌, ◌≤◌, ◌*◌, take, length, map}
 use Rattle.order_histories.specs.Runs.{Leaves}
 use Rattle.order_core.specs.Runs.{AreServed, history}
-use Rattle.order_core.specs.Seen.{terms_seen}
+use Rattle.to_market.specs.TermsSeen.{terms_seen}
 use Rattle.order_core.specs.State.{clients, issued}
 use Rattle.order_core.proofs.runs.run.Given as goal
 

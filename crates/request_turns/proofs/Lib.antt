@@ -1,0 +1,5 @@
+pub mod Standing
+pub mod Steps
+pub mod Sending
+pub mod Cancelling
+pub mod Replacing

@@ -1,0 +1,20 @@
+//! What a cancel or a replace of a client comes to on the table of orders: the row that refuses it, or what is kept,
+//! reported and asked of the market.
+//!
+//! `on_cancel` and `on_replace` change nothing: their caller puts what is kept into the table.
+//!
+//! Source: FIX 4.4 Volume 4, "Order Cancel Request", "Order Cancel/Replace Request"; OUCH 4.2, "Cancel Order Message",
+//! "Replace Order Message".
+#![tactic(auto)]
+
+mod cancels;
+mod named;
+mod refusing;
+mod replaces;
+mod sender;
+mod turns;
+
+pub use cancels::on_cancel;
+pub use replaces::on_replace;
+pub use sender::Sender;
+pub use turns::{CancelTurn, ReplaceTurn};

@@ -1,0 +1,42 @@
+//! What a cancel or a replace comes to.
+
+use fix_types::AppBody;
+use order_table::GivenToken;
+use orders::{Cancelling, Replacing};
+use ouch_codec::Inbound;
+
+/// What a cancel comes to.
+#[derive(Drop)]
+pub enum CancelTurn {
+    /// It is refused, in one reject: the order that it names stays as it is.
+    Refused(AppBody),
+    /// It is pending, which one report says.
+    Accepted {
+        /// OrderID (37) of its order.
+        order_id: u64,
+        /// What the order keeps of it.
+        cancelling: Cancelling,
+        body: AppBody,
+        /// What goes to the market now: nothing where the port isn't up.
+        sends: Vec<Inbound>,
+    },
+}
+
+/// What a replace comes to.
+#[derive(Drop)]
+pub enum ReplaceTurn {
+    /// It is refused, in one reject: the order that it names stays as it is.
+    Refused(AppBody),
+    /// It is pending, which one report says.
+    Accepted {
+        /// OrderID (37) of its order.
+        order_id: u64,
+        /// What the order keeps of it.
+        replacing: Replacing,
+        /// The token that the order is to go by: the next one.
+        given: GivenToken,
+        body: AppBody,
+        /// What goes to the market now: nothing where the port isn't up.
+        sends: Vec<Inbound>,
+    },
+}
