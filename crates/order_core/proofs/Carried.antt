@@ -9,19 +9,19 @@ use Rattle.order_histories.specs.Machine.{accept_new, by_verdict, refuse_new, ve
 use Rattle.to_market.specs.declared.refusal.Refusal.{Refusal}
 use Rattle.to_market.specs.Refusals.{code_of, refused_by, words_of}
 use Rattle.order_core.specs.declared.outcome.CoreOut.{CoreOut}
-use Rattle.order_core.specs.Meets.{GivesClient, MeetsNew}
+use Rattle.order_core.specs.Meets.{GivesClient, MeetsFields}
 
 module _ (old : State) (client : ℕ) (d : NewOrder) (port : Port) (out : CoreOut) (new : State) where
   -- what is given by a verdict
   abbrev given : Verdict → Type 0
-  given v = GivesClient (terms_of old.terms client) port (by_verdict old client (new_order_fields d) v) out new
+  given v = GivesClient (terms_of old.terms client) client port (by_verdict old client (new_order_fields d) v) out new
 
   pub refused : (row : Refusal) → verdict_in old client port (new_order_fields d) ≡ refused_by row
-      → ((terms : Terms) (state : Port) → GivesClient terms state (refuse_new old client (new_order_fields d) (code_of row) (words_of row)) out new)
-      → MeetsNew old client d port out new
+      → ((terms : Terms) (state : Port) → GivesClient terms client state (refuse_new old client (new_order_fields d) (code_of row) (words_of row)) out new)
+      → MeetsFields old client (new_order_fields d) port out new
   refused row e gives = subst (λ (v : Verdict). given v) (sym e) (gives (terms_of old.terms client) port)
 
   pub accepted : verdict_in old client port (new_order_fields d) ≡ Accepted
-      → GivesClient (terms_of old.terms client) port (accept_new old client (new_order_fields d)) out new
-      → MeetsNew old client d port out new
+      → GivesClient (terms_of old.terms client) client port (accept_new old client (new_order_fields d)) out new
+      → MeetsFields old client (new_order_fields d) port out new
   accepted e gives = subst (λ (v : Verdict). given v) (sym e) gives

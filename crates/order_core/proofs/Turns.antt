@@ -1,17 +1,14 @@
 -- A call that meets the table's step leads on, as a turn.
-use Rattle.std.proofs.Common.{◌≡◌, ℕ, suc, ◌<◌, true, false, List, [], ◌∷◌, refl, sym, ap, ◌∙◌, arith, None, Result, Ok, Err, get_or}
+use Rattle.std.proofs.Common.{◌≡◌, ℕ, suc, ◌<◌, true, false, List, [], ◌∷◌, refl, sym, ap, ◌∙◌, arith, Option, None, Result, Ok, Err, get_or}
 use Rattle.std.specs.Prelude.{OnErr, nat_lt}
 use Rattle.std.proofs.lemmas.Bool.Decides.{nat_tests}
 use Rattle.fix_types.specs.declared.application.AppMsg.{AppMsg}
-use Rattle.fix_types.specs.declared.application.AppMsg.TheVariants as messages
-use Rattle.fix_types.specs.declared.new_order.NewOrder.{NewOrder}
-use Rattle.fix_types.specs.NewOrder.{new_order_fields}
-use Rattle.order_law.specs.Verdicts.{Accepted, Port, Refused, Verdict}
-use Rattle.order_law.specs.History.{History, Terms, Turn}
+use Rattle.order_law.specs.Headline.{Each}
+use Rattle.order_law.specs.History.{History, Terms, Turn, terms_of}
 use Rattle.order_histories.specs.Told.{AreBytes}
 use Rattle.order_histories.specs.Table.{State}
-use Rattle.order_histories.specs.Machine.{Given, by_verdict, faulty, market_step, verdict_in}
-use Rattle.order_histories.specs.Runs.{Leads, Leaves}
+use Rattle.order_histories.specs.Machine.{Given, client_step, faulty, market_step}
+use Rattle.order_histories.specs.Runs.{Finds, Leads, LeadsTo, Leaves}
 use Rattle.market_turns.specs.Turns.{number_of}
 use Rattle.market_turns.specs.declared.market_fault.MarketFault.{MarketFault}
 use Rattle.order_core.specs.declared.market_error.MarketError.{MarketError}
@@ -19,9 +16,9 @@ use Rattle.order_core.specs.declared.market_error.MarketError.TheVariants as err
 use Rattle.order_core.specs.declared.outcome.CoreOut.{CoreOut}
 use Rattle.order_core.specs.declared.outcome.MarketOut.{MarketOut}
 use Rattle.to_market.specs.declared.port_state.PortState.{PortState}
-use Rattle.order_core.specs.Meets.{GivesMarket, IsPassedOver, MeetsMarket, MeetsMessage}
+use Rattle.order_core.specs.Meets.{GivesMarket, GoByNumbers, MeetsMarket, MeetsMessage}
 use Rattle.to_market.specs.PortsSeen.{port_seen}
-use Rattle.order_core.specs.Turns.{OfTurn, client_turn, fault_turn, is_served_message, told_turn}
+use Rattle.order_core.specs.Turns.{OfTurn, client_turn, fault_turn, message_fields, told_turn}
 
 -- the bytes of a slice are below 256
 pub all-bytes : (bytes : List ℕ) → ((i : ℕ) → get_or bytes i 0 < 256) → AreBytes bytes
@@ -34,39 +31,25 @@ Leaves-more : (terms : List Terms) (before : History) (old : State) (t : Turn) (
 unfolding Leaves
 Leaves-more terms before old t new leaves leads = (old, leaves, leads)
 
-no-fault : (s : State) (client : ℕ) (d : NewOrder) (v : Verdict) → (by_verdict s client (new_order_fields d) v).fault ≡ None
-no-fault s client d Accepted = refl
-no-fault s client d (Refused code why) = refl
-
-for-client : (s : State) (client : ℕ) (d : NewOrder) (v : Verdict) → (by_verdict s client (new_order_fields d) v).client ≡ client
-for-client s client d Accepted = refl
-for-client s client d (Refused code why) = refl
-
--- a client's call
+-- a client's call, of a table whose orders go by their numbers, and where each token that is asked about leads to its order
 pub Leaves-client : (terms : List Terms) (before : History) (old : State) (client : ℕ) (message : AppMsg) (port : PortState) (out : CoreOut) (new : State)
-    → is_served_message message ≡ true → MeetsMessage old client message (port_seen port) out new
+    → GoByNumbers old
+    → ((order_of : List ℕ → Option ℕ) → LeadsTo (client_step old client (message_fields message) (port_seen port)).state (terms_of old.terms client).port order_of
+        → Each (Finds order_of) (client_step old client (message_fields message) (port_seen port)).asks)
+    → MeetsMessage old client message (port_seen port) out new
     → Leaves terms before old → Leaves terms (client_turn client message port out ∷ before) new
-Leaves-client terms before old client (messages.Cancel d) port out new served meets leaves = absurd (cc)
-Leaves-client terms before old client (messages.Replace d) port out new served meets leaves = absurd (cc)
-Leaves-client terms before old client (messages.New d) port out new served meets leaves =
-    let v = verdict_in old client (port_seen port) (new_order_fields d) in
-    Leaves-more terms before old (client_turn client (messages.New d) port out) new leaves (record {
+Leaves-client terms before old client message port out new numbered known meets leaves =
+    let gives = meets numbered in
+    Leaves-more terms before old (client_turn client message port out) new leaves (record {
       is_event = tt;
       meets = record {
-        state = meets.state;
-        client = sym (for-client old client d v);
-        bodies = meets.bodies;
-        fault = sym (no-fault old client d v);
-        sends = meets.sends;
+        state = gives.state;
+        client = sym gives.for_client;
+        bodies = gives.bodies;
+        fault = sym gives.no_fault;
+        sends = λ order_of leads. gives.sends order_of (known order_of leads);
       };
     })
-
--- a message that isn't served is passed over
-pub passed : (old : State) (client : ℕ) (message : AppMsg) (port : Port) (out : CoreOut) (new : State)
-    → is_served_message message ≡ false → MeetsMessage old client message port out new → IsPassedOver old out new
-passed old client (messages.Cancel d) port out new other meets = meets
-passed old client (messages.Replace d) port out new other meets = meets
-passed old client (messages.New d) port out new other meets = absurd (cc)
 
 -- a payload that was handled
 pub Leaves-told : (terms : List Terms) (before : History) (old : State) (port : ℕ) (payload : List ℕ) (out : MarketOut) (new : State)

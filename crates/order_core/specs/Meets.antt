@@ -1,19 +1,20 @@
 -- When the code's outcome is what the table's step gives.
-use Rattle.std.specs.Prelude.{◌≡◌, ℕ, ◌+◌, List, [], Option, None, Result, Ok, Err, map, decimal, length}
+use Rattle.std.specs.Prelude.{◌≡◌, ℕ, ◌+◌, List, [], Option, Some, None, Result, Ok, Err, map, decimal, length}
 use Rattle.tokens.specs.TokenText.{token_text}
 use Rattle.fix_types.specs.declared.application.AppMsg.{AppMsg}
-use Rattle.fix_types.specs.declared.application.AppMsg.TheVariants.{New, Cancel, Replace}
 use Rattle.fix_types.specs.declared.new_order.NewOrder.{NewOrder}
 use Rattle.fix_types.specs.NewOrder.{new_order_fields}
 use Rattle.ouch_codec.specs.declared.inbound.enter_order.EnterOrder.{EnterOrder}
 use Rattle.ouch_codec.specs.Inbound.{inbound_bytes}
 use Rattle.order_law.specs.Asks.{limit_of, total_of}
 use Rattle.order_law.specs.History.{Asked, Terms, terms_of}
-use Rattle.order_law.specs.Headline.{Says, Sends}
+use Rattle.order_law.specs.Headline.{Each, Says, Sends}
+use Rattle.order_law.specs.Messages.{Message}
 use Rattle.order_law.specs.Verdicts.{Port}
-use Rattle.order_histories.specs.Table.{State}
+use Rattle.order_histories.specs.OrderRecord.{OrderRecord}
+use Rattle.order_histories.specs.Table.{State, by_id, by_number}
 use Rattle.order_histories.specs.Machine.{Given, client_step, faulty}
-use Rattle.order_histories.specs.Runs.{LeadsTo}
+use Rattle.order_histories.specs.Runs.{Finds}
 use Rattle.to_market.specs.NewAsks.{asked_with, enter_bytes}
 use Rattle.market_turns.specs.Turns.{number_of}
 use Rattle.order_core.specs.declared.market_error.MarketError.{MarketError}
@@ -22,29 +23,28 @@ use Rattle.order_core.specs.declared.outcome.CoreOut.{CoreOut}
 use Rattle.order_core.specs.declared.outcome.MarketOut.{MarketOut}
 use Rattle.to_client.specs.Pending.{body_fields}
 use Rattle.order_core.specs.Seen.{client_seen}
+use Rattle.order_core.specs.Turns.{message_fields}
+
+-- the order that a ClOrdID leads to is the one that its OrderID leads to
+abbrev pub GoByNumbers : State → Type 0
+GoByNumbers s = (client : ℕ) (id : List ℕ) (o : OrderRecord) → by_id s client id ≡ Some o → by_number s o.new.order ≡ Some o
 
 -- the client is told, and its port asked, what is given, and the table is as given
-pub record GivesClient (terms : Terms) (port : Port) (g : Given) (out : CoreOut) (new : State) : Type 0 where
+pub record GivesClient (terms : Terms) (client : ℕ) (port : Port) (g : Given) (out : CoreOut) (new : State) : Type 0 where
   pub state : new ≡ g.state
+  pub for_client : g.client ≡ client
   pub bodies : map body_fields out.bodies.items ≡ g.bodies
-  pub sends : (order_of : List ℕ → Option ℕ) → LeadsTo g.state terms.port order_of
+  pub no_fault : g.fault ≡ None
+  pub sends : (order_of : List ℕ → Option ℕ) → Each (Finds order_of) g.asks
       → Sends port (Says terms.standing order_of) g.asks (map inbound_bytes out.sends.items)
 
--- a client's new order
-abbrev pub MeetsNew : State → ℕ → NewOrder → Port → CoreOut → State → Type 0
-MeetsNew old client d port out new = GivesClient (terms_of old.terms client) port (client_step old client (new_order_fields d) port) out new
+-- a client's message, as fields
+abbrev pub MeetsFields : State → ℕ → Message → Port → CoreOut → State → Type 0
+MeetsFields old client m port out new = GivesClient (terms_of old.terms client) client port (client_step old client m port) out new
 
--- cancels and replaces aren't served yet: nothing comes of one
-pub record IsPassedOver (old : State) (out : CoreOut) (new : State) : Type 0 where
-  pub state : new ≡ old
-  pub bodies : out.bodies.items ≡ []
-  pub sends : out.sends.items ≡ []
-
--- a client's message
+-- a client's message, in a table whose orders go by their numbers
 abbrev pub MeetsMessage : State → ℕ → AppMsg → Port → CoreOut → State → Type 0
-MeetsMessage old client (New d) port out new = MeetsNew old client d port out new
-MeetsMessage old client (Cancel request) port out new = IsPassedOver old out new
-MeetsMessage old client (Replace request) port out new = IsPassedOver old out new
+MeetsMessage old client message port out new = GoByNumbers old → MeetsFields old client (message_fields message) port out new
 
 -- a client is told what is given, and the table is as given
 pub record GivesMarket (g : Given) (out : MarketOut) (new : State) : Type 0 where

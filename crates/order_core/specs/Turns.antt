@@ -1,5 +1,5 @@
 -- Calls of the order core as turns of a history.
-use Rattle.std.specs.Prelude.{ℕ, Bool, true, false, List, [], Some, None, map, Result, Ok, Err}
+use Rattle.std.specs.Prelude.{ℕ, List, [], Some, None, map, Result, Ok, Err}
 use Rattle.fix_types.specs.declared.application.AppMsg.{AppMsg}
 use Rattle.fix_types.specs.declared.application.AppMsg.TheVariants as messages
 use Rattle.fix_types.specs.CancelRequest.{cancel_request_fields}
@@ -24,12 +24,6 @@ abbrev pub message_fields : AppMsg → Message
 message_fields (messages.New order) = new_order_fields order
 message_fields (messages.Cancel request) = cancel_request_fields request
 message_fields (messages.Replace request) = replace_request_fields request
-
--- the messages that are served: new orders
-abbrev pub is_served_message : AppMsg → Bool
-is_served_message (messages.New order) = true
-is_served_message (messages.Cancel request) = false
-is_served_message (messages.Replace request) = false
 
 -- a client's turn
 abbrev pub client_turn : ℕ → AppMsg → PortState → CoreOut → Turn

@@ -2,6 +2,7 @@
 
 mod heard;
 mod new_order;
+mod requests;
 
 ghost use Rattle.std.specs.Prelude.{◌≡◌, ◌≤◌, ◌+◌, length, map, IfOk, OnErr, ◌<◌, ◌^◌, ◌∷◌, [], List, true, false};
 
@@ -9,7 +10,9 @@ use crate::market_error::MarketError;
 use crate::outcome::{CoreOut, MarketOut};
 use crate::used_ids::UsedId;
 use fix_types::AppMsg;
-use order_histories::tables_have_the_headline;
+use order_histories::{
+    asked_tokens_lead_to_their_orders, orders_go_by_their_numbers, tables_have_the_headline,
+};
 use order_table::Table;
 use std::alloc::{AllocError, Global};
 use std::marker::Model;
@@ -56,7 +59,7 @@ impl OrderCore {
     ghost use Rattle.to_market.specs.TermsSeen.{terms_seen};
     ghost use Rattle.order_core.specs.Meets.{MeetsMarket, MeetsMessage};
     ghost use Rattle.order_core.specs.State.{clients, IsClient, issued, HasRoom};
-    ghost use Rattle.order_core.specs.Turns.{OfTurn, client_turn, is_served_message};
+    ghost use Rattle.order_core.specs.Turns.{OfTurn, client_turn};
 
     /// The machine of these clients, with no orders.
     #[tactic(auto, unfolding(order_histories::specs::Runs::Leaves))]
@@ -76,8 +79,9 @@ impl OrderCore {
 
     /// Steps an application message of a client, whose port stands as given. The client is one of the terms'.
     ///
-    /// A new order is accepted, with a report and, where the port is up, the message that asks it of the market; or it
-    /// is refused by the first row of its table that holds, in one report. Nothing comes of a cancel or a replace yet. `AllocError` leaves the machine as it was.
+    /// A new order, a cancel or a replace is accepted, with a report and, where the port is up, the messages that ask it of
+    /// the market; or it is refused by the first row of its table that holds, in one report or reject. `AllocError` leaves
+    /// the machine as it was.
     pub fn client(
         &mut self,
         alloc: Global,
@@ -88,15 +92,17 @@ impl OrderCore {
         requires client { IsClient self.old client }
         requires room { HasRoom self.old }
         ensures meets { IfOk result (λ out. MeetsMessage self.old client message.now (port_seen port) out self.new) }
-        ensures leaves { IfOk result (λ out. is_served_message message.now ≡ true → (terms : List Terms) (before : History)
-            → Leaves terms before self.old → Leaves terms (client_turn client message.now port out ∷ before) self.new) }
-        ensures headline { IfOk result (λ out. is_served_message message.now ≡ true → (terms : List Terms) (before : History)
+        ensures leaves { IfOk result (λ out. (terms : List Terms) (before : History)
+            → length before < 2 ^ 58 → Leaves terms before self.old → Leaves terms (client_turn client message.now port out ∷ before) self.new) }
+        ensures headline { IfOk result (λ out. (terms : List Terms) (before : History)
             → length before < 2 ^ 58 → Leaves terms before self.old → Headline terms (client_turn client message.now port out ∷ before)) }
         ensures clients { clients self.new ≡ clients self.old }
         ensures issued { issued self.new ≤ issued self.old + 3 }
         ensures err { OnErr result (self.new ≡ self.old) }
     {
         tables_have_the_headline();
+        asked_tokens_lead_to_their_orders();
+        orders_go_by_their_numbers();
         self.client_step(alloc, client, message, port)
     }
 
@@ -143,7 +149,8 @@ impl OrderCore {
     {
         match message {
             AppMsg::New(order) => self.new_order(alloc, client, order, port),
-            AppMsg::Cancel(_) | AppMsg::Replace(_) => Ok(CoreOut::nothing(alloc)),
+            AppMsg::Cancel(request) => self.cancel(alloc, client, request, port),
+            AppMsg::Replace(request) => self.replace(alloc, client, request, port),
         }
     }
 }

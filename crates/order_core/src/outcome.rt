@@ -15,19 +15,6 @@ pub struct CoreOut {
     pub sends: Vec<Inbound>,
 }
 
-impl CoreOut {
-    /// No bodies and no messages.
-    pub fn nothing(alloc: Global) -> CoreOut
-        ensures bodies { result.bodies.items ≡ [] }
-        ensures sends { result.sends.items ≡ [] }
-    {
-        CoreOut {
-            bodies: Vec::new(alloc),
-            sends: Vec::new(alloc),
-        }
-    }
-}
-
 /// What a payload of the market gives: bodies for one client at most, in order.
 #[derive(Debug, Drop)]
 pub struct MarketOut {

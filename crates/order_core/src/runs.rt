@@ -4,11 +4,11 @@ ghost use Rattle.std.specs.Prelude.{◌≡◌, ◌≤◌, ◌<◌, ◌+◌, ◌^
 ghost use Rattle.order_law.specs.Headline.{Headline};
 ghost use Rattle.order_law.specs.History.{Came, Heard, History, Terms};
 ghost use Rattle.order_histories.specs.Runs.{IsRun, Leaves};
-ghost use Rattle.order_core.specs.Runs.{AreKnown, AreServed, IsPassed, history, is_known, is_served, outcome_turn, sender, turn_of};
+ghost use Rattle.order_core.specs.Runs.{AreKnown, history, is_known, outcome_turn, turn_of};
 ghost use Rattle.to_market.specs.PortsSeen.{port_seen};
 ghost use Rattle.to_market.specs.TermsSeen.{terms_seen};
 ghost use Rattle.order_core.specs.State.{clients, issued, HasRoom, IsClient};
-ghost use Rattle.order_core.specs.Turns.{is_served_message, message_fields};
+ghost use Rattle.order_core.specs.Turns.{message_fields};
 
 use crate::market_error::MarketError;
 use crate::order_core::OrderCore;
@@ -51,11 +51,10 @@ pub struct Outcome {
 pub fn step(core: &mut OrderCore, alloc: Global, event: &Event) -> Result<Outcome, AllocError>
     requires client { is_known (clients core.old) event.now ≡ true }
     requires room { HasRoom core.old }
-    ensures leaves { IfOk result (λ outcome. is_served event.now ≡ true → (terms : List Terms) (before : History)
-        → Leaves terms before core.old → Leaves terms (turn_of event.now outcome ∷ before) core.new) }
-    ensures headline { IfOk result (λ outcome. is_served event.now ≡ true → (terms : List Terms) (before : History)
+    ensures leaves { IfOk result (λ outcome. (terms : List Terms) (before : History)
+        → length before < 2 ^ 58 → Leaves terms before core.old → Leaves terms (turn_of event.now outcome ∷ before) core.new) }
+    ensures headline { IfOk result (λ outcome. (terms : List Terms) (before : History)
         → length before < 2 ^ 58 → Leaves terms before core.old → Headline terms (turn_of event.now outcome ∷ before)) }
-    ensures passed { is_served event.now ≡ false → IfOk result (λ outcome. IsPassed core.old (sender event.now) outcome core.new) }
     ensures clients { clients core.new ≡ clients core.old }
     ensures issued { issued core.new ≤ issued core.old + 3 }
     ensures err { OnErr result (core.new ≡ core.old) }
@@ -80,12 +79,11 @@ fn client_outcome(
 ) -> Result<Outcome, AllocError>
     requires client { IsClient core.old client }
     requires room { HasRoom core.old }
-    ensures leaves { IfOk result (λ outcome. is_served_message message.now ≡ true → (terms : List Terms) (before : History)
-        → Leaves terms before core.old → Leaves terms (outcome_turn (Came client (message_fields message.now) (port_seen port)) outcome ∷ before) core.new) }
-    ensures headline { IfOk result (λ outcome. is_served_message message.now ≡ true → (terms : List Terms) (before : History)
+    ensures leaves { IfOk result (λ outcome. (terms : List Terms) (before : History)
+        → length before < 2 ^ 58 → Leaves terms before core.old → Leaves terms (outcome_turn (Came client (message_fields message.now) (port_seen port)) outcome ∷ before) core.new) }
+    ensures headline { IfOk result (λ outcome. (terms : List Terms) (before : History)
         → length before < 2 ^ 58 → Leaves terms before core.old
         → Headline terms (outcome_turn (Came client (message_fields message.now) (port_seen port)) outcome ∷ before)) }
-    ensures passed { is_served_message message.now ≡ false → IfOk result (λ outcome. IsPassed core.old (Some client) outcome core.new) }
     ensures clients { clients core.new ≡ clients core.old }
     ensures issued { issued core.new ≤ issued core.old + 3 }
     ensures err { OnErr result (core.new ≡ core.old) }
@@ -136,8 +134,8 @@ fn market_outcome(
 
 /// What comes of these events, one after another from no order on, for clients with these terms.
 ///
-/// Where the clients' messages are new orders, each outcome is exactly what the table's step gives, and after each of them
-/// the headline holds of all turns so far, whatever the payloads are.
+/// Each outcome is exactly what the table's step gives, and after each of them the headline holds of all turns so far,
+/// whatever the messages and payloads are.
 pub fn run(
     alloc: Global,
     terms: &[ClientTerms],
@@ -146,10 +144,8 @@ pub fn run(
     requires clients { AreKnown (length terms.now) events.now }
     requires short { length events.now < 2 ^ 57 }
     ensures count { IfOk result (λ outcomes. length outcomes.items ≡ length events.now) }
-    ensures exact { AreServed events.now
-        → IfOk result (λ outcomes. IsRun (map terms_seen terms.now) (history events.now outcomes.items)) }
-    ensures headline { AreServed events.now
-        → IfOk result (λ outcomes. Headline (map terms_seen terms.now) (history events.now outcomes.items)) }
+    ensures exact { IfOk result (λ outcomes. IsRun (map terms_seen terms.now) (history events.now outcomes.items)) }
+    ensures headline { IfOk result (λ outcomes. Headline (map terms_seen terms.now) (history events.now outcomes.items)) }
 {
     tables_have_the_headline();
     let mut core = OrderCore::new(alloc, terms)?;

@@ -13,7 +13,7 @@ use Rattle.order_law.specs.Messages.{Message}
 use Rattle.order_histories.specs.OrderRecord.{OrderRecord, live_token, replacements}
 use Rattle.to_market.specs.RequestAsks.{cancel_asked_with, cancel_bytes, replace_asked_with, replace_bytes}
 use Rattle.request_turns.specs.Asked.{cancels_asked, replaces_asked}
-use Rattle.request_turns.specs.Turns.{Finds}
+use Rattle.order_histories.specs.Runs.{Finds}
 
 -- a token leads to this order
 abbrev pub Leads : (List ℕ → Option ℕ) → List ℕ → OrderRecord → Type 0

@@ -2,7 +2,6 @@
 -- Cancel/Replace Request".)
 use Rattle.std.specs.Prelude.{◌≡◌, ◌<◌, ℕ, ◌+◌, Bool, true, List, [], ◌∷◌, Option, Some, decimal, map}
 use Rattle.std.specs.List.{count_by}
-use Rattle.std.specs.Str.Parse.{digits_value}
 use Rattle.fix_types.specs.declared.application.AppBody.{AppBody}
 use Rattle.fix_types.specs.declared.cancel_request.CancelRequest.{CancelRequest}
 use Rattle.fix_types.specs.declared.replace_request.ReplaceRequest.{ReplaceRequest}
@@ -11,10 +10,11 @@ use Rattle.fix_types.specs.ReplaceRequest.{replace_request_fields}
 use Rattle.ouch_codec.specs.declared.inbound.Inbound.{Inbound}
 use Rattle.ouch_codec.specs.Inbound.{inbound_bytes}
 use Rattle.order_law.specs.Headline.{Each, Says, Sends}
-use Rattle.order_law.specs.History.{Asked, Said, SaysCancel, SaysNew, SaysReplace, terms_of}
+use Rattle.order_law.specs.History.{Asked, terms_of}
 use Rattle.order_law.specs.Messages.{Message, text}
 use Rattle.order_histories.specs.Machine.{client_step, tells, with_used}
 use Rattle.order_histories.specs.OrderRecord.{OrderRecord, at}
+use Rattle.order_histories.specs.Runs.{Finds}
 use Rattle.order_histories.specs.Table.{GivenToken, State, by_id, has_used, is_replacement_of, put}
 use Rattle.orders.specs.declared.requests.Cancelling.{Cancelling}
 use Rattle.orders.specs.declared.requests.Replacing.{Replacing}
@@ -28,15 +28,6 @@ use Rattle.request_turns.specs.declared.turns.CancelTurn.{CancelTurn}
 use Rattle.request_turns.specs.declared.turns.CancelTurn.TheVariants as cancels
 use Rattle.request_turns.specs.declared.turns.ReplaceTurn.{ReplaceTurn}
 use Rattle.request_turns.specs.declared.turns.ReplaceTurn.TheVariants as replaces
-
--- the token that a message is to name leads to its order
-abbrev pub Finds : (List ℕ → Option ℕ) → Asked → Type 0
-Finds order_of a = by_said a.said
-  where
-    by_said : Said → Type 0
-    by_said (SaysNew token) = Unit {0}
-    by_said (SaysReplace from to) = order_of from ≡ Some (digits_value 10 a.order)
-    by_said (SaysCancel token) = order_of token ≡ Some (digits_value 10 a.order)
 
 -- A state with this table, after so many reports, to which the sender's message with this ClOrdID (11) comes: the id is
 -- used or isn't.

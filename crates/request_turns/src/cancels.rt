@@ -11,7 +11,8 @@ ghost use Rattle.order_histories.specs.Table.{State};
 ghost use Rattle.order_table.specs.Held.{named};
 ghost use Rattle.to_market.specs.PortsSeen.{port_seen};
 ghost use Rattle.request_turns.specs.Asked.{IsAccepted, cancels_asked};
-ghost use Rattle.request_turns.specs.Turns.{Finds, StepsCancel, IsCancelTurn};
+ghost use Rattle.order_histories.specs.Runs.{Finds};
+ghost use Rattle.request_turns.specs.Turns.{StepsCancel, IsCancelTurn};
 
 use crate::named::{named_of, shown_now};
 use crate::refusing::{reject, unknown_row};

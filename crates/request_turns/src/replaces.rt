@@ -12,7 +12,8 @@ ghost use Rattle.order_table.specs.Held.{named};
 ghost use Rattle.to_market.specs.PortsSeen.{port_seen};
 ghost use Rattle.to_market.specs.RequestAsks.{AsksToReplace};
 ghost use Rattle.request_turns.specs.Asked.{IsAccepted, TakesToken, replaces_asked};
-ghost use Rattle.request_turns.specs.Turns.{Finds, StepsReplace, IsReplaceTurn};
+ghost use Rattle.order_histories.specs.Runs.{Finds};
+ghost use Rattle.request_turns.specs.Turns.{StepsReplace, IsReplaceTurn};
 
 use crate::named::{named_of, shown_now};
 use crate::refusing::{reject, unknown_row};

@@ -1,13 +1,16 @@
 //! A new order: its verdict, and what either verdict does.
 
-ghost use Rattle.std.specs.Prelude.{◌≡◌, ◌≤◌, ◌+◌, ◌<◌, ◌^◌, ◌∷◌, [], ℕ, List, Option, true, false, nat_le, slice_get, Some, length, map, IfOk, OnErr, MatchResult};
+ghost use Rattle.std.specs.Prelude.{◌≡◌, ◌≤◌, ◌+◌, ◌<◌, ◌^◌, ◌∷◌, [], ℕ, List, Option, true, false, nat_le, slice_get, Some, length, map, codes, IfOk, OnErr, MatchResult};
 ghost use Rattle.tokens.specs.TokenText.{token_text};
 ghost use Rattle.fix_types.specs.NewOrder.{new_order_fields};
+ghost use Rattle.fix_types.specs.Report.{report_fields};
 ghost use Rattle.ouch_codec.specs.Inbound.{inbound_bytes};
 ghost use Rattle.order_law.specs.Asks.{Standing};
 ghost use Rattle.order_law.specs.Headline.{Says, Sends};
 ghost use Rattle.order_law.specs.History.{Asked, terms_of};
+ghost use Rattle.order_law.specs.Told as law;
 ghost use Rattle.order_law.specs.Verdicts.{last_token};
+ghost use Rattle.order_histories.specs.OrderRecord.{shown_as};
 ghost use Rattle.to_market.specs.NewAsks.{enter_bytes};
 ghost use Rattle.to_market.specs.PortsSeen.{port_seen};
 ghost use Rattle.to_market.specs.TermsSeen.{terms_seen};
@@ -15,7 +18,7 @@ ghost use Rattle.to_market.specs.TermsSeen.{terms_seen};
 use super::OrderCore;
 use crate::outcome::CoreOut;
 use crate::used_ids::{UsedId, is_used, push_used};
-use fix_types::{AppBody, NewOrder};
+use fix_types::{AppBody, NewOrder, Report};
 use fix_values::ClOrdId;
 use order_table::GivenToken;
 use orders::{Order, Progress};
@@ -35,7 +38,7 @@ impl OrderCore {
     ghost use Rattle.order_law.specs.Verdicts.{Accepted, Port};
     ghost use Rattle.order_histories.specs.Machine.{accept_new, entry_of_new, refuse_new, verdict_in};
     ghost use Rattle.order_histories.specs.OrderRecord.{entered};
-    ghost use Rattle.order_core.specs.Meets.{AsksNext, GivesClient, MeetsNew};
+    ghost use Rattle.order_core.specs.Meets.{AsksNext, GivesClient, MeetsFields};
     ghost use Rattle.to_market.specs.Refusals.{code_of, refused_by, words_of};
     ghost use Rattle.to_market.specs.PortsSeen.{port_seen};
     ghost use Rattle.to_market.specs.TermsSeen.{terms_seen};
@@ -51,7 +54,7 @@ impl OrderCore {
     ) -> Result<CoreOut, AllocError>
         requires client { IsClient self.old client }
         requires room { HasRoom self.old }
-        ensures meets { IfOk result (λ out. MeetsNew self.old client order.now (port_seen port) out self.new) }
+        ensures meets { IfOk result (λ out. MeetsFields self.old client (new_order_fields order.now) (port_seen port) out self.new) }
         ensures clients { clients self.new ≡ clients self.old }
         ensures issued { issued self.new ≤ issued self.old + 3 }
         ensures err { OnErr result (self.new ≡ self.old) }
@@ -98,7 +101,7 @@ impl OrderCore {
     ) -> Result<CoreOut, AllocError>
         requires { HasRoom self.old }
         ensures meets { IfOk result (λ out. (terms : Terms) (port : Port)
-            → GivesClient terms port (refuse_new self.old client (new_order_fields order.now) (code_of row) (words_of row)) out self.new) }
+            → GivesClient terms client port (refuse_new self.old client (new_order_fields order.now) (code_of row) (words_of row)) out self.new) }
         ensures clients { clients self.new ≡ clients self.old }
         ensures issued { issued self.new ≤ issued self.old + 3 }
         ensures err { OnErr result (self.new ≡ self.old) }
@@ -131,7 +134,7 @@ impl OrderCore {
         requires room { HasRoom self.old }
         requires port { port ≡ (terms_of self.old.terms client).port }
         requires enter { AsksNext self.old client order.now enter }
-        ensures meets { IfOk result (λ out. GivesClient (terms_of self.old.terms client) (port_seen state)
+        ensures meets { IfOk result (λ out. GivesClient (terms_of self.old.terms client) client (port_seen state)
             (accept_new self.old client (new_order_fields order.now)) out self.new) }
         ensures clients { clients self.new ≡ clients self.old }
         ensures issued { issued self.new ≤ issued self.old + 3 }
@@ -140,8 +143,7 @@ impl OrderCore {
         let order_id = self.order_ids + 1;
         let exec_id = self.exec_ids + 1;
         let entered = self.entered(alloc, client, order, &enter)?;
-        let shown = shown_of(&entered, &entered.progress);
-        let report = report_of(alloc, exec_id, Occasion::PendingNew, &shown)?;
+        let report = report_pending_new(alloc, exec_id, &entered)?;
         let bodies = one_body(alloc, AppBody::Report(report))?;
         let sends = sends_of(alloc, enter, state)?;
         let cl_ord_id = ClOrdId::copied(alloc, order.cl_ord_id.as_slice())?;
@@ -186,8 +188,16 @@ impl OrderCore {
     }
 }
 
+/// The report that an order waits for the market.
+fn report_pending_new(alloc: Global, number: u64, order: &Order) -> Result<Report, AllocError>
+    ensures { IfOk result (λ r. report_fields r ≡ law.report number (law.plain (codes "A")) (shown_as order.now)) }
+{
+    let shown = shown_of(order, &order.progress);
+    report_of(alloc, number, Occasion::PendingNew, &shown)
+}
+
 /// The terms of a client.
-fn terms_at(terms: &[ClientTerms], client: u16) -> ClientTerms
+pub(super) fn terms_at(terms: &[ClientTerms], client: u16) -> ClientTerms
     requires from_one { 1 ≤ client }
     requires known { client ≤ length terms.now }
     ensures { terms_of (map terms_seen terms.now) client ≡ terms_seen result }
@@ -217,7 +227,7 @@ fn next_token(given: usize) -> Result<Token, Refusal>
 }
 
 /// A list of one body.
-fn one_body(alloc: Global, body: AppBody) -> Result<Vec<AppBody>, AllocError>
+pub(super) fn one_body(alloc: Global, body: AppBody) -> Result<Vec<AppBody>, AllocError>
     ensures { IfOk result (λ bodies. bodies.items ≡ body ∷ []) }
 {
     let mut bodies = Vec::with_capacity(alloc, 1)?;

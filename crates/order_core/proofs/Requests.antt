@@ -1,0 +1,73 @@
+-- A cancel or a replace, put into the table, is what the table's step gives.
+use Rattle.std.proofs.Common.{◌≡◌, ℕ, ◌+◌, List, [], ◌∷◌, map, sym, ap, ◌∙◌, subst, Option, Some, decimal}
+use Rattle.fix_types.specs.declared.application.AppBody.{AppBody}
+use Rattle.ouch_codec.specs.Inbound.{inbound_bytes}
+use Rattle.ouch_codec.specs.declared.inbound.Inbound.{Inbound}
+use Rattle.order_law.specs.Headline.{Each, Says, Sends}
+use Rattle.order_law.specs.History.{Terms, terms_of}
+use Rattle.order_law.specs.Messages.{Message}
+use Rattle.order_law.specs.Verdicts.{Port}
+use Rattle.order_histories.specs.Machine.{Given, client_step, tells, with_used}
+use Rattle.order_histories.specs.OrderRecord.{OrderRecord, at}
+use Rattle.order_histories.specs.Runs.{Finds}
+use Rattle.order_histories.specs.Table.{GivenToken, State, by_number, put}
+use Rattle.orders.specs.Seen.{cancel_seen, replace_seen}
+use Rattle.orders.specs.declared.requests.Cancelling.{Cancelling}
+use Rattle.orders.specs.declared.requests.Replacing.{Replacing}
+use Rattle.order_table.specs.Held.{Held}
+use Rattle.to_client.specs.Pending.{body_fields}
+use Rattle.to_market.specs.PortsSeen.{port_seen}
+use Rattle.request_turns.specs.Turns.{IsCancelling, IsReplacing}
+use Rattle.request_turns.specs.declared.sender.Sender.{Sender}
+use Rattle.order_core.specs.declared.outcome.CoreOut.{CoreOut}
+use Rattle.order_core.specs.Meets.{GoByNumbers, MeetsFields}
+use Rattle.order_core.proofs.Sent.{nothing_sent}
+
+-- what is sent of what a step asks
+abbrev SendsOf : State → ℕ → Port → CoreOut → Given → Type 0
+SendsOf old client port out g =
+    (order_of : List ℕ → Option ℕ) → Each (Finds order_of) g.asks → Sends port (Says (terms_of old.terms client).standing order_of) g.asks (map inbound_bytes out.sends.items)
+
+-- refused: nothing changes but that its id is used
+pub refused-meets : (old : State) (client : ℕ) (m : Message) (port : Port) (out : CoreOut) (new : State) (body : AppBody)
+    → client_step old client m port ≡ tells (with_used client m old) client (body_fields body ∷ []) [] → out.bodies.items ≡ body ∷ [] → out.sends.items ≡ [] → new ≡ with_used client m old
+    → MeetsFields old client m port out new
+refused-meets old client m port out new body is told nothing state = record {
+  state = state ∙ ap (λ (g : Given). g.state) (sym is);
+  for_client = ap (λ (g : Given). g.client) is;
+  bodies = ap (map body_fields) told ∙ ap (λ (g : Given). g.bodies) (sym is);
+  no_fault = ap (λ (g : Given). g.fault) is;
+  sends = subst (SendsOf old client port out) (sym is)
+      (λ order_of finds. subst (λ (sends : List Inbound). Sends port (Says (terms_of old.terms client).standing order_of) [] (map inbound_bytes sends)) (sym nothing) (nothing_sent port (Says (terms_of old.terms client).standing order_of)));
+}
+
+-- a table with the id used, and one report more
+abbrev with_table : State → ℕ → Message → Held → State
+with_table old client m held = record (with_used client m old) { orders = held.orders; tokens = held.tokens; exec_ids = old.exec_ids + 1 }
+
+module _ (old : State) (sender : Sender) (m : Message) (out : CoreOut) (new : State) (order_id : ℕ) (body : AppBody) (numbered : GoByNumbers old) (told : out.bodies.items ≡ body ∷ []) (held : Held) (state : new ≡ with_table old sender.client m held) where
+  pub cancelling-meets : (c : Cancelling) → IsCancelling old sender m order_id c body out.sends.items
+      → ((o : OrderRecord) → by_number old (decimal order_id) ≡ Some o → held ≡ record { orders = put (at o o.replace (Some (cancel_seen o.new.client order_id c))) old.orders; tokens = old.tokens })
+      → MeetsFields old sender.client m (port_seen sender.port) out new
+  cancelling-meets c is changed =
+      let found : by_number old (decimal order_id) ≡ Some is.order = ap (by_number old) (sym is.of_order) ∙ numbered sender.client _ is.order is.named in
+      record {
+        state = state ∙ ap (with_table old sender.client m) (changed is.order found) ∙ ap (λ (g : Given). g.state) (sym is.gives);
+        for_client = ap (λ (g : Given). g.client) is.gives;
+        bodies = ap (map body_fields) told ∙ ap (λ (g : Given). g.bodies) (sym is.gives);
+        no_fault = ap (λ (g : Given). g.fault) is.gives;
+        sends = subst (SendsOf old sender.client (port_seen sender.port) out) (sym is.gives) is.says;
+      }
+
+  pub replacing-meets : (r : Replacing) (given : GivenToken) → IsReplacing old sender m order_id r given body out.sends.items
+      → ((o : OrderRecord) → by_number old (decimal order_id) ≡ Some o → held ≡ record { orders = put (at o (Some (replace_seen o.new.client order_id r)) o.cancel) old.orders; tokens = given ∷ old.tokens })
+      → MeetsFields old sender.client m (port_seen sender.port) out new
+  replacing-meets r given is changed =
+      let found : by_number old (decimal order_id) ≡ Some is.order = ap (by_number old) (sym is.of_order) ∙ numbered sender.client _ is.order is.named in
+      record {
+        state = state ∙ ap (with_table old sender.client m) (changed is.order found) ∙ ap (λ (g : Given). g.state) (sym is.gives);
+        for_client = ap (λ (g : Given). g.client) is.gives;
+        bodies = ap (map body_fields) told ∙ ap (λ (g : Given). g.bodies) (sym is.gives);
+        no_fault = ap (λ (g : Given). g.fault) is.gives;
+        sends = subst (SendsOf old sender.client (port_seen sender.port) out) (sym is.gives) is.says;
+      }
