@@ -1,12 +1,13 @@
 //! The law of told histories, for those who reason about runs.
 
-ghost use Rattle.std.specs.Prelude.{ℕ, ◌≡◌, ◌<◌, ◌^◌, ◌∷◌, List, filter, length};
+ghost use Rattle.std.specs.Prelude.{ℕ, ◌≡◌, ◌<◌, ◌^◌, ◌∷◌, List, Some, filter, length};
 ghost use Rattle.order_law.specs.History.{Entry, History, Terms, Turn, accepted, is_new_order, outstanding};
 ghost use Rattle.order_law.specs.Headline.{Each, Headline, IsTrueToMarket};
 ghost use Rattle.order_law.specs.Told.{reports_in};
+ghost use Rattle.order_histories.specs.OrderRecord.{OrderRecord};
 ghost use Rattle.order_histories.specs.Outstanding.{LeavesAsked, OnPort, on_port};
 ghost use Rattle.order_histories.specs.Runs.{Leaves};
-ghost use Rattle.order_histories.specs.Table.{State};
+ghost use Rattle.order_histories.specs.Table.{State, by_id, by_number};
 ghost use Rattle.order_histories.specs.Told.{IsTold};
 
 /// In every history whose turns tell what the law tells, with the faults that it judges, each accepted order is true to the
@@ -30,4 +31,11 @@ pub fn lists_have_what_is_outstanding()
     ensures lists { (terms : List Terms) (h : History) (s : State) (asked : List OnPort) → length h < 2 ^ 59 → LeavesAsked terms h s asked
         → (port : ℕ) → on_port port asked ≡ outstanding terms port h }
     ensures tables { (terms : List Terms) (h : History) (s : State) (asked : List OnPort) → LeavesAsked terms h s asked → Leaves terms h s }
+{}
+
+/// In every run, the order that a client's ClOrdID names is the one that its OrderID leads to, so it can be changed by its
+/// OrderID. It does nothing: its contract is the law, for callers to cite.
+pub fn orders_go_by_their_numbers()
+    ensures { (terms : List Terms) (before : History) (s : State) (client : ℕ) (id : List ℕ) (o : OrderRecord) → length before < 2 ^ 58 → Leaves terms before s
+        → by_id s client id ≡ Some o → by_number s o.new.order ≡ Some o }
 {}

@@ -7,4 +7,7 @@
 
 mod laws;
 
-pub use laws::{lists_have_what_is_outstanding, tables_have_the_headline, told_orders_are_true};
+pub use laws::{
+    lists_have_what_is_outstanding, orders_go_by_their_numbers, tables_have_the_headline,
+    told_orders_are_true,
+};
