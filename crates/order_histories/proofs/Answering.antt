@@ -2,7 +2,6 @@
 use Rattle.std.proofs.Common.{◌≡◌, ◌≢◌, ℕ, ◌+◌, ◌*◌, ◌<◌, ◌≤◌, ◌^◌, Bool, true, false, List, [], ◌∷◌, ◌++◌, length, map, reverse, refl, sym, ap, ◌∙◌, subst, arith, codes, bytes_eq, Option, Some, None, eqb-true, eq-eqb}
 use Rattle.std.specs.Prelude.{◌&&◌, ◌||◌, ◌==◌, not, if◌then◌else◌, is_some, option_and_then, option_map, option_to_list}
 use Rattle.std.specs.List.{count_by, find}
-use Rattle.ouch_codec.specs.FromMarket as heard
 use Rattle.ouch_codec.specs.Parts.{type_of}
 use Rattle.order_law.specs.Messages.{Message, text}
 use Rattle.order_law.specs.Life.{is_type}
@@ -113,24 +112,17 @@ module _ (terms : List Terms) (before : History) (s : State) (t : IsTable terms 
     first : (o : OrderRecord) × (by_token s port (order_token m) ≡ Some o) × (o.new ≡ l.new)
     first = order-at (order_token m) l.new l.on
 
-    on-own : order_of_token terms port A (heard.token m) ≡ Some first.0.new
-    on-own = lawfully.on' terms before port m what.client what.bodies sends t.held no_t no_s is_judged refl (λ type. price-small m (bytes (rw type refl))) short reports_small l first.0
-        (token-fits terms before s t port m (order_token m) first.0 first.1) (token-port terms before s t port m (order_token m) first.0 first.1) first.2
-
-    own : (o : OrderRecord) × (by_token s port (heard.token m) ≡ Some o) × (o.new ≡ first.0.new)
-    own = order-at (heard.token m) first.0.new on-own
-
     abbrev o : OrderRecord
-    o = own.0
+    o = first.0
 
     f : FitsIn terms before o
-    f = token-fits terms before s t port m (heard.token m) o own.1
+    f = token-fits terms before s t port m (order_token m) o first.1
 
     own_port : port_of terms o.new ≡ port
-    own_port = token-port terms before s t port m (heard.token m) o own.1
+    own_port = token-port terms before s t port m (order_token m) o first.1
 
     same_new : o.new ≡ l.new
-    same_new = own.2 ∙ first.2
+    same_new = first.2
 
     abbrev B : List Message
     B = lawfully.B terms before port m what.client what.bodies sends t.held no_t no_s is_judged refl (λ type. price-small m (bytes (rw type refl))) short reports_small l o f own_port same_new
@@ -221,8 +213,8 @@ module _ (terms : List Terms) (before : History) (s : State) (t : IsTable terms 
       is_told = told-then;
     }
 
-    handled-Answers : Answers (heard_on s m (by_token s port (heard.token m)))
-    handled-Answers = subst (λ (x : Option OrderRecord). Answers (heard_on s m x)) (sym own.1) (heard-Table, tells-it, sym is_judged)
+    handled-Answers : Answers (heard_on s m (by_token s port (order_token m)))
+    handled-Answers = subst (λ (x : Option OrderRecord). Answers (heard_on s m x)) (sym first.1) (heard-Table, tells-it, sym is_judged)
 
   handled_by-Answers : fault_in s port m ≡ None → Answers (handled_by s port m)
   handled_by-Answers e = by_type (is_type (codes "T") m) (is_type (codes "S") m) refl refl
@@ -230,7 +222,7 @@ module _ (terms : List Terms) (before : History) (s : State) (t : IsTable terms 
       is_judged : judgement terms port m before ≡ None
       is_judged = sym judged ∙ e
 
-      by_type : (x y : Bool) → is_type (codes "T") m ≡ x → is_type (codes "S") m ≡ y → Answers (if x || y then silent s else heard_on s m (by_token s port (heard.token m)))
+      by_type : (x y : Bool) → is_type (codes "T") m ≡ x → is_type (codes "S") m ≡ y → Answers (if x || y then silent s else heard_on s m (by_token s port (order_token m)))
       by_type true y is_t is_s = skip-t (eqb-true (type_of m) 84 is_t) is_judged (rw (is_judged, is_t) refl)
       by_type false true is_t is_s = skip-s (eqb-true (type_of m) 83 is_s) is_judged (rw (is_judged, is_t, is_s) refl)
       by_type false false is_t is_s = handled-Answers is_t is_s is_judged

@@ -40,4 +40,5 @@ pub mod OnPorts
 pub mod Unanswered
 pub mod NewlyAsked
 pub mod AllAsked
+pub mod Known
 pub mod Numbers

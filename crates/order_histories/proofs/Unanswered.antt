@@ -7,6 +7,7 @@ use Rattle.order_law.specs.Messages.{Message}
 use Rattle.order_law.specs.Life.{Life, is_closed, is_dead_state, is_type}
 use Rattle.order_law.specs.History.{Asked, Entry, History, Terms, Turn, accepted, answers, handled, issued, life_of, new_of, numbered, outstanding}
 use Rattle.order_law.specs.Told.{reports_in}
+use Rattle.order_law.specs.Lawful.{order_token}
 use Rattle.order_law.specs.Headline.{Each}
 use Rattle.order_histories.specs.OrderRecord.{OrderRecord, ToldTrade, after_broken, after_message, after_replaced, lived, stands_told}
 use Rattle.order_histories.specs.Table.{State, by_number, by_token, has_number, put}
@@ -245,20 +246,20 @@ module _ (terms : List Terms) (before : History) (s : State) (t : IsTable terms 
     same = λ p. was.same p ∙ sym (append-nothing (outstanding terms p before));
   }
 
-  heard-rest : (x : Option OrderRecord) → by_token s port (heard.token m) ≡ x → LeavesRest (heard_on s m x) (still_asked_on s port m x asked)
+  heard-rest : (x : Option OrderRecord) → by_token s port (order_token m) ≡ x → LeavesRest (heard_on s m x) (still_asked_on s port m x asked)
   heard-rest None on = silent-rest
   heard-rest (Some o) on = λ after. record {
     placed = placed-then terms before s t port m (heard_on s m (Some o)).client (heard_on s m (Some o)).bodies sends was.placed;
     same = rest terms before s t port m (heard_on s m (Some o)).client (heard_on s m (Some o)).bodies sends was.placed (after_message s.exec_ids m o)
-        (ap (port_of terms) (after_message-new s.exec_ids m o) ∙ token-port terms before s t port m (heard.token m) o on) after.fit asked was.same;
+        (ap (port_of terms) (after_message-new s.exec_ids m o) ∙ token-port terms before s t port m (order_token m) o on) after.fit asked was.same;
   }
 
   handled-rest : LeavesRest (handled_by s port m) (still_asked s port m None asked)
   handled-rest = by_type (is_type (codes "T") m || is_type (codes "S") m)
     where
-      by_type : (b : Bool) → LeavesRest (if b then silent s else heard_on s m (by_token s port (heard.token m))) (if b then asked else still_asked_on s port m (by_token s port (heard.token m)) asked)
+      by_type : (b : Bool) → LeavesRest (if b then silent s else heard_on s m (by_token s port (order_token m))) (if b then asked else still_asked_on s port m (by_token s port (order_token m)) asked)
       by_type true = silent-rest
-      by_type false = heard-rest (by_token s port (heard.token m)) refl
+      by_type false = heard-rest (by_token s port (order_token m)) refl
 
   pub market-rest : LeavesRest (market_step s port m) (still_asked s port m (fault_in s port m) asked)
   market-rest = by_fault (fault_in s port m)

@@ -4,14 +4,13 @@
 -- Nobody has to believe it: the code meets it by equality, and the headline is a theorem about its runs.
 use Rattle.std.specs.Prelude.{ℕ, ◌+◌, Bool, List, [], ◌∷◌, ◌++◌, map, length, Option, Some, None, option_map, decimal, if◌then◌else◌, ◌||◌, codes}
 use Rattle.std.specs.List.{count_by}
-use Rattle.ouch_codec.specs.FromMarket as heard
 use Rattle.order_law.specs.declared.stage.Stage.TheVariants.{Waiting}
 use Rattle.order_law.specs.Messages.{Message, text}
 use Rattle.order_law.specs.Life.{is_type}
 use Rattle.order_law.specs.Reading.{is_report}
 use Rattle.order_law.specs.Verdicts.{Port, Verdict, Accepted, Refused, first_row, is_replace, rows_of_new, rows_of_request}
 use Rattle.order_law.specs.History.{Asked, Entry, Event, Came, Heard, is_new_order}
-use Rattle.order_law.specs.Lawful.{judged_by, row_holds}
+use Rattle.order_law.specs.Lawful.{judged_by, order_token, row_holds}
 use Rattle.order_law.specs.Told.{accepted_new, accepted_request, refusal, refused_request, told_by_type, to_client_of}
 use Rattle.order_histories.specs.OrderRecord.{OrderRecord, after_message, after_request, cancel_asked, entered, fill_of, last_of, lived, live_token, new_asked, replace_asked, replacements, shown_as}
 use Rattle.order_histories.specs.Table.{State, by_id, by_token, has_used, named_as, open_count, put, used_by, with_token}
@@ -136,10 +135,10 @@ heard_on s m (Some o) =
       exec_ids = s.exec_ids + count_by is_report (bodies_of s m o);
     }) (to_client_of o.new (bodies_of s m o)).client (bodies_of s m o) []
 
--- a payload that is no fault. `T` and `S` have no token.
+-- A payload that is no fault, on the order that it is judged of. `T` and `S` have no token.
 abbrev pub handled_by : State → ℕ → List ℕ → Given
 handled_by s port m =
-    if is_type (codes "T") m || is_type (codes "S") m then silent s else heard_on s m (by_token s port (heard.token m))
+    if is_type (codes "T") m || is_type (codes "S") m then silent s else heard_on s m (by_token s port (order_token m))
 
 abbrev pub by_fault : State → ℕ → List ℕ → Option ℕ → Given
 by_fault s port m None = handled_by s port m

@@ -3,8 +3,8 @@
 --
 -- Nobody has to believe it: on each port it is what the law says is outstanding, which is a theorem about its runs.
 use Rattle.std.specs.Prelude.{◌≡◌, ℕ, ◌==◌, Bool, not, ◌&&◌, ◌||◌, List, [], ◌∷◌, ◌++◌, map, filter, Option, Some, None, bytes_eq, codes, if◌then◌else◌}
-use Rattle.ouch_codec.specs.FromMarket as heard
 use Rattle.order_law.specs.Life.{is_closed, is_type}
+use Rattle.order_law.specs.Lawful.{order_token}
 use Rattle.order_law.specs.History.{Asked, Came, Event, Heard, History, Terms, answers, terms_of}
 use Rattle.order_histories.specs.OrderRecord.{OrderRecord, after_message}
 use Rattle.order_histories.specs.Table.{State, by_token, empty}
@@ -43,7 +43,7 @@ still_asked_on s port m (Some o) asked = unanswered_by port m (after_message s.e
 abbrev pub still_asked : State → ℕ → List ℕ → Option ℕ → List OnPort → List OnPort
 still_asked s port m (Some fault) asked = asked
 still_asked s port m None asked =
-    if is_type (codes "T") m || is_type (codes "S") m then asked else still_asked_on s port m (by_token s port (heard.token m)) asked
+    if is_type (codes "T") m || is_type (codes "S") m then asked else still_asked_on s port m (by_token s port (order_token m)) asked
 
 -- what is asked after an event, from this table on: what a client's message asks stands behind, on the client's port
 abbrev pub asked_after : State → Event → List OnPort → List OnPort
