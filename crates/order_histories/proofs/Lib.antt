@@ -41,3 +41,4 @@ pub mod Unanswered
 pub mod NewlyAsked
 pub mod AllAsked
 pub mod Known
+pub mod Numbers

@@ -1,15 +1,16 @@
 //! The law of told histories, for those who reason about runs.
 
-ghost use Rattle.std.specs.Prelude.{ℕ, ◌≡◌, ◌<◌, ◌^◌, ◌∷◌, List, Option, filter, length};
+ghost use Rattle.std.specs.Prelude.{ℕ, ◌≡◌, ◌<◌, ◌^◌, ◌∷◌, List, Option, Some, filter, length};
 ghost use Rattle.order_law.specs.History.{Entry, History, Terms, Turn, accepted, is_new_order, outstanding, terms_of};
 ghost use Rattle.order_law.specs.Headline.{Each, Headline, IsTrueToMarket};
 ghost use Rattle.order_law.specs.Messages.{Message};
 ghost use Rattle.order_law.specs.Told.{reports_in};
 ghost use Rattle.order_law.specs.Verdicts.{Port};
 ghost use Rattle.order_histories.specs.Machine.{client_step};
+ghost use Rattle.order_histories.specs.OrderRecord.{OrderRecord};
 ghost use Rattle.order_histories.specs.Outstanding.{LeavesAsked, OnPort, on_port};
 ghost use Rattle.order_histories.specs.Runs.{Finds, LeadsTo, Leaves};
-ghost use Rattle.order_histories.specs.Table.{State};
+ghost use Rattle.order_histories.specs.Table.{State, by_id, by_number};
 ghost use Rattle.order_histories.specs.Told.{IsTold};
 
 /// In every history whose turns tell what the law tells, with the faults that it judges, each accepted order is true to the
@@ -42,4 +43,11 @@ pub fn asked_tokens_lead_to_their_orders()
     ensures { (terms : List Terms) (before : History) (s : State) (client : ℕ) (m : Message) (port : Port) (order_of : List ℕ → Option ℕ)
         → length before < 2 ^ 58 → Leaves terms before s → LeadsTo (client_step s client m port).state (terms_of s.terms client).port order_of
         → Each (Finds order_of) (client_step s client m port).asks }
+{}
+
+/// In every run, the order that a client's ClOrdID names is the one that its OrderID leads to, so it can be changed by its
+/// OrderID. It does nothing: its contract is the law, for callers to cite.
+pub fn orders_go_by_their_numbers()
+    ensures { (terms : List Terms) (before : History) (s : State) (client : ℕ) (id : List ℕ) (o : OrderRecord) → length before < 2 ^ 58 → Leaves terms before s
+        → by_id s client id ≡ Some o → by_number s o.new.order ≡ Some o }
 {}
