@@ -1,5 +1,6 @@
 pub mod Terms
 pub mod Carried
+pub mod Entered
 pub mod Sent
 pub mod Requests
 pub mod NewVerdict

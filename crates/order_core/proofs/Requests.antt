@@ -1,5 +1,5 @@
 -- A cancel or a replace, put into the table, is what the table's step gives.
-use Rattle.std.proofs.Common.{◌≡◌, ℕ, ◌+◌, List, [], ◌∷◌, map, sym, ap, ◌∙◌, subst, Option, Some, decimal}
+use Rattle.std.proofs.Common.{◌≡◌, ℕ, ◌+◌, ◌≤◌, List, [], ◌∷◌, length, map, refl, sym, ap, ◌∙◌, subst, arith, Option, Some, None, decimal}
 use Rattle.fix_types.specs.declared.application.AppBody.{AppBody}
 use Rattle.ouch_codec.specs.Inbound.{inbound_bytes}
 use Rattle.ouch_codec.specs.declared.inbound.Inbound.{Inbound}
@@ -14,7 +14,7 @@ use Rattle.order_histories.specs.Table.{GivenToken, State, by_number, put}
 use Rattle.orders.specs.Seen.{cancel_seen, replace_seen}
 use Rattle.orders.specs.declared.requests.Cancelling.{Cancelling}
 use Rattle.orders.specs.declared.requests.Replacing.{Replacing}
-use Rattle.order_table.specs.Held.{Held}
+use Rattle.order_table.specs.Held.{Held, changed, with_number}
 use Rattle.to_client.specs.Pending.{body_fields}
 use Rattle.to_market.specs.PortsSeen.{port_seen}
 use Rattle.request_turns.specs.Turns.{IsCancelling, IsReplacing}
@@ -49,10 +49,10 @@ module _ (old : State) (sender : Sender) (m : Message) (out : CoreOut) (new : St
   pub cancelling-meets : (c : Cancelling) → IsCancelling old sender m order_id c body out.sends.items
       → ((o : OrderRecord) → by_number old (decimal order_id) ≡ Some o → held ≡ record { orders = put (at o o.replace (Some (cancel_seen o.new.client order_id c))) old.orders; tokens = old.tokens })
       → MeetsFields old sender.client m (port_seen sender.port) out new
-  cancelling-meets c is changed =
+  cancelling-meets c is is_changed =
       let found : by_number old (decimal order_id) ≡ Some is.order = ap (by_number old) (sym is.of_order) ∙ numbered sender.client _ is.order is.named in
       record {
-        state = state ∙ ap (with_table old sender.client m) (changed is.order found) ∙ ap (λ (g : Given). g.state) (sym is.gives);
+        state = state ∙ ap (with_table old sender.client m) (is_changed is.order found) ∙ ap (λ (g : Given). g.state) (sym is.gives);
         for_client = ap (λ (g : Given). g.client) is.gives;
         bodies = ap (map body_fields) told ∙ ap (λ (g : Given). g.bodies) (sym is.gives);
         no_fault = ap (λ (g : Given). g.fault) is.gives;
@@ -62,12 +62,32 @@ module _ (old : State) (sender : Sender) (m : Message) (out : CoreOut) (new : St
   pub replacing-meets : (r : Replacing) (given : GivenToken) → IsReplacing old sender m order_id r given body out.sends.items
       → ((o : OrderRecord) → by_number old (decimal order_id) ≡ Some o → held ≡ record { orders = put (at o (Some (replace_seen o.new.client order_id r)) o.cancel) old.orders; tokens = given ∷ old.tokens })
       → MeetsFields old sender.client m (port_seen sender.port) out new
-  replacing-meets r given is changed =
+  replacing-meets r given is is_changed =
       let found : by_number old (decimal order_id) ≡ Some is.order = ap (by_number old) (sym is.of_order) ∙ numbered sender.client _ is.order is.named in
       record {
-        state = state ∙ ap (with_table old sender.client m) (changed is.order found) ∙ ap (λ (g : Given). g.state) (sym is.gives);
+        state = state ∙ ap (with_table old sender.client m) (is_changed is.order found) ∙ ap (λ (g : Given). g.state) (sym is.gives);
         for_client = ap (λ (g : Given). g.client) is.gives;
         bodies = ap (map body_fields) told ∙ ap (λ (g : Given). g.bodies) (sym is.gives);
         no_fault = ap (λ (g : Given). g.fault) is.gives;
         sends = subst (SendsOf old sender.client (port_seen sender.port) out) (sym is.gives) is.says;
       }
+
+-- ---- tokens
+
+-- a cancel takes no token
+pub same-tokens : (h k : Held) (order_id : ℕ) (f : OrderRecord → OrderRecord) → ((o : OrderRecord) → with_number h order_id ≡ Some o → k ≡ changed (f o) h) → (with_number h order_id ≡ None → k ≡ h)
+    → length k.tokens ≡ length h.tokens
+same-tokens h k order_id f accepted unknown = by_order (with_number h order_id) refl
+  where
+    by_order : (x : Option OrderRecord) → with_number h order_id ≡ x → length k.tokens ≡ length h.tokens
+    by_order None e = ap (λ (x : Held). length x.tokens) (unknown e)
+    by_order (Some o) e = ap (λ (x : Held). length x.tokens) (accepted o e)
+
+-- a replace takes one
+pub one_token : (h k : Held) (order_id : ℕ) (given : GivenToken) (f : OrderRecord → OrderRecord) → ((o : OrderRecord) → with_number h order_id ≡ Some o → k ≡ record { orders = put (f o) h.orders; tokens = given ∷ h.tokens })
+    → (with_number h order_id ≡ None → k ≡ h) → length k.tokens ≤ length h.tokens + 1
+one_token h k order_id given f accepted unknown = by_order (with_number h order_id) refl
+  where
+    by_order : (x : Option OrderRecord) → with_number h order_id ≡ x → length k.tokens ≤ length h.tokens + 1
+    by_order None e = let same : length k.tokens ≡ length h.tokens = ap (λ (x : Held). length x.tokens) (unknown e) in omega (arith, same)
+    by_order (Some o) e = let more : length k.tokens ≡ length (given ∷ h.tokens) = ap (λ (x : Held). length x.tokens) (accepted o e) in omega (arith, more)

@@ -35,7 +35,7 @@ Leaves-more terms before old t new leaves leads = (old, leaves, leads)
 pub Leaves-client : (terms : List Terms) (before : History) (old : State) (client : ℕ) (message : AppMsg) (port : PortState) (out : CoreOut) (new : State)
     → GoByNumbers old
     → ((order_of : List ℕ → Option ℕ) → LeadsTo (client_step old client (message_fields message) (port_seen port)).state (terms_of old.terms client).port order_of
-        → Each (Finds order_of) (client_step old client (message_fields message) (port_seen port)).asks)
+    → Each (Finds order_of) (client_step old client (message_fields message) (port_seen port)).asks)
     → MeetsMessage old client message (port_seen port) out new
     → Leaves terms before old → Leaves terms (client_turn client message port out ∷ before) new
 Leaves-client terms before old client message port out new numbered known meets leaves =

@@ -15,6 +15,7 @@ mod sender;
 mod turns;
 
 pub use cancels::on_cancel;
+pub use named::shown_now;
 pub use replaces::on_replace;
 pub use sender::Sender;
 pub use turns::{CancelTurn, ReplaceTurn};

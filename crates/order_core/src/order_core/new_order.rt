@@ -23,8 +23,9 @@ use fix_values::ClOrdId;
 use order_table::GivenToken;
 use orders::{Order, Progress};
 use ouch_codec::{EnterOrder, Inbound};
+use request_turns::shown_now;
 use std::alloc::{AllocError, Global};
-use to_client::{Occasion, refusal, report_of, shown_of};
+use to_client::{Occasion, refusal, report_of};
 use to_market::{ClientTerms, PortState, Refusal, ask_of, enter_order, refuse_if, refuse_port};
 use tokens::Token;
 
@@ -192,8 +193,7 @@ impl OrderCore {
 fn report_pending_new(alloc: Global, number: u64, order: &Order) -> Result<Report, AllocError>
     ensures { IfOk result (λ r. report_fields r ≡ law.report number (law.plain (codes "A")) (shown_as order.now)) }
 {
-    let shown = shown_of(order, &order.progress);
-    report_of(alloc, number, Occasion::PendingNew, &shown)
+    report_of(alloc, number, Occasion::PendingNew, &shown_now(order))
 }
 
 /// The terms of a client.

@@ -45,10 +45,11 @@ impl OrderCore {
             terms,
             port,
         };
-        let is_duplicate = is_used(&self.used, client, &request.cl_ord_id);
+        let own_id = &request.cl_ord_id;
+        let is_duplicate = is_used(&self.used, client, own_id);
         let issued = self.exec_ids;
         match on_cancel(alloc, issued, &self.table, &sender, is_duplicate, request)? {
-            CancelTurn::Refused(body) => self.refuse_request(alloc, client, &request.cl_ord_id, body),
+            CancelTurn::Refused(body) => self.refuse_request(alloc, client, own_id, body),
             CancelTurn::Accepted {
                 order_id,
                 cancelling,
@@ -80,10 +81,11 @@ impl OrderCore {
             terms,
             port,
         };
-        let is_duplicate = is_used(&self.used, client, &request.cl_ord_id);
+        let id = &request.cl_ord_id;
+        let is_duplicate = is_used(&self.used, client, id);
         let issued = self.exec_ids;
         match on_replace(alloc, issued, &self.table, &sender, is_duplicate, request)? {
-            ReplaceTurn::Refused(body) => self.refuse_request(alloc, client, &request.cl_ord_id, body),
+            ReplaceTurn::Refused(body) => self.refuse_request(alloc, client, id, body),
             ReplaceTurn::Accepted {
                 order_id,
                 replacing,
@@ -91,7 +93,9 @@ impl OrderCore {
                 body,
                 sends,
             } => {
-                self.accept_replace(alloc, &sender, request, order_id, replacing, given, body, sends)
+                self.accept_replace(
+                    alloc, &sender, request, order_id, replacing, given, body, sends,
+                )
             }
         }
     }
