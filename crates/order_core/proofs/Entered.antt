@@ -1,25 +1,25 @@
--- The table after an accepted new order.
-use Rattle.std.proofs.Common.{◌≡◌, ℕ, ◌+◌, List, [], ◌∷◌, ◌++◌, length, refl, decimal}
+-- An accepted new order: the table that it leaves, and what its client is told.
+use Rattle.std.proofs.Common.{◌≡◌, ℕ, ◌+◌, List, [], ◌∷◌, codes, length, refl, decimal}
 use Rattle.std.specs.Prelude.{false}
 use Rattle.fix_types.specs.declared.new_order.NewOrder.{NewOrder}
 use Rattle.fix_types.specs.NewOrder.{new_order_fields}
 use Rattle.tokens.specs.TokenText.{token_text}
-use Rattle.order_law.specs.History.{terms_of}
+use Rattle.order_law.specs.History.{Entry, terms_of}
+use Rattle.order_law.specs.Told as law
 use Rattle.order_histories.specs.Machine.{accept_new, entry_of_new}
-use Rattle.order_histories.specs.OrderRecord.{OrderRecord, entered}
-use Rattle.order_histories.specs.Table.{GivenToken, State, UsedId}
-use Rattle.order_table.specs.Held.{Held}
-
--- with these lists of orders, tokens and used ids, and one OrderID and one report more
-abbrev pub with_lists : State → Held → List UsedId → State
-with_lists s held used = record s { orders = held.orders; tokens = held.tokens; used = used; order_ids = s.order_ids + 1; exec_ids = s.exec_ids + 1 }
+use Rattle.order_histories.specs.OrderRecord.{OrderRecord, entered, shown_as}
+use Rattle.order_histories.specs.Table.{GivenToken, State}
+use Rattle.order_core.specs.State.{with_order}
 
 -- the token that a new order is given
 abbrev pub given_to : ℕ → List ℕ → ℕ → GivenToken
-given_to port token order_ids = record { port = port; text = token; order = decimal (order_ids + 1); is_replacement = false }
+given_to port token order_id = record { port = port; text = token; order = decimal order_id; is_replacement = false }
 
-pub accepted-state : (s v : State) (client : ℕ) (d : NewOrder) (held : Held) (used : List UsedId) (o : OrderRecord) (port : ℕ) (token : List ℕ)
-    → v ≡ s → held ≡ record { orders = o ∷ v.orders; tokens = given_to port token v.order_ids ∷ v.tokens } → used ≡ v.used ++ record { client = client; id = d.cl_ord_id } ∷ []
-    → o ≡ entered (entry_of_new s client (new_order_fields d)) → port ≡ (terms_of s.terms client).port → token ≡ token_text (length s.tokens + 1)
-    → with_lists v held used ≡ (accept_new s client (new_order_fields d)).state
-accepted-state s v client d held used o port token same is_held is_used is_order is_port is_token = rw (is_held, is_used, is_order, is_port, is_token, same) refl
+pub accepted-state : (s : State) (client : ℕ) (d : NewOrder) (o : OrderRecord) (port : ℕ) (token : List ℕ) (order_id : ℕ) (id : List ℕ)
+    → o ≡ entered (entry_of_new s client (new_order_fields d)) → port ≡ (terms_of s.terms client).port → token ≡ token_text (length s.tokens + 1) → order_id ≡ s.order_ids + 1 → id ≡ d.cl_ord_id
+    → with_order s o (given_to port token order_id) (record { client = client; id = id }) ≡ (accept_new s client (new_order_fields d)).state
+accepted-state s client d o port token order_id id is_order is_port is_token is_number is_id = rw (is_order, is_port, is_token, is_number, is_id) refl
+
+-- as it waits, it is told
+pub told-new : (number : ℕ) (e : Entry) → law.report number (law.plain (codes "A")) (shown_as (entered e)) ∷ [] ≡ law.accepted_new number e
+told-new number e = refl

@@ -1,6 +1,7 @@
 -- What callers see of the table: how many clients and numbers there are.
-use Rattle.std.specs.Prelude.{ℕ, ◌+◌, ◌<◌, ◌≤◌, ◌^◌, length}
-use Rattle.order_histories.specs.Table.{State}
+use Rattle.std.specs.Prelude.{ℕ, ◌+◌, ◌<◌, ◌≤◌, ◌^◌, ◌++◌, ◌∷◌, [], length}
+use Rattle.order_histories.specs.OrderRecord.{OrderRecord}
+use Rattle.order_histories.specs.Table.{GivenToken, State, UsedId}
 
 -- how many clients there are
 abbrev pub clients : State → ℕ
@@ -18,3 +19,13 @@ issued s = s.order_ids + s.exec_ids + length s.tokens
 -- numbers are left for one call more, and for far more than any day has
 abbrev pub HasRoom : State → Type 0
 HasRoom s = issued s < 2 ^ 60
+
+-- one order more, with its token and its id, one OrderID and one report
+abbrev pub with_order : State → OrderRecord → GivenToken → UsedId → State
+with_order s order given id = record s {
+  orders = order ∷ s.orders;
+  tokens = given ∷ s.tokens;
+  used = s.used ++ id ∷ [];
+  order_ids = s.order_ids + 1;
+  exec_ids = s.exec_ids + 1;
+}

@@ -1,6 +1,6 @@
 //! A new order: its verdict, and what either verdict does.
 
-ghost use Rattle.std.specs.Prelude.{◌≡◌, ◌≤◌, ◌+◌, ◌<◌, ◌^◌, ◌∷◌, [], ℕ, List, Option, true, false, nat_le, slice_get, Some, length, map, codes, IfOk, OnErr, MatchResult};
+ghost use Rattle.std.specs.Prelude.{◌≡◌, ◌≤◌, ◌+◌, ◌<◌, ◌^◌, ◌∷◌, [], ℕ, List, Option, true, false, nat_le, slice_get, Some, length, map, codes, option_to_list, IfOk, OnErr, MatchResult};
 ghost use Rattle.tokens.specs.TokenText.{token_text};
 ghost use Rattle.fix_types.specs.NewOrder.{new_order_fields};
 ghost use Rattle.fix_types.specs.Report.{report_fields};
@@ -43,7 +43,7 @@ impl OrderCore {
     ghost use Rattle.to_market.specs.Refusals.{code_of, refused_by, words_of};
     ghost use Rattle.to_market.specs.PortsSeen.{port_seen};
     ghost use Rattle.to_market.specs.TermsSeen.{terms_seen};
-    ghost use Rattle.order_core.specs.State.{clients, IsClient, issued, HasRoom};
+    ghost use Rattle.order_core.specs.State.{clients, IsClient, issued, HasRoom, with_order};
 
     /// A new order of a client.
     pub(super) fn new_order(
@@ -148,21 +148,31 @@ impl OrderCore {
         let bodies = one_body(alloc, AppBody::Report(report))?;
         let sends = sends_of(alloc, enter, state)?;
         let cl_ord_id = ClOrdId::copied(alloc, order.cl_ord_id.as_slice())?;
-        let token = enter.token;
-        self.used.reserve(1)?;
-        self.table.add(
-            entered,
-            GivenToken {
-                port,
-                token,
-                order_id,
-                is_replacement: false,
-            },
-        )?;
-        push_used(&mut self.used, UsedId { client, cl_ord_id });
-        self.order_ids = order_id;
-        self.exec_ids = exec_id;
+        let given = GivenToken {
+            port,
+            token: enter.token,
+            order_id,
+            is_replacement: false,
+        };
+        self.keep(entered, given, UsedId { client, cl_ord_id })?;
         Ok(CoreOut { bodies, sends })
+    }
+
+    /// Keeps an accepted new order with its token, and its ClOrdID as used: one OrderID and one report more were given.
+    fn keep(&mut self, order: Order, given: GivenToken, id: UsedId) -> Result<(), AllocError>
+        requires room { HasRoom self.old }
+        requires fresh { length order.tokens + length (option_to_list order.replace) ≤ 1 }
+        ensures kept { IfOk result (λ nothing. self.new ≡ with_order self.old order given id) }
+        ensures clients { clients self.new ≡ clients self.old }
+        ensures issued { issued self.new ≤ issued self.old + 3 }
+        ensures err { OnErr result (self.new ≡ self.old) }
+    {
+        self.used.reserve(1)?;
+        self.table.add(order, given)?;
+        push_used(&mut self.used, id);
+        self.order_ids += 1;
+        self.exec_ids += 1;
+        Ok(())
     }
 
     /// The order that then waits for the market.

@@ -1,21 +1,32 @@
-use Rattle.std.proofs.Common.{◌+◌, [], ◌∷◌, List, codes, map, refl, ap, ◌∙◌}
+use Rattle.std.proofs.Common.{◌+◌, [], ◌∷◌, codes, map, refl, ap, ◌∙◌}
+use Rattle.fix_types.specs.NewOrder.{new_order_fields}
 use Rattle.order_law.specs.Messages.{Message}
 use Rattle.order_law.specs.Told as law
+use Rattle.order_histories.specs.Machine.{entry_of_new}
 use Rattle.order_histories.specs.OrderRecord.{OrderRecord, shown_as}
+use Rattle.order_histories.specs.Table.{State}
 use Rattle.to_client.specs.Pending.{body_fields}
-use Rattle.order_core.specs.contracts.order_core.OrderCore.{the_view}
-use Rattle.order_core.proofs.Entered.{accepted-state}
+use Rattle.order_core.proofs.Entered.{accepted-state, told-new}
 use Rattle.order_core.proofs.order_core.OrderCore.accept.Goals as goal
 
 pub returns-clause-meets : goal.returns-clause-meets
 returns-clause-meets c = record {
   state =
-      accepted-state c.args.self.now (the_view c.self.inside) c.args.client c.args.order.now c.add.new.self c.push_used.new.used.items c.in_ok-entered.entered c.args.port c.args.enter.token
-      c.self.view_is c.in_ok-add.ensures.added c.push_used.ensures c.in_ok-entered.ensures c.requires.port c.requires.enter.token;
+      c.in_ok-keep.ensures.kept
+      ∙ accepted-state c.args.self.now c.args.client c.args.order.now c.in_ok-entered.entered c.args.port c.args.enter.token (c.self.inside.order_ids + 1) c.in_ok-cl_ord_id.cl_ord_id
+      c.in_ok-entered.ensures c.requires.port c.requires.enter.token (ap (λ (s : State). s.order_ids + 1) c.self.view_is) (c.in_ok-cl_ord_id.ensures ∙ c.as_slice.ensures.bytes);
   for_client = refl;
   bodies =
       ap (map body_fields) c.in_ok-bodies.ensures
-      ∙ ap (λ (m : Message). m ∷ []) (c.in_ok-report.ensures ∙ ap (λ (o : OrderRecord). law.report (c.args.self.now.exec_ids + 1) (law.plain (codes "A")) (shown_as o)) c.in_ok-entered.ensures);
+      ∙ ap (λ (m : Message). m ∷ []) (c.in_ok-report.ensures ∙ ap (λ (o : OrderRecord). law.report (c.self.inside.exec_ids + 1) (law.plain (codes "A")) (shown_as o)) c.in_ok-entered.ensures)
+      ∙ told-new (c.self.inside.exec_ids + 1) (entry_of_new c.args.self.now c.args.client (new_order_fields c.args.order.now))
+      ∙ ap (λ (s : State). law.accepted_new (s.exec_ids + 1) (entry_of_new c.args.self.now c.args.client (new_order_fields c.args.order.now))) c.self.view_is;
   no_fault = refl;
   sends = λ order_of finds. c.in_ok-sends.ensures _ order_of _ (c.requires.enter.says order_of);
 }
+
+pub returns-clause-clients : goal.returns-clause-clients
+returns-clause-clients c = c.keep.ensures.clients
+
+pub returns-clause-issued : goal.returns-clause-issued
+returns-clause-issued c = c.keep.ensures.issued
