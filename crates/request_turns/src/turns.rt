@@ -16,6 +16,7 @@ pub enum CancelTurn {
         order_id: u64,
         /// What the order keeps of it.
         cancelling: Cancelling,
+        /// The report that it is pending.
         body: AppBody,
         /// What goes to the market now: nothing where the port isn't up.
         sends: Vec<Inbound>,
@@ -35,6 +36,7 @@ pub enum ReplaceTurn {
         replacing: Replacing,
         /// The token that the order is to go by: the next one.
         given: GivenToken,
+        /// The report that it is pending.
         body: AppBody,
         /// What goes to the market now: nothing where the port isn't up.
         sends: Vec<Inbound>,
