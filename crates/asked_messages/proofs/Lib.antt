@@ -1,0 +1,4 @@
+pub mod Saying
+pub mod Orders
+pub mod Lists
+pub mod Holding
