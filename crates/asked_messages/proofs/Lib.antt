@@ -2,3 +2,5 @@ pub mod Saying
 pub mod Orders
 pub mod Lists
 pub mod Holding
+pub mod Finding
+pub mod InTurns

@@ -10,7 +10,7 @@ use Rattle.order_law.specs.Asks.{Standing, ask_of_bytes}
 use Rattle.order_law.specs.Life.{is_type}
 use Rattle.order_law.specs.History.{Asked, Said, SaysNew, SaysReplace, SaysCancel}
 use Rattle.order_law.specs.Headline.{HasTokens, Says}
-use Rattle.asked_messages.specs.Keeping.{FindsSaid, Finds, always}
+use Rattle.asked_messages.specs.Keeping.{finds_said, Finds, always}
 
 with_false : (x : Bool) → (x && false) ≡ false
 with_false true = refl
@@ -39,7 +39,7 @@ asks-alike : (standing : Standing) (one other : List ℕ → Option ℕ) (m : Li
     → ask_of_bytes standing one m ≡ ask_of_bytes standing other m
 asks-alike standing one other m order e f = rw (e, f) refl
 
-asks-found : (standing : Standing) (s : Said) (order : List ℕ) (order_of : List ℕ → Option ℕ) (m : List ℕ) → HasTokens s m → FindsSaid order_of (digits_value 10 order) s
+asks-found : (standing : Standing) (s : Said) (order : List ℕ) (order_of : List ℕ → Option ℕ) (m : List ℕ) → HasTokens s m → finds_said order_of order s
     → ask_of_bytes standing order_of m ≡ ask_of_bytes standing (always order) m
 asks-found standing (SaysNew token) order order_of m h finds = new-names-none standing order_of (always order) m h.0
 asks-found standing (SaysReplace from to) order order_of m h finds =

@@ -12,14 +12,15 @@ use Rattle.order_histories.specs.OrderRecord.{OrderRecord}
 use Rattle.order_histories.specs.Outstanding.{OnPort, asked_on, on_port, unanswered_by}
 use Rattle.asked_messages.specs.Kept.{KeptMessage, bytes_on, kept_from, left_by}
 
--- the token that a message names its order by leads to this order
-abbrev pub FindsSaid : (List ℕ → Option ℕ) → ℕ → Said → Type 0
-FindsSaid order_of order (SaysNew token) = Unit {0}
-FindsSaid order_of order (SaysReplace from to) = order_of from ≡ Some order
-FindsSaid order_of order (SaysCancel token) = order_of token ≡ Some order
+-- the token that a message is about leads to the order with this OrderID. A new order's token is its own.
+abbrev pub finds_said : (List ℕ → Option ℕ) → List ℕ → Said → Type 0
+finds_said order_of order (SaysNew token) = Unit {0}
+finds_said order_of order (SaysReplace from to) = order_of from ≡ Some (digits_value 10 order)
+finds_said order_of order (SaysCancel token) = order_of token ≡ Some (digits_value 10 order)
 
+-- the token that a message is about leads to the order that it is asked of
 abbrev pub Finds : (List ℕ → Option ℕ) → Asked → Type 0
-Finds order_of asked = FindsSaid order_of (digits_value 10 asked.order) asked.said
+Finds order_of a = finds_said order_of a.order a.said
 
 -- whatever the token, it is this order that is meant
 abbrev pub always : List ℕ → List ℕ → Option ℕ

@@ -4,7 +4,7 @@ use Rattle.order_law.specs.Messages.{Message}
 use Rattle.order_law.specs.Verdicts.{Port}
 use Rattle.order_law.specs.History.{Came, Event, Heard, History, Terms, Turn, outstanding, terms_of}
 use Rattle.order_histories.specs.Told.{IsEvent}
-use Rattle.order_histories.specs.Table.{State}
+use Rattle.order_histories.specs.Table.{State, empty}
 use Rattle.order_histories.specs.Machine.{client_step, market_step, step}
 use Rattle.order_histories.specs.Runs.{Leads, Leaves, Meets}
 use Rattle.order_histories.specs.Outstanding.{LeavesAsked, OnPort, asked_after, asked_on, on_port}
@@ -43,6 +43,11 @@ module _ (terms : List Terms) (before : History) (s : State) (h : Holding terms 
 
 -- ---- runs
 
+-- no turn
+pub LeavesAsked-none : (terms : List Terms) → LeavesAsked terms [] (empty terms) []
+unfolding LeavesAsked
+LeavesAsked-none terms = (refl, refl)
+
 -- one more turn
 pub LeavesAsked-more : (terms : List Terms) (before : History) (old : State) (was : List OnPort) (t : Turn) (s : State) → LeavesAsked terms before old was → Leads old t s → LeavesAsked terms (t ∷ before) s (asked_after old t.event was)
 unfolding LeavesAsked
@@ -54,7 +59,7 @@ unfolding LeavesAsked Leaves
 LeavesAsked-Leaves terms [] s asked leaves = leaves.0
 LeavesAsked-Leaves terms (t ∷ before) s asked leaves = (leaves.0, LeavesAsked-Leaves terms before leaves.0 leaves.1 leaves.2, leaves.3)
 
-LeavesAsked-Asking : (terms : List Terms) (h : History) (s : State) (asked : List OnPort) → length h < 2 ^ 59 → LeavesAsked terms h s asked → Asking terms h asked
+pub LeavesAsked-Asking : (terms : List Terms) (h : History) (s : State) (asked : List OnPort) → length h < 2 ^ 59 → LeavesAsked terms h s asked → Asking terms h asked
 unfolding LeavesAsked
 LeavesAsked-Asking terms [] s asked short leaves = subst (Asking terms []) (sym leaves.1) (record { placed = λ p. tt; same = λ p. refl })
 LeavesAsked-Asking terms (t ∷ before) s asked short leaves =

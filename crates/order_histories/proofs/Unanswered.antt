@@ -66,7 +66,7 @@ if-new : (b : Bool) (x y : OrderRecord) (e : Entry) → x.new ≡ e → y.new �
 if-new true x y e same same' = same
 if-new false x y e same same' = same'
 
-after_message-new : (n : ℕ) (m : List ℕ) (o : OrderRecord) → (after_message n m o).new ≡ o.new
+pub after_message-new : (n : ℕ) (m : List ℕ) (o : OrderRecord) → (after_message n m o).new ≡ o.new
 after_message-new n m o =
     if-new (is_type (codes "A") m) _ _ o.new (if-new (is_dead_state m) _ _ o.new refl refl)
     (if-new (is_type (codes "U") m) _ _ o.new (by_request o.replace refl)
