@@ -1,30 +1,31 @@
 -- Each turn keeps the messages that are asked and not answered, and no others.
-use Rattle.std.proofs.Common.{◌≡◌, ℕ, ◌<◌, ◌^◌, Bool, true, false, List, [], ◌∷◌, ◌++◌, length, map, refl, sym, ap, ◌∙◌, subst, subst₂, Option, Some, None, eq-eqb}
-use Rattle.std.specs.Prelude.{◌==◌, ◌||◌, codes, filter, if◌then◌else◌, option_to_list}
+use Rattle.std.proofs.Common.{◌≡◌, ℕ, ◌<◌, ◌^◌, Bool, true, false, List, [], ◌∷◌, ◌++◌, length, map, refl, sym, ap, ◌∙◌, subst, subst₂, arith, Option, Some, None, eq-eqb}
+use Rattle.std.specs.Prelude.{◌==◌, filter, if◌then◌else◌, option_to_list}
 use Rattle.ouch_codec.specs.declared.inbound.Inbound.{Inbound}
 use Rattle.ouch_codec.specs.Inbound.{inbound_bytes}
 use Rattle.order_law.specs.Asks.{Standing}
-use Rattle.order_law.specs.Life.{is_closed, is_type}
-use Rattle.order_law.specs.Lawful.{order_token}
+use Rattle.order_law.specs.Life.{is_closed}
 use Rattle.order_law.specs.Messages.{Message}
 use Rattle.order_law.specs.Verdicts.{Port}
-use Rattle.order_law.specs.History.{Asked, Came, Entry, Event, History, Terms, accepted, asks, asks_of, entry_at, handled, issued, numbered, outstanding, terms_of}
+use Rattle.order_law.specs.History.{Asked, Came, Entry, Event, Heard, History, Terms, Turn, accepted, asks, asks_of, entry_at, handled, issued, numbered, outstanding, terms_of}
 use Rattle.order_law.specs.Headline.{Each, EachWith, Says, order_number}
-use Rattle.order_histories.specs.OrderRecord.{OrderRecord, after_message}
-use Rattle.order_histories.specs.Table.{State, by_token}
-use Rattle.order_histories.specs.Machine.{client_step, fault_in}
-use Rattle.order_histories.specs.Outstanding.{LeavesAsked, OnPort, asked_after, asked_on, is_on, on_port, still_asked, still_asked_on}
+use Rattle.order_histories.specs.OrderRecord.{OrderRecord}
+use Rattle.order_histories.specs.Table.{State, by_token, put}
+use Rattle.order_histories.specs.Machine.{client_step, market_step, step}
+use Rattle.order_histories.specs.Outstanding.{LeavesAsked, OnPort, asked_on, is_on, on_port, unanswered_by}
+use Rattle.order_histories.specs.Runs.{Leads, Leaves, Meets}
 use Rattle.order_histories.proofs.Lists.{Each-map}
-use Rattle.order_histories.proofs.Holds.{IsEntry, port_of}
+use Rattle.order_histories.proofs.Holds.{FitsIn, IsEntry, port_of}
 use Rattle.order_histories.proofs.Coming.{coming_turn}
-use Rattle.order_histories.proofs.Linked.{IsTable}
-use Rattle.order_histories.proofs.Running.{Holding, Leaves-Holding, client-goes}
-use Rattle.order_histories.proofs.Unanswered.{Asking, IsPlaced, after_message-new}
-use Rattle.order_histories.proofs.NewlyAsked.{asks-own, known-still, taken-client}
-use Rattle.order_histories.proofs.AllAsked.{LeavesAsked-Asking, LeavesAsked-Leaves, LeavesAsked-more, LeavesAsked-none}
+use Rattle.order_histories.proofs.Hearing.{append-nothing, heard_turn}
+use Rattle.order_histories.proofs.Linked.{IsTable, token-port}
+use Rattle.order_histories.proofs.Running.{Holding, Leaves-Holding, client-goes, next-Holding, same-turn}
+use Rattle.order_histories.proofs.Unanswered.{ArePlaced, Asking, IsPlaced, all-stay, rest}
+use Rattle.order_histories.proofs.NewlyAsked.{asks-own, came-Asking, known-still, taken-client}
+use Rattle.order_histories.proofs.AllAsked.{LeavesAsked-Asking, LeavesAsked-some}
 use Rattle.asked_messages.specs.Kept.{KeptMessage, bytes_on, kept_from, left_by}
 use Rattle.asked_messages.specs.Keeping.{AreKept, Finds, SaysAsked, always}
-use Rattle.asked_messages.specs.KeptInTurns.{ClientTurnsKeep, MarketTurnsKeep, NothingIsKept, OutstandingIsKept, SaysIn, client_by, standing_by, standing_in, still_kept, still_kept_on}
+use Rattle.asked_messages.specs.KeptInTurns.{ClientTurnsKeep, KeepsOutstanding, MarketTurnsKeep, NothingIsKept, OutstandingIsKept, QuietTurnsKeep, SaysIn, client_by, standing_by, standing_in}
 use Rattle.asked_messages.proofs.Finding.{outstanding-found}
 use Rattle.asked_messages.proofs.Lists.{answering-keeps, ports-are-said, pushing-keeps, standings-grow}
 
@@ -82,8 +83,8 @@ module _ (terms : List Terms) (before : History) (s : State) (h : Holding terms 
       ap (λ (x : Option Entry). (terms_of terms (client_by x)).standing)
       (known-still terms before client m port bodies [] (client_step s client m port).state after a p taken refl k ∙ sym k.known)
 
-  all-stay : (asked : List OnPort) → Asking terms before asked → Each (λ (q : OnPort). standing_by terms later q.asked.order ≡ standing_by terms A q.asked.order) asked
-  all-stay asked was =
+  all-stay-as : (asked : List OnPort) → Asking terms before asked → Each (λ (q : OnPort). standing_by terms later q.asked.order ≡ standing_by terms A q.asked.order) asked
+  all-stay-as asked was =
       each-port (λ (a : Asked). standing_by terms later a.order ≡ standing_by terms A a.order) asked
       (λ p. subst (Each (λ (a : Asked). standing_by terms later a.order ≡ standing_by terms A a.order)) (sym (was.same p))
       (Each-map (IsPlaced terms A p) (λ (a : Asked). standing_by terms later a.order ≡ standing_by terms A a.order) (outstanding terms p before) (stays p) (was.placed p)))
@@ -118,64 +119,115 @@ module _ (terms : List Terms) (before : History) (s : State) (h : Holding terms 
       → EachWith (Says (terms_of terms client).standing (always order)) (client_step s client m port).asks (map inbound_bytes messages)
       → (home : ℕ) → AreKept (standing_by terms later) (asked ++ asked_on home (client_step s client m port).asks) (kept ++ kept_from home order messages)
   came-keeps asked kept was along order messages of_order says home =
-      pushing-keeps (standing_by terms later) asked kept (standings-grow (standing_by terms A) (standing_by terms later) asked kept along (all-stay asked was))
+      pushing-keeps (standing_by terms later) asked kept (standings-grow (standing_by terms A) (standing_by terms later) asked kept along (all-stay-as asked was))
       home order (client_step s client m port).asks messages of_order
       (newly-said (standing_by terms later) (terms_of terms client).standing order (client_step s client m port).asks (map inbound_bytes messages) of_order asks-stand says)
 
--- ---- a payload
-
-heard-keeps : (standing_of : List ℕ → Standing) (s : State) (port : ℕ) (m : List ℕ) (asked : List OnPort) (kept : List KeptMessage) → AreKept standing_of asked kept
-    → (fault : Option ℕ) → AreKept standing_of (still_asked s port m fault asked) (still_kept s port m fault kept)
-heard-keeps standing_of s port m asked kept along (Some fault) = along
-heard-keeps standing_of s port m asked kept along None = by_type (is_type (codes "T") m || is_type (codes "S") m)
-  where
-    on_order : (x : Option OrderRecord) → AreKept standing_of (still_asked_on s port m x asked) (still_kept_on s port m x kept)
-    on_order None = along
-    on_order (Some o) =
-        subst (λ (e : Entry). AreKept standing_of (still_asked_on s port m (Some o) asked) (left_by port m e.order (is_closed (after_message s.exec_ids m o).stage) kept)) (after_message-new s.exec_ids m o)
-        (answering-keeps standing_of asked kept along port m (after_message s.exec_ids m o))
-
-    by_type : (b : Bool) → AreKept standing_of (if b then asked else still_asked_on s port m (by_token s port (order_token m)) asked) (if b then kept else still_kept_on s port m (by_token s port (order_token m)) kept)
-    by_type true = along
-    by_type false = on_order (by_token s port (order_token m))
+  -- and it is what is outstanding then
+  came-same : (sends : List (List ℕ)) (asked : List OnPort) → Asking terms before asked → (p : ℕ)
+      → on_port p (asked ++ asked_on (terms_of terms client).port (client_step s client m port).asks) ≡ outstanding terms p (coming_turn client m port bodies sends ∷ before)
+  came-same sends asked was =
+      let goes = client-goes terms before s h.table short client m port sends in
+      (came-Asking terms before client m port bodies sends (client_step s client m port).state goes.0.0 asked was (client_step s client m port).asks goes.0.2).same
 
 -- ---- turns
 
+-- what is asked in a run, by the list that it leaves
+known-in : (terms : List Terms) (h : History) (s : State) → length h < 2 ^ 59 → Leaves terms h s → ArePlaced terms h
+known-in terms h s short leaves =
+    let some : (asked : List OnPort) × LeavesAsked terms h s asked = LeavesAsked-some terms h s leaves in
+    (LeavesAsked-Asking terms h s some.0 short some.1).placed
+
 pub nothing-is_kept : NothingIsKept
-nothing-is_kept terms = ([], LeavesAsked-none terms, tt)
+nothing-is_kept terms = ([], λ p. refl, tt)
 
--- what a turn leaves, by its event
-abbrev KeepsBy : List Terms → History → State → List OnPort → List KeptMessage → Event → Type 0
-KeepsBy terms before s asked kept e = AreKept (standing_by terms (option_to_list (entry_at terms e before) ++ accepted terms before)) (asked_after s e asked) kept
-
-table-of : (terms : List Terms) (h : History) (s : State) (asked : List OnPort) → length h < 2 ^ 59 → LeavesAsked terms h s asked → Holding terms h s
-table-of terms h s asked short leaves = Leaves-Holding terms h s short (LeavesAsked-Leaves terms h s asked leaves)
+-- of an event, whatever else its turn has
+abbrev StandsBy : List Terms → History → List OnPort → List KeptMessage → Event → Type 0
+StandsBy terms before asked kept e = AreKept (standing_by terms (option_to_list (entry_at terms e before) ++ accepted terms before)) asked kept
 
 pub client-turns : ClientTurnsKeep
-client-turns terms before s kept short (asked, leaves, along) t new client m port is_e leads order messages of_order says =
-    let h = table-of terms before s asked short leaves in
-    let same = h.table.same_terms in
+client-turns terms before s short leaves kept (asked, same, along) t new client m port is_e leads order messages of_order says =
+    let h = Leaves-Holding terms before s (omega (arith, short)) leaves in
+    let long : length before < 2 ^ 59 = omega (arith, short) in
+    let was : Asking terms before asked = record { placed = known-in terms before s long leaves; same = same } in
     let says_so : EachWith (Says (terms_of terms client).standing (always order)) (client_step s client m port).asks (map inbound_bytes messages) =
-    subst (λ (ts : List Terms). EachWith (Says (terms_of ts client).standing (always order)) (client_step s client m port).asks (map inbound_bytes messages)) same says in (
-      asked_after s t.event asked,
-      LeavesAsked-more terms before s asked t new leaves leads,
-      subst (KeepsBy terms before s asked (kept ++ kept_from (terms_of s.terms client).port order messages)) (sym is_e)
-          (came-keeps terms before s h short client m port asked kept (LeavesAsked-Asking terms before s asked short leaves) along order messages of_order says_so (terms_of s.terms client).port),
+    subst (λ (ts : List Terms). EachWith (Says (terms_of ts client).standing (always order)) (client_step s client m port).asks (map inbound_bytes messages)) h.table.same_terms says in
+    subst (λ (ts : List Terms). KeepsOutstanding terms (t ∷ before) (kept ++ kept_from (terms_of ts client).port order messages)) (sym h.table.same_terms) (
+      asked ++ asked_on (terms_of terms client).port (client_step s client m port).asks,
+      λ p. came-same terms before s h long client m port t.sends asked was p ∙ ap (λ (x : Turn). outstanding terms p (x ∷ before)) (turn-is h long),
+      subst (StandsBy terms before (asked ++ asked_on (terms_of terms client).port (client_step s client m port).asks) (kept ++ kept_from (terms_of terms client).port order messages)) (sym is_e)
+          (came-keeps terms before s h long client m port asked kept was along order messages of_order says_so (terms_of terms client).port),
     )
+  where
+    turn-is : Holding terms before s → length before < 2 ^ 59 → coming_turn client m port (client_step s client m port).bodies t.sends ≡ t
+    turn-is h long =
+        let goes = client-goes terms before s h.table long client m port t.sends in
+        let meets : Meets s (Came client m port) (client_step s client m port) t new = subst (λ (e : Event). Meets s e (step s e) t new) is_e leads.meets in
+        same-turn terms before s h long t (Came client m port) client (client_step s client m port).bodies t.sends None is_e (meets.client ∙ goes.1) meets.bodies refl (meets.fault ∙ goes.2)
+
+-- a payload's turn, by its fault
+module _ (terms : List Terms) (before : History) (s : State) (short : length before < 2 ^ 58) (leaves : Leaves terms before s) (t : Turn) (new : State) (port : ℕ) (m : List ℕ) (is_e : t.event ≡ Heard port m) (leads : Leads s t new) where
+  long : length before < 2 ^ 59
+  long = omega (arith, short)
+
+  h : Holding terms before s
+  h = Leaves-Holding terms before s long leaves
+
+  placed : ArePlaced terms before
+  placed = known-in terms before s long leaves
+
+  meets : Meets s (Heard port m) (market_step s port m) t new
+  meets = subst (λ (e : Event). Meets s e (step s e) t new) is_e leads.meets
+
+  turn-is : (fault : Option ℕ) → t.fault ≡ fault → heard_turn port m t.client t.bodies t.sends fault ≡ t
+  turn-is fault is_fault = same-turn terms before s h long t (Heard port m) t.client t.bodies t.sends fault is_e refl refl refl is_fault
+
+  -- the table then
+  table-then : (fault : Option ℕ) → t.fault ≡ fault → IsTable terms (heard_turn port m t.client t.bodies t.sends fault ∷ before) (market_step s port m).state
+  table-then fault is_fault =
+      subst₂ (λ (x : Turn) (y : State). IsTable terms (x ∷ before) y) (sym (turn-is fault is_fault)) meets.state (next-Holding terms before s h long t new leads).table
+
+  -- nothing is asked in it
+  stands : (asked : List OnPort) (kept : List KeptMessage) → AreKept (standing_in terms before) asked kept → AreKept (standing_in terms (t ∷ before)) asked kept
+  stands asked kept along = subst (StandsBy terms before asked kept) (sym is_e) along
+
+  quiet-same : (market_step s port m).state ≡ s → (p : ℕ) (fault : Option ℕ) → t.fault ≡ fault → outstanding terms p (t ∷ before) ≡ outstanding terms p before
+  quiet-same quiet p None is_fault =
+      ap (λ (x : Turn). outstanding terms p (x ∷ before)) (sym (turn-is None is_fault))
+      ∙ all-stay terms before s h.table port m t.client t.bodies t.sends placed (subst (IsTable terms (heard_turn port m t.client t.bodies t.sends None ∷ before)) quiet (table-then None is_fault)) p
+  quiet-same quiet p (Some n) is_fault =
+      ap (λ (x : Turn). outstanding terms p (x ∷ before)) (sym (turn-is (Some n) is_fault)) ∙ append-nothing (outstanding terms p before)
+
+  told-same : (now : OrderRecord) → port_of terms now.new ≡ port → (market_step s port m).fault ≡ None → (market_step s port m).state.orders ≡ put now s.orders
+      → (asked : List OnPort) → ((p : ℕ) → on_port p asked ≡ outstanding terms p before) → (p : ℕ) → on_port p (unanswered_by port m now asked) ≡ outstanding terms p (t ∷ before)
+  told-same now home no_fault is_put asked same p =
+      let is_fault : t.fault ≡ None = meets.fault ∙ no_fault in
+      rest terms before s h.table port m t.client t.bodies t.sends placed now home
+      (subst (Each (FitsIn terms (heard_turn port m t.client t.bodies t.sends None ∷ before))) is_put (table-then None is_fault).fit) asked same p
+      ∙ ap (λ (x : Turn). outstanding terms p (x ∷ before)) (turn-is None is_fault)
+
+  home-of : (token : List ℕ) (order now : OrderRecord) → by_token s port token ≡ Some order → now.new ≡ order.new → port_of terms now.new ≡ port
+  home-of token order now found same = ap (port_of terms) same ∙ token-port terms before s h.table port m token order found
+
+pub quiet-turns : QuietTurnsKeep
+quiet-turns terms before s short leaves kept (asked, same, along) t new port m is_e leads quiet = (
+  asked,
+  λ p. same p ∙ sym (quiet-same terms before s short leaves t new port m is_e leads quiet p t.fault refl),
+  stands terms before s short leaves t new port m is_e leads asked kept along,
+)
 
 pub market-turns : MarketTurnsKeep
-market-turns terms before s kept (asked, leaves, along) t new port m is_e leads = (
-  asked_after s t.event asked,
-  LeavesAsked-more terms before s asked t new leaves leads,
-  subst (KeepsBy terms before s asked (still_kept s port m (fault_in s port m) kept)) (sym is_e)
-      (heard-keeps (standing_in terms before) s port m asked kept along (fault_in s port m)),
+market-turns terms before s short leaves kept (asked, same, along) t new port m is_e leads token order now found same_new no_fault is_put = (
+  unanswered_by port m now asked,
+  told-same terms before s short leaves t new port m is_e leads now (home-of terms before s short leaves t new port m is_e leads token order now found same_new) no_fault is_put asked same,
+  stands terms before s short leaves t new port m is_e leads (unanswered_by port m now asked) (left_by port m now.new.order (is_closed now.stage) kept)
+      (answering-keeps (standing_in terms before) asked kept along port m now),
 )
 
 pub outstanding-is_kept : OutstandingIsKept
-outstanding-is_kept terms h s kept short (asked, leaves, along) port =
-    let table = (table-of terms h s asked short leaves).table in
-    let known = LeavesAsked-Asking terms h s asked short leaves in
+outstanding-is_kept terms h s short leaves kept (asked, same, along) port =
+    let table = (Leaves-Holding terms h s short leaves).table in
     let finds : Each (Finds (order_number terms port (accepted terms h))) (on_port port asked) =
-    subst (Each (Finds (order_number terms port (accepted terms h)))) (sym (known.same port)) (outstanding-found terms h table.held known.placed port) in
-    subst (λ (xs : List Asked). EachWith (SaysIn terms h port) xs (bytes_on port kept)) (known.same port)
+    subst (Each (Finds (order_number terms port (accepted terms h)))) (sym (same port)) (outstanding-found terms h table.held (known-in terms h s short leaves) port) in
+    subst (λ (xs : List Asked). EachWith (SaysIn terms h port) xs (bytes_on port kept)) (same port)
     (ports-are-said (standing_in terms h) asked kept along port (order_number terms port (accepted terms h)) finds)

@@ -1,19 +1,18 @@
--- What is kept from turn to turn, beside the table that the turns leave.
-use Rattle.std.specs.Prelude.{◌≡◌, ℕ, ◌<◌, ◌^◌, ◌||◌, List, [], ◌∷◌, ◌++◌, length, map, Option, Some, None, codes, if◌then◌else◌}
+-- What is kept from turn to turn, beside the table that the turns leave: on each port what the law says is outstanding.
+use Rattle.std.specs.Prelude.{◌≡◌, ℕ, ◌<◌, ◌^◌, List, [], ◌∷◌, ◌++◌, length, map, Option, Some, None}
 use Rattle.ouch_codec.specs.declared.inbound.Inbound.{Inbound}
 use Rattle.ouch_codec.specs.Inbound.{inbound_bytes}
 use Rattle.order_law.specs.Asks.{Standing}
-use Rattle.order_law.specs.Life.{is_closed, is_type}
-use Rattle.order_law.specs.Lawful.{order_token}
+use Rattle.order_law.specs.Life.{is_closed}
 use Rattle.order_law.specs.Messages.{Message}
 use Rattle.order_law.specs.Verdicts.{Port}
 use Rattle.order_law.specs.History.{Asked, Came, Entry, Heard, History, Terms, Turn, accepted, new_of, outstanding, terms_of}
 use Rattle.order_law.specs.Headline.{Each, EachWith, Says, order_number}
-use Rattle.order_histories.specs.OrderRecord.{OrderRecord, after_message}
-use Rattle.order_histories.specs.Table.{State, by_token, empty}
-use Rattle.order_histories.specs.Machine.{client_step, fault_in}
-use Rattle.order_histories.specs.Outstanding.{LeavesAsked, OnPort}
-use Rattle.order_histories.specs.Runs.{Leads}
+use Rattle.order_histories.specs.OrderRecord.{OrderRecord}
+use Rattle.order_histories.specs.Table.{State, by_token, put}
+use Rattle.order_histories.specs.Machine.{client_step, market_step}
+use Rattle.order_histories.specs.Outstanding.{OnPort, on_port}
+use Rattle.order_histories.specs.Runs.{Leads, Leaves}
 use Rattle.asked_messages.specs.Kept.{KeptMessage, bytes_on, kept_from, left_by}
 use Rattle.asked_messages.specs.Keeping.{AreKept, always}
 
@@ -29,20 +28,10 @@ standing_by terms entries order = (terms_of terms (client_by (new_of order entri
 abbrev pub standing_in : List Terms → History → List ℕ → Standing
 standing_in terms h order = standing_by terms (accepted terms h) order
 
--- The turns, the newest first, leave this table; and these messages, and no others, are asked and not answered.
-abbrev pub LeavesKept : List Terms → History → State → List KeptMessage → Type 0
-LeavesKept terms h s kept = (asked : List OnPort) × LeavesAsked terms h s asked × AreKept (standing_in terms h) asked kept
-
--- after a payload on an order
-abbrev pub still_kept_on : State → ℕ → List ℕ → Option OrderRecord → List KeptMessage → List KeptMessage
-still_kept_on s port m None kept = kept
-still_kept_on s port m (Some o) kept = left_by port m o.new.order (is_closed (after_message s.exec_ids m o).stage) kept
-
--- after a payload: a fault answers nothing, nor do `T` and `S`, which have no token
-abbrev pub still_kept : State → ℕ → List ℕ → Option ℕ → List KeptMessage → List KeptMessage
-still_kept s port m (Some fault) kept = kept
-still_kept s port m None kept =
-    if is_type (codes "T") m || is_type (codes "S") m then kept else still_kept_on s port m (by_token s port (order_token m)) kept
+-- After these turns, the newest first, these messages are asked and not answered, and no others.
+abbrev pub KeepsOutstanding : List Terms → History → List KeptMessage → Type 0
+KeepsOutstanding terms h kept =
+    (asked : List OnPort) × ((p : ℕ) → on_port p asked ≡ outstanding terms p h) × AreKept (standing_in terms h) asked kept
 
 -- A message says what is asked, as the lists have it: the orders of the port's tokens, and how the order's client stands.
 abbrev pub SaysIn : List Terms → History → ℕ → Asked → List ℕ → Type 0
@@ -52,27 +41,42 @@ SaysIn terms h port asked message = Says (standing_in terms h asked.order) (orde
 
 -- before the first turn
 abbrev pub NothingIsKept : Type 0
-NothingIsKept = (terms : List Terms) → LeavesKept terms [] (empty terms) []
+NothingIsKept = (terms : List Terms) → KeepsOutstanding terms [] []
 
 -- A turn of a client's message: the messages that say what it asks of an order stand behind the others, whether they are
 -- sent at once or not.
 abbrev pub ClientTurnsKeep : Type 0
 ClientTurnsKeep =
-    (terms : List Terms) (before : History) (s : State) (kept : List KeptMessage) → length before < 2 ^ 59 → LeavesKept terms before s kept
+    (terms : List Terms) (before : History) (s : State) → length before < 2 ^ 58 → Leaves terms before s
+    → (kept : List KeptMessage) → KeepsOutstanding terms before kept
     → (t : Turn) (new : State) (client : ℕ) (m : Message) (port : Port) → t.event ≡ Came client m port → Leads s t new
     → (order : List ℕ) (messages : List Inbound) → Each (λ (a : Asked). a.order ≡ order) (client_step s client m port).asks
     → EachWith (Says (terms_of s.terms client).standing (always order)) (client_step s client m port).asks (map inbound_bytes messages)
-    → LeavesKept terms (t ∷ before) new (kept ++ kept_from (terms_of s.terms client).port order messages)
+    → KeepsOutstanding terms (t ∷ before) (kept ++ kept_from (terms_of s.terms client).port order messages)
 
--- a turn of a payload: what it answers goes
+-- A turn of a payload by which a token of the port has its order become this one: what it answers of the port goes, and what
+-- was asked of the order if it is closed now.
 abbrev pub MarketTurnsKeep : Type 0
 MarketTurnsKeep =
-    (terms : List Terms) (before : History) (s : State) (kept : List KeptMessage) → LeavesKept terms before s kept
+    (terms : List Terms) (before : History) (s : State) → length before < 2 ^ 58 → Leaves terms before s
+    → (kept : List KeptMessage) → KeepsOutstanding terms before kept
     → (t : Turn) (new : State) (port : ℕ) (m : List ℕ) → t.event ≡ Heard port m → Leads s t new
-    → LeavesKept terms (t ∷ before) new (still_kept s port m (fault_in s port m) kept)
+    → (token : List ℕ) (order now : OrderRecord) → by_token s port token ≡ Some order → now.new ≡ order.new
+    → (market_step s port m).fault ≡ None → (market_step s port m).state.orders ≡ put now s.orders
+    → KeepsOutstanding terms (t ∷ before) (left_by port m now.new.order (is_closed now.stage) kept)
+
+-- A turn of a payload that changes no order, be it a fault or not: nothing goes.
+abbrev pub QuietTurnsKeep : Type 0
+QuietTurnsKeep =
+    (terms : List Terms) (before : History) (s : State) → length before < 2 ^ 58 → Leaves terms before s
+    → (kept : List KeptMessage) → KeepsOutstanding terms before kept
+    → (t : Turn) (new : State) (port : ℕ) (m : List ℕ) → t.event ≡ Heard port m → Leads s t new
+    → (market_step s port m).state ≡ s
+    → KeepsOutstanding terms (t ∷ before) kept
 
 -- A port's own messages say what is outstanding on it, one by one and in order.
 abbrev pub OutstandingIsKept : Type 0
 OutstandingIsKept =
-    (terms : List Terms) (h : History) (s : State) (kept : List KeptMessage) → length h < 2 ^ 59 → LeavesKept terms h s kept
+    (terms : List Terms) (h : History) (s : State) → length h < 2 ^ 59 → Leaves terms h s
+    → (kept : List KeptMessage) → KeepsOutstanding terms h kept
     → (port : ℕ) → EachWith (SaysIn terms h port) (outstanding terms port h) (bytes_on port kept)

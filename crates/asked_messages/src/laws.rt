@@ -1,7 +1,7 @@
 //! Why what is kept is what is asked, for those who reason about runs.
 
 ghost use Rattle.asked_messages.specs.Keeping.{AnsweringKeeps, PortsAreSaid, PushingKeeps, StandingsMayGrow};
-ghost use Rattle.asked_messages.specs.KeptInTurns.{ClientTurnsKeep, MarketTurnsKeep, NothingIsKept, OutstandingIsKept};
+ghost use Rattle.asked_messages.specs.KeptInTurns.{ClientTurnsKeep, MarketTurnsKeep, NothingIsKept, OutstandingIsKept, QuietTurnsKeep};
 
 /// Where the messages that are kept are those that are asked, they are so after a port is asked more of one order, and
 /// messages that say it stand behind the others. It does nothing: its contract is the law, for callers to cite.
@@ -27,13 +27,14 @@ pub fn standings_may_grow()
     ensures { StandingsMayGrow }
 {}
 
-/// In every run, what is kept is what is asked and not answered: before the first turn nothing; after a client's message,
-/// what it asks stands behind the rest; after a payload, what it answers is gone. Then the messages of a port say what is
-/// outstanding on it, one by one and in order, each for the client and of the order that it is asked for. It does nothing:
-/// its contract is the law, for callers to cite.
+/// In every run, what is kept is what the law says is outstanding: before the first turn nothing; after a client's message,
+/// what it asks stands behind the rest; after a payload, what it answers is gone, and where it changes no order, nothing is.
+/// Then the messages of a port say what is outstanding on it, one by one and in order, each for the client and of the order
+/// that it is asked for. It does nothing: its contract is the law, for callers to cite.
 pub fn kept_messages_say_what_is_outstanding()
     ensures first { NothingIsKept }
     ensures client { ClientTurnsKeep }
     ensures market { MarketTurnsKeep }
+    ensures quiet { QuietTurnsKeep }
     ensures outstanding { OutstandingIsKept }
 {}

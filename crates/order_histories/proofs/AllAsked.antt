@@ -4,7 +4,7 @@ use Rattle.order_law.specs.Messages.{Message}
 use Rattle.order_law.specs.Verdicts.{Port}
 use Rattle.order_law.specs.History.{Came, Event, Heard, History, Terms, Turn, outstanding, terms_of}
 use Rattle.order_histories.specs.Told.{IsEvent}
-use Rattle.order_histories.specs.Table.{State, empty}
+use Rattle.order_histories.specs.Table.{State}
 use Rattle.order_histories.specs.Machine.{client_step, market_step, step}
 use Rattle.order_histories.specs.Runs.{Leads, Leaves, Meets}
 use Rattle.order_histories.specs.Outstanding.{LeavesAsked, OnPort, asked_after, asked_on, on_port}
@@ -43,15 +43,18 @@ module _ (terms : List Terms) (before : History) (s : State) (h : Holding terms 
 
 -- ---- runs
 
--- no turn
-pub LeavesAsked-none : (terms : List Terms) → LeavesAsked terms [] (empty terms) []
-unfolding LeavesAsked
-LeavesAsked-none terms = (refl, refl)
-
 -- one more turn
 pub LeavesAsked-more : (terms : List Terms) (before : History) (old : State) (was : List OnPort) (t : Turn) (s : State) → LeavesAsked terms before old was → Leads old t s → LeavesAsked terms (t ∷ before) s (asked_after old t.event was)
 unfolding LeavesAsked
 LeavesAsked-more terms before old was t s leaves leads = (old, was, leaves, leads, refl)
+
+-- a run leaves a list too
+pub LeavesAsked-some : (terms : List Terms) (h : History) (s : State) → Leaves terms h s → (asked : List OnPort) × LeavesAsked terms h s asked
+unfolding LeavesAsked Leaves
+LeavesAsked-some terms [] s leaves = ([], (leaves, refl))
+LeavesAsked-some terms (t ∷ before) s leaves =
+    let earlier : (asked : List OnPort) × LeavesAsked terms before leaves.0 asked = LeavesAsked-some terms before leaves.0 leaves.1 in
+    (asked_after leaves.0 t.event earlier.0, (leaves.0, earlier.0, earlier.1, leaves.2, refl))
 
 -- the table is left without the list too
 pub LeavesAsked-Leaves : (terms : List Terms) (h : History) (s : State) (asked : List OnPort) → LeavesAsked terms h s asked → Leaves terms h s

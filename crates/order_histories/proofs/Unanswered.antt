@@ -126,7 +126,7 @@ module _ (terms : List Terms) (before : History) (s : State) (t : IsTable terms 
     placed-then p = subst (Each (IsPlaced terms A p)) (sym (append-nothing (filter (still p) (outstanding terms p before)))) (Each-filter (IsPlaced terms A p) (still p) (outstanding terms p before) (placed p))
 
     -- where each order stays as it is
-    all-stay : IsTable terms (turn ∷ before) s → (p : ℕ) → outstanding terms p (turn ∷ before) ≡ outstanding terms p before
+    pub all-stay : IsTable terms (turn ∷ before) s → (p : ℕ) → outstanding terms p (turn ∷ before) ≡ outstanding terms p before
     all-stay after p =
         append-nothing (filter (still p) (outstanding terms p before))
         ∙ filter-each (IsMember p) (still p) (λ (a : Asked). true) (outstanding terms p before) stays (members p)
@@ -217,7 +217,7 @@ module _ (terms : List Terms) (before : History) (s : State) (t : IsTable terms 
             passes : (x : OnPort) → is_on p x ≡ true → not (is_answered port m q x) ≡ true
             passes x here = let off = ne_eqb x.port port (λ e. apart (sym e ∙ eqb-true x.port p here)) in rw off refl
 
-        rest : (p : ℕ) → HasRest p
+        pub rest : (p : ℕ) → HasRest p
         rest p = by_port (port == p) refl
           where
             by_port : (b : Bool) → (port == p) ≡ b → HasRest p
