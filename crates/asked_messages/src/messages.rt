@@ -1,7 +1,6 @@
 //! The list of messages.
 
-ghost use Rattle.std.specs.Prelude.{◌≡◌, ◌+◌, ◌≤◌, ◌<◌, ◌++◌, ◌∷◌, [], List, map, decimal, length, vec_len, vec_capacity};
-ghost use Rattle.std.specs.Prelude.{IfOk, OnErr};
+ghost use Rattle.std.specs.Prelude.{◌≡◌, ◌+◌, ◌≤◌, ◌<◌, ◌++◌, ◌∷◌, [], List, map, decimal, length, vec_len, vec_capacity, IfOk, OnErr};
 ghost use Rattle.ouch_codec.specs.Inbound.{inbound_bytes};
 ghost use Rattle.asked_messages.specs.Kept.{bytes_on, is_answered_by, kept_from, left_by, seen};
 
@@ -11,7 +10,7 @@ use std::alloc::{AllocError, Global};
 use std::marker::Model;
 
 /// A message that a port was asked and hasn't answered.
-#[derive(Clone, Copy, Debug, PartialEq, Eq)]
+#[derive(Clone, Copy, Debug)]
 pub struct AskedMessage {
     /// The number of its port, from 1.
     pub port: u16,
