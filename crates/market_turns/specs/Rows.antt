@@ -1,18 +1,19 @@
 -- What a payload comes to on the one order that it is on.
-use Rattle.std.specs.Prelude.{◌≡◌, ℕ, true, false, List, decimal}
-use Rattle.order_histories.specs.OrderRecord.{OrderRecord}
+use Rattle.std.specs.Prelude.{◌≡◌, ℕ, true, false, List, [], decimal}
+use Rattle.order_histories.specs.OrderRecord.{OrderRecord, after_message}
 use Rattle.market_rows.specs.declared.heard.Heard.{Heard}
-use Rattle.market_rows.specs.Meets.{IsHeard, IsQuiet, is_lawful}
+use Rattle.market_rows.specs.Meets.{IsHeard, is_lawful, told_of}
 use Rattle.market_turns.specs.declared.judged.Judged.{Judged}
 use Rattle.market_turns.specs.declared.judged.Judged.TheVariants.{Faulty, Silent, Told}
 use Rattle.market_turns.specs.declared.market_fault.MarketFault.TheVariants.{NotLawful, OutsideProfile, Undecodable, UnknownToken}
 
--- it is lawful, and nothing comes of it
+-- it is lawful, nobody is told anything, and the order stays as it is
 pub record IsPassedOver (issued : ℕ) (m : List ℕ) (o : OrderRecord) : Type 0 where
   pub lawful : is_lawful m o ≡ true
-  pub quiet : IsQuiet issued m o
+  pub told : told_of issued m o ≡ []
+  pub now : after_message issued m o ≡ o
 
--- it is lawful, and its client is told of it
+-- it is lawful, and changes the order with this OrderID and of this client
 pub record IsToldOf (issued : ℕ) (m : List ℕ) (o : OrderRecord) (order_id client : ℕ) (h : Heard) : Type 0 where
   pub of_order : o.new.order ≡ decimal order_id
   pub of_client : o.new.client ≡ client

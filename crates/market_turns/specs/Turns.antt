@@ -1,16 +1,19 @@
 -- What a payload of the market makes of a table, as one answer. (OUCH 4.2, "Outbound Messages".)
-use Rattle.std.specs.Prelude.{◌≡◌, ◌≢◌, ℕ, ◌+◌, ◌≤◌, List, [], length, map, Some, decimal}
-use Rattle.fix_types.specs.Report.{report_fields}
+use Rattle.std.specs.Prelude.{◌≡◌, ℕ, ◌+◌, List, [], map, Some, decimal}
+use Rattle.std.specs.List.{count_by}
 use Rattle.ouch_codec.specs.declared.refusal.DecodeRefusal.{DecodeRefusal}
 use Rattle.ouch_codec.specs.declared.refusal.DecodeRefusal.TheVariants as refusals
-use Rattle.order_law.specs.declared.stage.Stage.TheVariants.{Waiting}
+use Rattle.order_law.specs.Messages.{Message}
 use Rattle.order_law.specs.Lawful.{bytes_fault, row_fault, token_fault, type_fault}
-use Rattle.order_histories.specs.Machine.{faulty, market_step, silent, tells}
+use Rattle.order_law.specs.Reading.{is_report}
+use Rattle.order_law.specs.Told.{to_client_of}
+use Rattle.order_histories.specs.Machine.{Given, faulty, market_step, silent, tells}
 use Rattle.order_histories.specs.OrderRecord.{OrderRecord}
 use Rattle.order_histories.specs.Table.{State, by_number, put}
+use Rattle.orders.specs.Changes.{Fits, changed_by}
 use Rattle.order_table.specs.Held.{Held}
+use Rattle.to_client.specs.Pending.{body_fields}
 use Rattle.market_rows.specs.declared.heard.Heard.{Heard}
-use Rattle.market_rows.specs.Meets.{changed_by, progress_of}
 use Rattle.market_turns.specs.declared.judged.Judged.{Judged}
 use Rattle.market_turns.specs.declared.judged.Judged.TheVariants.{Faulty, Silent, Told}
 use Rattle.market_turns.specs.declared.market_fault.MarketFault.{MarketFault}
@@ -29,15 +32,18 @@ fault_of_refusal refusals.Length = Undecodable
 fault_of_refusal refusals.Field = Undecodable
 fault_of_refusal refusals.Type = OutsideProfile
 
--- the order with this OrderID is changed, and its client, of this number, is told these reports
+-- an order becomes another, and its client is told these bodies: nobody, where there are none
+abbrev pub changes_to : State → OrderRecord → OrderRecord → List Message → Given
+changes_to s o now bodies =
+    tells (record s { orders = put now s.orders; exec_ids = s.exec_ids + count_by is_report bodies }) (to_client_of o.new bodies).client bodies []
+
+-- the order with this OrderID is changed, which the change fits, and its client, of this number, is told
 pub record IsTold (s : State) (port : ℕ) (m : List ℕ) (order_id client : ℕ) (h : Heard) : Type 0 where
   pub order : OrderRecord
   pub found : by_number s (decimal order_id) ≡ Some order
   pub of_client : order.new.client ≡ client
-  pub few : length h.reports.items ≤ 2
-  pub answered : (progress_of h.change).stage ≢ Waiting
-  pub gives : market_step s port m
-      ≡ tells (record s { orders = put (changed_by h.change order) s.orders; exec_ids = s.exec_ids + length h.reports.items }) client (map report_fields h.reports.items) []
+  pub fits : Fits h.change order
+  pub gives : market_step s port m ≡ changes_to s order (changed_by h.change order) (map body_fields h.bodies.items)
 
 -- an answer is what the table makes of a payload on a port
 abbrev pub IsJudged : State → ℕ → List ℕ → Judged → Type 0

@@ -5,8 +5,10 @@ ghost use Rattle.market_turns.specs.Turns.{Steps};
 
 use crate::judged::Judged;
 use crate::market_fault::fault_of;
-use crate::on_orders::{hear_accepted, hear_broken, hear_canceled, hear_executed, hear_rejected};
-use crate::passing::{hear_cancel_pending, hear_cancel_reject, hear_replaced};
+use crate::on_orders::{
+    hear_accepted, hear_broken, hear_cancel_pending, hear_cancel_reject, hear_canceled,
+    hear_executed, hear_rejected, hear_replaced,
+};
 use order_table::Table;
 use ouch_codec::{Outbound, decode};
 use std::alloc::{AllocError, Global};
@@ -37,8 +39,8 @@ pub fn hear(
         Ok(Outbound::Canceled(message)) => hear_canceled(alloc, issued, table, port, &message),
         Ok(Outbound::Broken(message)) => hear_broken(alloc, issued, table, port, &message),
         Ok(Outbound::Rejected(message)) => hear_rejected(alloc, issued, table, port, &message),
-        Ok(Outbound::Replaced(message)) => Ok(hear_replaced(table, port, &message)),
+        Ok(Outbound::Replaced(message)) => hear_replaced(alloc, issued, table, port, &message),
+        Ok(Outbound::CancelReject(message)) => hear_cancel_reject(alloc, table, port, &message),
         Ok(Outbound::CancelPending(message)) => Ok(hear_cancel_pending(table, port, &message)),
-        Ok(Outbound::CancelReject(message)) => Ok(hear_cancel_reject(table, port, &message)),
     }
 }

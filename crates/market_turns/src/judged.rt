@@ -10,7 +10,7 @@ pub enum Judged {
     Silent,
     /// It may not be handled, and changes nothing.
     Faulty(MarketFault),
-    /// An order is changed, and its client is told of it.
+    /// An order is changed, and its client is told of it where there are bodies.
     Told {
         /// OrderID (37) of the order.
         order_id: u64,

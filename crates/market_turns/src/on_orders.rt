@@ -1,17 +1,30 @@
-//! Messages on one order that change it, each by its row.
+//! Messages on one order, each by its row.
 
 ghost use Rattle.std.specs.Prelude.{◌≡◌, ℕ, ◌<◌, ◌^◌, List, Err, IfOk};
 ghost use Rattle.order_histories.specs.OrderRecord.{OrderRecord};
-ghost use Rattle.market_rows.specs.Bytes.{accepted_bytes, broken_bytes, canceled_bytes, executed_bytes, rejected_bytes};
+ghost use Rattle.ouch_codec.specs.AcceptedParts.{SaysAccepted};
+ghost use Rattle.ouch_codec.specs.BrokenParts.{SaysBroken};
+ghost use Rattle.ouch_codec.specs.CancelPendingParts.{SaysCancelPending};
+ghost use Rattle.ouch_codec.specs.CancelRejectParts.{SaysCancelReject};
+ghost use Rattle.ouch_codec.specs.CanceledParts.{SaysCanceled};
+ghost use Rattle.ouch_codec.specs.ExecutedParts.{SaysExecuted};
+ghost use Rattle.ouch_codec.specs.RejectedParts.{SaysRejected};
+ghost use Rattle.ouch_codec.specs.ReplacedParts.{SaysReplaced};
 ghost use Rattle.market_rows.specs.Meets.{MeetsRow};
 ghost use Rattle.market_turns.specs.Rows.{IsJudgedOf};
 ghost use Rattle.market_turns.specs.Turns.{Steps};
 
 use crate::judged::Judged;
 use crate::market_fault::MarketFault;
-use market_rows::{Heard, RowFault, on_accepted, on_broken, on_canceled, on_executed, on_rejected};
-use order_table::{Order, Table};
-use ouch_codec::{Accepted, Broken, Canceled, Executed, Rejected};
+use market_rows::{
+    Heard, RowFault, on_accepted, on_broken, on_cancel_reject, on_canceled, on_executed,
+    on_rejected, on_replaced,
+};
+use order_table::Table;
+use orders::Order;
+use ouch_codec::{
+    Accepted, Broken, CancelPending, CancelReject, Canceled, Executed, Rejected, Replaced,
+};
 use std::alloc::{AllocError, Global};
 
 /// An Accepted on the order that its token leads to.
@@ -23,7 +36,7 @@ pub fn hear_accepted(
     message: &Accepted,
 ) -> Result<Judged, AllocError>
     requires { issued < 2 ^ 60 }
-    ensures { IfOk result (Steps issued port (accepted_bytes message.now) table.now) }
+    ensures { (b : List ℕ) → SaysAccepted message.now b → IfOk result (Steps issued port b table.now) }
 {
     match table.by_token(port, &message.token) {
         None => Ok(Judged::Faulty(MarketFault::UnknownToken)),
@@ -40,7 +53,7 @@ pub fn hear_canceled(
     message: &Canceled,
 ) -> Result<Judged, AllocError>
     requires { issued < 2 ^ 60 }
-    ensures { IfOk result (Steps issued port (canceled_bytes message.now) table.now) }
+    ensures { (b : List ℕ) → SaysCanceled message.now b → IfOk result (Steps issued port b table.now) }
 {
     match table.by_token(port, &message.token) {
         None => Ok(Judged::Faulty(MarketFault::UnknownToken)),
@@ -57,7 +70,7 @@ pub fn hear_executed(
     message: &Executed,
 ) -> Result<Judged, AllocError>
     requires { issued < 2 ^ 60 }
-    ensures { IfOk result (Steps issued port (executed_bytes message.now) table.now) }
+    ensures { (b : List ℕ) → SaysExecuted message.now b → IfOk result (Steps issued port b table.now) }
 {
     match table.by_token(port, &message.token) {
         None => Ok(Judged::Faulty(MarketFault::UnknownToken)),
@@ -74,7 +87,7 @@ pub fn hear_broken(
     message: &Broken,
 ) -> Result<Judged, AllocError>
     requires { issued < 2 ^ 60 }
-    ensures { IfOk result (Steps issued port (broken_bytes message.now) table.now) }
+    ensures { (b : List ℕ) → SaysBroken message.now b → IfOk result (Steps issued port b table.now) }
 {
     match table.by_token(port, &message.token) {
         None => Ok(Judged::Faulty(MarketFault::UnknownToken)),
@@ -91,7 +104,7 @@ pub fn hear_rejected(
     message: &Rejected,
 ) -> Result<Judged, AllocError>
     requires { issued < 2 ^ 60 }
-    ensures { IfOk result (Steps issued port (rejected_bytes message.now) table.now) }
+    ensures { (b : List ℕ) → SaysRejected message.now b → IfOk result (Steps issued port b table.now) }
 {
     match table.by_token(port, &message.token) {
         None => Ok(Judged::Faulty(MarketFault::UnknownToken)),
@@ -99,9 +112,54 @@ pub fn hear_rejected(
     }
 }
 
+/// A Replaced on the order that its previous token leads to. Its own token has to be known, too.
+pub fn hear_replaced(
+    alloc: Global,
+    issued: u64,
+    table: &Table,
+    port: u16,
+    message: &Replaced,
+) -> Result<Judged, AllocError>
+    requires { issued < 2 ^ 60 }
+    ensures { (b : List ℕ) → SaysReplaced message.now b → IfOk result (Steps issued port b table.now) }
+{
+    let Some(_known) = table.by_token(port, &message.token) else {
+        return Ok(Judged::Faulty(MarketFault::UnknownToken));
+    };
+    match table.by_token(port, &message.previous_token) {
+        None => Ok(Judged::Faulty(MarketFault::UnknownToken)),
+        Some(order) => answer_of(order, on_replaced(alloc, issued, order, message)),
+    }
+}
+
+/// A Cancel Reject on the order that its token leads to.
+pub fn hear_cancel_reject(
+    alloc: Global,
+    table: &Table,
+    port: u16,
+    message: &CancelReject,
+) -> Result<Judged, AllocError>
+    ensures { (issued : ℕ) (b : List ℕ) → SaysCancelReject message.now b → IfOk result (Steps issued port b table.now) }
+{
+    match table.by_token(port, &message.token) {
+        None => Ok(Judged::Faulty(MarketFault::UnknownToken)),
+        Some(order) => answer_of(order, on_cancel_reject(alloc, order, message)),
+    }
+}
+
+/// A Cancel Pending, which may be said of any order and changes nothing of it.
+pub fn hear_cancel_pending(table: &Table, port: u16, message: &CancelPending) -> Judged
+    ensures { (issued : ℕ) (b : List ℕ) → SaysCancelPending message.now b → Steps issued port b table.now result }
+{
+    match table.by_token(port, &message.token) {
+        None => Judged::Faulty(MarketFault::UnknownToken),
+        Some(_) => Judged::Silent,
+    }
+}
+
 /// What a row's answer on an order comes to.
 fn answer_of(order: &Order, answer: Result<Heard, RowFault>) -> Result<Judged, AllocError>
-    ensures { (issued : ℕ) (m : List ℕ) → MeetsRow issued m order.now answer → IfOk result (IsJudgedOf issued m order.now) }
+    ensures { (issued : ℕ) (b : List ℕ) → MeetsRow issued b order.now answer → IfOk result (IsJudgedOf issued b order.now) }
 {
     match answer {
         Ok(heard) => Ok(Judged::Told {
@@ -115,7 +173,7 @@ fn answer_of(order: &Order, answer: Result<Heard, RowFault>) -> Result<Judged, A
 
 /// What a row's refusal comes to.
 fn refusal_of(fault: RowFault) -> Result<Judged, AllocError>
-    ensures { (issued : ℕ) (m : List ℕ) (o : OrderRecord) → MeetsRow issued m o (Err fault) → IfOk result (IsJudgedOf issued m o) }
+    ensures { (issued : ℕ) (b : List ℕ) (o : OrderRecord) → MeetsRow issued b o (Err fault) → IfOk result (IsJudgedOf issued b o) }
 {
     match fault {
         RowFault::NoMemory => Err(AllocError),

@@ -20,7 +20,8 @@ use Rattle.order_core.specs.declared.market_error.MarketError.{MarketError}
 use Rattle.order_core.specs.declared.market_error.MarketError.TheVariants.{NoMemory, Faulty}
 use Rattle.order_core.specs.declared.outcome.CoreOut.{CoreOut}
 use Rattle.order_core.specs.declared.outcome.MarketOut.{MarketOut}
-use Rattle.order_core.specs.Seen.{body_fields, client_seen}
+use Rattle.to_client.specs.Pending.{body_fields}
+use Rattle.order_core.specs.Seen.{client_seen}
 
 -- the client is told, and its port asked, what is given, and the table is as given
 pub record GivesClient (terms : Terms) (port : Port) (g : Given) (out : CoreOut) (new : State) : Type 0 where

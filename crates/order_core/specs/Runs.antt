@@ -8,7 +8,8 @@ use Rattle.order_core.specs.declared.runs.Event.{Event}
 use Rattle.order_core.specs.declared.runs.Event.TheVariants.{Came, Heard}
 use Rattle.order_core.specs.declared.runs.Outcome.{Outcome}
 use Rattle.to_market.specs.PortsSeen.{port_seen}
-use Rattle.order_core.specs.Seen.{body_fields, client_seen}
+use Rattle.to_client.specs.Pending.{body_fields}
+use Rattle.order_core.specs.Seen.{client_seen}
 use Rattle.order_core.specs.Turns.{is_served_message, message_fields}
 
 abbrev pub event_of : Event → law.Event

@@ -16,7 +16,8 @@ use Rattle.order_core.specs.declared.outcome.CoreOut.{CoreOut}
 use Rattle.order_core.specs.declared.outcome.MarketOut.{MarketOut}
 use Rattle.to_market.specs.declared.port_state.PortState.{PortState}
 use Rattle.to_market.specs.PortsSeen.{port_seen}
-use Rattle.order_core.specs.Seen.{body_fields, client_seen}
+use Rattle.to_client.specs.Pending.{body_fields}
+use Rattle.order_core.specs.Seen.{client_seen}
 
 -- a client's message, as fields
 abbrev pub message_fields : AppMsg → Message

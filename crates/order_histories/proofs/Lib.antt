@@ -40,3 +40,4 @@ pub mod OnPorts
 pub mod Unanswered
 pub mod NewlyAsked
 pub mod AllAsked
+pub mod Known

@@ -68,7 +68,7 @@ option-twice f g None = refl
 option-twice f g (Some a) = refl
 
 -- tokens lead where the lists say
-leads-to : (terms : List Terms) (h : History) (s : State) (t : IsTable terms h s) (port : ℕ) → LeadsTo s port (order_number terms port (accepted terms h))
+pub leads-to : (terms : List Terms) (h : History) (s : State) (t : IsTable terms h s) (port : ℕ) → LeadsTo s port (order_number terms port (accepted terms h))
 leads-to terms h s t port token =
     ap (option_map (λ (e : Entry). digits_value 10 e.order)) (sym (token-leads terms h s t port token))
     ∙ option-twice (λ (o : OrderRecord). o.new) (λ (e : Entry). digits_value 10 e.order) (by_token s port token)

@@ -296,7 +296,7 @@ module _ (terms : List Terms) (before : History) (s : State) (t : IsTable terms 
 
 -- ---- a request that is accepted, on its order
 
-after_request-new : (q : Entry) (o : OrderRecord) → (after_request q o).new ≡ o.new
+pub after_request-new : (q : Entry) (o : OrderRecord) → (after_request q o).new ≡ o.new
 after_request-new q o = by_kind (is_replace q.message)
   where
     by_kind : (b : Bool) → (if b then at o (Some q) o.cancel else at o o.replace (Some (record { request = q; tokens = live_token o ∷ replacements o.replace }))).new ≡ o.new

@@ -1,7 +1,7 @@
 -- Which table a run of turns leaves.
-use Rattle.std.specs.Prelude.{◌≡◌, ℕ, List, [], ◌∷◌, Option, option_map}
+use Rattle.std.specs.Prelude.{◌≡◌, ℕ, List, [], ◌∷◌, Option, Some, option_map}
 use Rattle.std.specs.Str.Parse.{digits_value}
-use Rattle.order_law.specs.History.{Terms, terms_of, Event, Came, Heard, History, Turn}
+use Rattle.order_law.specs.History.{Asked, Said, SaysNew, SaysReplace, SaysCancel, Terms, terms_of, Event, Came, Heard, History, Turn}
 use Rattle.order_law.specs.Headline.{Says, Sends}
 use Rattle.order_histories.specs.OrderRecord.{OrderRecord}
 use Rattle.order_histories.specs.Told.{IsEvent}
@@ -11,6 +11,16 @@ use Rattle.order_histories.specs.Machine.{Given, step}
 -- the tokens of a port lead to these orders
 abbrev pub LeadsTo : State → ℕ → (List ℕ → Option ℕ) → Type 0
 LeadsTo s port order_of = (token : List ℕ) → order_of token ≡ option_map (λ (o : OrderRecord). digits_value 10 o.new.order) (by_token s port token)
+
+-- the token that a message is about leads to the order with this OrderID. A new order's token is its own.
+abbrev pub finds_said : (List ℕ → Option ℕ) → List ℕ → Said → Type 0
+finds_said order_of order (SaysNew token) = Unit {0}
+finds_said order_of order (SaysReplace from to) = order_of from ≡ Some (digits_value 10 order)
+finds_said order_of order (SaysCancel token) = order_of token ≡ Some (digits_value 10 order)
+
+-- the token that a message is about leads to the order that it is asked of
+abbrev pub Finds : (List ℕ → Option ℕ) → Asked → Type 0
+Finds order_of a = finds_said order_of a.order a.said
 
 -- what is sent in a turn: where the port is up, messages that say what is asked
 abbrev pub SendsAs : State → Event → Given → List (List ℕ) → Type 0

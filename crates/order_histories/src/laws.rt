@@ -1,11 +1,14 @@
 //! The law of told histories, for those who reason about runs.
 
-ghost use Rattle.std.specs.Prelude.{ℕ, ◌≡◌, ◌<◌, ◌^◌, ◌∷◌, List, filter, length};
-ghost use Rattle.order_law.specs.History.{Entry, History, Terms, Turn, accepted, is_new_order, outstanding};
+ghost use Rattle.std.specs.Prelude.{ℕ, ◌≡◌, ◌<◌, ◌^◌, ◌∷◌, List, Option, filter, length};
+ghost use Rattle.order_law.specs.History.{Entry, History, Terms, Turn, accepted, is_new_order, outstanding, terms_of};
 ghost use Rattle.order_law.specs.Headline.{Each, Headline, IsTrueToMarket};
+ghost use Rattle.order_law.specs.Messages.{Message};
 ghost use Rattle.order_law.specs.Told.{reports_in};
+ghost use Rattle.order_law.specs.Verdicts.{Port};
+ghost use Rattle.order_histories.specs.Machine.{client_step};
 ghost use Rattle.order_histories.specs.Outstanding.{LeavesAsked, OnPort, on_port};
-ghost use Rattle.order_histories.specs.Runs.{Leaves};
+ghost use Rattle.order_histories.specs.Runs.{Finds, LeadsTo, Leaves};
 ghost use Rattle.order_histories.specs.Table.{State};
 ghost use Rattle.order_histories.specs.Told.{IsTold};
 
@@ -30,4 +33,13 @@ pub fn lists_have_what_is_outstanding()
     ensures lists { (terms : List Terms) (h : History) (s : State) (asked : List OnPort) → length h < 2 ^ 59 → LeavesAsked terms h s asked
         → (port : ℕ) → on_port port asked ≡ outstanding terms port h }
     ensures tables { (terms : List Terms) (h : History) (s : State) (asked : List OnPort) → LeavesAsked terms h s asked → Leaves terms h s }
+{}
+
+/// In every run, each token that a client's message asks about leads to the order that it is asked of: a replace's and a
+/// cancel's live token, and the token of a pending replace that a cancel asks for too. A new order's token is its own. It does
+/// nothing: its contract is the law, for callers to cite.
+pub fn asked_tokens_lead_to_their_orders()
+    ensures { (terms : List Terms) (before : History) (s : State) (client : ℕ) (m : Message) (port : Port) (order_of : List ℕ → Option ℕ)
+        → length before < 2 ^ 58 → Leaves terms before s → LeadsTo (client_step s client m port).state (terms_of s.terms client).port order_of
+        → Each (Finds order_of) (client_step s client m port).asks }
 {}

@@ -7,4 +7,7 @@
 
 mod laws;
 
-pub use laws::{lists_have_what_is_outstanding, tables_have_the_headline, told_orders_are_true};
+pub use laws::{
+    asked_tokens_lead_to_their_orders, lists_have_what_is_outstanding, tables_have_the_headline,
+    told_orders_are_true,
+};

@@ -17,10 +17,11 @@ use crate::outcome::CoreOut;
 use crate::used_ids::{UsedId, is_used, push_used};
 use fix_types::{AppBody, NewOrder};
 use fix_values::ClOrdId;
-use order_table::{GivenToken, Order, Progress};
+use order_table::GivenToken;
+use orders::{Order, Progress};
 use ouch_codec::{EnterOrder, Inbound};
 use std::alloc::{AllocError, Global};
-use to_client::{Occasion, refusal, report};
+use to_client::{Occasion, refusal, report_of, shown_of};
 use to_market::{ClientTerms, PortState, Refusal, ask_of, enter_order, refuse_if, refuse_port};
 use tokens::Token;
 
@@ -139,13 +140,8 @@ impl OrderCore {
         let order_id = self.order_ids + 1;
         let exec_id = self.exec_ids + 1;
         let entered = self.entered(alloc, client, order, &enter)?;
-        let report = report(
-            alloc,
-            exec_id,
-            Occasion::PendingNew,
-            &entered,
-            &entered.progress,
-        )?;
+        let shown = shown_of(&entered, &entered.progress);
+        let report = report_of(alloc, exec_id, Occasion::PendingNew, &shown)?;
         let bodies = one_body(alloc, AppBody::Report(report))?;
         let sends = sends_of(alloc, enter, state)?;
         let cl_ord_id = ClOrdId::copied(alloc, order.cl_ord_id.as_slice())?;
@@ -157,6 +153,7 @@ impl OrderCore {
                 port,
                 token,
                 order_id,
+                is_replacement: false,
             },
         )?;
         push_used(&mut self.used, UsedId { client, cl_ord_id });
@@ -177,15 +174,15 @@ impl OrderCore {
         requires enter { AsksNext self.now client order.now enter.now }
         ensures { IfOk result (λ o. o ≡ entered (entry_of_new self.now client (new_order_fields order.now))) }
     {
-        Ok(Order {
+        Order::entered(
+            alloc,
             client,
-            order_id: self.order_ids + 1,
-            token: enter.token,
-            token_number: self.table.token_count() as u64 + 1,
-            message: order.copied(alloc)?,
-            progress: Progress::entered(enter.shares, enter.price),
-            trades: Vec::new(alloc),
-        })
+            self.order_ids + 1,
+            enter.token,
+            self.table.token_count() as u64 + 1,
+            order.copied(alloc)?,
+            Progress::entered(enter.shares, enter.price),
+        )
     }
 }
 

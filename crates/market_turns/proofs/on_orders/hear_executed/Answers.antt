@@ -1,21 +1,15 @@
 use Rattle.std.proofs.Common.{refl, ap, ◌∙◌}
-use Rattle.ouch_codec.specs.ExecutedParts.{SaysExecuted-written}
 use Rattle.ouch_codec.specs.Layouts as layouts
 use Rattle.order_table.specs.Held.{found}
-use Rattle.market_rows.specs.Bytes.{executed_bytes}
-use Rattle.market_turns.proofs.Judging.{own-token, steps-found, steps-none, whole}
+use Rattle.market_turns.proofs.Judging.{own-token, steps-own, steps-none, whole}
 use Rattle.market_turns.proofs.on_orders.hear_executed.Goals as goal
 
 pub returns-in-None : goal.returns-in-None
-returns-in-None c =
-    let b = executed_bytes c.args.message.now in
-    let says = SaysExecuted-written c.args.message.now in
+returns-in-None c = λ b says.
     steps-none c.args.issued c.args.port b c.args.table.now layouts.executed (whole b 69 layouts.executed says.type refl says.is_one refl refl refl)
     (ap (found c.args.table.now c.args.port) says.token ∙ c.in-None.ensures)
 
 pub returns-in-Some : goal.returns-in-Some
-returns-in-Some c =
-    let b = executed_bytes c.args.message.now in
-    let says = SaysExecuted-written c.args.message.now in
-    steps-found c.args.issued c.args.port b c.args.table.now layouts.executed (whole b 69 layouts.executed says.type refl says.is_one refl refl refl) (own-token b 69 says.type refl)
-    c.in-Some.order.now (ap (found c.args.table.now c.args.port) says.token ∙ c.in-Some.ensures) c.answer_of.result (c.answer_of.ensures c.args.issued b c.on_executed.ensures)
+returns-in-Some c = λ b says.
+    steps-own c.args.issued c.args.port b c.args.table.now layouts.executed (whole b 69 layouts.executed says.type refl says.is_one refl refl refl) (own-token b 69 says.type refl)
+    c.in-Some.order.now (ap (found c.args.table.now c.args.port) says.token ∙ c.in-Some.ensures) c.answer_of.result (c.answer_of.ensures c.args.issued b (c.on_executed.ensures b says))

@@ -1,7 +1,12 @@
-use Rattle.std.proofs.Common.{◌≡◌, ◌+◌, ℕ, length, refl, sym, subst, ap, arith, Some}
+use Rattle.std.proofs.Common.{◌≡◌, ◌+◌, ℕ, length, map, refl, sym, subst, ap, ◌∙◌, arith, Option, Some}
+use Rattle.std.specs.List.{count_by}
+use Rattle.order_law.specs.Reading.{is_report}
 use Rattle.order_histories.specs.Machine.{market_step}
+use Rattle.order_histories.specs.OrderRecord.{OrderRecord}
 use Rattle.order_histories.specs.Table.{State}
+use Rattle.orders.specs.Changes.{Fits}
 use Rattle.order_table.specs.Held.{Held}
+use Rattle.to_client.specs.Pending.{body_fields}
 use Rattle.market_turns.specs.declared.judged.Judged.{Judged}
 use Rattle.market_turns.specs.declared.judged.Judged.TheVariants.{Faulty, Silent}
 use Rattle.market_turns.specs.Turns.{IsJudged, IsTold}
@@ -9,14 +14,14 @@ use Rattle.order_core.specs.contracts.order_core.OrderCore.{the_view}
 use Rattle.order_core.specs.declared.outcome.MarketOut.{MarketOut}
 use Rattle.order_core.specs.Meets.{GivesMarket}
 use Rattle.order_core.specs.State.{issued}
-use Rattle.order_core.proofs.Heard.{silent-meets, told-meets}
+use Rattle.order_core.proofs.Heard.{same_order, silent-meets, told-meets}
 use Rattle.order_core.proofs.order_core.OrderCore.market_step.Goals as goal
 
 pub apply-requires : goal.apply-requires
-apply-requires c =
+apply-requires c = λ o here.
     let told : IsTold (the_view c.self.inside) c.args.port c.args.payload.now c.in-Told.order_id c.in-Told.client c.in-Told.heard =
     subst (λ (j : Judged). IsJudged (the_view c.self.inside) c.args.port c.args.payload.now j) c.in-Told.is (c.in_ok-hear.ensures (the_view c.self.inside) refl refl refl) in
-    told.answered
+    subst (Fits c.in-Told.heard.change) (same_order told.order o (sym told.found ∙ here)) told.fits
 
 pub returns-in-Silent-clause-meets : goal.returns-in-Silent-clause-meets
 returns-in-Silent-clause-meets c =
@@ -30,25 +35,3 @@ returns-in-Faulty-clause-meets c =
     let is : IsJudged (the_view c.self.inside) c.args.port c.args.payload.now (Faulty c.in-Faulty.fault) =
     subst (λ (j : Judged). IsJudged (the_view c.self.inside) c.args.port c.args.payload.now j) c.in-Faulty.is (c.in_ok-hear.ensures (the_view c.self.inside) refl refl refl) in
     subst (λ (s : State). IsJudged s c.args.port c.args.payload.now (Faulty c.in-Faulty.fault)) c.self.view_is is
-
-pub returns-in_ok-apply-in-Told-clause-meets : goal.returns-in_ok-apply-in-Told-clause-meets
-returns-in_ok-apply-in-Told-clause-meets c =
-    let told : IsTold (the_view c.self.inside) c.args.port c.args.payload.now c.in-Told.order_id c.in-Told.client c.in-Told.heard =
-    subst (λ (j : Judged). IsJudged (the_view c.self.inside) c.args.port c.args.payload.now j) c.in-Told.is (c.in_ok-hear.ensures (the_view c.self.inside) refl refl refl) in
-    let out : MarketOut = record { client = Some c.in-Told.client; bodies = c.in_ok-bodies-in-Told.bodies } in
-    let here = told-meets (the_view c.self.inside) c.args.port c.args.payload.now c.in-Told.order_id c.in-Told.client c.in-Told.heard out told c.apply.new.table
-    (λ o found. c.in_ok-apply-in-Told.ensures.applied o found) refl c.in_ok-bodies-in-Told.ensures in
-    let count : c.len-told.result ≡ length c.in-Told.heard.reports.items = omega (arith, c.len-told.ensures, c.in-Told.heard.reports.ok.0) in
-    subst (λ (s : State). GivesMarket (market_step s c.args.port c.args.payload.now) out
-    (the_view (record { terms = c.self.inside.terms; table = c.apply.new.table; used = c.self.inside.used; order_ids = c.self.inside.order_ids; exec_ids = c.self.inside.exec_ids + c.len-told.result }))) c.self.view_is
-    (subst (λ (n : ℕ). GivesMarket (market_step (the_view c.self.inside) c.args.port c.args.payload.now) out
-    (the_view (record { terms = c.self.inside.terms; table = c.apply.new.table; used = c.self.inside.used; order_ids = c.self.inside.order_ids; exec_ids = c.self.inside.exec_ids + n }))) (sym count) here)
-
-pub returns-in_ok-apply-in-Told-clause-issued : goal.returns-in_ok-apply-in-Told-clause-issued
-returns-in_ok-apply-in-Told-clause-issued c =
-    let told : IsTold (the_view c.self.inside) c.args.port c.args.payload.now c.in-Told.order_id c.in-Told.client c.in-Told.heard =
-    subst (λ (j : Judged). IsJudged (the_view c.self.inside) c.args.port c.args.payload.now j) c.in-Told.is (c.in_ok-hear.ensures (the_view c.self.inside) refl refl refl) in
-    let tokens : length c.apply.new.table.tokens ≡ length c.self.inside.table.tokens = ap (λ (h : Held). length h.tokens) (c.in_ok-apply-in-Told.ensures.applied told.order told.found) in
-    let count : c.len-told.result ≡ length c.in-Told.heard.reports.items = omega (arith, c.len-told.ensures, c.in-Told.heard.reports.ok.0) in
-    let before : issued (the_view c.self.inside) ≡ issued c.args.self.now = ap issued c.self.view_is in
-    omega (arith, tokens, count, told.few, before)
