@@ -7,8 +7,9 @@ use Rattle.order_law.specs.Headline.{Each, EachWith, Says}
 use Rattle.order_law.specs.Asks.{Standing}
 use Rattle.order_histories.specs.OrderRecord.{OrderRecord, cancel_asked, cancel_of, live_token, replace_asked, replacements}
 use Rattle.order_histories.specs.Machine.{Given, accept_new, accept_on, accept_request, by_verdict, entry_of_request, refuse_new, refuse_request, request_asked, verdict_in}
-use Rattle.asked_messages.specs.Keeping.{Finds, always, finds_said}
+use Rattle.asked_messages.specs.Keeping.{always}
 use Rattle.asked_messages.specs.KeptInTurns.{NewOrdersAsk, RequestsAsk}
+use Rattle.order_histories.specs.Runs.{Finds, finds_said}
 
 -- of an order
 abbrev IsOf : List ℕ → Asked → Type 0

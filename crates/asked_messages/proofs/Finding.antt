@@ -13,7 +13,7 @@ use Rattle.order_histories.proofs.Fits.{IsHome, own}
 use Rattle.order_histories.proofs.Holds.{FitsIn, Holds, port_of, record-of}
 use Rattle.order_histories.proofs.OnPorts.{each-all, each-append, each-both}
 use Rattle.order_histories.proofs.Unanswered.{ArePlaced, IsPlaced}
-use Rattle.asked_messages.specs.Keeping.{Finds}
+use Rattle.order_histories.specs.Runs.{Finds}
 
 -- what holds of all that is asked of an order holds of each message of it
 each-own : (Q : Asked → Type 0) (order : List ℕ) (asked : List Asked) → Each Q (own order asked) → Each (λ (a : Asked). bytes_eq a.order order ≡ true → Q a) asked

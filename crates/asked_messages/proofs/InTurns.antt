@@ -13,7 +13,7 @@ use Rattle.order_histories.specs.OrderRecord.{OrderRecord}
 use Rattle.order_histories.specs.Table.{State, by_token, put}
 use Rattle.order_histories.specs.Machine.{client_step, market_step, step}
 use Rattle.order_histories.specs.Outstanding.{LeavesAsked, OnPort, asked_on, is_on, on_port, unanswered_by}
-use Rattle.order_histories.specs.Runs.{Leads, Leaves, Meets}
+use Rattle.order_histories.specs.Runs.{Finds, Leads, Leaves, Meets}
 use Rattle.order_histories.proofs.Lists.{Each-map}
 use Rattle.order_histories.proofs.Holds.{FitsIn, IsEntry, port_of}
 use Rattle.order_histories.proofs.Coming.{coming_turn}
@@ -24,7 +24,7 @@ use Rattle.order_histories.proofs.Unanswered.{ArePlaced, Asking, IsPlaced, all-s
 use Rattle.order_histories.proofs.NewlyAsked.{asks-own, came-Asking, known-still, taken-client}
 use Rattle.order_histories.proofs.AllAsked.{LeavesAsked-Asking, LeavesAsked-some}
 use Rattle.asked_messages.specs.Kept.{KeptMessage, bytes_on, kept_from, left_by}
-use Rattle.asked_messages.specs.Keeping.{AreKept, Finds, SaysAsked, always}
+use Rattle.asked_messages.specs.Keeping.{AreKept, SaysAsked, always}
 use Rattle.asked_messages.specs.KeptInTurns.{ClientTurnsKeep, KeepsOutstanding, MarketTurnsKeep, NothingIsKept, OutstandingIsKept, QuietTurnsKeep, SaysIn, client_by, standing_by, standing_in}
 use Rattle.asked_messages.proofs.Finding.{outstanding-found}
 use Rattle.asked_messages.proofs.Lists.{answering-keeps, ports-are-said, pushing-keeps, standings-grow}

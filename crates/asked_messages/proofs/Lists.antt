@@ -10,9 +10,10 @@ use Rattle.order_law.specs.Headline.{Each, EachWith, Says}
 use Rattle.order_histories.specs.OrderRecord.{OrderRecord}
 use Rattle.order_histories.specs.Outstanding.{OnPort, asked_on, is_answered, is_on}
 use Rattle.asked_messages.specs.Kept.{KeptMessage, is_answered_by, is_kept_on, kept_from, said_in}
-use Rattle.asked_messages.specs.Keeping.{AnsweringKeeps, AreKept, Finds, IsKept, PortsAreSaid, PushingKeeps, SaysAsked, SaysBy, StandingsMayGrow, always}
+use Rattle.asked_messages.specs.Keeping.{AnsweringKeeps, AreKept, IsKept, PortsAreSaid, PushingKeeps, SaysAsked, SaysBy, StandingsMayGrow, always}
 use Rattle.asked_messages.proofs.Orders.{says-found}
 use Rattle.asked_messages.proofs.Saying.{said_in-is}
+use Rattle.order_histories.specs.Runs.{Finds}
 
 -- ---- in step
 

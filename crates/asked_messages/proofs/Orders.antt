@@ -10,7 +10,8 @@ use Rattle.order_law.specs.Asks.{Standing, ask_of_bytes}
 use Rattle.order_law.specs.Life.{is_type}
 use Rattle.order_law.specs.History.{Asked, Said, SaysNew, SaysReplace, SaysCancel}
 use Rattle.order_law.specs.Headline.{HasTokens, Says}
-use Rattle.asked_messages.specs.Keeping.{finds_said, Finds, always}
+use Rattle.asked_messages.specs.Keeping.{always}
+use Rattle.order_histories.specs.Runs.{finds_said, Finds}
 
 with_false : (x : Bool) → (x && false) ≡ false
 with_false true = refl

@@ -6,21 +6,12 @@ use Rattle.ouch_codec.specs.declared.inbound.Inbound.{Inbound}
 use Rattle.ouch_codec.specs.Inbound.{inbound_bytes}
 use Rattle.order_law.specs.Asks.{Standing}
 use Rattle.order_law.specs.Life.{is_closed}
-use Rattle.order_law.specs.History.{Asked, Said, SaysNew, SaysReplace, SaysCancel}
+use Rattle.order_law.specs.History.{Asked}
 use Rattle.order_law.specs.Headline.{Each, EachWith, Says}
 use Rattle.order_histories.specs.OrderRecord.{OrderRecord}
+use Rattle.order_histories.specs.Runs.{Finds}
 use Rattle.order_histories.specs.Outstanding.{OnPort, asked_on, on_port, unanswered_by}
 use Rattle.asked_messages.specs.Kept.{KeptMessage, bytes_on, kept_from, left_by}
-
--- the token that a message is about leads to the order with this OrderID. A new order's token is its own.
-abbrev pub finds_said : (List ℕ → Option ℕ) → List ℕ → Said → Type 0
-finds_said order_of order (SaysNew token) = Unit {0}
-finds_said order_of order (SaysReplace from to) = order_of from ≡ Some (digits_value 10 order)
-finds_said order_of order (SaysCancel token) = order_of token ≡ Some (digits_value 10 order)
-
--- the token that a message is about leads to the order that it is asked of
-abbrev pub Finds : (List ℕ → Option ℕ) → Asked → Type 0
-Finds order_of a = finds_said order_of a.order a.said
 
 -- whatever the token, it is this order that is meant
 abbrev pub always : List ℕ → List ℕ → Option ℕ
