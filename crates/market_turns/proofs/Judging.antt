@@ -149,6 +149,7 @@ judged-of s port m layout w known o here on (Faulty OutsideProfile) is = absurd 
 judged-of s port m layout w known o here on (Told order_id client h) is = record {
   order = o;
   found = ap (by_number s) (sym is.of_order) ∙ found-by_number s port (order_token m) o on;
+  of_token = on;
   of_client = is.of_client;
   fits = is.is_heard.fits;
   gives = lawful s port m layout w known o here on is.is_heard.lawful ∙ heard-told s m o h is.is_heard;

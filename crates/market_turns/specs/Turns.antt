@@ -4,12 +4,12 @@ use Rattle.std.specs.List.{count_by}
 use Rattle.ouch_codec.specs.declared.refusal.DecodeRefusal.{DecodeRefusal}
 use Rattle.ouch_codec.specs.declared.refusal.DecodeRefusal.TheVariants as refusals
 use Rattle.order_law.specs.Messages.{Message}
-use Rattle.order_law.specs.Lawful.{bytes_fault, row_fault, token_fault, type_fault}
+use Rattle.order_law.specs.Lawful.{bytes_fault, order_token, row_fault, token_fault, type_fault}
 use Rattle.order_law.specs.Reading.{is_report}
 use Rattle.order_law.specs.Told.{to_client_of}
 use Rattle.order_histories.specs.Machine.{Given, faulty, market_step, silent, tells}
 use Rattle.order_histories.specs.OrderRecord.{OrderRecord}
-use Rattle.order_histories.specs.Table.{State, by_number, put}
+use Rattle.order_histories.specs.Table.{State, by_number, by_token, put}
 use Rattle.orders.specs.Changes.{Fits, changed_by}
 use Rattle.order_table.specs.Held.{Held}
 use Rattle.to_client.specs.Pending.{body_fields}
@@ -41,6 +41,7 @@ changes_to s o now bodies =
 pub record IsTold (s : State) (port : ℕ) (m : List ℕ) (order_id client : ℕ) (h : Heard) : Type 0 where
   pub order : OrderRecord
   pub found : by_number s (decimal order_id) ≡ Some order
+  pub of_token : by_token s port (order_token m) ≡ Some order
   pub of_client : order.new.client ≡ client
   pub fits : Fits h.change order
   pub gives : market_step s port m ≡ changes_to s order (changed_by h.change order) (map body_fields h.bodies.items)

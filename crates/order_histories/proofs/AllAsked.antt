@@ -48,13 +48,21 @@ pub LeavesAsked-more : (terms : List Terms) (before : History) (old : State) (wa
 unfolding LeavesAsked
 LeavesAsked-more terms before old was t s leaves leads = (old, was, leaves, leads, refl)
 
+-- a run leaves a list too
+pub LeavesAsked-some : (terms : List Terms) (h : History) (s : State) → Leaves terms h s → (asked : List OnPort) × LeavesAsked terms h s asked
+unfolding LeavesAsked Leaves
+LeavesAsked-some terms [] s leaves = ([], (leaves, refl))
+LeavesAsked-some terms (t ∷ before) s leaves =
+    let earlier : (asked : List OnPort) × LeavesAsked terms before leaves.0 asked = LeavesAsked-some terms before leaves.0 leaves.1 in
+    (asked_after leaves.0 t.event earlier.0, (leaves.0, earlier.0, earlier.1, leaves.2, refl))
+
 -- the table is left without the list too
 pub LeavesAsked-Leaves : (terms : List Terms) (h : History) (s : State) (asked : List OnPort) → LeavesAsked terms h s asked → Leaves terms h s
 unfolding LeavesAsked Leaves
 LeavesAsked-Leaves terms [] s asked leaves = leaves.0
 LeavesAsked-Leaves terms (t ∷ before) s asked leaves = (leaves.0, LeavesAsked-Leaves terms before leaves.0 leaves.1 leaves.2, leaves.3)
 
-LeavesAsked-Asking : (terms : List Terms) (h : History) (s : State) (asked : List OnPort) → length h < 2 ^ 59 → LeavesAsked terms h s asked → Asking terms h asked
+pub LeavesAsked-Asking : (terms : List Terms) (h : History) (s : State) (asked : List OnPort) → length h < 2 ^ 59 → LeavesAsked terms h s asked → Asking terms h asked
 unfolding LeavesAsked
 LeavesAsked-Asking terms [] s asked short leaves = subst (Asking terms []) (sym leaves.1) (record { placed = λ p. tt; same = λ p. refl })
 LeavesAsked-Asking terms (t ∷ before) s asked short leaves =

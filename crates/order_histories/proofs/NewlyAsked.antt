@@ -32,7 +32,7 @@ each-image : {A B : Type 0} (P : B → Type 0) (f : A → B) → ((x : A) → P 
 each-image P f p [] = tt
 each-image P f p (x ∷ xs) = (p x, each-image P f p xs)
 
-asks-own : (terms : List Terms) (e : Entry) (entries : List Entry) (sent : List Message) (messages : List (List ℕ)) → Each (λ (a : Asked). a.order ≡ e.order) (asks terms e entries sent messages)
+pub asks-own : (terms : List Terms) (e : Entry) (entries : List Entry) (sent : List Message) (messages : List (List ℕ)) → Each (λ (a : Asked). a.order ≡ e.order) (asks terms e entries sent messages)
 asks-own terms e entries sent messages =
     if-each (λ (a : Asked). a.order ≡ e.order) (is_new_order e.message) _ _ (refl, tt)
     (if-each (λ (a : Asked). a.order ≡ e.order) (is_replace e.message) _ _ (refl, tt)
@@ -54,7 +54,7 @@ module _ (terms : List Terms) (before : History) (client : ℕ) (m : Message) (p
   abbrev asks_on : ℕ → Option Entry → List Asked
   asks_on p x = asks_of terms p x A (issued client before) (handled p before)
 
-  taken-client : (e : Entry) → taken ≡ Some e → e.client ≡ client
+  pub taken-client : (e : Entry) → taken ≡ Some e → e.client ≡ client
   taken-client e is = by_verdict (verdict terms (issued client before) A port m) refl
     where
       by_kind : (b : Bool) → is_new_order m ≡ b → verdict terms (issued client before) A port m ≡ Accepted → e.client ≡ client
@@ -69,10 +69,10 @@ module _ (terms : List Terms) (before : History) (client : ℕ) (m : Message) (p
       by_verdict Accepted v = by_kind (is_new_order m) refl v
 
   module _ (s : State) (after : IsTable terms (turn ∷ before) s) where
-    -- an order that was known is known still
-    still-known : (a : Asked) (p : ℕ) (x : Option Entry) → taken ≡ x → IsPlaced terms A p a → IsPlaced terms (option_to_list x ++ A) p a
-    still-known a p None is k = k
-    still-known a p (Some e) is k = record { new = k.new; known = by_kind (is_new_order e.message) refl; at_home = k.at_home }
+    -- an order that was known is known still, by the same new order
+    pub known-still : (a : Asked) (p : ℕ) (x : Option Entry) → taken ≡ x → (k : IsPlaced terms A p a) → new_of a.order (option_to_list x ++ A) ≡ Some k.new
+    known-still a p None is k = k.known
+    known-still a p (Some e) is k = by_kind (is_new_order e.message) refl
       where
         distinct : AreDistinct (news (e ∷ A))
         distinct = subst (λ (y : Option Entry). AreDistinct (news (option_to_list y ++ A))) is after.distinct
@@ -96,6 +96,9 @@ module _ (terms : List Terms) (before : History) (client : ℕ) (m : Message) (p
         by_kind : (b : Bool) → is_new_order e.message ≡ b → new_of a.order (e ∷ A) ≡ Some k.new
         by_kind true new = let off = other (rw new at distinct) in rw off k.known
         by_kind false old = rw (old, and-false (bytes_eq e.order a.order)) k.known
+
+    still-known : (a : Asked) (p : ℕ) (x : Option Entry) → taken ≡ x → IsPlaced terms A p a → IsPlaced terms (option_to_list x ++ A) p a
+    still-known a p x is k = record { new = k.new; known = known-still a p x is k; at_home = k.at_home }
 
     -- and what is asked now is asked of an order that is known
     now-known : (p : ℕ) (x : Option Entry) → taken ≡ x → Each (IsPlaced terms (option_to_list x ++ A) p) (asks_on p x)

@@ -66,7 +66,7 @@ if-new : (b : Bool) (x y : OrderRecord) (e : Entry) → x.new ≡ e → y.new �
 if-new true x y e same same' = same
 if-new false x y e same same' = same'
 
-after_message-new : (n : ℕ) (m : List ℕ) (o : OrderRecord) → (after_message n m o).new ≡ o.new
+pub after_message-new : (n : ℕ) (m : List ℕ) (o : OrderRecord) → (after_message n m o).new ≡ o.new
 after_message-new n m o =
     if-new (is_type (codes "A") m) _ _ o.new (if-new (is_dead_state m) _ _ o.new refl refl)
     (if-new (is_type (codes "U") m) _ _ o.new (by_request o.replace refl)
@@ -126,7 +126,7 @@ module _ (terms : List Terms) (before : History) (s : State) (t : IsTable terms 
     placed-then p = subst (Each (IsPlaced terms A p)) (sym (append-nothing (filter (still p) (outstanding terms p before)))) (Each-filter (IsPlaced terms A p) (still p) (outstanding terms p before) (placed p))
 
     -- where each order stays as it is
-    all-stay : IsTable terms (turn ∷ before) s → (p : ℕ) → outstanding terms p (turn ∷ before) ≡ outstanding terms p before
+    pub all-stay : IsTable terms (turn ∷ before) s → (p : ℕ) → outstanding terms p (turn ∷ before) ≡ outstanding terms p before
     all-stay after p =
         append-nothing (filter (still p) (outstanding terms p before))
         ∙ filter-each (IsMember p) (still p) (λ (a : Asked). true) (outstanding terms p before) stays (members p)
@@ -217,7 +217,7 @@ module _ (terms : List Terms) (before : History) (s : State) (t : IsTable terms 
             passes : (x : OnPort) → is_on p x ≡ true → not (is_answered port m q x) ≡ true
             passes x here = let off = ne_eqb x.port port (λ e. apart (sym e ∙ eqb-true x.port p here)) in rw off refl
 
-        rest : (p : ℕ) → HasRest p
+        pub rest : (p : ℕ) → HasRest p
         rest p = by_port (port == p) refl
           where
             by_port : (b : Bool) → (port == p) ≡ b → HasRest p

@@ -1,0 +1,94 @@
+-- What is kept from turn to turn, beside the table that the turns leave: on each port what the law says is outstanding.
+use Rattle.std.specs.Prelude.{◌≡◌, ℕ, ◌+◌, ◌<◌, ◌^◌, true, false, decimal, List, [], ◌∷◌, ◌++◌, length, map, Option, Some, None}
+use Rattle.ouch_codec.specs.declared.inbound.Inbound.{Inbound}
+use Rattle.ouch_codec.specs.Inbound.{inbound_bytes}
+use Rattle.order_law.specs.Asks.{Standing}
+use Rattle.order_law.specs.Life.{is_closed}
+use Rattle.order_law.specs.Messages.{Message, text}
+use Rattle.order_law.specs.Verdicts.{Port}
+use Rattle.order_law.specs.History.{Asked, Came, Entry, Heard, History, Terms, Turn, accepted, is_new_order, new_of, outstanding, terms_of}
+use Rattle.order_law.specs.Headline.{Each, EachWith, Says, order_number}
+use Rattle.order_histories.specs.OrderRecord.{OrderRecord}
+use Rattle.order_histories.specs.Table.{State, by_id, by_token, put}
+use Rattle.order_histories.specs.Machine.{client_step, market_step}
+use Rattle.order_histories.specs.Outstanding.{OnPort, on_port}
+use Rattle.order_histories.specs.Runs.{Leads, Leaves}
+use Rattle.asked_messages.specs.Kept.{KeptMessage, bytes_on, kept_from, left_by}
+use Rattle.asked_messages.specs.Keeping.{AreKept, always}
+
+-- the client of a new order, none for no order
+abbrev pub client_by : Option Entry → ℕ
+client_by None = 0
+client_by (Some new) = new.client
+
+-- how the client of an order stands, by the settings
+abbrev pub standing_by : List Terms → List Entry → List ℕ → Standing
+standing_by terms entries order = (terms_of terms (client_by (new_of order entries))).standing
+
+abbrev pub standing_in : List Terms → History → List ℕ → Standing
+standing_in terms h order = standing_by terms (accepted terms h) order
+
+-- After these turns, the newest first, these messages are asked and not answered, and no others.
+abbrev pub KeepsOutstanding : List Terms → History → List KeptMessage → Type 0
+KeepsOutstanding terms h kept =
+    (asked : List OnPort) × ((p : ℕ) → on_port p asked ≡ outstanding terms p h) × AreKept (standing_in terms h) asked kept
+
+-- A message says what is asked, as the lists have it: the orders of the port's tokens, and how the order's client stands.
+abbrev pub SaysIn : List Terms → History → ℕ → Asked → List ℕ → Type 0
+SaysIn terms h port asked message = Says (standing_in terms h asked.order) (order_number terms port (accepted terms h)) asked message
+
+-- ---- the laws
+
+-- before the first turn
+abbrev pub NothingIsKept : Type 0
+NothingIsKept = (terms : List Terms) → KeepsOutstanding terms [] []
+
+-- all that a new order asks is of the order that it is accepted as
+abbrev pub NewOrdersAsk : Type 0
+NewOrdersAsk =
+    (s : State) (client : ℕ) (m : Message) (port : Port) → is_new_order m ≡ true
+    → Each (λ (a : Asked). a.order ≡ decimal (s.order_ids + 1)) (client_step s client m port).asks
+
+-- all that a request asks is of the order that it names
+abbrev pub RequestsAsk : Type 0
+RequestsAsk =
+    (s : State) (client : ℕ) (m : Message) (port : Port) (o : OrderRecord) → is_new_order m ≡ false → by_id s client (text 41 m) ≡ Some o
+    → Each (λ (a : Asked). a.order ≡ o.new.order) (client_step s client m port).asks
+
+-- A turn of a client's message: the messages that say what it asks of an order stand behind the others, whether they are
+-- sent at once or not.
+abbrev pub ClientTurnsKeep : Type 0
+ClientTurnsKeep =
+    (terms : List Terms) (before : History) (s : State) → length before < 2 ^ 58 → Leaves terms before s
+    → (kept : List KeptMessage) → KeepsOutstanding terms before kept
+    → (t : Turn) (new : State) (client : ℕ) (m : Message) (port : Port) → t.event ≡ Came client m port → Leads s t new
+    → (order : List ℕ) (messages : List Inbound) → Each (λ (a : Asked). a.order ≡ order) (client_step s client m port).asks
+    → EachWith (Says (terms_of s.terms client).standing (always order)) (client_step s client m port).asks (map inbound_bytes messages)
+    → KeepsOutstanding terms (t ∷ before) (kept ++ kept_from (terms_of s.terms client).port order messages)
+
+-- A turn of a payload by which a token of the port has its order become this one: what it answers of the port goes, and what
+-- was asked of the order if it is closed now.
+abbrev pub MarketTurnsKeep : Type 0
+MarketTurnsKeep =
+    (terms : List Terms) (before : History) (s : State) → length before < 2 ^ 58 → Leaves terms before s
+    → (kept : List KeptMessage) → KeepsOutstanding terms before kept
+    → (t : Turn) (new : State) (port : ℕ) (m : List ℕ) → t.event ≡ Heard port m → Leads s t new
+    → (token : List ℕ) (order now : OrderRecord) → by_token s port token ≡ Some order → now.new ≡ order.new
+    → (market_step s port m).fault ≡ None → (market_step s port m).state.orders ≡ put now s.orders
+    → KeepsOutstanding terms (t ∷ before) (left_by port m now.new.order (is_closed now.stage) kept)
+
+-- A turn of a payload that changes no order, be it a fault or not: nothing goes.
+abbrev pub QuietTurnsKeep : Type 0
+QuietTurnsKeep =
+    (terms : List Terms) (before : History) (s : State) → length before < 2 ^ 58 → Leaves terms before s
+    → (kept : List KeptMessage) → KeepsOutstanding terms before kept
+    → (t : Turn) (new : State) (port : ℕ) (m : List ℕ) → t.event ≡ Heard port m → Leads s t new
+    → (market_step s port m).state ≡ s
+    → KeepsOutstanding terms (t ∷ before) kept
+
+-- A port's own messages say what is outstanding on it, one by one and in order.
+abbrev pub OutstandingIsKept : Type 0
+OutstandingIsKept =
+    (terms : List Terms) (h : History) (s : State) → length h < 2 ^ 59 → Leaves terms h s
+    → (kept : List KeptMessage) → KeepsOutstanding terms h kept
+    → (port : ℕ) → EachWith (SaysIn terms h port) (outstanding terms port h) (bytes_on port kept)
