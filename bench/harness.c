@@ -33,6 +33,8 @@ uint64_t bench_day(const uint8_t *order, size_t order_length, const uint8_t *acc
 uint64_t bench_day_text(const uint8_t *order, size_t order_length, const uint8_t *accepted, size_t accepted_length,
                         const uint8_t *executed, size_t executed_length, uint32_t open, uint32_t rounds, uint8_t *out,
                         size_t room);
+uint64_t bench_requests(const uint8_t *order, size_t order_length, const uint8_t *accepted, size_t accepted_length,
+                        const uint8_t *request, size_t request_length, uint32_t open, uint32_t taken);
 bool bench_put_enter_order(const uint8_t *bytes, size_t length, uint32_t times, uint8_t *out, size_t room);
 
 enum {
@@ -51,6 +53,8 @@ enum {
     OPEN_ORDERS = 10,
     STEPS_OF_OPEN = 2,
     STEPS_OF_ROUND = 3,
+    // So many days of a request on each open order are timed at once.
+    DAYS_OF_REQUESTS = 100,
     // A session is asked for this many calls before the next one begins, since it keeps what it issues.
     SESSION_CALLS = 2000,
     RESENDS = 20,
@@ -96,6 +100,10 @@ static const char CORE_ORDER[] = "35=D\00155=INTC\00154=1\00138=300\00140=2\0014
 static const char ACCEPTED[] =
     "A\000\000\000\000\000\000\000\001G0000000000001B\000\000\001,INTC    \000\003\224\004\000\001\206\236FIRMY"
     "\000\000\000\000\000\000\000\001AN\000\000\000\000NLN";
+
+// What it asks of such an order later, but for both ClOrdIDs.
+static const char CORE_CANCEL[] = "35=F\001";
+static const char CORE_REPLACE[] = "35=G\00155=INTC\00154=1\00138=500\00140=2\00144=23.5\00159=0\001528=A\001";
 
 static const uint64_t LEAP_DAY_OF_2000 = 951782400000;
 
@@ -238,6 +246,32 @@ static double best_round(uint32_t rounds, int days) {
     return (least_with - least_without) / days / rounds;
 }
 
+static uint64_t requests(const char *request, size_t length, uint32_t taken) {
+    return bench_requests(hidden(CORE_ORDER), sizeof CORE_ORDER - 1, hidden(ACCEPTED), ACCEPTED_LENGTH, hidden(request), length,
+                          OPEN_ORDERS, taken);
+}
+
+// The best time of a request, where a day has one on each open order: of days with them, less that of days that end before.
+static double best_request(const char *request, size_t length) {
+    uint32_t before = OPEN_ORDERS * STEPS_OF_OPEN;
+    double least_without = 1e18;
+    double least_with = 1e18;
+    for (int repeat = 0; repeat < REPEATS; repeat++) {
+        double start = now();
+        for (int i = 0; i < DAYS_OF_REQUESTS; i++) {
+            sum += requests(request, length, before);
+        }
+        double middle = now();
+        for (int i = 0; i < DAYS_OF_REQUESTS; i++) {
+            sum += requests(request, length, before + OPEN_ORDERS);
+        }
+        double end = now();
+        least_without = middle - start < least_without ? middle - start : least_without;
+        least_with = end - middle < least_with ? end - middle : least_with;
+    }
+    return (least_with - least_without) / DAYS_OF_REQUESTS / OPEN_ORDERS;
+}
+
 static double best(void (*calls)(void)) {
     double least = 1e18;
     for (int repeat = 0; repeat < REPEATS; repeat++) {
@@ -359,6 +393,15 @@ static bool day_is_right(void) {
            day(2000, OPEN_ORDERS * STEPS_OF_OPEN + 2000 * STEPS_OF_ROUND) == 3 * OPEN_ORDERS + 4 * 2000;
 }
 
+// Each request is pending, which one report says, and asks the market once.
+static bool requests_are_right(void) {
+    uint32_t before = OPEN_ORDERS * STEPS_OF_OPEN;
+    return requests(CORE_CANCEL, sizeof CORE_CANCEL - 1, before) == 3 * OPEN_ORDERS &&
+           requests(CORE_CANCEL, sizeof CORE_CANCEL - 1, before + OPEN_ORDERS) == 5 * OPEN_ORDERS &&
+           requests(CORE_REPLACE, sizeof CORE_REPLACE - 1, before) == 3 * OPEN_ORDERS &&
+           requests(CORE_REPLACE, sizeof CORE_REPLACE - 1, before + OPEN_ORDERS) == 5 * OPEN_ORDERS;
+}
+
 // Each order is given up; each report is one frame; a resend is a gap fill for the Logon, and each body.
 static bool session_is_right(void) {
     return on_message(7) == 7 && make_messages(3) == 3 * 14 && issue(5) == 5 && resends(9, 2) == 2 * 10;
@@ -380,8 +423,9 @@ int main(void) {
                 make_messages(3) == 3 * 14, issue(5) == 5, resends(9, 2) == 2 * 10);
         return 1;
     }
-    if (!decode_is_right() || !day_is_right()) {
-        fprintf(stderr, "wrong: decode is right %d, a day of the order core %d\n", decode_is_right(), day_is_right());
+    if (!decode_is_right() || !day_is_right() || !requests_are_right()) {
+        fprintf(stderr, "wrong: decode is right %d, a day of the order core %d, its requests %d\n", decode_is_right(),
+                day_is_right(), requests_are_right());
         return 1;
     }
     double split = best(split_calls);
@@ -397,6 +441,8 @@ int main(void) {
     printf("%-44s %7.0f   aim: below 6000\n", "D, its A and its E: a day's first round", best_round(1, 400));
     printf("%-44s %7.0f   aim: below 6000\n", "D, its A and its E: rounds 1 to 50", best_round(50, 20));
     printf("%-44s %7.0f   aim: below 6000\n", "D, its A and its E: rounds 1 to 2,000", best_round(2000, 1));
+    printf("%-44s %7.0f   aim: below 4000\n", "F on each of ten open orders", best_request(CORE_CANCEL, sizeof CORE_CANCEL - 1));
+    printf("%-44s %7.0f   aim: below 4000\n", "G on each of ten open orders", best_request(CORE_REPLACE, sizeof CORE_REPLACE - 1));
     double made = best(make_messages_calls);
     printf("%-44s %7.1f   aim: below 600\n", "Session::on_message, an order in sequence", best(on_message_calls) - made);
     printf("%-44s %7.1f   aim: below 1500\n", "Session::issue, a report", best(issue_calls));

@@ -1,18 +1,18 @@
 -- What is kept from turn to turn, beside the table that the turns leave: on each port what the law says is outstanding.
-use Rattle.std.specs.Prelude.{◌≡◌, ℕ, ◌+◌, ◌<◌, ◌^◌, true, false, decimal, List, [], ◌∷◌, ◌++◌, length, map, Option, Some, None}
+use Rattle.std.specs.Prelude.{◌≡◌, ℕ, ◌<◌, ◌^◌, List, [], ◌∷◌, ◌++◌, length, map, Option, Some, None}
 use Rattle.ouch_codec.specs.declared.inbound.Inbound.{Inbound}
 use Rattle.ouch_codec.specs.Inbound.{inbound_bytes}
 use Rattle.order_law.specs.Asks.{Standing}
 use Rattle.order_law.specs.Life.{is_closed}
-use Rattle.order_law.specs.Messages.{Message, text}
+use Rattle.order_law.specs.Messages.{Message}
 use Rattle.order_law.specs.Verdicts.{Port}
-use Rattle.order_law.specs.History.{Asked, Came, Entry, Heard, History, Terms, Turn, accepted, is_new_order, new_of, outstanding, terms_of}
+use Rattle.order_law.specs.History.{Asked, Came, Entry, Heard, History, Terms, Turn, accepted, new_of, outstanding, terms_of}
 use Rattle.order_law.specs.Headline.{Each, EachWith, Says, order_number}
 use Rattle.order_histories.specs.OrderRecord.{OrderRecord}
-use Rattle.order_histories.specs.Table.{State, by_id, by_token, put}
+use Rattle.order_histories.specs.Table.{State, by_token, put}
 use Rattle.order_histories.specs.Machine.{client_step, market_step}
 use Rattle.order_histories.specs.Outstanding.{OnPort, on_port}
-use Rattle.order_histories.specs.Runs.{Leads, Leaves}
+use Rattle.order_histories.specs.Runs.{Finds, Leads, Leaves}
 use Rattle.asked_messages.specs.Kept.{KeptMessage, bytes_on, kept_from, left_by}
 use Rattle.asked_messages.specs.Keeping.{AreKept, always}
 
@@ -43,17 +43,13 @@ SaysIn terms h port asked message = Says (standing_in terms h asked.order) (orde
 abbrev pub NothingIsKept : Type 0
 NothingIsKept = (terms : List Terms) → KeepsOutstanding terms [] []
 
--- all that a new order asks is of the order that it is accepted as
-abbrev pub NewOrdersAsk : Type 0
-NewOrdersAsk =
-    (s : State) (client : ℕ) (m : Message) (port : Port) → is_new_order m ≡ true
-    → Each (λ (a : Asked). a.order ≡ decimal (s.order_ids + 1)) (client_step s client m port).asks
-
--- all that a request asks is of the order that it names
-abbrev pub RequestsAsk : Type 0
-RequestsAsk =
-    (s : State) (client : ℕ) (m : Message) (port : Port) (o : OrderRecord) → is_new_order m ≡ false → by_id s client (text 41 m) ≡ Some o
-    → Each (λ (a : Asked). a.order ≡ o.new.order) (client_step s client m port).asks
+-- Messages that say what is asked of an order wherever the tokens that it is about lead to the order, say it where every
+-- token does.
+abbrev pub SaidOfOrder : Type 0
+SaidOfOrder =
+    (standing : Standing) (order : List ℕ) (asks : List Asked) (messages : List (List ℕ)) → Each (λ (a : Asked). a.order ≡ order) asks
+    → ((order_of : List ℕ → Option ℕ) → Each (Finds order_of) asks → EachWith (Says standing order_of) asks messages)
+    → EachWith (Says standing (always order)) asks messages
 
 -- A turn of a client's message: the messages that say what it asks of an order stand behind the others, whether they are
 -- sent at once or not.

@@ -1,7 +1,7 @@
 //! Why what is kept is what is asked, for those who reason about runs.
 
 ghost use Rattle.asked_messages.specs.Keeping.{AnsweringKeeps, PortsAreSaid, PushingKeeps, StandingsMayGrow};
-ghost use Rattle.asked_messages.specs.KeptInTurns.{ClientTurnsKeep, MarketTurnsKeep, NewOrdersAsk, NothingIsKept, OutstandingIsKept, QuietTurnsKeep, RequestsAsk};
+ghost use Rattle.asked_messages.specs.KeptInTurns.{ClientTurnsKeep, MarketTurnsKeep, NothingIsKept, OutstandingIsKept, QuietTurnsKeep, SaidOfOrder};
 
 /// Where the messages that are kept are those that are asked, they are so after a port is asked more of one order, and
 /// messages that say it stand behind the others. It does nothing: its contract is the law, for callers to cite.
@@ -39,9 +39,8 @@ pub fn kept_messages_say_what_is_outstanding()
     ensures outstanding { OutstandingIsKept }
 {}
 
-/// All that a client's message asks is of one order: a new order's own, or the one that a request names. It does nothing:
-/// its contract is the law, for callers to cite.
-pub fn messages_ask_of_one_order()
-    ensures new_orders { NewOrdersAsk }
-    ensures requests { RequestsAsk }
+/// Messages that say what is asked of an order, wherever the tokens that it is about lead to it, say it where every token
+/// leads to the order. It does nothing: its contract is the law, for callers to cite.
+pub fn messages_say_it_of_their_order()
+    ensures { SaidOfOrder }
 {}

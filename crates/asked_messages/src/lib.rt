@@ -14,7 +14,8 @@ mod laws;
 mod messages;
 
 pub use laws::{
-    answering_keeps_what_is_asked, ports_are_sent_what_they_are_asked, pushing_keeps_what_is_asked,
-    standings_may_grow,
+    answering_keeps_what_is_asked, kept_messages_say_what_is_outstanding,
+    messages_say_it_of_their_order, ports_are_sent_what_they_are_asked,
+    pushing_keeps_what_is_asked, standings_may_grow,
 };
 pub use messages::AskedMessages;

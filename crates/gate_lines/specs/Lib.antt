@@ -1,3 +1,4 @@
 pub mod Ports
 pub mod Shown
 pub mod Status
+pub mod Steps

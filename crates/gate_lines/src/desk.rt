@@ -3,7 +3,10 @@
 ghost use Rattle.std.specs.Prelude.{◌≡◌, ◌↔◌, ◌≤◌, ◌<◌, ◌+◌, ◌*◌, ◌^◌, ◌∷◌, [], IfOk, IsSome};
 ghost use Rattle.order_core.specs.State.{clients, issued};
 ghost use Rattle.to_market.specs.declared.port_state.PortState.TheVariants.{Up};
+ghost use Rattle.script_lines.specs.Names.{client_number, port_number, port_of};
+ghost use Rattle.order_core.specs.declared.runs.Event.TheVariants as events;
 ghost use Rattle.gate_lines.specs.Ports.{ports_after, state_of};
+ghost use Rattle.gate_lines.specs.Steps.{StepsAny, StepsBy};
 
 use crate::settings::client_terms;
 use fix_types::AppMsg;
@@ -38,7 +41,7 @@ impl Desk {
         })
     }
 
-    /// Hears a client's message, and gives what comes of it.
+    /// Hears a client's message, and gives what comes of it: the core steps it once, as its client's port stands.
     pub fn client(
         &mut self,
         alloc: Global,
@@ -48,14 +51,22 @@ impl Desk {
         requires { self.old.turns < 2 ^ 58 }
         ensures turns { self.new.turns ≡ self.old.turns + 1 }
         ensures ports { self.new.ports ≡ self.old.ports }
+        ensures stepped { IfOk result (λ outcome. StepsBy self.old.core (events.Came (client_number client) message (state_of self.old.ports (port_of client))) outcome self.new.core) }
     {
         let event = Event::Came {
             client: client.number(),
             message,
-            port: self.ports[client.port().index()],
+            port: self.state(client.port()),
         };
         self.turns += 1;
         step(&mut self.core, alloc, &event)
+    }
+
+    /// How a port stands.
+    fn state(&self, port: Port) -> PortState
+        ensures { result ≡ state_of self.now.ports port }
+    {
+        self.ports[port.index()]
     }
 
     /// Hears the market's payload at a port, and gives what comes of it: nothing where the port isn't up. A fault closes
@@ -70,8 +81,9 @@ impl Desk {
         ensures turns { self.new.turns ≤ self.old.turns + 1 }
         ensures ports { IfOk result (λ heard. self.new.ports ≡ ports_after self.old.ports port heard) }
         ensures heard { IfOk result (λ heard. IsSome heard ↔ (state_of self.old.ports port ≡ Up)) }
+        ensures stepped { IfOk result (λ heard. StepsAny self.old.core (events.Heard (port_number port) payload) heard self.new.core) }
     {
-        if self.ports[port.index()] != PortState::Up {
+        if self.state(port) != PortState::Up {
             return Ok(None);
         }
         let event = Event::Heard {

@@ -1,24 +1,38 @@
--- A call that meets the table's step leads on, as a turn.
-use Rattle.std.proofs.Common.{◌≡◌, ℕ, suc, ◌<◌, true, false, List, [], ◌∷◌, refl, sym, ap, ◌∙◌, arith, Option, None, Result, Ok, Err, get_or}
-use Rattle.std.specs.Prelude.{OnErr, nat_lt}
+-- A call that meets the ledger's leads on, as a turn, and keeps what is outstanding.
+use Rattle.std.proofs.Common.{◌≡◌, ℕ, suc, ◌<◌, ◌^◌, ◌++◌, List, [], ◌∷◌, length, map, refl, sym, ap, ◌∙◌, subst, subst₂, arith, decimal, Option, None, Some, Result, Ok, Err, get_or}
+use Rattle.std.specs.Prelude.{OnErr, Bool, nat_lt, true}
 use Rattle.std.proofs.lemmas.Bool.Decides.{nat_tests}
+use Rattle.fix_types.specs.declared.application.AppBody.{AppBody}
 use Rattle.fix_types.specs.declared.application.AppMsg.{AppMsg}
-use Rattle.order_law.specs.Headline.{Each}
-use Rattle.order_law.specs.History.{History, Terms, Turn, terms_of}
+use Rattle.ouch_codec.specs.declared.inbound.Inbound.{Inbound}
+use Rattle.ouch_codec.specs.Inbound.{inbound_bytes}
+use Rattle.order_law.specs.Headline.{Each, EachWith, Says, Sends}
+use Rattle.order_law.specs.History.{Asked, Heard, History, Terms, Turn, terms_of}
+use Rattle.order_law.specs.Lawful.{order_token}
+use Rattle.order_law.specs.Life.{is_closed}
+use Rattle.order_law.specs.Verdicts.{Port, Down, Up, Ended, Faulted}
 use Rattle.order_histories.specs.Told.{AreBytes}
-use Rattle.order_histories.specs.Table.{State}
+use Rattle.order_histories.specs.Table.{State, empty}
 use Rattle.order_histories.specs.Machine.{Given, client_step, faulty, market_step}
 use Rattle.order_histories.specs.Runs.{Finds, Leads, LeadsTo, Leaves}
+use Rattle.asked_messages.specs.Kept.{KeptMessage, kept_from, left_by}
+use Rattle.asked_messages.specs.KeptInTurns.{ClientTurnsKeep, KeepsOutstanding, MarketTurnsKeep, NothingIsKept, QuietTurnsKeep, SaidOfOrder}
 use Rattle.market_turns.specs.Turns.{number_of}
 use Rattle.market_turns.specs.declared.market_fault.MarketFault.{MarketFault}
-use Rattle.order_core.specs.declared.market_error.MarketError.{MarketError}
-use Rattle.order_core.specs.declared.market_error.MarketError.TheVariants as errors
+use Rattle.to_client.specs.Pending.{body_fields}
+use Rattle.to_market.specs.declared.port_state.PortState.{PortState}
+use Rattle.to_market.specs.PortsSeen.{port_seen}
+use Rattle.order_ledger.specs.declared.market_error.MarketError.{MarketError}
+use Rattle.order_ledger.specs.declared.market_error.MarketError.TheVariants as errors
+use Rattle.order_ledger.specs.declared.turns.ChangedOrder.{ChangedOrder}
+use Rattle.order_ledger.specs.declared.turns.MarketTurn.{MarketTurn}
+use Rattle.order_ledger.specs.Meets.{ChangesAny, GivesMarket, GoByNumbers}
+use Rattle.order_ledger.specs.Seen.{client_seen, message_fields}
 use Rattle.order_core.specs.declared.outcome.CoreOut.{CoreOut}
 use Rattle.order_core.specs.declared.outcome.MarketOut.{MarketOut}
-use Rattle.to_market.specs.declared.port_state.PortState.{PortState}
-use Rattle.order_core.specs.Meets.{GivesMarket, GoByNumbers, MeetsMarket, MeetsMessage}
-use Rattle.to_market.specs.PortsSeen.{port_seen}
-use Rattle.order_core.specs.Turns.{OfTurn, client_turn, fault_turn, message_fields, told_turn}
+use Rattle.order_core.specs.Meets.{MeetsClient, MeetsHandled, MeetsPayload, left_after, sent_of}
+use Rattle.order_core.specs.State.{CoreState, IsAfter}
+use Rattle.order_core.specs.Turns.{OfTurn, client_turn, fault_turn, told_turn}
 
 -- the bytes of a slice are below 256
 pub all-bytes : (bytes : List ℕ) → ((i : ℕ) → get_or bytes i 0 < 256) → AreBytes bytes
@@ -27,55 +41,123 @@ all-bytes (byte ∷ bytes) below =
     let first : nat_lt byte 256 ≡ true = grind (arith, nat_tests, below 0) in
     rw (first, all-bytes bytes (λ i. below (suc i))) refl
 
-Leaves-more : (terms : List Terms) (before : History) (old : State) (t : Turn) (new : State) → Leaves terms before old → Leads old t new → Leaves terms (t ∷ before) new
-unfolding Leaves
-Leaves-more terms before old t new leaves leads = (old, leaves, leads)
+-- where the port is up, what goes out is all that is asked
+sends-as : (port : Port) (P : Asked → List ℕ → Type 0) (asked : List Asked) (asks : List Inbound) → EachWith P asked (map inbound_bytes asks) → Sends port P asked (map inbound_bytes (sent_of port asks))
+sends-as Up P asked asks says = says
+sends-as Down P asked asks says = refl
+sends-as Ended P asked asks says = refl
+sends-as (Faulted n) P asked asks says = refl
 
--- a client's call, of a table whose orders go by their numbers, and where each token that is asked about leads to its order
-pub Leaves-client : (terms : List Terms) (before : History) (old : State) (client : ℕ) (message : AppMsg) (port : PortState) (out : CoreOut) (new : State)
-    → GoByNumbers old
-    → ((order_of : List ℕ → Option ℕ) → LeadsTo (client_step old client (message_fields message) (port_seen port)).state (terms_of old.terms client).port order_of
-    → Each (Finds order_of) (client_step old client (message_fields message) (port_seen port)).asks)
-    → MeetsMessage old client message (port_seen port) out new
-    → Leaves terms before old → Leaves terms (client_turn client message port out ∷ before) new
-Leaves-client terms before old client message port out new numbered known meets leaves =
-    let gives = meets numbered in
-    Leaves-more terms before old (client_turn client message port out) new leaves (record {
-      is_event = tt;
-      meets = record {
-        state = gives.state;
-        client = sym gives.for_client;
-        bodies = gives.bodies;
-        fault = sym gives.no_fault;
-        sends = λ order_of leads. gives.sends order_of (known order_of leads);
-      };
-    })
+-- one turn more
+more : (terms : List Terms) (before : History) (old : CoreState) (t : Turn) (new : CoreState) → Leaves terms before old.table → Leads old.table t new.table → KeepsOutstanding terms (t ∷ before) new.kept → IsAfter terms (t ∷ before) new
+unfolding IsAfter Leaves
+more terms before old t new leaves leads keeps = ((old.table, leaves, leads), keeps)
 
--- a payload that was handled
-pub Leaves-told : (terms : List Terms) (before : History) (old : State) (port : ℕ) (payload : List ℕ) (out : MarketOut) (new : State)
-    → AreBytes payload → GivesMarket (market_step old port payload) out new
-    → Leaves terms before old → Leaves terms (told_turn port payload out ∷ before) new
-Leaves-told terms before old port payload out new bytes meets leaves =
-    Leaves-more terms before old (told_turn port payload out) new leaves (record {
-      is_event = λ executed. bytes;
-      meets = record { state = meets.state; client = meets.client; bodies = meets.bodies; fault = sym meets.fault; sends = refl };
-    })
+-- the parts of what is known of a core
+pub parts-of : (terms : List Terms) (h : History) (c : CoreState) → IsAfter terms h c → Leaves terms h c.table × KeepsOutstanding terms h c.kept
+unfolding IsAfter
+parts-of terms h c after = after
 
--- and one that is a fault
-pub Leaves-fault : (terms : List Terms) (before : History) (old : State) (port : ℕ) (payload : List ℕ) (fault : MarketFault) (new : State)
-    → AreBytes payload → market_step old port payload ≡ faulty old (number_of fault) → new ≡ old
-    → Leaves terms before old → Leaves terms (fault_turn port payload fault ∷ before) new
-Leaves-fault terms before old port payload fault new bytes is same leaves =
-    Leaves-more terms before old (fault_turn port payload fault) new leaves (record {
-      is_event = λ executed. bytes;
-      meets = record {
-        state = same ∙ ap (λ (g : Given). g.state) (sym is);
-        client = ap (λ (g : Given). g.client) (sym is);
-        bodies = ap (λ (g : Given). g.bodies) (sym is);
-        fault = ap (λ (g : Given). g.fault) (sym is);
-        sends = refl;
-      };
-    })
+-- from its parts
+pub from-parts : (terms : List Terms) (h : History) (c : CoreState) → Leaves terms h c.table → KeepsOutstanding terms h c.kept → IsAfter terms h c
+unfolding IsAfter
+from-parts terms h c leaves keeps = (leaves, keeps)
+
+-- ---- a client's call
+
+module _ (terms : List Terms) (before : History) (old : CoreState) (client : ℕ) (message : AppMsg) (port : PortState) (out : CoreOut) (new : CoreState) where
+  -- in a table whose orders go by their numbers, and where each token that is asked about leads to its order
+  pub client-leads : GoByNumbers old.table
+      → ((order_of : List ℕ → Option ℕ) → LeadsTo (client_step old.table client (message_fields message) (port_seen port)).state (terms_of old.table.terms client).port order_of
+      → Each (Finds order_of) (client_step old.table client (message_fields message) (port_seen port)).asks)
+      → MeetsClient old client message (port_seen port) out new → Leads old.table (client_turn client message port out) new.table
+  client-leads numbered known meets =
+      let gives = meets.gives numbered in
+      record {
+        is_event = tt;
+        meets = record {
+          state = gives.state;
+          client = sym gives.for_client;
+          bodies = ap (map body_fields) meets.bodies ∙ gives.bodies;
+          fault = sym gives.no_fault;
+          sends = λ order_of leads.
+              let step = client_step old.table client (message_fields message) (port_seen port) in
+              let P = Says (terms_of old.table.terms client).standing order_of in
+              subst (λ (sends : List Inbound). Sends (port_seen port) P step.asks (map inbound_bytes sends)) (sym meets.sends)
+              (sends-as (port_seen port) P step.asks meets.turn.asks.items (gives.asks order_of (known order_of leads)));
+        };
+      }
+
+  pub client-after : length before < 2 ^ 58 → ClientTurnsKeep → SaidOfOrder → GoByNumbers old.table
+      → ((order_of : List ℕ → Option ℕ) → LeadsTo (client_step old.table client (message_fields message) (port_seen port)).state (terms_of old.table.terms client).port order_of
+      → Each (Finds order_of) (client_step old.table client (message_fields message) (port_seen port)).asks)
+      → MeetsClient old client message (port_seen port) out new → IsAfter terms before old → IsAfter terms (client_turn client message port out ∷ before) new
+  client-after short keep said numbered known meets after =
+      let parts = parts-of terms before old after in
+      let gives = meets.gives numbered in
+      let leads = client-leads numbered known meets in
+      let step = client_step old.table client (message_fields message) (port_seen port) in
+      let order = decimal meets.turn.order_id in
+      let says = said (terms_of old.table.terms client).standing order step.asks (map inbound_bytes meets.turn.asks.items) gives.of_order gives.asks in
+      more terms before old (client_turn client message port out) new parts.0 leads
+      (subst (KeepsOutstanding terms (client_turn client message port out ∷ before)) (sym meets.kept)
+      (keep terms before old.table short parts.0 old.kept parts.1 (client_turn client message port out) new.table client (message_fields message) (port_seen port) refl leads order meets.turn.asks.items gives.of_order says))
+
+-- ---- a payload
+
+module _ (terms : List Terms) (before : History) (old : CoreState) (port : ℕ) (m : List ℕ) (short : length before < 2 ^ 58) (market : MarketTurnsKeep) (quiet : QuietTurnsKeep) (leaves : Leaves terms before old.table) (keeps : KeepsOutstanding terms before old.kept) (t : Turn) (is_event : t.event ≡ Heard port m) (new : State) (leads : Leads old.table t new) where
+  -- what it leaves of what is kept is what is outstanding
+  pub kept-after : (market_step old.table port m).fault ≡ None → (changed : Option ChangedOrder) → ChangesAny old.table port m changed
+      → KeepsOutstanding terms (t ∷ before) (left_after port m changed old.kept)
+  kept-after no_fault None same = quiet terms before old.table short leaves old.kept keeps t new port m is_event leads same
+  kept-after no_fault (Some c) is =
+      subst₂ (λ (order : List ℕ) (closed : Bool). KeepsOutstanding terms (t ∷ before) (left_by port m order closed old.kept)) is.of_order is.closed
+      (market terms before old.table short leaves old.kept keeps t new port m is_event leads (order_token m) is.order is.now is.found is.same no_fault is.orders)
+
+module _ (terms : List Terms) (before : History) (old : CoreState) (port : ℕ) (payload : List ℕ) (new : CoreState) (bytes : AreBytes payload) where
+  -- one that was handled
+  told-leads : (out : MarketOut) → MeetsHandled old port payload out new → Leads old.table (told_turn port payload out) new.table
+  told-leads out meets = record {
+    is_event = λ executed. bytes;
+    meets = record {
+      state = meets.gives.state;
+      client = ap client_seen meets.client ∙ meets.gives.client;
+      bodies = ap (map body_fields) meets.bodies ∙ meets.gives.bodies;
+      fault = sym meets.gives.fault;
+      sends = refl;
+    };
+  }
+
+  pub told-after : length before < 2 ^ 58 → MarketTurnsKeep → QuietTurnsKeep → (out : MarketOut) → MeetsHandled old port payload out new
+      → IsAfter terms before old → IsAfter terms (told_turn port payload out ∷ before) new
+  told-after short market quiet out meets after =
+      let parts = parts-of terms before old after in
+      let leads = told-leads out meets in
+      more terms before old (told_turn port payload out) new parts.0 leads
+      (subst (KeepsOutstanding terms (told_turn port payload out ∷ before)) (sym meets.kept)
+      (kept-after terms before old port payload short market quiet parts.0 parts.1 (told_turn port payload out) refl new.table leads meets.gives.fault meets.turn.changed meets.changes))
+
+  -- and one that is a fault
+  fault-leads : (fault : MarketFault) → market_step old.table port payload ≡ faulty old.table (number_of fault) → new ≡ old → Leads old.table (fault_turn port payload fault) new.table
+  fault-leads fault is same = record {
+    is_event = λ executed. bytes;
+    meets = record {
+      state = ap (λ (c : CoreState). c.table) same ∙ ap (λ (g : Given). g.state) (sym is);
+      client = ap (λ (g : Given). g.client) (sym is);
+      bodies = ap (λ (g : Given). g.bodies) (sym is);
+      fault = ap (λ (g : Given). g.fault) (sym is);
+      sends = refl;
+    };
+  }
+
+  pub fault-after : length before < 2 ^ 58 → QuietTurnsKeep → (fault : MarketFault) → market_step old.table port payload ≡ faulty old.table (number_of fault) → new ≡ old
+      → IsAfter terms before old → IsAfter terms (fault_turn port payload fault ∷ before) new
+  fault-after short quiet fault is same after =
+      let parts = parts-of terms before old after in
+      let leads = fault-leads fault is same in
+      more terms before old (fault_turn port payload fault) new parts.0 leads
+      (subst (KeepsOutstanding terms (fault_turn port payload fault ∷ before)) (ap (λ (c : CoreState). c.kept) (sym same))
+      (quiet terms before old.table short parts.0 old.kept parts.1 (fault_turn port payload fault) new.table port payload refl leads (ap (λ (g : Given). g.state) is)))
 
 -- what holds of every turn that may come of it
 pub OfTurn-weaker : (port : ℕ) (payload : List ℕ) (result : Result MarketOut MarketError) (P Q : Turn → Type 0) → ((t : Turn) → P t → Q t) → OfTurn port payload result P → OfTurn port payload result Q
@@ -83,10 +165,33 @@ OfTurn-weaker port payload (Ok out) P Q weaker p = weaker (told_turn port payloa
 OfTurn-weaker port payload (Err errors.NoMemory) P Q weaker p = tt
 OfTurn-weaker port payload (Err (errors.Faulty fault)) P Q weaker p = weaker (fault_turn port payload fault) p
 
-pub Leaves-market : (old : State) (port : ℕ) (payload : List ℕ) (result : Result MarketOut MarketError) (new : State)
-    → AreBytes payload → MeetsMarket old (market_step old port payload) result new → OnErr result (new ≡ old)
-    → OfTurn port payload result (λ turn. (terms : List Terms) (before : History) → Leaves terms before old → Leaves terms (turn ∷ before) new)
-Leaves-market old port payload (Ok out) new bytes meets same = λ terms before leaves. Leaves-told terms before old port payload out new bytes meets leaves
-Leaves-market old port payload (Err errors.NoMemory) new bytes meets same = tt
-Leaves-market old port payload (Err (errors.Faulty fault)) new bytes meets same =
-    λ terms before leaves. Leaves-fault terms before old port payload fault new bytes meets same leaves
+pub market-after : (old : CoreState) (port : ℕ) (payload : List ℕ) (result : Result MarketOut MarketError) (new : CoreState)
+    → AreBytes payload → MarketTurnsKeep → QuietTurnsKeep → MeetsPayload old port payload result new → OnErr result (new ≡ old)
+    → OfTurn port payload result (λ turn. (terms : List Terms) (before : History) → length before < 2 ^ 58 → IsAfter terms before old → IsAfter terms (turn ∷ before) new)
+market-after old port payload (Ok out) new bytes market quiet meets same =
+    λ terms before short after. told-after terms before old port payload new bytes short market quiet out meets after
+market-after old port payload (Err errors.NoMemory) new bytes market quiet meets same = tt
+market-after old port payload (Err (errors.Faulty fault)) new bytes market quiet meets same =
+    λ terms before short after. fault-after terms before old port payload new bytes short quiet fault meets same after
+
+-- ---- what the calls keep
+
+pub kept-as : (a b : List KeptMessage) (p q : ℕ) (order : List ℕ) (xs ys : List Inbound) → a ≡ b → p ≡ q → xs ≡ ys → a ++ kept_from p order xs ≡ b ++ kept_from q order ys
+kept-as a b p q order xs ys same_kept same_port same = rw (same_kept, same_port, same) refl
+
+pub handled-as : (old new : CoreState) (port : ℕ) (m : List ℕ) (turn : MarketTurn) (out : MarketOut) (table : State) (kept : List KeptMessage)
+    → GivesMarket (market_step old.table port m) turn table → ChangesAny old.table port m turn.changed → out.client ≡ turn.client → out.bodies.items ≡ turn.bodies.items
+    → new ≡ record { table = table; kept = kept } → kept ≡ left_after port m turn.changed old.kept → MeetsHandled old port m out new
+handled-as old new port m turn out table kept gives changes client bodies is leaves = record {
+  turn = turn;
+  gives = subst (λ (c : CoreState). GivesMarket (market_step old.table port m) turn c.table) (sym is) gives;
+  changes = changes;
+  client = client;
+  bodies = bodies;
+  kept = ap (λ (c : CoreState). c.kept) is ∙ leaves;
+}
+
+-- before the first turn
+pub empty-after : (terms : List Terms) (c : CoreState) → c.table ≡ empty terms → c.kept ≡ [] → NothingIsKept → IsAfter terms [] c
+unfolding IsAfter Leaves
+empty-after terms c no_orders nothing first = (no_orders, subst (KeepsOutstanding terms []) (sym nothing) (first terms))

@@ -1,5 +1,4 @@
 pub mod State
-pub mod Seen
 pub mod Meets
 pub mod Turns
 pub mod Runs

@@ -1,72 +1,53 @@
--- When the code's outcome is what the table's step gives.
-use Rattle.std.specs.Prelude.{◌≡◌, ℕ, ◌+◌, List, [], Option, Some, None, Result, Ok, Err, map, decimal, length}
-use Rattle.tokens.specs.TokenText.{token_text}
+-- When what the core gives is what the ledger gives, and what it keeps is what is asked and not answered.
+use Rattle.std.specs.Prelude.{◌≡◌, ℕ, ◌++◌, List, [], Option, Some, None, Result, Ok, Err, decimal}
 use Rattle.fix_types.specs.declared.application.AppMsg.{AppMsg}
-use Rattle.fix_types.specs.declared.new_order.NewOrder.{NewOrder}
-use Rattle.fix_types.specs.NewOrder.{new_order_fields}
-use Rattle.ouch_codec.specs.declared.inbound.enter_order.EnterOrder.{EnterOrder}
-use Rattle.ouch_codec.specs.Inbound.{inbound_bytes}
-use Rattle.order_law.specs.Asks.{limit_of, total_of}
-use Rattle.order_law.specs.History.{Asked, Terms, terms_of}
-use Rattle.order_law.specs.Headline.{Each, Says, Sends}
-use Rattle.order_law.specs.Messages.{Message}
-use Rattle.order_law.specs.Verdicts.{Port}
-use Rattle.order_histories.specs.OrderRecord.{OrderRecord}
-use Rattle.order_histories.specs.Table.{State, by_id, by_number}
-use Rattle.order_histories.specs.Machine.{Given, client_step, faulty}
-use Rattle.order_histories.specs.Runs.{Finds}
-use Rattle.to_market.specs.NewAsks.{asked_with, enter_bytes}
+use Rattle.ouch_codec.specs.declared.inbound.Inbound.{Inbound}
+use Rattle.order_law.specs.History.{terms_of}
+use Rattle.order_law.specs.Verdicts.{Port, Down, Up, Ended, Faulted}
+use Rattle.order_histories.specs.Machine.{faulty, market_step}
 use Rattle.market_turns.specs.Turns.{number_of}
-use Rattle.order_core.specs.declared.market_error.MarketError.{MarketError}
-use Rattle.order_core.specs.declared.market_error.MarketError.TheVariants.{NoMemory, Faulty}
+use Rattle.asked_messages.specs.Kept.{KeptMessage, kept_from, left_by}
+use Rattle.order_ledger.specs.declared.market_error.MarketError.{MarketError}
+use Rattle.order_ledger.specs.declared.market_error.MarketError.TheVariants as errors
+use Rattle.order_ledger.specs.declared.turns.ChangedOrder.{ChangedOrder}
+use Rattle.order_ledger.specs.declared.turns.ClientTurn.{ClientTurn}
+use Rattle.order_ledger.specs.declared.turns.MarketTurn.{MarketTurn}
+use Rattle.order_ledger.specs.Meets.{ChangesAny, GivesMarket, MeetsMessage}
 use Rattle.order_core.specs.declared.outcome.CoreOut.{CoreOut}
 use Rattle.order_core.specs.declared.outcome.MarketOut.{MarketOut}
-use Rattle.to_client.specs.Pending.{body_fields}
-use Rattle.order_core.specs.Seen.{client_seen}
-use Rattle.order_core.specs.Turns.{message_fields}
+use Rattle.order_core.specs.State.{CoreState}
 
--- the order that a ClOrdID leads to is the one that its OrderID leads to
-abbrev pub GoByNumbers : State → Type 0
-GoByNumbers s = (client : ℕ) (id : List ℕ) (o : OrderRecord) → by_id s client id ≡ Some o → by_number s o.new.order ≡ Some o
+-- what goes out at once of what is asked
+abbrev pub sent_of : Port → List Inbound → List Inbound
+sent_of Up asks = asks
+sent_of Down asks = []
+sent_of Ended asks = []
+sent_of (Faulted n) asks = []
 
--- the client is told, and its port asked, what is given, and the table is as given
-pub record GivesClient (terms : Terms) (client : ℕ) (port : Port) (g : Given) (out : CoreOut) (new : State) : Type 0 where
-  pub state : new ≡ g.state
-  pub for_client : g.client ≡ client
-  pub bodies : map body_fields out.bodies.items ≡ g.bodies
-  pub no_fault : g.fault ≡ None
-  pub sends : (order_of : List ℕ → Option ℕ) → Each (Finds order_of) g.asks
-      → Sends port (Says terms.standing order_of) g.asks (map inbound_bytes out.sends.items)
+-- a client's message: what the ledger gives is told and, where the port is up, sent; and all that is asked is kept
+pub record MeetsClient (old : CoreState) (client : ℕ) (message : AppMsg) (port : Port) (out : CoreOut) (new : CoreState) : Type 0 where
+  pub turn : ClientTurn
+  pub gives : MeetsMessage old.table client message port turn new.table
+  pub bodies : out.bodies.items ≡ turn.bodies.items
+  pub sends : out.sends.items ≡ sent_of port turn.asks.items
+  pub kept : new.kept ≡ old.kept ++ kept_from (terms_of old.table.terms client).port (decimal turn.order_id) turn.asks.items
 
--- a client's message, as fields
-abbrev pub MeetsFields : State → ℕ → Message → Port → CoreOut → State → Type 0
-MeetsFields old client m port out new = GivesClient (terms_of old.terms client) client port (client_step old client m port) out new
+-- what a payload that changes this order, or none, leaves of what is kept
+abbrev pub left_after : ℕ → List ℕ → Option ChangedOrder → List KeptMessage → List KeptMessage
+left_after port m None kept = kept
+left_after port m (Some c) kept = left_by port m (decimal c.order_id) c.is_closed kept
 
--- a client's message, in a table whose orders go by their numbers
-abbrev pub MeetsMessage : State → ℕ → AppMsg → Port → CoreOut → State → Type 0
-MeetsMessage old client message port out new = GoByNumbers old → MeetsFields old client (message_fields message) port out new
+-- a payload that is handled: what the ledger gives is told, and what it answers goes
+pub record MeetsHandled (old : CoreState) (port : ℕ) (m : List ℕ) (out : MarketOut) (new : CoreState) : Type 0 where
+  pub turn : MarketTurn
+  pub gives : GivesMarket (market_step old.table port m) turn new.table
+  pub changes : ChangesAny old.table port m turn.changed
+  pub client : out.client ≡ turn.client
+  pub bodies : out.bodies.items ≡ turn.bodies.items
+  pub kept : new.kept ≡ left_after port m turn.changed old.kept
 
--- a client is told what is given, and the table is as given
-pub record GivesMarket (g : Given) (out : MarketOut) (new : State) : Type 0 where
-  pub state : new ≡ g.state
-  pub client : client_seen out.client ≡ g.client
-  pub bodies : map body_fields out.bodies.items ≡ g.bodies
-  pub fault : g.fault ≡ None
-
--- A port's payload: what it gives, or the fault that it is, of which nothing else comes. Want of memory is no fault.
-abbrev pub MeetsMarket : State → Given → Result MarketOut MarketError → State → Type 0
-MeetsMarket old g (Ok out) new = GivesMarket g out new
-MeetsMarket old g (Err NoMemory) new = Unit {0}
-MeetsMarket old g (Err (Faulty fault)) new = g ≡ faulty old (number_of fault)
-
--- what a new order asks under the next OrderID and the next token
-abbrev pub asked_next : State → ℕ → NewOrder → Asked
-asked_next s client d =
-    asked_with (decimal (s.order_ids + 1)) (token_text (length s.tokens + 1)) (terms_of s.terms client).capacity (new_order_fields d)
-
--- the message that asks it
-pub record AsksNext (s : State) (client : ℕ) (d : NewOrder) (enter : EnterOrder) : Type 0 where
-  pub token : enter.token ≡ token_text (length s.tokens + 1)
-  pub shares : enter.shares ≡ total_of (new_order_fields d)
-  pub price : enter.price ≡ limit_of (new_order_fields d)
-  pub says : (order_of : List ℕ → Option ℕ) → Says (terms_of s.terms client).standing order_of (asked_next s client d) (enter_bytes enter)
+-- A payload: what it gives, or the fault that it is, of which nothing else comes. Want of memory is no fault.
+abbrev pub MeetsPayload : CoreState → ℕ → List ℕ → Result MarketOut MarketError → CoreState → Type 0
+MeetsPayload old port m (Ok out) new = MeetsHandled old port m out new
+MeetsPayload old port m (Err errors.NoMemory) new = Unit {0}
+MeetsPayload old port m (Err (errors.Faulty fault)) new = market_step old.table port m ≡ faulty old.table (number_of fault)

@@ -8,8 +8,7 @@ use Rattle.order_core.specs.declared.runs.Event.TheVariants.{Came, Heard}
 use Rattle.order_core.specs.declared.runs.Outcome.{Outcome}
 use Rattle.to_market.specs.PortsSeen.{port_seen}
 use Rattle.to_client.specs.Pending.{body_fields}
-use Rattle.order_core.specs.Seen.{client_seen}
-use Rattle.order_core.specs.Turns.{message_fields}
+use Rattle.order_ledger.specs.Seen.{client_seen, message_fields}
 
 abbrev pub event_of : Event → law.Event
 event_of (Came client message port) = law.Came client (message_fields message) (port_seen port)

@@ -1,31 +1,34 @@
--- What callers see of the table: how many clients and numbers there are.
-use Rattle.std.specs.Prelude.{ℕ, ◌+◌, ◌<◌, ◌≤◌, ◌^◌, ◌++◌, ◌∷◌, [], length}
-use Rattle.order_histories.specs.OrderRecord.{OrderRecord}
-use Rattle.order_histories.specs.Table.{GivenToken, State, UsedId}
+-- What callers see of the core: how many clients and numbers there are, and which turns it is after.
+use Rattle.std.specs.Prelude.{ℕ, ◌<◌, ◌^◌, List}
+use Rattle.order_law.specs.History.{History, Terms}
+use Rattle.order_histories.specs.Runs.{Leaves}
+use Rattle.order_histories.specs.Table.{State}
+use Rattle.order_ledger.specs.State as ledger
+use Rattle.asked_messages.specs.Kept.{KeptMessage}
+use Rattle.asked_messages.specs.KeptInTurns.{KeepsOutstanding}
+
+-- the table of orders, and the messages that ports were asked and haven't answered
+pub record CoreState : Type 0 where
+  pub table : State
+  pub kept : List KeptMessage
 
 -- how many clients there are
-abbrev pub clients : State → ℕ
-clients s = length s.terms
+abbrev pub clients : CoreState → ℕ
+clients c = ledger.clients c.table
 
 -- a client's number: from 1, in the order of the terms
-pub record IsClient (s : State) (client : ℕ) : Type 0 where
-  pub from_one : 1 ≤ client
-  pub known : client ≤ clients s
+abbrev pub IsClient : CoreState → ℕ → Type 0
+IsClient c client = ledger.IsClient c.table client
 
 -- how many numbers were given, to orders, reports and tokens together
-abbrev pub issued : State → ℕ
-issued s = s.order_ids + s.exec_ids + length s.tokens
+abbrev pub issued : CoreState → ℕ
+issued c = ledger.issued c.table
 
 -- numbers are left for one call more, and for far more than any day has
-abbrev pub HasRoom : State → Type 0
-HasRoom s = issued s < 2 ^ 60
+abbrev pub HasRoom : CoreState → Type 0
+HasRoom c = ledger.HasRoom c.table
 
--- one order more, with its token and its id, one OrderID and one report
-abbrev pub with_order : State → OrderRecord → GivenToken → UsedId → State
-with_order s order given id = record s {
-  orders = order ∷ s.orders;
-  tokens = given ∷ s.tokens;
-  used = s.used ++ id ∷ [];
-  order_ids = s.order_ids + 1;
-  exec_ids = s.exec_ids + 1;
-}
+-- The core is as these turns, the newest first, leave it: its table is what they leave, and the messages that it keeps are
+-- those that are outstanding.
+unfoldable pub IsAfter : List Terms → History → CoreState → Type 0
+IsAfter terms h c = Leaves terms h c.table × KeepsOutstanding terms h c.kept

@@ -1,29 +1,18 @@
 -- Calls of the order core as turns of a history.
 use Rattle.std.specs.Prelude.{ℕ, List, [], Some, None, map, Result, Ok, Err}
 use Rattle.fix_types.specs.declared.application.AppMsg.{AppMsg}
-use Rattle.fix_types.specs.declared.application.AppMsg.TheVariants as messages
-use Rattle.fix_types.specs.CancelRequest.{cancel_request_fields}
-use Rattle.fix_types.specs.NewOrder.{new_order_fields}
-use Rattle.fix_types.specs.ReplaceRequest.{replace_request_fields}
 use Rattle.ouch_codec.specs.Inbound.{inbound_bytes}
-use Rattle.order_law.specs.Messages.{Message}
 use Rattle.order_law.specs.History.{Came, Heard, Turn}
 use Rattle.market_turns.specs.Turns.{number_of}
 use Rattle.market_turns.specs.declared.market_fault.MarketFault.{MarketFault}
-use Rattle.order_core.specs.declared.market_error.MarketError.{MarketError}
-use Rattle.order_core.specs.declared.market_error.MarketError.TheVariants as errors
+use Rattle.order_ledger.specs.declared.market_error.MarketError.{MarketError}
+use Rattle.order_ledger.specs.declared.market_error.MarketError.TheVariants as errors
 use Rattle.order_core.specs.declared.outcome.CoreOut.{CoreOut}
 use Rattle.order_core.specs.declared.outcome.MarketOut.{MarketOut}
 use Rattle.to_market.specs.declared.port_state.PortState.{PortState}
 use Rattle.to_market.specs.PortsSeen.{port_seen}
 use Rattle.to_client.specs.Pending.{body_fields}
-use Rattle.order_core.specs.Seen.{client_seen}
-
--- a client's message, as fields
-abbrev pub message_fields : AppMsg → Message
-message_fields (messages.New order) = new_order_fields order
-message_fields (messages.Cancel request) = cancel_request_fields request
-message_fields (messages.Replace request) = replace_request_fields request
+use Rattle.order_ledger.specs.Seen.{client_seen, message_fields}
 
 -- a client's turn
 abbrev pub client_turn : ℕ → AppMsg → PortState → CoreOut → Turn

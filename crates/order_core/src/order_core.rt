@@ -1,87 +1,69 @@
-//! The machine: its state, and the calls that step it.
+//! The value, and the calls that step it.
 
-mod heard;
-mod new_order;
-mod requests;
+ghost use Rattle.std.specs.Prelude.{◌≡◌, ◌≤◌, ◌+◌, length, map, IfOk, OnErr, ◌<◌, ◌^◌, ◌∷◌, [], ℕ, List};
+ghost use Rattle.ouch_codec.specs.Inbound.{inbound_bytes};
+ghost use Rattle.to_market.specs.PortsSeen.{port_seen};
+ghost use Rattle.order_core.specs.Meets.{sent_of};
 
-ghost use Rattle.std.specs.Prelude.{◌≡◌, ◌≤◌, ◌+◌, length, map, IfOk, OnErr, ◌<◌, ◌^◌, ◌∷◌, [], List, true, false};
-
-use crate::market_error::MarketError;
 use crate::outcome::{CoreOut, MarketOut};
-use crate::used_ids::UsedId;
+use asked_messages::{
+    AskedMessages, kept_messages_say_what_is_outstanding, messages_say_it_of_their_order,
+};
 use fix_types::AppMsg;
 use order_histories::{
     asked_tokens_lead_to_their_orders, orders_go_by_their_numbers, tables_have_the_headline,
 };
-use order_table::Table;
+use order_ledger::{ClientTerms, MarketError, OrderLedger, PortState};
+use ouch_codec::Inbound;
 use std::alloc::{AllocError, Global};
 use std::marker::Model;
-use to_market::{ClientTerms, PortState};
 
-/// The orders of all clients, and what is promised of them.
+/// The orders of all clients, and what the ports were asked of them and haven't answered.
 ///
 /// Clients are numbered from 1, in the order of their terms. OrderIDs, ExecIDs and token numbers each count from 1.
 #[derive(Debug, Drop)]
 pub struct OrderCore {
-    terms: Vec<ClientTerms>,
-    table: Table,
-    used: Vec<UsedId>,
-    /// How many new orders came: the last OrderID given.
-    order_ids: u64,
-    /// How many reports were issued: the last ExecID given.
-    exec_ids: u64,
+    ledger: OrderLedger,
+    asked: AskedMessages,
 }
 
 impl Model for OrderCore {
-    ghost use Rattle.std.specs.Prelude.{map};
-    ghost use Rattle.order_histories.specs.Table as record_of;
-    ghost use Rattle.to_market.specs.TermsSeen.{terms_seen};
+    ghost use Rattle.order_core.specs.State as state;
 
-    ghost Value = { record_of.State };
+    ghost Value = { state.CoreState };
 
-    ghost view = { λ c. record {
-      terms = map terms_seen c.terms.items;
-      orders = c.table.orders;
-      tokens = c.table.tokens;
-      used = c.used.items;
-      order_ids = c.order_ids;
-      exec_ids = c.exec_ids;
-    } };
+    ghost view = { λ c. record { table = c.ledger; kept = c.asked.messages } };
 }
 
 impl OrderCore {
-    ghost use Rattle.std.specs.Prelude.{true, false};
-    ghost use Rattle.order_law.specs.Headline.{Headline};
-    ghost use Rattle.order_law.specs.History.{History, Terms};
-    ghost use Rattle.order_histories.specs.Machine.{market_step};
-    ghost use Rattle.order_histories.specs.Runs.{Leaves};
-    ghost use Rattle.to_market.specs.PortsSeen.{port_seen};
+    ghost use Rattle.order_law.specs.Headline.{EachWith, Headline};
+    ghost use Rattle.order_law.specs.History.{History, Terms, outstanding};
+    ghost use Rattle.asked_messages.specs.KeptInTurns.{SaysIn};
     ghost use Rattle.to_market.specs.TermsSeen.{terms_seen};
-    ghost use Rattle.order_core.specs.Meets.{MeetsMarket, MeetsMessage};
-    ghost use Rattle.order_core.specs.State.{clients, IsClient, issued, HasRoom};
+    ghost use Rattle.order_core.specs.Meets.{MeetsClient, MeetsPayload};
+    ghost use Rattle.order_core.specs.State.{IsAfter, clients, IsClient, issued, HasRoom};
     ghost use Rattle.order_core.specs.Turns.{OfTurn, client_turn};
 
-    /// The machine of these clients, with no orders.
-    #[tactic(auto, unfolding(order_histories::specs::Runs::Leaves))]
+    /// The order level of these clients, with no orders.
     pub fn new(alloc: Global, terms: &[ClientTerms]) -> Result<OrderCore, AllocError>
         ensures clients { IfOk result (λ core. clients core ≡ length terms.now) }
         ensures issued { IfOk result (λ core. issued core ≡ 0) }
-        ensures leaves { IfOk result (λ core. Leaves (map terms_seen terms.now) [] core) }
+        ensures after { IfOk result (λ core. IsAfter (map terms_seen terms.now) [] core) }
     {
+        kept_messages_say_what_is_outstanding();
         Ok(OrderCore {
-            terms: Vec::from_slice(alloc, terms)?,
-            table: Table::new(alloc),
-            used: Vec::new(alloc),
-            order_ids: 0,
-            exec_ids: 0,
+            ledger: OrderLedger::new(alloc, terms)?,
+            asked: AskedMessages::new(alloc),
         })
     }
 
     /// Steps an application message of a client, whose port stands as given. The client is one of the terms'.
     ///
     /// A new order, a cancel or a replace is accepted, with a report and, where the port is up, the messages that ask it of
-    /// the market; or it is refused by the first row of its table that holds, in one report or reject. `AllocError` leaves
-    /// the machine as it was.
+    /// the market; or it is refused by the first row of its table that holds, in one report or reject. Where the port waits,
+    /// what is asked is kept until it is up: `outstanding` has it. `AllocError` leaves the core as it was.
+    ///
+    /// Source: FIX 4.4 Volume 4, "New Order - Single", "Order Cancel Request", "Order Cancel/Replace Request".
     pub fn client(
         &mut self,
         alloc: Global,
@@ -91,11 +73,10 @@ impl OrderCore {
     ) -> Result<CoreOut, AllocError>
         requires client { IsClient self.old client }
         requires room { HasRoom self.old }
-        ensures meets { IfOk result (λ out. MeetsMessage self.old client message.now (port_seen port) out self.new) }
-        ensures leaves { IfOk result (λ out. (terms : List Terms) (before : History)
-            → length before < 2 ^ 58 → Leaves terms before self.old → Leaves terms (client_turn client message.now port out ∷ before) self.new) }
+        ensures after { IfOk result (λ out. (terms : List Terms) (before : History)
+            → length before < 2 ^ 58 → IsAfter terms before self.old → IsAfter terms (client_turn client message.now port out ∷ before) self.new) }
         ensures headline { IfOk result (λ out. (terms : List Terms) (before : History)
-            → length before < 2 ^ 58 → Leaves terms before self.old → Headline terms (client_turn client message.now port out ∷ before)) }
+            → length before < 2 ^ 58 → IsAfter terms before self.old → Headline terms (client_turn client message.now port out ∷ before)) }
         ensures clients { clients self.new ≡ clients self.old }
         ensures issued { issued self.new ≤ issued self.old + 3 }
         ensures err { OnErr result (self.new ≡ self.old) }
@@ -103,15 +84,19 @@ impl OrderCore {
         tables_have_the_headline();
         asked_tokens_lead_to_their_orders();
         orders_go_by_their_numbers();
+        kept_messages_say_what_is_outstanding();
+        messages_say_it_of_their_order();
         self.client_step(alloc, client, message, port)
     }
 
     /// Steps a payload that a market port's session gave.
     ///
-    /// What the market says of an order changes it and is told to its client, in order. Any fault leaves the machine as it
-    /// was. The faults, the first that holds: `OutsideProfile` (a type that isn't known), `Undecodable` (another length
-    /// than its type's, a field outside its set, or no byte at all), `UnknownToken` (no order of this port has it),
-    /// `NotLawful` (it doesn't fit how the order stands).
+    /// What the market says of an order changes it and is told to its client, in order; what it answers isn't outstanding
+    /// any more. Any fault leaves the core as it was. The faults, the first that holds: `OutsideProfile` (a type that isn't
+    /// known), `Undecodable` (another length than its type's, a field outside its set, or no byte at all), `UnknownToken`
+    /// (no order of this port has it), `NotLawful` (it doesn't fit how the order stands).
+    ///
+    /// Source: OUCH 4.2, "Outbound Messages".
     pub fn market(
         &mut self,
         alloc: Global,
@@ -119,20 +104,32 @@ impl OrderCore {
         payload: &[u8],
     ) -> Result<MarketOut, MarketError>
         requires room { HasRoom self.old }
-        ensures meets { MeetsMarket self.old (market_step self.old port payload.now) result self.new }
-        ensures leaves { OfTurn port payload.now result (λ turn. (terms : List Terms) (before : History)
-            → Leaves terms before self.old → Leaves terms (turn ∷ before) self.new) }
+        ensures after { OfTurn port payload.now result (λ turn. (terms : List Terms) (before : History)
+            → length before < 2 ^ 58 → IsAfter terms before self.old → IsAfter terms (turn ∷ before) self.new) }
         ensures headline { OfTurn port payload.now result (λ turn. (terms : List Terms) (before : History)
-            → length before < 2 ^ 58 → Leaves terms before self.old → Headline terms (turn ∷ before)) }
+            → length before < 2 ^ 58 → IsAfter terms before self.old → Headline terms (turn ∷ before)) }
         ensures clients { clients self.new ≡ clients self.old }
         ensures issued { issued self.new ≤ issued self.old + 3 }
         ensures err { OnErr result (self.new ≡ self.old) }
     {
         tables_have_the_headline();
+        kept_messages_say_what_is_outstanding();
         self.market_step(alloc, port, payload)
     }
 
-    /// The step of a client's message, by the table.
+    /// What a port was asked and no message that was handled has answered, in the order in which it was asked: to be sent
+    /// once more when the port comes up. A message of an order that is closed isn't among them.
+    ///
+    /// Source: SoupBinTCP 3.00, "Login Request Packet"; OUCH 4.2, "Enter Order Message" (a token is taken once).
+    pub fn outstanding(&self, alloc: Global, port: u16) -> Result<Vec<Inbound>, AllocError>
+        ensures { IfOk result (λ messages. (terms : List Terms) (before : History) → length before < 2 ^ 59 → IsAfter terms before self.now
+            → EachWith (SaysIn terms before port) (outstanding terms port before) (map inbound_bytes messages.items)) }
+    {
+        kept_messages_say_what_is_outstanding();
+        self.asked.on_port(alloc, port)
+    }
+
+    /// The step of a client's message: on the ledger, and then what it asks is kept.
     fn client_step(
         &mut self,
         alloc: Global,
@@ -142,15 +139,53 @@ impl OrderCore {
     ) -> Result<CoreOut, AllocError>
         requires client { IsClient self.old client }
         requires room { HasRoom self.old }
-        ensures meets { IfOk result (λ out. MeetsMessage self.old client message.now (port_seen port) out self.new) }
+        ensures meets { IfOk result (λ out. MeetsClient self.old client message.now (port_seen port) out self.new) }
         ensures clients { clients self.new ≡ clients self.old }
         ensures issued { issued self.new ≤ issued self.old + 3 }
         ensures err { OnErr result (self.new ≡ self.old) }
     {
-        match message {
-            AppMsg::New(order) => self.new_order(alloc, client, order, port),
-            AppMsg::Cancel(request) => self.cancel(alloc, client, request, port),
-            AppMsg::Replace(request) => self.replace(alloc, client, request, port),
+        self.asked.reserve(2)?;
+        let its_port = self.ledger.port_of(client);
+        let turn = self.ledger.client(alloc, client, message, port)?;
+        self.asked
+            .push_reserved(its_port, turn.order_id, &turn.asks);
+        Ok(CoreOut {
+            bodies: turn.bodies,
+            sends: sent_now(alloc, turn.asks, port),
+        })
+    }
+
+    /// The step of a payload: on the ledger, and then what it answers goes.
+    fn market_step(
+        &mut self,
+        alloc: Global,
+        port: u16,
+        payload: &[u8],
+    ) -> Result<MarketOut, MarketError>
+        requires room { HasRoom self.old }
+        ensures meets { MeetsPayload self.old port payload.now result self.new }
+        ensures clients { clients self.new ≡ clients self.old }
+        ensures issued { issued self.new ≤ issued self.old + 3 }
+        ensures err { OnErr result (self.new ≡ self.old) }
+    {
+        let turn = self.ledger.market(alloc, port, payload)?;
+        if let Some(changed) = turn.changed {
+            self.asked
+                .answer(port, payload, changed.order_id, changed.is_closed);
         }
+        Ok(MarketOut {
+            client: turn.client,
+            bodies: turn.bodies,
+        })
+    }
+}
+
+/// What goes out now: all that is asked, where the port is up.
+fn sent_now(alloc: Global, asks: Vec<Inbound>, port: PortState) -> Vec<Inbound>
+    ensures { result.items ≡ sent_of (port_seen port) asks.items }
+{
+    match port {
+        PortState::Up => asks,
+        PortState::Waiting | PortState::Ended | PortState::Faulted(_) => Vec::new(alloc),
     }
 }

@@ -1,10 +1,7 @@
 //! What a step gives.
 
-ghost use Rattle.std.specs.Prelude.{◌≡◌, [], None};
-
 use fix_types::AppBody;
 use ouch_codec::Inbound;
-use std::alloc::Global;
 
 /// What a client's message gives: bodies for the client, and messages to its port, in order.
 #[derive(Debug, Drop)]
@@ -21,17 +18,4 @@ pub struct MarketOut {
     /// Whom the bodies are for; `None` where there are none.
     pub client: Option<u16>,
     pub bodies: Vec<AppBody>,
-}
-
-impl MarketOut {
-    /// No bodies, for nobody.
-    pub fn nothing(alloc: Global) -> MarketOut
-        ensures client { result.client ≡ None }
-        ensures bodies { result.bodies.items ≡ [] }
-    {
-        MarketOut {
-            client: None,
-            bodies: Vec::new(alloc),
-        }
-    }
 }

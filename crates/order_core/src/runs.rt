@@ -3,20 +3,19 @@
 ghost use Rattle.std.specs.Prelude.{◌≡◌, ◌≤◌, ◌<◌, ◌+◌, ◌^◌, ◌∷◌, true, false, Some, List, length, map, IfOk, OnErr};
 ghost use Rattle.order_law.specs.Headline.{Headline};
 ghost use Rattle.order_law.specs.History.{Came, Heard, History, Terms};
-ghost use Rattle.order_histories.specs.Runs.{IsRun, Leaves};
+ghost use Rattle.order_histories.specs.Runs.{IsRun};
 ghost use Rattle.order_core.specs.Runs.{AreKnown, history, is_known, outcome_turn, turn_of};
 ghost use Rattle.to_market.specs.PortsSeen.{port_seen};
 ghost use Rattle.to_market.specs.TermsSeen.{terms_seen};
-ghost use Rattle.order_core.specs.State.{clients, issued, HasRoom, IsClient};
-ghost use Rattle.order_core.specs.Turns.{message_fields};
+ghost use Rattle.order_core.specs.State.{IsAfter, clients, issued, HasRoom, IsClient};
+ghost use Rattle.order_ledger.specs.Seen.{message_fields};
 
-use crate::market_error::MarketError;
 use crate::order_core::OrderCore;
 use fix_types::{AppBody, AppMsg};
 use order_histories::tables_have_the_headline;
+use order_ledger::{ClientTerms, MarketError, PortState};
 use ouch_codec::Inbound;
 use std::alloc::{AllocError, Global};
-use to_market::{ClientTerms, PortState};
 
 /// What comes to the order level.
 #[derive(Debug, Drop)]
@@ -51,10 +50,10 @@ pub struct Outcome {
 pub fn step(core: &mut OrderCore, alloc: Global, event: &Event) -> Result<Outcome, AllocError>
     requires client { is_known (clients core.old) event.now ≡ true }
     requires room { HasRoom core.old }
-    ensures leaves { IfOk result (λ outcome. (terms : List Terms) (before : History)
-        → length before < 2 ^ 58 → Leaves terms before core.old → Leaves terms (turn_of event.now outcome ∷ before) core.new) }
+    ensures after { IfOk result (λ outcome. (terms : List Terms) (before : History)
+        → length before < 2 ^ 58 → IsAfter terms before core.old → IsAfter terms (turn_of event.now outcome ∷ before) core.new) }
     ensures headline { IfOk result (λ outcome. (terms : List Terms) (before : History)
-        → length before < 2 ^ 58 → Leaves terms before core.old → Headline terms (turn_of event.now outcome ∷ before)) }
+        → length before < 2 ^ 58 → IsAfter terms before core.old → Headline terms (turn_of event.now outcome ∷ before)) }
     ensures clients { clients core.new ≡ clients core.old }
     ensures issued { issued core.new ≤ issued core.old + 3 }
     ensures err { OnErr result (core.new ≡ core.old) }
@@ -79,10 +78,10 @@ fn client_outcome(
 ) -> Result<Outcome, AllocError>
     requires client { IsClient core.old client }
     requires room { HasRoom core.old }
-    ensures leaves { IfOk result (λ outcome. (terms : List Terms) (before : History)
-        → length before < 2 ^ 58 → Leaves terms before core.old → Leaves terms (outcome_turn (Came client (message_fields message.now) (port_seen port)) outcome ∷ before) core.new) }
+    ensures after { IfOk result (λ outcome. (terms : List Terms) (before : History)
+        → length before < 2 ^ 58 → IsAfter terms before core.old → IsAfter terms (outcome_turn (Came client (message_fields message.now) (port_seen port)) outcome ∷ before) core.new) }
     ensures headline { IfOk result (λ outcome. (terms : List Terms) (before : History)
-        → length before < 2 ^ 58 → Leaves terms before core.old
+        → length before < 2 ^ 58 → IsAfter terms before core.old
         → Headline terms (outcome_turn (Came client (message_fields message.now) (port_seen port)) outcome ∷ before)) }
     ensures clients { clients core.new ≡ clients core.old }
     ensures issued { issued core.new ≤ issued core.old + 3 }
@@ -105,11 +104,11 @@ fn market_outcome(
     payload: &[u8],
 ) -> Result<Outcome, AllocError>
     requires room { HasRoom core.old }
-    ensures leaves { IfOk result (λ outcome. (terms : List Terms) (before : History)
-        → Leaves terms before core.old
-        → Leaves terms (outcome_turn (Heard port payload.now) outcome ∷ before) core.new) }
+    ensures after { IfOk result (λ outcome. (terms : List Terms) (before : History)
+        → length before < 2 ^ 58 → IsAfter terms before core.old
+        → IsAfter terms (outcome_turn (Heard port payload.now) outcome ∷ before) core.new) }
     ensures headline { IfOk result (λ outcome. (terms : List Terms) (before : History)
-        → length before < 2 ^ 58 → Leaves terms before core.old
+        → length before < 2 ^ 58 → IsAfter terms before core.old
         → Headline terms (outcome_turn (Heard port payload.now) outcome ∷ before)) }
     ensures clients { clients core.new ≡ clients core.old }
     ensures issued { issued core.new ≤ issued core.old + 3 }

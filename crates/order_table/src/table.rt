@@ -53,6 +53,8 @@ impl Model for Table {
 impl Table {
     ghost use Rattle.std.specs.Prelude.{◌≤◌, ◌+◌, [], ◌∷◌, IfOk, OnErr, MatchOption, Some, None, decimal, length, option_to_list};
     ghost use Rattle.std.specs.List.{count_by};
+    ghost use Rattle.std.specs.Prelude.{false};
+    ghost use Rattle.order_law.specs.Life.{is_closed};
     ghost use Rattle.order_histories.specs.OrderRecord as record_of;
     ghost use Rattle.order_histories.specs.OrderRecord.{at};
     ghost use Rattle.order_histories.specs.Table.{is_replacement_of, open_count, put};
@@ -149,6 +151,17 @@ impl Table {
             self.orders[place].apply(change)?;
         }
         Ok(())
+    }
+
+    /// Whether the order with an OrderID is closed; `false` where no order has it.
+    pub fn is_closed(&self, order_id: u64) -> bool
+        ensures known { (o : record_of.OrderRecord) → with_number self.now order_id ≡ Some o → result ≡ is_closed o.stage }
+        ensures unknown { with_number self.now order_id ≡ None → result ≡ false }
+    {
+        match self.by_number(order_id) {
+            None => false,
+            Some(order) => order.progress.stage == Stage::Closed,
+        }
     }
 
     /// A replace of the order with an OrderID is pending, which was given a token; it isn't the 65,536th. Where no order has

@@ -1,6 +1,8 @@
--- For any layout: the row that the bytes of a message say, each field read at its offset.
-use Rattle.std.proofs.Common.{◌≡◌, ℕ, ◌+◌, ◌^◌, ◌<◌, ◌≤◌, true, List, [], ◌∷◌, ◌++◌, length, take, drop, get_or, refl, sym, ap, subst, ◌∙◌, arith, inl, inr}
-use Rattle.std.specs.Prelude.{◌==◌, ◌&&◌, nat_le, slice_index}
+-- For any layout: the row that the bytes of a message say, each field read at its offset; and which bytes are a message, field by field.
+use Rattle.std.proofs.Common.{◌≡◌, ℕ, ◌+◌, ◌^◌, ◌<◌, ◌≤◌, true, List, [], ◌∷◌, ◌++◌, length, take, drop, get_or, refl, sym, ap, subst, ◌∙◌, arith, inl, inr, suc, zero, false, Option, None, Some}
+use Rattle.std.specs.Option.{IsSome}
+use Rattle.std.proofs.lemmas.Bool.{false≢true}
+use Rattle.std.specs.Prelude.{◌==◌, ◌&&◌, ◌↔◌, nat_le, slice_index, MatchOption}
 use Rattle.std.specs.Int.{w32, w64, from_be_bytes}
 use Rattle.std.proofs.lemmas.Bool.{cases_lt}
 use Rattle.std.proofs.lemmas.Bool.Decides.{nat_tests}
@@ -9,25 +11,17 @@ use Rattle.std.proofs.lemmas.Nat.{be_bytes_4, be_bytes_8}
 use Rattle.wire_law.specs.Printable.{is_printable}
 use Rattle.ouch_codec.specs.declared.layout.Kind.{Kind}
 use Rattle.ouch_codec.specs.declared.layout.Kind.TheVariants.{Constant, SideLetter, OrderStateLetter, Printable, Text, Shares, IntendedShares, Number, LongNumber}
-use Rattle.ouch_codec.specs.Letters.{is_side, is_order_state}
-use Rattle.ouch_codec.specs.LetterLaws.{side_of, side_letter-of, order_state_of, order_state_letter-of}
-use Rattle.ouch_codec.specs.Layout.{width, is_in, IsMessage, Value, IsValue, field, Row, AreValues, spelled}
+use Rattle.ouch_codec.specs.declared.side.Side.{Side}
+use Rattle.ouch_codec.specs.declared.order_state.OrderState.{OrderState}
+use Rattle.ouch_codec.specs.Letters.{is_side, side_letter, is_order_state, order_state_letter}
+use Rattle.ouch_codec.specs.LetterLaws.{side_of, side_letter-of, side_of_letter, is_side-letter, order_state_of, order_state_letter-of, order_state_of_letter, is_order_state-letter}
+use Rattle.ouch_codec.specs.Layout.{width, total, is_in, IsMessage, Value, IsValue, field, Row, AreValues, spelled}
+use Rattle.ouch_codec.specs.LayoutLaws.{same_pair}
+use Rattle.ouch_codec.specs.Reading.{field_bytes, value_at, Reads}
 
 -- each element is below 256, as the bytes of a slice are
 abbrev pub AreBytes : List ℕ → Type 0
 AreBytes bs = (i : ℕ) → get_or bs i 0 < 256
-
--- what the field at an offset says
-abbrev pub value_at : (kind : Kind) → ℕ → List ℕ → Value kind
-value_at (Constant byte) at bs = tt
-value_at SideLetter at bs = side_of (slice_index bs at)
-value_at OrderStateLetter at bs = order_state_of (slice_index bs at)
-value_at Printable at bs = slice_index bs at
-value_at (Text bytes) at bs = take bytes (drop at bs)
-value_at Shares at bs = from_be_bytes w32 (take 4 (drop at bs))
-value_at IntendedShares at bs = from_be_bytes w32 (take 4 (drop at bs))
-value_at Number at bs = from_be_bytes w32 (take 4 (drop at bs))
-value_at LongNumber at bs = from_be_bytes w64 (take 8 (drop at bs))
 
 -- what the fields from an offset on say
 abbrev pub row_at : (kinds : List Kind) → ℕ → List ℕ → Row kinds
@@ -105,3 +99,77 @@ spelled-row_at (kind ∷ kinds) at bs below message =
     ap (λ (t : List ℕ). t ++ spelled kinds (row_at kinds (at + width kind) bs)) (field-value_at kind at bs below message.0 message.1)
     ∙ ap (λ (t : List ℕ). take (width kind) (drop at bs) ++ t) (spelled-row_at kinds (at + width kind) bs below (further kind kinds at bs message.2) ∙ sym (drop-drop (width kind) at bs))
     ∙ take-append-drop (width kind) (drop at bs)
+
+-- each value of a row is what the field at its offset says
+abbrev pub AreRead : (kinds : List Kind) → Row kinds → ℕ → List ℕ → Type 0
+AreRead [] row at bs = Unit {0}
+AreRead (kind ∷ kinds) row at bs = (row.0 ≡ value_at kind at bs) × AreRead kinds row.1 (at + width kind) bs
+
+read_row : (kinds : List Kind) (row : Row kinds) (at : ℕ) (bs : List ℕ) → AreRead kinds row at bs → row ≡ row_at kinds at bs
+read_row [] row at bs read = refl
+read_row (kind ∷ kinds) row at bs read = same_pair row.0 (value_at kind at bs) row.1 (row_at kinds (at + width kind) bs) read.0 (read_row kinds row.1 (at + width kind) bs read.1)
+
+-- a row of what a message says is written as the message
+pub spelled-read : (kinds : List Kind) (row : Row kinds) (bs : List ℕ) → AreBytes bs → IsMessage kinds bs → AreRead kinds row 0 bs → spelled kinds row ≡ bs
+spelled-read kinds row bs below message read = ap (spelled kinds) (read_row kinds row 0 bs read) ∙ spelled-row_at kinds 0 bs below message
+
+-- the fields from an offset on are in their sets
+abbrev pub AreInSets : List Kind → ℕ → List ℕ → Type 0
+AreInSets [] at bs = Unit {0}
+AreInSets (kind ∷ kinds) at bs = (is_in kind (field_bytes kind at bs) ≡ true) × AreInSets kinds (at + width kind) bs
+
+are_in_sets : (kinds : List Kind) (at : ℕ) (bs : List ℕ) → IsMessage kinds (drop at bs) → AreInSets kinds at bs
+are_in_sets [] at bs message = tt
+are_in_sets (kind ∷ kinds) at bs message = (message.1, are_in_sets kinds (at + width kind) bs (further kind kinds at bs message.2))
+
+length-message : (kinds : List Kind) (bs : List ℕ) → IsMessage kinds bs → length bs ≡ total kinds
+length-message [] bs message = ap length message
+length-message (kind ∷ kinds) bs message = omega (arith, message.0, length-drop (width kind) bs, length-message kinds (drop (width kind) bs) message.2)
+
+none_left : (bs : List ℕ) → length bs ≡ 0 → bs ≡ []
+none_left [] none = refl
+none_left (b ∷ bs) none = absurd (omega arith)
+
+message_of : (kinds : List Kind) (at : ℕ) (bs : List ℕ) → length (drop at bs) ≡ total kinds → AreInSets kinds at bs → IsMessage kinds (drop at bs)
+message_of [] at bs long in_sets = none_left (drop at bs) long
+message_of (kind ∷ kinds) at bs long in_sets =
+    let left : length (drop (at + width kind) bs) ≡ total kinds = omega (arith, long, length-drop at bs, length-drop (at + width kind) bs) in
+    (omega (arith, long), in_sets.0, subst (IsMessage kinds) (sym (drop-drop (width kind) at bs)) (message_of kinds (at + width kind) bs left in_sets.1))
+
+-- bytes that are as many as a message has are one just where each field is in its set
+pub message-in_sets : (kinds : List Kind) (bs : List ℕ) → length bs ≡ total kinds → AreInSets kinds 0 bs → IsMessage kinds bs
+message-in_sets kinds bs = message_of kinds 0 bs
+
+pub in_sets-message : (kinds : List Kind) (bs : List ℕ) → IsMessage kinds bs → (length bs ≡ total kinds) × AreInSets kinds 0 bs
+in_sets-message kinds bs message = (length-message kinds bs message, are_in_sets kinds 0 bs message)
+
+-- the field at a place, the first being 0, isn't in its set
+abbrev pub FailsAt : List Kind → ℕ → ℕ → List ℕ → Type 0
+FailsAt [] place at bs = ⊥
+FailsAt (kind ∷ kinds) zero at bs = is_in kind (field_bytes kind at bs) ≡ false
+FailsAt (kind ∷ kinds) (suc place) at bs = FailsAt kinds place (at + width kind) bs
+
+fails : (kinds : List Kind) (place at : ℕ) (bs : List ℕ) → FailsAt kinds place at bs → AreInSets kinds at bs → ⊥
+fails [] place at bs other in_sets = other
+fails (kind ∷ kinds) zero at bs other in_sets = false≢true (sym other ∙ in_sets.0)
+fails (kind ∷ kinds) (suc place) at bs other in_sets = fails kinds place (at + width kind) bs other in_sets.1
+
+-- bytes with a field that isn't in its set are no message
+pub no_message : (kinds : List Kind) (place : ℕ) (bs : List ℕ) → FailsAt kinds place 0 bs → IsMessage kinds bs → ⊥
+no_message kinds place bs other message = fails kinds place 0 bs other (are_in_sets kinds 0 bs message)
+
+-- nothing is given for bytes that are no message
+pub nothing : (P : Type 0) → (P → ⊥) → (false ≡ true) ↔ P
+nothing P other = (λ some. absurd (false≢true some), λ p. absurd (other p))
+
+pub no_value : {M : Type 0} (result : Option M) (P : Type 0) → result ≡ None → (P → ⊥) → IsSome result ↔ P
+no_value result P none other = rw none (nothing P other)
+
+-- what is answered of a letter is what a reader of its field answers
+pub reads-side : (at : ℕ) (bs : List ℕ) (result : Option Side) → MatchOption result (is_side (slice_index bs at) ≡ false) (λ side. side_letter side ≡ slice_index bs at) → Reads SideLetter at bs result
+reads-side at bs None other = ap is_side (first_of-byte at bs) ∙ other
+reads-side at bs (Some side) e = (ap is_side (first_of-byte at bs ∙ sym e) ∙ is_side-letter side, side_of_letter side _ e)
+
+pub reads-order_state : (at : ℕ) (bs : List ℕ) (result : Option OrderState) → MatchOption result (is_order_state (slice_index bs at) ≡ false) (λ state. order_state_letter state ≡ slice_index bs at) → Reads OrderStateLetter at bs result
+reads-order_state at bs None other = ap is_order_state (first_of-byte at bs) ∙ other
+reads-order_state at bs (Some state) e = (ap is_order_state (first_of-byte at bs ∙ sym e) ∙ is_order_state-letter state, order_state_of_letter state _ e)

@@ -77,7 +77,7 @@ same_value IntendedShares v w v-known w-known e = same_number v w (omega arith) 
 same_value Number v w v-known w-known e = same_number v w v-known w-known e
 same_value LongNumber v w v-known w-known e = same_long_number v w v-known w-known e
 
-same_pair : {A B : Type 0} (a x : A) (b y : B) → a ≡ x → b ≡ y → ◌≡◌ {A = A × B} (a, b) (x, y)
+pub same_pair : {A B : Type 0} (a x : A) (b y : B) → a ≡ x → b ≡ y → ◌≡◌ {A = A × B} (a, b) (x, y)
 same_pair a x b y e f = cc
 
 -- no two rows are written as the same bytes

@@ -34,6 +34,7 @@ pub mod CancelPendingLaws
 pub mod CancelPendingParts
 pub mod CancelRejectLaws
 pub mod CancelRejectParts
+pub mod Reading
 pub mod Inbound
 pub mod Decoding
 pub mod DecodingLaws

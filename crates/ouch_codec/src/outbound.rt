@@ -63,15 +63,15 @@ pub fn decode(payload: &[u8]) -> Result<Outbound, DecodeRefusal>
 {
     match payload {
         [] => Err(DecodeRefusal::Length),
-        [b'S', ..] => Ok(Outbound::SystemEvent(read(payload)?)),
-        [b'A', ..] => Ok(Outbound::Accepted(read(payload)?)),
-        [b'U', ..] => Ok(Outbound::Replaced(read(payload)?)),
-        [b'C', ..] => Ok(Outbound::Canceled(read(payload)?)),
-        [b'E', ..] => Ok(Outbound::Executed(read(payload)?)),
-        [b'B', ..] => Ok(Outbound::Broken(read(payload)?)),
-        [b'J', ..] => Ok(Outbound::Rejected(read(payload)?)),
-        [b'P', ..] => Ok(Outbound::CancelPending(read(payload)?)),
-        [b'I', ..] => Ok(Outbound::CancelReject(read(payload)?)),
+        [b'S', ..] => read(payload, Outbound::SystemEvent),
+        [b'A', ..] => read(payload, Outbound::Accepted),
+        [b'U', ..] => read(payload, Outbound::Replaced),
+        [b'C', ..] => read(payload, Outbound::Canceled),
+        [b'E', ..] => read(payload, Outbound::Executed),
+        [b'B', ..] => read(payload, Outbound::Broken),
+        [b'J', ..] => read(payload, Outbound::Rejected),
+        [b'P', ..] => read(payload, Outbound::CancelPending),
+        [b'I', ..] => read(payload, Outbound::CancelReject),
         [b'T', ..] => Ok(Outbound::Skipped),
         _ => Err(DecodeRefusal::Type),
     }
@@ -83,13 +83,21 @@ pub fn one_answer()
     ensures { (payload : List ℕ) (a b : Result Outbound DecodeRefusal) → Decodes payload a → Decodes payload b → a ≡ b }
 {}
 
-/// The message that bytes of its type are.
-fn read<M: FixedWire>(payload: &[u8]) -> Result<M, DecodeRefusal>
-    ensures same { IfOk result (λ message. M.bytes message ≡ payload.now) }
+/// The message that bytes of its type are, as one from the market.
+///
+/// It stays out of its caller, so that no call of `decode` clears places of messages of other types.
+#[inline(never)]
+fn read<M: FixedWire, F: FnOnce(M) -> Outbound>(
+    payload: &[u8],
+    outbound: F,
+) -> Result<Outbound, DecodeRefusal>
+    requires { F.IsAlwaysCallable outbound }
+    ensures same { IfOk result (λ made. (message : M)
+        × (M.bytes message ≡ payload.now) × F.post outbound message made) }
     ensures refused { IfErr result (RefusesAs M.LEN M.is_spelled payload.now) }
 {
     if payload.len() != M::LEN {
         return Err(DecodeRefusal::Length);
     }
-    M::get(payload).ok_or(DecodeRefusal::Field)
+    Ok(outbound(M::get(payload).ok_or(DecodeRefusal::Field)?))
 }

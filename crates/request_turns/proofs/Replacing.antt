@@ -1,5 +1,5 @@
 -- What an accepted replace comes to.
-use Rattle.std.proofs.Common.{◌≡◌, ◌<◌, ℕ, ◌+◌, Bool, true, List, [], ◌∷◌, length, refl, sym, ap, ◌∙◌, subst, decimal, Some}
+use Rattle.std.proofs.Common.{◌≡◌, ◌≤◌, ◌<◌, ℕ, ◌+◌, Bool, true, List, [], ◌∷◌, length, refl, sym, ap, ◌∙◌, subst, decimal, Some}
 use Rattle.std.specs.List.{count_by}
 use Rattle.tokens.specs.TokenText.{token_text}
 use Rattle.fix_types.specs.declared.application.AppBody.{AppBody}
@@ -56,14 +56,14 @@ given-as port number order_id order g is_port is_text is_order of_order is_so =
     ap (λ (b : Bool). record { port = g.port; text = g.text; order = g.order; is_replacement = b }) (sym is_so) in
     by_port ∙ by_text ∙ by_order ∙ by_kind
 
-pub replacing-in : (s : State) (issued number : ℕ) (sender : Sender) (r : ReplaceRequest) (o : OrderRecord) (order_id : ℕ) (x : Replacing) (g : GivenToken) (token : List ℕ) (body : AppBody) (sends : List Inbound)
+pub replacing-in : (s : State) (issued number : ℕ) (sender : Sender) (r : ReplaceRequest) (o : OrderRecord) (order_id : ℕ) (x : Replacing) (g : GivenToken) (token : List ℕ) (body : AppBody) (asks : List Inbound)
     → IsAccepted issued sender (replace_request_fields r) o s → TakesToken number sender o s → o.new.order ≡ decimal order_id
     → x.message ≡ r → x.token_number ≡ number + 1 → token ≡ token_text (number + 1)
     → g.port ≡ sender.terms.port → g.text ≡ token → g.order ≡ decimal order_id → g.is_replacement ≡ true
     → body_fields body ∷ [] ≡ accepted_request (issued + 1) (entry_of sender.client r o (number + 1)) (Some (shown_as o))
-    → SaysAll s sender (replaces_asked o token (replace_request_fields r)) sends
-    → IsReplacing s sender (replace_request_fields r) order_id x g body sends
-replacing-in s issued number sender r o order_id x g token body sends is takes of_order is_message is_number is_token g_port g_text g_order g_kind is_body says =
+    → SaysAll s sender (replaces_asked o token (replace_request_fields r)) asks → length asks ≤ 2
+    → IsReplacing s sender (replace_request_fields r) order_id x g body asks
+replacing-in s issued number sender r o order_id x g token body asks is takes of_order is_message is_number is_token g_port g_text g_order g_kind is_body says few =
     let m : Message = replace_request_fields r in
     let client = sender.client in
     let next : length s.tokens + 1 ≡ number + 1 = ap (λ (n : ℕ). n + 1) takes.tokens in
@@ -76,7 +76,8 @@ replacing-in s issued number sender r o order_id x g token body sends is takes o
       room = subst (λ (k : List ℕ). count_by (is_replacement_of k) s.tokens < 65_535) of_order takes.room;
       of_given = g_order;
       is_replacement = g_kind;
-      asks = replaces_asked o token m;
+      asked = replaces_asked o token m;
+      of_asked = (of_order, tt);
       gives = accepted-on s client m (port_seen sender.port) o refl is.named is.verdict
           ∙ ap (λ (n : ℕ). tells (record (with_used client m s) { orders = put (at o (Some (entry_of client r o n)) o.cancel) s.orders; tokens = record { port = (terms_of s.terms client).port; text = token_text n; order = o.new.order; is_replacement = true } ∷ s.tokens; exec_ids = s.exec_ids + 1 }) client (accepted_request (s.exec_ids + 1) (entry_of client r o n) (Some (shown_as o))) (replaces_asked o (token_text n) m)) next
           ∙ ap (λ (e : Entry). tells (record (with_used client m s) { orders = put (at o (Some e) o.cancel) s.orders; tokens = record { port = (terms_of s.terms client).port; text = token_text (number + 1); order = o.new.order; is_replacement = true } ∷ s.tokens; exec_ids = s.exec_ids + 1 }) client (accepted_request (s.exec_ids + 1) (entry_of client r o (number + 1)) (Some (shown_as o))) (replaces_asked o (token_text (number + 1)) m)) kept
@@ -85,4 +86,5 @@ replacing-in s issued number sender r o order_id x g token body sends is takes o
           ∙ ap (λ (n : ℕ). tells (record (with_used client m s) { orders = put (at o (Some (replace_seen o.new.client order_id x)) o.cancel) s.orders; tokens = g ∷ s.tokens; exec_ids = s.exec_ids + 1 }) client (accepted_request (n + 1) (entry_of client r o (number + 1)) (Some (shown_as o))) (replaces_asked o token m)) is.reports
           ∙ ap (λ (bs : List Message). tells (record (with_used client m s) { orders = put (at o (Some (replace_seen o.new.client order_id x)) o.cancel) s.orders; tokens = g ∷ s.tokens; exec_ids = s.exec_ids + 1 }) client bs (replaces_asked o token m)) (sym is_body);
       says = says;
+      few = few;
     }

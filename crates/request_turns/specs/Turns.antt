@@ -1,6 +1,6 @@
 -- What a cancel or a replace makes of a table, as one answer. (FIX 4.4 Volume 4, "Order Cancel Request", "Order
 -- Cancel/Replace Request".)
-use Rattle.std.specs.Prelude.{◌≡◌, ◌<◌, ℕ, ◌+◌, Bool, true, List, [], ◌∷◌, Option, Some, decimal, map}
+use Rattle.std.specs.Prelude.{◌≡◌, ◌≤◌, ◌<◌, ℕ, ◌+◌, Bool, true, List, [], ◌∷◌, Option, Some, decimal, length, map}
 use Rattle.std.specs.List.{count_by}
 use Rattle.fix_types.specs.declared.application.AppBody.{AppBody}
 use Rattle.fix_types.specs.declared.cancel_request.CancelRequest.{CancelRequest}
@@ -9,7 +9,7 @@ use Rattle.fix_types.specs.CancelRequest.{cancel_request_fields}
 use Rattle.fix_types.specs.ReplaceRequest.{replace_request_fields}
 use Rattle.ouch_codec.specs.declared.inbound.Inbound.{Inbound}
 use Rattle.ouch_codec.specs.Inbound.{inbound_bytes}
-use Rattle.order_law.specs.Headline.{Each, Says, Sends}
+use Rattle.order_law.specs.Headline.{Each, EachWith, Says}
 use Rattle.order_law.specs.History.{Asked, terms_of}
 use Rattle.order_law.specs.Messages.{Message, text}
 use Rattle.order_histories.specs.Machine.{client_step, tells, with_used}
@@ -42,49 +42,57 @@ pub record Stands (s : State) (issued : ℕ) (sender : Sender) (held : Held) (id
 abbrev pub IsRefused : State → Sender → Message → AppBody → Type 0
 IsRefused s sender m body = client_step s sender.client m (port_seen sender.port) ≡ tells (with_used sender.client m s) sender.client (body_fields body ∷ []) []
 
--- what goes out says all that is asked, where each token leads to its order
+-- all of it is asked of the order with this OrderID
+abbrev pub AreOf : ℕ → List Asked → Type 0
+AreOf order_id asked = Each (λ (a : Asked). a.order ≡ decimal order_id) asked
+
+-- the messages say all that is asked, where each token leads to its order
 abbrev pub SaysAll : State → Sender → List Asked → List Inbound → Type 0
-SaysAll s sender asks sends =
-    (order_of : List ℕ → Option ℕ) → Each (Finds order_of) asks
-    → Sends (port_seen sender.port) (Says (terms_of s.terms sender.client).standing order_of) asks (map inbound_bytes sends)
+SaysAll s sender asked asks =
+    (order_of : List ℕ → Option ℕ) → Each (Finds order_of) asked
+    → EachWith (Says (terms_of s.terms sender.client).standing order_of) asked (map inbound_bytes asks)
 
 -- a cancel of this order is pending, and its client is told so
-pub record IsCancelling (s : State) (sender : Sender) (m : Message) (order_id : ℕ) (c : Cancelling) (body : AppBody) (sends : List Inbound) : Type 0 where
+pub record IsCancelling (s : State) (sender : Sender) (m : Message) (order_id : ℕ) (c : Cancelling) (body : AppBody) (asks : List Inbound) : Type 0 where
   pub order : OrderRecord
   pub named : by_id s sender.client (text 41 m) ≡ Some order
   pub of_order : order.new.order ≡ decimal order_id
-  pub asks : List Asked
+  pub asked : List Asked
+  pub of_asked : AreOf order_id asked
   pub gives : client_step s sender.client m (port_seen sender.port)
       ≡ tells (record (with_used sender.client m s) {
         orders = put (at order order.replace (Some (cancel_seen order.new.client order_id c))) s.orders;
         exec_ids = s.exec_ids + 1;
-      }) sender.client (body_fields body ∷ []) asks
-  pub says : SaysAll s sender asks sends
+      }) sender.client (body_fields body ∷ []) asked
+  pub says : SaysAll s sender asked asks
+  pub few : length asks ≤ 2
 
 -- a replace of this order is pending, under a token of its own, and its client is told so
-pub record IsReplacing (s : State) (sender : Sender) (m : Message) (order_id : ℕ) (r : Replacing) (given : GivenToken) (body : AppBody) (sends : List Inbound) : Type 0 where
+pub record IsReplacing (s : State) (sender : Sender) (m : Message) (order_id : ℕ) (r : Replacing) (given : GivenToken) (body : AppBody) (asks : List Inbound) : Type 0 where
   pub order : OrderRecord
   pub named : by_id s sender.client (text 41 m) ≡ Some order
   pub of_order : order.new.order ≡ decimal order_id
   pub room : count_by (is_replacement_of (decimal order_id)) s.tokens < 65_535
   pub of_given : given.order ≡ decimal order_id
   pub is_replacement : given.is_replacement ≡ true
-  pub asks : List Asked
+  pub asked : List Asked
+  pub of_asked : AreOf order_id asked
   pub gives : client_step s sender.client m (port_seen sender.port)
       ≡ tells (record (with_used sender.client m s) {
         orders = put (at order (Some (replace_seen order.new.client order_id r)) order.cancel) s.orders;
         tokens = given ∷ s.tokens;
         exec_ids = s.exec_ids + 1;
-      }) sender.client (body_fields body ∷ []) asks
-  pub says : SaysAll s sender asks sends
+      }) sender.client (body_fields body ∷ []) asked
+  pub says : SaysAll s sender asked asks
+  pub few : length asks ≤ 2
 
 abbrev pub IsCancelTurn : State → Sender → Message → CancelTurn → Type 0
 IsCancelTurn s sender m (cancels.Refused body) = IsRefused s sender m body
-IsCancelTurn s sender m (cancels.Accepted order_id c body sends) = IsCancelling s sender m order_id c body sends.items
+IsCancelTurn s sender m (cancels.Accepted order_id c body asks) = IsCancelling s sender m order_id c body asks.items
 
 abbrev pub IsReplaceTurn : State → Sender → Message → ReplaceTurn → Type 0
 IsReplaceTurn s sender m (replaces.Refused body) = IsRefused s sender m body
-IsReplaceTurn s sender m (replaces.Accepted order_id r given body sends) = IsReplacing s sender m order_id r given body sends.items
+IsReplaceTurn s sender m (replaces.Accepted order_id r given body asks) = IsReplacing s sender m order_id r given body asks.items
 
 -- of every state that stands so
 abbrev pub StepsCancel : ℕ → Sender → Held → Bool → CancelRequest → CancelTurn → Type 0

@@ -1,15 +1,14 @@
 //! A cancel of a client.
 
-ghost use Rattle.std.specs.Prelude.{◌≡◌, ◌<◌, ◌^◌, ◌∷◌, ℕ, List, Option, Some, None, IfOk, codes, map, option_to_list};
+ghost use Rattle.std.specs.Prelude.{◌≡◌, ◌≤◌, ◌<◌, ◌^◌, ◌∷◌, ℕ, List, Option, Some, None, IfOk, codes, length, map, option_to_list};
 ghost use Rattle.fix_types.specs.CancelRequest.{cancel_request_fields};
 ghost use Rattle.ouch_codec.specs.Inbound.{inbound_bytes};
 ghost use Rattle.order_law.specs.Asks.{Standing};
-ghost use Rattle.order_law.specs.Headline.{Each, EachWith, Says, Sends};
+ghost use Rattle.order_law.specs.Headline.{Each, EachWith, Says};
 ghost use Rattle.order_law.specs.Messages.{Message, text};
 ghost use Rattle.order_histories.specs.OrderRecord.{live_token, replacements};
 ghost use Rattle.order_histories.specs.Table.{State};
 ghost use Rattle.order_table.specs.Held.{named};
-ghost use Rattle.to_market.specs.PortsSeen.{port_seen};
 ghost use Rattle.request_turns.specs.Asked.{IsAccepted, cancels_asked};
 ghost use Rattle.order_histories.specs.Runs.{Finds};
 ghost use Rattle.request_turns.specs.Turns.{StepsCancel, IsCancelTurn};
@@ -24,7 +23,7 @@ use orders::{Cancelling, Order};
 use ouch_codec::Inbound;
 use std::alloc::{AllocError, Global};
 use to_client::{Request, report_pending};
-use to_market::{PortState, refuse_cancel, say_cancel};
+use to_market::{refuse_cancel, say_cancel};
 
 /// What a cancel of a client comes to, where so many reports were issued, of all clients, and its ClOrdID (11) is used
 /// already or isn't.
@@ -99,13 +98,13 @@ fn accept_cancel(
     let asked = Request::of_cancel(request);
     let shown = shown_now(order);
     let report = report_pending(alloc, issued + 1, &asked, &shown)?;
-    let sends = cancels_sent(alloc, order, sender.port)?;
+    let asks = cancels_of(alloc, order)?;
     let cancelling = cancelling_of(alloc, request, order)?;
     Ok(CancelTurn::Accepted {
         order_id: order.order_id,
         cancelling,
         body: AppBody::Report(report),
-        sends,
+        asks,
     })
 }
 
@@ -130,23 +129,12 @@ fn cancelling_of(
     })
 }
 
-/// What goes out now of a cancel of an order: all that it asks, where the port is up.
-fn cancels_sent(alloc: Global, order: &Order, port: PortState) -> Result<Vec<Inbound>, AllocError>
-    ensures { IfOk result (λ sends. (m : Message) (standing : Standing) (order_of : List ℕ → Option ℕ)
-        → text 35 m ≡ codes "F" → Each (Finds order_of) (cancels_asked order.now m)
-        → Sends (port_seen port) (Says standing order_of) (cancels_asked order.now m) (map inbound_bytes sends.items)) }
-{
-    match port {
-        PortState::Up => cancels_of(alloc, order),
-        PortState::Waiting | PortState::Ended | PortState::Faulted(_) => Ok(Vec::new(alloc)),
-    }
-}
-
 /// What a cancel of an order asks: a Cancel Order of the token that it goes by, and then one of its pending replace's.
 fn cancels_of(alloc: Global, order: &Order) -> Result<Vec<Inbound>, AllocError>
-    ensures { IfOk result (λ sends. (m : Message) (standing : Standing) (order_of : List ℕ → Option ℕ)
+    ensures says { IfOk result (λ asks. (m : Message) (standing : Standing) (order_of : List ℕ → Option ℕ)
         → text 35 m ≡ codes "F" → Each (Finds order_of) (cancels_asked order.now m)
-        → EachWith (Says standing order_of) (cancels_asked order.now m) (map inbound_bytes sends.items)) }
+        → EachWith (Says standing order_of) (cancels_asked order.now m) (map inbound_bytes asks.items)) }
+    ensures few { IfOk result (λ asks. length asks.items ≤ 2) }
 {
     let live = say_cancel(&order.token);
     match &order.replace {

@@ -1,15 +1,14 @@
 //! A replace of a client.
 
-ghost use Rattle.std.specs.Prelude.{◌≡◌, ◌+◌, ◌<◌, ◌^◌, ℕ, List, Option, Some, None, IfOk, length, map};
+ghost use Rattle.std.specs.Prelude.{◌≡◌, ◌+◌, ◌≤◌, ◌<◌, ◌^◌, ℕ, List, Option, Some, None, IfOk, length, map};
 ghost use Rattle.fix_types.specs.ReplaceRequest.{replace_request_fields};
 ghost use Rattle.ouch_codec.specs.Inbound.{inbound_bytes};
 ghost use Rattle.tokens.specs.TokenText.{token_text};
 ghost use Rattle.order_law.specs.Asks.{Standing};
-ghost use Rattle.order_law.specs.Headline.{Each, Says, Sends};
+ghost use Rattle.order_law.specs.Headline.{Each, EachWith, Says};
 ghost use Rattle.order_law.specs.Messages.{Message, text};
 ghost use Rattle.order_histories.specs.Table.{State};
 ghost use Rattle.order_table.specs.Held.{named};
-ghost use Rattle.to_market.specs.PortsSeen.{port_seen};
 ghost use Rattle.to_market.specs.RequestAsks.{AsksToReplace};
 ghost use Rattle.request_turns.specs.Asked.{IsAccepted, TakesToken, replaces_asked};
 ghost use Rattle.order_histories.specs.Runs.{Finds};
@@ -25,7 +24,7 @@ use orders::{Order, Replacing};
 use ouch_codec::Inbound;
 use std::alloc::{AllocError, Global};
 use to_client::{Request, report_pending};
-use to_market::{PortState, ReplaceAsk, ask_of_replace, say_replace};
+use to_market::{ReplaceAsk, ask_of_replace, say_replace};
 
 /// What a replace of a client comes to, where so many reports were issued, of all clients, and its ClOrdID (11) is used
 /// already or isn't.
@@ -109,7 +108,7 @@ fn accept_replace(
     let asked = Request::of_replace(request);
     let shown = shown_now(order);
     let report = report_pending(alloc, issued + 1, &asked, &shown)?;
-    let sends = replaces_sent(alloc, ask, order, sender.port)?;
+    let asks = replaces_of(alloc, ask, order)?;
     let message = request.copied(alloc)?;
     let token = ask.token.bytes();
     Ok(ReplaceTurn::Accepted {
@@ -126,26 +125,17 @@ fn accept_replace(
             is_replacement: true,
         },
         body: AppBody::Report(report),
-        sends,
+        asks,
     })
 }
 
-/// What goes out now of a replace of an order: the message that asks it, where the port is up.
-fn replaces_sent(
-    alloc: Global,
-    ask: &ReplaceAsk,
-    order: &Order,
-    port: PortState,
-) -> Result<Vec<Inbound>, AllocError>
-    ensures { IfOk result (λ sends. (m : Message) (standing : Standing) (order_of : List ℕ → Option ℕ)
+/// What a replace of an order asks: one Replace Order, from the token that it goes by.
+fn replaces_of(alloc: Global, ask: &ReplaceAsk, order: &Order) -> Result<Vec<Inbound>, AllocError>
+    ensures says { IfOk result (λ asks. (m : Message) (standing : Standing) (order_of : List ℕ → Option ℕ)
         → AsksToReplace ask.now m → Each (Finds order_of) (replaces_asked order.now ask.now.token m)
-        → Sends (port_seen port) (Says standing order_of) (replaces_asked order.now ask.now.token m) (map inbound_bytes sends.items)) }
+        → EachWith (Says standing order_of) (replaces_asked order.now ask.now.token m) (map inbound_bytes asks.items)) }
+    ensures few { IfOk result (λ asks. length asks.items ≤ 2) }
 {
-    match port {
-        PortState::Up => {
-            let message = say_replace(ask, &order.token);
-            Ok(vec![in alloc; Inbound::Replace(message)]?)
-        }
-        PortState::Waiting | PortState::Ended | PortState::Faulted(_) => Ok(Vec::new(alloc)),
-    }
+    let message = say_replace(ask, &order.token);
+    Ok(vec![in alloc; Inbound::Replace(message)]?)
 }

@@ -18,8 +18,8 @@ pub enum CancelTurn {
         cancelling: Cancelling,
         /// The report that it is pending.
         body: AppBody,
-        /// What goes to the market now: nothing where the port isn't up.
-        sends: Vec<Inbound>,
+        /// What the market is asked, at once or as soon as the port is up.
+        asks: Vec<Inbound>,
     },
 }
 
@@ -38,7 +38,7 @@ pub enum ReplaceTurn {
         given: GivenToken,
         /// The report that it is pending.
         body: AppBody,
-        /// What goes to the market now: nothing where the port isn't up.
-        sends: Vec<Inbound>,
+        /// What the market is asked, at once or as soon as the port is up.
+        asks: Vec<Inbound>,
     },
 }

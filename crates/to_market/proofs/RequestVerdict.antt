@@ -18,7 +18,7 @@ use Rattle.to_market.specs.FieldRows.{RefusesPrice, display, is_no_minimum, is_o
 use Rattle.to_market.specs.Names.{HasRead, ReachesTerms, changes_terms}
 use Rattle.to_market.specs.Refusals.{request_refused_by}
 use Rattle.to_market.specs.RequestAsks.{AsksToReplace}
-use Rattle.to_market.proofs.Rows.{first_row-append, follows, price-refused_request, price_rows_of}
+use Rattle.to_market.proofs.Rows.{first_row-append, follows, price-refused_request, price-taken, price_rows_of}
 use Rattle.to_market.proofs.ReplaceFields.{change_rows, change_table, display_of-replace, kind-replace, last_rows, life_time_of-replace, limit_of-replace, minimum_of-replace, replace_rows-fields, replace_table, row, total_of-replace}
 
 -- behind rows that don't hold, the others decide
@@ -37,6 +37,20 @@ pub other_terms : (o : NamedOrder) (given : ℕ) (m : ReplaceRequest) → change
 unfolding change_table
 other_terms o given m other = rw other refl
 
+pub by_type : (o : NamedOrder) (given : ℕ) (m : ReplaceRequest) → changes_terms o m ≡ false → bytes_eq (m.ord_type ∷ []) (codes "2") ≡ false → first_row (change_rows m o given) ≡ request_refused_by refusals.OrderType
+unfolding change_table
+by_type o given m terms other = rw (terms, other) refl
+
+pub by_life_time : (o : NamedOrder) (given : ℕ) (m : ReplaceRequest) → changes_terms o m ≡ false → bytes_eq (m.ord_type ∷ []) (codes "2") ≡ true → is_other life_times (char_text m.time_in_force) ≡ true
+    → first_row (change_rows m o given) ≡ request_refused_by refusals.TimeInForce
+unfolding change_table
+by_life_time o given m terms type other = rw (terms, type, other) refl
+
+pub by_instruction : (o : NamedOrder) (given : ℕ) (m : ReplaceRequest) → changes_terms o m ≡ false → bytes_eq (m.ord_type ∷ []) (codes "2") ≡ true → is_other life_times (char_text m.time_in_force) ≡ false → is_other (codes "6" ∷ []) m.exec_inst ≡ true
+    → first_row (change_rows m o given) ≡ request_refused_by refusals.ExecutionInstruction
+unfolding change_table
+by_instruction o given m terms type life_time other = rw (terms, type, life_time, other) refl
+
 -- the rows before those on 38, 110 and 44 don't hold
 pub record PassesKind (o : NamedOrder) (m : ReplaceRequest) : Type 0 where
   pub terms : changes_terms o m ≡ false
@@ -47,6 +61,11 @@ pub record PassesKind (o : NamedOrder) (m : ReplaceRequest) : Type 0 where
 pub by_quantity : (o : NamedOrder) (given : ℕ) (m : ReplaceRequest) → PassesKind o m → is_ok (quantity 1 m.order_qty) ≡ false → first_row (change_rows m o given) ≡ request_refused_by refusals.Quantity
 unfolding change_table
 by_quantity o given m passes unread = rw (passes.terms, passes.type, passes.life_time, passes.instruction, unread) refl
+
+pub by_minimum : (o : NamedOrder) (given : ℕ) (m : ReplaceRequest) (shares : ℕ) → PassesKind o m → ◌≡◌ {A = Result ℕ DecimalRefusal} (quantity 1 m.order_qty) (Ok shares) → is_no_minimum shares m.min_qty ≡ true
+    → first_row (change_rows m o given) ≡ request_refused_by refusals.MinimumQuantity
+unfolding change_table
+by_minimum o given m shares passes said bad = rw (passes.terms, passes.type, passes.life_time, passes.instruction, said, bad) refl
 
 -- with shares and a minimum read, the rows on 44 and the last ones decide
 abbrev last : NamedOrder → ℕ → ℕ → Verdict
@@ -63,6 +82,34 @@ pub price_refused : (o : NamedOrder) (given : ℕ) (m : ReplaceRequest) (shares 
     → RefusesPrice (price_read m.price) refusal → first_row (change_rows m o given) ≡ request_refused_by refusal
 price_refused o given m shares refusal passes said good refuses =
     by_price o given m shares passes said good ∙ ap (λ (v : Verdict). follows v (last o given shares)) (price-refused_request m.price refusal refuses)
+
+-- no row on what it says itself holds, with these shares and this price
+pub record PassesFields (o : NamedOrder) (m : ReplaceRequest) (shares limit : ℕ) : Type 0 where
+  pub kind : PassesKind o m
+  pub said : ◌≡◌ {A = Result ℕ DecimalRefusal} (quantity 1 m.order_qty) (Ok shares)
+  pub good : is_no_minimum shares m.min_qty ≡ false
+  pub read : price_read m.price ≡ Some (Ok limit)
+
+-- then the last ones decide
+by_last : (o : NamedOrder) (given : ℕ) (m : ReplaceRequest) (shares limit : ℕ) → PassesFields o m shares limit → first_row (change_rows m o given) ≡ last o given shares
+by_last o given m shares limit passes =
+    by_price o given m shares passes.kind passes.said passes.good ∙ ap (λ (v : Verdict). follows v (last o given shares)) (price-taken m.price limit passes.read)
+
+pub by_total : (o : NamedOrder) (given : ℕ) (m : ReplaceRequest) (shares limit : ℕ) → PassesFields o m shares limit → nat_le shares o.executed ≡ true
+    → first_row (change_rows m o given) ≡ request_refused_by refusals.TotalNotAboveExecuted
+by_total o given m shares limit passes low = by_last o given m shares limit passes ∙ rw low refl
+
+pub by_limit : (o : NamedOrder) (given : ℕ) (m : ReplaceRequest) (shares limit : ℕ) → PassesFields o m shares limit → nat_le shares o.executed ≡ false → nat_le most_replaces o.replaces ≡ true
+    → first_row (change_rows m o given) ≡ request_refused_by refusals.ReplaceLimit
+by_limit o given m shares limit passes above many = by_last o given m shares limit passes ∙ rw (above, many) refl
+
+pub by_token : (o : NamedOrder) (given : ℕ) (m : ReplaceRequest) (shares limit : ℕ) → PassesFields o m shares limit → nat_le shares o.executed ≡ false → nat_le most_replaces o.replaces ≡ false → nat_le last_token given ≡ true
+    → first_row (change_rows m o given) ≡ request_refused_by refusals.NoTokenLeft
+by_token o given m shares limit passes above few spent = by_last o given m shares limit passes ∙ rw (above, few, spent) refl
+
+pub by_none : (o : NamedOrder) (given : ℕ) (m : ReplaceRequest) (shares limit : ℕ) → PassesFields o m shares limit → nat_le shares o.executed ≡ false → nat_le most_replaces o.replaces ≡ false → nat_le last_token given ≡ false
+    → first_row (change_rows m o given) ≡ Accepted
+by_none o given m shares limit passes above few left = by_last o given m shares limit passes ∙ rw (above, few, left) refl
 
 -- an ask that has what each field says
 pub record HasFields (ask : ReplaceAsk) (m : ReplaceRequest) : Type 0 where

@@ -5,8 +5,7 @@
 ghost use Rattle.std.specs.Prelude.{◌≡◌, ◌≤◌, true, length};
 ghost use Rattle.wire_law.specs.Printable.{ArePrintable};
 
-use crate::field::{number_at, number_bytes, put_fields, text_at};
-use crate::layout::{Kind, is_message};
+use crate::field::{intended_shares_at, is_of_type, number_bytes, put_fields, text_at};
 use wire_law::FixedWire;
 
 /// A request to cancel what is open of an order, or a part of it.
@@ -24,12 +23,6 @@ pub struct Cancel {
     ghost token_set: { (length token ≡ 14) × ArePrintable token },
     ghost shares_set: { shares ≤ 999_999 },
 }
-
-const LAYOUT: [Kind; 3] = [
-    Kind::Constant(b'X'),
-    Kind::Text(14), // token
-    Kind::IntendedShares, // shares
-];
 
 impl FixedWire for Cancel {
     ghost use Rattle.ouch_codec.specs.Layout.{IsMessage, spelled};
@@ -57,12 +50,12 @@ impl FixedWire for Cancel {
     }
 
     fn get(b: &[u8]) -> Option<Self> {
-        if !is_message(&LAYOUT, b) {
+        if !is_of_type(b, b'X', Self::LEN) {
             return None;
         }
         Some(Cancel {
-            token: text_at(b, 1),
-            shares: number_at(b, 15),
+            token: text_at(b, 1)?,
+            shares: intended_shares_at(b, 15)?,
         })
     }
 }

@@ -5,8 +5,9 @@
 ghost use Rattle.std.specs.Prelude.{◌≡◌, ◌<◌, ◌≤◌, ◌^◌, true, length};
 ghost use Rattle.wire_law.specs.Printable.{is_printable, ArePrintable};
 
-use crate::field::{number_at, number_bytes, put_fields, text_at};
-use crate::layout::{Kind, is_message};
+use crate::field::{
+    is_of_type, number_at, number_bytes, printable_at, put_fields, shares_at, side_at, text_at,
+};
 use crate::side::Side;
 use wire_law::FixedWire;
 
@@ -58,23 +59,6 @@ pub struct EnterOrder {
     ghost customer_type_set: { is_printable customer_type ≡ true },
 }
 
-const LAYOUT: [Kind; 14] = [
-    Kind::Constant(b'O'),
-    Kind::Text(14), // token
-    Kind::SideLetter, // side
-    Kind::Shares, // shares
-    Kind::Text(8), // stock
-    Kind::Number, // price
-    Kind::Number, // time in force
-    Kind::Text(4), // firm
-    Kind::Printable, // display
-    Kind::Printable, // capacity
-    Kind::Printable, // intermarket sweep
-    Kind::Number, // minimum quantity
-    Kind::Printable, // cross type
-    Kind::Printable, // customer type
-];
-
 impl FixedWire for EnterOrder {
     ghost use Rattle.ouch_codec.specs.Layout.{IsMessage, spelled};
     ghost use Rattle.ouch_codec.specs.Layouts.{enter_order};
@@ -116,24 +100,23 @@ impl FixedWire for EnterOrder {
     }
 
     fn get(b: &[u8]) -> Option<Self> {
-        if !is_message(&LAYOUT, b) {
+        if !is_of_type(b, b'O', Self::LEN) {
             return None;
         }
-        let side = Side::of_letter(b[15])?;
         Some(EnterOrder {
-            token: text_at(b, 1),
-            side,
-            shares: number_at(b, 16),
-            stock: text_at(b, 20),
+            token: text_at(b, 1)?,
+            side: side_at(b, 15)?,
+            shares: shares_at(b, 16)?,
+            stock: text_at(b, 20)?,
             price: number_at(b, 28),
             time_in_force: number_at(b, 32),
-            firm: text_at(b, 36),
-            display: b[40],
-            capacity: b[41],
-            intermarket_sweep: b[42],
+            firm: text_at(b, 36)?,
+            display: printable_at(b, 40)?,
+            capacity: printable_at(b, 41)?,
+            intermarket_sweep: printable_at(b, 42)?,
             minimum_quantity: number_at(b, 43),
-            cross_type: b[47],
-            customer_type: b[48],
+            cross_type: printable_at(b, 47)?,
+            customer_type: printable_at(b, 48)?,
         })
     }
 }

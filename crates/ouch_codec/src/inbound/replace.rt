@@ -5,8 +5,9 @@
 ghost use Rattle.std.specs.Prelude.{◌≡◌, ◌<◌, ◌≤◌, ◌^◌, true, length};
 ghost use Rattle.wire_law.specs.Printable.{is_printable, ArePrintable};
 
-use crate::field::{number_at, number_bytes, put_fields, text_at};
-use crate::layout::{Kind, is_message};
+use crate::field::{
+    is_of_type, number_at, number_bytes, printable_at, put_fields, shares_at, text_at,
+};
 use wire_law::FixedWire;
 
 /// A request to replace what is open of an order by an order with other terms. Side, stock and firm stay.
@@ -42,18 +43,6 @@ pub struct Replace {
     ghost intermarket_sweep_set: { is_printable intermarket_sweep ≡ true },
     ghost minimum_quantity_set: { minimum_quantity < 2 ^ 32 },
 }
-
-const LAYOUT: [Kind; 9] = [
-    Kind::Constant(b'U'),
-    Kind::Text(14), // token
-    Kind::Text(14), // replacement token
-    Kind::Shares, // shares
-    Kind::Number, // price
-    Kind::Number, // time in force
-    Kind::Printable, // display
-    Kind::Printable, // intermarket sweep
-    Kind::Number, // minimum quantity
-];
 
 impl FixedWire for Replace {
     ghost use Rattle.ouch_codec.specs.Layout.{IsMessage, spelled};
@@ -93,17 +82,17 @@ impl FixedWire for Replace {
     }
 
     fn get(b: &[u8]) -> Option<Self> {
-        if !is_message(&LAYOUT, b) {
+        if !is_of_type(b, b'U', Self::LEN) {
             return None;
         }
         Some(Replace {
-            token: text_at(b, 1),
-            replacement_token: text_at(b, 15),
-            shares: number_at(b, 29),
+            token: text_at(b, 1)?,
+            replacement_token: text_at(b, 15)?,
+            shares: shares_at(b, 29)?,
             price: number_at(b, 33),
             time_in_force: number_at(b, 37),
-            display: b[41],
-            intermarket_sweep: b[42],
+            display: printable_at(b, 41)?,
+            intermarket_sweep: printable_at(b, 42)?,
             minimum_quantity: number_at(b, 43),
         })
     }

@@ -5,8 +5,9 @@
 ghost use Rattle.std.specs.Prelude.{◌≡◌, ◌<◌, ◌^◌, true, length};
 ghost use Rattle.wire_law.specs.Printable.{is_printable, ArePrintable};
 
-use crate::field::{long_number_at, long_number_bytes, put_fields, text_at};
-use crate::layout::{Kind, is_message};
+use crate::field::{
+    is_of_type, long_number_at, long_number_bytes, printable_at, put_fields, text_at,
+};
 use wire_law::FixedWire;
 
 /// A trade of an order is taken back.
@@ -30,14 +31,6 @@ pub struct Broken {
     ghost match_number_set: { match_number < 2 ^ 64 },
     ghost reason_set: { is_printable reason ≡ true },
 }
-
-const LAYOUT: [Kind; 5] = [
-    Kind::Constant(b'B'),
-    Kind::LongNumber, // timestamp
-    Kind::Text(14), // token
-    Kind::LongNumber, // match number
-    Kind::Printable, // reason
-];
 
 impl FixedWire for Broken {
     ghost use Rattle.ouch_codec.specs.Layout.{IsMessage, spelled};
@@ -74,14 +67,14 @@ impl FixedWire for Broken {
     }
 
     fn get(b: &[u8]) -> Option<Self> {
-        if !is_message(&LAYOUT, b) {
+        if !is_of_type(b, b'B', Self::LEN) {
             return None;
         }
         Some(Broken {
             timestamp: long_number_at(b, 1),
-            token: text_at(b, 9),
+            token: text_at(b, 9)?,
             match_number: long_number_at(b, 23),
-            reason: b[31],
+            reason: printable_at(b, 31)?,
         })
     }
 }

@@ -5,8 +5,7 @@
 ghost use Rattle.std.specs.Prelude.{◌≡◌, ◌<◌, ◌^◌, length};
 ghost use Rattle.wire_law.specs.Printable.{ArePrintable};
 
-use crate::field::{long_number_at, long_number_bytes, put_fields, text_at};
-use crate::layout::{Kind, is_message};
+use crate::field::{is_of_type, long_number_at, long_number_bytes, put_fields, text_at};
 use wire_law::FixedWire;
 
 /// The market has the request to cancel an order, and will cancel it once it may.
@@ -24,12 +23,6 @@ pub struct CancelPending {
     ghost timestamp_set: { timestamp < 2 ^ 64 },
     ghost token_set: { (length token ≡ 14) × ArePrintable token },
 }
-
-const LAYOUT: [Kind; 3] = [
-    Kind::Constant(b'P'),
-    Kind::LongNumber, // timestamp
-    Kind::Text(14), // token
-];
 
 impl FixedWire for CancelPending {
     ghost use Rattle.ouch_codec.specs.Layout.{IsMessage, spelled};
@@ -60,12 +53,12 @@ impl FixedWire for CancelPending {
     }
 
     fn get(b: &[u8]) -> Option<Self> {
-        if !is_message(&LAYOUT, b) {
+        if !is_of_type(b, b'P', Self::LEN) {
             return None;
         }
         Some(CancelPending {
             timestamp: long_number_at(b, 1),
-            token: text_at(b, 9),
+            token: text_at(b, 9)?,
         })
     }
 }

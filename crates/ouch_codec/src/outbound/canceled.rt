@@ -6,9 +6,9 @@ ghost use Rattle.std.specs.Prelude.{◌≡◌, ◌<◌, ◌^◌, true, length};
 ghost use Rattle.wire_law.specs.Printable.{is_printable, ArePrintable};
 
 use crate::field::{
-    long_number_at, long_number_bytes, number_at, number_bytes, put_fields, text_at,
+    is_of_type, long_number_at, long_number_bytes, number_at, number_bytes, printable_at,
+    put_fields, text_at,
 };
-use crate::layout::{Kind, is_message};
 use wire_law::FixedWire;
 
 /// Shares of an order left the book without a trade.
@@ -32,14 +32,6 @@ pub struct Canceled {
     ghost decrement_set: { decrement < 2 ^ 32 },
     ghost reason_set: { is_printable reason ≡ true },
 }
-
-const LAYOUT: [Kind; 5] = [
-    Kind::Constant(b'C'),
-    Kind::LongNumber, // timestamp
-    Kind::Text(14), // token
-    Kind::Number, // decrement
-    Kind::Printable, // reason
-];
 
 impl FixedWire for Canceled {
     ghost use Rattle.ouch_codec.specs.Layout.{IsMessage, spelled};
@@ -76,14 +68,14 @@ impl FixedWire for Canceled {
     }
 
     fn get(b: &[u8]) -> Option<Self> {
-        if !is_message(&LAYOUT, b) {
+        if !is_of_type(b, b'C', Self::LEN) {
             return None;
         }
         Some(Canceled {
             timestamp: long_number_at(b, 1),
-            token: text_at(b, 9),
+            token: text_at(b, 9)?,
             decrement: number_at(b, 23),
-            reason: b[27],
+            reason: printable_at(b, 27)?,
         })
     }
 }

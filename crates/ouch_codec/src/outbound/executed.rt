@@ -6,9 +6,9 @@ ghost use Rattle.std.specs.Prelude.{◌≡◌, ◌<◌, ◌^◌, true, length};
 ghost use Rattle.wire_law.specs.Printable.{is_printable, ArePrintable};
 
 use crate::field::{
-    long_number_at, long_number_bytes, number_at, number_bytes, put_fields, text_at,
+    is_of_type, long_number_at, long_number_bytes, number_at, number_bytes, printable_at,
+    put_fields, text_at,
 };
-use crate::layout::{Kind, is_message};
 use wire_law::FixedWire;
 
 /// Shares of an order were traded.
@@ -38,16 +38,6 @@ pub struct Executed {
     ghost liquidity_set: { is_printable liquidity ≡ true },
     ghost match_number_set: { match_number < 2 ^ 64 },
 }
-
-const LAYOUT: [Kind; 7] = [
-    Kind::Constant(b'E'),
-    Kind::LongNumber, // timestamp
-    Kind::Text(14), // token
-    Kind::Number, // shares
-    Kind::Number, // price
-    Kind::Printable, // liquidity
-    Kind::LongNumber, // match number
-];
 
 impl FixedWire for Executed {
     ghost use Rattle.ouch_codec.specs.Layout.{IsMessage, spelled};
@@ -86,15 +76,15 @@ impl FixedWire for Executed {
     }
 
     fn get(b: &[u8]) -> Option<Self> {
-        if !is_message(&LAYOUT, b) {
+        if !is_of_type(b, b'E', Self::LEN) {
             return None;
         }
         Some(Executed {
             timestamp: long_number_at(b, 1),
-            token: text_at(b, 9),
+            token: text_at(b, 9)?,
             shares: number_at(b, 23),
             price: number_at(b, 27),
-            liquidity: b[31],
+            liquidity: printable_at(b, 31)?,
             match_number: long_number_at(b, 32),
         })
     }

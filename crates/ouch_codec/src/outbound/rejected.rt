@@ -5,8 +5,9 @@
 ghost use Rattle.std.specs.Prelude.{◌≡◌, ◌<◌, ◌^◌, true, length};
 ghost use Rattle.wire_law.specs.Printable.{is_printable, ArePrintable};
 
-use crate::field::{long_number_at, long_number_bytes, put_fields, text_at};
-use crate::layout::{Kind, is_message};
+use crate::field::{
+    is_of_type, long_number_at, long_number_bytes, printable_at, put_fields, text_at,
+};
 use wire_law::FixedWire;
 
 /// The market didn't take a new order, or didn't take a replacement and left the order as it was.
@@ -27,13 +28,6 @@ pub struct Rejected {
     ghost token_set: { (length token ≡ 14) × ArePrintable token },
     ghost reason_set: { is_printable reason ≡ true },
 }
-
-const LAYOUT: [Kind; 4] = [
-    Kind::Constant(b'J'),
-    Kind::LongNumber, // timestamp
-    Kind::Text(14), // token
-    Kind::Printable, // reason
-];
 
 impl FixedWire for Rejected {
     ghost use Rattle.ouch_codec.specs.Layout.{IsMessage, spelled};
@@ -69,13 +63,13 @@ impl FixedWire for Rejected {
     }
 
     fn get(b: &[u8]) -> Option<Self> {
-        if !is_message(&LAYOUT, b) {
+        if !is_of_type(b, b'J', Self::LEN) {
             return None;
         }
         Some(Rejected {
             timestamp: long_number_at(b, 1),
-            token: text_at(b, 9),
-            reason: b[23],
+            token: text_at(b, 9)?,
+            reason: printable_at(b, 23)?,
         })
     }
 }

@@ -6,9 +6,9 @@ ghost use Rattle.std.specs.Prelude.{◌≡◌, ◌<◌, ◌≤◌, ◌^◌, true
 ghost use Rattle.wire_law.specs.Printable.{is_printable, ArePrintable};
 
 use crate::field::{
-    long_number_at, long_number_bytes, number_at, number_bytes, put_fields, text_at,
+    is_of_type, long_number_at, long_number_bytes, number_at, number_bytes, order_state_at,
+    printable_at, put_fields, shares_at, side_at, text_at,
 };
-use crate::layout::{Kind, is_message};
 use crate::order_state::OrderState;
 use crate::side::Side;
 use wire_law::FixedWire;
@@ -72,27 +72,6 @@ pub struct Replaced {
     ghost bbo_weight_set: { is_printable bbo_weight ≡ true },
 }
 
-const LAYOUT: [Kind; 18] = [
-    Kind::Constant(b'U'),
-    Kind::LongNumber, // timestamp
-    Kind::Text(14), // token
-    Kind::SideLetter, // side
-    Kind::Shares, // shares
-    Kind::Text(8), // stock
-    Kind::Number, // price
-    Kind::Number, // time in force
-    Kind::Text(4), // firm
-    Kind::Printable, // display
-    Kind::LongNumber, // order reference
-    Kind::Printable, // capacity
-    Kind::Printable, // intermarket sweep
-    Kind::Number, // minimum quantity
-    Kind::Printable, // cross type
-    Kind::OrderStateLetter, // order state
-    Kind::Text(14), // previous token
-    Kind::Printable, // BBO weight
-];
-
 impl FixedWire for Replaced {
     ghost use Rattle.ouch_codec.specs.Layout.{IsMessage, spelled};
     ghost use Rattle.ouch_codec.specs.Layouts.{replaced};
@@ -139,29 +118,27 @@ impl FixedWire for Replaced {
     }
 
     fn get(b: &[u8]) -> Option<Self> {
-        if !is_message(&LAYOUT, b) {
+        if !is_of_type(b, b'U', Self::LEN) {
             return None;
         }
-        let side = Side::of_letter(b[23])?;
-        let order_state = OrderState::of_letter(b[64])?;
         Some(Replaced {
             timestamp: long_number_at(b, 1),
-            token: text_at(b, 9),
-            side,
-            shares: number_at(b, 24),
-            stock: text_at(b, 28),
+            token: text_at(b, 9)?,
+            side: side_at(b, 23)?,
+            shares: shares_at(b, 24)?,
+            stock: text_at(b, 28)?,
             price: number_at(b, 36),
             time_in_force: number_at(b, 40),
-            firm: text_at(b, 44),
-            display: b[48],
+            firm: text_at(b, 44)?,
+            display: printable_at(b, 48)?,
             order_reference: long_number_at(b, 49),
-            capacity: b[57],
-            intermarket_sweep: b[58],
+            capacity: printable_at(b, 57)?,
+            intermarket_sweep: printable_at(b, 58)?,
             minimum_quantity: number_at(b, 59),
-            cross_type: b[63],
-            order_state,
-            previous_token: text_at(b, 65),
-            bbo_weight: b[79],
+            cross_type: printable_at(b, 63)?,
+            order_state: order_state_at(b, 64)?,
+            previous_token: text_at(b, 65)?,
+            bbo_weight: printable_at(b, 79)?,
         })
     }
 }

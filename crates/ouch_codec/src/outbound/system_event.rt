@@ -5,8 +5,7 @@
 ghost use Rattle.std.specs.Prelude.{◌≡◌, ◌<◌, ◌^◌, true};
 ghost use Rattle.wire_law.specs.Printable.{is_printable};
 
-use crate::field::{long_number_at, long_number_bytes, put_fields};
-use crate::layout::{Kind, is_message};
+use crate::field::{is_of_type, long_number_at, long_number_bytes, printable_at, put_fields};
 use wire_law::FixedWire;
 
 /// Something happened that is no order's own, as the start or the end of the market's day.
@@ -24,12 +23,6 @@ pub struct SystemEvent {
     ghost timestamp_set: { timestamp < 2 ^ 64 },
     ghost event_set: { is_printable event ≡ true },
 }
-
-const LAYOUT: [Kind; 3] = [
-    Kind::Constant(b'S'),
-    Kind::LongNumber, // timestamp
-    Kind::Printable, // event
-];
 
 impl FixedWire for SystemEvent {
     ghost use Rattle.ouch_codec.specs.Layout.{IsMessage, spelled};
@@ -60,12 +53,12 @@ impl FixedWire for SystemEvent {
     }
 
     fn get(b: &[u8]) -> Option<Self> {
-        if !is_message(&LAYOUT, b) {
+        if !is_of_type(b, b'S', Self::LEN) {
             return None;
         }
         Some(SystemEvent {
             timestamp: long_number_at(b, 1),
-            event: b[9],
+            event: printable_at(b, 9)?,
         })
     }
 }

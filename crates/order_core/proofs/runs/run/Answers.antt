@@ -1,14 +1,15 @@
 use Rattle.std.proofs.Common.{◌<◌, ◌^◌, [], length, take, map, sym, subst, ap, ◌∙◌, arith, take_all, length-append, length-take-le}
 use Rattle.order_law.specs.History.{History}
-use Rattle.order_histories.specs.Runs.{Leaves}
+use Rattle.order_core.specs.State.{IsAfter}
 use Rattle.order_core.specs.Runs.{history, is_known}
 use Rattle.to_market.specs.TermsSeen.{terms_seen}
 use Rattle.order_core.proofs.Histories.{history-more, length-onto, passes-at}
+use Rattle.order_core.proofs.Turns.{parts-of}
 use Rattle.order_core.proofs.runs.run.Goals as goal
 
 pub loop-event-init : goal.loop-event-init
 loop-event-init c = record {
-  leaves = c.in_ok-core.ensures.leaves;
+  after = c.in_ok-core.ensures.after;
   same = ap length c.new-outcomes.ensures.items;
   clients = c.in_ok-core.ensures.clients;
   issued = omega (arith, c.in_ok-core.ensures.issued);
@@ -23,12 +24,12 @@ step-requires-clause-room c = omega (arith, c.loop-event.invariant.issued, c.req
 
 pub loop-event-preserved : goal.loop-event-preserved
 loop-event-preserved c = record {
-  leaves =
+  after =
       let before = history (take c.loop-event.event-index c.args.events.now) c.loop-event.outcomes.items in
       let short : length before < 2 ^ 58 = omega (arith, length-onto (take c.loop-event.event-index c.args.events.now) c.loop-event.outcomes.items [], length-take-le c.loop-event.event-index c.args.events.now (omega arith), c.requires.short) in
-      rw c.in_ok-push.ensures.items (subst (λ (h : History). Leaves (map terms_seen c.args.terms.now) h c.step.new.core)
+      rw c.in_ok-push.ensures.items (subst (λ (h : History). IsAfter (map terms_seen c.args.terms.now) h c.step.new.core)
       (sym (history-more c.args.events.now c.loop-event.outcomes.items c.loop-event.event-index c.event-item.result c.in_ok-outcome.outcome c.loop-event-test.true c.event-item.is c.loop-event.invariant.same))
-      (c.in_ok-outcome.ensures.leaves (map terms_seen c.args.terms.now) before short c.loop-event.invariant.leaves));
+      (c.in_ok-outcome.ensures.after (map terms_seen c.args.terms.now) before short c.loop-event.invariant.after));
   same = rw (c.in_ok-push.ensures.items, length-append) (omega (arith, c.loop-event.invariant.same));
   clients = c.step.ensures.clients ∙ c.loop-event.invariant.clients;
   issued = omega (arith, c.step.ensures.issued, c.loop-event.invariant.issued);
@@ -36,9 +37,11 @@ loop-event-preserved c = record {
 
 pub returns-clause-exact : goal.returns-clause-exact
 returns-clause-exact c =
-    (c.loop-event.core, (rw (take_all c.loop-event.event-index c.args.events.now (omega arith)) at c.loop-event.invariant.leaves))
+    let after = rw (take_all c.loop-event.event-index c.args.events.now (omega arith)) at c.loop-event.invariant.after in
+    (c.loop-event.core.table, (parts-of (map terms_seen c.args.terms.now) (history c.args.events.now c.loop-event.outcomes.items) c.loop-event.core after).0)
 
 pub returns-clause-headline : goal.returns-clause-headline
 returns-clause-headline c =
-    let l = rw (take_all c.loop-event.event-index c.args.events.now (omega arith)) at c.loop-event.invariant.leaves in
-    c.tables_have_the_headline.ensures (map terms_seen c.args.terms.now) (history c.args.events.now c.loop-event.outcomes.items) c.loop-event.core (omega (arith, length-onto c.args.events.now c.loop-event.outcomes.items [], c.requires.short)) l
+    let after = rw (take_all c.loop-event.event-index c.args.events.now (omega arith)) at c.loop-event.invariant.after in
+    let leaves = (parts-of (map terms_seen c.args.terms.now) (history c.args.events.now c.loop-event.outcomes.items) c.loop-event.core after).0 in
+    c.tables_have_the_headline.ensures (map terms_seen c.args.terms.now) (history c.args.events.now c.loop-event.outcomes.items) c.loop-event.core.table (omega (arith, length-onto c.args.events.now c.loop-event.outcomes.items [], c.requires.short)) leaves

@@ -10,8 +10,8 @@ use Rattle.request_turns.proofs.cancels.cancels_of.Goals as goal
 pub say_cancel-next-requires : goal.say_cancel-next-requires
 say_cancel-next-requires c = printable-token c.in-Some.replacing.token c.in-Some.replacing.token_number c.in-Some.replacing.text_set
 
-pub returns-in_ok-vec-in-None : goal.returns-in_ok-vec-in-None
-returns-in_ok-vec-in-None c = λ m standing order_of kind finds.
+pub returns-in_ok-vec-in-None-clause-says : goal.returns-in_ok-vec-in-None-clause-says
+returns-in_ok-vec-in-None-clause-says c = λ m standing order_of kind finds.
     let o = c.args.order.now in
     let none : replacements o.replace ≡ [] =
     ap (λ (x : OrderRecord). replacements x.replace) (sym c.order.view_is)
@@ -20,8 +20,8 @@ returns-in_ok-vec-in-None c = λ m standing order_of kind finds.
     (ap live_token c.order.view_is) none c.in_ok-vec-in-None.ensures.items finds
     (c.say_cancel-live.ensures.says m kind o.new.order standing order_of)
 
-pub returns-in_ok-vec-in-Some : goal.returns-in_ok-vec-in-Some
-returns-in_ok-vec-in-Some c = λ m standing order_of kind finds.
+pub returns-in_ok-vec-in-Some-clause-says : goal.returns-in_ok-vec-in-Some-clause-says
+returns-in_ok-vec-in-Some-clause-says c = λ m standing order_of kind finds.
     let o = c.args.order.now in
     let next = c.in-Some.replacing.token in
     let is_next : replacements o.replace ≡ next ∷ [] =

@@ -1,62 +1,22 @@
-use Rattle.std.proofs.Common.{◌≡◌, ◌+◌, ◌≤◌, ℕ, List, length, map, refl, sym, subst, ap, ◌∙◌, arith, Option, Some}
-use Rattle.std.specs.List.{count_by}
-use Rattle.fix_types.specs.declared.application.AppBody.{AppBody}
-use Rattle.order_law.specs.Reading.{is_report}
-use Rattle.order_law.specs.Told.{to_client_of}
-use Rattle.order_histories.specs.Machine.{market_step}
-use Rattle.order_histories.specs.OrderRecord.{OrderRecord}
-use Rattle.order_histories.specs.Table.{State}
-use Rattle.orders.specs.Changes.{Fits}
-use Rattle.order_table.specs.Held.{Held}
-use Rattle.to_client.specs.Pending.{body_fields}
-use Rattle.market_turns.specs.declared.judged.Judged.{Judged}
-use Rattle.market_turns.specs.declared.judged.Judged.TheVariants.{Faulty, Silent}
-use Rattle.market_turns.specs.Turns.{IsJudged, IsTold}
+use Rattle.std.proofs.Common.{refl, sym, ap, subst, ◌∙◌, Option}
+use Rattle.order_ledger.specs.declared.turns.ChangedOrder.{ChangedOrder}
 use Rattle.order_core.specs.contracts.order_core.OrderCore.{the_view}
 use Rattle.order_core.specs.declared.outcome.MarketOut.{MarketOut}
-use Rattle.order_core.specs.Meets.{GivesMarket}
-use Rattle.order_core.specs.Seen.{client_seen, tells_report}
-use Rattle.order_core.specs.State.{issued}
-use Rattle.order_core.proofs.Heard.{reports-same, same_order, silent-meets, told-meets}
+use Rattle.order_core.specs.Meets.{MeetsHandled, left_after}
+use Rattle.order_core.specs.State.{CoreState}
+use Rattle.order_core.proofs.Turns.{handled-as}
+use Rattle.order_core.proofs.order_core.OrderCore.market_step.Goals.{in-Some, in_default}
 use Rattle.order_core.proofs.order_core.OrderCore.market_step.Goals as goal
 
-pub apply-requires : goal.apply-requires
-apply-requires c = λ o here.
-    let told : IsTold (the_view c.self.inside) c.args.port c.args.payload.now c.in-Told.order_id c.in-Told.client c.in-Told.heard =
-    subst (λ (j : Judged). IsJudged (the_view c.self.inside) c.args.port c.args.payload.now j) c.in-Told.is (c.in_ok-hear.ensures (the_view c.self.inside) refl refl refl) in
-    subst (Fits c.in-Told.heard.change) (same_order told.order o (sym told.found ∙ here)) told.fits
-
-pub returns-in-Silent-clause-meets : goal.returns-in-Silent-clause-meets
-returns-in-Silent-clause-meets c =
-    let is : IsJudged (the_view c.self.inside) c.args.port c.args.payload.now Silent =
-    subst (λ (j : Judged). IsJudged (the_view c.self.inside) c.args.port c.args.payload.now j) c.in-Silent.is (c.in_ok-hear.ensures (the_view c.self.inside) refl refl refl) in
-    silent-meets c.args.self.now c.args.port c.args.payload.now c.nothing.result c.nothing.ensures.client c.nothing.ensures.bodies
-    (subst (λ (s : State). IsJudged s c.args.port c.args.payload.now Silent) c.self.view_is is)
-
-pub returns-in-Faulty-clause-meets : goal.returns-in-Faulty-clause-meets
-returns-in-Faulty-clause-meets c =
-    let is : IsJudged (the_view c.self.inside) c.args.port c.args.payload.now (Faulty c.in-Faulty.fault) =
-    subst (λ (j : Judged). IsJudged (the_view c.self.inside) c.args.port c.args.payload.now j) c.in-Faulty.is (c.in_ok-hear.ensures (the_view c.self.inside) refl refl refl) in
-    subst (λ (s : State). IsJudged s c.args.port c.args.payload.now (Faulty c.in-Faulty.fault)) c.self.view_is is
-
-pub returns-in_ok-apply-in-Told-clause-meets : goal.returns-in_ok-apply-in-Told-clause-meets
-returns-in_ok-apply-in-Told-clause-meets c =
-    let told : IsTold (the_view c.self.inside) c.args.port c.args.payload.now c.in-Told.order_id c.in-Told.client c.in-Told.heard =
-    subst (λ (j : Judged). IsJudged (the_view c.self.inside) c.args.port c.args.payload.now j) c.in-Told.is (c.in_ok-hear.ensures (the_view c.self.inside) refl refl refl) in
-    let out : MarketOut = record { client = c.told_client-client.result; bodies = c.in-Told.heard.bodies } in
-    let here = told-meets (the_view c.self.inside) c.args.port c.args.payload.now c.in-Told.order_id c.in-Told.client c.in-Told.heard out told c.apply.new.self
-    (λ o found. c.in_ok-apply-in-Told.ensures.changed o found) (subst (λ (bs : List AppBody). client_seen c.told_client-client.result ≡ (to_client_of told.order.new (map body_fields bs)).client) c.deref-in-Told.ensures.value (c.told_client-client.ensures told.order.new told.of_client)) refl in
-    let count : c.report_count-reports.result ≡ count_by is_report (map body_fields c.in-Told.heard.bodies.items) = c.report_count-reports.ensures.count ∙ ap (count_by tells_report) c.deref.ensures.value ∙ reports-same c.in-Told.heard.bodies.items in
-    subst (λ (s : State). GivesMarket (market_step s c.args.port c.args.payload.now) out
-    (the_view (record { terms = c.self.inside.terms; table = c.apply.new.self; used = c.self.inside.used; order_ids = c.self.inside.order_ids; exec_ids = c.self.inside.exec_ids + c.report_count-reports.result }))) c.self.view_is
-    (subst (λ (n : ℕ). GivesMarket (market_step (the_view c.self.inside) c.args.port c.args.payload.now) out
-    (the_view (record { terms = c.self.inside.terms; table = c.apply.new.self; used = c.self.inside.used; order_ids = c.self.inside.order_ids; exec_ids = c.self.inside.exec_ids + n }))) (sym count) here)
-
-pub returns-in_ok-apply-in-Told-clause-issued : goal.returns-in_ok-apply-in-Told-clause-issued
-returns-in_ok-apply-in-Told-clause-issued c =
-    let told : IsTold (the_view c.self.inside) c.args.port c.args.payload.now c.in-Told.order_id c.in-Told.client c.in-Told.heard =
-    subst (λ (j : Judged). IsJudged (the_view c.self.inside) c.args.port c.args.payload.now j) c.in-Told.is (c.in_ok-hear.ensures (the_view c.self.inside) refl refl refl) in
-    let tokens : length c.apply.new.self.tokens ≡ length c.self.inside.table.tokens = ap (λ (h : Held). length h.tokens) (c.in_ok-apply-in-Told.ensures.changed told.order told.found) in
-    let few : c.report_count-reports.result ≤ length c.in-Told.heard.bodies.items = subst (λ (bs : List AppBody). c.report_count-reports.result ≤ length bs) c.deref.ensures.value c.report_count-reports.ensures.few in
-    let before : issued (the_view c.self.inside) ≡ issued c.args.self.now = ap issued c.self.view_is in
-    omega (arith, tokens, few, c.in-Told.heard.few, before)
+pub returns-clause-meets : goal.returns-clause-meets
+returns-clause-meets c =
+    let out : MarketOut = record { client = c.in_ok-turn.turn.client; bodies = c.in_ok-turn.turn.bodies } in
+    subst (λ (old : CoreState). MeetsHandled old c.args.port c.args.payload.now out c.match-turn.self) c.self.view_is
+    (elim c.match-turn.branch [
+      | in-Some w ↦ handled-as (the_view c.self.inside) c.match-turn.self c.args.port c.args.payload.now c.in_ok-turn.turn out c.market.new.self w.answer.new.self.messages
+          c.in_ok-turn.ensures.meets c.in_ok-turn.ensures.changed refl refl w.self-is
+          (w.answer.ensures ∙ ap (λ (x : Option ChangedOrder). left_after c.args.port c.args.payload.now x c.self.inside.asked.messages) (sym w.in-Some.is))
+      | in_default w ↦ handled-as (the_view c.self.inside) c.match-turn.self c.args.port c.args.payload.now c.in_ok-turn.turn out c.market.new.self c.self.inside.asked.messages
+          c.in_ok-turn.ensures.meets c.in_ok-turn.ensures.changed refl refl w.self-is
+          (ap (λ (x : Option ChangedOrder). left_after c.args.port c.args.payload.now x c.self.inside.asked.messages) (sym w.in_default.is))
+    ])

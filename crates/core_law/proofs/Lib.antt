@@ -1,0 +1,10 @@
+pub mod Other
+pub mod Telling
+pub mod Messages
+pub mod Parts
+pub mod Links
+pub mod Faults
+pub mod Targets
+pub mod Clients
+pub mod Counted
+pub mod Steps

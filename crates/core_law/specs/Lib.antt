@@ -1,0 +1,11 @@
+pub mod Settings
+pub mod Limits
+pub mod Events
+pub mod Sessions
+pub mod Lists
+pub mod Outcome
+pub mod After
+pub mod Due
+pub mod Promises
+pub mod Holds
+pub mod Clients

@@ -1,0 +1,136 @@
+-- What is promised of single events beside what they give: which messages go to the market, what a fault does, whom a batch names.
+use Rattle.std.specs.Prelude.{◌≡◌, ℕ, ◌==◌, Bool, true, false, not, ◌&&◌, List, [], Option, Some, None, is_some, option_map}
+use Rattle.ouch_codec.specs.FromMarket as heard
+use Rattle.soup_session.specs.declared.port_state.PortState.TheVariants.{Faulted}
+use Rattle.soup_session.specs.States.{is_up}
+use Rattle.soup_session.specs.Table as port
+use Rattle.session_law.specs.Runs.{Came}
+use Rattle.order_law.specs.Asks.{Standing}
+use Rattle.order_law.specs.History.{Terms, terms_of, Asked, Entry, accepted, outstanding, new_of}
+use Rattle.order_law.specs.History as orders
+use Rattle.order_law.specs.Lawful.{order_of_token}
+use Rattle.order_law.specs.Headline.{EachWith, Says, order_number}
+use Rattle.core_law.specs.Settings.{Settings, terms, port_of}
+use Rattle.core_law.specs.Events.{Event, ClientUp, ClientMessage, ClientGone, ClientTick, PortUp, PortPacket, PortGone, PortTick, Batch}
+use Rattle.core_law.specs.Lists.{Lists}
+use Rattle.core_law.specs.Sessions.{client_answer, port_answer, port_state}
+use Rattle.core_law.specs.Outcome.{messages, is_stepped}
+use Rattle.core_law.specs.After.{after}
+
+-- ---- asked once, and again only while unanswered
+
+-- how the client of an order stands, by the settings
+abbrev client_by : Option Entry → ℕ
+client_by None = 0
+client_by (Some new) = new.client
+
+abbrev pub standing_of : List Terms → List Entry → List ℕ → Standing
+standing_of ts entries order = (terms_of ts (client_by (new_of order entries))).standing
+
+-- A message says what was asked of the port, by its layout alone. (OUCH 4.2, "Inbound Messages".)
+abbrev pub SaysAgain : List Terms → orders.History → ℕ → Asked → List ℕ → Type 0
+SaysAgain ts turns p a m = Says (standing_of ts (accepted ts turns) a.order) (order_number ts p (accepted ts turns)) a m
+
+-- a client's session gives a message up to the order level
+abbrev pub is_given_up : Settings → Event → Lists → Bool
+is_given_up s (ClientUp client link at) v = false
+is_given_up s (ClientMessage client link at frame) v = is_some (client_answer s client (v.client_calls client) (at, Came frame)).app
+is_given_up s (ClientGone client link at) v = false
+is_given_up s (ClientTick client at) v = false
+is_given_up s (PortUp p link at) v = false
+is_given_up s (PortPacket p link at packet) v = false
+is_given_up s (PortGone p link at) v = false
+is_given_up s (PortTick p at) v = false
+
+-- a port comes up: it wasn't, and is after this packet (SoupBinTCP 3.00, "Login Accepted Packet")
+abbrev pub comes_up : Settings → Event → Lists → Bool
+comes_up s (ClientUp client link at) v = false
+comes_up s (ClientMessage client link at frame) v = false
+comes_up s (ClientGone client link at) v = false
+comes_up s (ClientTick client at) v = false
+comes_up s (PortUp p link at) v = false
+comes_up s (PortPacket p link at packet) v = not (is_up (port_state s p (v.port_calls p))) && is_up (port_answer s p (v.port_calls p) (port.Hears packet at)).after.state
+comes_up s (PortGone p link at) v = false
+comes_up s (PortTick p at) v = false
+
+-- a port that comes up
+abbrev pub port_in : Event → ℕ
+port_in (ClientUp client link at) = 0
+port_in (ClientMessage client link at frame) = 0
+port_in (ClientGone client link at) = 0
+port_in (ClientTick client at) = 0
+port_in (PortUp p link at) = p
+port_in (PortPacket p link at packet) = p
+port_in (PortGone p link at) = p
+port_in (PortTick p at) = p
+
+abbrev pub AsksOnlyThen : Bool → Batch → Type 0
+AsksOnlyThen true b = Unit {0}
+AsksOnlyThen false b = messages b ≡ []
+
+abbrev pub AsksAgain : Bool → Settings → ℕ → Bool → Batch → Lists → Type 0
+AsksAgain true s p asks b v = EachWith (SaysAgain (terms s) v.turns p) (outstanding (terms s) p v.turns) (messages b)
+AsksAgain false s p asks b v = AsksOnlyThen asks b
+
+-- The event by which a port comes up sends all that is outstanding on it, in order. One by which a client's message is given up
+-- sends what the order level's turn has. No other event sends anything.
+abbrev pub Asks : Settings → Event → Batch → Lists → Type 0
+Asks s e b v = AsksAgain (is_stepped s e v && comes_up s e v) s (port_in e) (is_stepped s e v && is_given_up s e v) b v
+
+-- ---- a fault closes its port alone
+
+-- The link is closed and the port faulted; no client is told anything, and no other session is called.
+pub record ClosesPort (s : Settings) (e : Event) (b : Batch) (v : Lists) (n : ℕ) (p : ℕ) : Type 0 where
+  pub port : b.port ≡ Some p
+  pub state : port_state s p ((after s e b v).port_calls p) ≡ Faulted n
+  pub link : (after s e b v).port_link p ≡ None
+  pub reports : b.reports ≡ []
+  pub client_out : b.client_out ≡ []
+  pub clients : (c : ℕ) → (after s e b v).client_calls c ≡ v.client_calls c
+  pub client_links : (c : ℕ) → (after s e b v).client_link c ≡ v.client_link c
+  pub ports : (q : ℕ) → (q == p) ≡ false → (after s e b v).port_calls q ≡ v.port_calls q
+  pub port_links : (q : ℕ) → (q == p) ≡ false → (after s e b v).port_link q ≡ v.port_link q
+
+abbrev pub ByFault : Settings → Event → Batch → Lists → Option ℕ → Type 0
+ByFault s e b v None = Unit {0}
+ByFault s e b v (Some n) = (p : ℕ) × ClosesPort s e b v n p
+
+abbrev pub Faults : Settings → Event → Batch → Lists → Type 0
+Faults s e b v = ByFault s e b v b.fault
+
+-- ---- targets: whom a batch may name at most
+
+-- a payload is for the client whose order its token leads to
+abbrev pub by_token : Settings → ℕ → Option (List ℕ) → Lists → Option ℕ
+by_token s p None v = None
+by_token s p (Some payload) v = option_map (λ (new : Entry). new.client) (order_of_token (terms s) p (accepted (terms s) v.turns) (heard.token payload))
+
+abbrev pub client_target : Settings → Event → Lists → Option ℕ
+client_target s (ClientUp client link at) v = Some client
+client_target s (ClientMessage client link at frame) v = Some client
+client_target s (ClientGone client link at) v = Some client
+client_target s (ClientTick client at) v = Some client
+client_target s (PortUp p link at) v = None
+client_target s (PortPacket p link at packet) v = by_token s p (port_answer s p (v.port_calls p) (port.Hears packet at)).payload v
+client_target s (PortGone p link at) v = None
+client_target s (PortTick p at) v = None
+
+-- a frame is for its client's port
+abbrev pub port_target : Settings → Event → Option ℕ
+port_target s (ClientUp client link at) = None
+port_target s (ClientMessage client link at frame) = Some (port_of s client)
+port_target s (ClientGone client link at) = None
+port_target s (ClientTick client at) = None
+port_target s (PortUp p link at) = Some p
+port_target s (PortPacket p link at packet) = Some p
+port_target s (PortGone p link at) = Some p
+port_target s (PortTick p at) = Some p
+
+abbrev pub IsAmong : Option ℕ → Option ℕ → Type 0
+IsAmong None target = Unit {0}
+IsAmong (Some n) target = target ≡ Some n
+
+-- the batch names nobody else
+pub record Targets (s : Settings) (e : Event) (b : Batch) (v : Lists) : Type 0 where
+  pub client : IsAmong b.client (client_target s e v)
+  pub port : IsAmong b.port (port_target s e)

@@ -1,0 +1,114 @@
+//! A client's line: its current link, and its session.
+
+ghost use Rattle.std.specs.Prelude.{◌≡◌, ℕ, List, [], ◌∷◌, Some, None, IfOk, OnOk, OnErr, true, false};
+ghost use Rattle.session_law.specs.Runs.{Timed, Linked, Came, Ticked};
+ghost use Rattle.core_law.specs.Settings.{Settings, client_name};
+ghost use Rattle.core_law.specs.Sessions.{client_answer, report_of};
+ghost use Rattle.core_lines.specs.Leaving.{ClientLeaves, IsClientAnswer, issue_call};
+
+use fix_fields::{Fields, Text};
+use fix_session::{Session, SessionTurn};
+use fix_types::AppBody;
+use std::alloc::{AllocError, Global};
+
+/// A client's current link, where it has one, and its session over all its links.
+#[derive(Debug, Drop)]
+pub struct ClientLine {
+    pub link: Option<u64>,
+    pub session: Session,
+}
+
+impl ClientLine {
+    /// A line with no link, of a session that has had no call.
+    pub fn new(alloc: Global, gate: Text, client: Text) -> ClientLine
+        ensures leaves { (s : Settings) (c : ℕ) → s.comp ≡ gate → client_name s c ≡ client → ClientLeaves s c [] result.session }
+        ensures link { result.link ≡ None }
+    {
+        ClientLine {
+            link: None,
+            session: Session::new(alloc, gate, client),
+        }
+    }
+
+    /// A link is current from now on.
+    pub fn comes(&mut self, alloc: Global, link: u64, at: u64)
+        ensures leaves { (s : Settings) (c : ℕ) (calls : List Timed) → ClientLeaves s c calls self.old.session
+            → ClientLeaves s c ((at, Linked true) ∷ calls) self.new.session }
+        ensures link { self.new.link ≡ Some link }
+    {
+        self.link = Some(link);
+        let _turn = self.session.on_link(alloc, true, at);
+    }
+
+    /// The current link is gone.
+    pub fn goes(&mut self, alloc: Global, at: u64)
+        ensures leaves { (s : Settings) (c : ℕ) (calls : List Timed) → ClientLeaves s c calls self.old.session
+            → ClientLeaves s c ((at, Linked false) ∷ calls) self.new.session }
+        ensures link { self.new.link ≡ None }
+    {
+        self.link = None;
+        let _turn = self.session.on_link(alloc, false, at);
+    }
+
+    /// The core closed the current link.
+    pub fn closes(&mut self)
+        ensures session { self.new.session ≡ self.old.session }
+        ensures link { self.new.link ≡ None }
+    {
+        self.link = None;
+    }
+
+    /// A frame on the current link.
+    pub fn hears(
+        &mut self,
+        alloc: Global,
+        frame: &Fields,
+        at: u64,
+    ) -> Result<SessionTurn, AllocError>
+        ensures leaves { OnOk result ((s : Settings) (c : ℕ) (calls : List Timed) → ClientLeaves s c calls self.old.session
+            → ClientLeaves s c ((at, Came frame.now) ∷ calls) self.new.session) }
+        ensures answers { IfOk result (λ turn. (s : Settings) (c : ℕ) (calls : List Timed) → ClientLeaves s c calls self.old.session
+            → IsClientAnswer s c (client_answer s c calls (at, Came frame.now)) turn) }
+        ensures link { self.new.link ≡ self.old.link }
+        ensures err { OnErr result (self.new ≡ self.old) }
+    {
+        self.session.on_message(alloc, frame, at)
+    }
+
+    /// Time passes.
+    pub fn ticks(&mut self, alloc: Global, at: u64) -> Result<SessionTurn, AllocError>
+        ensures leaves { OnOk result ((s : Settings) (c : ℕ) (calls : List Timed) → ClientLeaves s c calls self.old.session
+            → ClientLeaves s c ((at, Ticked) ∷ calls) self.new.session) }
+        ensures answers { IfOk result (λ turn. (s : Settings) (c : ℕ) (calls : List Timed) → ClientLeaves s c calls self.old.session
+            → IsClientAnswer s c (client_answer s c calls (at, Ticked)) turn) }
+        ensures link { self.new.link ≡ self.old.link }
+        ensures err { OnErr result (self.new ≡ self.old) }
+    {
+        self.session.on_tick(alloc, at)
+    }
+
+    /// A body is issued, written or not.
+    pub fn issues(
+        &mut self,
+        alloc: Global,
+        body: &AppBody,
+        at: u64,
+    ) -> Result<SessionTurn, AllocError>
+        ensures leaves { OnOk result ((s : Settings) (c : ℕ) (calls : List Timed) → ClientLeaves s c calls self.old.session
+            → ClientLeaves s c (issue_call at body.now ∷ calls) self.new.session) }
+        ensures answers { IfOk result (λ turn. (s : Settings) (c : ℕ) (calls : List Timed) → ClientLeaves s c calls self.old.session
+            → IsClientAnswer s c (client_answer s c calls (issue_call at body.now)) turn) }
+        ensures link { self.new.link ≡ self.old.link }
+        ensures err { OnErr result (self.new ≡ self.old) }
+    {
+        self.session.issue(alloc, body, at)
+    }
+
+    /// The fields from MsgType (35) on of the frame that `issues` makes of this body, written or not.
+    pub fn report(&self, alloc: Global, body: &AppBody, at: u64) -> Result<Fields, AllocError>
+        ensures { IfOk result (λ fields. (s : Settings) (c : ℕ) (calls : List Timed) → ClientLeaves s c calls self.now.session
+            → report_of s c calls (issue_call at body.now) ≡ fields ∷ []) }
+    {
+        self.session.issued_fields(alloc, body, at)
+    }
+}

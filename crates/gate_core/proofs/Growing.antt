@@ -1,0 +1,62 @@
+-- A step that changes the lines of ports alone, and leaves the next numbers.
+use Rattle.std.proofs.Common.{◌≡◌, ◌+◌, ◌≤◌, ℕ, length, refl, sym, ◌∙◌, subst, arith}
+use Rattle.core_lines.specs.Lines.{NextWithin}
+use Rattle.gate_core.specs.declared.gate.Gate.{Gate}
+use Rattle.gate_core.specs.Steps.{Grows}
+
+pub ports-grow : (old new : Gate) → length new.ports.items ≡ length old.ports.items → ((n : ℕ) → NextWithin n old.ports.items → NextWithin n new.ports.items)
+    → new.clients ≡ old.clients → new.client_ports ≡ old.client_ports → new.orders ≡ old.orders → Grows 0 0 old new
+ports-grow old new count next same_clients same_client_ports same_orders = record {
+  clients = rw same_clients refl;
+  ports = count;
+  client_ports = rw same_client_ports refl;
+  served = rw same_orders refl;
+  issued = rw same_orders (omega arith);
+  next = λ n within. (let same : n + 0 ≡ n = omega arith in subst (λ (k : ℕ). NextWithin k new.ports.items) (sym same) (next n within));
+}
+
+-- one step and then another
+pub grows-then : (a b c d : ℕ) (x y z : Gate) → Grows a b x y → Grows c d y z → Grows (a + c) (b + d) x z
+grows-then a b c d x y z first second = record {
+  clients = second.clients ∙ first.clients;
+  ports = second.ports ∙ first.ports;
+  client_ports = second.client_ports ∙ first.client_ports;
+  served = second.served ∙ first.served;
+  issued = omega (arith, first.issued, second.issued);
+  next = λ n within. (let same : (n + b) + d ≡ n + (b + d) = omega arith in subst (λ (k : ℕ). NextWithin k z.ports.items) same (second.next (n + b) (first.next n within)));
+}
+
+-- lines of both sides that keep the next numbers
+pub lines-grow : (old new : Gate) → length new.clients.items ≡ length old.clients.items → length new.ports.items ≡ length old.ports.items
+    → ((n : ℕ) → NextWithin n old.ports.items → NextWithin n new.ports.items)
+    → new.client_ports ≡ old.client_ports → new.orders ≡ old.orders → Grows 0 0 old new
+lines-grow old new clients ports next same_client_ports same_orders = record {
+  clients = clients;
+  ports = ports;
+  client_ports = rw same_client_ports refl;
+  served = rw same_orders refl;
+  issued = rw same_orders (omega arith);
+  next = λ n within. (let same : n + 0 ≡ n = omega arith in subst (λ (k : ℕ). NextWithin k new.ports.items) (sym same) (next n within));
+}
+
+-- what gives few numbers gives no more than many
+pub grows-within : (few many packets : ℕ) (old new : Gate) → few ≤ many → Grows few packets old new → Grows many packets old new
+grows-within few many packets old new most grows = record {
+  clients = grows.clients;
+  ports = grows.ports;
+  client_ports = grows.client_ports;
+  served = grows.served;
+  issued = omega (arith, grows.issued, most);
+  next = grows.next;
+}
+
+-- no event gives more numbers than three, or brings more than one packet
+pub grows-most : (numbers packets : ℕ) (old new : Gate) → numbers ≤ 3 → packets ≤ 1 → Grows numbers packets old new → Grows 3 1 old new
+grows-most numbers packets old new few one grows = record {
+  clients = grows.clients;
+  ports = grows.ports;
+  client_ports = grows.client_ports;
+  served = grows.served;
+  issued = omega (arith, grows.issued, few);
+  next = λ n within i line at. omega (arith, grows.next n within i line at, one);
+}

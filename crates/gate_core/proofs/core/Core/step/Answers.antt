@@ -1,0 +1,44 @@
+use Rattle.std.proofs.Common.{◌+◌, refl, sym, ap, ◌∙◌, subst}
+use Rattle.std.proofs.lemmas.Result.{IfOk-weaker}
+use Rattle.gate_core.specs.Core.{CoreState, IsAfter}
+use Rattle.gate_core.specs.Seen.{batch_seen, event_seen}
+use Rattle.gate_core.proofs.Stepping.{next-step, numbers-still, past-step, shaped-still, still-few}
+use Rattle.gate_core.proofs.core.Core.step.Goals as goal
+
+pub returns-then-self-eq-MOST_EVENTS-clause-after :
+    goal.returns-then-self-eq-MOST_EVENTS-clause-after
+returns-then-self-eq-MOST_EVENTS-clause-after c s before is =
+    (past-step s before c.args.self.now (event_seen c.args.event.now) (batch_seen c.empty.result) c.steps_keep_the_promises.ensures.past
+    (ap (λ (x : CoreState). x.events) (sym c.self.view_is) ∙ c.if-self-eq-MOST_EVENTS.true) c.empty.ensures is).0
+
+pub returns-then-self-eq-MOST_EVENTS-clause-holds : goal.returns-then-self-eq-MOST_EVENTS-clause-holds
+returns-then-self-eq-MOST_EVENTS-clause-holds c s before is =
+    (past-step s before c.args.self.now (event_seen c.args.event.now) (batch_seen c.empty.result) c.steps_keep_the_promises.ensures.past
+    (ap (λ (x : CoreState). x.events) (sym c.self.view_is) ∙ c.if-self-eq-MOST_EVENTS.true) c.empty.ensures is).1
+
+pub invariant_of-self : goal.invariant_of-self
+invariant_of-self c = record {
+  few = still-few c.self.inside.events c.self.invariant.few c.if-self-eq-MOST_EVENTS.false;
+  shaped = shaped-still 3 1 _ _ c.event.ensures.grows c.self.invariant.shaped;
+  numbers = numbers-still c.self.inside.events _ _ c.event.ensures.grows c.self.invariant.numbers;
+}
+
+pub returns-clause-after : goal.returns-clause-after
+returns-clause-after c =
+    IfOk-weaker c.event.result _ _
+    (λ b step s before is.
+    let old : CoreState = record { gate = c.self.inside.gate; events = c.self.inside.events } in
+    (next-step s before old (record { gate = c.event.new.self; events = c.self.inside.events + 1 }) (event_seen c.args.event.now) (batch_seen b)
+    c.steps_keep_the_promises.ensures.step c.links_are_current_while_sessions_are_open.ensures c.turns_are_no_more_than_events.ensures
+    c.if-self-eq-MOST_EVENTS.false (subst (λ (x : CoreState). IsAfter s before x) (sym c.self.view_is) is) (step s) refl).0)
+    c.event.ensures.step
+
+pub returns-clause-holds : goal.returns-clause-holds
+returns-clause-holds c =
+    IfOk-weaker c.event.result _ _
+    (λ b step s before is.
+    let old : CoreState = record { gate = c.self.inside.gate; events = c.self.inside.events } in
+    (next-step s before old (record { gate = c.event.new.self; events = c.self.inside.events + 1 }) (event_seen c.args.event.now) (batch_seen b)
+    c.steps_keep_the_promises.ensures.step c.links_are_current_while_sessions_are_open.ensures c.turns_are_no_more_than_events.ensures
+    c.if-self-eq-MOST_EVENTS.false (subst (λ (x : CoreState). IsAfter s before x) (sym c.self.view_is) is) (step s) refl).1)
+    c.event.ensures.step

@@ -1,0 +1,50 @@
+-- What callers see of the core.
+use Rattle.std.specs.Prelude.{◌≡◌, ℕ, ◌≤◌, List, [], ◌∷◌, length, if◌then◌else◌}
+use Rattle.core_law.specs.Settings.{Settings}
+use Rattle.core_law.specs.Events as law
+use Rattle.core_law.specs.Events.{History}
+use Rattle.core_law.specs.After.{is_within, lists, most_events}
+use Rattle.core_law.specs.Holds.{Holds}
+use Rattle.gate_core.specs.declared.event.Event.{Event}
+use Rattle.gate_core.specs.declared.batch.Batch.{Batch}
+use Rattle.gate_core.specs.declared.gate.Gate.{Gate}
+use Rattle.gate_core.specs.Seen.{batch_seen, event_seen}
+use Rattle.gate_core.specs.State.{HasNumbers, IsShaped, Parts}
+
+-- its parts, and how many events were stepped
+pub record CoreState : Type 0 where
+  pub gate : Gate
+  pub events : ℕ
+
+-- it has what every step needs, whatever came before
+pub record IsSound (c : CoreState) : Type 0 where
+  pub few : c.events ≤ most_events
+  pub shaped : IsShaped c.gate
+  pub numbers : HasNumbers c.events c.gate
+
+-- so many events of a history are stepped
+abbrev pub stepped : History → ℕ
+stepped h = if is_within h then length h else most_events
+
+-- The core is as these turns, the newest first, leave it: all that is promised holds of them, its parts are what they leave, and it has
+-- counted the events that were stepped.
+pub record After (s : Settings) (h : History) (c : CoreState) : Type 0 where
+  pub holds : Holds s h
+  pub parts : Parts s (lists s h) c.gate
+  pub count : c.events ≡ stepped h
+
+unfoldable pub IsAfter : Settings → History → CoreState → Type 0
+IsAfter s h c = After s h c
+
+-- an event with its batch
+abbrev pub turn_of : Event → Batch → law.Turn
+turn_of e b = record { event = event_seen e; batch = batch_seen b }
+
+-- events with their batches, the newest first, after the turns before
+abbrev pub onto : List Event → List Batch → History → History
+onto [] batches before = before
+onto (e ∷ events) [] before = before
+onto (e ∷ events) (b ∷ batches) before = onto events batches (turn_of e b ∷ before)
+
+abbrev pub history : List Event → List Batch → History
+history events batches = onto events batches []

@@ -1,0 +1,76 @@
+//! The value, and the call that steps it.
+
+ghost use Rattle.std.specs.Prelude.{[], ◌∷◌, IfOk};
+
+use crate::batch::Batch;
+use crate::event::Event;
+use crate::gate::Gate;
+use core_law::{
+    links_are_current_while_sessions_are_open, steps_keep_the_promises,
+    turns_are_no_more_than_events,
+};
+use core_settings::Settings;
+use std::alloc::{AllocError, Global};
+use std::marker::Model;
+
+/// The most events that are stepped: any that comes later gives an empty batch and changes nothing.
+const MOST_EVENTS: u64 = 1 << 48;
+
+/// Sessions of clients, orders and sessions of ports, stepped by events on one thread.
+///
+/// It reads no clock and no link: moments come with the events, and what links are told stands in their batches.
+#[derive(Debug, Drop)]
+pub struct Core {
+    gate: Gate,
+    /// How many events were stepped.
+    events: u64,
+}
+
+impl Model for Core {
+    ghost use Rattle.gate_core.specs.Core.{CoreState, IsSound};
+
+    ghost Value = { CoreState };
+
+    ghost view = { λ c. record { gate = c.gate; events = c.events } };
+
+    ghost invariant = { λ c. IsSound (record { gate = c.gate; events = c.events }) };
+}
+
+impl Core {
+    ghost use Rattle.core_law.specs.Settings as law;
+    ghost use Rattle.core_law.specs.Events.{History};
+    ghost use Rattle.core_law.specs.Holds.{Holds};
+    ghost use Rattle.gate_core.specs.Core.{IsAfter, turn_of};
+
+    /// The core of these settings before the first event.
+    pub fn new(alloc: Global, settings: &Settings) -> Result<Core, AllocError>
+        ensures after { IfOk result (λ core. IsAfter settings.now [] core) }
+    {
+        steps_keep_the_promises();
+        Ok(Core {
+            gate: Gate::new(alloc, settings)?,
+            events: 0,
+        })
+    }
+
+    /// Steps an event, and gives its batch.
+    ///
+    /// An event of a client or port that the settings don't have, or of a link that isn't the current one, gives an empty batch
+    /// and changes nothing; so does any event past the first 2^48. After an `AllocError` the core isn't to be used again: a part
+    /// of what the event brings may have been done.
+    ///
+    /// Source: FIX 4.4 Volumes 2 and 4; OUCH 4.2; SoupBinTCP 3.00.
+    pub fn step(&mut self, alloc: Global, event: &Event) -> Result<Batch, AllocError>
+        ensures after { IfOk result (λ batch. (s : law.Settings) (before : History) → IsAfter s before self.old → IsAfter s (turn_of event.now batch ∷ before) self.new) }
+        ensures holds { IfOk result (λ batch. (s : law.Settings) (before : History) → IsAfter s before self.old → Holds s (turn_of event.now batch ∷ before)) }
+    {
+        steps_keep_the_promises();
+        links_are_current_while_sessions_are_open();
+        turns_are_no_more_than_events();
+        if self.events == MOST_EVENTS {
+            return Ok(Batch::empty(alloc));
+        }
+        self.events += 1;
+        self.gate.event(alloc, event)
+    }
+}

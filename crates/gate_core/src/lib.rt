@@ -1,0 +1,18 @@
+//! The gateway's core on one thread: sessions of clients, the order level and sessions of ports as one value that is stepped by
+//! events, each of which gives a batch.
+//!
+//! Source: FIX 4.4 Volumes 2 and 4; OUCH 4.2; SoupBinTCP 3.00.
+#![tactic(auto)]
+
+mod batch;
+mod core;
+mod event;
+mod gate;
+mod link_outs;
+mod links;
+mod runs;
+
+pub use batch::{Batch, LinkOut};
+pub use core::Core;
+pub use event::Event;
+pub use runs::run_all;

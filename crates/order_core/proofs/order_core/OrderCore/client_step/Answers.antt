@@ -1,0 +1,25 @@
+use Rattle.std.proofs.Common.{refl, subst, ◌∙◌, decimal}
+use Rattle.order_law.specs.History.{terms_of}
+use Rattle.to_market.specs.PortsSeen.{port_seen}
+use Rattle.order_core.specs.contracts.order_core.OrderCore.{the_view}
+use Rattle.order_core.specs.declared.outcome.CoreOut.{CoreOut}
+use Rattle.order_core.specs.Meets.{MeetsClient}
+use Rattle.order_core.specs.State.{CoreState}
+use Rattle.order_core.proofs.Turns.{kept-as}
+use Rattle.order_core.proofs.order_core.OrderCore.client_step.Goals as goal
+
+pub returns-clause-meets : goal.returns-clause-meets
+returns-clause-meets c =
+    let out : CoreOut = record { bodies = c.in_ok-turn.turn.bodies; sends = c.sent_now.result } in
+    subst (λ (old : CoreState). MeetsClient old c.args.client c.args.message.now (port_seen c.args.port) out
+    (the_view (record { ledger = c.client.new.self; asked = c.push_reserved.new.self }))) c.self.view_is
+    (record {
+      turn = c.in_ok-turn.turn;
+      gives = c.in_ok-turn.ensures.meets;
+      bodies = refl;
+      sends = c.sent_now.ensures;
+      kept = c.push_reserved.ensures
+          ∙ kept-as c.reserve.new.self.messages c.self.inside.asked.messages c.port_of-its_port.result (terms_of c.self.inside.ledger.terms c.args.client).port
+          (decimal c.in_ok-turn.turn.order_id) c.deref.result.now c.in_ok-turn.turn.asks.items
+          c.in_ok-reserve.ensures.same c.port_of-its_port.ensures c.deref.ensures.value;
+    })

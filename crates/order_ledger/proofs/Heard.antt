@@ -1,0 +1,89 @@
+-- What a payload comes to, and what is given of it.
+use Rattle.std.proofs.Common.{◌≡◌, ℕ, ◌+◌, ◌≤◌, Bool, true, false, List, [], ◌∷◌, length, map, refl, sym, ap, ◌∙◌, subst, arith, Option, Some, None, decimal}
+use Rattle.std.specs.Prelude.{if◌then◌else◌}
+use Rattle.fix_types.specs.declared.application.AppBody.{AppBody}
+use Rattle.std.specs.List.{count_by, find}
+use Rattle.order_law.specs.History.{Entry}
+use Rattle.order_law.specs.Life.{is_closed}
+use Rattle.order_law.specs.Reading.{is_report}
+use Rattle.order_law.specs.Told.{to_client_of}
+use Rattle.order_histories.specs.OrderRecord.{OrderRecord}
+use Rattle.order_histories.specs.Table.{State, by_number, has_number, put}
+use Rattle.order_histories.specs.Machine.{Given, market_step, silent}
+use Rattle.order_histories.proofs.Executed.{count-more}
+use Rattle.order_histories.proofs.Lists.{found-passes}
+use Rattle.order_histories.proofs.Placed.{number-put_own}
+use Rattle.order_histories.proofs.Texts.{eq-is}
+use Rattle.orders.specs.Changes.{changed_by}
+use Rattle.order_table.specs.Held.{Held, with_number}
+use Rattle.order_table.proofs.Counted.{change-new}
+use Rattle.to_client.specs.Pending.{body_fields}
+use Rattle.market_rows.specs.declared.heard.Heard.{Heard}
+use Rattle.market_turns.specs.Turns.{IsTold}
+use Rattle.order_ledger.specs.declared.turns.ChangedOrder.{ChangedOrder}
+use Rattle.order_ledger.specs.declared.turns.MarketTurn.{MarketTurn}
+use Rattle.order_ledger.specs.Meets.{ChangesAny, ChangesOrder, GivesMarket}
+use Rattle.order_ledger.specs.Seen.{client_seen, tells_report}
+
+-- where nothing comes of it
+pub silent-meets : (old : State) (port : ℕ) (m : List ℕ) (turn : MarketTurn) → turn.client ≡ None → turn.bodies.items ≡ [] → market_step old port m ≡ silent old → GivesMarket (market_step old port m) turn old
+silent-meets old port m turn nobody nothing is = record {
+  state = ap (λ (g : Given). g.state) (sym is);
+  client = ap client_seen nobody ∙ ap (λ (g : Given). g.client) (sym is);
+  bodies = ap (map body_fields) nothing ∙ ap (λ (g : Given). g.bodies) (sym is);
+  fault = ap (λ (g : Given). g.fault) is;
+}
+
+pub silent-changes : (old : State) (port : ℕ) (m : List ℕ) (changed : Option ChangedOrder) → changed ≡ None → market_step old port m ≡ silent old → ChangesAny old port m changed
+silent-changes old port m changed nothing is = subst (λ (x : Option ChangedOrder). ChangesAny old port m x) (sym nothing) (ap (λ (g : Given). g.state) is)
+
+-- where an order is changed, and its client told
+module _ (old : State) (port : ℕ) (m : List ℕ) (order_id client : ℕ) (h : Heard) (turn : MarketTurn) (told : IsTold old port m order_id client h) (held : Held) where
+  pub told-meets : ((o : OrderRecord) → by_number old (decimal order_id) ≡ Some o → held ≡ record { orders = put (changed_by h.change o) old.orders; tokens = old.tokens })
+      → client_seen turn.client ≡ (to_client_of told.order.new (map body_fields h.bodies.items)).client → turn.bodies.items ≡ h.bodies.items
+      → GivesMarket (market_step old port m) turn (record old { orders = held.orders; tokens = held.tokens; exec_ids = old.exec_ids + count_by is_report (map body_fields h.bodies.items) })
+  told-meets changed of_client same = record {
+    state =
+        ap (λ (x : Held). record old { orders = x.orders; tokens = x.tokens; exec_ids = old.exec_ids + count_by is_report (map body_fields h.bodies.items) }) (changed told.order told.found)
+        ∙ ap (λ (g : Given). g.state) (sym told.gives);
+    client = of_client ∙ ap (λ (g : Given). g.client) (sym told.gives);
+    bodies = ap (map body_fields) same ∙ ap (λ (g : Given). g.bodies) (sym told.gives);
+    fault = ap (λ (g : Given). g.fault) told.gives;
+  }
+
+  -- and it is the one that is changed
+  pub told-changes : (closed : Bool)
+      → ((o : OrderRecord) → by_number old (decimal order_id) ≡ Some o → held ≡ record { orders = put (changed_by h.change o) old.orders; tokens = old.tokens })
+      → ((o : OrderRecord) → with_number held order_id ≡ Some o → closed ≡ is_closed o.stage)
+      → ChangesOrder old port m (record { order_id = order_id; is_closed = closed })
+  told-changes closed changed closes =
+      let now = changed_by h.change told.order in
+      let same : now.new ≡ told.order.new = change-new h.change told.order in
+      let of_order : told.order.new.order ≡ decimal order_id = eq-is told.order.new.order (decimal order_id) (found-passes (has_number (decimal order_id)) old.orders told.order told.found) in
+      let number : now.new.order ≡ decimal order_id = ap (λ (e : Entry). e.order) same ∙ of_order in
+      let was : find (has_number now.new.order) old.orders ≡ Some told.order = ap (λ (k : List ℕ). find (has_number k) old.orders) number ∙ told.found in
+      let here : with_number held order_id ≡ Some now =
+      ap (λ (x : Held). with_number x order_id) (changed told.order told.found)
+      ∙ ap (λ (k : List ℕ). find (has_number k) (put now old.orders)) (sym number)
+      ∙ number-put_own now old.orders told.order was in
+      record {
+        order = told.order;
+        now = now;
+        found = told.of_token;
+        same = same;
+        of_order = number;
+        closed = sym (closes now here);
+        orders = ap (λ (g : Given). g.state.orders) told.gives;
+      }
+
+pub same_order : (o p : OrderRecord) → ◌≡◌ {A = Option OrderRecord} (Some o) (Some p) → o ≡ p
+same_order o p e = cc
+
+-- the reports among bodies are those among their fields
+pub reports-same : (bs : List AppBody) → count_by tells_report bs ≡ count_by is_report (map body_fields bs)
+unfolding tells_report
+reports-same [] = refl
+reports-same (b ∷ bs) =
+    count-more tells_report b bs
+    ∙ ap (λ (n : ℕ). (if is_report (body_fields b) then 1 else 0) + n) (reports-same bs)
+    ∙ sym (count-more is_report (body_fields b) (map body_fields bs))

@@ -1,0 +1,124 @@
+//! The value, and how a client's message steps it.
+
+mod heard;
+mod new_order;
+mod requests;
+
+ghost use Rattle.std.specs.Prelude.{◌≡◌, ◌≤◌, ◌<◌, ◌+◌, length, map, slice_get, Some, IfOk, OnErr};
+ghost use Rattle.order_law.specs.History.{terms_of};
+ghost use Rattle.to_market.specs.TermsSeen.{terms_seen};
+
+use crate::turns::ClientTurn;
+use crate::used_ids::UsedId;
+use fix_types::AppMsg;
+use order_table::Table;
+use std::alloc::{AllocError, Global};
+use std::marker::Model;
+use to_market::{ClientTerms, PortState};
+
+/// The orders of all clients, the ClOrdIDs that they used, and the numbers that were given.
+///
+/// Clients are numbered from 1, in the order of their terms. OrderIDs, ExecIDs and token numbers each count from 1.
+#[derive(Debug, Drop)]
+pub struct OrderLedger {
+    terms: Vec<ClientTerms>,
+    table: Table,
+    used: Vec<UsedId>,
+    /// How many new orders came: the last OrderID given.
+    order_ids: u64,
+    /// How many reports were issued: the last ExecID given.
+    exec_ids: u64,
+}
+
+impl Model for OrderLedger {
+    ghost use Rattle.std.specs.Prelude.{map};
+    ghost use Rattle.order_histories.specs.Table as record_of;
+    ghost use Rattle.to_market.specs.TermsSeen.{terms_seen};
+
+    ghost Value = { record_of.State };
+
+    ghost view = { λ c. record {
+      terms = map terms_seen c.terms.items;
+      orders = c.table.orders;
+      tokens = c.table.tokens;
+      used = c.used.items;
+      order_ids = c.order_ids;
+      exec_ids = c.exec_ids;
+    } };
+}
+
+impl OrderLedger {
+    ghost use Rattle.order_law.specs.History.{terms_of};
+    ghost use Rattle.order_histories.specs.Table.{empty};
+    ghost use Rattle.to_market.specs.PortsSeen.{port_seen};
+    ghost use Rattle.to_market.specs.TermsSeen.{terms_seen};
+    ghost use Rattle.order_ledger.specs.Meets.{MeetsMessage};
+    ghost use Rattle.order_ledger.specs.State.{clients, IsClient, issued, HasRoom};
+
+    /// The ledger of these clients, with no orders.
+    pub fn new(alloc: Global, terms: &[ClientTerms]) -> Result<OrderLedger, AllocError>
+        ensures { IfOk result (λ ledger. ledger ≡ empty (map terms_seen terms.now)) }
+    {
+        Ok(OrderLedger {
+            terms: Vec::from_slice(alloc, terms)?,
+            table: Table::new(alloc),
+            used: Vec::new(alloc),
+            order_ids: 0,
+            exec_ids: 0,
+        })
+    }
+
+    /// The number of a client's port, from 1.
+    pub fn port_of(&self, client: u16) -> u16
+        requires { IsClient self.now client }
+        ensures { result ≡ (terms_of self.now.terms client).port }
+    {
+        terms_at(&self.terms, client).port
+    }
+
+    /// Steps an application message of a client, whose port stands as given. The client is one of the terms'.
+    ///
+    /// A new order, a cancel or a replace is accepted, with a report and the messages that ask it of the market, be the port
+    /// up or not; or it is refused by the first row of its table that holds, in one report or reject. `AllocError` leaves
+    /// the ledger as it was.
+    ///
+    /// Source: FIX 4.4 Volume 4, "New Order - Single", "Order Cancel Request", "Order Cancel/Replace Request".
+    pub fn client(
+        &mut self,
+        alloc: Global,
+        client: u16,
+        message: &AppMsg,
+        port: PortState,
+    ) -> Result<ClientTurn, AllocError>
+        requires client { IsClient self.old client }
+        requires room { HasRoom self.old }
+        ensures meets { IfOk result (λ turn. MeetsMessage self.old client message.now (port_seen port) turn self.new) }
+        ensures few { IfOk result (λ turn. length turn.asks.items ≤ 2) }
+        ensures clients { clients self.new ≡ clients self.old }
+        ensures issued { issued self.new ≤ issued self.old + 3 }
+        ensures err { OnErr result (self.new ≡ self.old) }
+    {
+        match message {
+            AppMsg::New(order) => self.new_order(alloc, client, order, port),
+            AppMsg::Cancel(request) => self.cancel(alloc, client, request, port),
+            AppMsg::Replace(request) => self.replace(alloc, client, request, port),
+        }
+    }
+}
+
+/// The terms of a client.
+fn terms_at(terms: &[ClientTerms], client: u16) -> ClientTerms
+    requires from_one { 1 ≤ client }
+    requires known { client ≤ length terms.now }
+    ensures { terms_of (map terms_seen terms.now) client ≡ terms_seen result }
+{
+    terms_in(terms, client as usize - 1)
+}
+
+/// The terms at a place.
+fn terms_in(terms: &[ClientTerms], place: usize) -> ClientTerms
+    requires { place < length terms.now }
+    ensures { slice_get terms.now place ≡ Some result }
+{
+    terms[place]
+}

@@ -1,0 +1,100 @@
+//! What a payload of the market changes.
+
+ghost use Rattle.std.specs.Prelude.{◌≡◌, ◌≤◌, ◌+◌, ◌<◌, ◌^◌, ◌∷◌, [], List, length, map, IfOk, OnErr};
+ghost use Rattle.std.specs.List.{count_by};
+ghost use Rattle.order_law.specs.History.{Entry};
+ghost use Rattle.order_law.specs.Told.{to_client_of};
+ghost use Rattle.to_client.specs.Pending.{body_fields};
+ghost use Rattle.order_ledger.specs.Seen.{client_seen, tells_report};
+
+use super::OrderLedger;
+use crate::market_error::MarketError;
+use crate::turns::{ChangedOrder, MarketTurn};
+use fix_types::AppBody;
+use market_turns::{Judged, hear};
+use std::alloc::Global;
+
+impl OrderLedger {
+    ghost use Rattle.order_histories.specs.Machine.{market_step};
+    ghost use Rattle.order_ledger.specs.State.{clients, issued, HasRoom};
+    ghost use Rattle.order_ledger.specs.Meets.{ChangesAny, MeetsMarket};
+
+    /// Steps a payload that a market port's session gave.
+    ///
+    /// What the market says of an order changes it and is told to its client, in order. Any fault leaves the ledger as it
+    /// was. The faults, the first that holds: `OutsideProfile` (a type that isn't known), `Undecodable` (another length
+    /// than its type's, a field outside its set, or no byte at all), `UnknownToken` (no order of this port has it),
+    /// `NotLawful` (it doesn't fit how the order stands).
+    ///
+    /// Source: OUCH 4.2, "Outbound Messages".
+    pub fn market(
+        &mut self,
+        alloc: Global,
+        port: u16,
+        payload: &[u8],
+    ) -> Result<MarketTurn, MarketError>
+        requires room { HasRoom self.old }
+        ensures meets { MeetsMarket self.old (market_step self.old port payload.now) result self.new }
+        ensures changed { IfOk result (λ turn. ChangesAny self.old port payload.now turn.changed) }
+        ensures clients { clients self.new ≡ clients self.old }
+        ensures issued { issued self.new ≤ issued self.old + 3 }
+        ensures err { OnErr result (self.new ≡ self.old) }
+    {
+        match hear(alloc, self.exec_ids, &self.table, port, payload)? {
+            Judged::Silent => Ok(MarketTurn::nothing(alloc)),
+            Judged::Faulty(fault) => Err(MarketError::Faulty(fault)),
+            Judged::Told {
+                order_id,
+                client,
+                heard,
+            } => {
+                let reports = report_count(&heard.bodies);
+                let client = told_client(client, &heard.bodies);
+                self.table.apply(order_id, heard.change)?;
+                self.exec_ids += reports as u64;
+                let is_closed = self.table.is_closed(order_id);
+                Ok(MarketTurn {
+                    client,
+                    bodies: heard.bodies,
+                    changed: Some(ChangedOrder {
+                        order_id,
+                        is_closed,
+                    }),
+                })
+            }
+        }
+    }
+}
+
+/// Whom bodies of an order's client are for: nobody, where there are none.
+fn told_client(client: u16, bodies: &[AppBody]) -> Option<u16>
+    ensures { (new : Entry) → new.client ≡ client → client_seen result ≡ (to_client_of new (map body_fields bodies.now)).client }
+{
+    if bodies.is_empty() {
+        return None;
+    }
+    Some(client)
+}
+
+/// How many of these bodies are reports, which have ExecIDs.
+fn report_count(bodies: &[AppBody]) -> usize
+    ensures count { result ≡ count_by tells_report bodies.now }
+    ensures few { result ≤ length bodies.now }
+{
+    let [body, rest @ ..] = bodies else {
+        return 0;
+    };
+    let behind = report_count(rest);
+    if is_report(body) { 1 + behind } else { behind }
+}
+
+/// Whether a body is a report.
+#[tactic(auto, unfolding(crate::specs::Seen::tells_report))]
+fn is_report(body: &AppBody) -> bool
+    ensures { result ≡ tells_report body.now }
+{
+    match body {
+        AppBody::Report(_) => true,
+        AppBody::CancelReject(_) => false,
+    }
+}
