@@ -5,14 +5,14 @@
 #![tactic(auto)]
 
 mod batch;
-mod core;
 mod event;
 mod gate;
 mod link_outs;
 mod links;
 mod runs;
+mod whole;
 
 pub use batch::{Batch, LinkOut};
-pub use core::Core;
 pub use event::Event;
 pub use runs::run_all;
+pub use whole::Core;

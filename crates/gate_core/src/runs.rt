@@ -5,8 +5,8 @@ ghost use Rattle.core_law.specs.Holds.{Holds};
 ghost use Rattle.gate_core.specs.Core.{history};
 
 use crate::batch::Batch;
-use crate::core::Core;
 use crate::event::Event;
+use crate::whole::Core;
 use core_settings::Settings;
 use std::alloc::{AllocError, Global};
 
