@@ -15,6 +15,10 @@ abbrev is_one_of : List (List ℕ) → List ℕ → Bool
 is_one_of [] text = false
 is_one_of (word ∷ words) text = bytes_eq text word || is_one_of words text
 
+-- anything
+abbrev any : Form
+any text = true
+
 -- ---- a client's lines, behind its name
 
 -- the first of some fields is MsgType
@@ -30,7 +34,7 @@ is_message text = are_message (fields_of (with_soh text))
 abbrev client_rows : List (List ℕ × Form)
 client_rows =
     (codes "msg ", is_message)
-    ∷ (codes "raw ", λ text. true)
+    ∷ (codes "raw ", any)
     ∷ []
 
 -- what comes on its link
@@ -58,16 +62,32 @@ is_port_line text = is_one_of (codes "up" ∷ codes "gone" ∷ codes "tick" ∷ 
 
 -- ---- all lines
 
-abbrev line_rows : List (List ℕ × Form)
-line_rows =
-    (codes "at ", is_number64)
-    ∷ (codes "C1 ", is_client_line)
-    ∷ (codes "C2 ", is_client_line)
-    ∷ (codes "C3 ", is_client_line)
-    ∷ (codes "P1 ", is_port_line)
-    ∷ (codes "P2 ", is_port_line)
+-- a client's name, and what is asked of what stands behind it; a port's name in the same way
+abbrev by_name : Form → Form → List (List ℕ × Form)
+by_name client port =
+    (codes "C1 ", client)
+    ∷ (codes "C2 ", client)
+    ∷ (codes "C3 ", client)
+    ∷ (codes "P1 ", port)
+    ∷ (codes "P2 ", port)
     ∷ []
+
+abbrev line_rows : List (List ℕ × Form)
+line_rows = (codes "at ", is_number64) ∷ by_name is_client_line is_port_line
 
 -- a line: nothing, or by the rows
 abbrev pub is_understood : List ℕ → Bool
 is_understood text = if length text == 0 then true else begins_row line_rows text
+
+-- ---- lines whose event holds fields or bytes, for which memory is taken
+
+-- of a client: `msg` and `raw`
+abbrev pub client_takes_memory : List ℕ → Bool
+client_takes_memory text = begins_row ((codes "msg ", any) ∷ (codes "raw ", any) ∷ []) text
+
+-- of a port: `pkt`
+abbrev pub port_takes_memory : List ℕ → Bool
+port_takes_memory text = begins_row ((codes "pkt ", any) ∷ []) text
+
+abbrev pub takes_memory : List ℕ → Bool
+takes_memory text = begins_row (by_name client_takes_memory port_takes_memory) text

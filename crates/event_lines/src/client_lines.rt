@@ -7,11 +7,11 @@
 //! | `msg 35=..\|..` | a frame of these fields; `\|` stands for SOH, the last one is left out |
 //! | `raw ..` | these bytes come on the link; `\|` stands for SOH |
 
-ghost use Rattle.std.specs.Prelude.{◌≡◌, ◌++◌, ◌∷◌, [], IfOk};
+ghost use Rattle.std.specs.Prelude.{◌≡◌, ◌++◌, ◌∷◌, [], IfOk, IsErrOf, true};
 ghost use Rattle.script_lines.specs.Lines.{IsReadWhere};
 ghost use Rattle.script_lines.specs.Message.{with_soh};
 ghost use Rattle.event_lines.specs.Lines as spec;
-ghost use Rattle.event_lines.specs.Understood.{is_client_line, is_client_input, is_message};
+ghost use Rattle.event_lines.specs.Understood.{is_client_line, is_client_input, client_takes_memory, is_message};
 
 use crate::line::Line;
 use fix_fields::{Fields, SOH};
@@ -28,6 +28,7 @@ const MSG_TYPE: u32 = 35;
 pub fn client_line(alloc: Global, client: Client, rest: &[u8]) -> Result<Line, LineFault>
     ensures said { IfOk result (spec.SaysClient client rest.now) }
     ensures understood { IsReadWhere (is_client_line rest.now) result }
+    ensures memory { IsErrOf result LineFault.NoMemory → client_takes_memory rest.now ≡ true }
 {
     if rest == b"up".as_slice() {
         return Ok(Line::ClientUp(client));
@@ -45,6 +46,7 @@ pub fn client_line(alloc: Global, client: Client, rest: &[u8]) -> Result<Line, L
 fn client_input(alloc: Global, client: Client, rest: &[u8]) -> Result<Line, LineFault>
     ensures said { IfOk result (spec.SaysClient client rest.now) }
     ensures understood { IsReadWhere (is_client_input rest.now) result }
+    ensures memory { IsErrOf result LineFault.NoMemory → client_takes_memory rest.now ≡ true }
 {
     if let Some(text) = rest.strip_prefix(b"msg ") {
         return Ok(Line::ClientMessage(client, message_fields(alloc, text)?));

@@ -9,11 +9,11 @@
 //!
 //! Any other line isn't understood.
 
-ghost use Rattle.std.specs.Prelude.{◌≡◌, IfOk};
+ghost use Rattle.std.specs.Prelude.{◌≡◌, IfOk, IsErrOf, true};
 ghost use Rattle.script_lines.specs.Lines.{IsReadWhere};
 ghost use Rattle.script_lines.specs.Forms.{is_number64};
 ghost use Rattle.event_lines.specs.Lines as spec;
-ghost use Rattle.event_lines.specs.Understood.{is_understood};
+ghost use Rattle.event_lines.specs.Understood.{is_understood, takes_memory};
 
 use crate::client_lines::client_line;
 use crate::port_lines::port_line;
@@ -70,6 +70,7 @@ pub enum Line {
 pub fn line_of(alloc: Global, text: &[u8]) -> Result<Line, LineFault>
     ensures said { IfOk result (spec.SaysLine text.now) }
     ensures understood { IsReadWhere (is_understood text.now) result }
+    ensures memory { IsErrOf result LineFault.NoMemory → takes_memory text.now ≡ true }
 {
     if text.is_empty() {
         return Ok(Line::Empty);
@@ -99,6 +100,7 @@ pub fn line_of(alloc: Global, text: &[u8]) -> Result<Line, LineFault>
 fn moment(rest: &[u8]) -> Result<Line, LineFault>
     ensures said { IfOk result (spec.SaysMoment rest.now) }
     ensures understood { IsReadWhere (is_number64 rest.now) result }
+    ensures memory { IsErrOf result LineFault.NoMemory → ⊥ }
 {
     match number(rest) {
         Some(moment) => Ok(Line::At(moment)),

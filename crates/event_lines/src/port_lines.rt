@@ -9,10 +9,10 @@
 //! | `pkt HEX` | these bytes come on the link, each by two hexadecimal digits of either case |
 //! | `A ..`, `E ..`, .. | the market's message, by the table of `script_lines` |
 
-ghost use Rattle.std.specs.Prelude.{◌≡◌, IfOk};
+ghost use Rattle.std.specs.Prelude.{◌≡◌, IfOk, IsErrOf, true};
 ghost use Rattle.script_lines.specs.Lines.{IsReadWhere};
 ghost use Rattle.event_lines.specs.Lines as spec;
-ghost use Rattle.event_lines.specs.Understood.{is_port_line, is_port_input};
+ghost use Rattle.event_lines.specs.Understood.{is_port_line, is_port_input, port_takes_memory};
 
 use crate::hexadecimal::bytes_of;
 use crate::line::Line;
@@ -25,6 +25,7 @@ use std::alloc::Global;
 pub fn port_line(alloc: Global, port: Port, rest: &[u8]) -> Result<Line, LineFault>
     ensures said { IfOk result (spec.SaysPort port rest.now) }
     ensures understood { IsReadWhere (is_port_line rest.now) result }
+    ensures memory { IsErrOf result LineFault.NoMemory → port_takes_memory rest.now ≡ true }
 {
     if rest == b"up".as_slice() {
         return Ok(Line::PortUp(port));
@@ -45,6 +46,7 @@ pub fn port_line(alloc: Global, port: Port, rest: &[u8]) -> Result<Line, LineFau
 fn port_input(alloc: Global, port: Port, rest: &[u8]) -> Result<Line, LineFault>
     ensures said { IfOk result (spec.SaysPort port rest.now) }
     ensures understood { IsReadWhere (is_port_input rest.now) result }
+    ensures memory { IsErrOf result LineFault.NoMemory → port_takes_memory rest.now ≡ true }
 {
     if let Some(words) = rest.strip_prefix(b"login ") {
         return match login_of(words) {
