@@ -28,8 +28,10 @@ abbrev pub SaysClient : Client → List ℕ → Line → Type 0
 SaysClient client rest (line.ClientUp by) = (by ≡ client) × (rest ≡ codes "up")
 SaysClient client rest (line.ClientGone by) = (by ≡ client) × (rest ≡ codes "gone")
 SaysClient client rest (line.ClientTick by) = (by ≡ client) × (rest ≡ codes "tick")
-SaysClient client rest (line.ClientMessage by fields) = (by ≡ client) × (rest ≡ codes "msg " ++ drop 4 rest) × SaysFields (drop 4 rest) fields
-SaysClient client rest (line.ClientBytes by bytes) = (by ≡ client) × (rest ≡ codes "raw " ++ drop 4 rest) × (bytes.items ++ 1 ∷ [] ≡ with_soh (drop 4 rest))
+SaysClient client rest (line.ClientMessage by fields) =
+    (by ≡ client) × (rest ≡ codes "msg " ++ drop 4 rest) × SaysFields (drop 4 rest) fields
+SaysClient client rest (line.ClientBytes by bytes) =
+    (by ≡ client) × (rest ≡ codes "raw " ++ drop 4 rest) × (bytes.items ++ 1 ∷ [] ≡ with_soh (drop 4 rest))
 SaysClient client rest other = ⊥
 
 -- ---- a port's lines, behind its name
@@ -39,8 +41,10 @@ SaysPort port rest (line.PortUp at) = (at ≡ port) × (rest ≡ codes "up")
 SaysPort port rest (line.PortGone at) = (at ≡ port) × (rest ≡ codes "gone")
 SaysPort port rest (line.PortTick at) = (at ≡ port) × (rest ≡ codes "tick")
 SaysPort port rest (line.PortEnd at) = (at ≡ port) × (rest ≡ codes "end")
-SaysPort port rest (line.PortLogin at session number) = (at ≡ port) × (rest ≡ codes "login " ++ drop 6 rest) × SaysLogin (words_of (drop 6 rest)) session number
-SaysPort port rest (line.PortBytes at bytes) = (at ≡ port) × (rest ≡ codes "pkt " ++ drop 4 rest) × (bytes.items ≡ bytes_in (drop 4 rest))
+SaysPort port rest (line.PortLogin at session number) =
+    (at ≡ port) × (rest ≡ codes "login " ++ drop 6 rest) × SaysLogin (words_of (drop 6 rest)) session number
+SaysPort port rest (line.PortBytes at bytes) =
+    (at ≡ port) × (rest ≡ codes "pkt " ++ drop 4 rest) × (bytes.items ≡ bytes_in (drop 4 rest))
 SaysPort port rest (line.Market at m) = (at ≡ port) × SaysMarket (words_of rest) m
 SaysPort port rest other = ⊥
 

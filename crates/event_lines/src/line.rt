@@ -35,8 +35,12 @@ pub enum Line {
     ClientGone(Client),
     /// Time passes for a client.
     ClientTick(Client),
-    /// The fields of a `msg` line, as the line gives them: MsgType (35) first. What else a frame has is added by who
-    /// steps it: SenderCompID (49), TargetCompID (56), SendingTime (52), and MsgSeqNum (34) unless it is given.
+    /// The fields of a `msg` line, as the line gives them: MsgType (35) first, with any value. Behind it any tags may
+    /// stand in any order, also 8, 9, 10, 49, 52 and 56, more than once, and with empty values: a session judges them.
+    /// A given MsgSeqNum (34) stays where it stands. What else a frame has is added by who steps it: SenderCompID (49),
+    /// TargetCompID (56), SendingTime (52), and 34 unless it is given. How long the frame is isn't looked at.
+    ///
+    /// Source: FIX 4.4 Volume 2, "Standard Message Header".
     ClientMessage(Client, Fields),
     /// Bytes that come on a client's link.
     ClientBytes(Client, Vec<u8>),
@@ -49,12 +53,14 @@ pub enum Line {
     /// A port's End of Session packet.
     PortEnd(Port),
     /// A port's Login Accepted packet.
+    ///
+    /// Source: SoupBinTCP 3.00, "Login Accepted Packet".
     PortLogin {
         /// The port that it comes to.
         port: Port,
-        /// The session, padded left with spaces; all spaces where it is blank.
+        /// The session, 1 to 10 bytes padded left with spaces; all spaces where the line has `-`.
         session: [u8; 10],
-        /// The number of the next sequenced packet.
+        /// The number of the next sequenced packet, of at most 20 digits in the line. 0 is taken too.
         number: u64,
     },
     /// Bytes that come on a port's link.
@@ -65,8 +71,9 @@ pub enum Line {
 
 /// What a line asks for.
 ///
-/// `NotUnderstood` where the line isn't one of the tables of this crate; `NoMemory` where a growth for a client's
-/// fields or for bytes was refused. Only lines that have these grow anything.
+/// One space stands between words, and none before the first or behind the last. `NotUnderstood` where the line isn't one
+/// of the tables of this crate; `NoMemory` where a growth for a client's fields or for bytes was refused, which only lines
+/// that have these can answer.
 pub fn line_of(alloc: Global, text: &[u8]) -> Result<Line, LineFault>
     ensures said { IfOk result (spec.SaysLine text.now) }
     ensures understood { IsReadWhere (is_understood text.now) result }
