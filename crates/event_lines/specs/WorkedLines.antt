@@ -1,11 +1,11 @@
 -- Lines that are understood, and neighbours of them that aren't, computed.
-use Rattle.std.specs.Prelude.{◌≡◌, true, false, [], ◌∷◌, codes, refl, replicate}
+use Rattle.std.specs.Prelude.{◌≡◌, true, false, [], ◌∷◌, codes, refl}
 use Rattle.std.specs.Fmt.{digits}
 use Rattle.fix_fields.specs.Reading.{fields_of, cut_fields}
 use Rattle.script_lines.specs.Forms.{is_number64, is_number32, is_token_number, is_printable_word}
 use Rattle.script_lines.specs.Understood.{is_market_line}
 use Rattle.event_lines.specs.Hexadecimal.{bytes_in}
-use Rattle.event_lines.specs.Login.{is_session, is_sequence_number, session_field}
+use Rattle.event_lines.specs.Login.{is_session, is_sequence_number, number_field, session_field}
 use Rattle.event_lines.specs.Understood.{is_understood, is_client_line, is_port_line, is_message}
 
 nothing : is_understood [] ≡ true
@@ -75,21 +75,22 @@ logins :
     (is_understood (codes "P1 login SESSION001 1") ≡ true)
     × (is_understood (codes "P2 login - 0") ≡ true)
     × (is_understood (codes "P1 login S 18446744073709551615") ≡ true)
-    × (is_understood (codes "P1 login S 18446744073709551616") ≡ false)  -- 65 bits
+    × (is_understood (codes "P1 login S 99999999999999999999") ≡ true)  -- 67 bits, 20 digits
+    × (is_understood (codes "P1 login S 1x") ≡ false)  -- no digit
     × (is_understood (codes "P1 login S 00000000000000000001") ≡ true)
     × (is_understood (codes "P1 login S 000000000000000000001") ≡ false)  -- 21 digits
     × (is_understood (codes "P1 login SESSION0001 1") ≡ false)  -- 11 bytes
     × (is_understood (codes "P1 login  1") ≡ false)  -- no session
     × (is_understood (codes "P1 login S") ≡ false)  -- no number
     × (is_understood (codes "P1 login S 1 ") ≡ false)  -- a word more
-unfolding is_port_line is_session is_sequence_number is_number64 is_market_line
-logins = (refl, refl, refl, refl, refl, refl, refl, refl, refl, refl)
+unfolding is_port_line is_session is_sequence_number is_market_line
+logins = (refl, refl, refl, refl, refl, refl, refl, refl, refl, refl, refl)
 
 sessions :
     (session_field (codes "SESSION001") ≡ codes "SESSION001")
     × (session_field (codes "S1") ≡ codes "        S1")
-    × (session_field (codes "-") ≡ replicate 10 32)
-    × (session_field (codes "--") ≡ codes "        --")
+    × (session_field (codes "-") ≡ codes "         -")
+    × (number_field (codes "07") ≡ codes "                  07")
 sessions = (refl, refl, refl, refl)
 
 packets :

@@ -58,10 +58,10 @@ pub enum Line {
     PortLogin {
         /// The port that it comes to.
         port: Port,
-        /// The session, 1 to 10 bytes padded left with spaces; all spaces where the line has `-`.
+        /// The session, 1 to 10 bytes padded left with spaces.
         session: [u8; 10],
-        /// The number of the next sequenced packet, of at most 20 digits in the line. 0 is taken too.
-        number: u64,
+        /// The number of the next sequenced packet, 1 to 20 digits padded left with spaces: any that the field can have.
+        number: [u8; 20],
     },
     /// Bytes that come on a port's link.
     PortBytes(Port, Vec<u8>),

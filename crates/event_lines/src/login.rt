@@ -3,25 +3,26 @@
 //! Source: SoupBinTCP 3.00, "Login Accepted Packet": a session of 10 bytes and a number of 20, padded left.
 
 ghost use Rattle.std.specs.Prelude.{◌≡◌, IfSome, is_some};
+ghost use Rattle.std.specs.Char.{is_ascii_digit};
+ghost use Rattle.std.specs.List.{list_all};
 ghost use Rattle.script_lines.specs.Forms.{fits};
-ghost use Rattle.script_lines.specs.Words.{words_of, number_in};
+ghost use Rattle.script_lines.specs.Words.{words_of};
 ghost use Rattle.event_lines.specs.Login as spec;
 
-use script_lines::{first_word, number, only_word};
+use script_lines::{first_word, only_word};
 
-/// The most bytes of a session.
+/// The bytes of a session.
 const SESSION_BYTES: usize = 10;
 
-/// The most digits of a sequence number.
-const NUMBER_DIGITS: usize = 20;
+/// The bytes of a sequence number.
+const NUMBER_BYTES: usize = 20;
 
-/// What a Login Accepted says.
+/// What a Login Accepted says: its two fields, each padded left with spaces.
 #[derive(Clone, Copy)]
 pub struct Login {
-    /// The session, padded left with spaces.
     pub session: [u8; SESSION_BYTES],
-    /// The number of the next sequenced packet.
-    pub number: u64,
+    /// The number of the next sequenced packet, in digits.
+    pub number: [u8; NUMBER_BYTES],
 }
 
 /// `S N`.
@@ -37,7 +38,7 @@ pub fn login_of(text: &[u8]) -> Option<Login>
     })
 }
 
-/// The session that a word names, padded left with spaces: the word of 1 to 10 bytes, or a blank one where it is `-`.
+/// The session that a word names: a word of 1 to 10 bytes, padded left with spaces.
 #[tactic(auto, unfolding(crate::specs::Login::is_session))]
 fn session_of(word: &[u8]) -> Option<[u8; SESSION_BYTES]>
     ensures field { IfSome result (λ session. session ≡ spec.session_field word.now) }
@@ -50,20 +51,34 @@ fn session_of(word: &[u8]) -> Option<[u8; SESSION_BYTES]>
         return None;
     }
     let mut session = [b' '; SESSION_BYTES];
-    if word != b"-".as_slice() {
-        session[SESSION_BYTES - word.len()..].copy_from_slice(word);
-    }
+    session[SESSION_BYTES - word.len()..].copy_from_slice(word);
     Some(session)
 }
 
-/// The number of the next sequenced packet: at most 20 digits, and 64 bits hold the number.
+/// The field of a sequence number: a word of 1 to 20 digits, padded left with spaces. Whether 64 bits hold the number is the
+/// session's to judge.
 #[tactic(auto, unfolding(crate::specs::Login::is_sequence_number))]
-fn sequence_number(word: &[u8]) -> Option<u64>
-    ensures value { IfSome result (λ n. n ≡ number_in word.now) }
+fn sequence_number(word: &[u8]) -> Option<[u8; NUMBER_BYTES]>
+    ensures field { IfSome result (λ number. number ≡ spec.number_field word.now) }
     ensures form { is_some result ≡ spec.is_sequence_number word.now }
 {
-    if word.len() > NUMBER_DIGITS {
+    if word.is_empty() {
         return None;
     }
-    number(word)
+    if word.len() > NUMBER_BYTES {
+        return None;
+    }
+    if !are_digits(word) {
+        return None;
+    }
+    let mut number = [b' '; NUMBER_BYTES];
+    number[NUMBER_BYTES - word.len()..].copy_from_slice(word);
+    Some(number)
+}
+
+/// Whether all of these bytes are decimal digits.
+fn are_digits(word: &[u8]) -> bool
+    ensures { result ≡ list_all is_ascii_digit word.now }
+{
+    word.iter().all(|byte| byte.is_ascii_digit())
 }

@@ -86,17 +86,37 @@ fn lines_with_bytes(rt: HostRuntime) -> Result<(), Fail> {
     Ok(())
 }
 
-/// Logins, with the port, the session of ten bytes and the number.
-const LOGINS: [(&str, Port, &[u8; 10], u64); 5] = [
-    ("P1 login SESSION001 1", Port::First, b"SESSION001", 1),
-    ("P2 login S1 0", Port::Second, b"        S1", 0),
-    ("P1 login - 7", Port::First, b"          ", 7),
-    ("P2 login -- 07", Port::Second, b"        --", 7),
+/// Logins, with the port, the session of ten bytes and the number of twenty.
+const LOGINS: [(&str, Port, &[u8; 10], &[u8; 20]); 5] = [
     (
-        "P1 login 0 18446744073709551615",
+        "P1 login SESSION001 1",
+        Port::First,
+        b"SESSION001",
+        b"                   1",
+    ),
+    (
+        "P2 login S1 0",
+        Port::Second,
+        b"        S1",
+        b"                   0",
+    ),
+    (
+        "P1 login - 7",
+        Port::First,
+        b"         -",
+        b"                   7",
+    ),
+    (
+        "P2 login -- 07",
+        Port::Second,
+        b"        --",
+        b"                  07",
+    ),
+    (
+        "P1 login 0 99999999999999999999",
         Port::First,
         b"         0",
-        18_446_744_073_709_551_615,
+        b"99999999999999999999",
     ),
 ];
 
@@ -113,7 +133,7 @@ fn logins(rt: HostRuntime) -> Result<(), Fail> {
             ) => {
                 assert_eq!(rt; at, port, "{line}");
                 assert_eq!(rt; name, *session, "{line}");
-                assert_eq!(rt; next, number, "{line}");
+                assert_eq!(rt; next, *number, "{line}");
             }
             _ => Err("it is a login")?,
         }
