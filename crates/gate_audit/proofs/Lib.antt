@@ -1,0 +1,4 @@
+mod Bodies
+mod Batches
+mod Opening
+mod Agreeing
