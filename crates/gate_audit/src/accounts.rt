@@ -28,7 +28,8 @@ pub fn readings(
 ) -> Result<Vec<OrderReading>, ReadingFault>
     ensures read { IfOk result (λ list. list.items ≡ read.readings (length settings.now.clients) (turns history.now)) }
     ensures accepted { IfOk result (λ list. Holds settings.now (turns history.now) → list.items ≡ read.accepted_readings settings.now (turns history.now)) }
-    ensures agree { IfOk result (λ list. Holds settings.now (turns history.now) → Each (read.AgreesIn settings.now (turns history.now)) (read.new_orders settings.now (turns history.now))) }
+    ensures agree { IfOk result (λ list. Holds settings.now (turns history.now)
+        → Each (read.AgreesIn settings.now (turns history.now)) (read.new_orders settings.now (turns history.now))) }
 {
     let mut readings = Vec::new(alloc);
     for place in 0..settings.clients().len() {

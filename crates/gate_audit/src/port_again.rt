@@ -51,7 +51,8 @@ impl PortAgain {
     ) -> Result<(), AllocError>
         requires room { next_of self.old.session < 2 ^ 60 }
         ensures again { IfOk result (λ u. (terms : Terms) (r : Again) → IsAgain terms r self.old
-            → IsAgain terms (read.unless_lost port (batch_seen batch.now) (read.by_event terms port (event_seen event.now) (batch_seen batch.now) r)) self.new) }
+            → IsAgain terms (read.unless_lost port (batch_seen batch.now)
+            (read.by_event terms port (event_seen event.now) (batch_seen batch.now) r)) self.new) }
         ensures next { next_of self.new.session ≤ next_of self.old.session + 1 }
     {
         self.hear(alloc, port, event, batch)?;
