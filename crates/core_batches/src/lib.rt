@@ -12,4 +12,5 @@ mod parts;
 
 pub use batch::{Batch, LinkOut};
 pub use event::Event;
+pub use link_outs::closes_link;
 pub use links::{only_outs, told_client, told_port};

@@ -73,7 +73,7 @@ fn port_line_of(alloc: Global, link: u64, out: &PortOut) -> Result<LinkOut, Allo
 }
 
 /// Whether the current link is closed by one of these.
-pub(crate) fn closes_link(link: Option<u64>, outs: &[LinkOut]) -> bool
+pub fn closes_link(link: Option<u64>, outs: &[LinkOut]) -> bool
     ensures { result ≡ closes link (map link_out_seen outs.now) }
 {
     for out in outs {

@@ -1,0 +1,67 @@
+-- A history taken event by event.
+use Rattle.std.proofs.Common.{◌≡◌, ◌<◌, ◌≤◌, ◌+◌, ◌^◌, ℕ, suc, zero, Bool, true, false, List, [], ◌∷◌, ◌++◌, map, length, take, get_or, refl, sym, ap, ◌∙◌, arith, length-take-le}
+use Rattle.std.specs.Prelude.{if◌then◌else◌, ◌||◌, ◌&&◌, nat_le, nat_lt}
+use Rattle.std.specs.List.{list_any}
+use Rattle.std.proofs.lemmas.List.{take_more}
+use Rattle.std.proofs.lemmas.Bool.Decides.{nat_tests}
+use Rattle.soup_session.specs.Table.{Terms}
+use Rattle.core_law.specs.Events.{History}
+use Rattle.core_law.specs.After.{is_within, most_events}
+use Rattle.core_batches.specs.declared.event.Event.{Event}
+use Rattle.core_batches.specs.declared.batch.Batch.{Batch}
+use Rattle.gate_core.specs.Core.{history, onto, turn_of}
+use Rattle.core_batches.specs.Seen.{batch_seen, event_seen}
+use Rattle.gate_audit.specs.Again as read
+use Rattle.gate_audit.specs.Again.{again}
+
+onto-pushed : (events : List Event) (batches : List Batch) (e : Event) (b : Batch) (before : History) → length batches ≡ length events
+    → onto (events ++ e ∷ []) (batches ++ b ∷ []) before ≡ turn_of e b ∷ onto events batches before
+onto-pushed [] [] e b before same = refl
+onto-pushed [] (x ∷ batches) e b before same = absurd (omega (arith, same))
+onto-pushed (x ∷ events) [] e b before same = absurd (omega (arith, same))
+onto-pushed (x ∷ events) (y ∷ batches) e b before same = onto-pushed events batches e b (turn_of x y ∷ before) (omega (arith, same))
+
+onto-length : (events : List Event) (batches : List Batch) (before : History) → length batches ≡ length events → length (onto events batches before) ≡ length events + length before
+onto-length [] [] before same = omega arith
+onto-length [] (x ∷ batches) before same = absurd (omega (arith, same))
+onto-length (x ∷ events) [] before same = absurd (omega (arith, same))
+onto-length (x ∷ events) (y ∷ batches) before same = (let rest = onto-length events batches (turn_of x y ∷ before) (omega (arith, same)) in omega (arith, rest))
+
+pub history-more : (events : List Event) (batches : List Batch) (i : ℕ) (e : Event) (b : Batch) → length batches ≡ length events → i < length events → e ≡ get_or events i e → b ≡ get_or batches i b
+    → history (take (i + 1) events) (take (i + 1) batches) ≡ turn_of e b ∷ history (take i events) (take i batches)
+history-more events batches i e b same inside is_e is_b =
+    ap (λ (es : List Event). history es (take (i + 1) batches)) (take_more events i e inside ∙ ap (λ (x : Event). take i events ++ x ∷ []) (sym is_e))
+    ∙ (ap (λ (bs : List Batch). history (take i events ++ e ∷ []) bs) (take_more batches i b (omega (arith, same, inside)) ∙ ap (λ (x : Batch). take i batches ++ x ∷ []) (sym is_b))
+    ∙ onto-pushed (take i events) (take i batches) e b [] (length-take-le i batches (omega (arith, same, inside)) ∙ sym (length-take-le i events (omega (arith, inside)))))
+
+pub history-length : (events : List Event) (batches : List Batch) (i : ℕ) → length batches ≡ length events → i ≤ length events → length (history (take i events) (take i batches)) ≡ i
+history-length events batches i same inside =
+    let es = length-take-le i events inside in
+    let bs = length-take-le i batches (omega (arith, same, inside)) in
+    let all = onto-length (take i events) (take i batches) [] (bs ∙ sym es) in omega (arith, all, es)
+
+is-near : (n i : ℕ) → nat_lt i n ≡ true → i < n
+is-near n i e = grind (arith, nat_tests)
+
+is-past : (n i : ℕ) → nat_lt i n ≡ false → n ≤ i
+is-past n i e = grind (arith, nat_tests)
+
+-- one event more, where so many may still be stepped, and where not
+pub again-more : (terms : Terms) (p : ℕ) (e : Event) (b : Batch) (before : History) → length before < 2 ^ 48
+    → again terms p (turn_of e b ∷ before) ≡ read.unless_lost p (batch_seen b) (read.by_event terms p (event_seen e) (batch_seen b) (again terms p before))
+again-more terms p e b before few = by_limit (is_within before) refl
+  where
+    by_limit : (w : Bool) → is_within before ≡ w → (if w then read.unless_lost p (batch_seen b) (read.by_event terms p (event_seen e) (batch_seen b) (again terms p before)) else again terms p before) ≡ read.unless_lost p (batch_seen b) (read.by_event terms p (event_seen e) (batch_seen b) (again terms p before))
+    by_limit true is = refl
+    by_limit false is = (let past = is-past most_events (length before) is in absurd (omega (arith, past, few)))
+
+pub again-past : (terms : Terms) (p : ℕ) (e : Event) (b : Batch) (before : History) → 2 ^ 48 ≤ length before → again terms p (turn_of e b ∷ before) ≡ again terms p before
+again-past terms p e b before many = by_limit (is_within before) refl
+  where
+    by_limit : (w : Bool) → is_within before ≡ w → (if w then read.unless_lost p (batch_seen b) (read.by_event terms p (event_seen e) (batch_seen b) (again terms p before)) else again terms p before) ≡ again terms p before
+    by_limit true is = (let near = is-near most_events (length before) is in absurd (omega (arith, near, many)))
+    by_limit false is = refl
+
+-- a number from 1 to this one
+pub has-of : (p n : ℕ) → 1 ≤ p → p ≤ n → (nat_le 1 p && nat_le p n) ≡ true
+has-of p n some known = grind (arith, nat_tests)

@@ -1,0 +1,7 @@
+mod Bodies
+mod Batches
+mod Opening
+mod Agreeing
+mod Alike
+mod Following
+mod Calling

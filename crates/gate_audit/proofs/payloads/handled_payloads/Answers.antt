@@ -1,0 +1,52 @@
+use Rattle.std.proofs.Common.{◌≡◌, ◌+◌, ◌∷◌, ◌∙◌, ap, sym, arith, length, take, take_all, List, reverse}
+use Rattle.core_batches.specs.declared.event.Event.{Event}
+use Rattle.core_batches.specs.declared.batch.Batch.{Batch}
+use Rattle.gate_journal.specs.Kept.{turns}
+use Rattle.gate_audit.proofs.Following.{handled-again}
+use Rattle.core_law.specs.Settings.{port_terms}
+use Rattle.core_law.specs.Events.{History}
+use Rattle.soup_session.specs.Table.{Terms}
+use Rattle.gate_core.specs.Core.{history, turn_of}
+use Rattle.gate_audit.specs.Again.{again}
+use Rattle.gate_audit.proofs.Calling.{again-more, again-past, has-of, history-length, history-more}
+use Rattle.gate_audit.proofs.payloads.handled_payloads.Goals as goal
+use Rattle.gate_audit.proofs.payloads.handled_payloads.Goals.{then-i-lt-MOST_EVENTS+in_ok-step, else-i-lt-MOST_EVENTS}
+
+pub loop-i-preserved : goal.loop-i-preserved
+loop-i-preserved c =
+    let terms : Terms = port_terms c.args.settings.now c.args.port in
+    let p = c.args.port in
+    let es = c.events-events.result.now in
+    let bs = c.batches-batches.result.now in
+    let i = c.loop-i.i in
+    let same : length bs ≡ length es = c.batches-batches.ensures.count ∙ ap length (sym c.events-events.ensures.events) in
+    let long : length (history (take i es) (take i bs)) ≡ i = history-length es bs i same c.loop-i.auto.i-end in
+    let e = c.index-events-i.result in
+    let b = c.index-batches-i.result in
+    let more : history (take (i + 1) es) (take (i + 1) bs) ≡ turn_of e b ∷ history (take i es) (take i bs) = history-more es bs i e b same c.loop-i-test.true c.index-events-i.is c.index-batches-i.is in
+    elim c.if-i-lt-MOST_EVENTS.branch [
+      | then-i-lt-MOST_EVENTS+in_ok-step w ↦ record {
+        again = rw (w.again-is, more, again-more terms p e b (history (take i es) (take i bs)) (omega (arith, long, w.if-i-lt-MOST_EVENTS.true)))
+            (w.in_ok-step.ensures.again terms (again terms p (history (take i es) (take i bs))) c.loop-i.invariant.again);
+        next = rw w.again-is (omega (arith, w.in_ok-step.ensures.next, c.loop-i.invariant.next));
+      }
+      | else-i-lt-MOST_EVENTS w ↦ record {
+        again = rw (w.again-is, more, again-past terms p e b (history (take i es) (take i bs)) (omega (arith, long, w.if-i-lt-MOST_EVENTS.false))) c.loop-i.invariant.again;
+        next = rw w.again-is (omega (arith, c.loop-i.invariant.next));
+      }
+    ]
+
+pub returns-clause-run : goal.returns-clause-run
+returns-clause-run c holds =
+    let s = c.args.settings.now in
+    let p = c.args.port in
+    let i = c.loop-i.i in
+    let es = c.events-events.result.now in
+    let bs = c.batches-batches.result.now in
+    let same : length bs ≡ length es = c.batches-batches.ensures.count ∙ ap length (sym c.events-events.ensures.events) in
+    let whole : history (take i es) (take i bs) ≡ turns c.args.history.now =
+    ap (λ (xs : List Event). history xs (take i bs)) (take_all i es c.loop-i-test.false ∙ c.events-events.ensures.events)
+    ∙ ap (λ (xs : List Batch). history c.args.history.now.events xs) (take_all i bs (omega (arith, same, c.loop-i-test.false)) ∙ c.batches-batches.ensures.batches) in
+    c.loop-i.invariant.again.handled
+    ∙ (ap (λ (h : History). reverse (again (port_terms s p) p h).handled) whole
+    ∙ ap reverse (sym (handled-again c.links_end_by_a_close.ensures s p (has-of p (length s.ports) c.requires.some c.requires.known) (turns c.args.history.now) holds.run)))

@@ -1,0 +1,76 @@
+//! What clients have read of their orders.
+
+ghost use Rattle.std.specs.Prelude.{◌≡◌, ◌++◌, IfOk, length, map, reverse};
+ghost use Rattle.order_law.specs.Headline.{Each};
+ghost use Rattle.core_law.specs.Holds.{Holds};
+ghost use Rattle.gate_journal.specs.Kept.{turns};
+ghost use Rattle.gate_audit.specs.Read as read;
+
+use crate::order_reading::OrderReading;
+use crate::reports::{opens_order, reports_of, text};
+use core_settings::Settings;
+use fix_fields::{Fields, Text};
+use gate_journal::History;
+use order_accounts::{ReadingFault, reading_of};
+use std::alloc::Global;
+
+/// What each client has read of each of its orders that were accepted, by client and then in the order in which they were accepted,
+/// from the reports of the batches alone.
+///
+/// Of the history of a run these are the accepted new orders, and what is read of each is what the market said of it. `TooLarge`
+/// where a number that was read is larger than its integer holds, or else `NoMemory`.
+///
+/// Source: FIX 4.4 Volume 4, "Execution Report".
+pub fn readings(
+    alloc: Global,
+    history: &History,
+    settings: &Settings,
+) -> Result<Vec<OrderReading>, ReadingFault>
+    ensures read { IfOk result (λ list. list.items ≡ read.readings (length settings.now.clients) (turns history.now)) }
+    ensures accepted { IfOk result (λ list. Holds settings.now (turns history.now) → list.items ≡ read.accepted_readings settings.now (turns history.now)) }
+    ensures agree { IfOk result (λ list. Holds settings.now (turns history.now)
+        → Each (read.AgreesIn settings.now (turns history.now)) (read.new_orders settings.now (turns history.now))) }
+{
+    let mut readings = Vec::new(alloc);
+    for place in 0..settings.clients().len() {
+        let client = (place + 1) as u16;
+        let reports = reports_of(alloc, client, history.batches())?;
+        read_client(alloc, client, &reports, &mut readings)?;
+    }
+    Ok(readings)
+}
+
+/// What a client that was told these reports has read of each order that they open, behind what was read before.
+fn read_client(
+    alloc: Global,
+    client: u16,
+    reports: &[Fields],
+    readings: &mut Vec<OrderReading>,
+) -> Result<(), ReadingFault>
+    ensures { IfOk result (λ u. readings.new.items ≡ readings.old.items ++ map (read.read_in client (reverse reports.now)) (read.opened reports.now)) }
+{
+    for report in reports {
+        if opens_order(report) {
+            readings.push(read_order(alloc, client, report, reports)?)?;
+        }
+    }
+    Ok(())
+}
+
+/// What the client has read, in all these reports, of the order that this report opens.
+fn read_order(
+    alloc: Global,
+    client: u16,
+    report: &Fields,
+    reports: &[Fields],
+) -> Result<OrderReading, ReadingFault>
+    ensures { IfOk result (λ order. order ≡ read.read_in client (reverse reports.now) (read.opened_by report.now)) }
+{
+    let order = text(report, 37);
+    Ok(OrderReading {
+        client,
+        order: Text::copied(alloc, order)?,
+        id: Text::copied(alloc, text(report, 11))?,
+        reading: reading_of(alloc, order, reports)?,
+    })
+}

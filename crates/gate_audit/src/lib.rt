@@ -1,0 +1,17 @@
+//! The audit of a history: what each accepted order's client has read of it, from the reports of the batches alone; and which payloads
+//! of a port were handled, from its links and packets.
+//!
+//! It reads events and batches after they were given, for programs that print an audit and for tests; it judges nothing.
+//!
+//! Source: FIX 4.4 Volume 4, "Execution Report"; SoupBinTCP 3.00, "Sequenced Data Packet".
+#![tactic(auto)]
+
+mod accounts;
+mod order_reading;
+mod payloads;
+mod port_again;
+mod reports;
+
+pub use accounts::readings;
+pub use order_reading::OrderReading;
+pub use payloads::handled_payloads;

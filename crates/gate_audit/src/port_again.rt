@@ -1,0 +1,171 @@
+//! A port's session, called once more with what a history brought it.
+
+ghost use Rattle.std.specs.Prelude.{◌≡◌, ◌<◌, ◌≤◌, ◌+◌, ◌^◌, IfOk, Some, None, is_some, if◌then◌else◌, map};
+ghost use Rattle.soup_session.specs.Table.{Terms};
+ghost use Rattle.soup_session.specs.Calls.{next_of};
+ghost use Rattle.core_settings.specs.Kept.{CanLogIn};
+ghost use Rattle.core_batches.specs.Seen.{batch_seen, event_seen};
+ghost use Rattle.gate_audit.specs.Again as read;
+ghost use Rattle.gate_audit.specs.Again.{Again};
+ghost use Rattle.gate_audit.specs.Called.{IsAgain};
+
+use core_batches::closes_link;
+use core_settings::PortSettings;
+use gate_core::{Batch, Event};
+use soup_packets::{Packet, Payload};
+use soup_session::PortSession;
+use std::alloc::{AllocError, Global};
+
+/// A port's session over its links so far, and what it gave up.
+#[derive(Debug, Drop)]
+pub struct PortAgain {
+    /// Its current link.
+    pub link: Option<u64>,
+    pub session: PortSession,
+    /// The payloads that it gave up and that were no fault, the oldest first.
+    pub handled: Vec<Vec<u8>>,
+}
+
+impl PortAgain {
+    /// A port that no link came on yet.
+    pub fn new(alloc: Global, settings: &PortSettings) -> PortAgain
+        requires { CanLogIn settings.now }
+        ensures again { IsAgain settings.now read.at_first result }
+        ensures next { next_of result.session ≡ 1 }
+    {
+        PortAgain {
+            link: None,
+            session: PortSession::new(&settings.user, &settings.password),
+            handled: Vec::new(alloc),
+        }
+    }
+
+    /// One event more, with the batch that it gave, for the port of this number.
+    pub fn step(
+        &mut self,
+        alloc: Global,
+        port: u16,
+        event: &Event,
+        batch: &Batch,
+    ) -> Result<(), AllocError>
+        requires room { next_of self.old.session < 2 ^ 60 }
+        ensures again { IfOk result (λ u. (terms : Terms) (r : Again) → IsAgain terms r self.old
+            → IsAgain terms (read.unless_lost port (batch_seen batch.now)
+            (read.by_event terms port (event_seen event.now) (batch_seen batch.now) r)) self.new) }
+        ensures next { next_of self.new.session ≤ next_of self.old.session + 1 }
+    {
+        self.hear(alloc, port, event, batch)?;
+        self.lose(port, batch);
+        Ok(())
+    }
+
+    /// What the event itself brings.
+    fn hear(
+        &mut self,
+        alloc: Global,
+        port: u16,
+        event: &Event,
+        batch: &Batch,
+    ) -> Result<(), AllocError>
+        requires room { next_of self.old.session < 2 ^ 60 }
+        ensures again { IfOk result (λ u. (terms : Terms) (r : Again) → IsAgain terms r self.old
+            → IsAgain terms (read.by_event terms port (event_seen event.now) (batch_seen batch.now) r) self.new) }
+        ensures next { next_of self.new.session ≤ next_of self.old.session + 1 }
+    {
+        match event {
+            Event::PortUp {
+                port: own,
+                link,
+                ..
+            } => {
+                if *own == port {
+                    self.comes(alloc, *link)?;
+                }
+            }
+            Event::PortPacket {
+                port: own,
+                link,
+                packet,
+                ..
+            } => {
+                if *own == port && self.link == Some(*link) {
+                    self.hears(alloc, packet, batch)?;
+                }
+            }
+            Event::PortGone {
+                port: own,
+                link,
+                ..
+            } => {
+                if *own == port && self.link == Some(*link) {
+                    self.goes();
+                }
+            }
+            Event::ClientUp { .. }
+            | Event::ClientMessage { .. }
+            | Event::ClientGone { .. }
+            | Event::ClientTick { .. }
+            | Event::PortTick { .. } => {}
+        }
+        Ok(())
+    }
+
+    /// A link comes; beside a current one it is nothing.
+    fn comes(&mut self, alloc: Global, link: u64) -> Result<(), AllocError>
+        ensures again { IfOk result (λ u. (terms : Terms) (r : Again) → IsAgain terms r self.old → IsAgain terms (read.comes link r.link r) self.new) }
+        ensures next { next_of self.new.session ≡ next_of self.old.session }
+    {
+        if self.link.is_none() {
+            self.session.on_up(alloc, 0)?;
+            self.link = Some(link);
+        }
+        Ok(())
+    }
+
+    /// The current link is gone.
+    fn goes(&mut self)
+        ensures again { (terms : Terms) (r : Again) → IsAgain terms r self.old → IsAgain terms (read.goes r) self.new }
+        ensures next { next_of self.new.session ≡ next_of self.old.session }
+    {
+        self.session.on_gone();
+        self.link = None;
+    }
+
+    /// A packet on the current link.
+    fn hears(&mut self, alloc: Global, packet: &Packet, batch: &Batch) -> Result<(), AllocError>
+        requires room { next_of self.old.session < 2 ^ 60 }
+        ensures again { IfOk result (λ u. (terms : Terms) (r : Again) → IsAgain terms r self.old
+            → IsAgain terms (read.hears terms packet.now (batch_seen batch.now) r) self.new) }
+        ensures next { next_of self.new.session ≤ next_of self.old.session + 1 }
+    {
+        let turn = self.session.on_packet(alloc, packet, 0)?;
+        keep(alloc, &turn.payload, batch.fault, &mut self.handled)
+    }
+
+    /// A link that the batch closes is gone.
+    fn lose(&mut self, port: u16, batch: &Batch)
+        ensures again { (terms : Terms) (r : Again) → IsAgain terms r self.old → IsAgain terms (read.unless_lost port (batch_seen batch.now) r) self.new }
+        ensures next { next_of self.new.session ≡ next_of self.old.session }
+    {
+        if batch.port == Some(port) && closes_link(self.link, &batch.port_out) {
+            self.goes();
+        }
+    }
+}
+
+/// A payload that was given up and is no fault stands behind those before.
+fn keep(
+    alloc: Global,
+    payload: &Option<Payload>,
+    fault: Option<u8>,
+    handled: &mut Vec<Vec<u8>>,
+) -> Result<(), AllocError>
+    ensures { IfOk result (λ u. map (λ m. m.items) handled.new.items ≡ read.and_behind payload.now fault (map (λ m. m.items) handled.old.items)) }
+{
+    if let Some(payload) = payload
+        && fault.is_none()
+    {
+        handled.push(Vec::from_slice(alloc, payload.as_slice())?)?;
+    }
+    Ok(())
+}

@@ -1,0 +1,54 @@
+//! The reports that a client was told, as the batches have them.
+
+ghost use Rattle.std.specs.Prelude.{◌≡◌, ◌++◌, IfOk, map};
+ghost use Rattle.fix_fields.specs.Field.{IsValue};
+ghost use Rattle.order_law.specs.Messages as messages;
+ghost use Rattle.core_batches.specs.Seen.{batch_seen};
+ghost use Rattle.gate_audit.specs.Read.{opens, reports_to};
+
+use fix_fields::Fields;
+use gate_core::Batch;
+use std::alloc::{AllocError, Global};
+
+/// The reports and rejects that a client was told by these batches, copied, in order.
+pub fn reports_of(alloc: Global, client: u16, batches: &[Batch]) -> Result<Vec<Fields>, AllocError>
+    ensures { IfOk result (λ reports. reports.items ≡ reports_to client batches.now) }
+{
+    let mut reports = Vec::new(alloc);
+    for batch in batches {
+        if batch.client == Some(client) {
+            copy_reports(alloc, &batch.reports, &mut reports)?;
+        }
+    }
+    Ok(reports)
+}
+
+/// These reports stand behind those before, copied.
+fn copy_reports(alloc: Global, reports: &[Fields], to: &mut Vec<Fields>) -> Result<(), AllocError>
+    ensures { IfOk result (λ u. to.new.items ≡ to.old.items ++ reports.now) }
+{
+    for report in reports {
+        to.push(report.copied(alloc)?)?;
+    }
+    Ok(())
+}
+
+/// The value of a tag, or no bytes where there is none.
+pub fn text(report: &Fields, tag: u32) -> &[u8]
+    ensures text { result.now ≡ messages.text tag report.now }
+    ensures value { IsValue result.now }
+{
+    match report.first(tag) {
+        Some(value) => value,
+        None => &[],
+    }
+}
+
+/// Whether this report tells that a new order was accepted: an execution report with ExecType (150) A, pending new.
+///
+/// Source: FIX 4.4 Volume 6, "ExecType".
+pub fn opens_order(report: &Fields) -> bool
+    ensures { result ≡ opens report.now }
+{
+    text(report, 35) == b"8".as_slice() && text(report, 150) == b"A".as_slice()
+}

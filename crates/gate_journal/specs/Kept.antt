@@ -1,0 +1,18 @@
+-- What a history keeps.
+use Rattle.std.specs.Prelude.{List, []}
+use Rattle.core_law.specs.Events as law
+use Rattle.core_batches.specs.declared.event.Event.{Event}
+use Rattle.core_batches.specs.declared.batch.Batch.{Batch}
+use Rattle.gate_core.specs.Core.{history}
+
+-- events and the batches that they gave, the oldest first
+pub record Kept : Type 0 where
+  pub events : List Event
+  pub batches : List Batch
+
+abbrev pub nothing_kept : Kept
+nothing_kept = record { events = []; batches = [] }
+
+-- the same as the core's law has it: each event with its batch, the newest first
+abbrev pub turns : Kept → law.History
+turns h = history h.events h.batches

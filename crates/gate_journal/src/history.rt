@@ -1,0 +1,78 @@
+//! Events with their batches, in order.
+
+ghost use Rattle.std.specs.Prelude.{◌≡◌, ◌<◌, ◌++◌, ◌∷◌, [], vec_len, vec_capacity};
+
+use gate_core::{Batch, Event};
+use std::alloc::{AllocError, Global};
+use std::marker::Model;
+
+/// Events, each with the batch that it gave, the oldest first. Contracts see the two lists.
+#[derive(Debug, Drop)]
+pub struct History {
+    events: Vec<Event>,
+    batches: Vec<Batch>,
+}
+
+impl Model for History {
+    ghost use Rattle.std.specs.Prelude.{◌≡◌, length};
+    ghost use Rattle.gate_journal.specs.Kept.{Kept};
+
+    ghost Value = { Kept };
+
+    ghost view = { λ h. record { events = h.events.items; batches = h.batches.items } };
+
+    ghost invariant = { λ h. length h.batches.items ≡ length h.events.items };
+}
+
+impl History {
+    ghost use Rattle.std.specs.Prelude.{◌++◌, ◌∷◌, [], IfOk, OnErr, length};
+    ghost use Rattle.gate_core.specs.Core.{turn_of};
+    ghost use Rattle.gate_journal.specs.Kept.{nothing_kept, turns};
+
+    /// No events. Takes no memory.
+    pub fn new(alloc: Global) -> History
+        ensures { result ≡ nothing_kept }
+    {
+        History {
+            events: Vec::new(alloc),
+            batches: Vec::new(alloc),
+        }
+    }
+
+    /// One event more, with the batch that it gave. `AllocError` leaves the history as it was.
+    pub fn push(&mut self, event: Event, batch: Batch) -> Result<(), AllocError>
+        ensures events { IfOk result (λ nothing. self.new.events ≡ self.old.events ++ event ∷ []) }
+        ensures batches { IfOk result (λ nothing. self.new.batches ≡ self.old.batches ++ batch ∷ []) }
+        ensures turns { IfOk result (λ nothing. turns self.new ≡ turn_of event batch ∷ turns self.old) }
+        ensures err { OnErr result (self.new ≡ self.old) }
+    {
+        self.batches.reserve(1)?;
+        self.events.push(event)?;
+        push_batch(&mut self.batches, batch);
+        Ok(())
+    }
+
+    /// The events that were pushed, in order.
+    pub fn events(&self) -> &[Event]
+        ensures events { result.now ≡ self.now.events }
+        ensures count { length result.now ≡ length self.now.batches }
+    {
+        &self.events
+    }
+
+    /// Their batches, one for each event, in order.
+    pub fn batches(&self) -> &[Batch]
+        ensures batches { result.now ≡ self.now.batches }
+        ensures count { length result.now ≡ length self.now.events }
+    {
+        &self.batches
+    }
+}
+
+/// Adds a batch, where there is room for it.
+fn push_batch(batches: &mut Vec<Batch>, batch: Batch)
+    requires { vec_len batches.old < vec_capacity batches.old }
+    ensures { batches.new.items ≡ batches.old.items ++ batch ∷ [] }
+{
+    let _ = batches.push(batch);
+}
