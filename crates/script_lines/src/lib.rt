@@ -16,5 +16,8 @@ mod words;
 pub use client::Client;
 pub use frame::NextNumbers;
 pub use line::{Line, LineFault, line_of};
+pub use market::market_message;
+pub use message::split_bars;
 pub use payload::payload_of;
 pub use port::Port;
+pub use words::{first_word, number, only_word};

@@ -74,7 +74,7 @@ fn replace_request(alloc: Global, fields: &Fields) -> Result<AppMsg, LineFault>
 }
 
 /// The fields of a text in which `|` stands for SOH, the last of which is left out.
-fn split_bars(alloc: Global, text: &[u8]) -> Result<Fields, LineFault>
+pub fn split_bars(alloc: Global, text: &[u8]) -> Result<Fields, LineFault>
     ensures fields { IfOk result (λ fields. fields_of (with_soh text.now) ≡ Some fields) }
     ensures understood { IsReadWhere (is_some (fields_of (with_soh text.now))) result }
 {

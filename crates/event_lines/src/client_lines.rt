@@ -1,0 +1,83 @@
+//! The lines of a client: what stands behind its name and a space.
+//!
+//! | Line | Event |
+//! |---|---|
+//! | `up`, `gone` | the link comes up, or is gone |
+//! | `tick` | time passes |
+//! | `msg 35=..\|..` | a frame of these fields; `\|` stands for SOH, the last one is left out |
+//! | `raw ..` | these bytes come on the link; `\|` stands for SOH |
+
+ghost use Rattle.std.specs.Prelude.{◌≡◌, ◌++◌, ◌∷◌, [], IfOk};
+ghost use Rattle.script_lines.specs.Lines.{IsReadWhere};
+ghost use Rattle.script_lines.specs.Message.{with_soh};
+ghost use Rattle.event_lines.specs.Lines as spec;
+ghost use Rattle.event_lines.specs.Understood.{is_client_line, is_client_input, is_message};
+
+use crate::line::Line;
+use fix_fields::{Fields, SOH};
+use script_lines::{Client, LineFault, split_bars};
+use std::alloc::{AllocError, Global};
+
+/// MsgType, the first field of a message.
+///
+/// Source: FIX 4.4 Volume 2, "Standard Message Header".
+const MSG_TYPE: u32 = 35;
+
+/// What stands behind a client's name.
+#[tactic(auto, unfolding(crate::specs::Understood::is_client_line))]
+pub fn client_line(alloc: Global, client: Client, rest: &[u8]) -> Result<Line, LineFault>
+    ensures said { IfOk result (spec.SaysClient client rest.now) }
+    ensures understood { IsReadWhere (is_client_line rest.now) result }
+{
+    if rest == b"up".as_slice() {
+        return Ok(Line::ClientUp(client));
+    }
+    if rest == b"gone".as_slice() {
+        return Ok(Line::ClientGone(client));
+    }
+    if rest == b"tick".as_slice() {
+        return Ok(Line::ClientTick(client));
+    }
+    client_input(alloc, client, rest)
+}
+
+/// What comes on a client's link.
+fn client_input(alloc: Global, client: Client, rest: &[u8]) -> Result<Line, LineFault>
+    ensures said { IfOk result (spec.SaysClient client rest.now) }
+    ensures understood { IsReadWhere (is_client_input rest.now) result }
+{
+    if let Some(text) = rest.strip_prefix(b"msg ") {
+        return Ok(Line::ClientMessage(client, message_fields(alloc, text)?));
+    }
+    if let Some(text) = rest.strip_prefix(b"raw ") {
+        return Ok(Line::ClientBytes(client, bytes_of(alloc, text)?));
+    }
+    Err(LineFault::NotUnderstood)
+}
+
+/// The fields of a text, the first of which is MsgType (35).
+#[tactic(auto, unfolding(crate::specs::Understood::is_message))]
+fn message_fields(alloc: Global, text: &[u8]) -> Result<Fields, LineFault>
+    ensures said { IfOk result (spec.SaysFields text.now) }
+    ensures understood { IsReadWhere (is_message text.now) result }
+{
+    let fields = split_bars(alloc, text)?;
+    if fields.is_empty() {
+        return Err(LineFault::NotUnderstood);
+    }
+    if fields.at(0).tag != MSG_TYPE {
+        return Err(LineFault::NotUnderstood);
+    }
+    Ok(fields)
+}
+
+/// The bytes of a text in which `|` stands for SOH. One growth.
+fn bytes_of(alloc: Global, text: &[u8]) -> Result<Vec<u8>, AllocError>
+    ensures { IfOk result (λ bytes. bytes.items ++ 1 ∷ [] ≡ with_soh text.now) }
+{
+    let mut bytes = Vec::with_capacity(alloc, text.len())?;
+    for byte in text {
+        bytes.push(if *byte == b'|' { SOH } else { *byte })?;
+    }
+    Ok(bytes)
+}
