@@ -4,7 +4,8 @@ use Rattle.soup_session.specs.declared.machine.Port.{Port}
 use Rattle.soup_session.specs.Table as port
 use Rattle.soup_session.specs.Calls as ports
 use Rattle.session_law.specs.Session.{State, Given}
-use Rattle.session_law.specs.Runs.{Timed, state_after}
+use Rattle.session_law.specs.Expected.{expected}
+use Rattle.session_law.specs.Runs.{Timed, state_after, turns_after}
 use Rattle.session_law.specs.Frames.{told_of}
 use Rattle.session_frames.specs.Written.{told}
 use Rattle.fix_session.specs.declared.session.SessionTurn.{SessionTurn}
@@ -15,6 +16,10 @@ use Rattle.core_law.specs.Settings.{Settings, client_name, port_terms}
 -- the calls, the newest first, leave the session of this client so
 unfoldable pub ClientLeaves : Settings → ℕ → List Timed → State → Type 0
 ClientLeaves s client calls session = session ≡ state_after s.comp (client_name s client) calls
+
+-- the number that is expected of the client's next frame, by what the calls gave
+abbrev pub expected_in : Settings → ℕ → List Timed → ℕ
+expected_in s client calls = expected s.comp (client_name s client) (turns_after s.comp (client_name s client) calls)
 
 -- a turn of the session is what the table gives, in bytes
 pub record IsClientAnswer (s : Settings) (client : ℕ) (g : Given) (turn : SessionTurn) : Type 0 where

@@ -4,11 +4,12 @@ ghost use Rattle.std.specs.Prelude.{◌≡◌, ℕ, List, [], ◌∷◌, Some, N
 ghost use Rattle.session_law.specs.Runs.{Timed, Linked, Came, Ticked};
 ghost use Rattle.core_law.specs.Settings.{Settings, client_name};
 ghost use Rattle.core_law.specs.Sessions.{client_answer, report_of};
-ghost use Rattle.core_lines.specs.Leaving.{ClientLeaves, IsClientAnswer, issue_call};
+ghost use Rattle.core_lines.specs.Leaving.{ClientLeaves, IsClientAnswer, expected_in, issue_call};
 
 use fix_fields::{Fields, Text};
 use fix_session::{Session, SessionTurn};
 use fix_types::AppBody;
+use session_law::calls_determine_runs;
 use std::alloc::{AllocError, Global};
 
 /// A client's current link, where it has one, and its session over all its links.
@@ -110,5 +111,15 @@ impl ClientLine {
             → report_of s c calls (issue_call at body.now) ≡ fields ∷ []) }
     {
         self.session.issued_fields(alloc, body, at)
+    }
+
+    /// The number that is expected of the client's next frame (MsgSeqNum, 34), from 1.
+    ///
+    /// Source: FIX 4.4 Volume 2, "Message Recovery".
+    pub fn next_in(&self) -> u64
+        ensures { (s : Settings) (c : ℕ) (calls : List Timed) → ClientLeaves s c calls self.now.session → result ≡ expected_in s c calls }
+    {
+        calls_determine_runs();
+        self.session.next_in()
     }
 }

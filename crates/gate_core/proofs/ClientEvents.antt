@@ -13,9 +13,10 @@ use Rattle.core_law.specs.Due.{to_client_of, to_port_of, reports_of, client_name
 use Rattle.core_law.specs.Promises.{Asks, AsksAgain, AsksOnlyThen, comes_up, is_given_up, port_in}
 use Rattle.core_lines.specs.Lines.{ClientsLeave, ClientLinks, called_all, linked}
 use Rattle.gate_core.specs.declared.gate.Gate.{Gate}
-use Rattle.gate_core.specs.Links.{unlinked}
+use Rattle.core_batches.specs.Links.{unlinked}
 use Rattle.gate_core.specs.State.{Parts}
-use Rattle.gate_core.specs.Steps.{Ready, Stepped, batch_of}
+use Rattle.gate_core.specs.Steps.{Ready, Stepped}
+use Rattle.core_batches.specs.Batches.{batch_of}
 use Rattle.gate_core.proofs.Told.{named-client}
 
 -- ---- the lists after it
@@ -108,7 +109,7 @@ client-event s e v g new c move calls outs is lines reports quiet named calls_we
 
 -- ---- an event that does nothing
 
-not-stepped-outcome : (s : Settings) (e : Event) (b : Batch) (v : Lists) → is_stepped s e v ≡ false → outcome s e b v ≡ nothing
+pub not-stepped-outcome : (s : Settings) (e : Event) (b : Batch) (v : Lists) → is_stepped s e v ≡ false → outcome s e b v ≡ nothing
 not-stepped-outcome s e b v none = rw none refl
 
 pub no-client-lines : (s : Settings) (link : Option ℕ) → [] ≡ to_client s 0 link []

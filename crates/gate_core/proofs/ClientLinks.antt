@@ -12,10 +12,11 @@ use Rattle.core_law.specs.After.{unless_closed}
 use Rattle.core_lines.specs.declared.client_line.ClientLine.{ClientLine}
 use Rattle.core_lines.specs.Lines.{ClientsLeave, ClientLinks, called, linked}
 use Rattle.gate_core.specs.declared.gate.Gate.{Gate}
-use Rattle.gate_core.specs.Links.{unlinked}
+use Rattle.core_batches.specs.Links.{unlinked}
 use Rattle.session_frames.specs.declared.output.SessionOut.{SessionOut}
 use Rattle.order_law.specs.Messages.{Message}
-use Rattle.gate_core.specs.Steps.{IsHeard, Ready, Stepped, batch_of}
+use Rattle.gate_core.specs.Steps.{IsHeard, Ready, Stepped}
+use Rattle.core_batches.specs.Batches.{batch_of}
 use Rattle.gate_core.proofs.Told.{same}
 use Rattle.gate_core.proofs.ClientEvents.{client-event, nothing-done, asks-nothing}
 

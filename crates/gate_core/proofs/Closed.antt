@@ -8,9 +8,9 @@ use Rattle.core_law.specs.After.{closed}
 use Rattle.core_lines.specs.Lines.{ClientsLeave, ClientLinks, PortsLeave, PortLinks}
 use Rattle.std.specs.Prelude.{is_some, not}
 use Rattle.gate_core.specs.declared.gate.Gate.{Gate}
-use Rattle.gate_core.specs.Links.{unlinked}
+use Rattle.core_batches.specs.Links.{unlinked}
 use Rattle.gate_core.specs.State.{Parts}
-use Rattle.gate_core.specs.Steps.{batch_of}
+use Rattle.core_batches.specs.Batches.{batch_of}
 use Rattle.gate_core.proofs.Told.{named-client, named-port}
 
 pub closed-parts : (s : Settings) (n p : ℕ) (reports : List Message) (client_out port_out : List LinkOut) (fault : Option ℕ) (x : Lists) (mid new : Gate)

@@ -20,11 +20,11 @@ while-if : (up b : Bool) (x y : Answer) → (b ≡ true → WhileUp up x) → (b
 while-if up true x y f g = f refl
 while-if up false x y f g = g refl
 
-none-if : (b : Bool) (x y : Answer) → x.payload ≡ None → y.payload ≡ None → (if b then x else y).payload ≡ None
+pub none-if : (b : Bool) (x y : Answer) → x.payload ≡ None → y.payload ≡ None → (if b then x else y).payload ≡ None
 none-if true x y f g = f
 none-if false x y f g = g
 
-logs-none : (s : Standing) (session : List ℕ) (number : Option ℕ) → (logs_in s session number).payload ≡ None
+pub logs-none : (s : Standing) (session : List ℕ) (number : Option ℕ) → (logs_in s session number).payload ≡ None
 logs-none s session None = refl
 logs-none s session (Some k) = none-if (k == 0) _ _ refl (none-if (is_other session s.session) _ _ refl (none-if (nat_lt (wanted s) k) _ _ refl refl))
 

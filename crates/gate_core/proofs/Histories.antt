@@ -2,8 +2,8 @@
 use Rattle.std.proofs.Common.{◌≡◌, ◌+◌, ◌<◌, ℕ, List, [], ◌∷◌, ◌++◌, length, take, get_or, refl, sym, ap, ◌∙◌, arith, length-take-le}
 use Rattle.std.proofs.lemmas.List.{take_more}
 use Rattle.core_law.specs.Events.{History}
-use Rattle.gate_core.specs.declared.event.Event.{Event}
-use Rattle.gate_core.specs.declared.batch.Batch.{Batch}
+use Rattle.core_batches.specs.declared.event.Event.{Event}
+use Rattle.core_batches.specs.declared.batch.Batch.{Batch}
 use Rattle.gate_core.specs.Core.{history, onto, turn_of}
 
 onto-push : (events : List Event) (batches : List Batch) (e : Event) (b : Batch) (before : History) → length events ≡ length batches

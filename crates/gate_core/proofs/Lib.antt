@@ -1,4 +1,3 @@
-mod Closing
 mod Told
 mod ClientEvents
 mod ClientLinks
@@ -17,3 +16,4 @@ mod PortPackets
 mod Stepping
 mod Settled
 mod Histories
+mod Naming

@@ -23,9 +23,10 @@ use Rattle.core_law.specs.Due.{to_client_of, to_port_of, reports_of}
 use Rattle.core_lines.specs.Lines.{ClientsLeave, ClientLinks, PortsLeave, PortLinks}
 use Rattle.gate_core.specs.declared.gate.Gate.{Gate}
 use Rattle.gate_core.specs.declared.gate.messages.Asked.{Asked}
-use Rattle.gate_core.specs.Links.{told_on, unlinked}
+use Rattle.core_batches.specs.Links.{told_on, unlinked}
 use Rattle.gate_core.specs.State.{AreOpenOnLinks, Parts}
-use Rattle.gate_core.specs.Steps.{IsAsked, OnlyWhileUp, Stepped, after_turn, batch_of, turn_of}
+use Rattle.gate_core.specs.Steps.{IsAsked, OnlyWhileUp, Stepped, after_turn, turn_of}
+use Rattle.core_batches.specs.Batches.{batch_of}
 use Rattle.gate_core.proofs.ClientEvents.{client-called-is}
 use Rattle.gate_core.proofs.Closed.{closed-parts}
 use Rattle.gate_core.proofs.Parted.{port-called-is}

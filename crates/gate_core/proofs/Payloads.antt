@@ -22,9 +22,10 @@ use Rattle.core_law.specs.Promises.{Asks, AsksAgain, comes_up}
 use Rattle.core_lines.specs.declared.client_bodies.Issues.{Issues}
 use Rattle.core_lines.specs.Lines.{ClientsLeave, ClientLinks, PortsLeave, PortLinks}
 use Rattle.gate_core.specs.declared.gate.Gate.{Gate}
-use Rattle.gate_core.specs.Links.{told_on, unlinked}
+use Rattle.core_batches.specs.Links.{told_on, unlinked}
 use Rattle.gate_core.specs.State.{Parts}
-use Rattle.gate_core.specs.Steps.{IsGiven, IsIssued, IsTold, Stepped, batch_of, heard_turn}
+use Rattle.gate_core.specs.Steps.{IsGiven, IsIssued, IsTold, Stepped, heard_turn}
+use Rattle.core_batches.specs.Batches.{batch_of}
 use Rattle.gate_core.proofs.ClientEvents.{client-called-is, no-client-lines}
 use Rattle.gate_core.proofs.ClientLinks.{untold}
 use Rattle.gate_core.proofs.Closed.{closed-parts}

@@ -12,9 +12,10 @@ use Rattle.core_law.specs.Due.{to_client_of, to_port_of, reports_of, port_named}
 use Rattle.core_law.specs.Promises.{Asks}
 use Rattle.core_lines.specs.Lines.{PortsLeave, PortLinks, NextWithin, called_all}
 use Rattle.gate_core.specs.declared.gate.Gate.{Gate}
-use Rattle.gate_core.specs.Links.{unlinked}
+use Rattle.core_batches.specs.Links.{unlinked}
 use Rattle.gate_core.specs.State.{Parts}
-use Rattle.gate_core.specs.Steps.{Grows, Stepped, batch_of}
+use Rattle.gate_core.specs.Steps.{Grows, Stepped}
+use Rattle.core_batches.specs.Batches.{batch_of}
 use Rattle.gate_core.proofs.Told.{named-port}
 use Rattle.gate_core.proofs.Parted.{port-called-is}
 use Rattle.gate_core.proofs.ClientEvents.{moved_link, no-client-lines}

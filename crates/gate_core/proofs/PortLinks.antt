@@ -14,8 +14,9 @@ use Rattle.core_law.specs.After.{unless_closed}
 use Rattle.core_lines.specs.declared.port_line.PortLine.{PortLine}
 use Rattle.core_lines.specs.Lines.{PortsLeave, PortLinks, called, linked}
 use Rattle.gate_core.specs.declared.gate.Gate.{Gate}
-use Rattle.gate_core.specs.Links.{unlinked}
-use Rattle.gate_core.specs.Steps.{Ready, Stepped, batch_of}
+use Rattle.core_batches.specs.Links.{unlinked}
+use Rattle.gate_core.specs.Steps.{Ready, Stepped}
+use Rattle.core_batches.specs.Batches.{batch_of}
 use Rattle.gate_core.proofs.Told.{same}
 use Rattle.gate_core.proofs.ClientEvents.{nothing-done, asks-nothing, no-port-lines}
 use Rattle.gate_core.proofs.ClientLinks.{not-equal, only-one}

@@ -17,8 +17,9 @@ use Rattle.core_law.specs.Outcome.{Stays, message_in, messages, by_event, by_pay
 use Rattle.core_law.specs.Promises.{AsksAgain, comes_up, is_given_up}
 use Rattle.core_lines.specs.Lines.{PortsLeave, PortLinks, called, called_all}
 use Rattle.gate_core.specs.declared.gate.Gate.{Gate}
-use Rattle.gate_core.specs.Links.{unlinked}
-use Rattle.gate_core.specs.Steps.{IsGiven, Ready, Stepped, batch_of}
+use Rattle.core_batches.specs.Links.{unlinked}
+use Rattle.gate_core.specs.Steps.{IsGiven, Ready, Stepped}
+use Rattle.core_batches.specs.Batches.{batch_of}
 use Rattle.gate_core.specs.Hearing.{IsSentAgain, AreDue, came_up}
 use Rattle.gate_core.proofs.Told.{port-told}
 use Rattle.gate_core.proofs.Parted.{ports-parts}

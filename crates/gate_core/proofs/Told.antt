@@ -12,7 +12,7 @@ use Rattle.core_law.specs.Settings.{Settings, client_name}
 use Rattle.core_law.specs.Events.{LinkOut, is_number}
 use Rattle.core_law.specs.Sessions.{to_client, to_port, to_link, port_line}
 use Rattle.core_law.specs.After.{unless_closed}
-use Rattle.gate_core.specs.Links.{told_on, unlinked}
+use Rattle.core_batches.specs.Links.{told_on, unlinked}
 
 -- ---- what goes to a link
 

@@ -5,10 +5,10 @@ use Rattle.core_law.specs.Events as law
 use Rattle.core_law.specs.Events.{History}
 use Rattle.core_law.specs.After.{is_within, lists, most_events}
 use Rattle.core_law.specs.Holds.{Holds}
-use Rattle.gate_core.specs.declared.event.Event.{Event}
-use Rattle.gate_core.specs.declared.batch.Batch.{Batch}
+use Rattle.core_batches.specs.declared.event.Event.{Event}
+use Rattle.core_batches.specs.declared.batch.Batch.{Batch}
 use Rattle.gate_core.specs.declared.gate.Gate.{Gate}
-use Rattle.gate_core.specs.Seen.{batch_seen, event_seen}
+use Rattle.core_batches.specs.Seen.{batch_seen, event_seen}
 use Rattle.gate_core.specs.State.{HasNumbers, IsShaped, Parts}
 
 -- its parts, and how many events were stepped

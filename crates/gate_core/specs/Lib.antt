@@ -1,6 +1,6 @@
-pub mod Seen
-pub mod Links
 pub mod State
 pub mod Steps
 pub mod Hearing
+pub mod Targets
+pub mod Expected
 pub mod Core

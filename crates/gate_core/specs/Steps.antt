@@ -1,5 +1,5 @@
 -- What a step on the parts gives, and what it leaves.
-use Rattle.std.specs.Prelude.{◌≡◌, ℕ, ◌+◌, ◌≤◌, ◌<◌, ◌^◌, ◌==◌, not, ◌&&◌, true, false, List, [], ◌∷◌, length, map, Option, Some, None, is_some, if◌then◌else◌}
+use Rattle.std.specs.Prelude.{◌≡◌, ℕ, ◌+◌, ◌≤◌, ◌<◌, ◌^◌, ◌&&◌, true, false, List, [], ◌∷◌, length, map, Option, Some, None}
 use Rattle.fix_types.specs.declared.application.AppMsg.{AppMsg}
 use Rattle.ouch_codec.specs.Inbound.{inbound_bytes}
 use Rattle.session_law.specs.Frames.{told_of}
@@ -17,7 +17,7 @@ use Rattle.order_core.specs.State as core
 use Rattle.order_core.specs.declared.outcome.CoreOut.{CoreOut}
 use Rattle.to_client.specs.Pending.{body_fields}
 use Rattle.core_law.specs.Settings.{Settings, terms, port_of, client_name, has_client, has_port}
-use Rattle.core_law.specs.Events.{Event, LinkOut, Batch, is_number}
+use Rattle.core_law.specs.Events.{Event, Batch, is_number}
 use Rattle.core_law.specs.Lists.{Lists, client_called, port_called, turned, client_called_all, port_called_all}
 use Rattle.core_law.specs.Sessions.{client_answer, port_answer, port_state, stands_of, message_fields, issues, sends, client_outs, client_reports, port_outs}
 use Rattle.core_law.specs.After.{after}
@@ -30,17 +30,6 @@ use Rattle.gate_core.specs.declared.gate.messages.Asked.{Asked}
 use Rattle.gate_core.specs.declared.gate.payloads.Judged.{Judged}
 use Rattle.gate_core.specs.declared.gate.payloads.Judged.TheVariants as judgements
 use Rattle.gate_core.specs.State.{Parts, AreOpenOnLinks}
-
--- a batch by its parts, that names this client and this port where there is something for them
-abbrev pub batch_of : ℕ → List Message → List LinkOut → ℕ → List LinkOut → Option ℕ → Batch
-batch_of client reports client_out port port_out fault = record {
-  client = if not ((length reports == 0) && (length client_out == 0)) then Some client else None;
-  reports = reports;
-  client_out = client_out;
-  port = if not ((length port_out == 0) && not (is_some fault)) then Some port else None;
-  port_out = port_out;
-  fault = fault;
-}
 
 -- what is known of the parts before a step: they are what the lists leave, links are current just where sessions are open, and there
 -- were fewer turns than are ever made

@@ -8,6 +8,7 @@ mod new;
 mod packets;
 mod payloads;
 mod ports;
+mod targets;
 
 ghost use Rattle.std.specs.Prelude.{◌≡◌, ◌<◌, ◌+◌, ◌&&◌, nat_le, is_some, IfSome};
 

@@ -4,15 +4,12 @@
 //! Source: FIX 4.4 Volumes 2 and 4; OUCH 4.2; SoupBinTCP 3.00.
 #![tactic(auto)]
 
-mod batch;
-mod event;
 mod gate;
-mod link_outs;
-mod links;
 mod runs;
+mod targets;
 mod whole;
 
-pub use batch::{Batch, LinkOut};
-pub use event::Event;
+pub use core_batches::{Batch, Event, LinkOut};
 pub use runs::run_all;
+pub use targets::Targets;
 pub use whole::Core;

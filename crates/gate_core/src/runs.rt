@@ -4,9 +4,8 @@ ghost use Rattle.std.specs.Prelude.{◌≡◌, length, IfOk};
 ghost use Rattle.core_law.specs.Holds.{Holds};
 ghost use Rattle.gate_core.specs.Core.{history};
 
-use crate::batch::Batch;
-use crate::event::Event;
 use crate::whole::Core;
+use core_batches::{Batch, Event};
 use core_settings::Settings;
 use std::alloc::{AllocError, Global};
 

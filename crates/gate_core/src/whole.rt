@@ -1,10 +1,10 @@
 //! The value, and the call that steps it.
 
-ghost use Rattle.std.specs.Prelude.{[], ◌∷◌, IfOk};
+ghost use Rattle.std.specs.Prelude.{[], ◌∷◌, ◌≡◌, IfOk};
 
-use crate::batch::Batch;
-use crate::event::Event;
 use crate::gate::Gate;
+use crate::targets::Targets;
+use core_batches::{Batch, Event};
 use core_law::{
     links_are_current_while_sessions_are_open, steps_keep_the_promises,
     turns_are_no_more_than_events,
@@ -38,9 +38,15 @@ impl Model for Core {
 
 impl Core {
     ghost use Rattle.core_law.specs.Settings as law;
+    ghost use Rattle.core_law.specs.Events as told;
     ghost use Rattle.core_law.specs.Events.{History};
+    ghost use Rattle.core_law.specs.After.{lists};
     ghost use Rattle.core_law.specs.Holds.{Holds};
+    ghost use Rattle.core_law.specs.Promises.{IsAmong};
     ghost use Rattle.gate_core.specs.Core.{IsAfter, turn_of};
+    ghost use Rattle.gate_core.specs.Expected.{next_of};
+    ghost use Rattle.core_batches.specs.Seen.{event_seen};
+    ghost use Rattle.gate_core.specs.Targets.{client_for, port_for};
 
     /// The core of these settings before the first event.
     pub fn new(alloc: Global, settings: &Settings) -> Result<Core, AllocError>
@@ -72,5 +78,27 @@ impl Core {
         }
         self.events += 1;
         self.gate.event(alloc, event)
+    }
+
+    /// Whom the batch of this event may name, if it is stepped next: at most one client and one port, and nobody that the
+    /// settings don't have. A batch names nobody else; whom it may name it need not. Takes no memory.
+    pub fn targets(&self, event: &Event) -> Targets
+        ensures client { (s : law.Settings) (before : History) → IsAfter s before self.now → result.client ≡ client_for s (event_seen event.now) (lists s before) }
+        ensures port { (s : law.Settings) (before : History) → IsAfter s before self.now → result.port ≡ port_for s (event_seen event.now) }
+        ensures named { (s : law.Settings) (before : History) (batch : told.Batch) → IsAfter s before self.now → Holds s (record { event = event_seen event.now; batch = batch } ∷ before)
+            → IsAmong batch.client result.client × IsAmong batch.port result.port }
+    {
+        turns_are_no_more_than_events();
+        self.gate.targets(event)
+    }
+
+    /// The number that is expected of a client's next frame (MsgSeqNum, 34); none of a client that the settings don't have.
+    /// Takes no memory.
+    ///
+    /// Source: FIX 4.4 Volume 2, "Message Recovery".
+    pub fn next_in(&self, client: u16) -> Option<u64>
+        ensures { (s : law.Settings) (before : History) → IsAfter s before self.now → result ≡ next_of s client ((lists s before).client_calls client) }
+    {
+        self.gate.next_in(client)
     }
 }

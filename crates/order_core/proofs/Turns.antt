@@ -2,14 +2,12 @@
 use Rattle.std.proofs.Common.{◌≡◌, ℕ, suc, ◌<◌, ◌^◌, ◌++◌, List, [], ◌∷◌, length, map, refl, sym, ap, ◌∙◌, subst, subst₂, arith, decimal, Option, None, Some, Result, Ok, Err, get_or}
 use Rattle.std.specs.Prelude.{OnErr, Bool, nat_lt, true}
 use Rattle.std.proofs.lemmas.Bool.Decides.{nat_tests}
-use Rattle.fix_types.specs.declared.application.AppBody.{AppBody}
 use Rattle.fix_types.specs.declared.application.AppMsg.{AppMsg}
 use Rattle.ouch_codec.specs.declared.inbound.Inbound.{Inbound}
 use Rattle.ouch_codec.specs.Inbound.{inbound_bytes}
 use Rattle.order_law.specs.Headline.{Each, EachWith, Says, Sends}
 use Rattle.order_law.specs.History.{Asked, Heard, History, Terms, Turn, terms_of}
 use Rattle.order_law.specs.Lawful.{order_token}
-use Rattle.order_law.specs.Life.{is_closed}
 use Rattle.order_law.specs.Verdicts.{Port, Down, Up, Ended, Faulted}
 use Rattle.order_histories.specs.Told.{AreBytes}
 use Rattle.order_histories.specs.Table.{State, empty}

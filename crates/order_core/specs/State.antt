@@ -1,5 +1,5 @@
 -- What callers see of the core: how many clients and numbers there are, and which turns it is after.
-use Rattle.std.specs.Prelude.{ℕ, ◌<◌, ◌^◌, List}
+use Rattle.std.specs.Prelude.{ℕ, List}
 use Rattle.order_law.specs.History.{History, Terms}
 use Rattle.order_histories.specs.Runs.{Leaves}
 use Rattle.order_histories.specs.Table.{State}

@@ -1,6 +1,7 @@
 //! The value, and the calls that step it.
 
 ghost use Rattle.std.specs.Prelude.{◌≡◌, ◌≤◌, ◌+◌, length, map, IfOk, OnErr, ◌<◌, ◌^◌, ◌∷◌, [], ℕ, List};
+ghost use Rattle.ouch_codec.specs.FromMarket as heard;
 ghost use Rattle.ouch_codec.specs.Inbound.{inbound_bytes};
 ghost use Rattle.to_market.specs.PortsSeen.{port_seen};
 ghost use Rattle.order_core.specs.Meets.{sent_of};
@@ -12,6 +13,7 @@ use asked_messages::{
 use fix_types::AppMsg;
 use order_histories::{
     asked_tokens_lead_to_their_orders, orders_go_by_their_numbers, tables_have_the_headline,
+    tokens_lead_to_accepted_orders,
 };
 use order_ledger::{ClientTerms, MarketError, OrderLedger, PortState};
 use ouch_codec::Inbound;
@@ -37,7 +39,9 @@ impl Model for OrderCore {
 
 impl OrderCore {
     ghost use Rattle.order_law.specs.Headline.{EachWith, Headline};
-    ghost use Rattle.order_law.specs.History.{History, Terms, outstanding};
+    ghost use Rattle.std.specs.Prelude.{option_map};
+    ghost use Rattle.order_law.specs.History.{Entry, History, Terms, accepted, outstanding};
+    ghost use Rattle.order_law.specs.Lawful.{order_of_token};
     ghost use Rattle.asked_messages.specs.KeptInTurns.{SaysIn};
     ghost use Rattle.to_market.specs.TermsSeen.{terms_seen};
     ghost use Rattle.order_core.specs.Meets.{MeetsClient, MeetsPayload};
@@ -129,6 +133,18 @@ impl OrderCore {
         self.asked.on_port(alloc, port)
     }
 
+    /// The number of the client whose order a payload of a market port is on, from 1: that of its token, whatever else the
+    /// payload is.
+    ///
+    /// Source: OUCH 4.2, "Outbound Messages" (Order Token).
+    pub fn client_of(&self, port: u16, payload: &[u8]) -> Option<u16>
+        ensures { (terms : List Terms) (before : History) → length before < 2 ^ 58 → IsAfter terms before self.now
+            → result ≡ option_map (λ (new : Entry). new.client) (order_of_token terms port (accepted terms before) (heard.token payload.now)) }
+    {
+        tokens_lead_to_accepted_orders();
+        self.ledger.client_of_token(port, token_of(payload))
+    }
+
     /// The step of a client's message: on the ledger, and then what it asks is kept.
     fn client_step(
         &mut self,
@@ -188,4 +204,21 @@ fn sent_now(alloc: Global, asks: Vec<Inbound>, port: PortState) -> Vec<Inbound>
         PortState::Up => asks,
         PortState::Waiting | PortState::Ended | PortState::Faulted(_) => Vec::new(alloc),
     }
+}
+
+/// The bytes of a payload at which each message that has a token has it: fewer than 14 where the payload is short.
+///
+/// Source: OUCH 4.2, "Outbound Messages" (Order Token, offset 9).
+fn token_of(payload: &[u8]) -> &[u8]
+    ensures { result.now ≡ heard.token payload.now }
+{
+    if payload.len() < 9 {
+        return &[];
+    }
+    let (_, behind) = payload.split_at(9);
+    if behind.len() < 14 {
+        return behind;
+    }
+    let (token, _) = behind.split_at(14);
+    token
 }

@@ -42,3 +42,4 @@ pub mod NewlyAsked
 pub mod AllAsked
 pub mod Known
 pub mod Numbers
+pub mod Leading

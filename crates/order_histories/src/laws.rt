@@ -1,6 +1,6 @@
 //! The law of told histories, for those who reason about runs.
 
-ghost use Rattle.std.specs.Prelude.{ℕ, ◌≡◌, ◌<◌, ◌^◌, ◌∷◌, List, Option, Some, filter, length};
+ghost use Rattle.std.specs.Prelude.{ℕ, ◌≡◌, ◌<◌, ◌^◌, ◌∷◌, List, Option, Some, filter, length, option_map};
 ghost use Rattle.order_law.specs.History.{Entry, History, Terms, Turn, accepted, is_new_order, outstanding, terms_of};
 ghost use Rattle.order_law.specs.Headline.{Each, Headline, IsTrueToMarket};
 ghost use Rattle.order_law.specs.Messages.{Message};
@@ -10,7 +10,8 @@ ghost use Rattle.order_histories.specs.Machine.{client_step};
 ghost use Rattle.order_histories.specs.OrderRecord.{OrderRecord};
 ghost use Rattle.order_histories.specs.Outstanding.{LeavesAsked, OnPort, on_port};
 ghost use Rattle.order_histories.specs.Runs.{Finds, LeadsTo, Leaves};
-ghost use Rattle.order_histories.specs.Table.{State, by_id, by_number};
+ghost use Rattle.order_law.specs.Lawful.{order_of_token};
+ghost use Rattle.order_histories.specs.Table.{State, by_id, by_number, by_token};
 ghost use Rattle.order_histories.specs.Told.{IsTold};
 
 /// In every history whose turns tell what the law tells, with the faults that it judges, each accepted order is true to the
@@ -50,4 +51,11 @@ pub fn asked_tokens_lead_to_their_orders()
 pub fn orders_go_by_their_numbers()
     ensures { (terms : List Terms) (before : History) (s : State) (client : ℕ) (id : List ℕ) (o : OrderRecord) → length before < 2 ^ 58 → Leaves terms before s
         → by_id s client id ≡ Some o → by_number s o.new.order ≡ Some o }
+{}
+
+/// In every run, a token of a port leads in the table to the order that it leads to in the law, so to the same client's. It
+/// does nothing: its contract is the law, for callers to cite.
+pub fn tokens_lead_to_accepted_orders()
+    ensures { (terms : List Terms) (before : History) (s : State) → length before < 2 ^ 58 → Leaves terms before s
+        → (port : ℕ) (token : List ℕ) → option_map (λ (o : OrderRecord). o.new) (by_token s port token) ≡ order_of_token terms port (accepted terms before) token }
 {}

@@ -9,5 +9,5 @@ mod laws;
 
 pub use laws::{
     asked_tokens_lead_to_their_orders, lists_have_what_is_outstanding, orders_go_by_their_numbers,
-    tables_have_the_headline, told_orders_are_true,
+    tables_have_the_headline, tokens_lead_to_accepted_orders, told_orders_are_true,
 };

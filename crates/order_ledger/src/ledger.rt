@@ -49,7 +49,9 @@ impl Model for OrderLedger {
 
 impl OrderLedger {
     ghost use Rattle.order_law.specs.History.{terms_of};
-    ghost use Rattle.order_histories.specs.Table.{empty};
+    ghost use Rattle.std.specs.Prelude.{option_map};
+    ghost use Rattle.order_histories.specs.OrderRecord.{OrderRecord};
+    ghost use Rattle.order_histories.specs.Table.{by_token, empty};
     ghost use Rattle.to_market.specs.PortsSeen.{port_seen};
     ghost use Rattle.to_market.specs.TermsSeen.{terms_seen};
     ghost use Rattle.order_ledger.specs.Meets.{MeetsMessage};
@@ -74,6 +76,16 @@ impl OrderLedger {
         ensures { result ≡ (terms_of self.now.terms client).port }
     {
         terms_at(&self.terms, client).port
+    }
+
+    /// The number of the client of the order that a token of a port leads to, from 1.
+    pub fn client_of_token(&self, port: u16, token: &[u8]) -> Option<u16>
+        ensures { result ≡ option_map (λ (o : OrderRecord). o.new.client) (by_token self.now port token.now) }
+    {
+        match self.table.by_token(port, token) {
+            None => None,
+            Some(order) => Some(order.client),
+        }
     }
 
     /// Steps an application message of a client, whose port stands as given. The client is one of the terms'.

@@ -41,7 +41,7 @@ fn is_number(order_id: u64, order: &Order) -> bool
 }
 
 /// The newest token that a port knows by this text.
-pub fn token_place(tokens: &[GivenToken], port: u16, token: &[u8; 14]) -> Option<usize>
+pub fn token_place(tokens: &[GivenToken], port: u16, token: &[u8]) -> Option<usize>
     ensures { MatchOption result
         (find (table.is_token port token.now) (reverse tokens.now) ≡ None)
         (λ place. IsNewest (table.is_token port token.now) tokens.now place) }
@@ -53,7 +53,7 @@ pub fn token_place(tokens: &[GivenToken], port: u16, token: &[u8; 14]) -> Option
 }
 
 /// How many tokens are newer than it.
-fn tokens_behind(tokens: &[GivenToken], port: u16, token: &[u8; 14]) -> Option<usize>
+fn tokens_behind(tokens: &[GivenToken], port: u16, token: &[u8]) -> Option<usize>
     ensures { result ≡ position (table.is_token port token.now) (reverse tokens.now) }
 {
     tokens
@@ -63,10 +63,10 @@ fn tokens_behind(tokens: &[GivenToken], port: u16, token: &[u8; 14]) -> Option<u
 }
 
 /// Whether a port knows a token by this text.
-fn is_token(port: u16, token: &[u8; 14], given: &GivenToken) -> bool
+fn is_token(port: u16, token: &[u8], given: &GivenToken) -> bool
     ensures { result ≡ table.is_token port token.now given.now }
 {
-    given.port == port && given.token == *token
+    given.port == port && given.token.as_slice() == token
 }
 
 /// The newest order of a client that goes by a ClOrdID.

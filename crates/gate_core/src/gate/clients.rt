@@ -4,13 +4,13 @@ ghost use Rattle.std.specs.Prelude.{◌≡◌, ◌<◌, ◌+◌, ◌&&◌, lengt
 ghost use Rattle.core_law.specs.Settings.{Settings, has_client};
 ghost use Rattle.core_law.specs.Events.{ClientUp, ClientGone, ClientTick, is_number};
 ghost use Rattle.core_law.specs.Lists.{Lists};
-ghost use Rattle.gate_core.specs.Seen.{batch_seen};
+ghost use Rattle.core_batches.specs.Seen.{batch_seen};
 ghost use Rattle.gate_core.specs.State.{Parts};
 ghost use Rattle.gate_core.specs.Steps.{Grows, Ready, Stepped};
+ghost use Rattle.gate_core.specs.Expected.{next_of};
 
 use super::{Gate, place_of};
-use crate::batch::Batch;
-use crate::links::{only_outs, told_client};
+use core_batches::{Batch, only_outs, told_client};
 use core_lines::{client_comes, client_goes, client_ticks};
 use std::alloc::{AllocError, Global};
 
@@ -96,5 +96,13 @@ impl Gate {
         } else {
             None
         }
+    }
+
+    /// The number that is expected of the next frame of a client, where the settings have the client.
+    pub(crate) fn next_in(&self, client: u16) -> Option<u64>
+        ensures { (s : Settings) (v : Lists) → Parts s v self.now → result ≡ next_of s client (v.client_calls client) }
+    {
+        let place = self.client_place(client)?;
+        Some(self.clients[place].next_in())
     }
 }

@@ -5,13 +5,12 @@ ghost use Rattle.order_core.specs.State.{HasRoom};
 ghost use Rattle.core_law.specs.Settings.{Settings};
 ghost use Rattle.core_law.specs.Lists.{Lists};
 ghost use Rattle.core_lines.specs.Lines.{NextWithin};
-ghost use Rattle.gate_core.specs.Seen.{batch_seen, event_seen};
+ghost use Rattle.core_batches.specs.Seen.{batch_seen, event_seen};
 ghost use Rattle.gate_core.specs.State.{IsShaped};
 ghost use Rattle.gate_core.specs.Steps.{Grows, Ready, Stepped};
 
 use super::Gate;
-use crate::batch::Batch;
-use crate::event::Event;
+use core_batches::{Batch, Event};
 use std::alloc::{AllocError, Global};
 
 impl Gate {

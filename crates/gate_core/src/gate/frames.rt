@@ -6,14 +6,13 @@ ghost use Rattle.core_law.specs.Settings.{Settings};
 ghost use Rattle.core_law.specs.Events.{ClientMessage};
 ghost use Rattle.core_law.specs.Lists.{Lists};
 ghost use Rattle.order_core.specs.State.{HasRoom};
-ghost use Rattle.gate_core.specs.Seen.{batch_seen};
+ghost use Rattle.core_batches.specs.Seen.{batch_seen};
 ghost use Rattle.gate_core.specs.State.{IsShaped};
 ghost use Rattle.gate_core.specs.Steps.{Grows, IsHeard, Ready, Stepped};
 
 use super::Gate;
 use super::messages::Asked;
-use crate::batch::Batch;
-use crate::links::{told_client, told_port};
+use core_batches::{Batch, told_client, told_port};
 use core_law::packets_have_the_messages_sent;
 use core_lines::{Issues, client_hears};
 use fix_fields::Fields;

@@ -6,7 +6,7 @@ ghost use Rattle.core_law.specs.Settings.{Settings};
 ghost use Rattle.core_law.specs.Events.{PortPacket};
 ghost use Rattle.core_law.specs.Lists.{Lists};
 ghost use Rattle.core_law.specs.Sessions.{fault_in, port_state};
-ghost use Rattle.gate_core.specs.Seen.{batch_seen};
+ghost use Rattle.core_batches.specs.Seen.{batch_seen};
 ghost use Rattle.order_core.specs.State.{HasRoom};
 ghost use Rattle.core_lines.specs.Lines.{NextWithin};
 ghost use Rattle.gate_core.specs.State.{IsShaped, Parts};
@@ -14,8 +14,7 @@ ghost use Rattle.gate_core.specs.Steps.{Grows, IsGiven, Ready, Stepped};
 ghost use Rattle.gate_core.specs.Hearing.{IsSentAgain};
 
 use super::Gate;
-use crate::batch::Batch;
-use crate::links::told_port;
+use core_batches::{Batch, told_port};
 use core_law::packets_have_the_messages_sent;
 use core_lines::port_hears;
 use soup_packets::Packet;

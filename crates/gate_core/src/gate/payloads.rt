@@ -10,13 +10,12 @@ ghost use Rattle.soup_packets.specs.declared.packet.Packet.{Packet};
 ghost use Rattle.soup_session.specs.Table.{Hears};
 ghost use Rattle.to_client.specs.Pending.{body_fields};
 ghost use Rattle.gate_core.specs.declared.gate.Gate.{Gate};
-ghost use Rattle.gate_core.specs.Seen.{batch_seen};
+ghost use Rattle.core_batches.specs.Seen.{batch_seen};
 ghost use Rattle.gate_core.specs.State.{IsShaped, Parts};
 ghost use Rattle.gate_core.specs.Steps.{Grows, IsFaulty, IsGiven, IsJudged, IsTold, IsWithin, Stepped};
 
 use super::{Gate, place_of};
-use crate::batch::Batch;
-use crate::links::{told_client, told_port};
+use core_batches::{Batch, told_client, told_port};
 use core_law::{packets_have_the_messages_sent, payloads_are_told_to_clients_that_came};
 use core_lines::{Issues, port_fails};
 use fix_types::AppBody;

@@ -7,13 +7,12 @@ ghost use Rattle.core_law.specs.Events.{PortUp, PortGone, PortTick, is_number};
 ghost use Rattle.core_law.specs.Lists.{Lists};
 ghost use Rattle.core_law.specs.Sessions.{port_state};
 ghost use Rattle.core_lines.specs.Lines.{IsUpAt};
-ghost use Rattle.gate_core.specs.Seen.{batch_seen};
+ghost use Rattle.core_batches.specs.Seen.{batch_seen};
 ghost use Rattle.gate_core.specs.State.{Parts};
 ghost use Rattle.gate_core.specs.Steps.{Grows, Ready, Stepped};
 
 use super::{Gate, place_of};
-use crate::batch::Batch;
-use crate::links::told_port;
+use core_batches::{Batch, told_port};
 use core_law::packets_have_the_messages_sent;
 use core_lines::{port_comes, port_goes, port_ticks};
 use soup_session::PortState;

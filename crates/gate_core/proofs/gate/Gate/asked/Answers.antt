@@ -8,9 +8,10 @@ use Rattle.core_law.specs.Lists.{Lists, client_called}
 use Rattle.core_law.specs.Sessions.{to_port}
 use Rattle.core_lines.specs.Lines.{PortLinks}
 use Rattle.gate_core.specs.declared.gate.Gate.{Gate}
-use Rattle.gate_core.specs.Links.{unlinked}
-use Rattle.gate_core.specs.Seen.{link_out_seen}
-use Rattle.gate_core.specs.Steps.{IsAsked, Ready, Stepped, after_turn, batch_of, turn_of}
+use Rattle.core_batches.specs.Links.{unlinked}
+use Rattle.core_batches.specs.Seen.{link_out_seen}
+use Rattle.gate_core.specs.Steps.{IsAsked, Ready, Stepped, after_turn, turn_of}
+use Rattle.core_batches.specs.Batches.{batch_of}
 use Rattle.gate_core.proofs.Growing.{grows-then, lines-grow}
 use Rattle.gate_core.proofs.Messages.{asked-step}
 use Rattle.gate_core.proofs.gate.Gate.asked.Goals as goal

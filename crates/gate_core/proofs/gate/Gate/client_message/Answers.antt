@@ -5,7 +5,7 @@ use Rattle.session_law.specs.Runs.{Came}
 use Rattle.core_law.specs.Settings.{has_client}
 use Rattle.core_law.specs.Events.{ClientMessage, is_number}
 use Rattle.gate_core.specs.declared.gate.Gate.{Gate}
-use Rattle.gate_core.specs.Seen.{batch_seen}
+use Rattle.core_batches.specs.Seen.{batch_seen}
 use Rattle.gate_core.specs.Steps.{IsHeard, Stepped}
 use Rattle.gate_core.proofs.Parted.{clients-parts}
 use Rattle.gate_core.proofs.gate.Gate.client_message.Goals as goal

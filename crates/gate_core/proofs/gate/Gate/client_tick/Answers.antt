@@ -7,8 +7,9 @@ use Rattle.core_law.specs.Sessions.{client_answer}
 use Rattle.core_law.specs.Events.{ClientTick, Batch}
 use Rattle.core_lines.specs.Lines.{called}
 use Rattle.gate_core.specs.declared.gate.Gate.{Gate}
-use Rattle.gate_core.specs.Seen.{link_out_seen}
-use Rattle.gate_core.specs.Steps.{Stepped, batch_of}
+use Rattle.core_batches.specs.Seen.{link_out_seen}
+use Rattle.gate_core.specs.Steps.{Stepped}
+use Rattle.core_batches.specs.Batches.{batch_of}
 use Rattle.gate_core.proofs.Told.{client-told}
 use Rattle.gate_core.proofs.ClientLinks.{client-tick}
 use Rattle.gate_core.proofs.gate.Gate.client_tick.Goals as goal

@@ -3,7 +3,8 @@ use Rattle.std.proofs.lemmas.Result.{IfOk-weaker}
 use Rattle.core_law.specs.Settings.{has_client}
 use Rattle.core_law.specs.Events.{ClientUp, Batch, Close, empty}
 use Rattle.gate_core.specs.declared.gate.Gate.{Gate}
-use Rattle.gate_core.specs.Steps.{Stepped, batch_of}
+use Rattle.gate_core.specs.Steps.{Stepped}
+use Rattle.core_batches.specs.Batches.{batch_of}
 use Rattle.gate_core.proofs.ClientLinks.{client-comes, client-again, client-refused}
 use Rattle.gate_core.proofs.gate.Gate.client_up.Goals as goal
 

@@ -6,7 +6,7 @@ use Rattle.core_law.specs.Events.{Batch, PortPacket}
 use Rattle.core_law.specs.Lists.{Lists, port_called, turned}
 use Rattle.core_law.specs.Sessions.{port_state}
 use Rattle.gate_core.specs.declared.gate.Gate.{Gate}
-use Rattle.gate_core.specs.Seen.{link_out_seen}
+use Rattle.core_batches.specs.Seen.{link_out_seen}
 use Rattle.gate_core.specs.Steps.{Stepped, heard_turn}
 use Rattle.gate_core.proofs.Growing.{ports-grow}
 use Rattle.gate_core.proofs.Parted.{not-up, ports-parts}

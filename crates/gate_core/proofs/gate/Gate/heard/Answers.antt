@@ -6,7 +6,7 @@ use Rattle.core_law.specs.Lists.{port_called}
 use Rattle.core_law.specs.Sessions.{fault_in, sends, to_port}
 use Rattle.core_lines.specs.Lines.{called_all}
 use Rattle.gate_core.specs.declared.gate.Gate.{Gate}
-use Rattle.gate_core.specs.Seen.{link_out_seen}
+use Rattle.core_batches.specs.Seen.{link_out_seen}
 use Rattle.gate_core.specs.Steps.{Stepped}
 use Rattle.gate_core.proofs.Growing.{ports-grow, grows-then}
 use Rattle.gate_core.proofs.PortEvents.{with-calls}

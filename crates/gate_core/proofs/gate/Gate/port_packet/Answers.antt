@@ -5,7 +5,7 @@ use Rattle.soup_session.specs.declared.port_turn.PortOut.{PortOut}
 use Rattle.core_law.specs.Settings.{has_port}
 use Rattle.core_law.specs.Events.{PortPacket, is_number}
 use Rattle.gate_core.specs.declared.gate.Gate.{Gate}
-use Rattle.gate_core.specs.Seen.{batch_seen}
+use Rattle.core_batches.specs.Seen.{batch_seen}
 use Rattle.gate_core.specs.Steps.{IsGiven, Stepped}
 use Rattle.gate_core.proofs.Growing.{grows-then, grows-within}
 use Rattle.gate_core.proofs.PortEvents.{packets-grow}

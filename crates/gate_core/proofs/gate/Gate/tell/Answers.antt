@@ -7,8 +7,8 @@ use Rattle.core_law.specs.Events.{Batch, PortPacket}
 use Rattle.core_law.specs.Lists.{Lists, client_called_all, port_called, turned}
 use Rattle.core_law.specs.Sessions.{issues}
 use Rattle.gate_core.specs.declared.gate.Gate.{Gate}
-use Rattle.gate_core.specs.Links.{told_on}
-use Rattle.gate_core.specs.Seen.{link_out_seen}
+use Rattle.core_batches.specs.Links.{told_on}
+use Rattle.core_batches.specs.Seen.{link_out_seen}
 use Rattle.gate_core.specs.Steps.{Stepped, heard_turn}
 use Rattle.gate_core.proofs.Growing.{grows-then, lines-grow}
 use Rattle.gate_core.proofs.Payloads.{told-step}

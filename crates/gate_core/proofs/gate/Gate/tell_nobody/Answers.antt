@@ -3,7 +3,7 @@ use Rattle.core_law.specs.Events.{Batch, PortPacket}
 use Rattle.core_law.specs.Lists.{port_called}
 use Rattle.soup_session.specs.Table.{Hears}
 use Rattle.gate_core.specs.declared.gate.Gate.{Gate}
-use Rattle.gate_core.specs.Seen.{link_out_seen}
+use Rattle.core_batches.specs.Seen.{link_out_seen}
 use Rattle.gate_core.specs.Steps.{Stepped}
 use Rattle.gate_core.proofs.Growing.{ports-grow}
 use Rattle.gate_core.proofs.Payloads.{nobody-step}

@@ -6,8 +6,9 @@ use Rattle.core_law.specs.Events.{ClientMessage, Batch}
 use Rattle.core_law.specs.Lists.{Lists, client_called}
 use Rattle.core_law.specs.Sessions.{client_answer}
 use Rattle.gate_core.specs.declared.gate.Gate.{Gate}
-use Rattle.gate_core.specs.Seen.{link_out_seen}
-use Rattle.gate_core.specs.Steps.{Stepped, batch_of}
+use Rattle.core_batches.specs.Seen.{link_out_seen}
+use Rattle.gate_core.specs.Steps.{Stepped}
+use Rattle.core_batches.specs.Batches.{batch_of}
 use Rattle.gate_core.proofs.ClientLinks.{client-frame}
 use Rattle.gate_core.proofs.Told.{client-told}
 use Rattle.gate_core.proofs.gate.Gate.unasked.Goals as goal

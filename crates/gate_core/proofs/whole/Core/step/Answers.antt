@@ -1,7 +1,7 @@
 use Rattle.std.proofs.Common.{◌+◌, refl, sym, ap, ◌∙◌, subst}
 use Rattle.std.proofs.lemmas.Result.{IfOk-weaker}
 use Rattle.gate_core.specs.Core.{CoreState, IsAfter}
-use Rattle.gate_core.specs.Seen.{batch_seen, event_seen}
+use Rattle.core_batches.specs.Seen.{batch_seen, event_seen}
 use Rattle.gate_core.proofs.Stepping.{next-step, numbers-still, past-step, shaped-still, still-few}
 use Rattle.gate_core.proofs.whole.Core.step.Goals as goal
 

@@ -1,4 +1,4 @@
-use Rattle.std.proofs.Common.{◌∷◌, arith}
+use Rattle.std.proofs.Common.{arith}
 use Rattle.order_core.proofs.Turns.{OfTurn-weaker, all-bytes, market-after, parts-of}
 use Rattle.order_core.proofs.order_core.OrderCore.market.Goals as goal
 

@@ -1,6 +1,5 @@
-use Rattle.std.proofs.Common.{[], map, subst, sym}
+use Rattle.std.proofs.Common.{map}
 use Rattle.to_market.specs.TermsSeen.{terms_seen}
-use Rattle.asked_messages.specs.KeptInTurns.{KeepsOutstanding}
 use Rattle.order_core.specs.contracts.order_core.OrderCore.{the_view}
 use Rattle.order_core.proofs.Turns.{empty-after}
 use Rattle.order_core.proofs.order_core.OrderCore.new.Goals as goal

@@ -1,0 +1,15 @@
+-- A batch of these parts.
+use Rattle.std.specs.Prelude.{ℕ, ◌==◌, not, ◌&&◌, List, length, Option, Some, None, is_some, if◌then◌else◌}
+use Rattle.order_law.specs.Messages.{Message}
+use Rattle.core_law.specs.Events.{LinkOut, Batch}
+
+-- a batch by its parts, that names this client and this port where there is something for them
+abbrev pub batch_of : ℕ → List Message → List LinkOut → ℕ → List LinkOut → Option ℕ → Batch
+batch_of client reports client_out port port_out fault = record {
+  client = if not ((length reports == 0) && (length client_out == 0)) then Some client else None;
+  reports = reports;
+  client_out = client_out;
+  port = if not ((length port_out == 0) && not (is_some fault)) then Some port else None;
+  port_out = port_out;
+  fault = fault;
+}
