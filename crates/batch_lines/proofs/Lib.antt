@@ -1,0 +1,4 @@
+mod Fields
+mod Layouts
+mod ToMarket
+mod Whole

@@ -1,0 +1,6 @@
+pub mod Frames
+pub mod Layouts
+pub mod Lines
+pub mod Messages
+pub mod Packets
+pub mod Words
