@@ -2,14 +2,14 @@
 
 ghost use Rattle.std.specs.Prelude.{◌≡◌, ◌++◌, IfOk, OnOk, map};
 ghost use Rattle.std.specs.List.{flat_map};
-ghost use Rattle.gate_core.specs.Seen.{batch_seen, link_out_seen};
+ghost use Rattle.core_batches.specs.Seen.{batch_seen, link_out_seen};
 ghost use Rattle.batch_lines.specs.Lines as shown;
 
 use crate::flags::Flags;
 use crate::frames::push_frame;
 use crate::packets::push_packet;
 use crate::words::{push_name, push_number};
-use gate_core::{Batch, LinkOut};
+use core_batches::{Batch, LinkOut};
 use std::alloc::{AllocError, Global};
 
 /// The lines of a batch: what the client's link is told, then the port's fault, then what the port's link is told. They name the

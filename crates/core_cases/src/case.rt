@@ -1,0 +1,110 @@
+//! A case: a script with what it prints.
+
+use core_scripts::{Flags, run_script};
+use std::alloc::{AllocError, Global};
+use std::io::{self, Write};
+
+/// A script, and what it has to print and to tell.
+#[derive(Drop)]
+pub struct Case {
+    name: Vec<u8>,
+    script: Vec<u8>,
+    /// What the script has to print.
+    wanted: Vec<u8>,
+    /// What has to end it, where it isn't its own end.
+    told: Vec<u8>,
+    flags: Flags,
+    /// Whether each line so far was one of a case.
+    is_read: bool,
+}
+
+impl Case {
+    /// No case yet.
+    pub fn new(alloc: Global) -> Case {
+        Case {
+            name: Vec::new(alloc),
+            script: Vec::new(alloc),
+            wanted: Vec::new(alloc),
+            told: Vec::new(alloc),
+            flags: Flags {
+                num: false,
+                raw: false,
+                cold: false,
+            },
+            is_read: true,
+        }
+    }
+
+    /// A case of this name, of which nothing was read.
+    pub fn named(alloc: Global, name: &[u8]) -> Result<Case, AllocError> {
+        Ok(Case {
+            name: Vec::from_slice(alloc, name)?,
+            ..Case::new(alloc)
+        })
+    }
+
+    /// Takes a line of the case.
+    pub fn take(&mut self, alloc: Global, line: &[u8]) -> Result<(), AllocError> {
+        if line.is_empty() || line.starts_with(b"#") {
+            return Ok(());
+        }
+        if let Some(text) = line.strip_prefix(b"-> ") {
+            return push_line(&mut self.wanted, text);
+        }
+        if let Some(text) = line.strip_prefix(b"!! ") {
+            return push_line(&mut self.told, text);
+        }
+        if let Some(text) = line.strip_prefix(b"-- ") {
+            self.flag(text);
+            return Ok(());
+        }
+        push_line(&mut self.script, line)
+    }
+
+    /// Takes the name of a flag. A name of none makes the case wrong.
+    fn flag(&mut self, name: &[u8]) {
+        if name == b"num".as_slice() {
+            self.flags.num = true;
+        } else if name == b"raw".as_slice() {
+            self.flags.raw = true;
+        } else if name == b"cold".as_slice() {
+            self.flags.cold = true;
+        } else {
+            self.is_read = false;
+        }
+    }
+
+    /// Ends the case, and says whether all was as it is to be.
+    pub fn end<W: Write>(&self, alloc: Global, output: &mut W) -> io::Result<()> {
+        if self.name.is_empty() {
+            return Ok(());
+        }
+        let has_run = self.has_run(alloc);
+        output.write_all(self.name.as_slice())?;
+        output.write_all(if self.is_read && has_run {
+            b": right\n".as_slice()
+        } else {
+            b": WRONG\n".as_slice()
+        })
+    }
+
+    /// Whether the script prints what it has to, and ends as it is to: at its end, or at a line that isn't understood where
+    /// that is told.
+    fn has_run(&self, alloc: Global) -> bool {
+        let mut input = self.script.as_slice();
+        let mut output = Vec::new(alloc);
+        let mut faults = Vec::new(alloc);
+        let status = run_script(alloc, self.flags, &mut input, &mut output, &mut faults);
+        let ends = if self.told.is_empty() { 0 } else { 2 };
+        status == ends
+            && output.as_slice() == self.wanted.as_slice()
+            && faults.as_slice() == self.told.as_slice()
+    }
+}
+
+/// Adds a line.
+fn push_line(text: &mut Vec<u8>, line: &[u8]) -> Result<(), AllocError> {
+    text.extend_from_slice(line)?;
+    text.push(b'\n')?;
+    Ok(())
+}

@@ -1,0 +1,17 @@
+-- The settings of a script.
+use Rattle.std.specs.Prelude.{ℕ, List, [], ◌∷◌, codes}
+use Rattle.soup_session.specs.Table as port
+use Rattle.core_law.specs.Settings.{ClientSettings, Settings}
+use Rattle.core_settings.specs.Seen.{settings_of}
+
+-- of each port
+abbrev pub login : port.Terms
+login = record { user = codes "USER01"; password = codes "PASSWORD" }
+
+-- a client of this name on this port: its orders are entered by the firm FIRM as an agent, for a retail customer
+abbrev pub client_of : List ℕ → ℕ → ClientSettings
+client_of name port = record { comp = name; terms = record { port = port; capacity = 65; standing = record { firm = codes "FIRM"; customer = 82 } } }
+
+-- two clients on the first port, one on the second
+abbrev pub fixed : Settings
+fixed = settings_of (codes "GATE") (login ∷ login ∷ []) (client_of (codes "C1") 1 ∷ client_of (codes "C2") 1 ∷ client_of (codes "C3") 2 ∷ [])

@@ -1,0 +1,17 @@
+-- The status that a run ends with.
+use Rattle.std.specs.Prelude.{ℕ}
+use Rattle.script_lines.specs.declared.line.LineFault.{LineFault}
+use Rattle.script_lines.specs.declared.line.LineFault.TheVariants as line_fault
+use Rattle.core_scripts.specs.declared.stop.Stop.{Stop}
+use Rattle.core_scripts.specs.declared.stop.Stop.TheVariants.{NotUnderstood, NoMemory, Stream}
+
+-- 2 for a line that isn't understood, 1 for what isn't the script's fault
+abbrev pub status_of : Stop → ℕ
+status_of (NotUnderstood line) = 2
+status_of NoMemory = 1
+status_of Stream = 1
+
+-- why a run stops at a line: memory ran out there, or the line isn't understood
+abbrev pub stop_at : ℕ → LineFault → Stop
+stop_at number line_fault.NoMemory = NoMemory
+stop_at number line_fault.NotUnderstood = NotUnderstood number

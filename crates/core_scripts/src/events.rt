@@ -1,0 +1,267 @@
+//! The events that a line is.
+
+use crate::frames::client_frame;
+use crate::links::{ClientLink, PortLink};
+use crate::packets::{end_of_session, login_accepted, sequenced};
+use core_batches::Event;
+use event_lines::Line;
+use fix_fields::Fields;
+use fix_framing::FrameFault;
+use gate_core::Core;
+use script_lines::{Client, LineFault, Port};
+use soup_packets::{Packet, PacketFault};
+use std::alloc::{AllocError, Global};
+
+/// The moment of a script, and the last link of each client and port.
+#[derive(Drop)]
+pub struct Links {
+    /// The moment, in milliseconds since 1970.
+    pub at: u64,
+    /// By their numbers.
+    pub clients: [ClientLink; 3],
+    /// By their numbers.
+    pub ports: [PortLink; 2],
+}
+
+impl Links {
+    /// Moment 0, and no link yet. Takes no memory.
+    pub fn new(alloc: Global) -> Links {
+        Links {
+            at: 0,
+            clients: [
+                ClientLink::new(alloc),
+                ClientLink::new(alloc),
+                ClientLink::new(alloc),
+            ],
+            ports: [PortLink::new(alloc), PortLink::new(alloc)],
+        }
+    }
+
+    /// The events that a line is at the present moment, for a core that is so.
+    ///
+    /// `NotUnderstood` where a client's message would be too long a frame, and where a reader of bytes says that it reads no more.
+    pub fn events_of(
+        &mut self,
+        alloc: Global,
+        core: &Core,
+        line: Line,
+    ) -> Result<Vec<Event>, LineFault> {
+        match line {
+            Line::Empty => Ok(Vec::new(alloc)),
+            Line::At(moment) => {
+                self.at = moment;
+                Ok(Vec::new(alloc))
+            }
+            Line::ClientUp(client) => self.client_up(alloc, client),
+            Line::ClientGone(client) => self.client_gone(alloc, client),
+            Line::ClientTick(client) => self.client_tick(alloc, client),
+            Line::ClientMessage(client, fields) => {
+                self.client_message(alloc, core, client, &fields)
+            }
+            Line::ClientBytes(client, bytes) => self.client_bytes(alloc, client, bytes.as_slice()),
+            Line::PortUp(port) => self.port_up(alloc, port),
+            Line::PortGone(port) => self.port_gone(alloc, port),
+            Line::PortTick(port) => self.port_tick(alloc, port),
+            Line::PortEnd(port) => self.port_packet(alloc, port, end_of_session(alloc)),
+            Line::PortLogin {
+                port,
+                session,
+                number,
+            } => self.port_packet(alloc, port, login_accepted(alloc, &session, &number)?),
+            Line::PortBytes(port, bytes) => self.port_bytes(alloc, port, bytes.as_slice()),
+            Line::Market(port, message) => {
+                self.port_packet(alloc, port, sequenced(alloc, &message)?)
+            }
+        }
+    }
+
+    /// A client's next link is up.
+    fn client_up(&mut self, alloc: Global, client: Client) -> Result<Vec<Event>, LineFault> {
+        let link = &mut self.clients[client.index()];
+        link.next(alloc);
+        one(
+            alloc,
+            Event::ClientUp {
+                client: client.number(),
+                link: link.number,
+                at: self.at,
+            },
+        )
+    }
+
+    /// A client's link is gone.
+    fn client_gone(&self, alloc: Global, client: Client) -> Result<Vec<Event>, LineFault> {
+        one(
+            alloc,
+            Event::ClientGone {
+                client: client.number(),
+                link: self.clients[client.index()].number,
+                at: self.at,
+            },
+        )
+    }
+
+    /// Time passes for a client.
+    fn client_tick(&self, alloc: Global, client: Client) -> Result<Vec<Event>, LineFault> {
+        one(
+            alloc,
+            Event::ClientTick {
+                client: client.number(),
+                at: self.at,
+            },
+        )
+    }
+
+    /// A client's message: a frame of these fields, with the number that the core expects unless they have one.
+    fn client_message(
+        &self,
+        alloc: Global,
+        core: &Core,
+        client: Client,
+        fields: &Fields,
+    ) -> Result<Vec<Event>, LineFault> {
+        let number = core.next_in(client.number()).unwrap_or(1);
+        let frame = client_frame(alloc, client, fields, number, self.at)?;
+        one(
+            alloc,
+            Event::ClientMessage {
+                client: client.number(),
+                link: self.clients[client.index()].number,
+                at: self.at,
+                frame,
+            },
+        )
+    }
+
+    /// Bytes on a client's link: an event for each frame that is whole with them.
+    fn client_bytes(
+        &mut self,
+        alloc: Global,
+        client: Client,
+        bytes: &[u8],
+    ) -> Result<Vec<Event>, LineFault> {
+        let link = &mut self.clients[client.index()];
+        let frames = match link.framer.feed(alloc, bytes) {
+            Ok(frames) => frames,
+            Err(FrameFault::TooLong) => return Err(LineFault::NotUnderstood),
+            Err(FrameFault::NoMemory) => return Err(LineFault::NoMemory),
+        };
+        Ok(frame_events(alloc, client.number(), link.number, self.at, frames)?)
+    }
+
+    /// A port's next link is up.
+    fn port_up(&mut self, alloc: Global, port: Port) -> Result<Vec<Event>, LineFault> {
+        let link = &mut self.ports[port.index()];
+        link.next(alloc);
+        one(
+            alloc,
+            Event::PortUp {
+                port: port.number(),
+                link: link.number,
+                at: self.at,
+            },
+        )
+    }
+
+    /// A port's link is gone.
+    fn port_gone(&self, alloc: Global, port: Port) -> Result<Vec<Event>, LineFault> {
+        one(
+            alloc,
+            Event::PortGone {
+                port: port.number(),
+                link: self.ports[port.index()].number,
+                at: self.at,
+            },
+        )
+    }
+
+    /// Time passes for a port.
+    fn port_tick(&self, alloc: Global, port: Port) -> Result<Vec<Event>, LineFault> {
+        one(
+            alloc,
+            Event::PortTick {
+                port: port.number(),
+                at: self.at,
+            },
+        )
+    }
+
+    /// A packet on a port's link.
+    fn port_packet(
+        &self,
+        alloc: Global,
+        port: Port,
+        packet: Packet,
+    ) -> Result<Vec<Event>, LineFault> {
+        one(
+            alloc,
+            Event::PortPacket {
+                port: port.number(),
+                link: self.ports[port.index()].number,
+                at: self.at,
+                packet,
+            },
+        )
+    }
+
+    /// Bytes on a port's link: an event for each packet that is whole with them.
+    fn port_bytes(
+        &mut self,
+        alloc: Global,
+        port: Port,
+        bytes: &[u8],
+    ) -> Result<Vec<Event>, LineFault> {
+        let link = &mut self.ports[port.index()];
+        let packets = match link.packets.feed(alloc, bytes) {
+            Ok(packets) => packets,
+            Err(PacketFault::Empty) => return Err(LineFault::NotUnderstood),
+            Err(PacketFault::NoMemory) => return Err(LineFault::NoMemory),
+        };
+        Ok(packet_events(alloc, port.number(), link.number, self.at, packets)?)
+    }
+}
+
+/// One event.
+fn one(alloc: Global, event: Event) -> Result<Vec<Event>, LineFault> {
+    Ok(vec![in alloc; event]?)
+}
+
+/// An event for each frame on a client's link.
+fn frame_events(
+    alloc: Global,
+    client: u16,
+    link: u64,
+    at: u64,
+    frames: Vec<Fields>,
+) -> Result<Vec<Event>, AllocError> {
+    let mut events = Vec::with_capacity(alloc, frames.len())?;
+    for frame in frames {
+        events.push(Event::ClientMessage {
+            client,
+            link,
+            at,
+            frame,
+        })?;
+    }
+    Ok(events)
+}
+
+/// An event for each packet on a port's link.
+fn packet_events(
+    alloc: Global,
+    port: u16,
+    link: u64,
+    at: u64,
+    packets: Vec<Packet>,
+) -> Result<Vec<Event>, AllocError> {
+    let mut events = Vec::with_capacity(alloc, packets.len())?;
+    for packet in packets {
+        events.push(Event::PortPacket {
+            port,
+            link,
+            at,
+            packet,
+        })?;
+    }
+    Ok(events)
+}

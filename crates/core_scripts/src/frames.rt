@@ -1,0 +1,81 @@
+//! The frame of a client's message.
+
+ghost use Rattle.std.specs.Prelude.{◌≡◌, ◌≤◌, length};
+ghost use Rattle.fix_fields.specs.Field.{IsValue};
+ghost use Rattle.script_lines.specs.Names.{client_name};
+
+use fix_fields::{Fields, split};
+use fix_framing::frame;
+use fix_stamp::stamp;
+use script_lines::{Client, LineFault};
+use session_frames::push_number;
+use std::alloc::{AllocError, Global};
+
+/// The most bytes that a frame may have.
+const LONGEST_FRAME: usize = 8_192;
+
+/// The whole frame of a client's fields, of which the first is MsgType (35): behind it stand SenderCompID (49), TargetCompID (56),
+/// MsgSeqNum (34) with this number unless the fields have one, and SendingTime (52) with this moment.
+///
+/// `NotUnderstood` where it would have more than 8,192 bytes.
+///
+/// Source: FIX 4.4 Volume 2, "Standard Message Header".
+pub fn client_frame(
+    alloc: Global,
+    client: Client,
+    fields: &Fields,
+    number: u64,
+    at: u64,
+) -> Result<Fields, LineFault> {
+    let body = with_header(alloc, client, fields, number, at)?;
+    let bytes = frame(alloc, &body)?;
+    if bytes.len() > LONGEST_FRAME {
+        return Err(LineFault::NotUnderstood);
+    }
+    split(alloc, bytes.as_slice())?.ok_or(LineFault::NotUnderstood)
+}
+
+/// The fields with the header's others behind the first.
+fn with_header(
+    alloc: Global,
+    client: Client,
+    fields: &Fields,
+    number: u64,
+    at: u64,
+) -> Result<Fields, AllocError> {
+    let mut body = Fields::new(alloc);
+    push_some(&mut body, fields, 0, fields.len().min(1))?;
+    body.push(49, client_name(client))?;
+    body.push(56, b"GATE")?;
+    if fields.first(34).is_none() {
+        push_number(&mut body, 34, number)?;
+    }
+    body.push(52, &stamp(at))?;
+    push_some(&mut body, fields, fields.len().min(1), fields.len())?;
+    Ok(body)
+}
+
+/// Adds the fields from a place on, up to another.
+fn push_some(body: &mut Fields, fields: &Fields, from: usize, end: usize) -> Result<(), AllocError>
+    requires { end ≤ length fields.now }
+{
+    // known of it: each tag and each value may be a field's
+    let _text = fields.text();
+    for i in from..end {
+        let field = fields.at(i);
+        body.push(field.tag, field.value)?;
+    }
+    Ok(())
+}
+
+/// The name of a client.
+fn client_name(client: Client) -> &'static [u8]
+    ensures name { result.now ≡ client_name client }
+    ensures value { IsValue result.now }
+{
+    match client {
+        Client::First => b"C1",
+        Client::Second => b"C2",
+        Client::Third => b"C3",
+    }
+}

@@ -1,0 +1,22 @@
+//! Scripts of the whole gateway: events by lines in, and what the gateway tells its links by lines out.
+//!
+//! A line is an event of a client or a port, or the moment from here on. It is stepped through the gateway's core, sessions
+//! included, and what follows is printed before the next line is taken: the client's lines first, then the port's. A script
+//! says all that happens, so the same script always prints the same.
+//!
+//! A line that isn't understood ends the run, and so do want of memory and a read or write that fails. What earlier
+//! lines printed stays.
+#![tactic(auto)]
+
+mod desk;
+mod events;
+mod flags;
+mod frames;
+mod links;
+mod packets;
+mod script;
+mod settings;
+mod stop;
+
+pub use batch_lines::Flags;
+pub use script::{refused, run_program, run_script};
