@@ -1,5 +1,11 @@
 //! The events that a line is.
 
+ghost use Rattle.std.specs.Prelude.{◌≡◌, ◌∷◌, [], IfOk};
+ghost use Rattle.core_law.specs.Events as law;
+ghost use Rattle.script_lines.specs.Names.{client_number, port_number};
+ghost use Rattle.core_batches.specs.Seen.{event_seen};
+ghost use Rattle.core_scripts.specs.Events.{IsOne, client_link, port_link};
+
 use crate::frames::client_frame;
 use crate::links::{ClientLink, PortLink};
 use crate::packets::{end_of_session, login_accepted, sequenced};
@@ -76,7 +82,9 @@ impl Links {
     }
 
     /// A client's next link is up.
-    fn client_up(&mut self, alloc: Global, client: Client) -> Result<Vec<Event>, LineFault> {
+    fn client_up(&mut self, alloc: Global, client: Client) -> Result<Vec<Event>, LineFault>
+        ensures { self.new.at ≡ self.old.at }
+    {
         let link = &mut self.clients[client.index()];
         link.next(alloc);
         one(
@@ -90,7 +98,9 @@ impl Links {
     }
 
     /// A client's link is gone.
-    fn client_gone(&self, alloc: Global, client: Client) -> Result<Vec<Event>, LineFault> {
+    fn client_gone(&self, alloc: Global, client: Client) -> Result<Vec<Event>, LineFault>
+        ensures { IfOk result (λ events. IsOne (law.ClientGone (client_number client) (client_link self.now.clients client) self.now.at) events.items) }
+    {
         one(
             alloc,
             Event::ClientGone {
@@ -102,7 +112,9 @@ impl Links {
     }
 
     /// Time passes for a client.
-    fn client_tick(&self, alloc: Global, client: Client) -> Result<Vec<Event>, LineFault> {
+    fn client_tick(&self, alloc: Global, client: Client) -> Result<Vec<Event>, LineFault>
+        ensures { IfOk result (λ events. IsOne (law.ClientTick (client_number client) self.now.at) events.items) }
+    {
         one(
             alloc,
             Event::ClientTick {
@@ -150,7 +162,10 @@ impl Links {
     }
 
     /// A port's next link is up.
-    fn port_up(&mut self, alloc: Global, port: Port) -> Result<Vec<Event>, LineFault> {
+    fn port_up(&mut self, alloc: Global, port: Port) -> Result<Vec<Event>, LineFault>
+        ensures event { IfOk result (λ events. IsOne (law.PortUp (port_number port) (port_link self.new.ports port) self.old.at) events.items) }
+        ensures moment { self.new.at ≡ self.old.at }
+    {
         let link = &mut self.ports[port.index()];
         link.next(alloc);
         one(
@@ -164,7 +179,9 @@ impl Links {
     }
 
     /// A port's link is gone.
-    fn port_gone(&self, alloc: Global, port: Port) -> Result<Vec<Event>, LineFault> {
+    fn port_gone(&self, alloc: Global, port: Port) -> Result<Vec<Event>, LineFault>
+        ensures { IfOk result (λ events. IsOne (law.PortGone (port_number port) (port_link self.now.ports port) self.now.at) events.items) }
+    {
         one(
             alloc,
             Event::PortGone {
@@ -176,7 +193,9 @@ impl Links {
     }
 
     /// Time passes for a port.
-    fn port_tick(&self, alloc: Global, port: Port) -> Result<Vec<Event>, LineFault> {
+    fn port_tick(&self, alloc: Global, port: Port) -> Result<Vec<Event>, LineFault>
+        ensures { IfOk result (λ events. IsOne (law.PortTick (port_number port) self.now.at) events.items) }
+    {
         one(
             alloc,
             Event::PortTick {
@@ -192,7 +211,9 @@ impl Links {
         alloc: Global,
         port: Port,
         packet: Packet,
-    ) -> Result<Vec<Event>, LineFault> {
+    ) -> Result<Vec<Event>, LineFault>
+        ensures { IfOk result (λ events. IsOne (law.PortPacket (port_number port) (port_link self.now.ports port) self.now.at packet) events.items) }
+    {
         one(
             alloc,
             Event::PortPacket {
@@ -222,7 +243,9 @@ impl Links {
 }
 
 /// One event.
-fn one(alloc: Global, event: Event) -> Result<Vec<Event>, LineFault> {
+fn one(alloc: Global, event: Event) -> Result<Vec<Event>, LineFault>
+    ensures { IfOk result (λ events. IsOne (event_seen event) events.items) }
+{
     Ok(vec![in alloc; event]?)
 }
 
