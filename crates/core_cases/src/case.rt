@@ -1,5 +1,6 @@
 //! A case: a script with what it prints.
 
+use crate::between::{Named, push_line};
 use core_scripts::{Flags, run_script};
 use std::alloc::{AllocError, Global};
 use std::io::{self, Write};
@@ -74,14 +75,19 @@ impl Case {
         }
     }
 
-    /// Ends the case, and says whether all was as it is to be.
-    pub fn end<W: Write>(&self, alloc: Global, output: &mut W) -> io::Result<()> {
+    /// Ends the case, and says whether all was as it is to be; also with lines of others between, where that is asked for.
+    pub fn end<W: Write>(
+        &self,
+        alloc: Global,
+        is_mixed: bool,
+        output: &mut W,
+    ) -> Result<(), io::Error> {
         if self.name.is_empty() {
             return Ok(());
         }
-        let has_run = self.has_run(alloc);
+        let is_right = self.is_read && self.has_run(alloc) && (!is_mixed || self.is_apart(alloc)?);
         output.write_all(self.name.as_slice())?;
-        output.write_all(if self.is_read && has_run {
+        output.write_all(if is_right {
             b": right\n".as_slice()
         } else {
             b": WRONG\n".as_slice()
@@ -100,11 +106,32 @@ impl Case {
             && output.as_slice() == self.wanted.as_slice()
             && faults.as_slice() == self.told.as_slice()
     }
-}
 
-/// Adds a line.
-fn push_line(text: &mut Vec<u8>, line: &[u8]) -> Result<(), AllocError> {
-    text.extend_from_slice(line)?;
-    text.push(b'\n')?;
-    Ok(())
+    /// Whether, with lines of others between, its own lines print the same, and those of the others what they print without
+    /// them. A script that ends at a line that isn't understood is left as it is.
+    fn is_apart(&self, alloc: Global) -> Result<bool, AllocError> {
+        if !self.told.is_empty() {
+            return Ok(true);
+        }
+        let script = self.script.as_slice();
+        let named = Named::in_script(script);
+        let mixed = self.printed(alloc, named.mixed(alloc, script, true)?.as_slice())?;
+        let others = self.printed(alloc, named.mixed(alloc, script, false)?.as_slice())?;
+        Ok(
+            named.part(alloc, mixed.as_slice(), false)? == self.wanted
+                && named.part(alloc, mixed.as_slice(), true)? == others,
+        )
+    }
+
+    /// What a script prints; a line of its own behind it where it doesn't come to its end.
+    fn printed(&self, alloc: Global, script: &[u8]) -> Result<Vec<u8>, AllocError> {
+        let mut input = script;
+        let mut output = Vec::new(alloc);
+        let mut faults = Vec::new(alloc);
+        let status = run_script(alloc, self.flags, &mut input, &mut output, &mut faults);
+        if status != 0 {
+            push_line(&mut output, b"no end")?;
+        }
+        Ok(output)
+    }
 }
