@@ -2,14 +2,17 @@
 //
 // What the calls answer is checked once before the loops and summed in them, so that no call can be left out.
 
-#define _POSIX_C_SOURCE 200809L
+#define _DEFAULT_SOURCE
 
 #include <stdbool.h>
 #include <stddef.h>
 #include <stdint.h>
 #include <stdio.h>
 #include <string.h>
+#include <sys/resource.h>
+#include <sys/wait.h>
 #include <time.h>
+#include <unistd.h>
 
 uint64_t bench_split(const uint8_t *text, size_t length);
 uint64_t bench_first_fault(const uint8_t *text, size_t length);
@@ -35,6 +38,13 @@ uint64_t bench_day_text(const uint8_t *order, size_t order_length, const uint8_t
                         size_t room);
 uint64_t bench_requests(const uint8_t *order, size_t order_length, const uint8_t *accepted, size_t accepted_length,
                         const uint8_t *request, size_t request_length, uint32_t open, uint32_t taken);
+uint64_t bench_gateway(const uint8_t *logon, size_t logon_length, const uint8_t *head, size_t head_length, const uint8_t *tail,
+                       size_t tail_length, const uint8_t *accepted, size_t accepted_length, const uint8_t *executed,
+                       size_t executed_length, uint32_t open, uint32_t rounds, uint32_t taken);
+uint64_t bench_gateway_text(const uint8_t *logon, size_t logon_length, const uint8_t *head, size_t head_length,
+                            const uint8_t *tail, size_t tail_length, const uint8_t *accepted, size_t accepted_length,
+                            const uint8_t *executed, size_t executed_length, uint32_t open, uint32_t rounds, uint8_t *out,
+                            size_t room);
 bool bench_put_enter_order(const uint8_t *bytes, size_t length, uint32_t times, uint8_t *out, size_t room);
 
 enum {
@@ -53,8 +63,13 @@ enum {
     OPEN_ORDERS = 10,
     STEPS_OF_OPEN = 2,
     STEPS_OF_ROUND = 3,
+    // The events at the whole core before its first order: the client logs on, the port is logged in.
+    EVENTS_OF_LOGINS = 4,
     // So many days of a request on each open order are timed at once.
     DAYS_OF_REQUESTS = 100,
+    // So many rounds are kept where memory is measured, and so many bodies.
+    ROUNDS_KEPT = 20000,
+    BODIES_KEPT = 100000,
     // A session is asked for this many calls before the next one begins, since it keeps what it issues.
     SESSION_CALLS = 2000,
     RESENDS = 20,
@@ -104,6 +119,9 @@ static const char ACCEPTED[] =
 // What it asks of such an order later, but for both ClOrdIDs.
 static const char CORE_CANCEL[] = "35=F\001";
 static const char CORE_REPLACE[] = "35=G\00155=INTC\00154=1\00138=500\00140=2\00144=23.5\00159=0\001528=A\001";
+
+// What a frame of an order at the whole core has behind its number and its ClOrdID.
+static const char GATEWAY_TAIL[] = "55=INTC\00154=1\00138=300\00140=2\00144=23.45\00159=0\001528=A\001";
 
 static const uint64_t LEAP_DAY_OF_2000 = 951782400000;
 
@@ -246,6 +264,37 @@ static double best_round(uint32_t rounds, int days) {
     return (least_with - least_without) / days / rounds;
 }
 
+static uint64_t gateway_with(const uint8_t *executed, uint32_t rounds, uint32_t taken) {
+    return bench_gateway(hidden(LOGON), sizeof LOGON - 1, hidden(HEAD), sizeof HEAD - 1, hidden(GATEWAY_TAIL),
+                         sizeof GATEWAY_TAIL - 1, hidden(ACCEPTED), ACCEPTED_LENGTH, executed, EXECUTED_LENGTH, OPEN_ORDERS,
+                         rounds, taken);
+}
+
+static uint64_t gateway(uint32_t rounds, uint32_t taken) {
+    return gateway_with(hidden(EXECUTED + EXECUTED_FROM), rounds, taken);
+}
+
+// The best time of a round at the whole core, as above.
+static double best_gateway_round(uint32_t rounds, int days) {
+    uint32_t before = EVENTS_OF_LOGINS + OPEN_ORDERS * STEPS_OF_OPEN;
+    double least_without = 1e18;
+    double least_with = 1e18;
+    for (int repeat = 0; repeat < REPEATS; repeat++) {
+        double start = now();
+        for (int i = 0; i < days; i++) {
+            sum += gateway(rounds, before);
+        }
+        double middle = now();
+        for (int i = 0; i < days; i++) {
+            sum += gateway(rounds, before + rounds * STEPS_OF_ROUND);
+        }
+        double end = now();
+        least_without = middle - start < least_without ? middle - start : least_without;
+        least_with = end - middle < least_with ? end - middle : least_with;
+    }
+    return (least_with - least_without) / days / rounds;
+}
+
 static uint64_t requests(const char *request, size_t length, uint32_t taken) {
     return bench_requests(hidden(CORE_ORDER), sizeof CORE_ORDER - 1, hidden(ACCEPTED), ACCEPTED_LENGTH, hidden(request), length,
                           OPEN_ORDERS, taken);
@@ -270,6 +319,46 @@ static double best_request(const char *request, size_t length) {
         least_with = end - middle < least_with ? end - middle : least_with;
     }
     return (least_with - least_without) / DAYS_OF_REQUESTS / OPEN_ORDERS;
+}
+
+// The same rounds with the whole order executed, so that it is closed.
+static uint64_t closing_rounds(uint32_t rounds, uint32_t taken) {
+    uint8_t executed[EXECUTED_LENGTH];
+    memcpy(executed, EXECUTED + EXECUTED_FROM, sizeof executed);
+    executed[25] = 300 / 256;
+    executed[26] = 300 % 256;
+    return gateway_with(hidden(executed), rounds, taken);
+}
+
+static void keeps_no_round(void) {
+    sum += closing_rounds(ROUNDS_KEPT, EVENTS_OF_LOGINS + OPEN_ORDERS * STEPS_OF_OPEN);
+}
+
+static void keeps_rounds(void) {
+    sum += closing_rounds(ROUNDS_KEPT, EVENTS_OF_LOGINS + OPEN_ORDERS * STEPS_OF_OPEN + ROUNDS_KEPT * STEPS_OF_ROUND);
+}
+
+static void keeps_no_body(void) {
+    sum += issue(0);
+}
+
+static void keeps_bodies(void) {
+    sum += issue(BODIES_KEPT);
+}
+
+// The most memory that a process of its own has while it makes the call, in bytes; 0 where it can't be told.
+static double most_memory(void (*call)(void)) {
+    pid_t child = fork();
+    if (child == 0) {
+        call();
+        _exit(0);
+    }
+    struct rusage used;
+    int status = 0;
+    if (child < 0 || wait4(child, &status, 0, &used) != child || status != 0) {
+        return 0;
+    }
+    return 1024.0 * (double)used.ru_maxrss;
 }
 
 static double best(void (*calls)(void)) {
@@ -393,6 +482,67 @@ static bool day_is_right(void) {
            day(2000, OPEN_ORDERS * STEPS_OF_OPEN + 2000 * STEPS_OF_ROUND) == 3 * OPEN_ORDERS + 4 * 2000;
 }
 
+// Adds a frame of this body, with its length and its check sum.
+static char *add_frame(char *at, char *end, const char *body) {
+    char *from = at;
+    unsigned check = 0;
+    at += snprintf(at, (size_t)(end - at), "8=FIX.4.4%c9=%zu%c%s", 1, strlen(body), 1, body);
+    for (const char *byte = from; byte < at; byte++) {
+        check += (uint8_t)*byte;
+    }
+    return at + snprintf(at, (size_t)(end - at), "10=%03u%c", check % 256, 1);
+}
+
+// Adds the frame of a report on an order, with its number; `told` is what stands between its ClOrdID and its end.
+static char *add_report(char *at, char *end, int number, int order, int report, const char *told) {
+    char body[512];
+    snprintf(body, sizeof body,
+             "35=8|49=GATE|56=C1|34=%d|52=19700101-00:00:00.000|37=%d|11=%d|17=%d|%s60=19700101-00:00:00.000|", number, order,
+             1000000000 + order, report, told);
+    for (char *byte = body; *byte != 0; byte++) {
+        *byte = *byte == '|' ? 1 : *byte;
+    }
+    return add_frame(at, end, body);
+}
+
+// The whole core on a day of ten orders and one round writes just these frames and packets; each further round three frames and a
+// packet.
+static bool gateway_is_right(void) {
+    static const char ANSWER[] = "35=A\00149=GATE\00156=C1\00134=1\00152=19700101-00:00:00.000\00198=0\001108=30\001";
+    static const char LOGIN[] = "\000\057LUSER01PASSWORD                               1";
+    static const char ENTER_FRONT[] = "\000\062UOG";
+    static const char ENTER_REST[] = "B\000\000\001,INTC    \000\003\224\004\000\001\206\236FIRMYAN\000\000\000\000NR";
+    static const char OPEN[] = "55=INTC|54=1|38=300|44=23.45|151=300|14=0|6=0|";
+    static char due[16384];
+    static uint8_t out[16384];
+    char told[256];
+    char *end = due + sizeof due;
+    char *at = add_frame(due, end, ANSWER);
+    memcpy(at, LOGIN, sizeof LOGIN - 1);
+    at += sizeof LOGIN - 1;
+    for (int order = 1; order <= OPEN_ORDERS + 1; order++) {
+        snprintf(told, sizeof told, "150=A|39=A|%s", OPEN);
+        at = add_report(at, end, 2 * order, order, 2 * order - 1, told);
+        memcpy(at, ENTER_FRONT, sizeof ENTER_FRONT - 1);
+        at += sizeof ENTER_FRONT - 1;
+        at += snprintf(at, (size_t)(end - at), "%013d", order);
+        memcpy(at, ENTER_REST, sizeof ENTER_REST - 1);
+        at += sizeof ENTER_REST - 1;
+        snprintf(told, sizeof told, "150=0|39=0|%s", OPEN);
+        at = add_report(at, end, 2 * order + 1, order, 2 * order, told);
+    }
+    at = add_report(at, end, 2 * OPEN_ORDERS + 4, OPEN_ORDERS + 1, 2 * OPEN_ORDERS + 3,
+                    "150=F|39=1|55=INTC|54=1|38=300|44=23.45|32=100|31=23.45|151=200|14=100|6=23.45|");
+    size_t length = (size_t)(at - due);
+    uint64_t written = bench_gateway_text((const uint8_t *)LOGON, sizeof LOGON - 1, (const uint8_t *)HEAD, sizeof HEAD - 1,
+                                          (const uint8_t *)GATEWAY_TAIL, sizeof GATEWAY_TAIL - 1, (const uint8_t *)ACCEPTED,
+                                          ACCEPTED_LENGTH, (const uint8_t *)EXECUTED + EXECUTED_FROM, EXECUTED_LENGTH,
+                                          OPEN_ORDERS, 1, out, sizeof out);
+    return written == length && memcmp(out, due, length) == 0 &&
+           gateway(2, EVENTS_OF_LOGINS + OPEN_ORDERS * STEPS_OF_OPEN) == 2 + 3 * OPEN_ORDERS &&
+           gateway(100, EVENTS_OF_LOGINS + OPEN_ORDERS * STEPS_OF_OPEN + 100 * STEPS_OF_ROUND) == 2 + 3 * OPEN_ORDERS + 4 * 100;
+}
+
 // Each request is pending, which one report says, and asks the market once.
 static bool requests_are_right(void) {
     uint32_t before = OPEN_ORDERS * STEPS_OF_OPEN;
@@ -428,6 +578,10 @@ int main(void) {
                 day_is_right(), requests_are_right());
         return 1;
     }
+    if (!gateway_is_right()) {
+        fprintf(stderr, "wrong: a day of the whole core\n");
+        return 1;
+    }
     double split = best(split_calls);
     printf("%-44s %7.1f   aim: below 400\n", "split, a NewOrderSingle frame of 160 bytes", split);
     printf("%-44s %7.1f   aim: below 150\n", "first_fault of its fields, the difference", best(first_fault_calls) - split);
@@ -443,6 +597,9 @@ int main(void) {
     printf("%-44s %7.0f   aim: below 6000\n", "D, its A and its E: rounds 1 to 2,000", best_round(2000, 1));
     printf("%-44s %7.0f   aim: below 4000\n", "F on each of ten open orders", best_request(CORE_CANCEL, sizeof CORE_CANCEL - 1));
     printf("%-44s %7.0f   aim: below 4000\n", "G on each of ten open orders", best_request(CORE_REPLACE, sizeof CORE_REPLACE - 1));
+    printf("%-44s %7.0f   aim: below 15000\n", "Core::step: D, its A, its E: rounds 1 to 10", best_gateway_round(10, 40));
+    printf("%-44s %7.0f   aim: below 15000\n", "Core::step: the same, rounds 1 to 50", best_gateway_round(50, 10));
+    printf("%-44s %7.0f   aim: below 15000\n", "Core::step: the same, rounds 1 to 2,000", best_gateway_round(2000, 1));
     double made = best(make_messages_calls);
     printf("%-44s %7.1f   aim: below 600\n", "Session::on_message, an order in sequence", best(on_message_calls) - made);
     printf("%-44s %7.1f   aim: below 1500\n", "Session::issue, a report", best(issue_calls));
@@ -455,6 +612,10 @@ int main(void) {
                resend / bodies, resend / before);
         before = resend;
     }
+    double body = (most_memory(keeps_bodies) - most_memory(keeps_no_body)) / BODIES_KEPT;
+    double order = (most_memory(keeps_rounds) - most_memory(keeps_no_round)) / ROUNDS_KEPT;
+    printf("%-44s %7.0f   bytes\n", "a report that a session keeps", body);
+    printf("%-44s %7.0f   bytes\n", "a closed order at the core, less its reports", order - STEPS_OF_ROUND * body);
     printf("nanoseconds a call, the best of %d times %d calls\n", REPEATS, CALLS);
     return sum == 0;
 }

@@ -8,8 +8,8 @@ set -euo pipefail
 
 here=$(cd "$(dirname "${BASH_SOURCE[0]}")" && pwd)
 repository=$(dirname "$here")
-measured=(fix_fields fix_framing fix_session fix_stamp fix_types fixed_point order_core ouch_codec session_frames
-    soup_packets tokens wire_law)
+measured=(core_settings fix_fields fix_framing fix_session fix_stamp fix_types fixed_point gate_core order_core ouch_codec
+    session_frames soup_packets to_market tokens wire_law)
 seconds_to_build=1500
 seconds_to_run=120
 
@@ -20,6 +20,7 @@ trap 'exit 130' INT TERM
 mkdir -p "$work/crates/bench_exports/src"
 cp "$here/exports.rt.in" "$work/crates/bench_exports/src/lib.rt"
 cp "$here/day.rt.in" "$work/crates/bench_exports/src/day.rt"
+cp "$here/gateway.rt.in" "$work/crates/bench_exports/src/gateway.rt"
 if [ -f "$repository/HANDLES" ]; then
     cp "$repository/HANDLES" "$work/"
 fi
