@@ -52,17 +52,6 @@ pub fn port_up(port: u16, link: u64) -> Event
     }
 }
 
-/// A port's link is gone.
-pub fn port_gone(port: u16, link: u64) -> Event
-    requires { 1 ≤ port }
-{
-    Event::PortGone {
-        port: LineNumber::new(port),
-        link,
-        at: 0,
-    }
-}
-
 /// A port's link brings a packet.
 pub fn packet(alloc: Global, port: u16, link: u64, kind: u8, payload: &[u8]) -> Result<Event, Fail>
     requires { 1 ≤ port }
@@ -79,18 +68,4 @@ pub fn packet(alloc: Global, port: u16, link: u64, kind: u8, payload: &[u8]) -> 
             payload: Payload::of(alloc, payload)?,
         },
     })
-}
-
-/// A port's link brings a Login Accepted: a session of 10 bytes, a number of 20.
-pub fn accepts_login(alloc: Global, port: u16, link: u64, payload: &[u8]) -> Result<Event, Fail>
-    requires { 1 ≤ port }
-{
-    packet(alloc, port, link, b'A', payload)
-}
-
-/// A port's link brings a message of the market, as a sequenced packet.
-pub fn says(alloc: Global, port: u16, link: u64, payload: &[u8]) -> Result<Event, Fail>
-    requires { 1 ≤ port }
-{
-    packet(alloc, port, link, b'S', payload)
 }
