@@ -7,7 +7,9 @@ use Rattle.order_law.specs.Chain.{named}
 use Rattle.order_law.specs.History.{Came, Entry, Event, Heard, History, Terms, Turn, accepted, entry_at, given, is_new_order, issued, new_of, numbered, verdict}
 use Rattle.order_law.specs.Headline.{Each}
 use Rattle.order_histories.proofs.Executed.{count-more}
-use Rattle.order_histories.proofs.Texts.{and-false, eq-decimal_other, eq-same}
+use Rattle.order_histories.proofs.Texts.{and-false, eq-decimal_other, eq-same, number-decimal}
+use Rattle.std.specs.Str.Parse.{digits_value}
+use Rattle.gate_audit.specs.Pairs.{AreByOrder}
 
 abbrev pub news : List Entry → List Entry
 news entries = filter (λ (e : Entry). is_new_order e.message) entries
@@ -147,3 +149,44 @@ all-found terms (t ∷ before) few = by_event (λ (k : numbered before < 10 ^ 64
         by_verdict (Refused code why) v b is_b =
             let more = counted-more b is_b in
             quiet-found terms t before (none-accepted terms t before client m port is_e code why v) more (earlier (omega (arith, more, few)))
+
+-- ---- by OrderID
+
+-- what is accepted next has a greater number than all before
+all-less : (A : List Entry) (n : ℕ) → n + 1 < 10 ^ 64 → (es : List Entry) → Each (IsFound A n) es → Each (λ (e : Entry). digits_value 10 e.order < digits_value 10 (decimal (n + 1))) es
+all-less A n few [] found = tt
+all-less A n few (e ∷ es) found =
+    let f = found.0 in
+    let number : digits_value 10 e.order ≡ f.number = ap (digits_value 10) f.order_is ∙ number-decimal f.number (omega (arith, f.is_numbered, few)) in
+    let next : digits_value 10 (decimal (n + 1)) ≡ n + 1 = number-decimal (n + 1) few in
+    (omega (arith, number, next, f.is_numbered), all-less A n few es found.1)
+
+pub all-by-order : (terms : List Terms) (h : History) → numbered h < 10 ^ 64 → AreByOrder (news (accepted terms h))
+all-by-order terms [] few = tt
+all-by-order terms (t ∷ before) few = by_event (λ (k : numbered before < 10 ^ 64). all-by-order terms before k) t.event refl
+  where
+    same-order : accepted terms (t ∷ before) ≡ accepted terms before → AreByOrder (news (accepted terms before)) → AreByOrder (news (accepted terms (t ∷ before)))
+    same-order same ordered = subst (λ (es : List Entry). AreByOrder (news es)) (sym same) ordered
+
+    by_event : (numbered before < 10 ^ 64 → AreByOrder (news (accepted terms before))) → (e : Event) → t.event ≡ e → AreByOrder (news (accepted terms (t ∷ before)))
+    by_event earlier (Heard p m) is_e =
+        let same = numbered-heard t before p m is_e in same-order (heard-accepted terms t before p m is_e) (earlier (omega (arith, same, few)))
+    by_event earlier (Came client m port) is_e = by_verdict (verdict_at terms before client m port) refl (is_new_order m) refl
+      where
+        counted : (b : Bool) → is_new_order m ≡ b → numbered (t ∷ before) ≡ (if b then 1 else 0) + numbered before
+        counted b is_b = numbered-now terms t before client m port is_e ∙ ap (λ (x : Bool). (if x then 1 else 0) + numbered before) is_b
+
+        fewer : (b : Bool) → is_new_order m ≡ b → numbered before < 10 ^ 64
+        fewer true is_b = (let same = counted true is_b in omega (arith, same, few))
+        fewer false is_b = (let same = counted false is_b in omega (arith, same, few))
+
+        by_verdict : (v : Verdict) → verdict_at terms before client m port ≡ v → (b : Bool) → is_new_order m ≡ b → AreByOrder (news (accepted terms (t ∷ before)))
+        by_verdict Accepted v true new =
+            let same = counted true new in
+            let next : numbered before + 1 < 10 ^ 64 = omega (arith, same, few) in
+            let ordered : AreByOrder (new_entry terms before client m ∷ news (accepted terms before)) =
+            (all-less (accepted terms before) (numbered before) next (news (accepted terms before)) (all-found terms before (fewer true new)), earlier (fewer true new)) in
+            subst (λ (es : List Entry). AreByOrder (news es)) (sym (new-accepted terms t before client m port is_e v new)) (rw new ordered)
+        by_verdict Accepted v false old =
+            subst (λ (es : List Entry). AreByOrder (news es)) (sym (request-accepted terms t before client m port is_e v old)) (rw old (earlier (fewer false old)))
+        by_verdict (Refused code why) v b is_b = same-order (none-accepted terms t before client m port is_e code why v) (earlier (fewer b is_b))

@@ -19,10 +19,10 @@ use Rattle.core_law.proofs.Counted.{turns-few}
 use Rattle.core_law.proofs.Links.{EndsAll}
 use Rattle.core_settings.specs.Kept.{IsOnPort}
 use Rattle.gate_audit.specs.Read.{AgreesIn, for_clients, new_orders}
-use Rattle.gate_audit.specs.Pairs.{OpenedOrder, Pair, accepted_pair, accepted_pairs, accepted_pairs_of, handled_for, opened_orders, orders_of, pair_in, paired, pairs, pairs_of, said, same_account}
+use Rattle.gate_audit.specs.Pairs.{AreByOrder, OpenedOrder, Pair, accepted_pair, accepted_pairs, accepted_pairs_of, handled_for, opened_orders, orders_of, pair_in, paired, pairs, pairs_of, said, same_account}
 use Rattle.gate_audit.proofs.Agreeing.{run-agrees}
 use Rattle.gate_audit.proofs.Calling.{has-of, is-near}
-use Rattle.gate_audit.proofs.Entries.{IsFound, all-found}
+use Rattle.gate_audit.proofs.Entries.{IsFound, all-by-order, all-found}
 use Rattle.gate_audit.proofs.FirstTokens.{headline-told, started}
 use Rattle.gate_audit.proofs.Following.{handled-again}
 use Rattle.gate_audit.proofs.Lists.{map-each, map-map, map-reverse}
@@ -146,3 +146,6 @@ for-known f g (suc n) same = rw (for-known f g n (λ c some known. same c some (
 
 pub pairs-same : EndsAll → (s : Settings) (h : History) → All (IsOnPort (length s.ports)) s.clients → Holds s h → pairs s h ≡ accepted_pairs s h
 pairs-same ends s h all holds = for-known (pairs_of s h) (accepted_pairs_of s h) (length s.clients) (client-pairs ends s h holds all)
+
+pub orders-ascend : (s : Settings) (h : History) → AreByOrder (new_orders s h)
+orders-ascend s h = all-by-order (terms s) (order_turns s h) (few-numbered s h)

@@ -1,7 +1,8 @@
 -- Orders by both of their accounts: by the reports of the batches and the payloads that were handled, and as the order level's turns
 -- have them. (FIX 4.4 Volume 4, "Execution Report"; OUCH 4.2, "Enter Order Message", order token.)
-use Rattle.std.specs.Prelude.{ℕ, ◌==◌, Bool, true, not, ◌&&◌, ◌||◌, List, [], ◌∷◌, ◌++◌, Option, Some, None, map, filter, reverse, length, codes, if◌then◌else◌}
+use Rattle.std.specs.Prelude.{ℕ, ◌<◌, ◌==◌, Bool, true, not, ◌&&◌, ◌||◌, List, [], ◌∷◌, ◌++◌, Option, Some, None, map, filter, reverse, length, codes, if◌then◌else◌}
 use Rattle.std.specs.List.{count_by, flat_map}
+use Rattle.std.specs.Str.Parse.{digits_value}
 use Rattle.tokens.specs.TokenText.{token_text}
 use Rattle.order_law.specs.declared.account.Account.{Account}
 use Rattle.order_law.specs.Messages.{Message, character, is, text}
@@ -9,7 +10,7 @@ use Rattle.order_law.specs.Reading.{account_read, is_report, reading}
 use Rattle.order_law.specs.Life.{account_of, life}
 use Rattle.order_law.specs.History as orders
 use Rattle.order_law.specs.History.{Entry}
-use Rattle.order_law.specs.Headline.{life_in}
+use Rattle.order_law.specs.Headline.{Each, life_in}
 use Rattle.core_law.specs.Settings.{Settings, port_of, port_terms, terms}
 use Rattle.core_law.specs.Events.{History}
 use Rattle.core_law.specs.Outcome.{bodies}
@@ -135,3 +136,8 @@ accepted_pairs_of s h client = map (accepted_pair s h) (reverse (filter (λ (e :
 -- by client, and of each client in the order in which they were accepted
 abbrev pub accepted_pairs : Settings → History → List Pair
 accepted_pairs s h = for_clients (accepted_pairs_of s h) (length s.clients)
+
+-- new orders, the newest first, each with a greater OrderID (37) than all before it
+abbrev pub AreByOrder : List Entry → Type 0
+AreByOrder [] = Unit {0}
+AreByOrder (new ∷ earlier) = Each (λ (e : Entry). digits_value 10 e.order < digits_value 10 new.order) earlier × AreByOrder earlier

@@ -6,6 +6,7 @@ ghost use Rattle.core_law.specs.Settings.{port_of, port_terms};
 ghost use Rattle.gate_journal.specs.Kept.{turns};
 ghost use Rattle.gate_audit.specs.Again.{again};
 ghost use Rattle.gate_audit.specs.Pairs as read;
+ghost use Rattle.gate_audit.specs.Read.{new_orders};
 
 use crate::opening::Opening;
 use crate::openings::openings_of;
@@ -35,6 +36,7 @@ pub fn audit(
 ) -> Result<Vec<OrderPair>, ReadingFault>
     ensures read { IfOk result (λ list. list.items ≡ read.pairs settings.now (turns history.now)) }
     ensures run { IfOk result (λ list. Holds settings.now (turns history.now) → list.items ≡ read.accepted_pairs settings.now (turns history.now)) }
+    ensures ascending { IfOk result (λ list. read.AreByOrder (new_orders settings.now (turns history.now))) }
 {
     links_end_by_a_close();
     let openings = openings_of(alloc, history.batches())?;

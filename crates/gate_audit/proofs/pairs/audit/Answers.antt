@@ -6,7 +6,7 @@ use Rattle.core_settings.specs.Kept.{IsOnPort}
 use Rattle.gate_journal.specs.Kept.{turns}
 use Rattle.gate_audit.specs.Read.{for_clients, reports_to}
 use Rattle.gate_audit.specs.Pairs as read
-use Rattle.gate_audit.proofs.Pairing.{pairs-same, terms-at}
+use Rattle.gate_audit.proofs.Pairing.{orders-ascend, pairs-same, terms-at}
 use Rattle.gate_audit.proofs.Whole.{pairs-more}
 use Rattle.gate_audit.proofs.pairs.audit.Goals as goal
 
@@ -37,3 +37,6 @@ returns-clause-run c holds =
     let ports : All (IsOnPort (length s.ports)) s.clients = subst (λ (cs : List ClientSettings). All (IsOnPort (length s.ports)) cs) c.clients-place-end.ensures.clients c.clients-place-end.ensures.ports in
     c.loop-place.invariant ∙ ap (for_clients (read.pairs_of s (turns c.args.history.now))) all
     ∙ pairs-same c.links_end_by_a_close.ensures s (turns c.args.history.now) ports holds
+
+pub returns-clause-ascending : goal.returns-clause-ascending
+returns-clause-ascending c = orders-ascend c.args.settings.now (turns c.args.history.now)
