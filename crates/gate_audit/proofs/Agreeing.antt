@@ -10,16 +10,12 @@ use Rattle.core_law.specs.Events.{History}
 use Rattle.core_law.specs.After.{order_turns}
 use Rattle.core_law.specs.Holds.{Holds, issued}
 use Rattle.gate_audit.specs.Read.{AgreesIn, accepted_of, accepted_readings, for_clients, new_orders, opened_as, read_by, read_in, readings}
-use Rattle.gate_audit.proofs.Batches.{map-reverse}
-use Rattle.gate_audit.proofs.Opening.{opened-same}
+use Rattle.gate_audit.proofs.Lists.{map-map, map-reverse}
+use Rattle.gate_audit.proofs.OwnOrders.{opened-same}
 
 for-same : {X : Type 0} (f g : ℕ → List X) → ((c : ℕ) → f c ≡ g c) → (n : ℕ) → for_clients f n ≡ for_clients g n
 for-same f g same ℕ.zero = refl
 for-same f g same (suc n) = rw (for-same f g same n, same (suc n)) refl
-
-map-map : {X Y Z : Type 0} (f : Y → Z) (g : X → Y) (xs : List X) → map f (map g xs) ≡ map (λ (x : X). f (g x)) xs
-map-map f g [] = refl
-map-map f g (x ∷ xs) = ap (λ ys. f (g x) ∷ ys) (map-map f g xs)
 
 client-same : (s : Settings) (h : History) → Holds s h → (c : ℕ) → read_by c (issued c h) ≡ accepted_of s h c
 client-same s h holds c =

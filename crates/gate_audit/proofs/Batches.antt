@@ -2,7 +2,6 @@
 use Rattle.std.proofs.Common.{◌≡◌, ℕ, suc, ◌+◌, Bool, true, false, List, [], ◌∷◌, ◌++◌, map, reverse, length, refl, sym, ap, ◌∙◌, arith, append_assoc}
 use Rattle.std.specs.Prelude.{filter, if◌then◌else◌}
 use Rattle.std.proofs.lemmas.List.{append-nil, map-append, reverse-append, reverse-reverse}
-use Rattle.std.proofs.lemmas.List.Elements.{filter-append}
 use Rattle.order_law.specs.Messages.{Message, body_of}
 use Rattle.core_law.specs.Events.{History, is_number}
 use Rattle.core_law.specs.Holds.{issued}
@@ -10,21 +9,8 @@ use Rattle.core_batches.specs.declared.event.Event.{Event}
 use Rattle.core_batches.specs.declared.batch.Batch.{Batch}
 use Rattle.gate_core.specs.Core.{onto, history, turn_of}
 use Rattle.gate_audit.specs.Read.{Opened, ReadOrder, for_clients, opened, opened_by, opens, read_by, read_in, readings, reports_to, told_in}
+use Rattle.gate_audit.proofs.Lists.{filter-reverse, map-reverse, map-same}
 use Rattle.gate_audit.proofs.Bodies.{same-opened, same-reading}
-
-pub map-reverse : {X Y : Type 0} (f : X → Y) (xs : List X) → map f (reverse xs) ≡ reverse (map f xs)
-map-reverse f [] = refl
-map-reverse f (x ∷ xs) =
-    ap (map f) (reverse-append (x ∷ []) xs) ∙ (map-append f (reverse xs) (x ∷ []) ∙ (ap (λ ys. ys ++ f x ∷ []) (map-reverse f xs) ∙ sym (reverse-append (f x ∷ []) (map f xs))))
-
-filter-reverse : {X : Type 0} (p : X → Bool) (xs : List X) → filter p (reverse xs) ≡ reverse (filter p xs)
-filter-reverse p [] = refl
-filter-reverse p (x ∷ xs) =
-    ap (filter p) (reverse-append (x ∷ []) xs) ∙ (filter-append p (reverse xs) (x ∷ []) ∙ (ap (λ ys. ys ++ filter p (x ∷ [])) (filter-reverse p xs) ∙ by_test (p x) refl))
-  where
-    by_test : (b : Bool) → p x ≡ b → reverse (filter p xs) ++ filter p (x ∷ []) ≡ reverse (filter p (x ∷ xs))
-    by_test true is = rw is (sym (reverse-append (x ∷ []) (filter p xs)))
-    by_test false is = rw is (append-nil (reverse (filter p xs)))
 
 opened-reverse : (rs : List Message) → opened (reverse rs) ≡ reverse (opened rs)
 opened-reverse rs = ap (map opened_by) (filter-reverse opens rs) ∙ map-reverse opened_by (filter opens rs)
@@ -61,10 +47,6 @@ issued-is client events batches same =
 same-read_in : (client : ℕ) (rs : List Message) (o : Opened) → read_in client (map body_of rs) o ≡ read_in client rs o
 same-read_in client rs o = rw (same-reading o.order rs) refl
 
-map-same : {X Y : Type 0} (f g : X → Y) → ((x : X) → f x ≡ g x) → (xs : List X) → map f xs ≡ map g xs
-map-same f g same [] = refl
-map-same f g same (x ∷ xs) = rw (same x, map-same f g same xs) refl
-
 -- by the whole reports, the oldest first
 pub read-whole : (client : ℕ) (rs : List Message) → read_by client (map body_of (reverse rs)) ≡ map (read_in client (reverse rs)) (opened rs)
 read-whole client rs =
@@ -72,7 +54,7 @@ read-whole client rs =
     ∙ ap (map (read_in client (reverse rs))) (ap reverse (same-opened (reverse rs) ∙ opened-reverse rs) ∙ reverse-reverse (opened rs))
 
 -- one client more
-for-more : {X : Type 0} (f : ℕ → List X) (n : ℕ) → for_clients f (n + 1) ≡ for_clients f n ++ f (n + 1)
+pub for-more : {X : Type 0} (f : ℕ → List X) (n : ℕ) → for_clients f (n + 1) ≡ for_clients f n ++ f (n + 1)
 for-more f n =
     let is_next : n + 1 ≡ suc n = omega arith in
     rw is_next refl

@@ -7,7 +7,7 @@ use Rattle.order_law.specs.Messages.{Message, body_of, is_header}
 use Rattle.order_law.specs.Reading.{Reading, is_report_on, reading, with_report}
 use Rattle.gate_audit.specs.Read.{opened, opened_by, opens}
 
-same-first : (tag : ℕ) → is_header tag ≡ false → (m : Message) → first_value tag (body_of m) ≡ first_value tag m
+pub same-first : (tag : ℕ) → is_header tag ≡ false → (m : Message) → first_value tag (body_of m) ≡ first_value tag m
 same-first tag apart [] = refl
 same-first tag apart (f ∷ fs) = by_header (is_header f.tag) refl (f.tag == tag) refl (same-first tag apart fs)
   where
@@ -28,7 +28,7 @@ pub same-reading : (order : List ℕ) (rs : List Message) → reading order (map
 same-reading order [] = refl
 same-reading order (r ∷ rs) = rw (same-report order r, same-reading order rs, same-with (reading order rs) r) refl
 
-same-opens : (r : Message) → opens (body_of r) ≡ opens r
+pub same-opens : (r : Message) → opens (body_of r) ≡ opens r
 same-opens r = rw (same-first 35 refl r, same-first 150 refl r) refl
 
 same-opened_by : (r : Message) → opened_by (body_of r) ≡ opened_by r

@@ -1,7 +1,6 @@
 -- A history taken event by event.
-use Rattle.std.proofs.Common.{◌≡◌, ◌<◌, ◌≤◌, ◌+◌, ◌^◌, ℕ, suc, zero, Bool, true, false, List, [], ◌∷◌, ◌++◌, map, length, take, get_or, refl, sym, ap, ◌∙◌, arith, length-take-le}
-use Rattle.std.specs.Prelude.{if◌then◌else◌, ◌||◌, ◌&&◌, nat_le, nat_lt}
-use Rattle.std.specs.List.{list_any}
+use Rattle.std.proofs.Common.{◌≡◌, ◌<◌, ◌≤◌, ◌+◌, ◌^◌, ℕ, Bool, true, false, List, [], ◌∷◌, ◌++◌, length, take, get_or, refl, sym, ap, ◌∙◌, arith, length-take-le}
+use Rattle.std.specs.Prelude.{if◌then◌else◌, ◌&&◌, nat_le, nat_lt}
 use Rattle.std.proofs.lemmas.List.{take_more}
 use Rattle.std.proofs.lemmas.Bool.Decides.{nat_tests}
 use Rattle.soup_session.specs.Table.{Terms}
@@ -40,7 +39,7 @@ history-length events batches i same inside =
     let bs = length-take-le i batches (omega (arith, same, inside)) in
     let all = onto-length (take i events) (take i batches) [] (bs ∙ sym es) in omega (arith, all, es)
 
-is-near : (n i : ℕ) → nat_lt i n ≡ true → i < n
+pub is-near : (n i : ℕ) → nat_lt i n ≡ true → i < n
 is-near n i e = grind (arith, nat_tests)
 
 is-past : (n i : ℕ) → nat_lt i n ≡ false → n ≤ i

@@ -1,7 +1,14 @@
+mod Lists
 mod Bodies
 mod Batches
-mod Opening
+mod OwnOrders
 mod Agreeing
 mod Alike
 mod Following
 mod Calling
+mod Entries
+mod NoTokens
+mod Said
+mod FirstTokens
+mod Pairing
+mod Whole

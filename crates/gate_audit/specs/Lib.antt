@@ -1,3 +1,5 @@
 pub mod Read
 pub mod Again
 pub mod Called
+pub mod Pairs
+pub mod Counted

@@ -7,11 +7,17 @@
 #![tactic(auto)]
 
 mod accounts;
+mod opening;
+mod openings;
+mod order_pair;
 mod order_reading;
+mod pairs;
 mod payloads;
 mod port_again;
 mod reports;
 
 pub use accounts::readings;
+pub use order_pair::OrderPair;
 pub use order_reading::OrderReading;
+pub use pairs::audit;
 pub use payloads::handled_payloads;

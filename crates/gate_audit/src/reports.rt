@@ -1,9 +1,10 @@
 //! The reports that a client was told, as the batches have them.
 
-ghost use Rattle.std.specs.Prelude.{◌≡◌, ◌++◌, IfOk, map};
+ghost use Rattle.std.specs.Prelude.{◌≡◌, ◌++◌, IfOk, map, slice_index};
 ghost use Rattle.fix_fields.specs.Field.{IsValue};
 ghost use Rattle.order_law.specs.Messages as messages;
 ghost use Rattle.core_batches.specs.Seen.{batch_seen};
+ghost use Rattle.gate_audit.specs.Pairs as pairs;
 ghost use Rattle.gate_audit.specs.Read.{opens, reports_to};
 
 use fix_fields::Fields;
@@ -51,4 +52,24 @@ pub fn opens_order(report: &Fields) -> bool
     ensures { result ≡ opens report.now }
 {
     text(report, 35) == b"8".as_slice() && text(report, 150) == b"A".as_slice()
+}
+
+/// Whether this report tells that a token was given: an execution report with ExecType (150) A, pending new, or E, pending replace.
+///
+/// Source: FIX 4.4 Volume 6, "ExecType".
+pub fn gives_token(report: &Fields) -> bool
+    ensures { result ≡ pairs.gives_token report.now }
+{
+    let kind = text(report, 150);
+    text(report, 35) == b"8".as_slice() && (kind == b"A".as_slice() || kind == b"E".as_slice())
+}
+
+/// The first byte of a value, 0 where there is none.
+pub fn first_byte(value: &[u8]) -> u8
+    ensures { result ≡ slice_index value.now 0 }
+{
+    match value.first() {
+        Some(byte) => *byte,
+        None => 0,
+    }
 }

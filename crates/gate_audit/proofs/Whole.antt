@@ -1,0 +1,111 @@
+-- The orders that whole reports open are those that their bodies open, and the pairs that are made of both are the same.
+use Rattle.std.proofs.Common.{◌≡◌, ◌+◌, ℕ, Bool, List, [], ◌∷◌, ◌++◌, Option, Some, None, map, reverse, length, refl, sym, ap, ◌∙◌, arith, append_assoc}
+use Rattle.std.specs.Prelude.{◌==◌, if◌then◌else◌}
+use Rattle.std.proofs.lemmas.List.{append-nil, map-append, reverse-append, reverse-reverse}
+use Rattle.order_law.specs.Messages.{Message, body_of}
+use Rattle.order_histories.proofs.Executed.{count-more}
+use Rattle.core_law.specs.Settings.{Settings, port_of, port_terms}
+use Rattle.core_law.specs.Events.{History}
+use Rattle.core_law.specs.Holds.{issued}
+use Rattle.core_batches.specs.declared.event.Event.{Event}
+use Rattle.core_batches.specs.declared.batch.Batch.{Batch}
+use Rattle.gate_core.specs.Core.{history, onto, turn_of}
+use Rattle.gate_audit.specs.Again.{again}
+use Rattle.gate_audit.specs.Read.{for_clients, opens, reports_to}
+use Rattle.gate_audit.specs.Pairs.{OpenedOrder, Pair, Said, gives_token, handled_for, opened_at, opened_orders, orders_of, pair_in, pairs_of, said, said_by, said_to, tokens_given, told_anyone}
+use Rattle.gate_audit.proofs.Batches.{for-more, issued-is}
+use Rattle.gate_audit.proofs.Lists.{filter-reverse, map-map, map-reverse, map-same}
+use Rattle.gate_audit.proofs.Bodies.{same-first, same-opens, same-reading}
+
+-- a report as the client's order level has it
+abbrev bodily : Said → Said
+bodily x = said_to x.client (body_of x.report)
+
+-- ---- what reports open
+
+same-gives : (r : Message) → gives_token (body_of r) ≡ gives_token r
+same-gives r = rw (same-first 35 refl r, same-first 150 refl r) refl
+
+same-count : (all : List Said) → tokens_given (map bodily all) ≡ tokens_given all
+same-count [] = refl
+same-count (x ∷ all) =
+    count-more (λ (y : Said). gives_token y.report) (bodily x) (map bodily all)
+    ∙ ap (λ (b : Bool). (if b then 1 else 0) + tokens_given (map bodily all)) (same-gives x.report)
+    ∙ ap (λ (n : ℕ). (if gives_token x.report then 1 else 0) + n) (same-count all)
+    ∙ sym (count-more (λ (y : Said). gives_token y.report) x all)
+
+same-at : (n : ℕ) (x : Said) → opened_at n (bodily x) ≡ opened_at n x
+same-at n x = rw (same-first 37 refl x.report, same-first 11 refl x.report, same-first 54 refl x.report) refl
+
+same-opened : (all : List Said) → opened_orders (map bodily all) ≡ opened_orders all
+same-opened [] = refl
+same-opened (x ∷ all) =
+    ap (λ (b : Bool). if b then opened_at (tokens_given (map bodily (x ∷ all))) (bodily x) ∷ opened_orders (map bodily all) else opened_orders (map bodily all)) (same-opens x.report)
+    ∙ ap (λ (o : OpenedOrder). if opens x.report then o ∷ opened_orders (map bodily all) else opened_orders (map bodily all))
+    (ap (λ (n : ℕ). opened_at n (bodily x)) (same-count (x ∷ all)) ∙ same-at (tokens_given (x ∷ all)) x)
+    ∙ ap (λ (os : List OpenedOrder). if opens x.report then opened_at (tokens_given (x ∷ all)) x ∷ os else os) (same-opened all)
+
+-- ---- what the batches told
+
+bodily-told : (client : Option ℕ) (reports : List Message) → told_anyone client (map body_of reports) ≡ map bodily (told_anyone client reports)
+bodily-told None reports = refl
+bodily-told (Some n) reports = map-map (said_to n) body_of reports ∙ sym (map-map bodily (said_to n) reports)
+
+abbrev told_in : Batch → List Said
+told_in b = told_anyone b.client b.reports.items
+
+said-one : (e : Event) (b : Batch) (before : History) → said (turn_of e b ∷ before) ≡ reverse (map bodily (told_in b)) ++ said before
+said-one e b before = ap (λ (all : List Said). reverse all ++ said before) (bodily-told b.client b.reports.items)
+
+said-onto : (events : List Event) (batches : List Batch) (before : History) → length batches ≡ length events
+    → said (onto events batches before) ≡ reverse (map bodily (said_by batches)) ++ said before
+said-onto [] [] before same = refl
+said-onto [] (b ∷ batches) before same = absurd (omega (arith, same))
+said-onto (e ∷ events) [] before same = absurd (omega (arith, same))
+said-onto (e ∷ events) (b ∷ batches) before same =
+    let x = told_in b in
+    let xs = said_by batches in
+    said-onto events batches (turn_of e b ∷ before) (omega (arith, same))
+    ∙ (ap (λ ys. reverse (map bodily xs) ++ ys) (said-one e b before)
+    ∙ (sym (append_assoc (reverse (map bodily xs)) (reverse (map bodily x)) (said before))
+    ∙ ap (λ ys. ys ++ said before) (sym (reverse-append (map bodily x) (map bodily xs)) ∙ ap reverse (sym (map-append bodily x xs)))))
+
+said-is : (events : List Event) (batches : List Batch) → length batches ≡ length events → said (history events batches) ≡ map bodily (reverse (said_by batches))
+said-is events batches same = said-onto events batches [] same ∙ (append-nil (reverse (map bodily (said_by batches))) ∙ sym (map-reverse bodily (said_by batches)))
+
+-- ---- pairs
+
+same-pair : (sent : List Message) (ms : List (List ℕ)) (o : OpenedOrder) → pair_in (map body_of sent) ms o ≡ pair_in sent ms o
+same-pair sent ms o = rw (same-reading o.order sent) refl
+
+-- those of a client, by its whole reports
+pairs-whole : (s : Settings) (events : List Event) (batches : List Batch) (c : ℕ) → length batches ≡ length events
+    → pairs_of s (history events batches) c
+    ≡ map (pair_in (reverse (reports_to c batches)) (handled_for s (history events batches) c)) (orders_of c (reverse (opened_orders (reverse (said_by batches)))))
+pairs-whole s events batches c same =
+    let h = history events batches in
+    let sent = reverse (reports_to c batches) in
+    let os = opened_orders (reverse (said_by batches)) in
+    ap (λ (all : List Said). map (pair_in (issued c h) (handled_for s h c)) (reverse (orders_of c (opened_orders all)))) (said-is events batches same)
+    ∙ ap (λ (x : List OpenedOrder). map (pair_in (issued c h) (handled_for s h c)) (reverse (orders_of c x))) (same-opened (reverse (said_by batches)))
+    ∙ ap (map (pair_in (issued c h) (handled_for s h c))) (sym (filter-reverse (λ (o : OpenedOrder). o.client == c) os))
+    ∙ ap (λ (rs : List Message). map (pair_in rs (handled_for s h c)) (orders_of c (reverse os))) (issued-is c events batches same)
+    ∙ map-same (pair_in (map body_of sent) (handled_for s h c)) (pair_in sent (handled_for s h c)) (same-pair sent (handled_for s h c)) (orders_of c (reverse os))
+
+-- one client more
+pub pairs-more : (s : Settings) (n port : ℕ) (kept : List Pair) (reports : List Message) (handled : List (List ℕ)) (openings : List OpenedOrder) (events : List Event) (batches : List Batch) → length batches ≡ length events
+    → reports ≡ reports_to (n + 1) batches → port ≡ port_of s (n + 1) → handled ≡ reverse (again (port_terms s port) port (history events batches)).handled
+    → openings ≡ reverse (opened_orders (reverse (said_by batches)))
+    → kept ≡ for_clients (pairs_of s (history events batches)) n
+    → kept ++ map (pair_in (reverse reports) (reverse handled)) (orders_of (n + 1) openings) ≡ for_clients (pairs_of s (history events batches)) (n + 1)
+pairs-more s n port kept reports handled openings events batches same are_reports is_port are_handled are_openings is_kept =
+    let h = history events batches in
+    let ms : reverse handled ≡ handled_for s h (n + 1) =
+    ap reverse are_handled ∙ reverse-reverse (again (port_terms s port) port h).handled ∙ ap (λ (p : ℕ). (again (port_terms s p) p h).handled) is_port in
+    ap (λ (ps : List Pair). ps ++ map (pair_in (reverse reports) (reverse handled)) (orders_of (n + 1) openings)) is_kept
+    ∙ ap (λ (ps : List Pair). for_clients (pairs_of s h) n ++ ps)
+    (ap (λ (rs : List Message). map (pair_in (reverse rs) (reverse handled)) (orders_of (n + 1) openings)) are_reports
+    ∙ ap (λ (x : List (List ℕ)). map (pair_in (reverse (reports_to (n + 1) batches)) x) (orders_of (n + 1) openings)) ms
+    ∙ ap (λ (os : List OpenedOrder). map (pair_in (reverse (reports_to (n + 1) batches)) (handled_for s h (n + 1))) (orders_of (n + 1) os)) are_openings
+    ∙ sym (pairs-whole s events batches (n + 1) same))
+    ∙ sym (for-more (pairs_of s h) n)

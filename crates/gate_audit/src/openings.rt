@@ -1,0 +1,107 @@
+//! The orders that were accepted, each with its first token, by the reports of the batches alone.
+
+ghost use Rattle.std.specs.Prelude.{◌≡◌, ◌+◌, ◌∷◌, ◌++◌, [], IfOk, List, map, reverse};
+ghost use Rattle.gate_audit.specs.Counted.{IsOf};
+ghost use Rattle.gate_audit.specs.Pairs as read;
+ghost use Rattle.gate_audit.specs.Pairs.{Said, said_to};
+
+use crate::opening::Opening;
+use crate::reports::{first_byte, gives_token, opens_order, text};
+use fix_fields::{Fields, Text};
+use gate_core::Batch;
+use order_accounts::ReadingFault;
+use std::alloc::Global;
+use tokens::Token;
+
+/// The orders that were opened so far, and how many tokens were given.
+#[derive(Debug, Drop)]
+pub struct Openings {
+    pub given: u64,
+    /// The oldest first.
+    pub orders: Vec<Opening>,
+}
+
+impl Openings {
+    /// Before any report.
+    fn new(alloc: Global) -> Openings
+        ensures { IsOf [] result }
+    {
+        Openings {
+            given: 0,
+            orders: Vec::new(alloc),
+        }
+    }
+
+    /// What a client was told by a batch.
+    fn hear_all(
+        &mut self,
+        alloc: Global,
+        client: u16,
+        reports: &[Fields],
+    ) -> Result<(), ReadingFault>
+        ensures { IfOk result (λ u. (all : List Said) → IsOf all self.old → IsOf (reverse (map (said_to client) reports.now) ++ all) self.new) }
+    {
+        for report in reports {
+            self.hear(alloc, client, report)?;
+        }
+        Ok(())
+    }
+
+    /// One report or reject more.
+    fn hear(&mut self, alloc: Global, client: u16, report: &Fields) -> Result<(), ReadingFault>
+        ensures { IfOk result (λ u. (all : List Said) → IsOf all self.old → IsOf (said_to client report.now ∷ all) self.new) }
+    {
+        if gives_token(report) {
+            self.given = next_token(self.given)?;
+        }
+        if opens_order(report) {
+            self.orders
+                .push(opened(alloc, self.given, client, report)?)?;
+        }
+        Ok(())
+    }
+}
+
+/// The orders that the reports of these batches opened, the oldest first.
+///
+/// A token is given with each new order and each replace that is accepted, of whichever client. `TooLarge` where more were given
+/// than there are, or else `NoMemory`.
+///
+/// Source: FIX 4.4 Volume 6, "ExecType"; OUCH 4.2, "Enter Order Message".
+pub fn openings_of(alloc: Global, batches: &[Batch]) -> Result<Vec<Opening>, ReadingFault>
+    ensures { IfOk result (λ orders. orders.items ≡ reverse (read.opened_orders (reverse (read.said_by batches.now)))) }
+{
+    let mut openings = Openings::new(alloc);
+    for batch in batches {
+        if let Some(client) = batch.client {
+            openings.hear_all(alloc, client, &batch.reports)?;
+        }
+    }
+    Ok(openings.orders)
+}
+
+/// The number of the next token, where so many were given. `TooLarge` where there is none.
+fn next_token(given: u64) -> Result<u64, ReadingFault>
+    ensures { IfOk result (λ number. number ≡ given + 1) }
+{
+    if given >= Token::MOST {
+        return Err(ReadingFault::TooLarge);
+    }
+    Ok(given + 1)
+}
+
+/// The order that this report to a client opens, with the token of this number. `TooLarge` where it has none.
+fn opened(alloc: Global, number: u64, client: u16, report: &Fields) -> Result<Opening, ReadingFault>
+    ensures { IfOk result (λ opening. opening ≡ read.opened_at number (said_to client report.now)) }
+{
+    let Ok(root) = Token::of(number) else {
+        return Err(ReadingFault::TooLarge);
+    };
+    Ok(Opening {
+        client,
+        order: Text::copied(alloc, text(report, 37))?,
+        id: Text::copied(alloc, text(report, 11))?,
+        side: first_byte(text(report, 54)),
+        root,
+    })
+}
