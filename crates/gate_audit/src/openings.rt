@@ -74,7 +74,7 @@ pub fn openings_of(alloc: Global, batches: &[Batch]) -> Result<Vec<Opening>, Rea
     let mut openings = Openings::new(alloc);
     for batch in batches {
         if let Some(client) = batch.client {
-            openings.hear_all(alloc, client, &batch.reports)?;
+            openings.hear_all(alloc, client.number(), &batch.reports)?;
         }
     }
     Ok(openings.orders)
