@@ -9,7 +9,7 @@ use crate::flags::Flags;
 use crate::frames::push_frame;
 use crate::packets::push_packet;
 use crate::words::{push_name, push_number};
-use core_batches::{Batch, LinkOut};
+use core_batches::{Batch, LinkOut, PortFault};
 use std::alloc::{AllocError, Global};
 
 /// The lines of a batch: what the client's link is told, then the port's fault, then what the port's link is told. They name the
@@ -33,11 +33,17 @@ pub fn batch_text(alloc: Global, flags: Flags, batch: &Batch) -> Result<Vec<u8>,
 {
     let mut text = Vec::new(alloc);
     if let Some(client) = batch.client {
-        push_client_outs(alloc, &mut text, flags, client, batch.client_out.as_slice())?;
+        push_client_outs(
+            alloc,
+            &mut text,
+            flags,
+            client.number(),
+            batch.client_out.as_slice(),
+        )?;
     }
     if let Some(port) = batch.port {
-        push_fault(&mut text, port, batch.fault)?;
-        push_port_outs(alloc, &mut text, port, batch.port_out.as_slice())?;
+        push_fault(&mut text, port.number(), batch.fault)?;
+        push_port_outs(alloc, &mut text, port.number(), batch.port_out.as_slice())?;
     }
     Ok(text)
 }
@@ -79,7 +85,7 @@ fn push_client_out(
 }
 
 /// Adds a port's fault, if there is one.
-fn push_fault(text: &mut Vec<u8>, port: u16, fault: Option<u8>) -> Result<(), AllocError>
+fn push_fault(text: &mut Vec<u8>, port: u16, fault: Option<PortFault>) -> Result<(), AllocError>
     ensures { OnOk result (text.new.items ≡ text.old.items ++ shown.shown_fault port fault) }
 {
     let Some(fault) = fault else {
@@ -87,7 +93,7 @@ fn push_fault(text: &mut Vec<u8>, port: u16, fault: Option<u8>) -> Result<(), Al
     };
     push_name(text, b'P', port)?;
     text.extend_from_slice(b" fault")?;
-    push_number(text, u32::from(fault))?;
+    push_number(text, u32::from(fault.number()))?;
     text.push(b'\n')?;
     Ok(())
 }

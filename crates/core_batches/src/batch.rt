@@ -2,6 +2,8 @@
 
 ghost use Rattle.std.specs.Prelude.{◌≡◌, ◌==◌, ◌&&◌, not, is_some, length};
 
+use crate::line_number::LineNumber;
+use crate::port_fault::PortFault;
 use fix_fields::Fields;
 
 /// What a link is told.
@@ -17,18 +19,18 @@ pub enum LinkOut {
 #[derive(Debug, Drop)]
 pub struct Batch {
     /// The client that something is for, where there is one.
-    pub client: Option<u16>,
+    pub client: Option<LineNumber>,
     /// Each report and reject as it was issued, with its number, be its frame written or not: the fields from MsgType (35)
     /// on.
     pub reports: Vec<Fields>,
     /// What the client's link is told, in order.
     pub client_out: Vec<LinkOut>,
     /// The port that something is for, where there is one.
-    pub port: Option<u16>,
+    pub port: Option<LineNumber>,
     /// What the port's link is told, in order.
     pub port_out: Vec<LinkOut>,
-    /// The fault of the port's packet or payload, 1 to 6: the port stays closed.
-    pub fault: Option<u8>,
+    /// The fault of the port's packet or payload: the port stays closed.
+    pub fault: Option<PortFault>,
     ghost for_client: { is_some client ≡ not ((length reports.items == 0) && (length client_out.items == 0)) },
     ghost for_port: { is_some port ≡ not ((length port_out.items == 0) && not (is_some fault)) },
 }

@@ -1,11 +1,13 @@
 //! Batches of their parts.
 
 ghost use Rattle.std.specs.Prelude.{◌≡◌, [], ◌∷◌, None, IfOk, map};
-ghost use Rattle.core_law.specs.Events.{empty, Close};
+ghost use Rattle.core_law.specs.Events.{empty, is_number, Close};
 ghost use Rattle.core_batches.specs.Seen.{batch_seen, link_out_seen};
 ghost use Rattle.core_batches.specs.Batches.{batch_of};
 
 use crate::batch::{Batch, LinkOut};
+use crate::line_number::LineNumber;
+use crate::port_fault::PortFault;
 use fix_fields::Fields;
 use std::alloc::{AllocError, Global};
 
@@ -24,14 +26,28 @@ impl Batch {
         }
     }
 
+    /// Whether it names this client. Takes no memory.
+    pub fn names_client(&self, client: u16) -> bool
+        ensures { result ≡ is_number client (batch_seen self.now).client }
+    {
+        is_line(self.client, client)
+    }
+
+    /// Whether it names this port. Takes no memory.
+    pub fn names_port(&self, port: u16) -> bool
+        ensures { result ≡ is_number port (batch_seen self.now).port }
+    {
+        is_line(self.port, port)
+    }
+
     /// A batch of these parts: it names the client and the port where there is something for them.
     pub fn of_parts(
-        client: u16,
+        client: LineNumber,
         reports: Vec<Fields>,
         client_out: Vec<LinkOut>,
-        port: u16,
+        port: LineNumber,
         port_out: Vec<LinkOut>,
-        fault: Option<u8>,
+        fault: Option<PortFault>,
     ) -> Batch
         ensures { batch_seen result ≡ batch_of client reports.items (map link_out_seen client_out.items) port (map link_out_seen port_out.items) fault }
     {
@@ -50,17 +66,25 @@ impl Batch {
     /// A batch with something for a client at most.
     pub fn for_client(
         alloc: Global,
-        client: u16,
+        client: LineNumber,
         reports: Vec<Fields>,
         client_out: Vec<LinkOut>,
     ) -> Batch
         ensures { batch_seen result ≡ batch_of client reports.items (map link_out_seen client_out.items) 0 [] None }
     {
-        Batch::of_parts(client, reports, client_out, 0, Vec::new(alloc), None)
+        let is_for_client = !(reports.is_empty() && client_out.is_empty());
+        Batch {
+            client: is_for_client.then_some(client),
+            reports,
+            client_out,
+            port: None,
+            port_out: Vec::new(alloc),
+            fault: None,
+        }
     }
 
     /// A new link beside a client's current one is closed.
-    pub fn refused_client(alloc: Global, client: u16, link: u64) -> Result<Batch, AllocError>
+    pub fn refused_client(alloc: Global, client: LineNumber, link: u64) -> Result<Batch, AllocError>
         ensures { IfOk result (λ b. batch_seen b ≡ batch_of client [] (Close link ∷ []) 0 [] None) }
     {
         let outs = vec![in alloc; LinkOut::Close { link }]?;
@@ -68,17 +92,40 @@ impl Batch {
     }
 
     /// A batch with something for a port at most.
-    pub fn for_port(alloc: Global, port: u16, port_out: Vec<LinkOut>, fault: Option<u8>) -> Batch
+    pub fn for_port(
+        alloc: Global,
+        port: LineNumber,
+        port_out: Vec<LinkOut>,
+        fault: Option<PortFault>,
+    ) -> Batch
         ensures { batch_seen result ≡ batch_of 0 [] [] port (map link_out_seen port_out.items) fault }
     {
-        Batch::of_parts(0, Vec::new(alloc), Vec::new(alloc), port, port_out, fault)
+        let is_for_port = !(port_out.is_empty() && fault.is_none());
+        Batch {
+            client: None,
+            reports: Vec::new(alloc),
+            client_out: Vec::new(alloc),
+            port: is_for_port.then_some(port),
+            port_out,
+            fault,
+        }
     }
 
     /// A new link beside a port's current one is closed.
-    pub fn refused_port(alloc: Global, port: u16, link: u64) -> Result<Batch, AllocError>
+    pub fn refused_port(alloc: Global, port: LineNumber, link: u64) -> Result<Batch, AllocError>
         ensures { IfOk result (λ b. batch_seen b ≡ batch_of 0 [] [] port (Close link ∷ []) None) }
     {
         let outs = vec![in alloc; LinkOut::Close { link }]?;
         Ok(Batch::for_port(alloc, port, outs, None))
+    }
+}
+
+/// Whether it is the line of this number that is named.
+fn is_line(named: Option<LineNumber>, number: u16) -> bool
+    ensures { result ≡ is_number number named }
+{
+    match named {
+        Some(line) => line.number() == number,
+        None => false,
     }
 }

@@ -9,7 +9,7 @@ ghost use Rattle.core_scripts.specs.Events.{IsOne, client_link, port_link};
 use crate::frames::client_frame;
 use crate::links::{ClientLink, PortLink};
 use crate::packets::{end_of_session, login_accepted, sequenced};
-use core_batches::Event;
+use core_batches::{ClientFrame, Event, LineNumber};
 use event_lines::Line;
 use fix_fields::Fields;
 use fix_framing::FrameFault;
@@ -90,7 +90,7 @@ impl Links {
         one(
             alloc,
             Event::ClientUp {
-                client: client.number(),
+                client: LineNumber::new(client.number()),
                 link: link.number,
                 at: self.at,
             },
@@ -104,7 +104,7 @@ impl Links {
         one(
             alloc,
             Event::ClientGone {
-                client: client.number(),
+                client: LineNumber::new(client.number()),
                 link: self.clients[client.index()].number,
                 at: self.at,
             },
@@ -118,7 +118,7 @@ impl Links {
         one(
             alloc,
             Event::ClientTick {
-                client: client.number(),
+                client: LineNumber::new(client.number()),
                 at: self.at,
             },
         )
@@ -137,7 +137,7 @@ impl Links {
         one(
             alloc,
             Event::ClientMessage {
-                client: client.number(),
+                client: LineNumber::new(client.number()),
                 link: self.clients[client.index()].number,
                 at: self.at,
                 frame,
@@ -158,7 +158,13 @@ impl Links {
             Err(FrameFault::TooLong) => return Err(LineFault::NotUnderstood),
             Err(FrameFault::NoMemory) => return Err(LineFault::NoMemory),
         };
-        Ok(frame_events(alloc, client.number(), link.number, self.at, frames)?)
+        frame_events(
+            alloc,
+            LineNumber::new(client.number()),
+            link.number,
+            self.at,
+            frames,
+        )
     }
 
     /// A port's next link is up.
@@ -171,7 +177,7 @@ impl Links {
         one(
             alloc,
             Event::PortUp {
-                port: port.number(),
+                port: LineNumber::new(port.number()),
                 link: link.number,
                 at: self.at,
             },
@@ -185,7 +191,7 @@ impl Links {
         one(
             alloc,
             Event::PortGone {
-                port: port.number(),
+                port: LineNumber::new(port.number()),
                 link: self.ports[port.index()].number,
                 at: self.at,
             },
@@ -199,7 +205,7 @@ impl Links {
         one(
             alloc,
             Event::PortTick {
-                port: port.number(),
+                port: LineNumber::new(port.number()),
                 at: self.at,
             },
         )
@@ -217,7 +223,7 @@ impl Links {
         one(
             alloc,
             Event::PortPacket {
-                port: port.number(),
+                port: LineNumber::new(port.number()),
                 link: self.ports[port.index()].number,
                 at: self.at,
                 packet,
@@ -238,7 +244,13 @@ impl Links {
             Err(PacketFault::Empty) => return Err(LineFault::NotUnderstood),
             Err(PacketFault::NoMemory) => return Err(LineFault::NoMemory),
         };
-        Ok(packet_events(alloc, port.number(), link.number, self.at, packets)?)
+        Ok(packet_events(
+            alloc,
+            LineNumber::new(port.number()),
+            link.number,
+            self.at,
+            packets,
+        )?)
     }
 }
 
@@ -249,16 +261,17 @@ fn one(alloc: Global, event: Event) -> Result<Vec<Event>, LineFault>
     Ok(vec![in alloc; event]?)
 }
 
-/// An event for each frame on a client's link.
+/// An event for each frame on a client's link. `NotUnderstood` where one is too long: a reader of frames gives none.
 fn frame_events(
     alloc: Global,
-    client: u16,
+    client: LineNumber,
     link: u64,
     at: u64,
     frames: Vec<Fields>,
-) -> Result<Vec<Event>, AllocError> {
+) -> Result<Vec<Event>, LineFault> {
     let mut events = Vec::with_capacity(alloc, frames.len())?;
-    for frame in frames {
+    for fields in frames {
+        let frame = ClientFrame::of(fields).ok_or(LineFault::NotUnderstood)?;
         events.push(Event::ClientMessage {
             client,
             link,
@@ -272,7 +285,7 @@ fn frame_events(
 /// An event for each packet on a port's link.
 fn packet_events(
     alloc: Global,
-    port: u16,
+    port: LineNumber,
     link: u64,
     at: u64,
     packets: Vec<Packet>,

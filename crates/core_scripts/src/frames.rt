@@ -4,15 +4,13 @@ ghost use Rattle.std.specs.Prelude.{◌≡◌, ◌≤◌, length};
 ghost use Rattle.fix_fields.specs.Field.{IsValue};
 ghost use Rattle.script_lines.specs.Names.{client_name};
 
+use core_batches::ClientFrame;
 use fix_fields::{Fields, split};
 use fix_framing::frame;
 use fix_stamp::stamp;
 use script_lines::{Client, LineFault};
 use session_frames::push_number;
 use std::alloc::{AllocError, Global};
-
-/// The most bytes that a frame may have.
-const LONGEST_FRAME: usize = 8_192;
 
 /// The whole frame of a client's fields, of which the first is MsgType (35): behind it stand SenderCompID (49), TargetCompID (56),
 /// MsgSeqNum (34) with this number unless the fields have one, and SendingTime (52) with this moment.
@@ -26,13 +24,11 @@ pub fn client_frame(
     fields: &Fields,
     number: u64,
     at: u64,
-) -> Result<Fields, LineFault> {
+) -> Result<ClientFrame, LineFault> {
     let body = with_header(alloc, client, fields, number, at)?;
     let bytes = frame(alloc, &body)?;
-    if bytes.len() > LONGEST_FRAME {
-        return Err(LineFault::NotUnderstood);
-    }
-    split(alloc, bytes.as_slice())?.ok_or(LineFault::NotUnderstood)
+    let fields = split(alloc, bytes.as_slice())?.ok_or(LineFault::NotUnderstood)?;
+    ClientFrame::of(fields).ok_or(LineFault::NotUnderstood)
 }
 
 /// The fields with the header's others behind the first.

@@ -11,7 +11,7 @@ ghost use Rattle.gate_audit.specs.Called.{IsAgain};
 
 use core_batches::closes_link;
 use core_settings::PortSettings;
-use gate_core::{Batch, Event};
+use gate_core::{Batch, Event, PortFault};
 use soup_packets::{Packet, Payload};
 use soup_session::PortSession;
 use std::alloc::{AllocError, Global};
@@ -78,7 +78,7 @@ impl PortAgain {
                 link,
                 ..
             } => {
-                if *own == port {
+                if own.number() == port {
                     self.comes(alloc, *link)?;
                 }
             }
@@ -88,7 +88,7 @@ impl PortAgain {
                 packet,
                 ..
             } => {
-                if *own == port && self.link == Some(*link) {
+                if own.number() == port && self.link == Some(*link) {
                     self.hears(alloc, packet, batch)?;
                 }
             }
@@ -97,7 +97,7 @@ impl PortAgain {
                 link,
                 ..
             } => {
-                if *own == port && self.link == Some(*link) {
+                if own.number() == port && self.link == Some(*link) {
                     self.goes();
                 }
             }
@@ -147,7 +147,7 @@ impl PortAgain {
         ensures again { (terms : Terms) (r : Again) → IsAgain terms r self.old → IsAgain terms (read.unless_lost port (batch_seen batch.now) r) self.new }
         ensures next { next_of self.new.session ≡ next_of self.old.session }
     {
-        if batch.port == Some(port) && closes_link(self.link, &batch.port_out) {
+        if batch.names_port(port) && closes_link(self.link, &batch.port_out) {
             self.goes();
         }
     }
@@ -157,7 +157,7 @@ impl PortAgain {
 fn keep(
     alloc: Global,
     payload: &Option<Payload>,
-    fault: Option<u8>,
+    fault: Option<PortFault>,
     handled: &mut Vec<Vec<u8>>,
 ) -> Result<(), AllocError>
     ensures { IfOk result (λ u. map (λ m. m.items) handled.new.items ≡ read.and_behind payload.now fault (map (λ m. m.items) handled.old.items)) }

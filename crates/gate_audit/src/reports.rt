@@ -16,7 +16,7 @@ pub fn reports_of(alloc: Global, client: u16, batches: &[Batch]) -> Result<Vec<F
 {
     let mut reports = Vec::new(alloc);
     for batch in batches {
-        if batch.client == Some(client) {
+        if batch.names_client(client) {
             copy_reports(alloc, &batch.reports, &mut reports)?;
         }
     }

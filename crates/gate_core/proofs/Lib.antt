@@ -12,6 +12,7 @@ mod PortLinks
 mod Given
 mod Payloads
 mod Judging
+mod PortFaults
 mod PortPackets
 mod Stepping
 mod Settled

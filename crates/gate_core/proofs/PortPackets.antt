@@ -1,5 +1,5 @@
 -- A port's packet of which the session gives no payload up.
-use Rattle.std.proofs.Common.{◌≡◌, ℕ, Bool, true, false, List, [], ◌∷◌, ◌++◌, length, Option, Some, None, refl, sym, ap, ◌∙◌, eqb-true, eq-eqb, subst}
+use Rattle.std.proofs.Common.{◌≡◌, ℕ, Bool, true, false, List, [], ◌∷◌, ◌++◌, length, Option, Some, None, is_some, refl, sym, ap, ◌∙◌, eqb-true, eq-eqb, subst}
 use Rattle.std.specs.Prelude.{◌&&◌, if◌then◌else◌}
 use Rattle.std.specs.List.{flat_map}
 use Rattle.soup_packets.specs.declared.packet.Packet.{Packet}
@@ -25,6 +25,7 @@ use Rattle.gate_core.proofs.Told.{port-told}
 use Rattle.gate_core.proofs.Parted.{ports-parts}
 use Rattle.gate_core.proofs.PortEvents.{port-event, by_port}
 use Rattle.gate_core.proofs.PortLinks.{ReadsSent}
+use Rattle.gate_core.proofs.PortFaults.{HasFaultWithin, packet-within}
 
 pub comes-up : (stood stands : PortState) → is_up stood ≡ false → is_up stands ≡ true → came_up stood stands ≡ true
 comes-up stood stands before now = rw (before, now) refl
@@ -52,6 +53,13 @@ current-is : (has : Bool) (link : ℕ) (current : Option ℕ) → (has && is_num
 current-is true link (Some current) on = ap Some (eqb-true current link on)
 current-is true link None on = absurd (cc)
 current-is false link current on = absurd (cc)
+
+-- a port that heard a packet on its current link has no fault, or one from 1 to 6
+pub heard-fault : (s : Settings) (v : Lists) (p link at : ℕ) (packet : Packet) (payload : Option (List ℕ)) (said : List PortOut) (g : Gate) → IsGiven s p link at packet payload said v g
+    → HasFaultWithin (port_state s p ((port_called p (Hears packet at) v).port_calls p))
+heard-fault s v p link at packet payload said g given =
+    subst HasFaultWithin (sym (stands-after s p (Hears packet at) v))
+    (packet-within s p (v.port_calls p) packet at (given.linked p ∙ ap is_some (current-is (has_port s p) link (v.port_link p) given.on)))
 
 pub port-heard : ReadsSent → (s : Settings) (v : Lists) (p link at : ℕ) (packet : Packet) (stood : PortState) (said more : List PortOut) (fault : Option ℕ) (outs : List LinkOut) (heard g new : Gate)
     → IsGiven s p link at packet None said v heard

@@ -1,5 +1,7 @@
 //! A day of the gateway.
 
+ghost use Rattle.std.specs.Prelude.{◌≤◌};
+
 use crate::events::{accepts_login, client_up, message, port_up};
 use crate::payloads::FROM_FIRST;
 use crate::served::settings;
@@ -52,17 +54,23 @@ impl Day {
         client: u16,
         link: u64,
         text: &[u8],
-    ) -> Result<Vec<u8>, Fail> {
+    ) -> Result<Vec<u8>, Fail>
+        requires { 1 ≤ client }
+    {
         self.step(alloc, &message(alloc, client, link, text)?)
     }
 
-    fn logs_on(&mut self, alloc: Global, client: u16, logon: &[u8]) -> Result<(), Fail> {
+    fn logs_on(&mut self, alloc: Global, client: u16, logon: &[u8]) -> Result<(), Fail>
+        requires { 1 ≤ client }
+    {
         self.step(alloc, &client_up(client, 1))?;
         self.message(alloc, client, 1, logon)?;
         Ok(())
     }
 
-    fn logs_in(&mut self, alloc: Global, port: u16) -> Result<(), Fail> {
+    fn logs_in(&mut self, alloc: Global, port: u16) -> Result<(), Fail>
+        requires { 1 ≤ port }
+    {
         self.step(alloc, &port_up(port, 1))?;
         self.step(alloc, &accepts_login(alloc, port, 1, FROM_FIRST)?)?;
         Ok(())

@@ -1,60 +1,77 @@
 //! Events at moment 0.
 
+ghost use Rattle.std.specs.Prelude.{◌≤◌};
+
 use fix_fields::split;
-use gate_core::Event;
+use gate_core::{ClientFrame, Event, LineNumber};
 use soup_packets::{Packet, Payload};
 use std::alloc::Global;
 use std::test::Fail;
 
 /// A client's link is up.
-pub fn client_up(client: u16, link: u64) -> Event {
+pub fn client_up(client: u16, link: u64) -> Event
+    requires { 1 ≤ client }
+{
     Event::ClientUp {
-        client,
+        client: LineNumber::new(client),
         link,
         at: 0,
     }
 }
 
 /// A client's link brings a frame of these fields, in which `|` stands for SOH.
-pub fn message(alloc: Global, client: u16, link: u64, text: &[u8]) -> Result<Event, Fail> {
+pub fn message(alloc: Global, client: u16, link: u64, text: &[u8]) -> Result<Event, Fail>
+    requires { 1 ≤ client }
+{
     let mut bytes = Vec::new(alloc);
     for byte in text {
         bytes.push(if *byte == b'|' { 1 } else { *byte })?;
     }
-    match split(alloc, bytes.as_slice())? {
+    let Some(fields) = split(alloc, bytes.as_slice())? else {
+        return Err(Fail::new("no fields"));
+    };
+    match ClientFrame::of(fields) {
         Some(frame) => Ok(Event::ClientMessage {
-            client,
+            client: LineNumber::new(client),
             link,
             at: 0,
             frame,
         }),
-        None => Err(Fail::new("no fields")),
+        None => Err(Fail::new("too long for a frame")),
     }
 }
 
 /// A port's link is up.
-pub fn port_up(port: u16, link: u64) -> Event {
-    Event::PortUp { port, link, at: 0 }
+pub fn port_up(port: u16, link: u64) -> Event
+    requires { 1 ≤ port }
+{
+    Event::PortUp {
+        port: LineNumber::new(port),
+        link,
+        at: 0,
+    }
 }
 
 /// A port's link is gone.
-pub fn port_gone(port: u16, link: u64) -> Event {
-    Event::PortGone { port, link, at: 0 }
+pub fn port_gone(port: u16, link: u64) -> Event
+    requires { 1 ≤ port }
+{
+    Event::PortGone {
+        port: LineNumber::new(port),
+        link,
+        at: 0,
+    }
 }
 
 /// A port's link brings a packet.
-pub fn packet(
-    alloc: Global,
-    port: u16,
-    link: u64,
-    kind: u8,
-    payload: &[u8],
-) -> Result<Event, Fail> {
+pub fn packet(alloc: Global, port: u16, link: u64, kind: u8, payload: &[u8]) -> Result<Event, Fail>
+    requires { 1 ≤ port }
+{
     if payload.len() > Payload::MOST {
         return Err(Fail::new("too long for a packet"));
     }
     Ok(Event::PortPacket {
-        port,
+        port: LineNumber::new(port),
         link,
         at: 0,
         packet: Packet {
@@ -65,11 +82,15 @@ pub fn packet(
 }
 
 /// A port's link brings a Login Accepted: a session of 10 bytes, a number of 20.
-pub fn accepts_login(alloc: Global, port: u16, link: u64, payload: &[u8]) -> Result<Event, Fail> {
+pub fn accepts_login(alloc: Global, port: u16, link: u64, payload: &[u8]) -> Result<Event, Fail>
+    requires { 1 ≤ port }
+{
     packet(alloc, port, link, b'A', payload)
 }
 
 /// A port's link brings a message of the market, as a sequenced packet.
-pub fn says(alloc: Global, port: u16, link: u64, payload: &[u8]) -> Result<Event, Fail> {
+pub fn says(alloc: Global, port: u16, link: u64, payload: &[u8]) -> Result<Event, Fail>
+    requires { 1 ≤ port }
+{
     packet(alloc, port, link, b'S', payload)
 }

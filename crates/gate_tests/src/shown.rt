@@ -19,7 +19,7 @@ use std::alloc::{AllocError, Global};
 pub fn show(alloc: Global, batch: &Batch) -> Result<Vec<u8>, AllocError> {
     let mut shown = Vec::new(alloc);
     if let Some(client) = batch.client {
-        show_name(&mut shown, b"to C", client)?;
+        show_name(&mut shown, b"to C", client.number())?;
     }
     for report in &batch.reports {
         shown.extend_from_slice(b"issues ")?;
@@ -29,10 +29,10 @@ pub fn show(alloc: Global, batch: &Batch) -> Result<Vec<u8>, AllocError> {
         show_client_out(alloc, &mut shown, out)?;
     }
     if let Some(port) = batch.port {
-        show_name(&mut shown, b"to P", port)?;
+        show_name(&mut shown, b"to P", port.number())?;
     }
     if let Some(fault) = batch.fault {
-        show_name(&mut shown, b"fault ", u16::from(fault))?;
+        show_name(&mut shown, b"fault ", u16::from(fault.number()))?;
     }
     for out in &batch.port_out {
         show_port_out(&mut shown, out)?;

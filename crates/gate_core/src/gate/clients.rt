@@ -10,7 +10,7 @@ ghost use Rattle.gate_core.specs.Steps.{Grows, Ready, Stepped};
 ghost use Rattle.gate_core.specs.Expected.{next_of};
 
 use super::{Gate, place_of};
-use core_batches::{Batch, only_outs, told_client};
+use core_batches::{Batch, LineNumber, only_outs, told_client};
 use core_lines::{client_comes, client_goes, client_ticks};
 use std::alloc::{AllocError, Global};
 
@@ -19,7 +19,7 @@ impl Gate {
     pub(crate) fn client_up(
         &mut self,
         alloc: Global,
-        client: u16,
+        client: LineNumber,
         link: u64,
         at: u64,
     ) -> Result<Batch, AllocError>
@@ -40,7 +40,13 @@ impl Gate {
     }
 
     /// A client's current link is gone.
-    pub(crate) fn client_gone(&mut self, alloc: Global, client: u16, link: u64, at: u64) -> Batch
+    pub(crate) fn client_gone(
+        &mut self,
+        alloc: Global,
+        client: LineNumber,
+        link: u64,
+        at: u64,
+    ) -> Batch
         ensures step { (s : Settings) (v : Lists) → Ready s v self.old → Stepped s (ClientGone client link at) (batch_seen result) v self.new }
         ensures grows { Grows 0 0 self.old self.new }
     {
@@ -55,7 +61,7 @@ impl Gate {
     pub(crate) fn client_tick(
         &mut self,
         alloc: Global,
-        client: u16,
+        client: LineNumber,
         at: u64,
     ) -> Result<Batch, AllocError>
         ensures step { IfOk result (λ b. (s : Settings) (v : Lists) → Ready s v self.old → Stepped s (ClientTick client at) (batch_seen b) v self.new) }
@@ -70,11 +76,11 @@ impl Gate {
     }
 
     /// The place of a client, where the settings have it.
-    pub(crate) fn client_place(&self, client: u16) -> Option<usize>
+    pub(crate) fn client_place(&self, client: LineNumber) -> Option<usize>
         ensures known { (s : Settings) (v : Lists) → Parts s v self.now → is_some result ≡ has_client s client }
         ensures place { IfSome result (λ place. (client ≡ place + 1) × (place < length self.now.clients.items)) }
     {
-        place_of(client, self.clients.len())
+        place_of(client.number(), self.clients.len())
     }
 
     /// The current link of the client at a place.
@@ -86,7 +92,7 @@ impl Gate {
     }
 
     /// The place of a client of which this link is the current one.
-    pub(crate) fn client_on(&self, client: u16, link: u64) -> Option<usize>
+    pub(crate) fn client_on(&self, client: LineNumber, link: u64) -> Option<usize>
         ensures on { (s : Settings) (v : Lists) → Parts s v self.now → is_some result ≡ (has_client s client && is_number link (v.client_link client)) }
         ensures place { IfSome result (λ place. (client ≡ place + 1) × (place < length self.now.clients.items)) }
     {
@@ -102,7 +108,7 @@ impl Gate {
     pub(crate) fn next_in(&self, client: u16) -> Option<u64>
         ensures { (s : Settings) (v : Lists) → Parts s v self.now → result ≡ next_of s client (v.client_calls client) }
     {
-        let place = self.client_place(client)?;
+        let place = self.client_place(LineNumber::of(client)?)?;
         Some(self.clients[place].next_in())
     }
 }

@@ -12,10 +12,9 @@ ghost use Rattle.gate_core.specs.Steps.{Grows, IsHeard, Ready, Stepped};
 
 use super::Gate;
 use super::messages::Asked;
-use core_batches::{Batch, told_client, told_port};
+use core_batches::{Batch, ClientFrame, LineNumber, told_client, told_port};
 use core_law::packets_have_the_messages_sent;
 use core_lines::{Issues, client_hears};
-use fix_fields::Fields;
 use fix_session::{SessionOut, SessionTurn};
 use fix_types::AppMsg;
 use std::alloc::{AllocError, Global};
@@ -25,10 +24,10 @@ impl Gate {
     pub(crate) fn client_message(
         &mut self,
         alloc: Global,
-        client: u16,
+        client: LineNumber,
         link: u64,
         at: u64,
-        frame: &Fields,
+        frame: &ClientFrame,
     ) -> Result<Batch, AllocError>
         requires shaped { IsShaped self.old }
         requires room { HasRoom self.old.orders }
@@ -38,7 +37,13 @@ impl Gate {
         let Some(place) = self.client_on(client, link) else {
             return Ok(Batch::empty(alloc));
         };
-        let SessionTurn { outs, app } = client_hears(&mut self.clients, alloc, place, frame, at)?;
+        let SessionTurn { outs, app } = client_hears(
+            &mut self.clients,
+            alloc,
+            place,
+            frame.fields(),
+            at,
+        )?;
         match app {
             Some(message) => self.asked(alloc, place, &message, at, outs),
             None => self.unasked(alloc, place, outs),
@@ -69,7 +74,7 @@ impl Gate {
         } = self.ask(alloc, place, port, message, at)?;
         let client_out = told_client(&mut self.clients, alloc, place, said, outs)?;
         let port_out = told_port(&mut self.ports, alloc, port, &port_outs, &[])?;
-        let (client, port) = ((place + 1) as u16, (port + 1) as u16);
+        let (client, port) = (LineNumber::at_place(place), LineNumber::at_place(port));
         Ok(Batch::of_parts(client, reports, client_out, port, port_out, None))
     }
 
@@ -87,6 +92,6 @@ impl Gate {
         ensures grows { Grows 0 0 self.old self.new }
     {
         let outs = told_client(&mut self.clients, alloc, place, said, Vec::new(alloc))?;
-        Ok(Batch::for_client(alloc, (place + 1) as u16, Vec::new(alloc), outs))
+        Ok(Batch::for_client(alloc, LineNumber::at_place(place), Vec::new(alloc), outs))
     }
 }

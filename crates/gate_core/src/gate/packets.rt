@@ -1,6 +1,6 @@
 //! A port's packet of which the session gives no payload up.
 
-ghost use Rattle.std.specs.Prelude.{◌≡◌, ◌<◌, ◌+◌, ◌^◌, ℕ, length, None, IfOk};
+ghost use Rattle.std.specs.Prelude.{◌≡◌, ◌<◌, ◌≤◌, ◌+◌, ◌^◌, ℕ, length, None, IfOk, IfSome};
 ghost use Rattle.soup_packets.specs.declared.packet.Packet as packet;
 ghost use Rattle.core_law.specs.Settings.{Settings};
 ghost use Rattle.core_law.specs.Events.{PortPacket};
@@ -14,7 +14,7 @@ ghost use Rattle.gate_core.specs.Steps.{Grows, IsGiven, Ready, Stepped};
 ghost use Rattle.gate_core.specs.Hearing.{IsSentAgain};
 
 use super::Gate;
-use core_batches::{Batch, told_port};
+use core_batches::{Batch, LineNumber, PortFault, told_port};
 use core_law::packets_have_the_messages_sent;
 use core_lines::port_hears;
 use soup_packets::Packet;
@@ -27,7 +27,7 @@ impl Gate {
     pub(crate) fn port_packet(
         &mut self,
         alloc: Global,
-        port: u16,
+        port: LineNumber,
         link: u64,
         at: u64,
         packet: &Packet,
@@ -71,7 +71,7 @@ impl Gate {
         let fault = fault_of(self.port_state(place));
         let sent = self.send_again(alloc, place, stood, at)?;
         let outs = told_port(&mut self.ports, alloc, place, &said, &sent)?;
-        Ok(Batch::for_port(alloc, (place + 1) as u16, outs, fault))
+        Ok(Batch::for_port(alloc, LineNumber::at_place(place), outs, fault))
     }
 
     /// Sends a port that stood as given, and is up now, all that is outstanding on it: once more where it was sent before.
@@ -96,11 +96,11 @@ impl Gate {
 }
 
 /// The fault of a port that is faulted.
-fn fault_of(state: PortState) -> Option<u8>
-    ensures { result ≡ fault_in state }
+fn fault_of(state: PortState) -> Option<PortFault>
+    ensures { IfSome (fault_in state) (λ n. (1 ≤ n) × (n ≤ 6)) → result ≡ fault_in state }
 {
     match state {
-        PortState::Faulted(fault) => Some(fault),
+        PortState::Faulted(fault) => PortFault::of(fault),
         PortState::Down | PortState::LoggingIn | PortState::Up | PortState::Ended => None,
     }
 }

@@ -15,7 +15,7 @@ ghost use Rattle.gate_core.specs.State.{IsShaped, Parts};
 ghost use Rattle.gate_core.specs.Steps.{Grows, IsFaulty, IsGiven, IsJudged, IsTold, IsWithin, Stepped};
 
 use super::{Gate, place_of};
-use core_batches::{Batch, told_client, told_port};
+use core_batches::{Batch, LineNumber, PortFault, told_client, told_port};
 use core_law::{packets_have_the_messages_sent, payloads_are_told_to_clients_that_came};
 use core_lines::{Issues, port_fails};
 use fix_types::AppBody;
@@ -117,7 +117,7 @@ impl Gate {
         let Issues { reports, outs } = self.issue(alloc, client, bodies, at)?;
         let client_out = told_client(&mut self.clients, alloc, client, outs, Vec::new(alloc))?;
         let port_out = told_port(&mut self.ports, alloc, place, said, &[])?;
-        let (client, port) = ((client + 1) as u16, (place + 1) as u16);
+        let (client, port) = (LineNumber::at_place(client), LineNumber::at_place(place));
         Ok(Batch::of_parts(client, reports, client_out, port, port_out, None))
     }
 
@@ -138,7 +138,7 @@ impl Gate {
     {
         packets_have_the_messages_sent();
         let port_out = told_port(&mut self.ports, alloc, place, said, &[])?;
-        Ok(Batch::for_port(alloc, (place + 1) as u16, port_out, None))
+        Ok(Batch::for_port(alloc, LineNumber::at_place(place), port_out, None))
     }
 
     /// A payload at fault: the port's session is told, and its link is closed.
@@ -163,7 +163,12 @@ impl Gate {
             PortState::Up => {
                 let turn = port_fails(&mut self.ports, alloc, place, fault)?;
                 let port_out = told_port(&mut self.ports, alloc, place, said, &turn.outs)?;
-                Ok(Batch::for_port(alloc, (place + 1) as u16, port_out, Some(fault)))
+                Ok(Batch::for_port(
+                    alloc,
+                    LineNumber::at_place(place),
+                    port_out,
+                    Some(PortFault::new(fault)),
+                ))
             }
             _ => Ok(Batch::empty(alloc)),
         }

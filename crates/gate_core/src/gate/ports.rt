@@ -12,7 +12,7 @@ ghost use Rattle.gate_core.specs.State.{Parts};
 ghost use Rattle.gate_core.specs.Steps.{Grows, Ready, Stepped};
 
 use super::{Gate, place_of};
-use core_batches::{Batch, told_port};
+use core_batches::{Batch, LineNumber, told_port};
 use core_law::packets_have_the_messages_sent;
 use core_lines::{port_comes, port_goes, port_ticks};
 use soup_session::PortState;
@@ -23,7 +23,7 @@ impl Gate {
     pub(crate) fn port_up(
         &mut self,
         alloc: Global,
-        port: u16,
+        port: LineNumber,
         link: u64,
         at: u64,
     ) -> Result<Batch, AllocError>
@@ -46,7 +46,7 @@ impl Gate {
     }
 
     /// A port's current link is gone.
-    pub(crate) fn port_gone(&mut self, alloc: Global, port: u16, link: u64, at: u64) -> Batch
+    pub(crate) fn port_gone(&mut self, alloc: Global, port: LineNumber, link: u64, at: u64) -> Batch
         ensures step { (s : Settings) (v : Lists) → Ready s v self.old → Stepped s (PortGone port link at) (batch_seen result) v self.new }
         ensures grows { Grows 0 0 self.old self.new }
     {
@@ -61,7 +61,7 @@ impl Gate {
     pub(crate) fn port_tick(
         &mut self,
         alloc: Global,
-        port: u16,
+        port: LineNumber,
         at: u64,
     ) -> Result<Batch, AllocError>
         ensures step { IfOk result (λ b. (s : Settings) (v : Lists) → Ready s v self.old → Stepped s (PortTick port at) (batch_seen b) v self.new) }
@@ -77,11 +77,11 @@ impl Gate {
     }
 
     /// The place of a port, where the settings have it.
-    pub(crate) fn port_place(&self, port: u16) -> Option<usize>
+    pub(crate) fn port_place(&self, port: LineNumber) -> Option<usize>
         ensures known { (s : Settings) (v : Lists) → Parts s v self.now → is_some result ≡ has_port s port }
         ensures place { IfSome result (λ place. (port ≡ place + 1) × (place < length self.now.ports.items)) }
     {
-        place_of(port, self.ports.len())
+        place_of(port.number(), self.ports.len())
     }
 
     /// The current link of the port at a place.
@@ -102,7 +102,7 @@ impl Gate {
     }
 
     /// The place of a port of which this link is the current one.
-    pub(crate) fn port_on(&self, port: u16, link: u64) -> Option<usize>
+    pub(crate) fn port_on(&self, port: LineNumber, link: u64) -> Option<usize>
         ensures on { (s : Settings) (v : Lists) → Parts s v self.now → is_some result ≡ (has_port s port && is_number link (v.port_link port)) }
         ensures place { IfSome result (λ place. (port ≡ place + 1) × (place < length self.now.ports.items)) }
     {

@@ -9,7 +9,7 @@ ghost use Rattle.gate_core.specs.Targets.{client_for, clients_port, known_client
 
 use super::Gate;
 use crate::targets::Targets;
-use core_batches::Event;
+use core_batches::{Event, LineNumber};
 
 impl Gate {
     /// Whom the batch of an event may name.
@@ -36,30 +36,32 @@ impl Gate {
                 port: self.known_port(*port),
             },
             Event::PortPacket { port, packet, .. } => Targets {
-                client: self.orders.client_of(*port, packet.payload.as_slice()),
+                client: self
+                    .orders
+                    .client_of(port.number(), packet.payload.as_slice()),
                 port: self.known_port(*port),
             },
         }
     }
 
     /// A client's number, where the settings have it.
-    fn known_client(&self, client: u16) -> Option<u16>
+    fn known_client(&self, client: LineNumber) -> Option<u16>
         ensures { (s : Settings) (v : Lists) → Parts s v self.now → result ≡ known_client s client }
     {
         self.client_place(client)?;
-        Some(client)
+        Some(client.number())
     }
 
     /// A port's number, where the settings have it.
-    fn known_port(&self, port: u16) -> Option<u16>
+    fn known_port(&self, port: LineNumber) -> Option<u16>
         ensures { (s : Settings) (v : Lists) → Parts s v self.now → result ≡ known_port s port }
     {
         self.port_place(port)?;
-        Some(port)
+        Some(port.number())
     }
 
     /// The number of a client's port, where the settings have the client.
-    fn clients_port(&self, client: u16) -> Option<u16>
+    fn clients_port(&self, client: LineNumber) -> Option<u16>
         requires shaped { IsShaped self.now }
         ensures { (s : Settings) (v : Lists) → Parts s v self.now → result ≡ clients_port s client }
     {

@@ -45,7 +45,8 @@ returns-clause-step c s v link frame heard =
     ∙ ap (λ (xs : List PortOut). to_port (x.port_link p) xs ++ to_port (x.port_link p) []) c.deref.ensures.value in
     subst (λ (b : Batch). Stepped s (ClientMessage n link c.args.at frame) b v new)
     (sym (c.of_parts.ensures
-    ∙ ap (λ (k : ℕ). batch_of n out.issues.reports.items client_out k port_out None) is))
+    ∙ ap (λ (k : ℕ). batch_of k out.issues.reports.items client_out c.at_place-port.result port_out None) c.at_place-client.ensures
+    ∙ ap (λ (k : ℕ). batch_of n out.issues.reports.items client_out k port_out None) (c.at_place-port.ensures ∙ is)))
     (asked-step s v c.ask.new.self new n link c.args.at frame c.args.message.now out (map told c.args.said.items) client_out port_out
     c.packets_have_the_messages_sent.ensures.sends heard.on heard.app_is heard.said_is heard.linked asked lines packets
     (c.told_client.ensures.leave s x.client_calls asked.parts.clients) (c.in_ok-client_out.ensures.links x.client_link asked.parts.client_links) c.told_client.ensures.length

@@ -2,6 +2,7 @@ use Rattle.std.proofs.Common.{◌≡◌, ◌+◌, ◌∷◌, [], ℕ, Some, None
 use Rattle.std.specs.Prelude.{◌&&◌}
 use Rattle.std.proofs.lemmas.Result.{IfOk-weaker}
 use Rattle.session_law.specs.Runs.{Came}
+use Rattle.order_law.specs.Messages.{Message}
 use Rattle.core_law.specs.Settings.{has_client}
 use Rattle.core_law.specs.Events.{ClientMessage, is_number}
 use Rattle.gate_core.specs.declared.gate.Gate.{Gate}
@@ -18,17 +19,18 @@ returns-in-Some-app-clause-step c =
     let is = c.in-Some.ensures.place.0 in
     let answer = c.in_ok-outs.ensures.answers s v.client_calls ready.parts.clients in
     let mid : Gate = record { clients = c.client_hears.new.lines; ports = c.args.self.now.ports; client_ports = c.args.self.now.client_ports; orders = c.args.self.now.orders } in
-    let heard : IsHeard s n c.args.link c.args.at c.args.frame.now (Some c.in-Some-app.message) c.in_ok-outs.field-0.outs.items v mid = record {
+    let heard : IsHeard s n c.args.link c.args.at c.fields.result.now (Some c.in-Some-app.message) c.in_ok-outs.field-0.outs.items v mid = record {
       on = subst (λ (k : ℕ). (has_client s k && is_number c.args.link (v.client_link k)) ≡ true) is (sym (c.in-Some.ensures.on s v ready.parts));
       app_is = sym answer.app ∙ c.in-Some-app.is;
       said_is = answer.outs;
       linked = ready.linked;
       few = ready.few;
-      parts = clients-parts s n ((c.args.at, Came c.args.frame.now) ∷ []) v c.args.self.now mid ready.parts
+      parts = clients-parts s n ((c.args.at, Came c.fields.result.now) ∷ []) v c.args.self.now mid ready.parts
           (c.in_ok-outs.ensures.leave s v.client_calls ready.parts.clients) (c.client_hears.ensures.links v.client_link ready.parts.client_links) c.client_hears.ensures.length refl refl refl;
     } in
     subst (λ (k : ℕ). Stepped s (ClientMessage k c.args.link c.args.at c.args.frame.now) (batch_seen b) v c.asked.new.self) (sym is)
-    (step s v c.args.link c.args.frame.now heard))
+    (subst (λ (m : Message). Stepped s (ClientMessage n c.args.link c.args.at m) (batch_seen b) v c.asked.new.self) c.fields.ensures.fields
+    (step s v c.args.link c.fields.result.now heard)))
     c.asked.ensures.step
 
 pub returns-in-None-clause-step : goal.returns-in-None-clause-step
@@ -39,15 +41,16 @@ returns-in-None-clause-step c =
     let is = c.in-Some.ensures.place.0 in
     let answer = c.in_ok-outs.ensures.answers s v.client_calls ready.parts.clients in
     let mid : Gate = record { clients = c.client_hears.new.lines; ports = c.args.self.now.ports; client_ports = c.args.self.now.client_ports; orders = c.args.self.now.orders } in
-    let heard : IsHeard s n c.args.link c.args.at c.args.frame.now None c.in_ok-outs.field-0.outs.items v mid = record {
+    let heard : IsHeard s n c.args.link c.args.at c.fields.result.now None c.in_ok-outs.field-0.outs.items v mid = record {
       on = subst (λ (k : ℕ). (has_client s k && is_number c.args.link (v.client_link k)) ≡ true) is (sym (c.in-Some.ensures.on s v ready.parts));
       app_is = sym answer.app ∙ c.in-None.is;
       said_is = answer.outs;
       linked = ready.linked;
       few = ready.few;
-      parts = clients-parts s n ((c.args.at, Came c.args.frame.now) ∷ []) v c.args.self.now mid ready.parts
+      parts = clients-parts s n ((c.args.at, Came c.fields.result.now) ∷ []) v c.args.self.now mid ready.parts
           (c.in_ok-outs.ensures.leave s v.client_calls ready.parts.clients) (c.client_hears.ensures.links v.client_link ready.parts.client_links) c.client_hears.ensures.length refl refl refl;
     } in
     subst (λ (k : ℕ). Stepped s (ClientMessage k c.args.link c.args.at c.args.frame.now) (batch_seen b) v c.unasked.new.self) (sym is)
-    (step s v c.args.link c.args.at c.args.frame.now heard))
+    (subst (λ (m : Message). Stepped s (ClientMessage n c.args.link c.args.at m) (batch_seen b) v c.unasked.new.self) c.fields.ensures.fields
+    (step s v c.args.link c.args.at c.fields.result.now heard)))
     c.unasked.ensures.step

@@ -1,4 +1,4 @@
-use Rattle.std.proofs.Common.{◌≡◌, ◌+◌, ◌∷◌, [], Some, map, true, false, refl, sym, ap, ◌∙◌, subst}
+use Rattle.std.proofs.Common.{◌≡◌, ℕ, ◌+◌, ◌∷◌, [], Some, map, true, false, refl, sym, ap, ◌∙◌, subst}
 use Rattle.std.proofs.lemmas.Option.{slice_get_read}
 use Rattle.soup_session.specs.States.{is_up}
 use Rattle.soup_session.specs.Table.{Hears, Fails}
@@ -7,6 +7,7 @@ use Rattle.core_law.specs.Lists.{Lists, port_called, turned}
 use Rattle.core_law.specs.Sessions.{port_state}
 use Rattle.gate_core.specs.declared.gate.Gate.{Gate}
 use Rattle.core_batches.specs.Seen.{link_out_seen}
+use Rattle.core_batches.specs.Batches.{batch_of}
 use Rattle.gate_core.specs.Steps.{Stepped, heard_turn}
 use Rattle.gate_core.proofs.Growing.{ports-grow}
 use Rattle.gate_core.proofs.Parted.{not-up, ports-parts}
@@ -38,7 +39,9 @@ returns-in_ok-port_out-in-Up-clause-step c s v link at packet payload g given fa
     let parts = ports-parts s p (Fails k ∷ []) w c.args.self.now mid faulty.parts (c.in_ok-turn-in-Up.ensures.leave s w.port_calls faulty.parts.ports)
     (c.port_fails.ensures.links w.port_link faulty.parts.port_links) c.port_fails.ensures.length refl refl refl in
     let packets = c.in_ok-port_out-in-Up.ensures.outs v.port_link parts.port_links in
-    subst (λ (b : Batch). Stepped s (PortPacket p link at packet) b v new) (sym c.for_port.ensures)
+    let outs = map link_out_seen c.in_ok-port_out-in-Up.port_out.items in
+    subst (λ (b : Batch). Stepped s (PortPacket p link at packet) b v new)
+    (sym (c.for_port.ensures ∙ ap (λ (n : ℕ). batch_of 0 [] [] n outs (Some c.new.result)) c.at_place.ensures ∙ ap (λ (n : ℕ). batch_of 0 [] [] p outs (Some n)) c.new.ensures))
     (faulty-step s p link at packet payload c.args.said.now v g given k c.deref.result.now mid new (map link_out_seen c.in_ok-port_out-in-Up.port_out.items)
     c.packets_have_the_messages_sent.ensures.after faulty.headline (c.deref.ensures.value ∙ answer.outs) parts packets
     (c.told_port.ensures.leave s (port_called p (Fails k) w).port_calls parts.ports) (c.in_ok-port_out-in-Up.ensures.links v.port_link parts.port_links) c.told_port.ensures.length refl refl refl)

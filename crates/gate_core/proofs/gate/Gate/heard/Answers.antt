@@ -1,4 +1,4 @@
-use Rattle.std.proofs.Common.{◌+◌, List, ◌∷◌, ◌++◌, map, refl, sym, ap, ◌∙◌, subst}
+use Rattle.std.proofs.Common.{◌+◌, ℕ, None, [], List, ◌∷◌, ◌++◌, map, refl, sym, ap, ◌∙◌, subst}
 use Rattle.soup_session.specs.declared.port_turn.PortOut.{PortOut}
 use Rattle.soup_session.specs.Table.{Call, Hears}
 use Rattle.core_law.specs.Events.{PortPacket, Batch}
@@ -10,7 +10,9 @@ use Rattle.core_batches.specs.Seen.{link_out_seen}
 use Rattle.gate_core.specs.Steps.{Stepped}
 use Rattle.gate_core.proofs.Growing.{ports-grow, grows-then}
 use Rattle.gate_core.proofs.PortEvents.{with-calls}
-use Rattle.gate_core.proofs.PortPackets.{port-heard}
+use Rattle.core_batches.specs.Batches.{batch_of}
+use Rattle.gate_core.proofs.PortFaults.{HasFaultWithin}
+use Rattle.gate_core.proofs.PortPackets.{heard-fault, port-heard}
 use Rattle.gate_core.proofs.gate.Gate.heard.Goals as goal
 
 pub returns-clause-step : goal.returns-clause-step
@@ -22,11 +24,15 @@ returns-clause-step c s v link packet given before =
     let outs = map link_out_seen c.in_ok-outs.outs.items in
     let again = c.in_ok-sent.ensures.sent s (port_called p call v) given.parts given.few in
     let calls = call ∷ sends c.args.at again.messages in
+    let state_is = c.port_state.ensures.state s (port_called p call v) given.parts in
+    let fault = c.fault_of-fault.result in
+    let within = subst HasFaultWithin (sym state_is) (heard-fault s v p link c.args.at packet None c.args.said.items c.args.self.now given) in
     let parts = with-calls s p calls v between again.sent.parts in
-    subst (λ (b : Batch). Stepped s (PortPacket p link c.args.at packet) b v new) (sym c.for_port.ensures)
-    (port-heard c.packets_have_the_messages_sent.ensures.after s v p link c.args.at packet c.args.stood c.args.said.items c.in_ok-sent.sent.items c.fault_of-fault.result outs c.args.self.now between new
+    subst (λ (b : Batch). Stepped s (PortPacket p link c.args.at packet) b v new)
+    (sym (c.for_port.ensures ∙ ap (λ (n : ℕ). batch_of 0 [] [] n outs fault) c.at_place.ensures))
+    (port-heard c.packets_have_the_messages_sent.ensures.after s v p link c.args.at packet c.args.stood c.args.said.items c.in_ok-sent.sent.items fault outs c.args.self.now between new
     given before again
-    (c.fault_of-fault.ensures ∙ ap fault_in (c.port_state.ensures.state s (port_called p call v) given.parts))
+    (c.fault_of-fault.ensures within ∙ ap fault_in state_is)
     (c.in_ok-outs.ensures.outs v.port_link parts.port_links
     ∙ ap (λ (outs : List PortOut). to_port (v.port_link p) outs ++ to_port (v.port_link p) c.deref-2.result.now) c.deref.ensures.value
     ∙ ap (λ (outs : List PortOut). to_port (v.port_link p) c.args.said.items ++ to_port (v.port_link p) outs) c.deref-2.ensures.value)

@@ -1,4 +1,4 @@
-use Rattle.std.proofs.Common.{◌+◌, ◌++◌, List, Some, None, map, refl, sym, ap, ◌∙◌, subst}
+use Rattle.std.proofs.Common.{◌+◌, ◌++◌, ℕ, List, Some, None, map, refl, sym, ap, ◌∙◌, subst}
 use Rattle.session_frames.specs.declared.output.SessionOut.{SessionOut}
 use Rattle.session_frames.specs.Written.{told as frames}
 use Rattle.soup_session.specs.Table.{Hears}
@@ -9,6 +9,7 @@ use Rattle.core_law.specs.Sessions.{issues}
 use Rattle.gate_core.specs.declared.gate.Gate.{Gate}
 use Rattle.core_batches.specs.Links.{told_on}
 use Rattle.core_batches.specs.Seen.{link_out_seen}
+use Rattle.core_batches.specs.Batches.{batch_of}
 use Rattle.gate_core.specs.Steps.{Stepped, heard_turn}
 use Rattle.gate_core.proofs.Growing.{grows-then, lines-grow}
 use Rattle.gate_core.proofs.Payloads.{told-step}
@@ -34,11 +35,16 @@ returns-clause-step c s v link packet payload g given told =
     let issued = c.in_ok-reports.ensures.issued s (turned (Some t) w) told.parts in
     let new : Gate = record { clients = c.told_client.new.lines; ports = c.told_port.new.lines; client_ports = c.issue.new.self.client_ports; orders = c.issue.new.self.orders } in
     let out = c.in_ok-reports.field-0 in
+    let client_out = map link_out_seen c.in_ok-client_out.client_out.items in
+    let port_out = map link_out_seen c.in_ok-port_out.port_out.items in
     let lines = c.in_ok-client_out.ensures.outs x.client_link issued.parts.client_links
     ∙ ap (λ (xs : List SessionOut). told_on (x.client_link n) (map frames out.outs.items) ++ told_on (x.client_link n) (map frames xs)) c.new.ensures.items in
-    subst (λ (b : Batch). Stepped s (PortPacket p link c.args.at packet) b v new) (sym c.of_parts.ensures)
+    subst (λ (b : Batch). Stepped s (PortPacket p link c.args.at packet) b v new)
+    (sym (c.of_parts.ensures
+    ∙ ap (λ (k : ℕ). batch_of k out.reports.items client_out c.at_place-port.result port_out None) c.at_place-client.ensures
+    ∙ ap (λ (k : ℕ). batch_of n out.reports.items client_out k port_out None) c.at_place-port.ensures))
     (told-step s p link c.args.at packet payload c.args.said.now v g given q n bs out c.args.self.now c.issue.new.self new
-    (map link_out_seen c.in_ok-client_out.client_out.items) (map link_out_seen c.in_ok-port_out.port_out.items)
+    client_out port_out
     c.packets_have_the_messages_sent.ensures.after refl told issued lines (c.in_ok-port_out.ensures.outs x.port_link issued.parts.port_links)
     (c.told_client.ensures.leave s x.client_calls issued.parts.clients) (c.in_ok-client_out.ensures.links x.client_link issued.parts.client_links) c.told_client.ensures.length
     (c.told_port.ensures.leave s x.port_calls issued.parts.ports) (c.in_ok-port_out.ensures.links x.port_link issued.parts.port_links) c.told_port.ensures.length refl refl)

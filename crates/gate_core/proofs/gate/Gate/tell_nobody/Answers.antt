@@ -1,9 +1,10 @@
-use Rattle.std.proofs.Common.{◌+◌, map, refl, sym, subst}
+use Rattle.std.proofs.Common.{◌+◌, ◌∙◌, ℕ, [], None, ap, map, refl, sym, subst}
 use Rattle.core_law.specs.Events.{Batch, PortPacket}
 use Rattle.core_law.specs.Lists.{port_called}
 use Rattle.soup_session.specs.Table.{Hears}
 use Rattle.gate_core.specs.declared.gate.Gate.{Gate}
 use Rattle.core_batches.specs.Seen.{link_out_seen}
+use Rattle.core_batches.specs.Batches.{batch_of}
 use Rattle.gate_core.specs.Steps.{Stepped}
 use Rattle.gate_core.proofs.Growing.{ports-grow}
 use Rattle.gate_core.proofs.Payloads.{nobody-step}
@@ -19,7 +20,8 @@ pub returns-clause-step : goal.returns-clause-step
 returns-clause-step c s v link at packet payload g given told =
     let p = c.args.place + 1 in
     let new : Gate = record { clients = c.args.self.now.clients; ports = c.told_port.new.lines; client_ports = c.args.self.now.client_ports; orders = c.args.self.now.orders } in
-    subst (λ (b : Batch). Stepped s (PortPacket p link at packet) b v new) (sym c.for_port.ensures)
+    subst (λ (b : Batch). Stepped s (PortPacket p link at packet) b v new)
+    (sym (c.for_port.ensures ∙ ap (λ (n : ℕ). batch_of 0 [] [] n (map link_out_seen c.in_ok-port_out.port_out.items) None) c.at_place.ensures))
     (nobody-step s p link at packet payload c.args.said.now v g given c.args.self.now new (map link_out_seen c.in_ok-port_out.port_out.items)
     c.packets_have_the_messages_sent.ensures.after told (c.in_ok-port_out.ensures.outs v.port_link told.parts.port_links)
     (c.told_port.ensures.leave s (port_called p (Hears packet at) v).port_calls told.parts.ports) (c.in_ok-port_out.ensures.links v.port_link told.parts.port_links) c.told_port.ensures.length refl refl refl)

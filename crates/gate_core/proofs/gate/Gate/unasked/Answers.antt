@@ -1,4 +1,4 @@
-use Rattle.std.proofs.Common.{◌+◌, List, [], None, map, sym, ap, ◌∙◌, subst}
+use Rattle.std.proofs.Common.{◌+◌, ℕ, List, [], None, map, sym, ap, ◌∙◌, subst}
 use Rattle.session_frames.specs.declared.output.SessionOut.{SessionOut}
 use Rattle.session_frames.specs.Written.{told}
 use Rattle.session_law.specs.Runs.{Came}
@@ -20,7 +20,7 @@ returns-clause-step c s v link at frame heard =
     let new : Gate = record { clients = c.told_client.new.lines; ports = c.args.self.now.ports; client_ports = c.args.self.now.client_ports; orders = c.args.self.now.orders } in
     let outs = map link_out_seen c.in_ok-outs.outs.items in
     subst (λ (b : Batch). Stepped s (ClientMessage n link at frame) b v new)
-    (sym (c.for_client.ensures ∙ ap (λ reports. batch_of n reports outs 0 [] None) c.new-2.ensures.items))
+    (sym (c.for_client.ensures ∙ ap (λ (k : ℕ). batch_of k c.new-2.result.items outs 0 [] None) c.at_place.ensures ∙ ap (λ reports. batch_of n reports outs 0 [] None) c.new-2.ensures.items))
     (client-frame s v c.args.self.now new n link at frame c.args.said.items outs heard
     (client-told s n (v.client_link n) outs (map told c.args.said.items) (map told c.new.result.items)
     (client_answer s n (v.client_calls n) (at, Came frame)).outs [] (c.in_ok-outs.ensures.outs v.client_link heard.parts.client_links) heard.said_is
