@@ -261,7 +261,7 @@ fn one(alloc: Global, event: Event) -> Result<Vec<Event>, LineFault>
     Ok(vec![in alloc; event]?)
 }
 
-/// An event for each frame on a client's link.
+/// An event for each frame on a client's link. `NotUnderstood` where one is too long: a reader of frames gives none.
 fn frame_events(
     alloc: Global,
     client: LineNumber,
