@@ -1,26 +1,28 @@
 #!/usr/bin/env bash
-# Refuses each request for memory of the built program session_cases in turn, and says what became of its cases.
+# Refuses each request for memory of a built program in turn, and says what became of its run.
 #
-#     scripts/refuse-memory-in-cases.sh [CASES]
+#     scripts/refuse-memory-in-cases.sh [PROGRAM [INPUT]]
 #
-# Run N of the program refuses its Nth malloc or realloc, and no other. The program makes a session's call again where it
-# answers that memory is wanting, so a run may
+# PROGRAM is session_cases, which is meant where none is named, or gate_script. Run N of it refuses its Nth malloc or realloc,
+# and no other. session_cases makes a session's call again where it answers that memory is wanting. So a run may
 #
-#   end as without a refusal        the session was as before, or nothing was needed: "the same"
-#   end with status 1 and words     memory was wanting outside a session's call: "reported"
+#   end as without a refusal        what was wanting was asked again, or wasn't needed: "the same"
+#   end with status 1 and words     memory was wanting: "reported". What it printed has no case that is wrong, and of
+#                                   gate_script is the beginning of what it prints otherwise, in whole lines
 #   do anything else                "wrong"
 #
-# CASES is the program's input, the crate's stdin where none is named. `rt run` in crates/session_cases has to have built
+# INPUT is the program's input, the crate's stdin where none is named. `rt run` in the crate's folder has to have built
 # the program. It needs a C compiler, and a program that is linked with the C library as a shared one.
 # From the environment: AT_MOST (the last N, 100000). Exit status: 0 nothing was wrong, 1 something was, 2 nothing was judged.
 set -euo pipefail
 
 repository=$(dirname "$(cd "$(dirname "${BASH_SOURCE[0]}")" && pwd)")
-program=$repository/crates/session_cases/out/session_cases
-cases=${1:-$repository/crates/session_cases/stdin}
+name=${1:-session_cases}
+program=$repository/crates/$name/out/$name
+cases=${2:-$repository/crates/$name/stdin}
 at_most=${AT_MOST:-100000}
 if [ ! -x "$program" ]; then
-    echo "build the program first: rt run in crates/session_cases" >&2
+    echo "build the program first: rt run in crates/$name" >&2
     exit 2
 fi
 
@@ -67,7 +69,16 @@ void *realloc(void *pointer, size_t size) {
 C
 "${CC:-cc}" -O2 -shared -fPIC -o "$work/refuse.so" "$work/refuse.c" -ldl
 
-"$program" < "$cases" > "$work/wanted"
+# Whether the want of memory was told, and what was shown is a beginning of what is wanted, in whole lines.
+is_beginning() {
+    local size
+    size=$(stat -c %s "$work/shown")
+    [ "$(cat "$work/words")" = "out of memory" ] || return 1
+    head -c "$size" "$work/wanted" | cmp -s - "$work/shown" && [ -z "$(tail -c 1 "$work/shown")" ]
+}
+
+ends=0
+"$program" < "$cases" > "$work/wanted" 2> "$work/words" || ends=$?
 same=0
 reported=0
 wrong=0
@@ -77,9 +88,9 @@ for ((n = 1; n <= at_most; n++)); do
     if [ ! -s "$work/mark" ]; then
         break
     fi
-    if [ "$status" -eq 0 ] && cmp -s "$work/shown" "$work/wanted"; then
+    if [ "$status" -eq "$ends" ] && cmp -s "$work/shown" "$work/wanted"; then
         same=$((same + 1))
-    elif [ "$status" -eq 1 ] && [ -s "$work/words" ] && ! grep -q WRONG "$work/shown"; then
+    elif [ "$status" -eq 1 ] && [ -s "$work/words" ] && ! grep -q WRONG "$work/shown" && { [ "$name" != gate_script ] || is_beginning; }; then
         reported=$((reported + 1))
     else
         wrong=$((wrong + 1))

@@ -10,7 +10,6 @@
 
 mod desk;
 mod events;
-mod flags;
 mod frames;
 mod links;
 mod packets;
@@ -19,4 +18,4 @@ mod settings;
 mod stop;
 
 pub use batch_lines::Flags;
-pub use script::{refused, run_program, run_script};
+pub use script::run_script;

@@ -3,7 +3,6 @@
 ghost use Rattle.std.specs.Prelude.{◌≡◌, ◌≤◌, ◌<◌, ◌+◌, ◌*◌, ◌^◌, length, IfOk, OnOk};
 
 use crate::desk::Desk;
-use crate::flags::flags_of;
 use crate::stop::Stop;
 use batch_lines::Flags;
 use event_lines::line_of;
@@ -42,35 +41,6 @@ pub fn run_script<R: Read, W: Write, F: Write>(
             stop.status()
         }
     }
-}
-
-/// Runs the script's program: `run_script` with the flags that the words of the command line give, the program's name first.
-/// Where they give none nothing is read, `gate_script: --num, --raw and --cold are taken, each at most once` is told on `faults`, and the
-/// status is 2.
-pub fn run_program<R: Read, W: Write, F: Write>(
-    alloc: Global,
-    words: &[String],
-    input: &mut R,
-    output: &mut W,
-    faults: &mut F,
-) -> u8
-    ensures status { result ≤ 2 }
-{
-    match flags_of(words) {
-        Some(flags) => run_script(alloc, flags, input, output, faults),
-        None => refused(faults),
-    }
-}
-
-/// Tells that the command line is refused.
-pub fn refused<F: Write>(faults: &mut F) -> u8
-    ensures { result ≡ 2 }
-{
-    let _ = writeln!(
-        faults,
-        "gate_script: --num, --raw and --cold are taken, each at most once"
-    );
-    2
 }
 
 /// How a run ended, once its output is flushed.

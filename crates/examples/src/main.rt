@@ -4,8 +4,15 @@
 //! printed.
 #![tactic(auto)]
 
-use gate_lines::run_script;
+use core_scripts::{Flags, run_script};
 use std::{env, fs, io};
+
+/// No flag.
+const PLAIN: Flags = Flags {
+    num: false,
+    raw: false,
+    cold: false,
+};
 
 fn main(rt: HostRuntime) -> io::Result<()> {
     let mut names = env::args(&rt)?;
@@ -29,6 +36,6 @@ fn is_right(rt: &HostRuntime, name: &str) -> io::Result<bool> {
     let mut input = script.as_slice();
     let mut output = Vec::new(alloc);
     let mut faults = Vec::new(alloc);
-    let status = run_script(alloc, &mut input, &mut output, &mut faults);
+    let status = run_script(alloc, PLAIN, &mut input, &mut output, &mut faults);
     Ok(status == 0 && faults.is_empty() && output.as_slice() == wanted.as_slice())
 }

@@ -1,8 +1,15 @@
 //! A case: a script with what it prints.
 
-use gate_lines::run_script;
+use core_scripts::{Flags, run_script};
 use std::alloc::{AllocError, Global};
 use std::io::{self, Write};
+
+/// No flag.
+const PLAIN: Flags = Flags {
+    num: false,
+    raw: false,
+    cold: false,
+};
 
 /// A script, and what it has to print and to tell.
 #[derive(Drop)]
@@ -89,7 +96,7 @@ fn has_run(alloc: Global, script: &[u8], wanted: &[u8], told: &[u8]) -> bool {
     let mut input = script;
     let mut output = Vec::new(alloc);
     let mut faults = Vec::new(alloc);
-    let status = run_script(alloc, &mut input, &mut output, &mut faults);
+    let status = run_script(alloc, PLAIN, &mut input, &mut output, &mut faults);
     let ends = if told.is_empty() { 0 } else { 2 };
     status == ends && output.as_slice() == wanted && faults.as_slice() == told
 }

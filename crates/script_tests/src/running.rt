@@ -1,9 +1,16 @@
 //! Running a script over memory.
 
-use gate_lines::run_script;
+use core_scripts::{Flags, run_script};
 use std::alloc::{AllocError, Global};
 use std::process::Abort;
 use std::str;
+
+/// No flag.
+pub const PLAIN: Flags = Flags {
+    num: false,
+    raw: false,
+    cold: false,
+};
 
 /// What a run left behind.
 #[derive(Debug, Drop)]
@@ -18,7 +25,7 @@ pub fn run_of(alloc: Global, script: &[u8]) -> Run {
     let mut input = script;
     let mut output = Vec::new(alloc);
     let mut faults = Vec::new(alloc);
-    let status = run_script(alloc, &mut input, &mut output, &mut faults);
+    let status = run_script(alloc, PLAIN, &mut input, &mut output, &mut faults);
     Run {
         output,
         faults,

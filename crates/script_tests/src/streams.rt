@@ -1,6 +1,7 @@
 //! Readers and writers that fail.
 
-use gate_lines::{run_program, run_script};
+use super::running::PLAIN;
+use core_scripts::run_script;
 use std::alloc::Global;
 use std::io::{self, ErrorKind, Read, Write};
 use std::test::Fail;
@@ -138,7 +139,7 @@ fn a_writer_that_holds_back_and_takes_one_byte(rt: HostRuntime) -> Result<(), Fa
         let mut faults = Vec::new(rt.alloc());
         let script = [SCRIPT, last].concat(rt.alloc())?;
         let mut input = script.as_slice();
-        let ended = run_script(rt.alloc(), &mut input, &mut output, &mut faults);
+        let ended = run_script(rt.alloc(), PLAIN, &mut input, &mut output, &mut faults);
         assert_eq!(rt;
             output.given.as_slice(),
             [ORDER_OUTPUT, ANSWER_OUTPUT].concat(rt.alloc())?.as_slice()
@@ -162,7 +163,7 @@ fn a_reader_of_one_byte_at_a_time(rt: HostRuntime) -> Result<(), Fail> {
     };
     let mut output = Vec::new(rt.alloc());
     let mut faults = Vec::new(rt.alloc());
-    let status = run_script(rt.alloc(), &mut input, &mut output, &mut faults);
+    let status = run_script(rt.alloc(), PLAIN, &mut input, &mut output, &mut faults);
     assert_eq!(rt;
         output.as_slice(),
         [ORDER_OUTPUT, ANSWER_OUTPUT].concat(rt.alloc())?.as_slice()
@@ -182,7 +183,7 @@ fn a_reader_that_fails_in_mid_stream(rt: HostRuntime) {
         };
         let mut output = Vec::new(rt.alloc());
         let mut faults = Vec::new(rt.alloc());
-        let status = run_script(rt.alloc(), &mut input, &mut output, &mut faults);
+        let status = run_script(rt.alloc(), PLAIN, &mut input, &mut output, &mut faults);
         assert_eq!(rt; output.as_slice(), ORDER_OUTPUT);
         assert_eq!(rt; faults.as_slice(), b"read or write failed\n".as_slice());
         assert_eq!(rt; status, 1);
@@ -207,7 +208,7 @@ fn a_writer_that_fails(rt: HostRuntime) -> Result<(), Fail> {
         };
         let mut faults = Vec::new(rt.alloc());
         let mut input = SCRIPT;
-        let status = run_script(rt.alloc(), &mut input, &mut output, &mut faults);
+        let status = run_script(rt.alloc(), PLAIN, &mut input, &mut output, &mut faults);
         assert_eq!(rt; output.taken.as_slice(), taken);
         assert_eq!(rt; faults.as_slice(), b"read or write failed\n".as_slice());
         assert_eq!(rt; status, 1);
@@ -224,28 +225,6 @@ fn faults_that_cannot_be_told(rt: HostRuntime) {
         writes_left: 0,
         flushes: true,
     };
-    let status = run_script(rt.alloc(), &mut input, &mut output, &mut faults);
+    let status = run_script(rt.alloc(), PLAIN, &mut input, &mut output, &mut faults);
     assert_eq!(rt; status, 2);
-}
-
-/// With an argument nothing is read; without one the script runs.
-#[test]
-fn a_command_line_with_an_argument(rt: HostRuntime) {
-    for (words, status, printed, told) in [
-        (
-            2,
-            2,
-            b"".as_slice(),
-            b"gate_script: no arguments are taken\n".as_slice(),
-        ),
-        (1, 0, b"P1 fault 2\n", b""),
-    ] {
-        let mut input = b"P1 A 1 B 300 INTC 234500 99998 L\n".as_slice();
-        let mut output = Vec::new(rt.alloc());
-        let mut faults = Vec::new(rt.alloc());
-        let ended = run_program(rt.alloc(), words, &mut input, &mut output, &mut faults);
-        assert_eq!(rt; output.as_slice(), printed);
-        assert_eq!(rt; faults.as_slice(), told);
-        assert_eq!(rt; ended, status);
-    }
 }

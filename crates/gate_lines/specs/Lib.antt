@@ -1,4 +1,0 @@
-pub mod Ports
-pub mod Shown
-pub mod Status
-pub mod Steps
