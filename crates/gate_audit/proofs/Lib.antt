@@ -12,3 +12,4 @@ mod Said
 mod FirstTokens
 mod Pairing
 mod Whole
+mod Counting
