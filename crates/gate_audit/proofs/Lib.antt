@@ -13,3 +13,4 @@ mod FirstTokens
 mod Pairing
 mod Whole
 mod Counting
+mod Held

@@ -43,3 +43,7 @@ each-filtered P p (y ∷ ys) (suc i) x inside is passes each = each-filtered P p
     rest : (b : Bool) → Each P (if b then y ∷ filter p ys else filter p ys) → Each P (filter p ys)
     rest true each = each.1
     rest false each = each
+
+pub each-mapped : {X Y : Type 0} (P : Y → Type 0) (f : X → Y) (xs : List X) → Each P (map f xs) → Each (λ (x : X). P (f x)) xs
+each-mapped P f [] each = tt
+each-mapped P f (x ∷ xs) each = (each.0, each-mapped P f xs each.1)

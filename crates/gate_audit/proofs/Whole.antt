@@ -1,9 +1,7 @@
 -- The orders that whole reports open are those that their bodies open, and the pairs that are made of both are the same.
-use Rattle.std.proofs.Common.{◌≡◌, ◌+◌, ℕ, Bool, true, false, List, [], ◌∷◌, ◌++◌, Option, Some, None, map, reverse, length, refl, sym, ap, subst, ◌∙◌, arith, append_assoc, eqb-true, ◌≤◌, ◌<◌}
-use Rattle.std.specs.Prelude.{◌==◌, if◌then◌else◌, nat_le}
-use Rattle.std.proofs.lemmas.Bool.{eqb-false}
-use Rattle.std.proofs.lemmas.Bool.Decides.{nat_tests}
-use Rattle.order_accounts.specs.Held.{IsHeld, StaysHeld}
+use Rattle.std.proofs.Common.{◌≡◌, ◌+◌, ℕ, Bool, List, [], ◌∷◌, ◌++◌, Option, Some, None, map, reverse, length, refl, sym, ap, subst, ◌∙◌, arith, append_assoc}
+use Rattle.std.specs.Prelude.{◌==◌, if◌then◌else◌}
+use Rattle.order_accounts.specs.Held.{StaysHeld}
 use Rattle.std.proofs.lemmas.List.{append-nil, map-append, reverse-append, reverse-reverse}
 use Rattle.order_law.specs.Messages.{Message, body_of}
 use Rattle.order_histories.proofs.Executed.{count-more}
@@ -18,6 +16,7 @@ use Rattle.gate_audit.specs.Read.{for_clients, opens, reports_to}
 use Rattle.gate_audit.specs.Pairs.{AreHeld, OpenedOrder, Pair, Said, gives_token, handled_for, opened_at, opened_orders, orders_of, pair_in, pairs_of, said, said_by, said_to, tokens_given, told_anyone}
 use Rattle.gate_audit.proofs.Batches.{for-more, issued-is}
 use Rattle.gate_audit.proofs.Lists.{filter-reverse, map-map, map-reverse, map-same}
+use Rattle.gate_audit.proofs.Held.{stays-bodily, stays-whole}
 use Rattle.gate_audit.proofs.Bodies.{same-first, same-opens, same-reading}
 
 -- a report as the client's order level has it
@@ -121,14 +120,6 @@ pairs-more s n port kept reports handled openings events batches same are_report
 
 -- ---- numbers that integers hold
 
-stays-bodily : (order : List ℕ) (rs : List Message) → StaysHeld order rs → StaysHeld order (map body_of rs)
-stays-bodily order [] stays = tt
-stays-bodily order (r ∷ rs) stays = (subst IsHeld (sym (same-reading order (r ∷ rs))) stays.0, stays-bodily order rs stays.1)
-
-stays-whole : (order : List ℕ) (rs : List Message) → StaysHeld order (map body_of rs) → StaysHeld order rs
-stays-whole order [] stays = tt
-stays-whole order (r ∷ rs) stays = (subst IsHeld (same-reading order (r ∷ rs)) stays.0, stays-whole order rs stays.1)
-
 each-held : (xs ys : List Message) → ((order : List ℕ) → StaysHeld order xs → StaysHeld order ys) → (os : List OpenedOrder) → AreHeld xs os → AreHeld ys os
 each-held xs ys same [] held = tt
 each-held xs ys same (o ∷ os) held = (same o.order held.0, each-held xs ys same os held.1)
@@ -154,18 +145,3 @@ module _ (events : List Event) (batches : List Batch) (c : ℕ) (same : length b
 
 pub same-tokens : (events : List Event) (batches : List Batch) → length batches ≡ length events → tokens_given (said (history events batches)) ≡ tokens_given (reverse (said_by batches))
 same-tokens events batches same = ap tokens_given (said-is events batches same) ∙ same-count (reverse (said_by batches))
-
--- what is known of each number up to one is known up to the next
-pub known-more : (P : ℕ → Type 0) (n : ℕ) → ((c : ℕ) → 1 ≤ c → c ≤ n → P c) → P (n + 1) → (c : ℕ) → 1 ≤ c → c ≤ n + 1 → P c
-known-more P n earlier next c some most = by_last (c == n + 1) refl
-  where
-    by_last : (b : Bool) → (c == n + 1) ≡ b → P c
-    by_last true is = subst P (sym (eqb-true c (n + 1) is)) next
-    by_last false other = (let apart = eqb-false c (n + 1) other in earlier c some (less apart))
-      where
-        less : (c ≡ n + 1 → ⊥) → c ≤ n
-        less apart = by_le (nat_le c n) refl
-          where
-            by_le : (b : Bool) → nat_le c n ≡ b → c ≤ n
-            by_le true is = grind (arith, nat_tests)
-            by_le false past = (let above : n < c = grind (arith, nat_tests) in let it : c ≡ n + 1 = omega (arith, above, most) in absurd (apart it))

@@ -1,9 +1,8 @@
-use Rattle.std.proofs.Common.{rules, ◌≡◌, ◌<◌, ◌+◌, ◌∷◌, ◌++◌, ◌∙◌, [], List, map, reverse, take, subst, sym}
+use Rattle.std.proofs.Common.{rules, ◌++◌, List, map, reverse, take, subst, sym}
 use Rattle.order_law.specs.Messages.{Message}
 use Rattle.std.specs.Prelude.{IsErrOf, Err}
 use Rattle.order_accounts.specs.declared.reading_fault.ReadingFault.{ReadingFault}
 use Rattle.order_accounts.specs.declared.reading_fault.ReadingFault.TheVariants.{TooLarge}
-use Rattle.gate_audit.specs.Pairs as read
 use Rattle.gate_audit.specs.Pairs.{HasTokens, Said, said_by, said_to}
 use Rattle.gate_audit.proofs.Counting.{has-next-batch}
 use Rattle.gate_audit.proofs.openings.openings_of.Goals as goal

@@ -1,4 +1,4 @@
-use Rattle.std.proofs.Common.{rules, ◌≡◌, ◌<◌, ◌≤◌, ◌+◌, ◌∙◌, ℕ, List, map, reverse, length, ap, sym, subst, arith, Err, get_or}
+use Rattle.std.proofs.Common.{rules, ◌≡◌, ◌<◌, ◌+◌, ◌∙◌, ℕ, List, map, reverse, length, ap, sym, subst, arith, Err, get_or}
 use Rattle.std.specs.Prelude.{IsErrOf}
 use Rattle.std.specs.List.{All}
 use Rattle.order_accounts.specs.declared.reading_fault.ReadingFault.{ReadingFault}
@@ -9,11 +9,11 @@ use Rattle.order_law.specs.History.{Terms}
 use Rattle.core_settings.specs.Kept.{IsOnPort}
 use Rattle.core_batches.specs.declared.batch.Batch.{Batch}
 use Rattle.gate_journal.specs.Kept.{turns}
-use Rattle.gate_audit.specs.declared.opening.Opening.{Opening}
 use Rattle.gate_audit.specs.Read.{for_clients, reports_to}
 use Rattle.gate_audit.specs.Pairs as read
 use Rattle.gate_audit.proofs.Pairing.{orders-ascend, pairs-same, terms-at}
-use Rattle.gate_audit.proofs.Whole.{held-now, held-then, known-more, pairs-more, same-tokens}
+use Rattle.gate_audit.proofs.Whole.{held-now, held-then, pairs-more, same-tokens}
+use Rattle.gate_audit.proofs.Held.{known-more}
 use Rattle.gate_audit.proofs.pairs.audit.Goals as goal
 
 pub loop-place-preserved : goal.loop-place-preserved
@@ -67,8 +67,8 @@ pub returns-in_err-openings-clause-large : goal.returns-in_err-openings-clause-l
 returns-in_err-openings-clause-large c err held tokens =
     let h = c.args.history.now in
     let same : length h.batches ≡ length h.events = ap length (sym c.batches.ensures.batches) ∙ c.batches.ensures.count in
-    let own_error : IsErrOf {E = ReadingFault} (Err c.in_err-openings.field-0.0) TooLarge = search (rules, c.from_residual.ensures, err) in
     let by_batches : read.HasTokens (reverse (read.said_by h.batches)) = omega (arith, tokens, same-tokens h.events h.batches same) in
+    let own_error : IsErrOf {E = ReadingFault} (Err c.in_err-openings.field-0.0) TooLarge = search (rules, c.from_residual.ensures, err) in
     c.in_err-openings.ensures.large own_error (subst (λ (bs : List Batch). read.HasTokens (reverse (read.said_by bs))) (sym c.batches.ensures.batches) by_batches)
 
 pub returns-in_err-pair_all-clause-large : goal.returns-in_err-pair_all-clause-large

@@ -1,4 +1,4 @@
-use Rattle.std.proofs.Common.{rules, ◌≡◌, Bool, true, reverse, Err}
+use Rattle.std.proofs.Common.{rules, ◌≡◌, true, reverse, Err}
 use Rattle.std.specs.Prelude.{◌==◌, IsErrOf}
 use Rattle.order_accounts.specs.Held.{StaysHeld}
 use Rattle.order_accounts.specs.declared.reading_fault.ReadingFault.{ReadingFault}

@@ -1,8 +1,7 @@
-use Rattle.std.proofs.Common.{rules, ◌≡◌, ◌<◌, ◌+◌, ◌∷◌, ◌++◌, ◌∙◌, [], List, map, reverse, take}
+use Rattle.std.proofs.Common.{rules, ◌++◌, List, map, reverse, take}
 use Rattle.std.specs.Prelude.{IsErrOf, Err}
 use Rattle.order_accounts.specs.declared.reading_fault.ReadingFault.{ReadingFault}
 use Rattle.order_accounts.specs.declared.reading_fault.ReadingFault.TheVariants.{TooLarge}
-use Rattle.gate_audit.specs.Pairs as read
 use Rattle.gate_audit.specs.Pairs.{Said, said_to}
 use Rattle.gate_audit.proofs.Counting.{has-next}
 use Rattle.gate_audit.proofs.openings.Openings.hear_all.Goals as goal
