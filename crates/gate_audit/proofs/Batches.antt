@@ -12,7 +12,7 @@ use Rattle.gate_audit.specs.Read.{Opened, ReadOrder, for_clients, opened, opened
 use Rattle.gate_audit.proofs.Lists.{filter-reverse, map-reverse, map-same}
 use Rattle.gate_audit.proofs.Bodies.{same-opened, same-reading}
 
-opened-reverse : (rs : List Message) → opened (reverse rs) ≡ reverse (opened rs)
+pub opened-reverse : (rs : List Message) → opened (reverse rs) ≡ reverse (opened rs)
 opened-reverse rs = ap (map opened_by) (filter-reverse opens rs) ∙ map-reverse opened_by (filter opens rs)
 
 -- ---- what the batches told a client

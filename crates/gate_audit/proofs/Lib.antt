@@ -12,3 +12,5 @@ mod Said
 mod FirstTokens
 mod Pairing
 mod Whole
+mod Counting
+mod Held

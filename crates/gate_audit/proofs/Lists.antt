@@ -1,6 +1,6 @@
 -- Lists that are mapped, turned round and filtered.
-use Rattle.std.proofs.Common.{◌≡◌, Bool, true, false, List, [], ◌∷◌, ◌++◌, map, reverse, refl, sym, ap, ◌∙◌}
-use Rattle.std.specs.Prelude.{filter}
+use Rattle.std.proofs.Common.{◌≡◌, ◌<◌, ℕ, zero, suc, Bool, true, false, List, [], ◌∷◌, ◌++◌, map, reverse, length, get_or, refl, sym, ap, subst, ◌∙◌, arith}
+use Rattle.std.specs.Prelude.{filter, if◌then◌else◌}
 use Rattle.std.proofs.lemmas.List.{map-append, reverse-append, append-nil}
 use Rattle.std.proofs.lemmas.List.Elements.{filter-append}
 use Rattle.order_law.specs.Headline.{Each}
@@ -30,3 +30,20 @@ map-map f g (x ∷ xs) = ap (λ ys. f (g x) ∷ ys) (map-map f g xs)
 pub map-each : {X Y : Type 0} (f g : X → Y) (xs : List X) → Each (λ (x : X). f x ≡ g x) xs → map f xs ≡ map g xs
 map-each f g [] same = refl
 map-each f g (x ∷ xs) same = rw (same.0, map-each f g xs same.1) refl
+
+-- an element that passes the test, by its place
+pub each-filtered : {X : Type 0} (P : X → Type 0) (p : X → Bool) (xs : List X) (i : ℕ) (x : X) → i < length xs → x ≡ get_or xs i x → p x ≡ true → Each P (filter p xs) → P x
+each-filtered P p [] i x inside is passes each = absurd (omega (arith, inside))
+each-filtered P p (y ∷ ys) zero x inside is passes each =
+    let own : p y ≡ true = ap p (sym is) ∙ passes in
+    let first : Each P (y ∷ filter p ys) = rw own at each in
+    subst P (sym is) first.0
+each-filtered P p (y ∷ ys) (suc i) x inside is passes each = each-filtered P p ys i x (omega (arith, inside)) is passes (rest (p y) each)
+  where
+    rest : (b : Bool) → Each P (if b then y ∷ filter p ys else filter p ys) → Each P (filter p ys)
+    rest true each = each.1
+    rest false each = each
+
+pub each-mapped : {X Y : Type 0} (P : Y → Type 0) (f : X → Y) (xs : List X) → Each P (map f xs) → Each (λ (x : X). P (f x)) xs
+each-mapped P f [] each = tt
+each-mapped P f (x ∷ xs) each = (each.0, each-mapped P f xs each.1)

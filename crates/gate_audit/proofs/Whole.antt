@@ -1,6 +1,7 @@
 -- The orders that whole reports open are those that their bodies open, and the pairs that are made of both are the same.
-use Rattle.std.proofs.Common.{◌≡◌, ◌+◌, ℕ, Bool, List, [], ◌∷◌, ◌++◌, Option, Some, None, map, reverse, length, refl, sym, ap, ◌∙◌, arith, append_assoc}
+use Rattle.std.proofs.Common.{◌≡◌, ◌+◌, ℕ, Bool, List, [], ◌∷◌, ◌++◌, Option, Some, None, map, reverse, length, refl, sym, ap, subst, ◌∙◌, arith, append_assoc}
 use Rattle.std.specs.Prelude.{◌==◌, if◌then◌else◌}
+use Rattle.order_accounts.specs.Held.{StaysHeld}
 use Rattle.std.proofs.lemmas.List.{append-nil, map-append, reverse-append, reverse-reverse}
 use Rattle.order_law.specs.Messages.{Message, body_of}
 use Rattle.order_histories.proofs.Executed.{count-more}
@@ -12,9 +13,10 @@ use Rattle.core_batches.specs.declared.batch.Batch.{Batch}
 use Rattle.gate_core.specs.Core.{history, onto, turn_of}
 use Rattle.gate_audit.specs.Again.{again}
 use Rattle.gate_audit.specs.Read.{for_clients, opens, reports_to}
-use Rattle.gate_audit.specs.Pairs.{OpenedOrder, Pair, Said, gives_token, handled_for, opened_at, opened_orders, orders_of, pair_in, pairs_of, said, said_by, said_to, tokens_given, told_anyone}
+use Rattle.gate_audit.specs.Pairs.{AreHeld, OpenedOrder, Pair, Said, gives_token, handled_for, opened_at, opened_orders, orders_of, pair_in, pairs_of, said, said_by, said_to, tokens_given, told_anyone}
 use Rattle.gate_audit.proofs.Batches.{for-more, issued-is}
 use Rattle.gate_audit.proofs.Lists.{filter-reverse, map-map, map-reverse, map-same}
+use Rattle.gate_audit.proofs.Held.{stays-bodily, stays-whole}
 use Rattle.gate_audit.proofs.Bodies.{same-first, same-opens, same-reading}
 
 -- a report as the client's order level has it
@@ -78,6 +80,14 @@ said-is events batches same = said-onto events batches [] same ∙ (append-nil (
 same-pair : (sent : List Message) (ms : List (List ℕ)) (o : OpenedOrder) → pair_in (map body_of sent) ms o ≡ pair_in sent ms o
 same-pair sent ms o = rw (same-reading o.order sent) refl
 
+-- the orders of a client, the oldest first
+orders-whole : (events : List Event) (batches : List Batch) (c : ℕ) → length batches ≡ length events
+    → reverse (orders_of c (opened_orders (said (history events batches)))) ≡ orders_of c (reverse (opened_orders (reverse (said_by batches))))
+orders-whole events batches c same =
+    ap (λ (all : List Said). reverse (orders_of c (opened_orders all))) (said-is events batches same)
+    ∙ ap (λ (x : List OpenedOrder). reverse (orders_of c x)) (same-opened (reverse (said_by batches)))
+    ∙ sym (filter-reverse (λ (o : OpenedOrder). o.client == c) (opened_orders (reverse (said_by batches))))
+
 -- those of a client, by its whole reports
 pairs-whole : (s : Settings) (events : List Event) (batches : List Batch) (c : ℕ) → length batches ≡ length events
     → pairs_of s (history events batches) c
@@ -85,12 +95,10 @@ pairs-whole : (s : Settings) (events : List Event) (batches : List Batch) (c : �
 pairs-whole s events batches c same =
     let h = history events batches in
     let sent = reverse (reports_to c batches) in
-    let os = opened_orders (reverse (said_by batches)) in
-    ap (λ (all : List Said). map (pair_in (issued c h) (handled_for s h c)) (reverse (orders_of c (opened_orders all)))) (said-is events batches same)
-    ∙ ap (λ (x : List OpenedOrder). map (pair_in (issued c h) (handled_for s h c)) (reverse (orders_of c x))) (same-opened (reverse (said_by batches)))
-    ∙ ap (map (pair_in (issued c h) (handled_for s h c))) (sym (filter-reverse (λ (o : OpenedOrder). o.client == c) os))
-    ∙ ap (λ (rs : List Message). map (pair_in rs (handled_for s h c)) (orders_of c (reverse os))) (issued-is c events batches same)
-    ∙ map-same (pair_in (map body_of sent) (handled_for s h c)) (pair_in sent (handled_for s h c)) (same-pair sent (handled_for s h c)) (orders_of c (reverse os))
+    let os = reverse (opened_orders (reverse (said_by batches))) in
+    ap (map (pair_in (issued c h) (handled_for s h c))) (orders-whole events batches c same)
+    ∙ ap (λ (rs : List Message). map (pair_in rs (handled_for s h c)) (orders_of c os)) (issued-is c events batches same)
+    ∙ map-same (pair_in (map body_of sent) (handled_for s h c)) (pair_in sent (handled_for s h c)) (same-pair sent (handled_for s h c)) (orders_of c os)
 
 -- one client more
 pub pairs-more : (s : Settings) (n port : ℕ) (kept : List Pair) (reports : List Message) (handled : List (List ℕ)) (openings : List OpenedOrder) (events : List Event) (batches : List Batch) → length batches ≡ length events
@@ -109,3 +117,31 @@ pairs-more s n port kept reports handled openings events batches same are_report
     ∙ ap (λ (os : List OpenedOrder). map (pair_in (reverse (reports_to (n + 1) batches)) (handled_for s h (n + 1))) (orders_of (n + 1) os)) are_openings
     ∙ sym (pairs-whole s events batches (n + 1) same))
     ∙ sym (for-more (pairs_of s h) n)
+
+-- ---- numbers that integers hold
+
+each-held : (xs ys : List Message) → ((order : List ℕ) → StaysHeld order xs → StaysHeld order ys) → (os : List OpenedOrder) → AreHeld xs os → AreHeld ys os
+each-held xs ys same [] held = tt
+each-held xs ys same (o ∷ os) held = (same o.order held.0, each-held xs ys same os held.1)
+
+-- of the orders of a client, by what the code reads
+module _ (events : List Event) (batches : List Batch) (c : ℕ) (same : length batches ≡ length events) (reports : List Message) (openings : List OpenedOrder)
+    (are_reports : reports ≡ reports_to c batches) (are_openings : openings ≡ reverse (opened_orders (reverse (said_by batches)))) where
+  issued-now : issued c (history events batches) ≡ map body_of (reverse reports)
+  issued-now = issued-is c events batches same ∙ ap (λ (rs : List Message). map body_of (reverse rs)) (sym are_reports)
+
+  orders-now : reverse (orders_of c (opened_orders (said (history events batches)))) ≡ orders_of c openings
+  orders-now = orders-whole events batches c same ∙ ap (orders_of c) (sym are_openings)
+
+  pub held-now : AreHeld (reverse reports) (orders_of c openings) → AreHeld (issued c (history events batches)) (reverse (orders_of c (opened_orders (said (history events batches)))))
+  held-now held =
+      subst (λ (sent : List Message). AreHeld sent (reverse (orders_of c (opened_orders (said (history events batches)))))) (sym issued-now)
+      (subst (AreHeld (map body_of (reverse reports))) (sym orders-now) (each-held (reverse reports) (map body_of (reverse reports)) (λ order. stays-bodily order (reverse reports)) (orders_of c openings) held))
+
+  pub held-then : AreHeld (issued c (history events batches)) (reverse (orders_of c (opened_orders (said (history events batches))))) → AreHeld (reverse reports) (orders_of c openings)
+  held-then held =
+      each-held (map body_of (reverse reports)) (reverse reports) (λ order. stays-whole order (reverse reports)) (orders_of c openings)
+      (subst (AreHeld (map body_of (reverse reports))) orders-now (subst (λ (sent : List Message). AreHeld sent (reverse (orders_of c (opened_orders (said (history events batches)))))) issued-now held))
+
+pub same-tokens : (events : List Event) (batches : List Batch) → length batches ≡ length events → tokens_given (said (history events batches)) ≡ tokens_given (reverse (said_by batches))
+same-tokens events batches same = ap tokens_given (said-is events batches same) ∙ same-count (reverse (said_by batches))

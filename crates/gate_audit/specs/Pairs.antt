@@ -1,6 +1,6 @@
 -- Orders by both of their accounts: by the reports of the batches and the payloads that were handled, and as the order level's turns
 -- have them. (FIX 4.4 Volume 4, "Execution Report"; OUCH 4.2, "Enter Order Message", order token.)
-use Rattle.std.specs.Prelude.{ℕ, ◌<◌, ◌==◌, Bool, true, not, ◌&&◌, ◌||◌, List, [], ◌∷◌, ◌++◌, Option, Some, None, map, filter, reverse, length, codes, if◌then◌else◌}
+use Rattle.std.specs.Prelude.{ℕ, ◌<◌, ◌≤◌, ◌==◌, Bool, true, not, ◌&&◌, ◌||◌, List, [], ◌∷◌, ◌++◌, Option, Some, None, map, filter, reverse, length, codes, if◌then◌else◌}
 use Rattle.std.specs.List.{count_by, flat_map}
 use Rattle.std.specs.Str.Parse.{digits_value}
 use Rattle.tokens.specs.TokenText.{token_text}
@@ -11,6 +11,8 @@ use Rattle.order_law.specs.Life.{account_of, life}
 use Rattle.order_law.specs.History as orders
 use Rattle.order_law.specs.History.{Entry}
 use Rattle.order_law.specs.Headline.{Each, life_in}
+use Rattle.order_law.specs.Verdicts.{last_token}
+use Rattle.order_accounts.specs.Held.{StaysHeld}
 use Rattle.core_law.specs.Settings.{Settings, port_of, port_terms, terms}
 use Rattle.core_law.specs.Events.{History}
 use Rattle.core_law.specs.Outcome.{bodies}
@@ -117,6 +119,20 @@ pairs_of s h client = map (pair_in (issued client h) (handled_for s h client)) (
 -- by client, and of each client in the order in which they were opened
 abbrev pub pairs : Settings → History → List Pair
 pairs s h = for_clients (pairs_of s h) (length s.clients)
+
+-- ---- numbers that integers hold
+
+-- what a client that was told these, the newest first, read of these orders stays within integers
+abbrev pub AreHeld : List Message → List OpenedOrder → Type 0
+AreHeld sent os = Each (λ (o : OpenedOrder). StaysHeld o.order sent) os
+
+-- and of all orders of all clients
+abbrev pub AllHeld : Settings → History → Type 0
+AllHeld s h = (client : ℕ) → 1 ≤ client → client ≤ length s.clients → AreHeld (issued client h) (reverse (orders_of client (opened_orders (said h))))
+
+-- there are so many tokens
+abbrev pub HasTokens : List Said → Type 0
+HasTokens all = tokens_given all ≤ last_token
 
 -- ---- by the order level's turns
 

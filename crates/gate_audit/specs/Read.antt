@@ -1,12 +1,13 @@
 -- What clients have read of their orders: by the batches of a history alone, and as the order level's turns have it.
 -- (FIX 4.4 Volume 4, "Execution Report".)
-use Rattle.std.specs.Prelude.{ℕ, suc, ◌==◌, Bool, ◌&&◌, List, [], ◌++◌, map, filter, reverse, length, codes, if◌then◌else◌}
+use Rattle.std.specs.Prelude.{ℕ, suc, ◌≤◌, ◌==◌, Bool, ◌&&◌, List, [], ◌++◌, map, filter, reverse, length, codes, if◌then◌else◌}
 use Rattle.std.specs.List.{flat_map}
 use Rattle.order_law.specs.Messages.{Message, text, is}
 use Rattle.order_law.specs.Reading.{Reading, is_report, reading}
 use Rattle.order_law.specs.History as orders
 use Rattle.order_law.specs.History.{Entry, accepted, is_new_order}
-use Rattle.order_law.specs.Headline.{Agree, life_in}
+use Rattle.order_law.specs.Headline.{Agree, Each, life_in}
+use Rattle.order_accounts.specs.Held.{StaysHeld}
 use Rattle.core_law.specs.Settings.{Settings, terms}
 use Rattle.core_law.specs.Events.{History, is_number}
 use Rattle.core_law.specs.After.{order_turns}
@@ -59,6 +60,14 @@ for_clients f (suc n) = for_clients f n ++ f (suc n)
 
 abbrev pub readings : ℕ → History → List ReadOrder
 readings clients h = for_clients (λ client. read_by client (issued client h)) clients
+
+-- what a client that was sent these, the newest first, read of these orders stays within integers
+abbrev pub AreHeld : List Message → List Opened → Type 0
+AreHeld sent os = Each (λ (o : Opened). StaysHeld o.order sent) os
+
+-- and of all orders of each client from 1 to this number
+abbrev pub AllHeld : ℕ → History → Type 0
+AllHeld clients h = (client : ℕ) → 1 ≤ client → client ≤ clients → AreHeld (issued client h) (reverse (opened (issued client h)))
 
 -- ---- by the order level's turns
 

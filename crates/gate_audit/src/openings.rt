@@ -1,6 +1,9 @@
 //! The orders that were accepted, each with its first token, by the reports of the batches alone.
 
-ghost use Rattle.std.specs.Prelude.{◌≡◌, ◌+◌, ◌∷◌, ◌++◌, [], IfOk, List, map, reverse};
+ghost use Rattle.std.specs.Prelude.{◌≡◌, ◌<◌, ◌+◌, ◌∷◌, ◌++◌, [], IfOk, OnOk, IsErrOf, List, map, reverse};
+ghost use Rattle.std.specs.Result.{OkIff};
+ghost use Rattle.tokens.specs.TokenText.{HasToken};
+ghost use Rattle.order_law.specs.Verdicts.{last_token};
 ghost use Rattle.gate_audit.specs.Counted.{IsOf};
 ghost use Rattle.gate_audit.specs.Pairs as read;
 ghost use Rattle.gate_audit.specs.Pairs.{Said, said_to};
@@ -39,7 +42,8 @@ impl Openings {
         client: u16,
         reports: &[Fields],
     ) -> Result<(), ReadingFault>
-        ensures { IfOk result (λ u. (all : List Said) → IsOf all self.old → IsOf (reverse (map (said_to client) reports.now) ++ all) self.new) }
+        ensures all { IfOk result (λ u. (all : List Said) → IsOf all self.old → IsOf (reverse (map (said_to client) reports.now) ++ all) self.new) }
+        ensures large { (all : List Said) → IsOf all self.old → IsErrOf result ReadingFault.TooLarge → read.HasTokens (reverse (map (said_to client) reports.now) ++ all) → ⊥ }
     {
         for report in reports {
             self.hear(alloc, client, report)?;
@@ -49,7 +53,8 @@ impl Openings {
 
     /// One report or reject more.
     fn hear(&mut self, alloc: Global, client: u16, report: &Fields) -> Result<(), ReadingFault>
-        ensures { IfOk result (λ u. (all : List Said) → IsOf all self.old → IsOf (said_to client report.now ∷ all) self.new) }
+        ensures all { IfOk result (λ u. (all : List Said) → IsOf all self.old → IsOf (said_to client report.now ∷ all) self.new) }
+        ensures large { (all : List Said) → IsOf all self.old → IsErrOf result ReadingFault.TooLarge → read.HasTokens (said_to client report.now ∷ all) → ⊥ }
     {
         if gives_token(report) {
             self.given = next_token(self.given)?;
@@ -69,7 +74,9 @@ impl Openings {
 ///
 /// Source: FIX 4.4 Volume 6, "ExecType"; OUCH 4.2, "Enter Order Message".
 pub fn openings_of(alloc: Global, batches: &[Batch]) -> Result<Vec<Opening>, ReadingFault>
-    ensures { IfOk result (λ orders. orders.items ≡ reverse (read.opened_orders (reverse (read.said_by batches.now)))) }
+    ensures opened { IfOk result (λ orders. orders.items ≡ reverse (read.opened_orders (reverse (read.said_by batches.now)))) }
+    ensures tokens { OnOk result (read.HasTokens (reverse (read.said_by batches.now))) }
+    ensures large { IsErrOf result ReadingFault.TooLarge → read.HasTokens (reverse (read.said_by batches.now)) → ⊥ }
 {
     let mut openings = Openings::new(alloc);
     for batch in batches {
@@ -82,7 +89,7 @@ pub fn openings_of(alloc: Global, batches: &[Batch]) -> Result<Vec<Opening>, Rea
 
 /// The number of the next token, where so many were given. `TooLarge` where there is none.
 fn next_token(given: u64) -> Result<u64, ReadingFault>
-    ensures { IfOk result (λ number. number ≡ given + 1) }
+    ensures { OkIff result (given < last_token) (given + 1) }
 {
     if given >= Token::MOST {
         return Err(ReadingFault::TooLarge);
@@ -92,7 +99,8 @@ fn next_token(given: u64) -> Result<u64, ReadingFault>
 
 /// The order that this report to a client opens, with the token of this number. `TooLarge` where it has none.
 fn opened(alloc: Global, number: u64, client: u16, report: &Fields) -> Result<Opening, ReadingFault>
-    ensures { IfOk result (λ opening. opening ≡ read.opened_at number (said_to client report.now)) }
+    ensures opened { IfOk result (λ opening. opening ≡ read.opened_at number (said_to client report.now)) }
+    ensures large { IsErrOf result ReadingFault.TooLarge → HasToken number → ⊥ }
 {
     let Ok(root) = Token::of(number) else {
         return Err(ReadingFault::TooLarge);

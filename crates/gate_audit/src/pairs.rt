@@ -1,8 +1,9 @@
 //! The audit: each accepted order by both of its accounts.
 
-ghost use Rattle.std.specs.Prelude.{◌≡◌, ◌≤◌, ◌++◌, IfOk, length, map, reverse};
+ghost use Rattle.std.specs.Prelude.{◌≡◌, ◌≤◌, ◌++◌, IfOk, OnOk, IsErrOf, length, map, reverse};
 ghost use Rattle.core_law.specs.Holds.{Holds};
 ghost use Rattle.core_law.specs.Settings.{port_of, port_terms};
+ghost use Rattle.order_accounts.specs.Held.{StaysHeld};
 ghost use Rattle.gate_journal.specs.Kept.{turns};
 ghost use Rattle.gate_audit.specs.Again.{again};
 ghost use Rattle.gate_audit.specs.Pairs as read;
@@ -25,8 +26,9 @@ use std::alloc::Global;
 /// its client read of it, from the reports of the batches alone, and what the market said of it, from its first token on, in the
 /// payloads of its client's port that were handled.
 ///
-/// Of the history of a run these are the accepted new orders, and both accounts of each agree. `TooLarge` where a number that was read
-/// is larger than its integer holds, or more tokens were given than there are, or else `NoMemory`.
+/// Of the history of a run these are the accepted new orders, and both accounts of each agree. `TooLarge` just where, after one of its
+/// client's reports, what was read of an order has a number that is larger than its integer holds, or more tokens were given than there
+/// are; or else `NoMemory`.
 ///
 /// Source: FIX 4.4 Volume 4, "Execution Report"; OUCH 4.2, "Outbound Messages".
 pub fn audit(
@@ -36,6 +38,8 @@ pub fn audit(
 ) -> Result<Vec<OrderPair>, ReadingFault>
     ensures read { IfOk result (λ list. list.items ≡ read.pairs settings.now (turns history.now)) }
     ensures run { IfOk result (λ list. Holds settings.now (turns history.now) → list.items ≡ read.accepted_pairs settings.now (turns history.now)) }
+    ensures held { OnOk result (read.AllHeld settings.now (turns history.now) × read.HasTokens (read.said (turns history.now))) }
+    ensures large { IsErrOf result ReadingFault.TooLarge → read.AllHeld settings.now (turns history.now) → read.HasTokens (read.said (turns history.now)) → ⊥ }
     ensures ascending { IfOk result (λ list. read.AreByOrder (new_orders settings.now (turns history.now))) }
 {
     links_end_by_a_close();
@@ -60,8 +64,10 @@ fn pair_all(
     handled: &[Vec<u8>],
     pairs: &mut Vec<OrderPair>,
 ) -> Result<(), ReadingFault>
-    ensures { IfOk result (λ u. pairs.new.items
+    ensures paired { IfOk result (λ u. pairs.new.items
         ≡ pairs.old.items ++ map (read.pair_in (reverse reports.now) (reverse (map (λ m. m.items) handled.now))) (read.orders_of client openings.now)) }
+    ensures held { OnOk result (read.AreHeld (reverse reports.now) (read.orders_of client openings.now)) }
+    ensures large { IsErrOf result ReadingFault.TooLarge → read.AreHeld (reverse reports.now) (read.orders_of client openings.now) → ⊥ }
 {
     for opening in openings {
         if opening.client == client {
@@ -78,7 +84,9 @@ fn pair_of(
     reports: &[Fields],
     handled: &[Vec<u8>],
 ) -> Result<OrderPair, ReadingFault>
-    ensures { IfOk result (λ pair. pair ≡ read.pair_in (reverse reports.now) (reverse (map (λ m. m.items) handled.now)) opening.now) }
+    ensures paired { IfOk result (λ pair. pair ≡ read.pair_in (reverse reports.now) (reverse (map (λ m. m.items) handled.now)) opening.now) }
+    ensures held { OnOk result (StaysHeld opening.now.order (reverse reports.now)) }
+    ensures large { IsErrOf result ReadingFault.TooLarge → StaysHeld opening.now.order (reverse reports.now) → ⊥ }
 {
     let reading = reading_of(alloc, opening.order.as_slice(), reports)?;
     let life = life_of(alloc, &opening.root.bytes(), opening.side, handled)?;
