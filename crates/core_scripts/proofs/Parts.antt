@@ -1,7 +1,9 @@
 -- Each field of a message may be one of another.
-use Rattle.std.proofs.Common.{◌≡◌, ◌≤◌, ℕ, zero, suc, true, List, [], ◌∷◌, Some, sym, ap, ◌∙◌, arith}
+use Rattle.std.proofs.Common.{◌≡◌, ◌≤◌, ◌<◌, ◌+◌, ℕ, zero, suc, true, List, [], ◌∷◌, ◌++◌, take, drop, length, Some, sym, ap, ◌∙◌, arith}
 use Rattle.std.specs.Prelude.{slice_get, nat_le, ◌&&◌}
 use Rattle.std.specs.List.{list_all}
+use Rattle.std.proofs.lemmas.List.{take_more, drop-append-le, length-take-le}
+use Rattle.std.proofs.lemmas.Option.{slice_get_within, get_or_from_slice_get}
 use Rattle.std.proofs.lemmas.Bool.{and_parts}
 use Rattle.std.proofs.lemmas.Bool.Decides.{nat_tests}
 use Rattle.fix_fields.specs.Field.{AreFields, Field, IsTag, IsValue, is_field, is_inside, last_tag}
@@ -25,3 +27,11 @@ pub value-at : (fs : List Field) (i : ℕ) (f : Field) → AreFields fs → slic
 value-at fs i f all at_i =
     let field : is_field f ≡ true = all-at fs i f all at_i in
     (and_parts (nat_le f.tag last_tag) (list_all is_inside f.value) (and_parts (nat_le 1 f.tag) (nat_le f.tag last_tag && list_all is_inside f.value) field).1).1
+
+-- one field more of a part
+pub part-more : (fs : List Field) (from i : ℕ) (f : Field) → from ≤ i → slice_get fs i ≡ Some f → drop from (take (i + 1) fs) ≡ drop from (take i fs) ++ f ∷ []
+part-more fs from i f behind at_i =
+    let inside : i < length fs = slice_get_within fs i f at_i in
+    let count : length (take i fs) ≡ i = length-take-le i fs (omega (arith, inside)) in
+    ap (drop from) (take_more fs i f inside ∙ ap (λ (g : Field). take i fs ++ g ∷ []) (get_or_from_slice_get fs i f f at_i))
+    ∙ drop-append-le from (take i fs) (f ∷ []) (omega (arith, behind, count))

@@ -1,3 +1,5 @@
 pub mod Events
+pub mod Frames
+pub mod Lines
 pub mod Settings
 pub mod Status

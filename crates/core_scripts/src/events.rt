@@ -1,10 +1,11 @@
 //! The events that a line is.
 
-ghost use Rattle.std.specs.Prelude.{◌≡◌, ◌∷◌, [], IfOk};
+ghost use Rattle.std.specs.Prelude.{◌≡◌, ◌∷◌, [], IfOk, map};
 ghost use Rattle.core_law.specs.Events as law;
 ghost use Rattle.script_lines.specs.Names.{client_number, port_number};
 ghost use Rattle.core_batches.specs.Seen.{event_seen};
-ghost use Rattle.core_scripts.specs.Events.{IsOne, client_link, port_link};
+ghost use Rattle.core_scripts.specs.Events.{ClientGoes, PortGoes, IsNextClient, IsNextPort, ReadsFrames, ReadsPackets, IsOne, IsMessage, HasFrames, HasPackets, client_link, port_link};
+ghost use Rattle.core_scripts.specs.Lines.{Becomes};
 
 use crate::frames::client_frame;
 use crate::links::{ClientLink, PortLink};
@@ -12,10 +13,9 @@ use crate::packets::{end_of_session, login_accepted, sequenced};
 use core_batches::{ClientFrame, Event, LineNumber};
 use event_lines::Line;
 use fix_fields::Fields;
-use fix_framing::FrameFault;
 use gate_core::Core;
 use script_lines::{Client, LineFault, Port};
-use soup_packets::{Packet, PacketFault};
+use soup_packets::Packet;
 use std::alloc::{AllocError, Global};
 
 /// The moment of a script, and the last link of each client and port.
@@ -51,7 +51,9 @@ impl Links {
         alloc: Global,
         core: &Core,
         line: Line,
-    ) -> Result<Vec<Event>, LineFault> {
+    ) -> Result<Vec<Event>, LineFault>
+        ensures { IfOk result (λ events. Becomes core.now line self.old self.new events.items) }
+    {
         match line {
             Line::Empty => Ok(Vec::new(alloc)),
             Line::At(moment) => {
@@ -83,18 +85,32 @@ impl Links {
 
     /// A client's next link is up.
     fn client_up(&mut self, alloc: Global, client: Client) -> Result<Vec<Event>, LineFault>
-        ensures { self.new.at ≡ self.old.at }
+        ensures event { IfOk result (λ events. IsOne (law.ClientUp (client_number client) (client_link self.new.clients client) self.old.at) events.items) }
+        ensures link { ClientGoes client IsNextClient self.old.clients self.new.clients }
+        ensures ports { self.new.ports ≡ self.old.ports }
+        ensures moment { self.new.at ≡ self.old.at }
     {
-        let link = &mut self.clients[client.index()];
-        link.next(alloc);
+        let link = self.next_client(alloc, client);
         one(
             alloc,
             Event::ClientUp {
                 client: LineNumber::new(client.number()),
-                link: link.number,
+                link,
                 at: self.at,
             },
         )
+    }
+
+    /// A client's next link, of which nothing was read: its number.
+    fn next_client(&mut self, alloc: Global, client: Client) -> u64
+        ensures number { result ≡ client_link self.new.clients client }
+        ensures link { ClientGoes client IsNextClient self.old.clients self.new.clients }
+        ensures ports { self.new.ports ≡ self.old.ports }
+        ensures moment { self.new.at ≡ self.old.at }
+    {
+        let link = &mut self.clients[client.index()];
+        link.next(alloc);
+        link.number
     }
 
     /// A client's link is gone.
@@ -131,7 +147,9 @@ impl Links {
         core: &Core,
         client: Client,
         fields: &Fields,
-    ) -> Result<Vec<Event>, LineFault> {
+    ) -> Result<Vec<Event>, LineFault>
+        ensures { IfOk result (λ events. IsMessage core.now client fields.now (client_link self.now.clients client) self.now.at events.items) }
+    {
         let number = core.next_in(client.number()).unwrap_or(1);
         let frame = client_frame(alloc, client, fields, number, self.at)?;
         one(
@@ -151,25 +169,41 @@ impl Links {
         alloc: Global,
         client: Client,
         bytes: &[u8],
-    ) -> Result<Vec<Event>, LineFault> {
-        let link = &mut self.clients[client.index()];
-        let frames = match link.framer.feed(alloc, bytes) {
-            Ok(frames) => frames,
-            Err(FrameFault::TooLong) => return Err(LineFault::NotUnderstood),
-            Err(FrameFault::NoMemory) => return Err(LineFault::NoMemory),
-        };
+    ) -> Result<Vec<Event>, LineFault>
+        ensures events { IfOk result (λ events. HasFrames client bytes.now self.old.at self.old.clients self.new.clients events.items) }
+        ensures ports { self.new.ports ≡ self.old.ports }
+        ensures moment { self.new.at ≡ self.old.at }
+    {
+        let frames = self.read_client(alloc, client, bytes)?;
+        let link = self.clients[client.index()].number;
         frame_events(
             alloc,
             LineNumber::new(client.number()),
-            link.number,
+            link,
             self.at,
             frames,
         )
     }
 
+    /// The frames that are whole with these bytes on a client's link.
+    fn read_client(
+        &mut self,
+        alloc: Global,
+        client: Client,
+        bytes: &[u8],
+    ) -> Result<Vec<Fields>, LineFault>
+        ensures link { IfOk result (λ frames. ClientGoes client (ReadsFrames bytes.now frames.items) self.old.clients self.new.clients) }
+        ensures ports { self.new.ports ≡ self.old.ports }
+        ensures moment { self.new.at ≡ self.old.at }
+    {
+        self.clients[client.index()].read(alloc, bytes)
+    }
+
     /// A port's next link is up.
     fn port_up(&mut self, alloc: Global, port: Port) -> Result<Vec<Event>, LineFault>
         ensures event { IfOk result (λ events. IsOne (law.PortUp (port_number port) (port_link self.new.ports port) self.old.at) events.items) }
+        ensures link { PortGoes port IsNextPort self.old.ports self.new.ports }
+        ensures clients { self.new.clients ≡ self.old.clients }
         ensures moment { self.new.at ≡ self.old.at }
     {
         let link = &mut self.ports[port.index()];
@@ -237,20 +271,34 @@ impl Links {
         alloc: Global,
         port: Port,
         bytes: &[u8],
-    ) -> Result<Vec<Event>, LineFault> {
-        let link = &mut self.ports[port.index()];
-        let packets = match link.packets.feed(alloc, bytes) {
-            Ok(packets) => packets,
-            Err(PacketFault::Empty) => return Err(LineFault::NotUnderstood),
-            Err(PacketFault::NoMemory) => return Err(LineFault::NoMemory),
-        };
+    ) -> Result<Vec<Event>, LineFault>
+        ensures events { IfOk result (λ events. HasPackets port bytes.now self.old.at self.old.ports self.new.ports events.items) }
+        ensures clients { self.new.clients ≡ self.old.clients }
+        ensures moment { self.new.at ≡ self.old.at }
+    {
+        let packets = self.read_port(alloc, port, bytes)?;
+        let link = self.ports[port.index()].number;
         Ok(packet_events(
             alloc,
             LineNumber::new(port.number()),
-            link.number,
+            link,
             self.at,
             packets,
         )?)
+    }
+
+    /// The packets that are whole with these bytes on a port's link.
+    fn read_port(
+        &mut self,
+        alloc: Global,
+        port: Port,
+        bytes: &[u8],
+    ) -> Result<Vec<Packet>, LineFault>
+        ensures link { IfOk result (λ packets. PortGoes port (ReadsPackets bytes.now packets.items) self.old.ports self.new.ports) }
+        ensures clients { self.new.clients ≡ self.old.clients }
+        ensures moment { self.new.at ≡ self.old.at }
+    {
+        self.ports[port.index()].read(alloc, bytes)
     }
 }
 
@@ -268,10 +316,14 @@ fn frame_events(
     link: u64,
     at: u64,
     frames: Vec<Fields>,
-) -> Result<Vec<Event>, LineFault> {
+) -> Result<Vec<Event>, LineFault>
+    ensures { IfOk result (λ events. map event_seen events.items ≡ map (law.ClientMessage client link at) frames.items) }
+{
     let mut events = Vec::with_capacity(alloc, frames.len())?;
     for fields in frames {
-        let frame = ClientFrame::of(fields).ok_or(LineFault::NotUnderstood)?;
+        let Some(frame) = ClientFrame::of(fields) else {
+            return Err(LineFault::NotUnderstood);
+        };
         events.push(Event::ClientMessage {
             client,
             link,
@@ -289,7 +341,9 @@ fn packet_events(
     link: u64,
     at: u64,
     packets: Vec<Packet>,
-) -> Result<Vec<Event>, AllocError> {
+) -> Result<Vec<Event>, AllocError>
+    ensures { IfOk result (λ events. map event_seen events.items ≡ map (law.PortPacket port link at) packets.items) }
+{
     let mut events = Vec::with_capacity(alloc, packets.len())?;
     for packet in packets {
         events.push(Event::PortPacket {

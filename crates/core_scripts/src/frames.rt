@@ -1,8 +1,9 @@
 //! The frame of a client's message.
 
-ghost use Rattle.std.specs.Prelude.{◌≡◌, ◌≤◌, length};
-ghost use Rattle.fix_fields.specs.Field.{IsValue};
+ghost use Rattle.std.specs.Prelude.{◌≡◌, ◌≤◌, ◌++◌, length, take, drop, IfOk, OnOk};
+ghost use Rattle.fix_fields.specs.Field.{IsValue, fields_text};
 ghost use Rattle.script_lines.specs.Names.{client_name};
+ghost use Rattle.core_scripts.specs.Frames.{header, headed, script_frame};
 
 use core_batches::ClientFrame;
 use fix_fields::{Fields, split};
@@ -18,13 +19,16 @@ use std::alloc::{AllocError, Global};
 /// `NotUnderstood` where it would have more than 8,192 bytes.
 ///
 /// Source: FIX 4.4 Volume 2, "Standard Message Header".
+#[tactic(auto, unfolding(crate::specs::Frames::script_frame))]
 pub fn client_frame(
     alloc: Global,
     client: Client,
     fields: &Fields,
     number: u64,
     at: u64,
-) -> Result<ClientFrame, LineFault> {
+) -> Result<ClientFrame, LineFault>
+    ensures text { IfOk result (λ frame. fields_text frame ≡ script_frame client fields.now number at) }
+{
     let body = with_header(alloc, client, fields, number, at)?;
     let bytes = frame(alloc, &body)?;
     let fields = split(alloc, bytes.as_slice())?.ok_or(LineFault::NotUnderstood)?;
@@ -38,22 +42,40 @@ fn with_header(
     fields: &Fields,
     number: u64,
     at: u64,
-) -> Result<Fields, AllocError> {
+) -> Result<Fields, AllocError>
+    ensures { IfOk result (λ body. body ≡ headed client fields.now number at) }
+{
+    let first = fields.len().min(1);
     let mut body = Fields::new(alloc);
-    push_some(&mut body, fields, 0, fields.len().min(1))?;
+    push_some(&mut body, fields, 0, first)?;
+    push_header(&mut body, client, fields, number, at)?;
+    push_some(&mut body, fields, first, fields.len())?;
+    Ok(body)
+}
+
+/// Adds what stands behind the first field.
+fn push_header(
+    body: &mut Fields,
+    client: Client,
+    fields: &Fields,
+    number: u64,
+    at: u64,
+) -> Result<(), AllocError>
+    ensures { OnOk result (body.new ≡ body.old ++ header client fields.now number at) }
+{
     body.push(49, client_name(client))?;
     body.push(56, b"GATE")?;
     if fields.first(34).is_none() {
-        push_number(&mut body, 34, number)?;
+        push_number(body, 34, number)?;
     }
-    body.push(52, &stamp(at))?;
-    push_some(&mut body, fields, fields.len().min(1), fields.len())?;
-    Ok(body)
+    body.push(52, &stamp(at))
 }
 
 /// Adds the fields from a place on, up to another.
 fn push_some(body: &mut Fields, fields: &Fields, from: usize, end: usize) -> Result<(), AllocError>
-    requires { end ≤ length fields.now }
+    requires from { from ≤ end }
+    requires end { end ≤ length fields.now }
+    ensures { OnOk result (body.new ≡ body.old ++ drop from (take end fields.now)) }
 {
     // known of it: each tag and each value may be a field's
     let _text = fields.text();

@@ -1,0 +1,44 @@
+-- What a line of a script comes to: its events, for a core and links that are so, and the links then.
+use Rattle.std.specs.Prelude.{◌≡◌, ℕ, List, [], ◌++◌, Ok}
+use Rattle.ouch_codec.specs.Decoding.{Decodes}
+use Rattle.soup_packets.specs.declared.packet.Packet.{Packet}
+use Rattle.script_lines.specs.Names.{client_number, port_number}
+use Rattle.script_lines.specs.declared.port.Port.{Port}
+use Rattle.event_lines.specs.declared.line.Line.{Line}
+use Rattle.event_lines.specs.declared.line.Line.TheVariants as line
+use Rattle.core_law.specs.Events as law
+use Rattle.core_batches.specs.declared.event.Event.{Event}
+use Rattle.gate_core.specs.Core.{CoreState}
+use Rattle.core_scripts.specs.declared.events.Links.{Links}
+use Rattle.core_scripts.specs.Events.{IsOne, IsMessage, HasFrames, HasPackets, ClientGoes, PortGoes, IsNextClient, IsNextPort, client_link, port_link}
+
+-- a packet on a port's last link
+abbrev pub IsPacket : Port → Packet → Links → List Event → Type 0
+IsPacket port packet links events = IsOne (law.PortPacket (port_number port) (port_link links.ports port) links.at packet) events
+
+abbrev pub Becomes : CoreState → Line → Links → Links → List Event → Type 0
+Becomes core line.Empty old new events = (events ≡ []) × (new ≡ old)
+Becomes core (line.At moment) old new events = (events ≡ []) × (new ≡ record old { at = moment })
+Becomes core (line.ClientUp client) old new events =
+    IsOne (law.ClientUp (client_number client) (client_link new.clients client) old.at) events
+    × ClientGoes client IsNextClient old.clients new.clients × (new.ports ≡ old.ports) × (new.at ≡ old.at)
+Becomes core (line.ClientGone client) old new events =
+    IsOne (law.ClientGone (client_number client) (client_link old.clients client) old.at) events × (new ≡ old)
+Becomes core (line.ClientTick client) old new events = IsOne (law.ClientTick (client_number client) old.at) events × (new ≡ old)
+Becomes core (line.ClientMessage client fields) old new events =
+    IsMessage core client fields (client_link old.clients client) old.at events × (new ≡ old)
+Becomes core (line.ClientBytes client bytes) old new events =
+    HasFrames client bytes.items old.at old.clients new.clients events × (new.ports ≡ old.ports) × (new.at ≡ old.at)
+Becomes core (line.PortUp port) old new events =
+    IsOne (law.PortUp (port_number port) (port_link new.ports port) old.at) events
+    × PortGoes port IsNextPort old.ports new.ports × (new.clients ≡ old.clients) × (new.at ≡ old.at)
+Becomes core (line.PortGone port) old new events =
+    IsOne (law.PortGone (port_number port) (port_link old.ports port) old.at) events × (new ≡ old)
+Becomes core (line.PortTick port) old new events = IsOne (law.PortTick (port_number port) old.at) events × (new ≡ old)
+Becomes core (line.PortEnd port) old new events = IsPacket port (record { kind = 90; payload = [] }) old events × (new ≡ old)
+Becomes core (line.PortLogin port session number) old new events =
+    IsPacket port (record { kind = 65; payload = session ++ number }) old events × (new ≡ old)
+Becomes core (line.PortBytes port bytes) old new events =
+    HasPackets port bytes.items old.at old.ports new.ports events × (new.clients ≡ old.clients) × (new.at ≡ old.at)
+Becomes core (line.Market port message) old new events =
+    ((payload : List ℕ) × IsPacket port (record { kind = 83; payload = payload }) old events × Decodes payload (Ok message)) × (new ≡ old)
