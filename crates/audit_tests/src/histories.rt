@@ -1,0 +1,97 @@
+//! The audit of a history that is typed in.
+
+use crate::served::settings;
+use audit_lines::audit_text;
+use fix_fields::{Fields, split};
+use gate_audit::audit;
+use gate_core::{Batch, Event};
+use gate_journal::History;
+use soup_packets::{Packet, Payload};
+use std::alloc::Global;
+use std::test::Fail;
+
+/// Client 1's order 1 is accepted, then a replace of it; and a report tells of 300 that the market never said.
+const FIRST: [&[u8]; 3] = [
+    b"35=8\x0137=1\x0111=A1\x01150=A\x0154=1\x0138=300\x01151=300\x01",
+    b"35=8\x0137=1\x0111=A2\x0141=A1\x01150=E\x0154=1\x0138=300\x01151=300\x01",
+    b"35=8\x0137=1\x0111=A1\x01150=0\x0154=1\x0138=300\x01151=300\x01",
+];
+
+/// Client 2's order 2 is accepted.
+const SECOND: [&[u8]; 1] = [b"35=8\x0137=2\x0111=B1\x01150=A\x0154=2\x0138=200\x01151=200\x01"];
+
+/// It is in the book.
+const OPEN: [&[u8]; 1] = [b"35=8\x0137=2\x0111=B1\x01150=0\x0154=2\x0138=200\x01151=200\x01"];
+
+/// 200 of INTC at 23.45 are in the book, under the third token.
+const ACCEPTED: &[u8] =
+    b"A\0\0\0\0\0\0\0\0G0000000000003S\0\0\0\xc8INTC    \0\x03\x94\x04\0\x01\x86\x9eFIRMY\0\0\0\0\0\0\0\x01PN\0\0\0\0NLN";
+
+#[test]
+fn a_life_begins_with_the_token_that_the_reports_count(rt: HostRuntime) -> Result<(), Fail> {
+    let alloc = rt.alloc();
+    let mut history = History::new(alloc);
+    history.push(tick(), told(alloc, 1, &FIRST)?)?;
+    history.push(tick(), told(alloc, 2, &SECOND)?)?;
+    history.push(up(), Batch::empty(alloc))?;
+    let login = packet(alloc, b'A', b"SESSION001                   1")?;
+    history.push(login, Batch::empty(alloc))?;
+    history.push(packet(alloc, b'S', ACCEPTED)?, told(alloc, 2, &OPEN)?)?;
+    let Ok(pairs) = audit(alloc, &history, &settings(alloc)?) else {
+        return Err(Fail::new("no pairs"));
+    };
+    let text = audit_text(alloc, pairs.as_slice())?;
+    let expected = b"C1 A1 side 1 executed 0 open 300 cancelled 0 value 0 differ\n\
+        C2 B1 side 2 executed 0 open 200 cancelled 0 value 0 agree\n\
+        orders 2 agree 1\n";
+    assert!(rt; text.as_slice() == expected.as_slice());
+    Ok(())
+}
+
+/// Time passes.
+fn tick() -> Event {
+    Event::PortTick { port: 1, at: 0 }
+}
+
+/// The port's link is up.
+fn up() -> Event {
+    Event::PortUp {
+        port: 1,
+        link: 7,
+        at: 0,
+    }
+}
+
+/// The port's link brings a packet.
+fn packet(alloc: Global, kind: u8, payload: &[u8]) -> Result<Event, Fail> {
+    if payload.len() > Payload::MOST {
+        return Err(Fail::new("too long for a packet"));
+    }
+    Ok(Event::PortPacket {
+        port: 1,
+        link: 7,
+        at: 0,
+        packet: Packet {
+            kind,
+            payload: Payload::of(alloc, payload)?,
+        },
+    })
+}
+
+/// A client is told these reports.
+fn told(alloc: Global, client: u16, reports: &[&[u8]]) -> Result<Batch, Fail> {
+    let mut told = Vec::new(alloc);
+    for report in reports {
+        told.push(fields(alloc, report)?)?;
+    }
+    let (outs, port_outs) = (Vec::new(alloc), Vec::new(alloc));
+    Ok(Batch::of_parts(client, told, outs, 1, port_outs, None))
+}
+
+/// The fields of a report.
+fn fields(alloc: Global, report: &[u8]) -> Result<Fields, Fail> {
+    match split(alloc, report)? {
+        Some(fields) => Ok(fields),
+        None => Err(Fail::new("no fields")),
+    }
+}

@@ -1,0 +1,100 @@
+//! What is written of pairs.
+
+use audit_lines::write_audit;
+use gate_audit::OrderPair;
+use order_law::Account;
+use std::alloc::{AllocError, Global};
+use std::io::{self, ErrorKind, Write};
+use std::test::Fail;
+
+/// 300 of 500 are executed at 23.45, 150 are open and 50 cancelled.
+const READ: Account = Account {
+    side: b'5',
+    unfilled: 150,
+    executed: 300,
+    cancelled: 50,
+    value: 70_350_000,
+    is_closed: false,
+};
+
+#[test]
+fn a_line_for_each_order_and_the_count_last(rt: HostRuntime) -> Result<(), Fail> {
+    let alloc = rt.alloc();
+    let market = Account {
+        executed: 299,
+        ..READ
+    };
+    let mut pairs = Vec::new(alloc);
+    pairs.push(pair(alloc, 1, b"A1", READ)?)?;
+    pairs.push(pair(alloc, 12, b"B-2", market)?)?;
+    let (mut output, mut faults) = (Vec::new(alloc), Vec::new(alloc));
+    let status = write_audit(alloc, pairs.as_slice(), &mut output, &mut faults);
+    let expected = b"C1 A1 side 5 executed 300 open 150 cancelled 50 value 70350000 agree\n\
+        C12 B-2 side 5 executed 300 open 150 cancelled 50 value 70350000 differ\n\
+        orders 2 agree 1\n";
+    assert!(rt; output.as_slice() == expected.as_slice());
+    assert!(rt; faults.is_empty());
+    assert_eq!(rt; status, 1);
+    Ok(())
+}
+
+#[test]
+fn no_orders(rt: HostRuntime) -> Result<(), Fail> {
+    let alloc = rt.alloc();
+    let (mut output, mut faults) = (Vec::new(alloc), Vec::new(alloc));
+    let status = write_audit(alloc, &[], &mut output, &mut faults);
+    assert!(rt; output.as_slice() == b"orders 0 agree 0\n".as_slice());
+    assert!(rt; faults.is_empty());
+    assert_eq!(rt; status, 0);
+    Ok(())
+}
+
+#[test]
+fn a_write_or_a_flush_that_fails_is_told(rt: HostRuntime) -> Result<(), Fail> {
+    let alloc = rt.alloc();
+    let mut pairs = Vec::new(alloc);
+    pairs.push(pair(alloc, 1, b"A1", READ)?)?;
+    for writes in [false, true] {
+        let mut faults = Vec::new(alloc);
+        let status = write_audit(
+            alloc,
+            pairs.as_slice(),
+            &mut Failing { writes },
+            &mut faults,
+        );
+        assert!(rt; faults.as_slice() == b"read or write failed\n".as_slice());
+        assert_eq!(rt; status, 1);
+    }
+    Ok(())
+}
+
+/// An order of which the client read 300 executed shares.
+fn pair(alloc: Global, client: u16, id: &[u8], ouch: Account) -> Result<OrderPair, AllocError> {
+    Ok(OrderPair {
+        client,
+        id: Vec::from_slice(alloc, id)?,
+        fix: READ,
+        ouch,
+        agree: READ == ouch,
+    })
+}
+
+/// A writer that fails when it is flushed, and before that, unless it takes writes.
+#[derive(Drop)]
+struct Failing {
+    writes: bool,
+}
+
+impl Write for Failing {
+    fn write(&mut self, buf: &[u8]) -> io::Result<usize> {
+        if self.writes {
+            Ok(buf.len())
+        } else {
+            Err(io::Error::from(ErrorKind::BrokenPipe))
+        }
+    }
+
+    fn flush(&mut self) -> io::Result<()> {
+        Err(io::Error::from(ErrorKind::BrokenPipe))
+    }
+}
