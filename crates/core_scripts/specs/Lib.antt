@@ -3,3 +3,4 @@ pub mod Frames
 pub mod Lines
 pub mod Settings
 pub mod Status
+pub mod Steps

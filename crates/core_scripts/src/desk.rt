@@ -1,24 +1,32 @@
 //! The core with the script's settings, and the links of its clients and ports.
 
+ghost use Rattle.std.specs.Prelude.{◌≡◌, ◌++◌, ◌∷◌, [], IfOk, OnOk};
+ghost use Rattle.gate_core.specs.Core.{IsAfter};
+ghost use Rattle.gate_journal.specs.Kept.{nothing_kept, turns};
+ghost use Rattle.core_scripts.specs.Settings.{fixed};
+ghost use Rattle.core_scripts.specs.Steps.{GoesOn, KeepsLine};
+
 use crate::events::Links;
 use crate::settings::fixed_settings;
-use batch_lines::{Flags, batch_text};
-use event_lines::Line;
+use event_lines::{Line, line_of};
 use fix_fields::Fields;
 use gate_core::{Core, Event};
+use gate_journal::History;
 use script_lines::{Client, LineFault, Port};
 use std::alloc::{AllocError, Global};
 
 /// The gateway's core with the settings of a script, and what the script's lines have told of links and of the time.
 #[derive(Drop)]
 pub struct Desk {
-    core: Core,
-    links: Links,
+    pub core: Core,
+    pub links: Links,
 }
 
 impl Desk {
     /// A desk of which no line was stepped. No link is up.
-    pub fn cold(alloc: Global) -> Result<Desk, AllocError> {
+    pub fn cold(alloc: Global) -> Result<Desk, AllocError>
+        ensures { IfOk result (λ desk. IsAfter fixed [] desk.core) }
+    {
         let settings = fixed_settings(alloc)?;
         Ok(Desk {
             core: Core::new(alloc, &settings)?,
@@ -26,88 +34,101 @@ impl Desk {
         })
     }
 
-    /// A desk whose clients are logged on, and whose ports are logged in, on their first links at moment 0.
-    pub fn warm(alloc: Global) -> Result<Desk, LineFault> {
-        let mut desk = Desk::cold(alloc)?;
-        for client in [Client::First, Client::Second, Client::Third] {
-            desk.log_on(alloc, client)?;
-        }
-        for port in [Port::First, Port::Second] {
-            desk.log_in(alloc, port)?;
-        }
-        Ok(desk)
+    /// Steps the line of this text, and keeps its events with the batches that they give.
+    pub fn take(&mut self, alloc: Global, text: &[u8], kept: &mut History) -> Result<(), LineFault>
+        ensures { OnOk result (GoesOn self.old.core kept.old self.new.core kept.new) }
+    {
+        let line = line_of(alloc, text)?;
+        self.step(alloc, line, kept)
     }
 
-    /// A client comes up and logs on, with a heartbeat every 30 seconds.
-    fn log_on(&mut self, alloc: Global, client: Client) -> Result<(), LineFault> {
-        self.step(alloc, UNSHOWN, Line::ClientUp(client))?;
-        let logon = logon(alloc)?;
-        self.step(alloc, UNSHOWN, Line::ClientMessage(client, logon))?;
-        Ok(())
-    }
-
-    /// A port comes up and is logged in.
-    fn log_in(&mut self, alloc: Global, port: Port) -> Result<(), LineFault> {
-        self.step(alloc, UNSHOWN, Line::PortUp(port))?;
-        self.step(
-            alloc,
-            UNSHOWN,
-            Line::PortLogin {
-                port,
-                session: *b"SESSION001",
-                number: *b"                   1",
-            },
-        )?;
-        Ok(())
-    }
-
-    /// Steps a line, and gives what it prints.
-    pub fn step(&mut self, alloc: Global, flags: Flags, line: Line) -> Result<Vec<u8>, LineFault> {
+    /// Steps a line, and keeps its events with the batches that they give.
+    pub fn step(&mut self, alloc: Global, line: Line, kept: &mut History) -> Result<(), LineFault>
+        ensures on { OnOk result (GoesOn self.old.core kept.old self.new.core kept.new) }
+        ensures line { OnOk result (KeepsLine self.old.core line self.old.links self.new.links kept.old kept.new) }
+    {
         let events = self.links.events_of(alloc, &self.core, line)?;
-        Ok(step_events(alloc, &mut self.core, flags, events.as_slice())?)
+        Ok(step_events(alloc, &mut self.core, events, kept)?)
     }
 }
 
-/// How nothing is shown.
-const UNSHOWN: Flags = Flags {
-    num: false,
-    raw: false,
-    cold: false,
-};
-
-/// The fields of a logon.
-///
-/// Source: FIX 4.4 Volume 2, "Logon".
-fn logon(alloc: Global) -> Result<Fields, AllocError> {
-    let mut fields = Fields::new(alloc);
-    fields.push(35, b"A")?;
-    fields.push(98, b"0")?;
-    fields.push(108, b"30")?;
-    Ok(fields)
-}
-
-/// Steps events, and gives what they print.
+/// Steps events in their order, and keeps each with its batch.
 fn step_events(
     alloc: Global,
     core: &mut Core,
-    flags: Flags,
-    events: &[Event],
-) -> Result<Vec<u8>, AllocError> {
-    let mut text = Vec::new(alloc);
+    events: Vec<Event>,
+    kept: &mut History,
+) -> Result<(), AllocError>
+    ensures on { OnOk result (GoesOn core.old kept.old core.new kept.new) }
+    ensures events { OnOk result (kept.new.events ≡ kept.old.events ++ events.items) }
+{
     for event in events {
-        step_event(alloc, core, flags, event, &mut text)?;
+        step_event(alloc, core, event, kept)?;
     }
-    Ok(text)
+    Ok(())
 }
 
-/// Steps an event, and adds what it prints.
+/// Steps an event, and keeps it with its batch.
 fn step_event(
     alloc: Global,
     core: &mut Core,
-    flags: Flags,
-    event: &Event,
-    text: &mut Vec<u8>,
-) -> Result<(), AllocError> {
-    let batch = core.step(alloc, event)?;
-    text.append(&mut batch_text(alloc, flags, &batch)?)
+    event: Event,
+    kept: &mut History,
+) -> Result<(), AllocError>
+    ensures on { OnOk result (GoesOn core.old kept.old core.new kept.new) }
+    ensures event { OnOk result (kept.new.events ≡ kept.old.events ++ event ∷ []) }
+{
+    let batch = core.step(alloc, &event)?;
+    kept.push(event, batch)?;
+    Ok(())
+}
+
+/// A desk whose clients are logged on, and whose ports are logged in, on their first links at moment 0. What was stepped for it is kept.
+pub fn warm_desk(alloc: Global, kept: &mut History) -> Result<Desk, LineFault>
+    ensures { IfOk result (λ desk. kept.old ≡ nothing_kept → IsAfter fixed (turns kept.new) desk.core) }
+{
+    let mut desk = Desk::cold(alloc)?;
+    log_on(alloc, &mut desk, Client::First, kept)?;
+    log_on(alloc, &mut desk, Client::Second, kept)?;
+    log_on(alloc, &mut desk, Client::Third, kept)?;
+    log_in(alloc, &mut desk, Port::First, kept)?;
+    log_in(alloc, &mut desk, Port::Second, kept)?;
+    Ok(desk)
+}
+
+/// A client comes up and logs on, with a heartbeat every 30 seconds.
+///
+/// Source: FIX 4.4 Volume 2, "Logon".
+fn log_on(
+    alloc: Global,
+    desk: &mut Desk,
+    client: Client,
+    kept: &mut History,
+) -> Result<(), LineFault>
+    ensures { OnOk result (GoesOn desk.old.core kept.old desk.new.core kept.new) }
+{
+    desk.step(alloc, Line::ClientUp(client), kept)?;
+    let mut logon = Fields::new(alloc);
+    logon.push(35, b"A")?;
+    logon.push(98, b"0")?;
+    logon.push(108, b"30")?;
+    desk.step(alloc, Line::ClientMessage(client, logon), kept)?;
+    Ok(())
+}
+
+/// A port comes up and is logged in.
+fn log_in(alloc: Global, desk: &mut Desk, port: Port, kept: &mut History) -> Result<(), LineFault>
+    ensures { OnOk result (GoesOn desk.old.core kept.old desk.new.core kept.new) }
+{
+    desk.step(alloc, Line::PortUp(port), kept)?;
+    desk.step(
+        alloc,
+        Line::PortLogin {
+            port,
+            session: *b"SESSION001",
+            number: *b"                   1",
+        },
+        kept,
+    )?;
+    Ok(())
 }

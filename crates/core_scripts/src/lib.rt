@@ -11,6 +11,7 @@
 mod desk;
 mod events;
 mod frames;
+mod lines;
 mod links;
 mod packets;
 mod script;
@@ -18,4 +19,6 @@ mod settings;
 mod stop;
 
 pub use batch_lines::Flags;
-pub use script::run_script;
+pub use script::{run_script, script_history, tell};
+pub use settings::fixed_settings;
+pub use stop::Stop;

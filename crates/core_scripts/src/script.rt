@@ -1,20 +1,27 @@
 //! A script from its reader to its writers.
 
-ghost use Rattle.std.specs.Prelude.{◌≡◌, ◌≤◌, ◌<◌, ◌+◌, ◌*◌, ◌^◌, length, IfOk, OnOk};
+ghost use Rattle.std.specs.Prelude.{◌≡◌, ◌≤◌, IfOk, OnOk, map};
+ghost use Rattle.std.specs.List.{flat_map};
+ghost use Rattle.batch_lines.specs.Lines.{shown_batch};
+ghost use Rattle.core_batches.specs.Seen.{batch_seen};
+ghost use Rattle.core_law.specs.Holds.{Holds};
+ghost use Rattle.gate_core.specs.Core.{IsAfter};
+ghost use Rattle.gate_journal.specs.Kept.{nothing_kept, turns};
+ghost use Rattle.core_scripts.specs.Settings.{fixed};
+ghost use Rattle.core_scripts.specs.Status.{status_of};
+ghost use Rattle.core_scripts.specs.Steps.{GoesOn};
 
-use crate::desk::Desk;
+use crate::desk::{Desk, warm_desk};
+use crate::lines::Lines;
 use crate::stop::Stop;
-use batch_lines::Flags;
-use event_lines::line_of;
-use script_lines::LineFault;
-use std::alloc::Global;
-use std::io::{ErrorKind, Read, Write};
+use batch_lines::{Flags, batch_text};
+use gate_core::Batch;
+use gate_journal::History;
+use std::alloc::{AllocError, Global};
+use std::io::{Read, Write};
 
-/// How often the reader is asked at most.
-const MOST_READS: u32 = 1_000_000_000;
-
-/// How many bytes are read at once at most.
-const PIECE: usize = 4_096;
+/// The most lines that are counted; no stream has so many within the reads that are made.
+const MOST_LINES: u64 = u64::MAX;
 
 /// Runs a script: steps each line that `input` gives, and writes what it prints to `output`, frames as the flags ask for. Unless they
 /// ask for `cold`, the clients are logged on and the ports logged in first.
@@ -36,11 +43,16 @@ pub fn run_script<R: Read, W: Write, F: Write>(
     let ended = run(alloc, flags, input, output);
     match flushed(output, ended) {
         Ok(()) => 0,
-        Err(stop) => {
-            let _ = writeln!(faults, "{stop}");
-            stop.status()
-        }
+        Err(stop) => tell(stop, faults),
     }
+}
+
+/// Tells why a run stopped, and answers the status that it ends with.
+pub fn tell<F: Write>(stop: Stop, faults: &mut F) -> u8
+    ensures { result ≡ status_of stop }
+{
+    let _ = writeln!(faults, "{stop}");
+    stop.status()
 }
 
 /// How a run ended, once its output is flushed.
@@ -49,105 +61,82 @@ fn flushed<W: Write>(output: &mut W, ended: Result<(), Stop>) -> Result<(), Stop
     ended
 }
 
-/// Steps the lines that `input` gives, to its end.
+/// Steps the lines that `input` gives, to its end, and prints what each comes to.
 fn run<R: Read, W: Write>(
     alloc: Global,
     flags: Flags,
     input: &mut R,
     output: &mut W,
 ) -> Result<(), Stop> {
-    let mut script = Script::new(alloc, flags)?;
-    let mut piece = [0; PIECE];
-    for _ in 0..MOST_READS {
-        match input.read(&mut piece) {
-            Ok(0) => return script.end(alloc, output),
-            Ok(n) => script.take(alloc, &piece[..n], output)?,
-            Err(error) if error.kind() == ErrorKind::Interrupted => {}
-            Err(_) => return Err(Stop::Stream),
-        }
+    let mut desk = if flags.cold {
+        Desk::cold(alloc)?
+    } else {
+        started(alloc, &mut History::new(alloc))?
+    };
+    let mut lines = Lines::new();
+    for number in 1..MOST_LINES {
+        let Some(line) = lines.next(alloc, input)? else {
+            return Ok(());
+        };
+        let mut kept = History::new(alloc);
+        step_line(alloc, &mut desk, number, line.as_slice(), &mut kept)?;
+        output.write_all(kept_text(alloc, flags, kept.batches())?.as_slice())?;
     }
     Err(Stop::Stream)
 }
 
-/// A script on its way.
-#[derive(Drop)]
-struct Script {
-    desk: Desk,
-    flags: Flags,
-    /// How many lines were begun to be stepped.
-    lines: u64,
-    /// What was read of the line after these.
-    line: Vec<u8>,
-}
-
-impl Script {
-    /// A script of which nothing was read.
-    fn new(alloc: Global, flags: Flags) -> Result<Script, Stop>
-        ensures { IfOk result (λ script. script.lines ≡ 0) }
-    {
-        let desk = if flags.cold {
-            Desk::cold(alloc)?
-        } else {
-            warm_desk(alloc)?
+/// Steps a script, the clients logged on and the ports logged in, and gives its history: the events of the logons and of each line, in
+/// their order, each with the batch that it gave. Nothing is printed.
+///
+/// It stops where `run_script` does, and `tell` has the words and the status. All that is promised of the gateway holds of the history.
+pub fn script_history<R: Read>(alloc: Global, input: &mut R) -> Result<History, Stop>
+    ensures { IfOk result (λ kept. Holds fixed (turns kept)) }
+{
+    let mut kept = History::new(alloc);
+    let mut desk = started(alloc, &mut kept)?;
+    let mut lines = Lines::new();
+    for number in 1..MOST_LINES {
+        let Some(line) = lines.next(alloc, input)? else {
+            return Ok(kept);
         };
-        Ok(Script {
-            desk,
-            flags,
-            lines: 0,
-            line: Vec::new(alloc),
-        })
+        step_line(alloc, &mut desk, number, line.as_slice(), &mut kept)?;
     }
-
-    /// Takes the next bytes of the script, and steps the lines that end in them.
-    fn take<W: Write>(&mut self, alloc: Global, bytes: &[u8], output: &mut W) -> Result<(), Stop>
-        requires { self.old.lines + length bytes.now < 2 ^ 58 }
-        ensures { OnOk result (self.new.lines ≤ self.old.lines + length bytes.now) }
-    {
-        for byte in bytes {
-            if *byte == b'\n' {
-                self.step(alloc, output)?;
-            } else {
-                self.line.push(*byte)?;
-            }
-        }
-        Ok(())
-    }
-
-    /// Steps the last line, which needs no newline.
-    fn end<W: Write>(&mut self, alloc: Global, output: &mut W) -> Result<(), Stop>
-        requires { self.old.lines < 2 ^ 58 }
-    {
-        self.step(alloc, output)
-    }
-
-    /// Steps the line that was read, and prints what follows.
-    fn step<W: Write>(&mut self, alloc: Global, output: &mut W) -> Result<(), Stop>
-        requires { self.old.lines < 2 ^ 58 }
-        ensures { OnOk result (self.new.lines ≡ self.old.lines + 1) }
-    {
-        self.lines += 1;
-        let text = match self.line_text(alloc) {
-            Ok(text) => text,
-            Err(fault) => return Err(Stop::at_line(fault, self.lines)),
-        };
-        output.write_all(text.as_slice())?;
-        Ok(())
-    }
-
-    /// What the line prints that was read.
-    fn line_text(&mut self, alloc: Global) -> Result<Vec<u8>, LineFault>
-        ensures { self.new.lines ≡ self.old.lines }
-    {
-        let line = line_of(alloc, self.line.as_slice())?;
-        self.line.clear();
-        self.desk.step(alloc, self.flags, line)
-    }
+    Err(Stop::Stream)
 }
 
 /// A desk whose clients are logged on and whose ports are logged in. Nothing that this takes isn't understood.
-fn warm_desk(alloc: Global) -> Result<Desk, Stop> {
-    match Desk::warm(alloc) {
+fn started(alloc: Global, kept: &mut History) -> Result<Desk, Stop>
+    ensures { IfOk result (λ desk. kept.old ≡ nothing_kept → IsAfter fixed (turns kept.new) desk.core) }
+{
+    match warm_desk(alloc, kept) {
         Ok(desk) => Ok(desk),
         Err(fault) => Err(Stop::at_line(fault, 0)),
     }
+}
+
+/// Steps the line of this number.
+fn step_line(
+    alloc: Global,
+    desk: &mut Desk,
+    number: u64,
+    line: &[u8],
+    kept: &mut History,
+) -> Result<(), Stop>
+    ensures { OnOk result (GoesOn desk.old.core kept.old desk.new.core kept.new) }
+{
+    match desk.take(alloc, line, kept) {
+        Ok(()) => Ok(()),
+        Err(fault) => Err(Stop::at_line(fault, number)),
+    }
+}
+
+/// What batches print, one after another.
+fn kept_text(alloc: Global, flags: Flags, batches: &[Batch]) -> Result<Vec<u8>, AllocError>
+    ensures { IfOk result (λ text. text.items ≡ flat_map (shown_batch flags) (map batch_seen batches.now)) }
+{
+    let mut text = Vec::new(alloc);
+    for batch in batches {
+        text.append(&mut batch_text(alloc, flags, batch)?)?;
+    }
+    Ok(text)
 }
