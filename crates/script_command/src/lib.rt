@@ -5,4 +5,4 @@ mod command;
 mod program;
 
 pub use command::{refusal_status, script_flags};
-pub use program::run_program;
+pub use program::{run_program, tell_refusal};

@@ -29,12 +29,15 @@ pub fn run_program<'a, S: AsStr, R: Read, W: Write, F: Write>(
 {
     match script_flags(alloc, words) {
         Ok(flags) => run_script(alloc, flags, input, output, faults),
-        Err(error) => tell(&error, output, faults),
+        Err(error) => tell_refusal(&error, output, faults),
     }
 }
 
-/// Tells what a command line came to that isn't one to run by.
-fn tell<W: Write, F: Write>(error: &Error, output: &mut W, faults: &mut F) -> u8
+/// Tells what a command line came to that isn't one to run by: the help goes to `output`, anything else to `faults`.
+///
+/// Answers the status that the program ends with: 0 for the help, 1 where memory ran out or the help can't be written, which is told on
+/// `faults`, else 2.
+pub fn tell_refusal<W: Write, F: Write>(error: &Error, output: &mut W, faults: &mut F) -> u8
     ensures status { result ≤ 2 }
     ensures mistake { IsTold (kind_of error.now) result }
 {
