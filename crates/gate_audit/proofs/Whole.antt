@@ -19,7 +19,7 @@ use Rattle.gate_audit.proofs.Lists.{filter-reverse, map-map, map-reverse, map-sa
 use Rattle.gate_audit.proofs.Held.{stays-bodily, stays-whole}
 use Rattle.gate_audit.proofs.Bodies.{same-first, same-opens, same-reading}
 
--- a report as the client's order level has it
+-- the same without what a session writes round it
 abbrev bodily : Said → Said
 bodily x = said_to x.client (body_of x.report)
 
