@@ -3,15 +3,15 @@
 #
 #     scripts/refuse-memory-in-cases.sh [PROGRAM [INPUT]]
 #
-# PROGRAM is session_cases, which is meant where none is named, or gate_script. Run N of it refuses its Nth malloc or realloc,
-# and no other. session_cases makes a session's call again where it answers that memory is wanting. So a run may
+# PROGRAM is session_cases, which is meant where none is named, gate_script, or gateway, which audits the script INPUT. Run N of it refuses
+# its Nth malloc or realloc, and no other. session_cases makes a session's call again where it answers that memory is wanting. So a run may
 #
 #   end as without a refusal        what was wanting was asked again, or wasn't needed: "the same"
 #   end with status 1 and words     memory was wanting: "reported". What it printed has no case that is wrong, and of
-#                                   gate_script is the beginning of what it prints otherwise, in whole lines
+#                                   gate_script and gateway is the beginning of what it prints otherwise, in whole lines
 #   do anything else                "wrong"
 #
-# INPUT is the program's input, the crate's stdin where none is named. `rt run` in the crate's folder has to have built
+# INPUT is the program's input, the crate's stdin (of gateway data/day.script) where none is named. `rt run` in the crate's folder has to have built
 # the program. It needs a C compiler, and a program that is linked with the C library as a shared one.
 # From the environment: AT_MOST (the last N, 100000). Exit status: 0 nothing was wrong, 1 something was, 2 nothing was judged.
 set -euo pipefail
@@ -19,7 +19,12 @@ set -euo pipefail
 repository=$(dirname "$(cd "$(dirname "${BASH_SOURCE[0]}")" && pwd)")
 name=${1:-session_cases}
 program=$repository/crates/$name/out/$name
+words=()
 cases=${2:-$repository/crates/$name/stdin}
+if [ "$name" = gateway ]; then
+    cases=${2:-$repository/crates/gateway/data/day.script}
+    words=(audit --script "$cases")
+fi
 at_most=${AT_MOST:-100000}
 if [ ! -x "$program" ]; then
     echo "build the program first: rt run in crates/$name" >&2
@@ -78,19 +83,19 @@ is_beginning() {
 }
 
 ends=0
-"$program" < "$cases" > "$work/wanted" 2> "$work/words" || ends=$?
+"$program" "${words[@]}" < "$cases" > "$work/wanted" 2> "$work/words" || ends=$?
 same=0
 reported=0
 wrong=0
 for ((n = 1; n <= at_most; n++)); do
     status=0
-    REFUSED=$n LD_PRELOAD=$work/refuse.so "$program" < "$cases" > "$work/shown" 2> "$work/words" 9> "$work/mark" || status=$?
+    REFUSED=$n LD_PRELOAD=$work/refuse.so "$program" "${words[@]}" < "$cases" > "$work/shown" 2> "$work/words" 9> "$work/mark" || status=$?
     if [ ! -s "$work/mark" ]; then
         break
     fi
     if [ "$status" -eq "$ends" ] && cmp -s "$work/shown" "$work/wanted"; then
         same=$((same + 1))
-    elif [ "$status" -eq 1 ] && [ -s "$work/words" ] && ! grep -q WRONG "$work/shown" && { [ "$name" != gate_script ] || is_beginning; }; then
+    elif [ "$status" -eq 1 ] && [ -s "$work/words" ] && ! grep -q WRONG "$work/shown" && { [[ "$name" != gate* ]] || is_beginning; }; then
         reported=$((reported + 1))
     else
         wrong=$((wrong + 1))

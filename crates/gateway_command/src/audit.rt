@@ -1,6 +1,13 @@
 //! The audit of a script.
 
-ghost use Rattle.std.specs.Prelude.{◌≡◌, ◌≤◌};
+ghost use Rattle.std.specs.Prelude.{◌≡◌, ◌≤◌, IfOk};
+ghost use Rattle.std.specs.Io.KnownBytes.{Appends};
+ghost use Rattle.core_law.specs.Holds.{Holds};
+ghost use Rattle.gate_journal.specs.Kept.{turns};
+ghost use Rattle.core_scripts.specs.Settings.{fixed};
+ghost use Rattle.gate_audit.specs.Pairs.{accepted_pairs};
+ghost use Rattle.audit_lines.specs.Lines.{shown_audit};
+ghost use Rattle.gateway_command.specs.Audits.{IsAudited};
 
 use audit_lines::write_audit;
 use core_scripts::{Stop, fixed_settings, script_history, tell};
@@ -29,6 +36,7 @@ pub fn audit_script<R: Read, W: Write, F: Write>(
     faults: &mut F,
 ) -> u8
     ensures status { result ≤ 2 }
+    ensures audited { result ≡ 0 → IsAudited (W.contents output.old) (W.contents output.new) }
 {
     match script_history(alloc, input) {
         Ok(history) => audit_history(alloc, &history, output, faults),
@@ -43,7 +51,9 @@ fn audit_history<W: Write, F: Write>(
     output: &mut W,
     faults: &mut F,
 ) -> u8
-    ensures { result ≤ 1 }
+    ensures status { result ≤ 1 }
+    ensures written { Holds fixed (turns history.now) → result ≡ 0
+        → Appends (W.contents output.old) (W.contents output.new) (shown_audit (accepted_pairs fixed (turns history.now))) }
 {
     match pairs_of(alloc, history) {
         Ok(pairs) => write_audit(alloc, pairs.as_slice(), output, faults),
@@ -56,6 +66,8 @@ fn audit_history<W: Write, F: Write>(
 }
 
 /// Each order that was accepted, by both of its accounts.
-fn pairs_of(alloc: Global, history: &History) -> Result<Vec<OrderPair>, ReadingFault> {
+fn pairs_of(alloc: Global, history: &History) -> Result<Vec<OrderPair>, ReadingFault>
+    ensures { IfOk result (λ pairs. Holds fixed (turns history.now) → pairs.items ≡ accepted_pairs fixed (turns history.now)) }
+{
     audit(alloc, history, &fixed_settings(alloc)?)
 }
