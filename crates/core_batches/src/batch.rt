@@ -4,7 +4,7 @@ ghost use Rattle.std.specs.Prelude.{◌≡◌, ◌==◌, ◌&&◌, not, is_some,
 
 use crate::line_number::LineNumber;
 use crate::port_fault::PortFault;
-use fix_fields::Fields;
+use core_lines::IssuedReport;
 
 /// What a link is told.
 #[derive(Debug, Drop)]
@@ -22,7 +22,7 @@ pub struct Batch {
     pub client: Option<LineNumber>,
     /// Each report and reject as it was issued, with its number, be its frame written or not: the fields from MsgType (35)
     /// on.
-    pub reports: Vec<Fields>,
+    pub reports: Vec<IssuedReport>,
     /// What the client's link is told, in order.
     pub client_out: Vec<LinkOut>,
     /// The port that something is for, where there is one.

@@ -15,6 +15,7 @@ mod port_fault;
 
 pub use batch::{Batch, LinkOut};
 pub use client_frame::ClientFrame;
+pub use core_lines::IssuedReport;
 pub use event::Event;
 pub use line_number::LineNumber;
 pub use link_outs::closes_link;

@@ -8,7 +8,7 @@ ghost use Rattle.core_batches.specs.Batches.{batch_of};
 use crate::batch::{Batch, LinkOut};
 use crate::line_number::LineNumber;
 use crate::port_fault::PortFault;
-use fix_fields::Fields;
+use core_lines::IssuedReport;
 use std::alloc::{AllocError, Global};
 
 impl Batch {
@@ -43,7 +43,7 @@ impl Batch {
     /// A batch of these parts: it names the client and the port where there is something for them.
     pub fn of_parts(
         client: LineNumber,
-        reports: Vec<Fields>,
+        reports: Vec<IssuedReport>,
         client_out: Vec<LinkOut>,
         port: LineNumber,
         port_out: Vec<LinkOut>,
@@ -67,7 +67,7 @@ impl Batch {
     pub fn for_client(
         alloc: Global,
         client: LineNumber,
-        reports: Vec<Fields>,
+        reports: Vec<IssuedReport>,
         client_out: Vec<LinkOut>,
     ) -> Batch
         ensures { batch_seen result ≡ batch_of client reports.items (map link_out_seen client_out.items) 0 [] None }

@@ -1,2 +1,3 @@
 pub mod Leaving
 pub mod Lines
+pub mod Longest

@@ -13,7 +13,7 @@ ghost use Rattle.core_lines.specs.Lines.{ClientsLeave, ClientLinks, called, call
 
 use crate::client_line::ClientLine;
 use crate::client_lines::client_issues;
-use fix_fields::Fields;
+use crate::issued_report::IssuedReport;
 use fix_session::SessionTurn;
 use fix_types::AppBody;
 use session_frames::SessionOut;
@@ -23,7 +23,7 @@ use std::alloc::{AllocError, Global};
 #[derive(Debug, Drop)]
 pub struct Issues {
     /// Of each body, in order, the fields from MsgType (35) on of its frame, be the frame written or not.
-    pub reports: Vec<Fields>,
+    pub reports: Vec<IssuedReport>,
     /// What goes to the client's link, in order.
     pub outs: Vec<SessionOut>,
 }
@@ -87,17 +87,17 @@ fn issue_one(
     all.outs.append(&mut outs)
 }
 
-/// The fields of the body that is issued next.
+/// The report of the body that is issued next.
 fn report_next(
     lines: &[ClientLine],
     alloc: Global,
     place: usize,
     body: &AppBody,
     at: u64,
-) -> Result<Fields, AllocError>
+) -> Result<IssuedReport, AllocError>
     requires place { place < length lines.now }
-    ensures { IfOk result (λ fields. (s : Settings) (calls : ℕ → List Timed) → ClientsLeave s calls lines.now
-        → report_of s (place + 1) (calls (place + 1)) (issue_call at body.now) ≡ fields ∷ []) }
+    ensures { IfOk result (λ report. (s : Settings) (calls : ℕ → List Timed) → ClientsLeave s calls lines.now
+        → report_of s (place + 1) (calls (place + 1)) (issue_call at body.now) ≡ report ∷ []) }
 {
     lines[place].report(alloc, body, at)
 }

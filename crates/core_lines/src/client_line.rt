@@ -6,6 +6,7 @@ ghost use Rattle.core_law.specs.Settings.{Settings, client_name};
 ghost use Rattle.core_law.specs.Sessions.{client_answer, report_of};
 ghost use Rattle.core_lines.specs.Leaving.{ClientLeaves, IsClientAnswer, expected_in, issue_call};
 
+use crate::issued_report::IssuedReport;
 use fix_fields::{Fields, Text};
 use fix_session::{Session, SessionTurn};
 use fix_types::AppBody;
@@ -106,7 +107,17 @@ impl ClientLine {
     }
 
     /// The fields from MsgType (35) on of the frame that `issues` makes of this body, written or not.
-    pub fn report(&self, alloc: Global, body: &AppBody, at: u64) -> Result<Fields, AllocError>
+    pub fn report(&self, alloc: Global, body: &AppBody, at: u64) -> Result<IssuedReport, AllocError>
+        ensures { IfOk result (λ report. (s : Settings) (c : ℕ) (calls : List Timed) → ClientLeaves s c calls self.now.session
+            → report_of s c calls (issue_call at body.now) ≡ report ∷ []) }
+    {
+        let fields = self.next_fields(alloc, body, at)?;
+        let report = within_limit(fields)?;
+        Ok(report)
+    }
+
+    /// The fields, from MsgType (35) on, of the body that is issued next.
+    fn next_fields(&self, alloc: Global, body: &AppBody, at: u64) -> Result<Fields, AllocError>
         ensures { IfOk result (λ fields. (s : Settings) (c : ℕ) (calls : List Timed) → ClientLeaves s c calls self.now.session
             → report_of s c calls (issue_call at body.now) ≡ fields ∷ []) }
     {
@@ -121,5 +132,16 @@ impl ClientLine {
     {
         calls_determine_runs();
         self.session.next_in()
+    }
+}
+
+/// The report of these fields; where they print in more than `IssuedReport::LONGEST` bytes it is answered as want of
+/// memory. No report does, since its longest texts are those of a frame of 8,192 bytes at most; that isn't proved.
+fn within_limit(fields: Fields) -> Result<IssuedReport, AllocError>
+    ensures { IfOk result (λ report. report ≡ fields) }
+{
+    match IssuedReport::of(fields) {
+        Some(report) => Ok(report),
+        None => Err(AllocError),
     }
 }

@@ -7,6 +7,7 @@
 mod client_bodies;
 mod client_line;
 mod client_lines;
+mod issued_report;
 mod laws;
 mod port_line;
 mod port_lines;
@@ -17,6 +18,7 @@ pub use client_line::ClientLine;
 pub use client_lines::{
     client_closes, client_comes, client_goes, client_hears, client_issues, client_ticks,
 };
+pub use issued_report::IssuedReport;
 pub use laws::issues_are_what_is_reported;
 pub use port_line::PortLine;
 pub use port_lines::{

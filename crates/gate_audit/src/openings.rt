@@ -11,7 +11,7 @@ ghost use Rattle.gate_audit.specs.Pairs.{Said, said_to};
 use crate::opening::Opening;
 use crate::reports::{first_byte, gives_token, opens_order, text};
 use fix_fields::{Fields, Text};
-use gate_core::Batch;
+use gate_core::{Batch, IssuedReport};
 use order_accounts::ReadingFault;
 use std::alloc::Global;
 use tokens::Token;
@@ -40,13 +40,13 @@ impl Openings {
         &mut self,
         alloc: Global,
         client: u16,
-        reports: &[Fields],
+        reports: &[IssuedReport],
     ) -> Result<(), ReadingFault>
         ensures all { IfOk result (λ u. (all : List Said) → IsOf all self.old → IsOf (reverse (map (said_to client) reports.now) ++ all) self.new) }
         ensures large { (all : List Said) → IsOf all self.old → IsErrOf result ReadingFault.TooLarge → read.HasTokens (reverse (map (said_to client) reports.now) ++ all) → ⊥ }
     {
         for report in reports {
-            self.hear(alloc, client, report)?;
+            self.hear(alloc, client, report.fields())?;
         }
         Ok(())
     }

@@ -8,7 +8,7 @@ ghost use Rattle.gate_audit.specs.Pairs as pairs;
 ghost use Rattle.gate_audit.specs.Read.{opens, reports_to};
 
 use fix_fields::Fields;
-use gate_core::Batch;
+use gate_core::{Batch, IssuedReport};
 use std::alloc::{AllocError, Global};
 
 /// The reports and rejects that a client was told by these batches, copied, in order.
@@ -25,11 +25,15 @@ pub fn reports_of(alloc: Global, client: u16, batches: &[Batch]) -> Result<Vec<F
 }
 
 /// These reports stand behind those before, copied.
-fn copy_reports(alloc: Global, reports: &[Fields], to: &mut Vec<Fields>) -> Result<(), AllocError>
+fn copy_reports(
+    alloc: Global,
+    reports: &[IssuedReport],
+    to: &mut Vec<Fields>,
+) -> Result<(), AllocError>
     ensures { IfOk result (λ u. to.new.items ≡ to.old.items ++ reports.now) }
 {
     for report in reports {
-        to.push(report.copied(alloc)?)?;
+        to.push(report.fields().copied(alloc)?)?;
     }
     Ok(())
 }

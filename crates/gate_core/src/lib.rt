@@ -9,7 +9,7 @@ mod runs;
 mod targets;
 mod whole;
 
-pub use core_batches::{Batch, ClientFrame, Event, LineNumber, LinkOut, PortFault};
+pub use core_batches::{Batch, ClientFrame, Event, IssuedReport, LineNumber, LinkOut, PortFault};
 pub use runs::run_all;
 pub use targets::Targets;
 pub use whole::Core;

@@ -2,7 +2,7 @@ use Rattle.std.proofs.lemmas.Result.{IfOk-weaker}
 use Rattle.fix_session.specs.Issues.{kind_of, body_of}
 use Rattle.core_lines.specs.Leaving.{issue_call}
 use Rattle.core_lines.proofs.Clients.{client-reports}
-use Rattle.core_lines.proofs.client_line.ClientLine.report.Goals as goal
+use Rattle.core_lines.proofs.client_line.ClientLine.next_fields.Goals as goal
 
 pub returns : goal.returns
 unfolding issue_call
