@@ -1,5 +1,5 @@
 -- What a line of a script comes to: its events, for a core and links that are so, and the links then.
-use Rattle.std.specs.Prelude.{◌≡◌, ℕ, List, [], ◌++◌, Ok}
+use Rattle.std.specs.Prelude.{◌≡◌, ℕ, List, [], ◌++◌, Ok, ⊤}
 use Rattle.ouch_codec.specs.Decoding.{Decodes}
 use Rattle.soup_packets.specs.declared.packet.Packet.{Packet}
 use Rattle.script_lines.specs.Names.{client_number, port_number}
@@ -42,3 +42,12 @@ Becomes core (line.PortBytes port bytes) old new events =
     HasPackets port bytes.items old.at old.ports new.ports events × (new.clients ≡ old.clients) × (new.at ≡ old.at)
 Becomes core (line.Market port message) old new events =
     ((payload : List ℕ) × IsPacket port (record { kind = 83; payload = payload }) old events × Decodes payload (Ok message)) × (new ≡ old)
+
+-- The line has a message or bytes, and may stop a script though its words are right: a client's message may be too long for a frame, and of bytes a
+-- reader may read no more. (No message of the market is too long for a packet; that isn't shown.) No other line stops one.
+abbrev pub MayStop : Line → Type 0
+MayStop (line.ClientMessage client fields) = ⊤
+MayStop (line.ClientBytes client bytes) = ⊤
+MayStop (line.PortBytes port bytes) = ⊤
+MayStop (line.Market port message) = ⊤
+MayStop other = ⊥

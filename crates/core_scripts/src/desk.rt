@@ -1,9 +1,10 @@
 //! The core with the script's settings, and the links of its clients and ports.
 
-ghost use Rattle.std.specs.Prelude.{◌≡◌, ◌++◌, ◌∷◌, [], IfOk, OnOk};
+ghost use Rattle.std.specs.Prelude.{◌≡◌, ◌++◌, ◌∷◌, [], IfOk, OnOk, IsErrOf};
 ghost use Rattle.gate_core.specs.Core.{IsAfter};
 ghost use Rattle.gate_journal.specs.Kept.{nothing_kept, turns};
 ghost use Rattle.core_scripts.specs.Settings.{fixed};
+ghost use Rattle.core_scripts.specs.Lines.{MayStop};
 ghost use Rattle.core_scripts.specs.Steps.{GoesOn, KeepsLine};
 
 use crate::events::Links;
@@ -42,10 +43,11 @@ impl Desk {
         self.step(alloc, line, kept)
     }
 
-    /// Steps a line, and keeps its events with the batches that they give.
+    /// Steps a line, and keeps its events with the batches that they give. `NotUnderstood` where `Links::events_of` answers it.
     pub fn step(&mut self, alloc: Global, line: Line, kept: &mut History) -> Result<(), LineFault>
         ensures on { OnOk result (GoesOn self.old.core kept.old self.new.core kept.new) }
         ensures line { OnOk result (KeepsLine self.old.core line self.old.links self.new.links kept.old kept.new) }
+        ensures stopped { IsErrOf result LineFault.NotUnderstood → MayStop line }
     {
         let events = self.links.events_of(alloc, &self.core, line)?;
         Ok(step_events(alloc, &mut self.core, events, kept)?)

@@ -1,11 +1,11 @@
 //! The events that a line is.
 
-ghost use Rattle.std.specs.Prelude.{◌≡◌, ◌∷◌, [], IfOk, map};
+ghost use Rattle.std.specs.Prelude.{◌≡◌, ◌∷◌, [], IfOk, IsErrOf, map};
 ghost use Rattle.core_law.specs.Events as law;
 ghost use Rattle.script_lines.specs.Names.{client_number, port_number};
 ghost use Rattle.core_batches.specs.Seen.{event_seen};
 ghost use Rattle.core_scripts.specs.Events.{ClientGoes, PortGoes, IsNextClient, IsNextPort, ReadsFrames, ReadsPackets, IsOne, IsMessage, HasFrames, HasPackets, client_link, port_link};
-ghost use Rattle.core_scripts.specs.Lines.{Becomes};
+ghost use Rattle.core_scripts.specs.Lines.{Becomes, MayStop};
 
 use crate::frames::client_frame;
 use crate::links::{ClientLink, PortLink};
@@ -45,14 +45,16 @@ impl Links {
 
     /// The events that a line is at the present moment, for a core that is so.
     ///
-    /// `NotUnderstood` where a client's message would be too long a frame, and where a reader of bytes says that it reads no more.
+    /// `NotUnderstood` where a client's message would be too long a frame, and where a reader of bytes says that it reads no more: of no
+    /// other line.
     pub fn events_of(
         &mut self,
         alloc: Global,
         core: &Core,
         line: Line,
     ) -> Result<Vec<Event>, LineFault>
-        ensures { IfOk result (λ events. Becomes core.now line self.old self.new events.items) }
+        ensures events { IfOk result (λ events. Becomes core.now line self.old self.new events.items) }
+        ensures stopped { IsErrOf result LineFault.NotUnderstood → MayStop line }
     {
         match line {
             Line::Empty => Ok(Vec::new(alloc)),
@@ -60,31 +62,35 @@ impl Links {
                 self.at = moment;
                 Ok(Vec::new(alloc))
             }
-            Line::ClientUp(client) => self.client_up(alloc, client),
-            Line::ClientGone(client) => self.client_gone(alloc, client),
-            Line::ClientTick(client) => self.client_tick(alloc, client),
+            Line::ClientUp(client) => Ok(self.client_up(alloc, client)?),
+            Line::ClientGone(client) => Ok(self.client_gone(alloc, client)?),
+            Line::ClientTick(client) => Ok(self.client_tick(alloc, client)?),
             Line::ClientMessage(client, fields) => {
                 self.client_message(alloc, core, client, &fields)
             }
             Line::ClientBytes(client, bytes) => self.client_bytes(alloc, client, bytes.as_slice()),
-            Line::PortUp(port) => self.port_up(alloc, port),
-            Line::PortGone(port) => self.port_gone(alloc, port),
-            Line::PortTick(port) => self.port_tick(alloc, port),
-            Line::PortEnd(port) => self.port_packet(alloc, port, end_of_session(alloc)),
+            Line::PortUp(port) => Ok(self.port_up(alloc, port)?),
+            Line::PortGone(port) => Ok(self.port_gone(alloc, port)?),
+            Line::PortTick(port) => Ok(self.port_tick(alloc, port)?),
+            Line::PortEnd(port) => Ok(self.port_packet(alloc, port, end_of_session(alloc))?),
             Line::PortLogin {
                 port,
                 session,
                 number,
-            } => self.port_packet(alloc, port, login_accepted(alloc, &session, &number)?),
+            } => {
+                let packet = login_accepted(alloc, &session, &number)?;
+                Ok(self.port_packet(alloc, port, packet)?)
+            }
             Line::PortBytes(port, bytes) => self.port_bytes(alloc, port, bytes.as_slice()),
             Line::Market(port, message) => {
-                self.port_packet(alloc, port, sequenced(alloc, &message)?)
+                let packet = sequenced(alloc, &message)?;
+                Ok(self.port_packet(alloc, port, packet)?)
             }
         }
     }
 
     /// A client's next link is up.
-    fn client_up(&mut self, alloc: Global, client: Client) -> Result<Vec<Event>, LineFault>
+    fn client_up(&mut self, alloc: Global, client: Client) -> Result<Vec<Event>, AllocError>
         ensures event { IfOk result (λ events. IsOne (law.ClientUp (client_number client) (client_link self.new.clients client) self.old.at) events.items) }
         ensures link { ClientGoes client IsNextClient self.old.clients self.new.clients }
         ensures ports { self.new.ports ≡ self.old.ports }
@@ -114,7 +120,7 @@ impl Links {
     }
 
     /// A client's link is gone.
-    fn client_gone(&self, alloc: Global, client: Client) -> Result<Vec<Event>, LineFault>
+    fn client_gone(&self, alloc: Global, client: Client) -> Result<Vec<Event>, AllocError>
         ensures { IfOk result (λ events. IsOne (law.ClientGone (client_number client) (client_link self.now.clients client) self.now.at) events.items) }
     {
         one(
@@ -128,7 +134,7 @@ impl Links {
     }
 
     /// Time passes for a client.
-    fn client_tick(&self, alloc: Global, client: Client) -> Result<Vec<Event>, LineFault>
+    fn client_tick(&self, alloc: Global, client: Client) -> Result<Vec<Event>, AllocError>
         ensures { IfOk result (λ events. IsOne (law.ClientTick (client_number client) self.now.at) events.items) }
     {
         one(
@@ -152,7 +158,7 @@ impl Links {
     {
         let number = core.next_in(client.number()).unwrap_or(1);
         let frame = client_frame(alloc, client, fields, number, self.at)?;
-        one(
+        Ok(one(
             alloc,
             Event::ClientMessage {
                 client: LineNumber::new(client.number()),
@@ -160,7 +166,7 @@ impl Links {
                 at: self.at,
                 frame,
             },
-        )
+        )?)
     }
 
     /// Bytes on a client's link: an event for each frame that is whole with them.
@@ -200,7 +206,7 @@ impl Links {
     }
 
     /// A port's next link is up.
-    fn port_up(&mut self, alloc: Global, port: Port) -> Result<Vec<Event>, LineFault>
+    fn port_up(&mut self, alloc: Global, port: Port) -> Result<Vec<Event>, AllocError>
         ensures event { IfOk result (λ events. IsOne (law.PortUp (port_number port) (port_link self.new.ports port) self.old.at) events.items) }
         ensures link { PortGoes port IsNextPort self.old.ports self.new.ports }
         ensures clients { self.new.clients ≡ self.old.clients }
@@ -219,7 +225,7 @@ impl Links {
     }
 
     /// A port's link is gone.
-    fn port_gone(&self, alloc: Global, port: Port) -> Result<Vec<Event>, LineFault>
+    fn port_gone(&self, alloc: Global, port: Port) -> Result<Vec<Event>, AllocError>
         ensures { IfOk result (λ events. IsOne (law.PortGone (port_number port) (port_link self.now.ports port) self.now.at) events.items) }
     {
         one(
@@ -233,7 +239,7 @@ impl Links {
     }
 
     /// Time passes for a port.
-    fn port_tick(&self, alloc: Global, port: Port) -> Result<Vec<Event>, LineFault>
+    fn port_tick(&self, alloc: Global, port: Port) -> Result<Vec<Event>, AllocError>
         ensures { IfOk result (λ events. IsOne (law.PortTick (port_number port) self.now.at) events.items) }
     {
         one(
@@ -251,7 +257,7 @@ impl Links {
         alloc: Global,
         port: Port,
         packet: Packet,
-    ) -> Result<Vec<Event>, LineFault>
+    ) -> Result<Vec<Event>, AllocError>
         ensures { IfOk result (λ events. IsOne (law.PortPacket (port_number port) (port_link self.now.ports port) self.now.at packet) events.items) }
     {
         one(
@@ -303,10 +309,10 @@ impl Links {
 }
 
 /// One event.
-fn one(alloc: Global, event: Event) -> Result<Vec<Event>, LineFault>
+fn one(alloc: Global, event: Event) -> Result<Vec<Event>, AllocError>
     ensures { IfOk result (λ events. IsOne (event_seen event) events.items) }
 {
-    Ok(vec![in alloc; event]?)
+    vec![in alloc; event]
 }
 
 /// An event for each frame on a client's link. `NotUnderstood` where one is too long: a reader of frames gives none.
