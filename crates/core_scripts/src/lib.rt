@@ -14,6 +14,7 @@ mod frames;
 mod lines;
 mod links;
 mod packets;
+mod piece;
 mod script;
 mod settings;
 mod stop;
