@@ -1,6 +1,10 @@
 //! The command line of `gateway`, as `clap` reads it.
 
-use clap::{Arg, ArgAction, Command, Error};
+ghost use Rattle.std.specs.Prelude.{◌≡◌, IfOk, map, option_map};
+ghost use Rattle.clap.specs.Words.{FailsBy, app_of, subcommand_rows_of};
+ghost use Rattle.gateway_command.specs.Command as spec;
+
+use clap::{Arg, ArgAction, ArgMatches, Command, Error};
 use std::alloc::{AllocError, Global};
 use std::convert::AsStr;
 
@@ -25,36 +29,52 @@ read or write fails, 2 at a line that isn't understood or a file that can't be r
 ///
 /// An error tells why the command line is refused, or is the help that it asks for, or says that memory ran out. `None` isn't
 /// answered: the subcommand and its file are required.
-pub fn audit_path<'a, S: AsStr>(alloc: Global, words: &'a [S]) -> Result<Option<&'a str>, Error> {
+pub fn audit_path<'a, S: AsStr>(alloc: Global, words: &'a [S]) -> Result<Option<&'a str>, Error>
+    ensures script { IfOk result (λ path. option_map (λ text. text.now) path ≡ spec.script_of (map S.text words.now)) }
+    ensures refused { FailsBy (spec.faults (map S.text words.now)) result }
+{
+    let matches = matches_of(alloc, words)?;
+    Ok(script_in(&matches))
+}
+
+/// What `clap` finds in the words.
+fn matches_of<'a, S: AsStr>(alloc: Global, words: &'a [S]) -> Result<ArgMatches<'a>, Error>
+    ensures found { IfOk result (λ matches. subcommand_rows_of matches ≡ spec.found (map S.text words.now)) }
+    ensures refused { FailsBy (spec.faults (map S.text words.now)) result }
+{
     let command = gateway(alloc)?;
-    let matches = command.try_get_matches_from(words)?;
+    command.try_get_matches_from(words)
+}
+
+/// The file of `audit --script FILE`.
+fn script_in<'a>(matches: &ArgMatches<'a>) -> Option<&'a str>
+    ensures { option_map (λ text. text.now) result ≡ spec.script_in (subcommand_rows_of matches.now) }
+{
     match matches.subcommand_matches("audit") {
-        Some(audit) => Ok(audit.get_str("script")),
-        None => Ok(None),
+        Some(audit) => audit.get_str("script"),
+        None => None,
     }
 }
 
 /// `gateway audit --script FILE`.
-fn gateway<'a>(alloc: Global) -> Result<Command<'a>, AllocError> {
-    let command = Command::new(alloc, "gateway")
-        .about("The order gateway: FIX 4.4 clients, OUCH 4.2 market ports")
-        .subcommand_required(true)
-        .arg_required_else_help(true);
-    command.subcommand(audit(alloc)?)
-}
-
-/// `audit --script FILE`.
-fn audit<'a>(alloc: Global) -> Result<Command<'a>, AllocError> {
+fn gateway<'a>(alloc: Global) -> Result<Command<'a>, AllocError>
+    ensures { IfOk result (λ command. app_of command ≡ spec.gateway) }
+{
     let script = Arg::new(alloc, "script")
         .long("script")
         .value_name("FILE")
         .required(true)
         .action(ArgAction::Set)
         .help("The script");
-    Command::new(alloc, "audit")
+    let audit = Command::new(alloc, "audit")
         .about(
             "Runs a script without its outputs, and prints each accepted order by both of its accounts",
         )
         .after_help(EXAMPLE)
-        .arg(script)
+        .arg(script)?;
+    let alone = Command::new(alloc, "gateway")
+        .about("The order gateway: FIX 4.4 clients, OUCH 4.2 market ports")
+        .subcommand_required(true)
+        .arg_required_else_help(true);
+    alone.subcommand(audit)
 }
