@@ -1,19 +1,18 @@
 -- How many tokens the orders of a table have had: at most one more than replaces were accepted.
-use Rattle.std.proofs.Common.{◌≡◌, ℕ, zero, suc, ◌+◌, ◌-◌, ◌<◌, ◌≤◌, Bool, true, false, List, [], ◌∷◌, ◌++◌, length, reverse, refl, sym, ap, ◌∙◌, arith, slice_get, slice_set, leb-true}
-use Rattle.std.specs.Prelude.{◌&&◌, ◌==◌, nat_le, IfOk, OnErr, Result, Ok, Err, Option, Some, None, if◌then◌else◌, option_to_list, bytes_eq, decimal}
-use Rattle.std.specs.List.{count_by, find, list_all}
+use Rattle.std.proofs.Common.{◌≡◌, ℕ, zero, suc, ◌+◌, ◌-◌, ◌≤◌, Bool, true, false, List, [], ◌∷◌, ◌++◌, length, reverse, refl, sym, ap, ◌∙◌, arith, slice_get, slice_set, leb-true}
+use Rattle.std.specs.Prelude.{◌&&◌, ◌==◌, nat_le, Option, Some, None, if◌then◌else◌, option_to_list, bytes_eq}
+use Rattle.std.specs.List.{count_by, list_all}
 use Rattle.std.proofs.lemmas.Bool.{and_parts}
 use Rattle.std.proofs.lemmas.Bool.Decides.{nat_tests}
 use Rattle.std.proofs.lemmas.List.Folds.{list_all-append}
 use Rattle.order_law.specs.History.{Entry}
-use Rattle.order_histories.specs.OrderRecord.{OrderRecord, at, filled, gone, live_token, reduced, refused, traded, unasked}
+use Rattle.order_histories.specs.OrderRecord.{OrderRecord, at, filled, gone, live_token, reduced, traded, unasked}
 use Rattle.order_histories.specs.Table.{GivenToken, has_number, is_replacement_of}
 use Rattle.order_histories.proofs.Lists.{count-push, found-passes}
 use Rattle.order_histories.proofs.Texts.{eq-is, eq-true}
 use Rattle.orders.specs.Changes.{changed_by, opened_at, over_if, renamed, replaced_as, still_without}
 use Rattle.orders.specs.declared.change.Change.{Change}
 use Rattle.orders.specs.declared.change.Change.TheVariants as changes
-use Rattle.orders.specs.declared.order.ToldTrade.{ToldTrade}
 use Rattle.order_table.specs.Held.{IsNewest, is_counted}
 
 within : (m n : ℕ) → m ≤ n → nat_le m n ≡ true
@@ -155,8 +154,3 @@ own-number order os i o newest at_i = eq-is o.new.order order (found-passes (has
 -- a token that a replace of it was given
 pub own-token : (order : List ℕ) (t : GivenToken) (o : OrderRecord) → o.new.order ≡ order → t.order ≡ order → t.is_replacement ≡ true → is_replacement_of o.new.order t ≡ true
 own-token order t o own of_order is_replacement = both (bytes_eq t.order o.new.order) t.is_replacement (eq-true t.order o.new.order (of_order ∙ sym own)) is_replacement
-
--- a change that was made, or that memory ran out of
-pub either-way : {E : Type 0} (r : Result (Unit {0}) E) (change : Change) (o p : OrderRecord) → IfOk r (λ nothing. p ≡ changed_by change o) → OnErr r (p ≡ o) → (p.new ≡ o.new) × (had p ≤ had o)
-either-way (Ok nothing) change o p done err = (ap (λ (x : OrderRecord). x.new) done ∙ change-new change o, rw done (change-few change o))
-either-way (Err e) change o p done err = (ap (λ (x : OrderRecord). x.new) err, rw err (omega arith))

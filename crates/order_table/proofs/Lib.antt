@@ -1,2 +1,3 @@
 pub mod Newest
 pub mod Counted
+pub mod StillOpen

@@ -1,8 +1,8 @@
 -- What the table holds, and what is found in it: `order_histories`' words over the two lists.
-use Rattle.std.specs.Prelude.{◌≡◌, ◌<◌, ℕ, ◌+◌, ◌-◌, nat_le, Bool, List, length, reverse, Option, option_and_then, option_to_list, decimal, slice_get}
+use Rattle.std.specs.Prelude.{◌≡◌, ◌<◌, ℕ, ◌+◌, ◌-◌, nat_le, Bool, List, length, reverse, Option, option_and_then, option_to_list, decimal, slice_get, slice_index, if◌then◌else◌}
 use Rattle.std.specs.List.{count_by, find, position_or_len}
 use Rattle.order_histories.specs.OrderRecord.{OrderRecord}
-use Rattle.order_histories.specs.Table.{GivenToken, has_number, is_named, is_replacement_of, is_token, put}
+use Rattle.order_histories.specs.Table.{GivenToken, has_number, is_named, is_replacement_of, is_token, open_count, put}
 
 -- the newest first
 pub record Held : Type 0 where
@@ -26,6 +26,13 @@ named h client id = find (is_named client id) h.orders
 -- An order has had, or is to have, at most one token more than replaces of it were accepted.
 abbrev pub is_counted : List GivenToken → OrderRecord → Bool
 is_counted tokens o = nat_le (length o.tokens + length (option_to_list o.replace)) (1 + count_by (is_replacement_of o.new.order) tokens)
+
+abbrev pub one_if : Bool → ℕ
+one_if b = if b then 1 else 0
+
+-- What stands at a client's number is how many orders of the client aren't closed.
+abbrev pub AreOpenCounts : List ℕ → List OrderRecord → Type 0
+AreOpenCounts counts orders = (client : ℕ) → slice_index counts client ≡ open_count orders client
 
 -- what a place is to the newest that passes
 pub record IsNewest {A : Type 0} (test : A → Bool) (xs : List A) (place : ℕ) : Type 0 where

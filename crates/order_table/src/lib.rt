@@ -3,6 +3,7 @@
 //! It knows nothing of messages from the market and of reports. Contracts see it as `order_histories`' table.
 #![tactic(auto)]
 
+mod open_counts;
 mod places;
 mod table;
 

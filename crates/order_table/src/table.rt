@@ -1,10 +1,13 @@
 //! The list of orders, and the list of tokens that were given.
 
-ghost use Rattle.std.specs.Prelude.{◌≡◌, ◌<◌, ◌++◌, ◌∷◌, [], true, decimal, vec_len, vec_capacity};
+ghost use Rattle.std.specs.Prelude.{◌≡◌, ◌<◌, ◌++◌, ◌∷◌, ◌&&◌, [], true, not, decimal, vec_len, vec_capacity, IfOk, OnErr};
 ghost use Rattle.std.specs.List.{count_by, list_all};
+ghost use Rattle.order_law.specs.Life.{is_closed};
 ghost use Rattle.order_histories.specs.Table as table;
-ghost use Rattle.order_table.specs.Held.{is_counted};
+ghost use Rattle.orders.specs.Changes.{Fits, changed_by};
+ghost use Rattle.order_table.specs.Held.{AreOpenCounts, is_counted};
 
+use crate::open_counts::OpenCounts;
 use crate::places::{named_place, place_of, token_place};
 use order_law::Stage;
 use orders::{Cancelling, Change, Order, Replacing};
@@ -38,7 +41,10 @@ impl Model for GivenToken {
 pub struct Table {
     orders: Vec<Order>,
     tokens: Vec<GivenToken>,
+    /// How many orders of each client aren't closed.
+    open_counts: OpenCounts,
     ghost counted: { list_all (is_counted tokens.items) orders.items ≡ true },
+    ghost open_counted: { AreOpenCounts open_counts orders.items },
 }
 
 impl Model for Table {
@@ -70,6 +76,7 @@ impl Table {
         Table {
             orders: Vec::new(alloc),
             tokens: Vec::new(alloc),
+            open_counts: OpenCounts::new(alloc),
         }
     }
 
@@ -80,9 +87,13 @@ impl Table {
         ensures added { IfOk result (λ nothing. self.new ≡ record { orders = order ∷ self.old.orders; tokens = given ∷ self.old.tokens }) }
         ensures err { OnErr result (self.new ≡ self.old) }
     {
+        let client = client_of(&order);
+        let is_open = is_open(&order);
+        self.open_counts.make_room(client)?;
         self.tokens.reserve(1)?;
         self.orders.push(order)?;
         push_token(&mut self.tokens, given);
+        self.open_counts.count_in(client, is_open);
         Ok(())
     }
 
@@ -93,11 +104,11 @@ impl Table {
         self.tokens.len()
     }
 
-    /// How many orders of a client aren't closed.
+    /// How many orders of a client aren't closed. No order is looked at.
     pub fn open_count(&self, client: u16) -> usize
         ensures { result ≡ open_count self.now.orders client }
     {
-        count_open(&self.orders, client)
+        self.open_counts.of(client)
     }
 
     /// The order that a token of a port leads to.
@@ -148,7 +159,9 @@ impl Table {
         ensures err { OnErr result (self.new ≡ self.old) }
     {
         if let Some(place) = place_of(&self.orders, order_id) {
-            self.orders[place].apply(change)?;
+            let client = client_of(&self.orders[place]);
+            let has_closed = apply_to(&mut self.orders[place], change)?;
+            self.open_counts.count_off(client, has_closed);
         }
         Ok(())
     }
@@ -208,21 +221,30 @@ fn push_token(tokens: &mut Vec<GivenToken>, given: GivenToken)
     let _ = tokens.push(given);
 }
 
-/// Whether an order is the client's and not closed.
-fn is_open_of(client: u16, order: &Order) -> bool
-    ensures { result ≡ table.is_open_of client order.now }
+/// The number of an order's client.
+fn client_of(order: &Order) -> u16
+    ensures { result ≡ order.now.new.client }
 {
-    order.client == client && order.progress.stage != Stage::Closed
+    order.client
 }
 
-/// How many orders of a client aren't closed, of these.
-fn count_open(orders: &[Order], client: u16) -> usize
-    ensures { result ≡ table.open_count orders.now client }
+/// Whether an order isn't closed.
+fn is_open(order: &Order) -> bool
+    ensures { result ≡ not (is_closed order.now.stage) }
 {
-    orders
-        .iter()
-        .filter(|order| is_open_of(client, order))
-        .count()
+    order.progress.stage != Stage::Closed
+}
+
+/// Changes an order, and says whether that closed it.
+fn apply_to(order: &mut Order, change: Change) -> Result<bool, AllocError>
+    requires { Fits change order.old }
+    ensures changed { IfOk result (λ has_closed. order.new ≡ changed_by change order.old) }
+    ensures closes { IfOk result (λ has_closed. has_closed ≡ (not (is_closed order.old.stage) && is_closed order.new.stage)) }
+    ensures err { OnErr result (order.new ≡ order.old) }
+{
+    let was_open = is_open(order);
+    order.apply(change)?;
+    Ok(was_open && !is_open(order))
 }
 
 /// How many tokens replaces of an order were given, of these.

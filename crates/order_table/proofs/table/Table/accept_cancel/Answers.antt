@@ -1,12 +1,13 @@
 use Rattle.std.proofs.Common.{rules, ◌≡◌, List, None, decimal, refl, reverse, ap, ◌∙◌, arith, slice_get, slice_set}
 use Rattle.std.specs.Prelude.{Some}
-use Rattle.std.specs.List.{find, list_all}
+use Rattle.std.specs.List.{find}
 use Rattle.order_histories.specs.OrderRecord.{OrderRecord, at}
 use Rattle.order_histories.specs.Table.{has_number}
-use Rattle.order_table.specs.Held.{Held, IsNewest, changed, is_counted, with_number}
+use Rattle.order_table.specs.Held.{Held, IsNewest, changed, with_number}
 use Rattle.orders.specs.Seen.{cancel_seen}
 use Rattle.order_table.proofs.Newest.{at-place, change-newest, newest-there}
 use Rattle.order_table.proofs.Counted.{kept, own-number}
+use Rattle.order_table.proofs.StillOpen.{as-open}
 use Rattle.order_table.proofs.table.Table.accept_cancel.Goals as goal
 
 pub invariant_of-self-inside : goal.invariant_of-self-inside
@@ -18,7 +19,7 @@ invariant_of-self-inside c =
     let now : c.accept_cancel.new.self ≡ at was was.replace (Some (cancel_seen was.new.client c.args.order_id c.args.cancelling)) =
     c.accept_cancel.ensures c.args.order_id (own-number (decimal c.args.order_id) os c.in-Some.place was newest here) in (
       kept c.self.inside.tokens.items os c.in-Some.place was c.accept_cancel.new.self c.self.inside.counted here (ap (λ (x : OrderRecord). x.new) now) (rw now (omega arith)),
-      tt,
+      (as-open c.self.inside.open_counts os c.in-Some.place was c.accept_cancel.new.self c.self.inside.open_counted here (ap (λ (x : OrderRecord). x.new) now) (ap (λ (x : OrderRecord). x.stage) now), tt),
     )
 
 pub returns-in-Some-clause-accepted : goal.returns-in-Some-clause-accepted

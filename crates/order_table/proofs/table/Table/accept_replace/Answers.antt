@@ -1,15 +1,16 @@
-use Rattle.std.proofs.Common.{rules, ◌≡◌, ℕ, ◌<◌, ◌≤◌, ◌+◌, List, [], ◌∷◌, ◌++◌, length, sym, None, decimal, refl, reverse, ap, ◌∙◌, arith, slice_get, slice_set}
+use Rattle.std.proofs.Common.{rules, ◌≡◌, ℕ, List, [], ◌∷◌, ◌++◌, sym, None, decimal, refl, reverse, ap, ◌∙◌, arith, slice_get, slice_set}
 use Rattle.std.specs.Prelude.{Some}
 use Rattle.std.specs.List.{find, list_all}
 use Rattle.order_histories.specs.OrderRecord.{OrderRecord, at}
 use Rattle.order_histories.specs.Table.{GivenToken, has_number, is_replacement_of, put}
 use Rattle.std.proofs.lemmas.List.{reverse-append}
 use Rattle.std.specs.List.{count_by}
-use Rattle.order_table.specs.Held.{Held, IsNewest, changed, is_counted, with_number}
+use Rattle.order_table.specs.Held.{Held, IsNewest, is_counted, with_number}
 use Rattle.orders.specs.Seen.{replace_seen}
 use Rattle.order_table.proofs.Newest.{at-place, change-newest, newest-there}
 use Rattle.order_table.proofs.Counted.{all-at, counted-few, own-number, own-token, replacing}
 use Rattle.order_table.proofs.Newest.{count-reverse}
+use Rattle.order_table.proofs.StillOpen.{as-open}
 use Rattle.order_table.proofs.table.Table.accept_replace.Goals as goal
 
 pub accept_replace-requires : goal.accept_replace-requires
@@ -37,7 +38,7 @@ invariant_of-self-inside-in-Some c =
       ap (λ (ts : List GivenToken). list_all (is_counted ts) (slice_set os c.in-Some.place c.accept_replace.new.self)) (c.push_token.ensures ∙ ap (λ (ts : List GivenToken). ts ++ c.args.given ∷ []) c.in_ok-reserve.ensures.items)
           ∙ replacing c.self.inside.tokens.items c.args.given os c.in-Some.place was c.accept_replace.new.self c.self.inside.counted here (ap (λ (x : OrderRecord). x.new) now)
           (own-token (decimal c.args.order_id) c.args.given was (own-number (decimal c.args.order_id) os c.in-Some.place was newest here) c.requires.of_order c.requires.is_replacement) (rw now (omega arith)),
-      tt,
+      (as-open c.self.inside.open_counts os c.in-Some.place was c.accept_replace.new.self c.self.inside.open_counted here (ap (λ (x : OrderRecord). x.new) now) (ap (λ (x : OrderRecord). x.stage) now), tt),
     )
 
 pub returns-in-Some-clause-accepted : goal.returns-in-Some-clause-accepted
