@@ -312,7 +312,7 @@ impl Links {
 fn one(alloc: Global, event: Event) -> Result<Vec<Event>, AllocError>
     ensures { IfOk result (λ events. IsOne (event_seen event) events.items) }
 {
-    vec![in alloc; event]
+    Ok(vec![in alloc; event]?)
 }
 
 /// An event for each frame on a client's link. `NotUnderstood` where one is too long: a reader of frames gives none.

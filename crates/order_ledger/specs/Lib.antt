@@ -1,3 +1,4 @@
+pub mod Fingerprint
 pub mod State
 pub mod Seen
 pub mod Meets

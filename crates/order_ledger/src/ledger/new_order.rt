@@ -116,7 +116,7 @@ impl OrderLedger {
         let report = refusal(alloc, order_id, exec_id, order, row.code(), why)?;
         let bodies = one_body(alloc, AppBody::Report(report))?;
         let cl_ord_id = ClOrdId::copied(alloc, order.cl_ord_id.as_slice())?;
-        self.used.push(UsedId { client, cl_ord_id })?;
+        self.used.push(UsedId::new(client, cl_ord_id))?;
         self.order_ids = order_id;
         self.exec_ids = exec_id;
         Ok(ClientTurn {
@@ -153,7 +153,7 @@ impl OrderLedger {
             order_id: self.order_ids + 1,
             is_replacement: false,
         };
-        self.keep(entered, given, UsedId { client, cl_ord_id })?;
+        self.keep(entered, given, UsedId::new(client, cl_ord_id))?;
         Ok(turn)
     }
 

@@ -118,7 +118,7 @@ impl OrderLedger {
     {
         let bodies = one_body(alloc, body)?;
         let cl_ord_id = ClOrdId::copied(alloc, id.as_slice())?;
-        self.used.push(UsedId { client, cl_ord_id })?;
+        self.used.push(UsedId::new(client, cl_ord_id))?;
         Ok(ClientTurn {
             bodies,
             order_id: 0,
@@ -149,7 +149,7 @@ impl OrderLedger {
         let bodies = one_body(alloc, body)?;
         let cl_ord_id = ClOrdId::copied(alloc, request.cl_ord_id.as_slice())?;
         let client = sender.client;
-        self.used.push(UsedId { client, cl_ord_id })?;
+        self.used.push(UsedId::new(client, cl_ord_id))?;
         self.table.accept_cancel(order_id, cancelling);
         self.exec_ids += 1;
         Ok(ClientTurn {
@@ -185,7 +185,7 @@ impl OrderLedger {
         let client = sender.client;
         self.used.reserve(1)?;
         self.table.accept_replace(order_id, replacing, given)?;
-        push_used(&mut self.used, UsedId { client, cl_ord_id });
+        push_used(&mut self.used, UsedId::new(client, cl_ord_id));
         self.exec_ids += 1;
         Ok(ClientTurn {
             bodies,

@@ -4,15 +4,17 @@ use Rattle.order_law.specs.Messages.{Message}
 use Rattle.order_law.specs.Told as law
 use Rattle.order_histories.specs.Machine.{entry_of_new}
 use Rattle.order_histories.specs.OrderRecord.{OrderRecord, shown_as}
-use Rattle.order_histories.specs.Table.{State}
+use Rattle.order_histories.specs.Table.{State, UsedId}
 use Rattle.to_client.specs.Pending.{body_fields}
-use Rattle.order_ledger.proofs.Entered.{accepted-state, of-new, told-new}
+use Rattle.order_ledger.specs.State.{with_order}
+use Rattle.order_ledger.proofs.Entered.{accepted-state, given_to, of-new, told-new}
 use Rattle.order_ledger.proofs.ledger.OrderLedger.accept.Goals as goal
 
 pub returns-clause-meets : goal.returns-clause-meets
 returns-clause-meets c = record {
   state =
       c.in_ok-keep.ensures.kept
+      ∙ ap (λ (id : UsedId). with_order c.args.self.now c.in_ok-entered.entered (given_to c.args.port c.args.enter.token (c.self.inside.order_ids + 1)) id) c.new.ensures
       ∙ accepted-state c.args.self.now c.args.client c.args.order.now c.in_ok-entered.entered c.args.port c.args.enter.token (c.self.inside.order_ids + 1) c.in_ok-cl_ord_id.cl_ord_id
       c.in_ok-entered.ensures c.requires.port c.requires.enter.token (ap (λ (s : State). s.order_ids + 1) c.self.view_is) (c.in_ok-cl_ord_id.ensures ∙ c.as_slice.ensures.bytes);
   for_client = refl;
