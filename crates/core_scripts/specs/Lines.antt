@@ -1,5 +1,5 @@
 -- What a line of a script comes to: its events, for a core and links that are so, and the links then.
-use Rattle.std.specs.Prelude.{◌≡◌, ℕ, List, [], ◌++◌, Ok, ⊤}
+use Rattle.std.specs.Prelude.{◌≡◌, ℕ, List, [], ◌∷◌, ◌++◌, map, Ok, ⊤}
 use Rattle.ouch_codec.specs.Decoding.{Decodes}
 use Rattle.soup_packets.specs.declared.packet.Packet.{Packet}
 use Rattle.script_lines.specs.Names.{client_number, port_number}
@@ -11,6 +11,11 @@ use Rattle.core_batches.specs.declared.event.Event.{Event}
 use Rattle.gate_core.specs.Core.{CoreState}
 use Rattle.core_scripts.specs.declared.events.Links.{Links}
 use Rattle.core_scripts.specs.Events.{IsOne, IsMessage, HasFrames, HasPackets, ClientGoes, PortGoes, IsNextClient, IsNextPort, client_link, port_link}
+
+-- moment 0, and no link yet
+abbrev pub NoLinks : Links → Type 0
+NoLinks links =
+    (links.at ≡ 0) × (map (λ link. link.number) links.clients ≡ 0 ∷ 0 ∷ 0 ∷ []) × (map (λ link. link.number) links.ports ≡ 0 ∷ 0 ∷ [])
 
 -- a packet on a port's last link
 abbrev pub IsPacket : Port → Packet → Links → List Event → Type 0

@@ -1,5 +1,5 @@
 -- The status that a run ends with.
-use Rattle.std.specs.Prelude.{ℕ}
+use Rattle.std.specs.Prelude.{◌≡◌, ℕ, ⊤}
 use Rattle.script_lines.specs.declared.line.LineFault.{LineFault}
 use Rattle.script_lines.specs.declared.line.LineFault.TheVariants as line_fault
 use Rattle.core_scripts.specs.declared.stop.Stop.{Stop}
@@ -15,3 +15,13 @@ status_of Stream = 1
 abbrev pub stop_at : ℕ → LineFault → Stop
 stop_at number line_fault.NoMemory = NoMemory
 stop_at number line_fault.NotUnderstood = NotUnderstood number
+
+-- it stops at this line, for whichever of the two
+abbrev pub IsStopAt : ℕ → Stop → Type 0
+IsStopAt number stop = (fault : LineFault) × (stop ≡ stop_at number fault)
+
+-- memory ran out or the stream failed: no line stopped it
+abbrev pub IsOfStream : Stop → Type 0
+IsOfStream (NotUnderstood number) = ⊥
+IsOfStream NoMemory = ⊤
+IsOfStream Stream = ⊤

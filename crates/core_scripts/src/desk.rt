@@ -1,10 +1,11 @@
 //! The core with the script's settings, and the links of its clients and ports.
 
 ghost use Rattle.std.specs.Prelude.{◌≡◌, ◌++◌, ◌∷◌, [], IfOk, OnOk, IsErrOf};
-ghost use Rattle.gate_core.specs.Core.{IsAfter};
-ghost use Rattle.gate_journal.specs.Kept.{nothing_kept, turns};
-ghost use Rattle.core_scripts.specs.Settings.{fixed};
+ghost use Rattle.std.specs.List.{FoldsTo};
+ghost use Rattle.gate_journal.specs.Kept.{nothing_kept};
 ghost use Rattle.core_scripts.specs.Lines.{MayStop};
+ghost use Rattle.core_scripts.specs.Scripts.{IsCold, IsStep, IsWarm, StepsText, logs_in, logs_on};
+ghost use Rattle.core_scripts.specs.Scripts as spec;
 ghost use Rattle.core_scripts.specs.Steps.{GoesOn, KeepsLine};
 
 use crate::events::Links;
@@ -26,7 +27,7 @@ pub struct Desk {
 impl Desk {
     /// A desk of which no line was stepped. No link is up.
     pub fn cold(alloc: Global) -> Result<Desk, AllocError>
-        ensures { IfOk result (λ desk. IsAfter fixed [] desk.core) }
+        ensures { IfOk result IsCold }
     {
         let settings = fixed_settings(alloc)?;
         Ok(Desk {
@@ -37,10 +38,11 @@ impl Desk {
 
     /// Steps the line of this text, and keeps its events with the batches that they give.
     pub fn take(&mut self, alloc: Global, text: &[u8], kept: &mut History) -> Result<(), LineFault>
-        ensures { OnOk result (GoesOn self.old.core kept.old self.new.core kept.new) }
+        ensures { OnOk result (StepsText self.old kept.old text.now self.new kept.new) }
     {
         let line = line_of(alloc, text)?;
-        self.step(alloc, line, kept)
+        self.step(alloc, line, kept)?;
+        Ok(())
     }
 
     /// Steps a line, and keeps its events with the batches that they give. `NotUnderstood` where `Links::events_of` answers it.
@@ -87,7 +89,7 @@ fn step_event(
 
 /// A desk whose clients are logged on, and whose ports are logged in, on their first links at moment 0. What was stepped for it is kept.
 pub fn warm_desk(alloc: Global, kept: &mut History) -> Result<Desk, LineFault>
-    ensures { IfOk result (λ desk. kept.old ≡ nothing_kept → IsAfter fixed (turns kept.new) desk.core) }
+    ensures { IfOk result (λ desk. kept.old ≡ nothing_kept → IsWarm (record { desk = desk; kept = kept.new })) }
 {
     let mut desk = Desk::cold(alloc)?;
     log_on(alloc, &mut desk, Client::First, kept)?;
@@ -107,20 +109,30 @@ fn log_on(
     client: Client,
     kept: &mut History,
 ) -> Result<(), LineFault>
-    ensures { OnOk result (GoesOn desk.old.core kept.old desk.new.core kept.new) }
+    ensures { OnOk result (FoldsTo IsStep (record { desk = desk.old; kept = kept.old }) (logs_on client) (record { desk = desk.new; kept = kept.new })) }
 {
     desk.step(alloc, Line::ClientUp(client), kept)?;
-    let mut logon = Fields::new(alloc);
-    logon.push(35, b"A")?;
-    logon.push(98, b"0")?;
-    logon.push(108, b"30")?;
+    let logon = logon(alloc)?;
     desk.step(alloc, Line::ClientMessage(client, logon), kept)?;
     Ok(())
 }
 
+/// A Logon (A): no encryption, a heartbeat every 30 seconds.
+///
+/// Source: FIX 4.4 Volume 2, "Logon".
+fn logon(alloc: Global) -> Result<Fields, AllocError>
+    ensures { IfOk result (λ fields. fields ≡ spec.logon) }
+{
+    let mut fields = Fields::new(alloc);
+    fields.push(35, b"A")?;
+    fields.push(98, b"0")?;
+    fields.push(108, b"30")?;
+    Ok(fields)
+}
+
 /// A port comes up and is logged in.
 fn log_in(alloc: Global, desk: &mut Desk, port: Port, kept: &mut History) -> Result<(), LineFault>
-    ensures { OnOk result (GoesOn desk.old.core kept.old desk.new.core kept.new) }
+    ensures { OnOk result (FoldsTo IsStep (record { desk = desk.old; kept = kept.old }) (logs_in port) (record { desk = desk.new; kept = kept.new })) }
 {
     desk.step(alloc, Line::PortUp(port), kept)?;
     desk.step(

@@ -5,7 +5,7 @@ ghost use Rattle.core_law.specs.Events as law;
 ghost use Rattle.script_lines.specs.Names.{client_number, port_number};
 ghost use Rattle.core_batches.specs.Seen.{event_seen};
 ghost use Rattle.core_scripts.specs.Events.{ClientGoes, PortGoes, IsNextClient, IsNextPort, ReadsFrames, ReadsPackets, IsOne, IsMessage, HasFrames, HasPackets, client_link, port_link};
-ghost use Rattle.core_scripts.specs.Lines.{Becomes, MayStop};
+ghost use Rattle.core_scripts.specs.Lines.{Becomes, MayStop, NoLinks};
 
 use crate::frames::client_frame;
 use crate::links::{ClientLink, PortLink};
@@ -31,7 +31,9 @@ pub struct Links {
 
 impl Links {
     /// Moment 0, and no link yet. Takes no memory.
-    pub fn new(alloc: Global) -> Links {
+    pub fn new(alloc: Global) -> Links
+        ensures { NoLinks result }
+    {
         Links {
             at: 0,
             clients: [

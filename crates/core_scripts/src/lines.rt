@@ -1,6 +1,7 @@
 //! The lines of a stream.
 
-ghost use Rattle.std.specs.Prelude.{◌≡◌, ℕ, List, [], Option, Some, option_map, false, IfOk};
+ghost use Rattle.std.specs.Prelude.{◌≡◌, ℕ, List, [], Option, Some, option_map, false, IfOk, IfErr};
+ghost use Rattle.core_scripts.specs.Status.{IsOfStream};
 ghost use Rattle.core_scripts.specs.Unread.{Gives, lines_left, lines_of};
 ghost use Rattle.core_scripts.specs.Pieces.{ReadsPiece};
 
@@ -40,7 +41,8 @@ impl Lines {
     /// `Stream` where a read fails, and where the stream isn't at its end after 1,000,000,000 reads. A read that was interrupted is made
     /// again.
     pub fn next<R: Read>(&mut self, alloc: Global, input: &mut R) -> Result<Option<Vec<u8>>, Stop>
-        ensures { IfOk result (λ given. Gives (lines_left self.old (R.remaining input.old)) (lines_left self.new (R.remaining input.new)) (option_map (λ line. line.items) given)) }
+        ensures line { IfOk result (λ given. Gives (lines_left self.old (R.remaining input.old)) (lines_left self.new (R.remaining input.new)) (option_map (λ line. line.items) given)) }
+        ensures stopped { IfErr result IsOfStream }
     {
         if self.is_over {
             return Ok(None);
@@ -52,7 +54,8 @@ impl Lines {
     /// The next line, where the last wasn't given yet.
     fn line<R: Read>(&mut self, alloc: Global, input: &mut R) -> Result<Vec<u8>, Stop>
         requires { self.old.is_over ≡ false }
-        ensures { IfOk result (λ line. Gives (lines_left self.old (R.remaining input.old)) (lines_left self.new (R.remaining input.new)) (Some line.items)) }
+        ensures line { IfOk result (λ line. Gives (lines_left self.old (R.remaining input.old)) (lines_left self.new (R.remaining input.new)) (Some line.items)) }
+        ensures stopped { IfErr result IsOfStream }
     {
         let mut line = Vec::new(alloc);
         for _ in 0..MOST_READS {
@@ -72,6 +75,7 @@ impl Lines {
         requires { self.old.piece ≡ [] }
         ensures piece { IfOk result (ReadsPiece (R.remaining input.old) (R.remaining input.new) self.new.piece) }
         ensures end { self.new.is_over ≡ self.old.is_over }
+        ensures stopped { IfErr result IsOfStream }
     {
         if self.reads_left == 0 {
             return Err(Stop::Stream);

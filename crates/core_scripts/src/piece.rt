@@ -32,8 +32,9 @@ impl Model for Piece {
 }
 
 impl Piece {
-    ghost use Rattle.std.specs.Prelude.{◌≡◌, [], IfOk};
+    ghost use Rattle.std.specs.Prelude.{◌≡◌, [], IfOk, IfErr};
     ghost use Rattle.core_scripts.specs.Pieces.{TakesLine, ReadsPiece};
+    ghost use Rattle.core_scripts.specs.Status.{IsOfStream};
 
     /// A piece of which nothing is left.
     pub fn new() -> Piece
@@ -70,7 +71,8 @@ impl Piece {
     /// `Stream` where the read fails.
     pub fn read<R: Read>(&mut self, input: &mut R) -> Result<bool, Stop>
         requires { self.old ≡ [] }
-        ensures { IfOk result (ReadsPiece (R.remaining input.old) (R.remaining input.new) self.new) }
+        ensures piece { IfOk result (ReadsPiece (R.remaining input.old) (R.remaining input.new) self.new) }
+        ensures stopped { IfErr result IsOfStream }
     {
         self.begin = 0;
         self.end = 0;

@@ -1,15 +1,16 @@
 //! A script from its reader to its writers.
 
-ghost use Rattle.std.specs.Prelude.{◌≡◌, ◌≤◌, IfOk, OnOk, map};
+ghost use Rattle.std.specs.Prelude.{◌≡◌, ◌≤◌, ◌⊎◌, ℕ, IfOk, IfErr, IfSome, OnOk, Err, map};
 ghost use Rattle.std.specs.List.{flat_map};
+ghost use Rattle.std.specs.Io.KnownBytes.{Keeps};
 ghost use Rattle.batch_lines.specs.Lines.{shown_batch};
 ghost use Rattle.core_batches.specs.Seen.{batch_seen};
 ghost use Rattle.core_law.specs.Holds.{Holds};
-ghost use Rattle.gate_core.specs.Core.{IsAfter};
 ghost use Rattle.gate_journal.specs.Kept.{nothing_kept, turns};
+ghost use Rattle.core_scripts.specs.Scripts.{Begins, ComesTo, IsWarm, Prints, PrintsAll, PrintsLine, StepsText, Stops, StopsAmong, WritesNothing};
 ghost use Rattle.core_scripts.specs.Settings.{fixed};
-ghost use Rattle.core_scripts.specs.Status.{status_of};
-ghost use Rattle.core_scripts.specs.Steps.{GoesOn};
+ghost use Rattle.core_scripts.specs.Status.{IsStopAt, status_of};
+ghost use Rattle.core_scripts.specs.Unread.{lines_of};
 
 use crate::desk::{Desk, warm_desk};
 use crate::lines::Lines;
@@ -38,7 +39,9 @@ pub fn run_script<R: Read, W: Write, F: Write>(
     output: &mut W,
     faults: &mut F,
 ) -> u8
-    ensures { result ≤ 2 }
+    ensures status { result ≤ 2 }
+    ensures printed { result ≡ 0 → IfSome (R.remaining input.old) (λ text. PrintsAll flags text (W.contents output.old) (W.contents output.new)) }
+    ensures stopped { result ≡ 2 → IfSome (R.remaining input.old) (λ text. (number : ℕ) × Stops flags text (Stop.NotUnderstood number) (W.contents output.old) (W.contents output.new)) }
 {
     let ended = run(alloc, flags, input, output);
     match flushed(output, ended) {
@@ -56,33 +59,80 @@ pub fn tell<F: Write>(stop: Stop, faults: &mut F) -> u8
 }
 
 /// How a run ended, once its output is flushed.
-fn flushed<W: Write>(output: &mut W, ended: Result<(), Stop>) -> Result<(), Stop> {
+fn flushed<W: Write>(output: &mut W, ended: Result<(), Stop>) -> Result<(), Stop>
+    ensures kept { Keeps (W.contents output.old) (W.contents output.new) }
+    ensures ended { (result ≡ ended) ⊎ (result ≡ Err Stop.Stream) }
+{
     output.flush()?;
     ended
 }
 
-/// Steps the lines that `input` gives, to its end, and prints what each comes to.
+/// Steps a script, and prints what each line comes to.
 fn run<R: Read, W: Write>(
     alloc: Global,
     flags: Flags,
     input: &mut R,
     output: &mut W,
-) -> Result<(), Stop> {
-    let mut desk = if flags.cold {
-        Desk::cold(alloc)?
-    } else {
-        started(alloc, &mut History::new(alloc))?
-    };
+) -> Result<(), Stop>
+    ensures printed { OnOk result (IfSome (R.remaining input.old) (λ text. PrintsAll flags text (W.contents output.old) (W.contents output.new))) }
+    ensures stopped { IfErr result (λ stop. IfSome (R.remaining input.old) (λ text. Stops flags text stop (W.contents output.old) (W.contents output.new))) }
+{
+    let mut desk = begun(alloc, flags)?;
+    run_lines(alloc, flags, &mut desk, input, output)?;
+    Ok(())
+}
+
+/// The desk that a script begins with.
+fn begun(alloc: Global, flags: Flags) -> Result<Desk, Stop>
+    ensures { IfOk result (Begins flags.cold) }
+{
+    if flags.cold {
+        let cold = Desk::cold(alloc)?;
+        return Ok(cold);
+    }
+    let mut kept = History::new(alloc);
+    let warm = started(alloc, &mut kept)?;
+    Ok(warm)
+}
+
+/// Steps the lines that `input` gives, to its end, and prints what each comes to.
+fn run_lines<R: Read, W: Write>(
+    alloc: Global,
+    flags: Flags,
+    desk: &mut Desk,
+    input: &mut R,
+    output: &mut W,
+) -> Result<(), Stop>
+    ensures printed { OnOk result (IfSome (R.remaining input.old) (λ text. Prints flags desk.old (lines_of text) desk.new (W.contents output.old) (W.contents output.new))) }
+    ensures stopped { IfErr result (λ stop. IfSome (R.remaining input.old) (λ text. StopsAmong flags desk.old text stop (W.contents output.old) (W.contents output.new))) }
+{
     let mut lines = Lines::new();
     for number in 1..MOST_LINES {
         let Some(line) = lines.next(alloc, input)? else {
             return Ok(());
         };
-        let mut kept = History::new(alloc);
-        step_line(alloc, &mut desk, number, line.as_slice(), &mut kept)?;
-        output.write_all(kept_text(alloc, flags, kept.batches())?.as_slice())?;
+        print_line(alloc, flags, desk, number, line.as_slice(), output)?;
     }
     Err(Stop::Stream)
+}
+
+/// Steps the line of this number, and prints what it comes to.
+fn print_line<W: Write>(
+    alloc: Global,
+    flags: Flags,
+    desk: &mut Desk,
+    number: u64,
+    line: &[u8],
+    output: &mut W,
+) -> Result<(), Stop>
+    ensures printed { OnOk result (PrintsLine flags desk.old line.now desk.new (W.contents output.old) (W.contents output.new)) }
+    ensures stopped { IfErr result (λ stop. WritesNothing number stop (W.contents output.old) (W.contents output.new)) }
+{
+    let mut kept = History::new(alloc);
+    step_line(alloc, desk, number, line, &mut kept)?;
+    let text = kept_text(alloc, flags, kept.batches())?;
+    output.write_all(text.as_slice())?;
+    Ok(())
 }
 
 /// Steps a script, the clients logged on and the ports logged in, and gives its history: the events of the logons and of each line, in
@@ -90,7 +140,8 @@ fn run<R: Read, W: Write>(
 ///
 /// It stops where `run_script` does, and `tell` has the words and the status. All that is promised of the gateway holds of the history.
 pub fn script_history<R: Read>(alloc: Global, input: &mut R) -> Result<History, Stop>
-    ensures { IfOk result (λ kept. Holds fixed (turns kept)) }
+    ensures holds { IfOk result (λ kept. Holds fixed (turns kept)) }
+    ensures lines { IfOk result (λ kept. IfSome (R.remaining input.old) (λ text. ComesTo text kept)) }
 {
     let mut kept = History::new(alloc);
     let mut desk = started(alloc, &mut kept)?;
@@ -106,7 +157,7 @@ pub fn script_history<R: Read>(alloc: Global, input: &mut R) -> Result<History, 
 
 /// A desk whose clients are logged on and whose ports are logged in. Nothing that this takes isn't understood.
 fn started(alloc: Global, kept: &mut History) -> Result<Desk, Stop>
-    ensures { IfOk result (λ desk. kept.old ≡ nothing_kept → IsAfter fixed (turns kept.new) desk.core) }
+    ensures { IfOk result (λ desk. kept.old ≡ nothing_kept → IsWarm (record { desk = desk; kept = kept.new })) }
 {
     match warm_desk(alloc, kept) {
         Ok(desk) => Ok(desk),
@@ -122,7 +173,8 @@ fn step_line(
     line: &[u8],
     kept: &mut History,
 ) -> Result<(), Stop>
-    ensures { OnOk result (GoesOn desk.old.core kept.old desk.new.core kept.new) }
+    ensures stepped { OnOk result (StepsText desk.old kept.old line.now desk.new kept.new) }
+    ensures stopped { IfErr result (IsStopAt number) }
 {
     match desk.take(alloc, line, kept) {
         Ok(()) => Ok(()),

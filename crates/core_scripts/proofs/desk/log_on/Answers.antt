@@ -1,5 +1,14 @@
-use Rattle.core_scripts.proofs.Going.{both-on}
+use Rattle.std.proofs.Common.{List, subst, refl}
+use Rattle.fix_fields.specs.Field.{Field}
+use Rattle.event_lines.specs.declared.line.Line.TheVariants as line
+use Rattle.core_scripts.specs.Steps.{KeepsLine}
+use Rattle.core_scripts.specs.Scripts.{Standing}
 use Rattle.core_scripts.proofs.desk.log_on.Goals as goal
 
 pub returns : goal.returns
-returns c = both-on _ _ _ _ _ _ c.in_ok-step.ensures.on c.in_ok-step-2.ensures.on
+returns c =
+    let up : Standing = record { desk = c.step.new.self; kept = c.step.new.kept } in
+    let on : Standing = record { desk = c.step-2.new.self; kept = c.step-2.new.kept } in
+    let message = subst (λ (fields : List Field). KeepsLine c.step.new.self.core (line.ClientMessage c.args.client fields) c.step.new.self.links c.step-2.new.self.links c.step.new.kept c.step-2.new.kept)
+    c.in_ok-logon.ensures c.in_ok-step-2.ensures.line in
+    (up, record { on = c.in_ok-step.ensures.on; events = c.in_ok-step.ensures.line }, (on, record { on = c.in_ok-step-2.ensures.on; events = message }, refl))

@@ -25,14 +25,14 @@ loop-preserved g c =
       taken = read-more _ _ _ _ _ (emptied _ _ _ _ _ _ was.taken takes) reads;
     }
 
-pub returns-then-branch : goal.returns-then-branch
-returns-then-branch g c =
+pub returns-then-branch-clause-line : goal.returns-then-branch-clause-line
+returns-then-branch-clause-line g c =
     let was = c.loop.invariant in
     let takes = subst (λ (b : Bool). TakesLine c.loop.self.piece c.loop.line.items c.take_line.new.self c.take_line.new.line.items b) c.if-branch.true c.in_ok-take_line.ensures in
     gives-whole _ _ _ _ _ _ _ _ c.requires was.going was.taken was.none takes
 
-pub returns-then-not-branch : goal.returns-then-not-branch
-returns-then-not-branch g c =
+pub returns-then-not-branch-clause-line : goal.returns-then-not-branch-clause-line
+returns-then-not-branch-clause-line g c =
     let was = c.loop.invariant in
     let takes = subst (λ (b : Bool). TakesLine c.loop.self.piece c.loop.line.items c.take_line.new.self c.take_line.new.line.items b) c.if-branch.false c.in_ok-take_line.ensures in
     let reads = subst (λ (b : Bool). ReadsPiece (g.R.Read.remaining c.loop.input) (g.R.Read.remaining c.read.new.input) c.read.new.self.piece b) c.if-not-branch.true c.in_ok-read.ensures.piece in
