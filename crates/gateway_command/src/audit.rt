@@ -1,13 +1,13 @@
 //! The audit of a script.
 
-ghost use Rattle.std.specs.Prelude.{◌≡◌, ◌≤◌, IfOk};
+ghost use Rattle.std.specs.Prelude.{◌≡◌, ◌≤◌, IfOk, IfSome};
 ghost use Rattle.std.specs.Io.KnownBytes.{Appends};
 ghost use Rattle.core_law.specs.Holds.{Holds};
 ghost use Rattle.gate_journal.specs.Kept.{turns};
 ghost use Rattle.core_scripts.specs.Settings.{fixed};
 ghost use Rattle.gate_audit.specs.Pairs.{accepted_pairs};
 ghost use Rattle.audit_lines.specs.Lines.{shown_audit};
-ghost use Rattle.gateway_command.specs.Audits.{IsAudited};
+ghost use Rattle.gateway_command.specs.Audits.{IsAuditOf, IsAudited};
 
 use audit_lines::write_audit;
 use core_scripts::{Stop, fixed_settings, script_history, tell};
@@ -37,6 +37,7 @@ pub fn audit_script<R: Read, W: Write, F: Write>(
 ) -> u8
     ensures status { result ≤ 2 }
     ensures audited { result ≡ 0 → IsAudited (W.contents output.old) (W.contents output.new) }
+    ensures of_script { result ≡ 0 → IfSome (R.remaining input.old) (λ text. IsAuditOf text (W.contents output.old) (W.contents output.new)) }
 {
     match script_history(alloc, input) {
         Ok(history) => audit_history(alloc, &history, output, faults),
