@@ -113,9 +113,14 @@ is_reported() {
             [ "$status" -eq 1 ] && [ -s "$work/words" ] && ! grep -q WRONG "$work/shown" || return 1
             [[ "$name" = gate* ]] || return 0
             is_beginning && [ "$(cat "$work/words")" = "out of memory" ] && [ -z "$(tail -c 1 "$work/shown")" ]
+            return
             ;;
         io)
             is_beginning || return 1
+            # what failed was to tell why it ended
+            if [ "$status" -eq "$ends" ] && [ "$ends" -ne 0 ] && cmp -s "$work/shown" "$work/wanted" && [[ "$words_wanted" = "$(cat "$work/words")"* ]]; then
+                return 0
+            fi
             case $status:$(cat "$work/words") in
                 "1:read or write failed" | "2:gateway: cannot read $cases" | 1: | 2:) return 0 ;;
             esac

@@ -1,8 +1,10 @@
 //! What the script program does by its command line.
 
-ghost use Rattle.std.specs.Prelude.{◌≡◌, ◌≤◌, ◌⊎◌, map};
+ghost use Rattle.std.specs.Prelude.{◌≡◌, ◌≤◌, ◌⊎◌, [], IfSome, map};
 ghost use Rattle.clap.specs.Words.{kind_of};
-ghost use Rattle.script_command.specs.Command.{IsMistake, IsTold};
+ghost use Rattle.core_scripts.specs.Scripts.{PrintsAll};
+ghost use Rattle.script_command.specs.Command.{IsMistake, IsTold, flags_in, found};
+ghost use Rattle.script_command.specs.Command as spec;
 
 use crate::command::{refusal_status, script_flags};
 use clap::Error;
@@ -26,6 +28,8 @@ pub fn run_program<'a, S: AsStr, R: Read, W: Write, F: Write>(
 ) -> u8
     ensures status { result ≤ 2 }
     ensures mistake { IsMistake (map S.text words.now) → (result ≡ 2) ⊎ (result ≡ 1) }
+    ensures printed { spec.faults (map S.text words.now) ≡ [] → result ≡ 0 → IfSome (R.remaining input.old)
+        (λ text. PrintsAll (flags_in (found (map S.text words.now))) text (W.contents output.old) (W.contents output.new)) }
 {
     match script_flags(alloc, words) {
         Ok(flags) => run_script(alloc, flags, input, output, faults),

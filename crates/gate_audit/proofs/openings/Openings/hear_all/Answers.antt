@@ -13,4 +13,4 @@ returns-in_err-hear-clause-large c all of err has =
     let own_error : IsErrOf {T = Unit {0}} {E = ReadingFault} (Err c.in_err-hear.field-0.0) TooLarge = search (rules, c.from_residual.ensures, err) in
     c.in_err-hear.ensures.large before (c.loop-report.invariant all of) own_error
     (subst (λ (m : Message). HasTokens (said_to c.args.client m ∷ before)) (sym c.fields.ensures.fields)
-        (has-next c.args.client c.args.reports.now c.loop-report.report-index c.report-item.result all c.loop-report-test.true c.report-item.is has))
+    (has-next c.args.client c.args.reports.now c.loop-report.report-index c.report-item.result all c.loop-report-test.true c.report-item.is has))

@@ -1,0 +1,11 @@
+use Rattle.std.proofs.Common.{IfSome, subst}
+use Rattle.batch_lines.specs.declared.flags.Flags.{Flags}
+use Rattle.core_scripts.specs.Scripts.{PrintsAll}
+use Rattle.script_command.proofs.program.run_program.Goals as goal
+
+pub returns-in-Ok-clause-printed : goal.returns-in-Ok-clause-printed
+returns-in-Ok-clause-printed g c none is =
+    subst
+    (λ (f : Flags). IfSome (g.R.Read.remaining c.args.input.now) (λ text. PrintsAll f text (g.W.Write.contents c.args.output.now) (g.W.Write.contents c.run_script.new.output)))
+    c.in-Ok.ensures.flags
+    (c.run_script.ensures.printed is)
