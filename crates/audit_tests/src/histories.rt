@@ -4,7 +4,7 @@ use crate::served::settings;
 use audit_lines::audit_text;
 use fix_fields::{Fields, split};
 use gate_audit::audit;
-use gate_core::{Batch, Event, LineNumber};
+use gate_core::{Batch, Event, IssuedReport, LineNumber};
 use gate_journal::History;
 use soup_packets::{Packet, Payload};
 use std::alloc::Global;
@@ -88,11 +88,19 @@ fn packet(alloc: Global, kind: u8, payload: &[u8]) -> Result<Event, Fail> {
 fn told(alloc: Global, client: LineNumber, reports: &[&[u8]]) -> Result<Batch, Fail> {
     let mut told = Vec::new(alloc);
     for report in reports {
-        told.push(fields(alloc, report)?)?;
+        told.push(issued(alloc, report)?)?;
     }
     let (outs, port_outs) = (Vec::new(alloc), Vec::new(alloc));
     let port = LineNumber::at_place(0);
     Ok(Batch::of_parts(client, told, outs, port, port_outs, None))
+}
+
+/// A report of these fields.
+fn issued(alloc: Global, report: &[u8]) -> Result<IssuedReport, Fail> {
+    match IssuedReport::of(fields(alloc, report)?) {
+        Some(report) => Ok(report),
+        None => Err(Fail::new("a report is too long")),
+    }
 }
 
 /// The fields of a report.
