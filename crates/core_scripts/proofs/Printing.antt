@@ -4,13 +4,15 @@ use Rattle.std.specs.Io.KnownBytes.{Keeps}
 use Rattle.std.proofs.KnownBytes.{Appends-nil, Appends-trans, Appends-kept, Keeps-refl, Keeps-trans}
 use Rattle.std.proofs.lemmas.Fn.{FoldsTo-push}
 use Rattle.batch_lines.specs.declared.flags.Flags.{Flags}
+use Rattle.stream_lines.specs.declared.stream_fault.StreamFault.{StreamFault}
+use Rattle.stream_lines.specs.declared.stream_fault.StreamFault.TheVariants as stream_fault
+use Rattle.stream_lines.specs.Unread.{Gives, lines_of}
+use Rattle.stream_lines.proofs.Given.{Leaves, all-given, first-given}
 use Rattle.core_scripts.specs.declared.desk.Desk.{Desk}
 use Rattle.core_scripts.specs.declared.stop.Stop.{Stop}
 use Rattle.core_scripts.specs.declared.stop.Stop.TheVariants.{NotUnderstood, NoMemory, Stream}
 use Rattle.core_scripts.specs.Scripts.{Begins, IsPrintedStep, Prints, PrintsAll, PrintsLine, Stops, StopsAmong, WritesNothing, shown}
-use Rattle.core_scripts.specs.Status.{IsOfStream, status_of}
-use Rattle.core_scripts.specs.Unread.{Gives, lines_of}
-use Rattle.core_scripts.proofs.Given.{Leaves, all-given, first-given}
+use Rattle.core_scripts.specs.Status.{status_of, stop_of_stream}
 
 pub none-printed : (flags : Flags) (start : Desk) (held : Option (List ℕ)) → Prints flags start [] start held held
 none-printed flags start held = ([], refl, Appends-nil held)
@@ -45,10 +47,9 @@ stopped-among (Some text) flags start now given left before held after number No
     (length given, (given, first.0, now, first.1, refl, (printed, steps, Appends-kept before held after printed wrote kept)))
 stopped-among (Some text) flags start now given left before held after number Stream leaves prints count nothing = tt
 
-pub no-line-stopped : (number : ℕ) (stop : Stop) (held : Option (List ℕ)) → IsOfStream stop → WritesNothing number stop held held
-no-line-stopped number (NotUnderstood told) held is = absurd is
-no-line-stopped number NoMemory held is = Keeps-refl held
-no-line-stopped number Stream held is = tt
+pub no-line-stopped : (number : ℕ) (fault : StreamFault) (held : Option (List ℕ)) → WritesNothing number (stop_of_stream fault) held held
+no-line-stopped number stream_fault.NoMemory held = Keeps-refl held
+no-line-stopped number stream_fault.Stream held = tt
 
 -- an error that is passed on
 pub passed-on : {T : Type 0} (r : Result T Stop) (e : Stop) (P : Stop → Type 0) → IsErrAnd r (λ stop. stop ≡ e) → P e → IfErr r P

@@ -4,12 +4,12 @@ use Rattle.std.specs.List.{FoldsTo}
 use Rattle.gate_journal.specs.Kept.{Kept, nothing_kept, turns}
 use Rattle.gate_core.specs.Core.{IsAfter}
 use Rattle.event_lines.specs.declared.line.Line.{Line}
+use Rattle.stream_lines.specs.Unread.{Gives}
+use Rattle.stream_lines.proofs.Given.{Leaves, all-given}
 use Rattle.core_scripts.specs.declared.desk.Desk.{Desk}
 use Rattle.core_scripts.specs.Scripts.{ComesTo, IsStep, IsTextStep, IsWarm, Standing, opening}
 use Rattle.core_scripts.specs.Settings.{fixed}
 use Rattle.core_scripts.specs.Steps.{GoesOn}
-use Rattle.core_scripts.specs.Unread.{Gives}
-use Rattle.core_scripts.proofs.Given.{Leaves, all-given}
 use Rattle.core_scripts.proofs.Going.{same-on, both-on, from-nothing}
 
 pub folds-append : {P A : Type 0} (R : P → A → P → Type 0) (p : P) (xs : List A) (q : P) (ys : List A) (r : P) → FoldsTo R p xs q → FoldsTo R q ys r → FoldsTo R p (xs ++ ys) r

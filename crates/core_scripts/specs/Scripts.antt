@@ -15,13 +15,13 @@ use Rattle.batch_lines.specs.Lines.{shown_batch}
 use Rattle.core_batches.specs.Seen.{batch_seen}
 use Rattle.gate_core.specs.Core.{IsAfter}
 use Rattle.gate_journal.specs.Kept.{Kept, nothing_kept}
+use Rattle.stream_lines.specs.Unread.{lines_of}
 use Rattle.core_scripts.specs.declared.desk.Desk.{Desk}
 use Rattle.core_scripts.specs.declared.stop.Stop.{Stop}
 use Rattle.core_scripts.specs.declared.stop.Stop.TheVariants.{NotUnderstood, NoMemory, Stream}
 use Rattle.core_scripts.specs.Lines.{NoLinks}
 use Rattle.core_scripts.specs.Settings.{fixed}
 use Rattle.core_scripts.specs.Steps.{GoesOn, KeepsLine}
-use Rattle.core_scripts.specs.Unread.{lines_of}
 
 -- ---- lines
 

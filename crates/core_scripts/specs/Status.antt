@@ -1,7 +1,9 @@
 -- The status that a run ends with.
-use Rattle.std.specs.Prelude.{◌≡◌, ℕ, ⊤}
+use Rattle.std.specs.Prelude.{◌≡◌, ℕ}
 use Rattle.script_lines.specs.declared.line.LineFault.{LineFault}
 use Rattle.script_lines.specs.declared.line.LineFault.TheVariants as line_fault
+use Rattle.stream_lines.specs.declared.stream_fault.StreamFault.{StreamFault}
+use Rattle.stream_lines.specs.declared.stream_fault.StreamFault.TheVariants as stream_fault
 use Rattle.core_scripts.specs.declared.stop.Stop.{Stop}
 use Rattle.core_scripts.specs.declared.stop.Stop.TheVariants.{NotUnderstood, NoMemory, Stream}
 
@@ -16,12 +18,11 @@ abbrev pub stop_at : ℕ → LineFault → Stop
 stop_at number line_fault.NoMemory = NoMemory
 stop_at number line_fault.NotUnderstood = NotUnderstood number
 
+-- why a run stops where a stream gives no line
+abbrev pub stop_of_stream : StreamFault → Stop
+stop_of_stream stream_fault.NoMemory = NoMemory
+stop_of_stream stream_fault.Stream = Stream
+
 -- it stops at this line, for whichever of the two
 abbrev pub IsStopAt : ℕ → Stop → Type 0
 IsStopAt number stop = (fault : LineFault) × (stop ≡ stop_at number fault)
-
--- memory ran out or the stream failed: no line stopped it
-abbrev pub IsOfStream : Stop → Type 0
-IsOfStream (NotUnderstood number) = ⊥
-IsOfStream NoMemory = ⊤
-IsOfStream Stream = ⊤

@@ -11,10 +11,8 @@
 mod desk;
 mod events;
 mod frames;
-mod lines;
 mod links;
 mod packets;
-mod piece;
 mod script;
 mod settings;
 mod stop;

@@ -7,19 +7,19 @@ ghost use Rattle.batch_lines.specs.Lines.{shown_batch};
 ghost use Rattle.core_batches.specs.Seen.{batch_seen};
 ghost use Rattle.core_law.specs.Holds.{Holds};
 ghost use Rattle.gate_journal.specs.Kept.{nothing_kept, turns};
+ghost use Rattle.stream_lines.specs.Unread.{lines_of};
 ghost use Rattle.core_scripts.specs.Scripts.{Begins, ComesTo, IsWarm, Prints, PrintsAll, PrintsLine, StepsText, Stops, StopsAmong, WritesNothing};
 ghost use Rattle.core_scripts.specs.Settings.{fixed};
 ghost use Rattle.core_scripts.specs.Status.{IsStopAt, status_of};
-ghost use Rattle.core_scripts.specs.Unread.{lines_of};
 
 use crate::desk::{Desk, warm_desk};
-use crate::lines::Lines;
 use crate::stop::Stop;
 use batch_lines::{Flags, batch_text};
 use gate_core::Batch;
 use gate_journal::History;
 use std::alloc::{AllocError, Global};
 use std::io::{Read, Write};
+use stream_lines::Lines;
 
 /// The most lines that are counted; no stream has so many within the reads that are made.
 const MOST_LINES: u64 = u64::MAX;

@@ -2,11 +2,12 @@
 
 ghost use Rattle.std.specs.Prelude.{◌≡◌};
 ghost use Rattle.core_scripts.specs.declared.stop.Stop.TheVariants.{NoMemory, Stream};
-ghost use Rattle.core_scripts.specs.Status.{status_of, stop_at};
+ghost use Rattle.core_scripts.specs.Status.{status_of, stop_at, stop_of_stream};
 
 use script_lines::LineFault;
 use std::alloc::{AllocError, AllocFailed};
 use std::io;
+use stream_lines::StreamFault;
 use thiserror::Error;
 
 /// Why a run stops before its script's end. It prints as the line that tells so.
@@ -67,5 +68,16 @@ impl From<io::Error> for Stop {
 
     fn from(_error: io::Error) -> Stop {
         Stop::Stream
+    }
+}
+
+impl From<StreamFault> for Stop {
+    ghost from_gives = { λ fault stop. stop ≡ stop_of_stream fault };
+
+    fn from(fault: StreamFault) -> Stop {
+        match fault {
+            StreamFault::NoMemory => Stop::NoMemory,
+            StreamFault::Stream => Stop::Stream,
+        }
     }
 }

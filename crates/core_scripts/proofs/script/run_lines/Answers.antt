@@ -1,6 +1,7 @@
 use Rattle.std.proofs.Common.{ℕ, List, [], ◌∷◌, ◌++◌, subst, arith, length-append}
+use Rattle.stream_lines.proofs.Given.{none-given, one-given}
 use Rattle.core_scripts.specs.Scripts.{PrintsLine}
-use Rattle.core_scripts.proofs.Given.{none-given, one-given}
+use Rattle.core_scripts.specs.Status.{stop_of_stream}
 use Rattle.core_scripts.proofs.Printing.{none-printed, one-printed, all-printed, stopped-among, no-line-stopped, passed-on}
 use Rattle.core_scripts.proofs.script.run_lines.Goals as goal
 
@@ -14,23 +15,24 @@ loop-number-preserved g c =
     let prints = subst (λ (text : List ℕ). PrintsLine c.args.flags c.loop-number.desk text c.print_line.new.desk (g.W.Write.contents c.loop-number.output) (g.W.Write.contents c.print_line.new.output)) c.as_slice.ensures.value c.in_ok-print_line.ensures.printed in (
       was.0 ++ line ∷ [],
       one-printed c.args.flags c.args.desk.now c.loop-number.desk c.print_line.new.desk was.0 line (g.W.Write.contents c.args.output.now) (g.W.Write.contents c.loop-number.output) (g.W.Write.contents c.print_line.new.output) was.1 prints,
-      one-given _ _ _ _ _ was.2 (rw c.in-Some.is at c.in_ok-line.ensures.line),
+      one-given _ _ _ _ _ was.2 (rw c.in-Some.is at c.in_ok-line.ensures),
       omega (arith, was.3, length-append was.0 (line ∷ [])),
     )
 
 pub returns-in_default-clause-printed : goal.returns-in_default-clause-printed
 returns-in_default-clause-printed g c =
     let was = c.loop-number.invariant in
-    all-printed _ c.args.flags c.args.desk.now c.loop-number.desk was.0 _ _ _ _ was.2 (rw c.in_default.is at c.in_ok-line.ensures.line) was.1
+    all-printed _ c.args.flags c.args.desk.now c.loop-number.desk was.0 _ _ _ _ was.2 (rw c.in_default.is at c.in_ok-line.ensures) was.1
 
 pub returns-in_err-line-clause-stopped : goal.returns-in_err-line-clause-stopped
 returns-in_err-line-clause-stopped g c =
     let was = c.loop-number.invariant in
-    let stop = c.in_err-line.field-0.0 in
+    let fault = c.in_err-line.field-0.0 in
+    let stop = stop_of_stream fault in
     let held = g.W.Write.contents c.loop-number.output in
     passed-on c.from_residual.result stop _ c.from_residual.ensures.1
     (stopped-among (g.R.Read.remaining c.args.input.now) c.args.flags c.args.desk.now c.loop-number.desk was.0 _ (g.W.Write.contents c.args.output.now) held held c.loop-number.number stop was.2 was.1 was.3
-    (no-line-stopped c.loop-number.number stop held c.in_err-line.ensures.stopped))
+    (no-line-stopped c.loop-number.number fault held))
 
 pub returns-in_err-print_line-clause-stopped : goal.returns-in_err-print_line-clause-stopped
 returns-in_err-print_line-clause-stopped g c =

@@ -1,8 +1,8 @@
 -- The lines that were given stepped the desk, and what each came to is written.
 use Rattle.std.proofs.Common.{◌≡◌, ℕ, ◌+◌, List, length}
+use Rattle.stream_lines.specs.Unread.{lines_left}
+use Rattle.stream_lines.proofs.Given.{Leaves}
 use Rattle.core_scripts.specs.Scripts.{Prints}
-use Rattle.core_scripts.specs.Unread.{lines_left}
-use Rattle.core_scripts.proofs.Given.{Leaves}
 use Rattle.core_scripts.proofs.script.run_lines.Given as goal
 
 abbrev pub invariant-loop-number : goal.invariant-loop-number

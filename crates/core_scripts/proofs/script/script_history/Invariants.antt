@@ -3,10 +3,10 @@ use Rattle.std.proofs.Common.{ℕ, List}
 use Rattle.std.specs.List.{FoldsTo}
 use Rattle.gate_core.specs.Core.{IsAfter}
 use Rattle.gate_journal.specs.Kept.{turns}
+use Rattle.stream_lines.specs.Unread.{lines_left}
+use Rattle.stream_lines.proofs.Given.{Leaves}
 use Rattle.core_scripts.specs.Scripts.{IsTextStep}
 use Rattle.core_scripts.specs.Settings.{fixed}
-use Rattle.core_scripts.specs.Unread.{lines_left}
-use Rattle.core_scripts.proofs.Given.{Leaves}
 use Rattle.core_scripts.proofs.script.script_history.Given as goal
 
 abbrev pub invariant-loop-number : goal.invariant-loop-number

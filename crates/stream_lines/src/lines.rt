@@ -1,12 +1,11 @@
 //! The lines of a stream.
 
-ghost use Rattle.std.specs.Prelude.{◌≡◌, ℕ, List, [], Option, Some, option_map, false, IfOk, IfErr};
-ghost use Rattle.core_scripts.specs.Status.{IsOfStream};
-ghost use Rattle.core_scripts.specs.Unread.{Gives, lines_left, lines_of};
-ghost use Rattle.core_scripts.specs.Pieces.{ReadsPiece};
+ghost use Rattle.std.specs.Prelude.{◌≡◌, ℕ, List, [], Option, Some, option_map, false, IfOk};
+ghost use Rattle.stream_lines.specs.Unread.{Gives, lines_left, lines_of};
+ghost use Rattle.stream_lines.specs.Pieces.{ReadsPiece};
 
 use crate::piece::Piece;
-use crate::stop::Stop;
+use crate::stream_fault::StreamFault;
 use std::alloc::Global;
 use std::io::Read;
 
@@ -40,9 +39,12 @@ impl Lines {
     ///
     /// `Stream` where a read fails, and where the stream isn't at its end after 1,000,000,000 reads. A read that was interrupted is made
     /// again.
-    pub fn next<R: Read>(&mut self, alloc: Global, input: &mut R) -> Result<Option<Vec<u8>>, Stop>
-        ensures line { IfOk result (λ given. Gives (lines_left self.old (R.remaining input.old)) (lines_left self.new (R.remaining input.new)) (option_map (λ line. line.items) given)) }
-        ensures stopped { IfErr result IsOfStream }
+    pub fn next<R: Read>(
+        &mut self,
+        alloc: Global,
+        input: &mut R,
+    ) -> Result<Option<Vec<u8>>, StreamFault>
+        ensures { IfOk result (λ given. Gives (lines_left self.old (R.remaining input.old)) (lines_left self.new (R.remaining input.new)) (option_map (λ line. line.items) given)) }
     {
         if self.is_over {
             return Ok(None);
@@ -52,10 +54,9 @@ impl Lines {
     }
 
     /// The next line, where the last wasn't given yet.
-    fn line<R: Read>(&mut self, alloc: Global, input: &mut R) -> Result<Vec<u8>, Stop>
+    fn line<R: Read>(&mut self, alloc: Global, input: &mut R) -> Result<Vec<u8>, StreamFault>
         requires { self.old.is_over ≡ false }
-        ensures line { IfOk result (λ line. Gives (lines_left self.old (R.remaining input.old)) (lines_left self.new (R.remaining input.new)) (Some line.items)) }
-        ensures stopped { IfErr result IsOfStream }
+        ensures { IfOk result (λ line. Gives (lines_left self.old (R.remaining input.old)) (lines_left self.new (R.remaining input.new)) (Some line.items)) }
     {
         let mut line = Vec::new(alloc);
         for _ in 0..MOST_READS {
@@ -67,18 +68,17 @@ impl Lines {
                 return Ok(line);
             }
         }
-        Err(Stop::Stream)
+        Err(StreamFault::Stream)
     }
 
     /// Reads the next piece, where all of the last was given, and says whether there is more to come.
-    fn read<R: Read>(&mut self, input: &mut R) -> Result<bool, Stop>
+    fn read<R: Read>(&mut self, input: &mut R) -> Result<bool, StreamFault>
         requires { self.old.piece ≡ [] }
         ensures piece { IfOk result (ReadsPiece (R.remaining input.old) (R.remaining input.new) self.new.piece) }
         ensures end { self.new.is_over ≡ self.old.is_over }
-        ensures stopped { IfErr result IsOfStream }
     {
         if self.reads_left == 0 {
-            return Err(Stop::Stream);
+            return Err(StreamFault::Stream);
         }
         self.reads_left -= 1;
         self.piece.read(input)

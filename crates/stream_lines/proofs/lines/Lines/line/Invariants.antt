@@ -1,8 +1,8 @@
 -- What was taken of the stream is the line so far, and has no newline.
 use Rattle.std.proofs.Common.{◌≡◌, false}
 use Rattle.std.specs.Io.KnownBytes.{Consumes, prepend_known}
-use Rattle.core_scripts.specs.Pieces.{HasNoNewline}
-use Rattle.core_scripts.proofs.lines.Lines.line.Given as goal
+use Rattle.stream_lines.specs.Pieces.{HasNoNewline}
+use Rattle.stream_lines.proofs.lines.Lines.line.Given as goal
 
 abbrev pub invariant-loop : goal.invariant-loop
 invariant-loop g l = record {

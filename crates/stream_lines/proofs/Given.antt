@@ -1,6 +1,6 @@
 -- Which lines of a stream were given.
 use Rattle.std.proofs.Common.{◌≡◌, ℕ, List, [], ◌∷◌, ◌++◌, Option, None, Some, IfSome, option_map, refl, sym, ap, subst, ◌∙◌, append_assoc, append-nil}
-use Rattle.core_scripts.specs.Unread.{Gives, lines_of}
+use Rattle.stream_lines.specs.Unread.{Gives, lines_of}
 
 -- of a stream of these bytes these lines were given, and these are left
 abbrev pub Leaves : Option (List ℕ) → List (List ℕ) → Option (List (List ℕ)) → Type 0

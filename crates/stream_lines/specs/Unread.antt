@@ -2,7 +2,7 @@
 use Rattle.std.specs.Prelude.{◌≡◌, ℕ, List, [], ◌∷◌, ◌==◌, Option, None, Some, option_map, if◌then◌else◌, ⊤}
 use Rattle.std.specs.List.{slice_split}
 use Rattle.std.specs.Io.KnownBytes.{prepend_known}
-use Rattle.core_scripts.specs.declared.lines.Lines.{Lines}
+use Rattle.stream_lines.specs.declared.lines.Lines.{Lines}
 
 -- the lines of a text: it is cut at each newline, and what stands behind the last newline is a line too, be it empty
 abbrev pub lines_of : List ℕ → List (List ℕ)

@@ -4,8 +4,8 @@ use Rattle.std.proofs.lemmas.List.Elements.{All-head, All-tail, All-append}
 use Rattle.std.specs.List.{onto_first}
 use Rattle.std.specs.Io.KnownBytes.{Consumes, IsAtEnd, prepend_known}
 use Rattle.std.proofs.KnownBytes.{Consumes-trans}
-use Rattle.core_scripts.specs.Pieces.{HasNoNewline, TakesLine, ReadsPiece}
-use Rattle.core_scripts.specs.Unread.{Gives, lines_of}
+use Rattle.stream_lines.specs.Pieces.{HasNoNewline, TakesLine, ReadsPiece}
+use Rattle.stream_lines.specs.Unread.{Gives, lines_of}
 
 -- a text with no newline is one line
 pub one-line : (text : List ℕ) → HasNoNewline text → lines_of text ≡ text ∷ []

@@ -1,9 +1,9 @@
 //! A piece of a stream.
 
 ghost use Rattle.std.specs.Prelude.{◌≡◌, ◌<◌, MatchOption, length, slice_index, take};
-ghost use Rattle.core_scripts.specs.Pieces.{HasNoNewline};
+ghost use Rattle.stream_lines.specs.Pieces.{HasNoNewline};
 
-use crate::stop::Stop;
+use crate::stream_fault::StreamFault;
 use std::alloc::AllocError;
 use std::io::{ErrorKind, Read};
 use std::marker::Model;
@@ -32,9 +32,8 @@ impl Model for Piece {
 }
 
 impl Piece {
-    ghost use Rattle.std.specs.Prelude.{◌≡◌, [], IfOk, IfErr};
-    ghost use Rattle.core_scripts.specs.Pieces.{TakesLine, ReadsPiece};
-    ghost use Rattle.core_scripts.specs.Status.{IsOfStream};
+    ghost use Rattle.std.specs.Prelude.{◌≡◌, [], IfOk};
+    ghost use Rattle.stream_lines.specs.Pieces.{TakesLine, ReadsPiece};
 
     /// A piece of which nothing is left.
     pub fn new() -> Piece
@@ -69,10 +68,9 @@ impl Piece {
     /// Reads once, where nothing is left, and says whether more may come. A read that was interrupted gives nothing.
     ///
     /// `Stream` where the read fails.
-    pub fn read<R: Read>(&mut self, input: &mut R) -> Result<bool, Stop>
+    pub fn read<R: Read>(&mut self, input: &mut R) -> Result<bool, StreamFault>
         requires { self.old ≡ [] }
-        ensures piece { IfOk result (ReadsPiece (R.remaining input.old) (R.remaining input.new) self.new) }
-        ensures stopped { IfErr result IsOfStream }
+        ensures { IfOk result (ReadsPiece (R.remaining input.old) (R.remaining input.new) self.new) }
     {
         self.begin = 0;
         self.end = 0;
@@ -83,7 +81,7 @@ impl Piece {
                 Ok(true)
             }
             Err(error) if error.kind() == ErrorKind::Interrupted => Ok(true),
-            Err(_) => Err(Stop::Stream),
+            Err(_) => Err(StreamFault::Stream),
         }
     }
 }

@@ -1,9 +1,9 @@
 use Rattle.std.proofs.Common.{Bool, true, false, rules, refl, sym, subst, ◌∙◌}
 use Rattle.std.proofs.KnownBytes.{Consumes-nil}
 use Rattle.std.specs.Io.KnownBytes.{Consumes, prepend_known}
-use Rattle.core_scripts.specs.Pieces.{HasNoNewline, TakesLine, ReadsPiece}
-use Rattle.core_scripts.proofs.Cutting.{longer-none, read-more, gives-whole, gives-last, emptied}
-use Rattle.core_scripts.proofs.lines.Lines.line.Goals as goal
+use Rattle.stream_lines.specs.Pieces.{HasNoNewline, TakesLine, ReadsPiece}
+use Rattle.stream_lines.proofs.Cutting.{longer-none, read-more, gives-whole, gives-last, emptied}
+use Rattle.stream_lines.proofs.lines.Lines.line.Goals as goal
 
 pub loop-init : goal.loop-init
 loop-init g c = record {
@@ -25,14 +25,14 @@ loop-preserved g c =
       taken = read-more _ _ _ _ _ (emptied _ _ _ _ _ _ was.taken takes) reads;
     }
 
-pub returns-then-branch-clause-line : goal.returns-then-branch-clause-line
-returns-then-branch-clause-line g c =
+pub returns-then-branch : goal.returns-then-branch
+returns-then-branch g c =
     let was = c.loop.invariant in
     let takes = subst (λ (b : Bool). TakesLine c.loop.self.piece c.loop.line.items c.take_line.new.self c.take_line.new.line.items b) c.if-branch.true c.in_ok-take_line.ensures in
     gives-whole _ _ _ _ _ _ _ _ c.requires was.going was.taken was.none takes
 
-pub returns-then-not-branch-clause-line : goal.returns-then-not-branch-clause-line
-returns-then-not-branch-clause-line g c =
+pub returns-then-not-branch : goal.returns-then-not-branch
+returns-then-not-branch g c =
     let was = c.loop.invariant in
     let takes = subst (λ (b : Bool). TakesLine c.loop.self.piece c.loop.line.items c.take_line.new.self c.take_line.new.line.items b) c.if-branch.false c.in_ok-take_line.ensures in
     let reads = subst (λ (b : Bool). ReadsPiece (g.R.Read.remaining c.loop.input) (g.R.Read.remaining c.read.new.input) c.read.new.self.piece b) c.if-not-branch.true c.in_ok-read.ensures.piece in
