@@ -8,7 +8,7 @@ use Rattle.order_law.specs.Life.{is_closed}
 use Rattle.order_law.specs.Messages.{Message}
 use Rattle.order_law.specs.Verdicts.{Port}
 use Rattle.order_law.specs.History.{Asked, Came, Entry, Event, Heard, History, Terms, Turn, accepted, asks, asks_of, entry_at, handled, issued, numbered, outstanding, terms_of}
-use Rattle.order_law.specs.Headline.{Each, EachWith, Says, order_number}
+use Rattle.order_law.specs.Headline.{Each, EachWith, Says, SaysIn, client_by, order_number, standing_by, standing_in}
 use Rattle.order_histories.specs.OrderRecord.{OrderRecord}
 use Rattle.order_histories.specs.Table.{State, by_token, put}
 use Rattle.order_histories.specs.Machine.{client_step, market_step, step}
@@ -25,7 +25,7 @@ use Rattle.order_histories.proofs.NewlyAsked.{asks-own, came-Asking, known-still
 use Rattle.order_histories.proofs.AllAsked.{LeavesAsked-Asking, LeavesAsked-some}
 use Rattle.asked_messages.specs.Kept.{KeptMessage, bytes_on, kept_from, left_by}
 use Rattle.asked_messages.specs.Keeping.{AreKept, SaysAsked, always}
-use Rattle.asked_messages.specs.KeptInTurns.{ClientTurnsKeep, KeepsOutstanding, MarketTurnsKeep, NothingIsKept, OutstandingIsKept, QuietTurnsKeep, SaysIn, client_by, standing_by, standing_in}
+use Rattle.asked_messages.specs.KeptInTurns.{ClientTurnsKeep, KeepsOutstanding, MarketTurnsKeep, NothingIsKept, OutstandingIsKept, QuietTurnsKeep}
 use Rattle.asked_messages.proofs.Finding.{outstanding-found}
 use Rattle.asked_messages.proofs.Lists.{answering-keeps, ports-are-said, pushing-keeps, standings-grow}
 

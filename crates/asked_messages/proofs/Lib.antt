@@ -1,7 +1,7 @@
-pub mod Saying
-pub mod Orders
-pub mod Lists
-pub mod Holding
-pub mod Asking
-pub mod Finding
-pub mod InTurns
+mod Saying
+mod Orders
+mod Lists
+mod Holding
+mod Asking
+mod Finding
+mod InTurns

@@ -6,8 +6,8 @@ use Rattle.order_law.specs.Asks.{Standing}
 use Rattle.order_law.specs.Life.{is_closed}
 use Rattle.order_law.specs.Messages.{Message}
 use Rattle.order_law.specs.Verdicts.{Port}
-use Rattle.order_law.specs.History.{Asked, Came, Entry, Heard, History, Terms, Turn, accepted, new_of, outstanding, terms_of}
-use Rattle.order_law.specs.Headline.{Each, EachWith, Says, order_number}
+use Rattle.order_law.specs.History.{Asked, Came, Heard, History, Terms, Turn, outstanding, terms_of}
+use Rattle.order_law.specs.Headline.{Each, EachWith, Says, SaysIn, standing_in}
 use Rattle.order_histories.specs.OrderRecord.{OrderRecord}
 use Rattle.order_histories.specs.Table.{State, by_token, put}
 use Rattle.order_histories.specs.Machine.{client_step, market_step}
@@ -16,26 +16,10 @@ use Rattle.order_histories.specs.Runs.{Finds, Leads, Leaves}
 use Rattle.asked_messages.specs.Kept.{KeptMessage, bytes_on, kept_from, left_by}
 use Rattle.asked_messages.specs.Keeping.{AreKept, always}
 
--- the client of a new order, none for no order
-abbrev pub client_by : Option Entry → ℕ
-client_by None = 0
-client_by (Some new) = new.client
-
--- how the client of an order stands, by the settings
-abbrev pub standing_by : List Terms → List Entry → List ℕ → Standing
-standing_by terms entries order = (terms_of terms (client_by (new_of order entries))).standing
-
-abbrev pub standing_in : List Terms → History → List ℕ → Standing
-standing_in terms h order = standing_by terms (accepted terms h) order
-
 -- After these turns, the newest first, these messages are asked and not answered, and no others.
 abbrev pub KeepsOutstanding : List Terms → History → List KeptMessage → Type 0
 KeepsOutstanding terms h kept =
     (asked : List OnPort) × ((p : ℕ) → on_port p asked ≡ outstanding terms p h) × AreKept (standing_in terms h) asked kept
-
--- A message says what is asked, as the lists have it: the orders of the port's tokens, and how the order's client stands.
-abbrev pub SaysIn : List Terms → History → ℕ → Asked → List ℕ → Type 0
-SaysIn terms h port asked message = Says (standing_in terms h asked.order) (order_number terms port (accepted terms h)) asked message
 
 -- ---- the laws
 

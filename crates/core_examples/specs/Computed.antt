@@ -1,20 +1,20 @@
 -- What a history that is written down has to be, as equations that can be computed: each part of each batch is what its event
 -- gives, what is sent again is what is outstanding, and the order level's turns are those of an exchange that `order_examples` has.
 use Rattle.std.specs.Prelude.{◌≡◌, ◌&&◌, List, [], ◌∷◌, map, Option, Some, if◌then◌else◌, codes}
+use Rattle.fix_types.specs.Application.{message_fields}
 use Rattle.session_law.specs.Formats.{application_of}
 use Rattle.order_law.specs.Asks.{Ask, ask_of_bytes}
 use Rattle.order_law.specs.History as orders
 use Rattle.order_law.specs.History.{Asked, Said, Came, Heard, outstanding, accepted}
-use Rattle.order_law.specs.Headline.{order_number}
+use Rattle.order_law.specs.Headline.{order_number, standing_in}
 use Rattle.order_examples.specs.Computed.{said_of}
 use Rattle.core_law.specs.Settings.{terms}
 use Rattle.core_law.specs.Events.{Event, Batch, Turn, History}
 use Rattle.core_law.specs.Lists.{Lists}
-use Rattle.core_law.specs.Sessions.{message_fields}
 use Rattle.core_law.specs.Outcome.{is_stepped, messages}
 use Rattle.core_law.specs.After.{lists, order_turns}
 use Rattle.core_law.specs.Due.{due_to_client, due_to_port, due_reports, due_fault, due_client, due_port}
-use Rattle.core_law.specs.Promises.{comes_up, is_given_up, port_in, standing_of}
+use Rattle.core_law.specs.Promises.{comes_up, is_given_up, port_in}
 use Rattle.core_examples.specs.Transcript.{settings}
 
 -- of each turn what the law has for its event, after the turns before it
@@ -47,7 +47,7 @@ again_asks_due e b v =
 abbrev again_asks_sent : Event → Batch → Lists → List (Option Ask)
 again_asks_sent e b v =
     if is_stepped settings e v && is_given_up settings e v then []
-    else map (ask_of_bytes (standing_of (terms settings) (accepted (terms settings) v.turns) (codes "1")) (order_number (terms settings) (port_in e) (accepted (terms settings) v.turns))) (messages b)
+    else map (ask_of_bytes (standing_in (terms settings) v.turns (codes "1")) (order_number (terms settings) (port_in e) (accepted (terms settings) v.turns))) (messages b)
 
 -- ---- a history
 

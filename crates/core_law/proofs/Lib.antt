@@ -1,10 +1,10 @@
-pub mod Other
+mod Other
 pub mod Telling
-pub mod Messages
+mod Messages
 pub mod Parts
 pub mod Links
-pub mod Faults
-pub mod Targets
-pub mod Clients
+mod Faults
+mod Targets
+mod Clients
 pub mod Counted
-pub mod Steps
+mod Steps

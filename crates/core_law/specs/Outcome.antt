@@ -8,6 +8,7 @@ use Rattle.std.specs.Prelude.{ℕ, ◌==◌, Bool, true, false, ◌&&◌, List, 
 use Rattle.std.specs.List.{flat_map}
 use Rattle.fix_types.specs.declared.application.AppMsg.{AppMsg}
 use Rattle.soup_packets.specs.declared.packet.Packet.{Packet}
+use Rattle.fix_types.specs.Application.{message_fields}
 use Rattle.soup_session.specs.Table as calls
 use Rattle.session_law.specs.Runs.{Timed, Linked, Came, Ticked}
 use Rattle.order_law.specs.Messages.{Message, body_of}
@@ -16,7 +17,7 @@ use Rattle.order_law.specs.History.{Heard}
 use Rattle.core_law.specs.Settings.{Settings, has_client, has_port, port_of}
 use Rattle.core_law.specs.Events.{Event, ClientUp, ClientMessage, ClientGone, ClientTick, PortUp, PortPacket, PortGone, PortTick, LinkOut, Write, Close, Batch, is_number}
 use Rattle.core_law.specs.Lists.{Lists}
-use Rattle.core_law.specs.Sessions.{client_answer, port_answer, port_state, stands_of, fault_in, message_fields, issues, sends}
+use Rattle.core_law.specs.Sessions.{client_answer, port_answer, port_state, stands_of, fault_in, issues, sends}
 
 -- ---- what is read off a batch
 

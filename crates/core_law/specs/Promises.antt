@@ -5,11 +5,9 @@ use Rattle.soup_session.specs.declared.port_state.PortState.TheVariants.{Faulted
 use Rattle.soup_session.specs.States.{is_up}
 use Rattle.soup_session.specs.Table as port
 use Rattle.session_law.specs.Runs.{Came}
-use Rattle.order_law.specs.Asks.{Standing}
-use Rattle.order_law.specs.History.{Terms, terms_of, Asked, Entry, accepted, outstanding, new_of}
-use Rattle.order_law.specs.History as orders
+use Rattle.order_law.specs.History.{Entry, accepted, outstanding}
 use Rattle.order_law.specs.Lawful.{order_of_token}
-use Rattle.order_law.specs.Headline.{EachWith, Says, order_number}
+use Rattle.order_law.specs.Headline.{EachWith, SaysIn}
 use Rattle.core_law.specs.Settings.{Settings, terms, port_of}
 use Rattle.core_law.specs.Events.{Event, ClientUp, ClientMessage, ClientGone, ClientTick, PortUp, PortPacket, PortGone, PortTick, Batch}
 use Rattle.core_law.specs.Lists.{Lists}
@@ -18,18 +16,6 @@ use Rattle.core_law.specs.Outcome.{messages, is_stepped}
 use Rattle.core_law.specs.After.{after}
 
 -- ---- asked once, and again only while unanswered
-
--- how the client of an order stands, by the settings
-abbrev client_by : Option Entry → ℕ
-client_by None = 0
-client_by (Some new) = new.client
-
-abbrev pub standing_of : List Terms → List Entry → List ℕ → Standing
-standing_of ts entries order = (terms_of ts (client_by (new_of order entries))).standing
-
--- A message says what was asked of the port, by its layout alone. (OUCH 4.2, "Inbound Messages".)
-abbrev pub SaysAgain : List Terms → orders.History → ℕ → Asked → List ℕ → Type 0
-SaysAgain ts turns p a m = Says (standing_of ts (accepted ts turns) a.order) (order_number ts p (accepted ts turns)) a m
 
 -- a client's session gives a message up to the order level
 abbrev pub is_given_up : Settings → Event → Lists → Bool
@@ -69,7 +55,7 @@ AsksOnlyThen true b = Unit {0}
 AsksOnlyThen false b = messages b ≡ []
 
 abbrev pub AsksAgain : Bool → Settings → ℕ → Bool → Batch → Lists → Type 0
-AsksAgain true s p asks b v = EachWith (SaysAgain (terms s) v.turns p) (outstanding (terms s) p v.turns) (messages b)
+AsksAgain true s p asks b v = EachWith (SaysIn (terms s) v.turns p) (outstanding (terms s) p v.turns) (messages b)
 AsksAgain false s p asks b v = AsksOnlyThen asks b
 
 -- The event by which a port comes up sends all that is outstanding on it, in order. One by which a client's message is given up

@@ -1,11 +1,6 @@
 -- What the two sessions give to calls, after the calls so far: their own tables, by the numbers of clients and ports.
 use Rattle.std.specs.Prelude.{ℕ, Bool, true, false, List, [], ◌∷◌, ◌++◌, map, drop, Option, Some, None, if◌then◌else◌, codes}
 use Rattle.fix_stamp.specs.Stamp.{stamp_text}
-use Rattle.fix_types.specs.declared.application.AppMsg.{AppMsg}
-use Rattle.fix_types.specs.declared.application.AppMsg.TheVariants as messages
-use Rattle.fix_types.specs.NewOrder.{new_order_fields}
-use Rattle.fix_types.specs.CancelRequest.{cancel_request_fields}
-use Rattle.fix_types.specs.ReplaceRequest.{replace_request_fields}
 use Rattle.soup_packets.specs.Spelling.{packet_bytes}
 use Rattle.soup_session.specs.declared.port_state.PortState.{PortState}
 use Rattle.soup_session.specs.declared.port_state.PortState.TheVariants.{Down, LoggingIn, Up, Ended, Faulted}
@@ -59,12 +54,6 @@ report_of s client before call = report_by s client before call.0 call.1
 abbrev pub client_reports : Settings → ℕ → List Timed → List Timed → List Message
 client_reports s client before [] = []
 client_reports s client before (call ∷ calls) = report_of s client before call ++ client_reports s client (call ∷ before) calls
-
--- what a message that a session gives up says, as the order level reads it
-abbrev pub message_fields : AppMsg → Message
-message_fields (messages.New order) = new_order_fields order
-message_fields (messages.Cancel request) = cancel_request_fields request
-message_fields (messages.Replace request) = replace_request_fields request
 
 -- ---- a port's session (SoupBinTCP 3.00)
 

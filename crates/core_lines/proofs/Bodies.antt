@@ -9,9 +9,9 @@ use Rattle.fix_types.specs.declared.application.AppBody.{AppBody}
 use Rattle.fix_types.specs.declared.application.AppBody.TheVariants as bodies
 use Rattle.fix_types.specs.Report as report
 use Rattle.fix_types.specs.CancelReject as reject
+use Rattle.fix_types.specs.Application.{body_fields}
 use Rattle.session_law.specs.Runs.{Timed}
 use Rattle.order_law.specs.Messages.{Message, is_header, body_of}
-use Rattle.to_client.specs.Pending.{body_fields}
 use Rattle.core_law.specs.Settings.{Settings}
 use Rattle.core_law.specs.Sessions.{issue, report_of}
 use Rattle.core_lines.specs.Leaving.{issue_call}

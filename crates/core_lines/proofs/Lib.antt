@@ -1,5 +1,5 @@
-pub mod Bodies
-pub mod Clients
-pub mod Ports
-pub mod Sending
-pub mod Several
+mod Bodies
+mod Clients
+mod Ports
+mod Sending
+mod Several

@@ -2,11 +2,11 @@
 use Rattle.std.proofs.Common.{◌≡◌, ℕ, ◌<◌, ◌+◌, Bool, cond, List, [], ◌∷◌, ◌++◌, length, take, get_or, map, refl, sym, ap, ◌∙◌, append-nil, append_assoc, eq-eqb}
 use Rattle.std.proofs.lemmas.List.{map-append, take_more}
 use Rattle.fix_types.specs.declared.application.AppBody.{AppBody}
+use Rattle.fix_types.specs.Application.{body_fields}
 use Rattle.session_law.specs.declared.frame.Out.{Out}
 use Rattle.session_law.specs.Runs.{Timed}
 use Rattle.session_law.specs.Frames.{Told, told_of}
 use Rattle.order_law.specs.Messages.{Message, body_of}
-use Rattle.to_client.specs.Pending.{body_fields}
 use Rattle.core_law.specs.Settings.{Settings, client_name}
 use Rattle.core_law.specs.Sessions.{client_answer, client_outs, client_reports, issue, issues, report_of}
 use Rattle.core_lines.specs.Leaving.{issue_call}

@@ -1,11 +1,11 @@
 //! Several bodies issued on the client's line at a place, one after another.
 
 ghost use Rattle.std.specs.Prelude.{◌≡◌, ◌<◌, ◌+◌, ℕ, List, ◌∷◌, [], ◌++◌, Option, IfOk, OnOk, length, map};
+ghost use Rattle.fix_types.specs.Application.{body_fields};
 ghost use Rattle.session_law.specs.Runs.{Timed};
 ghost use Rattle.session_law.specs.Frames.{told_of};
 ghost use Rattle.session_frames.specs.Written.{told};
 ghost use Rattle.order_law.specs.Messages.{body_of};
-ghost use Rattle.to_client.specs.Pending.{body_fields};
 ghost use Rattle.core_law.specs.Settings.{Settings, client_name};
 ghost use Rattle.core_law.specs.Sessions.{client_answer, client_outs, client_reports, issues, report_of};
 ghost use Rattle.core_lines.specs.Leaving.{issue_call};

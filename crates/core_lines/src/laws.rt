@@ -2,9 +2,9 @@
 
 ghost use Rattle.std.specs.Prelude.{◌≡◌, ℕ, List, [], ◌∷◌, map};
 ghost use Rattle.fix_types.specs.declared.application.AppBody.{AppBody};
+ghost use Rattle.fix_types.specs.Application.{body_fields};
 ghost use Rattle.session_law.specs.Runs.{Timed};
 ghost use Rattle.order_law.specs.Messages.{body_of};
-ghost use Rattle.to_client.specs.Pending.{body_fields};
 ghost use Rattle.core_law.specs.Settings.{Settings};
 ghost use Rattle.core_law.specs.Sessions.{issue, report_of};
 ghost use Rattle.core_lines.specs.Leaving.{issue_call};

@@ -1,1 +1,1 @@
-pub mod Begins
+mod Begins

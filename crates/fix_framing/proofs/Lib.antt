@@ -1,3 +1,3 @@
-pub mod Written
-pub mod Places
-pub mod Parts
+mod Written
+mod Places
+mod Parts

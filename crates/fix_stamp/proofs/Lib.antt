@@ -1,2 +1,2 @@
-pub mod Days
-pub mod Stamps
+mod Days
+mod Stamps

@@ -1,11 +1,11 @@
 pub mod NewOrderValues
-pub mod CancelRequestValues
+mod CancelRequestValues
 pub mod ReplaceRequestValues
-pub mod ReportValues
-pub mod CancelRejectValues
-pub mod WrittenNewOrder
-pub mod WrittenCancelRequest
-pub mod WrittenReplaceRequest
-pub mod WrittenReport
-pub mod WrittenCancelReject
-pub mod WrittenBusinessReject
+mod ReportValues
+mod CancelRejectValues
+mod WrittenNewOrder
+mod WrittenCancelRequest
+mod WrittenReplaceRequest
+mod WrittenReport
+mod WrittenCancelReject
+mod WrittenBusinessReject

@@ -5,3 +5,4 @@ pub mod ReplaceRequest
 pub mod Report
 pub mod CancelReject
 pub mod BusinessReject
+pub mod Application

@@ -1,5 +1,6 @@
 pub mod Tables
 pub mod Lookups
 pub mod Numbers
-pub mod Floats
+pub mod Inside
+mod Floats
 pub mod Values

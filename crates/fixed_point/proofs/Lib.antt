@@ -1,8 +1,8 @@
-pub mod Amounts
-pub mod Exact
-pub mod Points
+mod Amounts
+mod Exact
+mod Points
 pub mod Printed
 pub mod SaidInRange
-pub mod Sizes
-pub mod Values
-pub mod Worths
+mod Sizes
+mod Values
+mod Worths

@@ -4,7 +4,7 @@ use Rattle.std.proofs.lemmas.Bool.Decides.{nat_tests}
 use Rattle.std.specs.Prelude.{◌||◌, nat_lt, if◌then◌else◌, Option, None, Some, Result, Ok, Err}
 use Rattle.fixed_point.specs.declared.refusal.DecimalRefusal.{DecimalRefusal}
 use Rattle.fixed_point.specs.declared.refusal.DecimalRefusal.TheVariants.{OutOfRange}
-use Rattle.fixed_point.specs.Decimal.{Fraction, scaled, fraction, within, amount_of, amount, price, quantity, is_below_zero, not_below_zero, worth_of, worth}
+use Rattle.fixed_point.specs.Decimal.{most_price, most_shares, Fraction, scaled, fraction, within, amount_of, amount, price, quantity, is_below_zero, not_below_zero, worth_of, worth}
 use Rattle.fixed_point.specs.Price.{price_text}
 use Rattle.fixed_point.proofs.Printed.{worth_of_price_text}
 
@@ -37,13 +37,13 @@ unfolding amount_of
 amount_of_range scale least most n None e = absurd cc
 amount_of_range scale least most n (Some f) e = within_range least most n f.negative (scaled scale f) e
 
-pub price_range : (text : List ℕ) (n : ℕ) → price text ≡ Ok n → (1 ≤ n) × (n ≤ 1_999_999_900)
+pub price_range : (text : List ℕ) (n : ℕ) → price text ≡ Ok n → (1 ≤ n) × (n ≤ most_price)
 unfolding price amount
-price_range text n e = amount_of_range 10_000 1 1_999_999_900 n (fraction text) e
+price_range text n e = amount_of_range 10_000 1 most_price n (fraction text) e
 
-pub quantity_range : (least : ℕ) (text : List ℕ) (n : ℕ) → quantity least text ≡ Ok n → (least ≤ n) × (n ≤ 999_999)
+pub quantity_range : (least : ℕ) (text : List ℕ) (n : ℕ) → quantity least text ≡ Ok n → (least ≤ n) × (n ≤ most_shares)
 unfolding quantity amount
-quantity_range least text n e = amount_of_range 1 least 999_999 n (fraction text) e
+quantity_range least text n e = amount_of_range 1 least most_shares n (fraction text) e
 
 within_of_worth : (least most n : ℕ) (negative : Bool) (o : Option ℕ) → not_below_zero negative o ≡ Some n → least ≤ n → n ≤ most → within least most negative o ≡ Ok n
 unfolding within
@@ -55,14 +55,14 @@ within_of_worth least most n negative (Some m) e low high =
     let two : nat_lt most m ≡ false = grind (arith, nat_tests) in
     rw (parts.0, one, two) (ap Ok same)
 
-amount_of_worth : (n : ℕ) (o : Option Fraction) → worth_of o ≡ Some n → 1 ≤ n → n ≤ 1_999_999_900 → amount_of 10_000 1 1_999_999_900 o ≡ Ok n
+amount_of_worth : (n : ℕ) (o : Option Fraction) → worth_of o ≡ Some n → 1 ≤ n → n ≤ most_price → amount_of 10_000 1 most_price o ≡ Ok n
 unfolding worth_of amount_of
 amount_of_worth n None e low high = absurd cc
-amount_of_worth n (Some f) e low high = within_of_worth 1 1_999_999_900 n f.negative (scaled 10_000 f) e low high
+amount_of_worth n (Some f) e low high = within_of_worth 1 most_price n f.negative (scaled 10_000 f) e low high
 
-price_of_worth : (text : List ℕ) (n : ℕ) → worth text ≡ Some n → 1 ≤ n → n ≤ 1_999_999_900 → price text ≡ Ok n
+price_of_worth : (text : List ℕ) (n : ℕ) → worth text ≡ Some n → 1 ≤ n → n ≤ most_price → price text ≡ Ok n
 unfolding worth price amount
 price_of_worth text n e low high = amount_of_worth n (fraction text) e low high
 
-pub price_of_price_text : (n : ℕ) → 1 ≤ n → n ≤ 1_999_999_900 → price (price_text n) ≡ Ok n
+pub price_of_price_text : (n : ℕ) → 1 ≤ n → n ≤ most_price → price (price_text n) ≡ Ok n
 price_of_price_text n low high = price_of_worth (price_text n) n (worth_of_price_text n (omega arith)) low high

@@ -83,13 +83,21 @@ amount_of scale least most (Some f) = within least most f.negative (scaled scale
 unfoldable pub amount : ℕ → ℕ → ℕ → List ℕ → Result ℕ DecimalRefusal
 amount scale least most text = amount_of scale least most (fraction text)
 
--- The price that a text says, in 1/10,000. (OUCH 4.2, "Data Types", price: the range is the market's.)
-unfoldable pub price : List ℕ → Result ℕ DecimalRefusal
-price text = amount 10_000 1 1_999_999_900 text
+-- the greatest price, in 1/10,000: 199,999.99 (OUCH 4.2, "Data Types", price)
+abbrev pub most_price : ℕ
+most_price = 1_999_999_900
 
--- The number of shares that a text says, `least` or more. (OUCH 4.2, "Enter Order Message", shares: below 1,000,000.)
+-- the most shares of one message (OUCH 4.2, "Enter Order Message", shares: below 1,000,000)
+abbrev pub most_shares : ℕ
+most_shares = 999_999
+
+-- The price that a text says, in 1/10,000. The range is the market's.
+unfoldable pub price : List ℕ → Result ℕ DecimalRefusal
+price text = amount 10_000 1 most_price text
+
+-- The number of shares that a text says, `least` or more.
 unfoldable pub quantity : ℕ → List ℕ → Result ℕ DecimalRefusal
-quantity least text = amount 1 least 999_999 text
+quantity least text = amount 1 least most_shares text
 
 -- a size, if there is one and it is not below zero
 abbrev pub not_below_zero : Bool → Option ℕ → Option ℕ

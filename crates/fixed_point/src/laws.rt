@@ -3,7 +3,7 @@
 //! Each is a call that takes nothing, does nothing and gives nothing but its clause.
 
 ghost use Rattle.std.specs.Prelude.{◌≡◌, ◌<◌, ◌≤◌, ◌^◌, ℕ, List, Some, Ok};
-ghost use Rattle.fixed_point.specs.Decimal.{price, quantity, worth};
+ghost use Rattle.fixed_point.specs.Decimal.{most_price, most_shares, price, quantity, worth};
 ghost use Rattle.fixed_point.specs.Price.{price_text};
 
 /// The text of a number denotes it: a printed price is worth what was printed.
@@ -13,11 +13,11 @@ pub fn printed_denotes()
 
 /// The text of a price says it: a printed price is read as what was printed.
 pub fn printed_reads_back()
-    ensures { (n : ℕ) → 1 ≤ n → n ≤ 1_999_999_900 → price (price_text n) ≡ Ok n }
+    ensures { (n : ℕ) → 1 ≤ n → n ≤ most_price → price (price_text n) ≡ Ok n }
 {}
 
 /// What a text says lies in range.
 pub fn said_in_range()
-    ensures prices { (text : List ℕ) (n : ℕ) → price text ≡ Ok n → (1 ≤ n) × (n ≤ 1_999_999_900) }
-    ensures quantities { (least : ℕ) (text : List ℕ) (n : ℕ) → quantity least text ≡ Ok n → (least ≤ n) × (n ≤ 999_999) }
+    ensures prices { (text : List ℕ) (n : ℕ) → price text ≡ Ok n → (1 ≤ n) × (n ≤ most_price) }
+    ensures quantities { (least : ℕ) (text : List ℕ) (n : ℕ) → quantity least text ≡ Ok n → (least ≤ n) × (n ≤ most_shares) }
 {}

@@ -1,7 +1,7 @@
 //! From texts to amounts.
 
 ghost use Rattle.std.specs.Prelude.{◌≡◌, ◌^◌, ◌≤◌, Some, IfOk};
-ghost use Rattle.fixed_point.specs.Decimal.{amount, price, quantity, within};
+ghost use Rattle.fixed_point.specs.Decimal.{amount, most_shares, price, quantity, within};
 
 use crate::decimal::{parts_of, sign_of, size_of};
 use crate::price4::Price4;
@@ -34,10 +34,10 @@ pub fn parse_price(text: &[u8]) -> Result<Price4, DecimalRefusal>
 /// Source: FIX 4.4 Volume 1, data type float; the greatest is that of OUCH 4.2, "Enter Order Message", shares.
 #[tactic(auto, unfolding(crate::specs::Decimal::quantity))]
 pub fn parse_qty(text: &[u8], least: u32) -> Result<u32, DecimalRefusal>
-    requires { least ≤ 999_999 }
+    requires { least ≤ most_shares }
     ensures value { result ≡ quantity least text.now }
     ensures least { IfOk result (λ n. least ≤ n) }
-    ensures most { IfOk result (λ n. n ≤ 999_999) }
+    ensures most { IfOk result (λ n. n ≤ most_shares) }
 {
     read_amount(text, 0, least, Shares::MOST)
 }

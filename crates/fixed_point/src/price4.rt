@@ -1,6 +1,7 @@
 //! A price with four decimals.
 
 ghost use Rattle.std.specs.Prelude.{◌≡◌, ◌≤◌, ◌↔◌, IsSome, IfSome};
+ghost use Rattle.fixed_point.specs.Decimal.{most_price};
 
 use std::marker::Model;
 
@@ -14,12 +15,13 @@ pub struct Price4 {
 
 impl Model for Price4 {
     ghost use Rattle.std.specs.Prelude.{ℕ, ◌≤◌};
+    ghost use Rattle.fixed_point.specs.Decimal.{most_price};
 
     ghost Value = { ℕ };
 
     ghost view = { λ price. price.units };
 
-    ghost invariant = { λ price. (1 ≤ price.units) × (price.units ≤ 1_999_999_900) };
+    ghost invariant = { λ price. (1 ≤ price.units) × (price.units ≤ most_price) };
 
     ghost inverse = { λ n. record { units = n } };
 }
@@ -34,7 +36,7 @@ impl Price4 {
     /// The price of that many 1/10,000, which the caller knows to be one. Takes no memory.
     pub fn new(units: u32) -> Self
         requires least { 1 ≤ units }
-        requires most { units ≤ 1_999_999_900 }
+        requires most { units ≤ most_price }
         ensures { result ≡ units }
     {
         Price4 { units }
@@ -42,7 +44,7 @@ impl Price4 {
 
     /// The price of that many 1/10,000; `None` below `Price4::LEAST` and above `Price4::MOST`. Takes no memory.
     pub fn of(units: u32) -> Option<Self>
-        ensures in_range { IsSome result ↔ ((1 ≤ units) × (units ≤ 1_999_999_900)) }
+        ensures in_range { IsSome result ↔ ((1 ≤ units) × (units ≤ most_price)) }
         ensures value { IfSome result (λ price. price ≡ units) }
     {
         if units < Price4::LEAST {
@@ -58,7 +60,7 @@ impl Price4 {
     pub fn units(self) -> u32
         ensures value { result ≡ self }
         ensures least { 1 ≤ result }
-        ensures most { result ≤ 1_999_999_900 }
+        ensures most { result ≤ most_price }
     {
         self.units
     }

@@ -1,6 +1,7 @@
 //! A number of shares.
 
 ghost use Rattle.std.specs.Prelude.{◌≡◌, ◌≤◌, ◌↔◌, IsSome, IfSome};
+ghost use Rattle.fixed_point.specs.Decimal.{most_shares};
 
 use std::marker::Model;
 
@@ -14,12 +15,13 @@ pub struct Shares {
 
 impl Model for Shares {
     ghost use Rattle.std.specs.Prelude.{ℕ, ◌≤◌};
+    ghost use Rattle.fixed_point.specs.Decimal.{most_shares};
 
     ghost Value = { ℕ };
 
     ghost view = { λ shares. shares.count };
 
-    ghost invariant = { λ shares. (1 ≤ shares.count) × (shares.count ≤ 999_999) };
+    ghost invariant = { λ shares. (1 ≤ shares.count) × (shares.count ≤ most_shares) };
 
     ghost inverse = { λ n. record { count = n } };
 }
@@ -34,7 +36,7 @@ impl Shares {
     /// That many shares, which the caller knows to be in range. Takes no memory.
     pub fn new(count: u32) -> Self
         requires least { 1 ≤ count }
-        requires most { count ≤ 999_999 }
+        requires most { count ≤ most_shares }
         ensures { result ≡ count }
     {
         Shares { count }
@@ -42,7 +44,7 @@ impl Shares {
 
     /// That many shares; `None` below `Shares::LEAST` and above `Shares::MOST`. Takes no memory.
     pub fn of(count: u32) -> Option<Self>
-        ensures in_range { IsSome result ↔ ((1 ≤ count) × (count ≤ 999_999)) }
+        ensures in_range { IsSome result ↔ ((1 ≤ count) × (count ≤ most_shares)) }
         ensures value { IfSome result (λ shares. shares ≡ count) }
     {
         if count < Shares::LEAST {
@@ -58,7 +60,7 @@ impl Shares {
     pub fn count(self) -> u32
         ensures value { result ≡ self }
         ensures least { 1 ≤ result }
-        ensures most { result ≤ 999_999 }
+        ensures most { result ≤ most_shares }
     {
         self.count
     }

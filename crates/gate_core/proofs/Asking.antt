@@ -2,6 +2,7 @@
 use Rattle.std.proofs.Common.{◌≡◌, ◌+◌, ℕ, List, map, Some, sym, ap, ◌∙◌, subst}
 use Rattle.fix_types.specs.declared.application.AppBody.{AppBody}
 use Rattle.fix_types.specs.declared.application.AppMsg.{AppMsg}
+use Rattle.fix_types.specs.Application.{body_fields}
 use Rattle.ouch_codec.specs.declared.inbound.Inbound.{Inbound}
 use Rattle.ouch_codec.specs.Inbound.{inbound_bytes}
 use Rattle.session_law.specs.Frames.{told_of}
@@ -9,7 +10,6 @@ use Rattle.session_frames.specs.Written.{told}
 use Rattle.soup_session.specs.States.{is_up}
 use Rattle.soup_session.specs.Table as table
 use Rattle.order_law.specs.Messages.{Message}
-use Rattle.to_client.specs.Pending.{body_fields}
 use Rattle.order_core.specs.declared.outcome.CoreOut.{CoreOut}
 use Rattle.core_law.specs.Settings.{Settings, port_of, client_name}
 use Rattle.core_law.specs.Lists.{Lists, turned, client_called_all, port_called_all}

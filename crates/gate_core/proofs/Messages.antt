@@ -3,6 +3,7 @@ use Rattle.std.proofs.Common.{◌≡◌, ℕ, true, false, List, [], ◌∷◌, 
 use Rattle.std.specs.Prelude.{◌&&◌, is_some}
 use Rattle.std.specs.List.{flat_map}
 use Rattle.fix_types.specs.declared.application.AppMsg.{AppMsg}
+use Rattle.fix_types.specs.Application.{message_fields}
 use Rattle.session_law.specs.Frames.{Told, told_of}
 use Rattle.session_law.specs.Runs.{Timed, Came}
 use Rattle.session_frames.specs.Written.{told}
@@ -16,7 +17,7 @@ use Rattle.order_law.specs.Messages.{Message}
 use Rattle.core_law.specs.Settings.{Settings, client_name, has_client, port_of, terms}
 use Rattle.core_law.specs.Events.{ClientMessage, LinkOut, Batch, is_number}
 use Rattle.core_law.specs.Lists.{Lists, turned, client_called, client_called_all}
-use Rattle.core_law.specs.Sessions.{client_answer, client_outs, client_reports, issues, message_fields, port_outs, port_state, report_of, sends, stands_of, to_port}
+use Rattle.core_law.specs.Sessions.{client_answer, client_outs, client_reports, issues, port_outs, port_state, report_of, sends, stands_of, to_port}
 use Rattle.core_law.specs.Outcome.{Outcome, Stays, asked, message_in, messages, outcome}
 use Rattle.core_law.specs.After.{after, closed, with_outcome}
 use Rattle.core_law.specs.Due.{to_client_of, to_port_of, reports_of}

@@ -1,35 +1,27 @@
 -- The order level's turn of a client's message.
-use Rattle.std.proofs.Common.{◌≡◌, ◌+◌, ◌<◌, ℕ, true, false, List, [], ◌∷◌, map, None, refl, ap, ◌∙◌, subst, arith}
+use Rattle.std.proofs.Common.{◌≡◌, ◌+◌, ◌<◌, ℕ, true, false, List, [], ◌∷◌, map, None, refl, ap, subst, arith}
 use Rattle.std.specs.Prelude.{◌&&◌, nat_le}
 use Rattle.std.proofs.lemmas.Bool.Decides.{nat_tests}
 use Rattle.fix_types.specs.declared.application.AppMsg.{AppMsg}
-use Rattle.fix_types.specs.declared.application.AppMsg.TheVariants as messages
+use Rattle.fix_types.specs.Application.{body_fields, message_fields}
 use Rattle.ouch_codec.specs.Inbound.{inbound_bytes}
 use Rattle.soup_session.specs.declared.port_state.PortState.{PortState}
 use Rattle.soup_session.specs.declared.port_state.PortState.TheVariants.{Down, LoggingIn, Up, Ended, Faulted}
 use Rattle.soup_session.specs.States.{is_up}
-use Rattle.order_law.specs.Messages.{Message}
 use Rattle.order_law.specs.Verdicts.{Port}
 use Rattle.order_law.specs.History.{Asked, Came, Turn}
 use Rattle.order_law.specs.Headline.{Headline, Sends}
 use Rattle.to_market.specs.declared.port_state.PortState.{PortState as Stands}
 use Rattle.to_market.specs.PortsSeen.{port_seen}
-use Rattle.to_client.specs.Pending.{body_fields}
-use Rattle.order_ledger.specs.Seen as seen
 use Rattle.order_core.specs.declared.outcome.CoreOut.{CoreOut}
 use Rattle.order_core.specs.State.{IsAfter}
 use Rattle.order_core.specs.Turns.{client_turn}
 use Rattle.core_law.specs.Settings.{Settings, has_client, port_of, terms}
 use Rattle.core_law.specs.Lists.{Lists}
-use Rattle.core_law.specs.Sessions.{message_fields, port_state, stands_of}
+use Rattle.core_law.specs.Sessions.{port_state, stands_of}
 use Rattle.gate_core.specs.declared.gate.Gate.{Gate}
 use Rattle.gate_core.specs.State.{Parts}
 use Rattle.gate_core.specs.Steps.{IsTurn, turn_of}
-
-same-fields : (m : AppMsg) → seen.message_fields m ≡ message_fields m
-same-fields (messages.New order) = refl
-same-fields (messages.Cancel request) = refl
-same-fields (messages.Replace request) = refl
 
 -- a place is that of a number that there is
 pub has-place : (place count : ℕ) → place < count → (nat_le 1 (place + 1) && nat_le (place + 1) count) ≡ true
@@ -47,11 +39,10 @@ none-sent (Faulted n) P asked sends down none = none
 
 same-turn : (s : Settings) (n : ℕ) (message : AppMsg) (out : CoreOut) (state : Stands) (v : Lists)
     → port_seen state ≡ stands_of (port_state s (port_of s n) (v.port_calls (port_of s n))) → client_turn n message state out ≡ turn_of s n message out v
-same-turn s n message out state v stands =
-    ap (λ (fields : Message). turn fields (port_seen state)) (same-fields message) ∙ ap (turn (message_fields message)) stands
+same-turn s n message out state v stands = ap turn stands
   where
-    turn : Message → Port → Turn
-    turn fields port = record { event = Came n fields port; client = n; bodies = map body_fields out.bodies.items; sends = map inbound_bytes out.sends.items; fault = None }
+    turn : Port → Turn
+    turn port = record { event = Came n (message_fields message) port; client = n; bodies = map body_fields out.bodies.items; sends = map inbound_bytes out.sends.items; fault = None }
 
 pub taken : (s : Settings) (n : ℕ) (message : AppMsg) (out : CoreOut) (state : Stands) (v : Lists) (g new : Gate)
     → port_seen state ≡ stands_of (port_state s (port_of s n) (v.port_calls (port_of s n))) → has_client s n ≡ true → Parts s v g

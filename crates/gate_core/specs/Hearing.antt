@@ -4,11 +4,10 @@ use Rattle.soup_session.specs.declared.port_state.PortState.{PortState}
 use Rattle.soup_session.specs.declared.port_turn.PortOut.{PortOut}
 use Rattle.soup_session.specs.States.{is_up}
 use Rattle.order_law.specs.History.{outstanding}
-use Rattle.order_law.specs.Headline.{EachWith}
+use Rattle.order_law.specs.Headline.{EachWith, SaysIn}
 use Rattle.core_law.specs.Settings.{Settings, terms}
 use Rattle.core_law.specs.Lists.{Lists}
 use Rattle.core_law.specs.Sessions.{port_state}
-use Rattle.core_law.specs.Promises.{SaysAgain}
 use Rattle.gate_core.specs.declared.gate.Gate.{Gate}
 use Rattle.gate_core.specs.Steps.{IsSent}
 
@@ -18,7 +17,7 @@ came_up stood stands = not (is_up stood) && is_up stands
 
 -- the messages that it is sent then: all that is outstanding on it, in order; else there are none
 abbrev pub AreDue : Bool → Settings → ℕ → Lists → List (List ℕ) → Type 0
-AreDue true s p v messages = EachWith (SaysAgain (terms s) v.turns p) (outstanding (terms s) p v.turns) messages
+AreDue true s p v messages = EachWith (SaysIn (terms s) v.turns p) (outstanding (terms s) p v.turns) messages
 AreDue false s p v messages = messages ≡ []
 
 -- The port, which stood so before, is sent what is due.

@@ -8,6 +8,7 @@ use Rattle.session_frames.specs.Written.{told}
 use Rattle.session_law.specs.Runs.{Came}
 use Rattle.soup_session.specs.declared.port_turn.PortOut.{PortOut}
 use Rattle.soup_packets.specs.declared.packet.Packet.{Packet}
+use Rattle.fix_types.specs.Application.{body_fields, message_fields}
 use Rattle.soup_session.specs.States.{is_up}
 use Rattle.soup_session.specs.Table as table
 use Rattle.order_law.specs.Messages.{Message, body_of}
@@ -15,11 +16,10 @@ use Rattle.order_law.specs.History as orders
 use Rattle.order_law.specs.Headline.{Headline}
 use Rattle.order_core.specs.State as core
 use Rattle.order_core.specs.declared.outcome.CoreOut.{CoreOut}
-use Rattle.to_client.specs.Pending.{body_fields}
 use Rattle.core_law.specs.Settings.{Settings, terms, port_of, client_name, has_client, has_port}
 use Rattle.core_law.specs.Events.{Event, Batch, is_number}
 use Rattle.core_law.specs.Lists.{Lists, client_called, port_called, turned, client_called_all, port_called_all}
-use Rattle.core_law.specs.Sessions.{client_answer, port_answer, port_state, stands_of, message_fields, issues, sends, client_outs, client_reports, port_outs}
+use Rattle.core_law.specs.Sessions.{client_answer, port_answer, port_state, stands_of, issues, sends, client_outs, client_reports, port_outs}
 use Rattle.core_law.specs.After.{after}
 use Rattle.core_law.specs.Due.{Gives}
 use Rattle.core_law.specs.Promises.{Asks}

@@ -1,9 +1,9 @@
-pub mod Stages
-pub mod Tells
-pub mod AcceptedRow
-pub mod CanceledRow
-pub mod ExecutedRow
-pub mod BrokenRow
-pub mod CancelRejectRow
-pub mod RejectedRow
-pub mod ReplacedRow
+mod Stages
+mod Tells
+mod AcceptedRow
+mod CanceledRow
+mod ExecutedRow
+mod BrokenRow
+mod CancelRejectRow
+mod RejectedRow
+mod ReplacedRow

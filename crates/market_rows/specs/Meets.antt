@@ -1,12 +1,12 @@
 -- When what comes of a message on an order is what the law says.
 use Rattle.std.specs.Prelude.{◌≡◌, ℕ, Bool, true, false, List, [], map, Result, Ok, Err}
+use Rattle.fix_types.specs.Application.{body_fields}
 use Rattle.order_law.specs.declared.stage.Stage.TheVariants.{Waiting, Closed}
 use Rattle.order_law.specs.Messages.{Message}
 use Rattle.order_law.specs.Lawful.{row_holds}
 use Rattle.order_law.specs.Told.{told_by_type}
 use Rattle.order_histories.specs.OrderRecord.{OrderRecord, after_message, fill_of, last_of, lived, replacements, shown_as}
 use Rattle.orders.specs.Changes.{Fits, changed_by}
-use Rattle.to_client.specs.Pending.{body_fields}
 use Rattle.market_rows.specs.declared.heard.Heard.{Heard}
 use Rattle.market_rows.specs.declared.heard.RowFault.{RowFault}
 use Rattle.market_rows.specs.declared.heard.RowFault.TheVariants.{NoMemory, NotLawful}

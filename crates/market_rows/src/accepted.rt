@@ -1,9 +1,9 @@
 //! Accepted: the market took a new order.
 
 ghost use Rattle.std.specs.Prelude.{◌≡◌, ◌≤◌, ◌<◌, ◌^◌, true, length, map, IfOk, ℕ, List};
+ghost use Rattle.fix_types.specs.Application.{body_fields};
 ghost use Rattle.orders.specs.declared.change.Change.TheVariants.{Opened};
 ghost use Rattle.ouch_codec.specs.AcceptedParts.{SaysAccepted};
-ghost use Rattle.to_client.specs.Pending.{body_fields};
 ghost use Rattle.market_rows.specs.May.{dead_as, may_open_as};
 ghost use Rattle.market_rows.specs.Meets.{MeetsRow, told_of};
 

@@ -2,10 +2,10 @@
 
 ghost use Rattle.std.specs.Prelude.{◌≡◌, ◌≤◌, ◌<◌, ◌^◌, ◌∷◌, [], length, map, IfOk, Some, option_map, reverse, ℕ, List};
 ghost use Rattle.std.specs.List.{find, position};
+ghost use Rattle.fix_types.specs.Application.{body_fields};
 ghost use Rattle.order_histories.specs.OrderRecord.{stands_told};
 ghost use Rattle.orders.specs.Seen.{told_seen};
 ghost use Rattle.ouch_codec.specs.BrokenParts.{SaysBroken};
-ghost use Rattle.to_client.specs.Pending.{body_fields};
 ghost use Rattle.market_rows.specs.May.{broken_in, is_standing, was_in_book_as};
 ghost use Rattle.market_rows.specs.Meets.{IsSteady, MeetsRow, told_of};
 

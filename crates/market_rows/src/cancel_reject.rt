@@ -1,8 +1,8 @@
 //! Cancel Reject: the market does not cancel an order.
 
 ghost use Rattle.std.specs.Prelude.{◌≡◌, ◌≤◌, ℕ, true, length, map, IfOk, List};
+ghost use Rattle.fix_types.specs.Application.{body_fields};
 ghost use Rattle.ouch_codec.specs.CancelRejectParts.{SaysCancelReject};
-ghost use Rattle.to_client.specs.Pending.{body_fields};
 ghost use Rattle.market_rows.specs.May.{may_reject_cancel_as};
 ghost use Rattle.market_rows.specs.Meets.{MeetsRow, told_of};
 

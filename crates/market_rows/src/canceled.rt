@@ -1,8 +1,8 @@
 //! Canceled: shares of an order left the book without a trade.
 
 ghost use Rattle.std.specs.Prelude.{◌≡◌, ◌≤◌, ◌<◌, ◌^◌, true, length, map, IfOk, ℕ, List};
+ghost use Rattle.fix_types.specs.Application.{body_fields};
 ghost use Rattle.ouch_codec.specs.CanceledParts.{SaysCanceled};
-ghost use Rattle.to_client.specs.Pending.{body_fields};
 ghost use Rattle.market_rows.specs.May.{may_cancel_as};
 ghost use Rattle.market_rows.specs.Meets.{MeetsRow, told_of};
 

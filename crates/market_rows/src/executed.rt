@@ -2,8 +2,8 @@
 
 ghost use Rattle.std.specs.Prelude.{◌≡◌, ◌≤◌, ◌<◌, ◌^◌, ◌==◌, true, length, map, IfOk, ℕ, List};
 ghost use Rattle.std.specs.List.{list_any};
+ghost use Rattle.fix_types.specs.Application.{body_fields};
 ghost use Rattle.ouch_codec.specs.ExecutedParts.{SaysExecuted};
-ghost use Rattle.to_client.specs.Pending.{body_fields};
 ghost use Rattle.market_rows.specs.May.{has_number, may_trade_as, trade_said};
 ghost use Rattle.market_rows.specs.Meets.{MeetsRow, told_of};
 

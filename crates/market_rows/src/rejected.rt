@@ -1,8 +1,8 @@
 //! Rejected: the market didn't take a new order, or a replacement.
 
 ghost use Rattle.std.specs.Prelude.{◌≡◌, ℕ, ◌≤◌, ◌<◌, ◌^◌, true, false, length, map, IfOk, List};
+ghost use Rattle.fix_types.specs.Application.{body_fields};
 ghost use Rattle.ouch_codec.specs.RejectedParts.{SaysRejected};
-ghost use Rattle.to_client.specs.Pending.{body_fields};
 ghost use Rattle.market_rows.specs.May.{may_refuse_as, may_reject_replace_as};
 ghost use Rattle.market_rows.specs.Meets.{MeetsRow, told_of};
 

@@ -1,13 +1,14 @@
 //! Replaced: an order goes by another token from now on, with other terms.
 
 ghost use Rattle.std.specs.Prelude.{◌≡◌, ◌≤◌, ◌<◌, ◌^◌, true, length, map, IfOk, ℕ, List, Option, option_to_list};
+ghost use Rattle.fix_types.specs.Application.{body_fields};
 ghost use Rattle.orders.specs.declared.change.Change.TheVariants as changes;
 ghost use Rattle.ouch_codec.specs.ReplacedParts.{SaysReplaced};
 ghost use Rattle.order_law.specs.History.{Entry};
 ghost use Rattle.order_law.specs.Messages.{Message, text};
 ghost use Rattle.order_law.specs.Told as law;
 ghost use Rattle.to_client.specs.declared.pending.Pending.{Pending};
-ghost use Rattle.to_client.specs.Pending.{IsPending, body_fields};
+ghost use Rattle.to_client.specs.Pending.{IsPending};
 ghost use Rattle.to_client.specs.Shows.{IsRequest, ShowsAs};
 ghost use Rattle.market_rows.specs.May.{may_replace_as};
 ghost use Rattle.market_rows.specs.Meets.{MeetsRow, told_of};

@@ -3,6 +3,7 @@ use Rattle.std.proofs.Common.{◌≡◌, ℕ, ◌+◌, Bool, true, false, List, 
 use Rattle.std.proofs.lemmas.Bool.Decides.{nat_tests}
 use Rattle.std.specs.Prelude.{◌==◌, if◌then◌else◌, is_some, option_map, codes, IfOk}
 use Rattle.std.specs.declared.alloc.AllocError.{AllocError}
+use Rattle.fix_types.specs.Application.{body_fields}
 use Rattle.ouch_codec.specs.declared.layout.Kind.{Kind}
 use Rattle.ouch_codec.specs.Decoding.{layout_in, outbound_layouts}
 use Rattle.ouch_codec.specs.Layout.{is_message}
@@ -15,7 +16,6 @@ use Rattle.order_histories.specs.OrderRecord.{OrderRecord, after_message}
 use Rattle.order_histories.specs.Table.{State, by_number, by_token, put}
 use Rattle.orders.specs.Changes.{changed_by}
 use Rattle.order_table.specs.Held.{Held, found}
-use Rattle.to_client.specs.Pending.{body_fields}
 use Rattle.market_rows.specs.declared.heard.Heard.{Heard}
 use Rattle.market_rows.specs.Meets.{IsHeard, is_lawful}
 use Rattle.market_turns.specs.declared.judged.Judged.{Judged}

@@ -1,3 +1,3 @@
-pub mod Found
-pub mod Judging
-pub mod Refused
+mod Found
+mod Judging
+mod Refused

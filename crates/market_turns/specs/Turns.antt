@@ -1,6 +1,7 @@
 -- What a payload of the market makes of a table, as one answer. (OUCH 4.2, "Outbound Messages".)
 use Rattle.std.specs.Prelude.{◌≡◌, ℕ, ◌+◌, List, [], map, Some, decimal}
 use Rattle.std.specs.List.{count_by}
+use Rattle.fix_types.specs.Application.{body_fields}
 use Rattle.ouch_codec.specs.declared.refusal.DecodeRefusal.{DecodeRefusal}
 use Rattle.ouch_codec.specs.declared.refusal.DecodeRefusal.TheVariants as refusals
 use Rattle.order_law.specs.Messages.{Message}
@@ -12,7 +13,6 @@ use Rattle.order_histories.specs.OrderRecord.{OrderRecord}
 use Rattle.order_histories.specs.Table.{State, by_number, by_token, put}
 use Rattle.orders.specs.Changes.{Fits, changed_by}
 use Rattle.order_table.specs.Held.{Held}
-use Rattle.to_client.specs.Pending.{body_fields}
 use Rattle.market_rows.specs.declared.heard.Heard.{Heard}
 use Rattle.market_turns.specs.declared.judged.Judged.{Judged}
 use Rattle.market_turns.specs.declared.judged.Judged.TheVariants.{Faulty, Silent, Told}

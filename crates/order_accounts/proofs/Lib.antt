@@ -1,4 +1,4 @@
-pub mod Bytes
-pub mod Held
-pub mod Lists
-pub mod Numbers
+mod Bytes
+mod Held
+mod Lists
+mod Numbers

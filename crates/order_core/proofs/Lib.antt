@@ -1,3 +1,3 @@
-pub mod Turns
-pub mod Histories
+mod Turns
+mod Histories
 mod Addressed

@@ -3,6 +3,7 @@ use Rattle.std.proofs.Common.{◌≡◌, ℕ, suc, ◌<◌, ◌^◌, ◌++◌, L
 use Rattle.std.specs.Prelude.{OnErr, Bool, nat_lt, true}
 use Rattle.std.proofs.lemmas.Bool.Decides.{nat_tests}
 use Rattle.fix_types.specs.declared.application.AppMsg.{AppMsg}
+use Rattle.fix_types.specs.Application.{body_fields, message_fields}
 use Rattle.ouch_codec.specs.declared.inbound.Inbound.{Inbound}
 use Rattle.ouch_codec.specs.Inbound.{inbound_bytes}
 use Rattle.order_law.specs.Headline.{Each, EachWith, Says, Sends}
@@ -17,7 +18,6 @@ use Rattle.asked_messages.specs.Kept.{KeptMessage, kept_from, left_by}
 use Rattle.asked_messages.specs.KeptInTurns.{ClientTurnsKeep, KeepsOutstanding, MarketTurnsKeep, NothingIsKept, QuietTurnsKeep, SaidOfOrder}
 use Rattle.market_turns.specs.Turns.{number_of}
 use Rattle.market_turns.specs.declared.market_fault.MarketFault.{MarketFault}
-use Rattle.to_client.specs.Pending.{body_fields}
 use Rattle.to_market.specs.declared.port_state.PortState.{PortState}
 use Rattle.to_market.specs.PortsSeen.{port_seen}
 use Rattle.order_ledger.specs.declared.market_error.MarketError.{MarketError}
@@ -25,7 +25,7 @@ use Rattle.order_ledger.specs.declared.market_error.MarketError.TheVariants as e
 use Rattle.order_ledger.specs.declared.turns.ChangedOrder.{ChangedOrder}
 use Rattle.order_ledger.specs.declared.turns.MarketTurn.{MarketTurn}
 use Rattle.order_ledger.specs.Meets.{ChangesAny, GivesMarket, GoByNumbers}
-use Rattle.order_ledger.specs.Seen.{client_seen, message_fields}
+use Rattle.order_ledger.specs.Seen.{client_seen}
 use Rattle.order_core.specs.declared.outcome.CoreOut.{CoreOut}
 use Rattle.order_core.specs.declared.outcome.MarketOut.{MarketOut}
 use Rattle.order_core.specs.Meets.{MeetsClient, MeetsHandled, MeetsPayload, left_after, sent_of}

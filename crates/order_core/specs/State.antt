@@ -24,6 +24,10 @@ IsClient c client = ledger.IsClient c.table client
 abbrev pub issued : CoreState → ℕ
 issued c = ledger.issued c.table
 
+-- what each call keeps
+abbrev pub Keeps : CoreState → CoreState → Type 0
+Keeps old new = ledger.Keeps old.table new.table
+
 -- numbers are left for one call more, and for far more than any day has
 abbrev pub HasRoom : CoreState → Type 0
 HasRoom c = ledger.HasRoom c.table

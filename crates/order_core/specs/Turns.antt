@@ -1,6 +1,7 @@
 -- Calls of the order core as turns of a history.
 use Rattle.std.specs.Prelude.{ℕ, List, [], Some, None, map, Result, Ok, Err}
 use Rattle.fix_types.specs.declared.application.AppMsg.{AppMsg}
+use Rattle.fix_types.specs.Application.{body_fields, message_fields}
 use Rattle.ouch_codec.specs.Inbound.{inbound_bytes}
 use Rattle.order_law.specs.History.{Came, Heard, Turn}
 use Rattle.market_turns.specs.Turns.{number_of}
@@ -11,8 +12,7 @@ use Rattle.order_core.specs.declared.outcome.CoreOut.{CoreOut}
 use Rattle.order_core.specs.declared.outcome.MarketOut.{MarketOut}
 use Rattle.to_market.specs.declared.port_state.PortState.{PortState}
 use Rattle.to_market.specs.PortsSeen.{port_seen}
-use Rattle.to_client.specs.Pending.{body_fields}
-use Rattle.order_ledger.specs.Seen.{client_seen, message_fields}
+use Rattle.order_ledger.specs.Seen.{client_seen}
 
 -- a client's turn
 abbrev pub client_turn : ℕ → AppMsg → PortState → CoreOut → Turn

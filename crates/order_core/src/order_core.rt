@@ -38,14 +38,13 @@ impl Model for OrderCore {
 }
 
 impl OrderCore {
-    ghost use Rattle.order_law.specs.Headline.{EachWith, Headline};
+    ghost use Rattle.order_law.specs.Headline.{EachWith, Headline, SaysIn};
     ghost use Rattle.std.specs.Prelude.{option_map};
     ghost use Rattle.order_law.specs.History.{Entry, History, Terms, accepted, outstanding};
     ghost use Rattle.order_law.specs.Lawful.{order_of_token};
-    ghost use Rattle.asked_messages.specs.KeptInTurns.{SaysIn};
     ghost use Rattle.to_market.specs.TermsSeen.{terms_seen};
     ghost use Rattle.order_core.specs.Meets.{MeetsClient, MeetsPayload};
-    ghost use Rattle.order_core.specs.State.{IsAfter, clients, IsClient, issued, HasRoom};
+    ghost use Rattle.order_core.specs.State.{IsAfter, clients, IsClient, issued, HasRoom, Keeps};
     ghost use Rattle.order_core.specs.Turns.{OfTurn, client_turn};
 
     /// The order level of these clients, with no orders.
@@ -81,8 +80,7 @@ impl OrderCore {
             → length before < 2 ^ 58 → IsAfter terms before self.old → IsAfter terms (client_turn client message.now port out ∷ before) self.new) }
         ensures headline { IfOk result (λ out. (terms : List Terms) (before : History)
             → length before < 2 ^ 58 → IsAfter terms before self.old → Headline terms (client_turn client message.now port out ∷ before)) }
-        ensures clients { clients self.new ≡ clients self.old }
-        ensures issued { issued self.new ≤ issued self.old + 3 }
+        ensures keeps { Keeps self.old self.new }
         ensures err { OnErr result (self.new ≡ self.old) }
     {
         tables_have_the_headline();
@@ -112,8 +110,7 @@ impl OrderCore {
             → length before < 2 ^ 58 → IsAfter terms before self.old → IsAfter terms (turn ∷ before) self.new) }
         ensures headline { OfTurn port payload.now result (λ turn. (terms : List Terms) (before : History)
             → length before < 2 ^ 58 → IsAfter terms before self.old → Headline terms (turn ∷ before)) }
-        ensures clients { clients self.new ≡ clients self.old }
-        ensures issued { issued self.new ≤ issued self.old + 3 }
+        ensures keeps { Keeps self.old self.new }
         ensures err { OnErr result (self.new ≡ self.old) }
     {
         tables_have_the_headline();
@@ -156,8 +153,7 @@ impl OrderCore {
         requires client { IsClient self.old client }
         requires room { HasRoom self.old }
         ensures meets { IfOk result (λ out. MeetsClient self.old client message.now (port_seen port) out self.new) }
-        ensures clients { clients self.new ≡ clients self.old }
-        ensures issued { issued self.new ≤ issued self.old + 3 }
+        ensures keeps { Keeps self.old self.new }
         ensures err { OnErr result (self.new ≡ self.old) }
     {
         self.asked.reserve(2)?;
@@ -180,8 +176,7 @@ impl OrderCore {
     ) -> Result<MarketOut, MarketError>
         requires room { HasRoom self.old }
         ensures meets { MeetsPayload self.old port payload.now result self.new }
-        ensures clients { clients self.new ≡ clients self.old }
-        ensures issued { issued self.new ≤ issued self.old + 3 }
+        ensures keeps { Keeps self.old self.new }
         ensures err { OnErr result (self.new ≡ self.old) }
     {
         let turn = self.ledger.market(alloc, port, payload)?;

@@ -1,14 +1,14 @@
 //! Whole runs: what comes of a list of events, from no order on.
 
 ghost use Rattle.std.specs.Prelude.{◌≡◌, ◌≤◌, ◌<◌, ◌+◌, ◌^◌, ◌∷◌, true, false, Some, List, length, map, IfOk, OnErr};
+ghost use Rattle.fix_types.specs.Application.{message_fields};
 ghost use Rattle.order_law.specs.Headline.{Headline};
 ghost use Rattle.order_law.specs.History.{Came, Heard, History, Terms};
 ghost use Rattle.order_histories.specs.Runs.{IsRun};
 ghost use Rattle.order_core.specs.Runs.{AreKnown, history, is_known, outcome_turn, turn_of};
 ghost use Rattle.to_market.specs.PortsSeen.{port_seen};
 ghost use Rattle.to_market.specs.TermsSeen.{terms_seen};
-ghost use Rattle.order_core.specs.State.{IsAfter, clients, issued, HasRoom, IsClient};
-ghost use Rattle.order_ledger.specs.Seen.{message_fields};
+ghost use Rattle.order_core.specs.State.{IsAfter, clients, HasRoom, IsClient, Keeps};
 
 use crate::order_core::OrderCore;
 use fix_types::{AppBody, AppMsg};
@@ -54,8 +54,7 @@ pub fn step(core: &mut OrderCore, alloc: Global, event: &Event) -> Result<Outcom
         → length before < 2 ^ 58 → IsAfter terms before core.old → IsAfter terms (turn_of event.now outcome ∷ before) core.new) }
     ensures headline { IfOk result (λ outcome. (terms : List Terms) (before : History)
         → length before < 2 ^ 58 → IsAfter terms before core.old → Headline terms (turn_of event.now outcome ∷ before)) }
-    ensures clients { clients core.new ≡ clients core.old }
-    ensures issued { issued core.new ≤ issued core.old + 3 }
+    ensures keeps { Keeps core.old core.new }
     ensures err { OnErr result (core.new ≡ core.old) }
 {
     match event {
@@ -83,8 +82,7 @@ fn client_outcome(
     ensures headline { IfOk result (λ outcome. (terms : List Terms) (before : History)
         → length before < 2 ^ 58 → IsAfter terms before core.old
         → Headline terms (outcome_turn (Came client (message_fields message.now) (port_seen port)) outcome ∷ before)) }
-    ensures clients { clients core.new ≡ clients core.old }
-    ensures issued { issued core.new ≤ issued core.old + 3 }
+    ensures keeps { Keeps core.old core.new }
     ensures err { OnErr result (core.new ≡ core.old) }
 {
     let out = core.client(alloc, client, message, port)?;
@@ -110,8 +108,7 @@ fn market_outcome(
     ensures headline { IfOk result (λ outcome. (terms : List Terms) (before : History)
         → length before < 2 ^ 58 → IsAfter terms before core.old
         → Headline terms (outcome_turn (Heard port payload.now) outcome ∷ before)) }
-    ensures clients { clients core.new ≡ clients core.old }
-    ensures issued { issued core.new ≤ issued core.old + 3 }
+    ensures keeps { Keeps core.old core.new }
     ensures err { OnErr result (core.new ≡ core.old) }
 {
     match core.market(alloc, port, payload) {

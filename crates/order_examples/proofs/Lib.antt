@@ -1,1 +1,1 @@
-pub mod Holding
+mod Holding

@@ -1,45 +1,45 @@
 pub mod Texts
 pub mod Lists
 pub mod Bodies
-pub mod Due
-pub mod Reports
-pub mod Sound
-pub mod Rejects
-pub mod Leads
-pub mod Moves
+mod Due
+mod Reports
+mod Sound
+mod Rejects
+mod Leads
+mod Moves
 pub mod Executed
-pub mod Asked
-pub mod Canceled
-pub mod Accepted
-pub mod Broken
-pub mod Rejected
-pub mod Replaced
-pub mod Judged
-pub mod Row
-pub mod Addressed
+mod Asked
+mod Canceled
+mod Accepted
+mod Broken
+mod Rejected
+mod Replaced
+mod Judged
+mod Row
+mod Addressed
 pub mod Fits
-pub mod Deaf
-pub mod Agreeing
+mod Deaf
+mod Agreeing
 pub mod Holds
 pub mod Hearing
-pub mod Lawfully
-pub mod Pushing
+mod Lawfully
+mod Pushing
 pub mod Verdicts
 pub mod Coming
-pub mod Came
-pub mod Requested
+mod Came
+mod Requested
 pub mod Truth
 pub mod Finding
 pub mod Linked
 pub mod Placed
-pub mod Ids
-pub mod Stepping
-pub mod Answering
+mod Ids
+mod Stepping
+mod Answering
 pub mod Running
 pub mod OnPorts
 pub mod Unanswered
 pub mod NewlyAsked
 pub mod AllAsked
-pub mod Known
-pub mod Numbers
-pub mod Leading
+mod Known
+mod Numbers
+mod Leading

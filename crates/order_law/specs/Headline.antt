@@ -1,5 +1,5 @@
 -- What each turn of the order level promises, and the headline: that every turn of a history keeps it.
-use Rattle.std.specs.Prelude.{◌≡◌, ℕ, ◌+◌, ◌==◌, Bool, true, false, not, ◌&&◌, ◌||◌, List, [], ◌∷◌, map, filter, Option, Some, None, if◌then◌else◌, bytes_eq, codes, decimal, is_some, option_map, unwrap_or}
+use Rattle.std.specs.Prelude.{◌≡◌, ℕ, ◌+◌, ◌==◌, Bool, true, not, ◌&&◌, ◌||◌, List, [], ◌∷◌, map, filter, Option, Some, None, if◌then◌else◌, bytes_eq, codes, decimal, option_map, unwrap_or}
 use Rattle.std.specs.List.{filter_map, list_any}
 use Rattle.std.specs.Str.Parse.{digits_value}
 use Rattle.fixed_point.specs.Price.{price_text}
@@ -10,7 +10,7 @@ use Rattle.order_law.specs.Life.{Life, is_closed, is_type}
 use Rattle.order_law.specs.Reading.{Reading, reading, is_report, is_report_on, is_refused_order, average_of}
 use Rattle.order_law.specs.Chain.{Chain, chain, Request, has_pending_cancel, has_pending_replace}
 use Rattle.order_law.specs.Verdicts.{Port, Up, Down, Ended, Faulted}
-use Rattle.order_law.specs.History.{Terms, terms_of, Event, Came, Heard, Turn, History, issued, handled, accepted, Entry, by_id, Asked, Said, SaysNew, SaysReplace, SaysCancel, is_replace_said, is_cancel_said, outstanding, life_of, entry_at, asks_of, is_new_order, pending_tokens}
+use Rattle.order_law.specs.History.{Terms, terms_of, Event, Came, Heard, Turn, History, issued, handled, accepted, Entry, by_id, new_of, Asked, Said, SaysNew, SaysReplace, SaysCancel, is_replace_said, is_cancel_said, outstanding, life_of, entry_at, asks_of, is_new_order, pending_tokens}
 use Rattle.order_law.specs.Lawful.{judgement, order_of_token}
 use Rattle.order_law.specs.Told.{Told, told}
 
@@ -209,6 +209,22 @@ Sends (Faulted n) P asked sends = sends ≡ []
 -- the order of a token that was given on a port, by its OrderID as a number
 abbrev pub order_number : List Terms → ℕ → List Entry → List ℕ → Option ℕ
 order_number terms port entries token = option_map (λ (e : Entry). digits_value 10 e.order) (order_of_token terms port entries token)
+
+-- the client of a new order, none for no order
+abbrev pub client_by : Option Entry → ℕ
+client_by None = 0
+client_by (Some new) = new.client
+
+-- how the client of an order stands, by the settings
+abbrev pub standing_by : List Terms → List Entry → List ℕ → Standing
+standing_by terms entries order = (terms_of terms (client_by (new_of order entries))).standing
+
+abbrev pub standing_in : List Terms → History → List ℕ → Standing
+standing_in terms h order = standing_by terms (accepted terms h) order
+
+-- A message says what is asked, as the lists have it: the orders of the port's tokens, and how the order's client stands. (OUCH 4.2, "Inbound Messages".)
+abbrev pub SaysIn : List Terms → History → ℕ → Asked → List ℕ → Type 0
+SaysIn terms h port asked message = Says (standing_in terms h asked.order) (order_number terms port (accepted terms h)) asked message
 
 -- a client's turn: what is asked of the market is sent, and nothing is a fault
 pub record AnswersClient (terms : List Terms) (client : ℕ) (m : Message) (port : Port) (t : Turn) (before : History) : Type 0 where

@@ -3,6 +3,7 @@ use Rattle.std.proofs.Common.{◌≡◌, ℕ, ◌+◌, ◌≤◌, Bool, true, fa
 use Rattle.std.specs.Prelude.{if◌then◌else◌}
 use Rattle.fix_types.specs.declared.application.AppBody.{AppBody}
 use Rattle.std.specs.List.{count_by, find}
+use Rattle.fix_types.specs.Application.{body_fields}
 use Rattle.order_law.specs.History.{Entry}
 use Rattle.order_law.specs.Life.{is_closed}
 use Rattle.order_law.specs.Reading.{is_report}
@@ -17,7 +18,6 @@ use Rattle.order_histories.proofs.Texts.{eq-is}
 use Rattle.orders.specs.Changes.{changed_by}
 use Rattle.order_table.specs.Held.{Held, with_number}
 use Rattle.order_table.proofs.Counted.{change-new}
-use Rattle.to_client.specs.Pending.{body_fields}
 use Rattle.market_rows.specs.declared.heard.Heard.{Heard}
 use Rattle.market_turns.specs.Turns.{IsTold}
 use Rattle.order_ledger.specs.declared.turns.ChangedOrder.{ChangedOrder}

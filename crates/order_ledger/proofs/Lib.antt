@@ -1,7 +1,7 @@
-pub mod Terms
-pub mod Carried
-pub mod Entered
-pub mod Asked
-pub mod Requests
-pub mod NewVerdict
-pub mod Heard
+mod Terms
+mod Carried
+mod Entered
+mod Asked
+mod Requests
+mod NewVerdict
+mod Heard

@@ -11,19 +11,7 @@ use Rattle.to_market.specs.declared.refusal.Refusal.{Refusal}
 use Rattle.to_market.specs.declared.refusal.Refusal.TheVariants as refusals
 use Rattle.to_market.specs.FieldRows.{row}
 use Rattle.to_market.specs.Refusals.{refused_by}
-
--- the second verdict where the first accepts
-abbrev follows : Verdict → Verdict → Verdict
-follows Accepted v = v
-follows (Refused code why) v = Refused code why
-
-step : (holds : Bool) (code : ℕ) (why : List ℕ) (all first more : Verdict) → all ≡ follows first more → (if holds then Refused code why else all) ≡ follows (if holds then Refused code why else first) more
-step true code why all first more e = refl
-step false code why all first more e = e
-
-first_row-append : (rows more : List Row) → first_row (rows ++ more) ≡ follows (first_row rows) (first_row more)
-first_row-append [] more = refl
-first_row-append (r ∷ rows) more = step r.holds r.code r.why (first_row (rows ++ more)) (first_row rows) (first_row more) (first_row-append rows more)
+use Rattle.to_market.proofs.Rows.{follows, first_row-append}
 
 -- the verdict by: the id is used; the rows on the port; those on the fields; the client's orders; the tokens
 abbrev by_rows : (is_used : Bool) (ports fields : Verdict) (is_full is_spent : Bool) → Verdict

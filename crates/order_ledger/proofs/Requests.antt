@@ -1,6 +1,7 @@
 -- A cancel or a replace, put into the table, is what the table's step gives.
 use Rattle.std.proofs.Common.{◌≡◌, ℕ, ◌+◌, ◌≤◌, List, [], ◌∷◌, length, map, refl, sym, ap, ◌∙◌, subst, arith, Option, Some, None, decimal}
 use Rattle.fix_types.specs.declared.application.AppBody.{AppBody}
+use Rattle.fix_types.specs.Application.{body_fields}
 use Rattle.ouch_codec.specs.Inbound.{inbound_bytes}
 use Rattle.ouch_codec.specs.declared.inbound.Inbound.{Inbound}
 use Rattle.order_law.specs.Headline.{Each, EachWith, Says}
@@ -15,7 +16,6 @@ use Rattle.orders.specs.Seen.{cancel_seen, replace_seen}
 use Rattle.orders.specs.declared.requests.Cancelling.{Cancelling}
 use Rattle.orders.specs.declared.requests.Replacing.{Replacing}
 use Rattle.order_table.specs.Held.{Held, changed, with_number}
-use Rattle.to_client.specs.Pending.{body_fields}
 use Rattle.to_market.specs.PortsSeen.{port_seen}
 use Rattle.request_turns.specs.Turns.{AreOf, IsCancelling, IsReplacing}
 use Rattle.request_turns.specs.declared.sender.Sender.{Sender}

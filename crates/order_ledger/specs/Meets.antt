@@ -4,6 +4,7 @@ use Rattle.tokens.specs.TokenText.{token_text}
 use Rattle.fix_types.specs.declared.application.AppMsg.{AppMsg}
 use Rattle.fix_types.specs.declared.new_order.NewOrder.{NewOrder}
 use Rattle.fix_types.specs.NewOrder.{new_order_fields}
+use Rattle.fix_types.specs.Application.{body_fields, message_fields}
 use Rattle.ouch_codec.specs.declared.inbound.enter_order.EnterOrder.{EnterOrder}
 use Rattle.ouch_codec.specs.Inbound.{inbound_bytes}
 use Rattle.order_law.specs.Asks.{limit_of, total_of}
@@ -25,8 +26,7 @@ use Rattle.request_turns.specs.Turns.{AreOf}
 use Rattle.order_ledger.specs.declared.turns.ChangedOrder.{ChangedOrder}
 use Rattle.order_ledger.specs.declared.turns.ClientTurn.{ClientTurn}
 use Rattle.order_ledger.specs.declared.turns.MarketTurn.{MarketTurn}
-use Rattle.to_client.specs.Pending.{body_fields}
-use Rattle.order_ledger.specs.Seen.{client_seen, message_fields}
+use Rattle.order_ledger.specs.Seen.{client_seen}
 
 -- the order that a ClOrdID leads to is the one that its OrderID leads to
 abbrev pub GoByNumbers : State → Type 0

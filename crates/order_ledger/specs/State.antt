@@ -16,6 +16,11 @@ pub record IsClient (s : State) (client : ℕ) : Type 0 where
 abbrev pub issued : State → ℕ
 issued s = s.order_ids + s.exec_ids + length s.tokens
 
+-- what each call keeps: there are the same clients, and it gives three numbers at most
+pub record Keeps (old new : State) : Type 0 where
+  pub clients : clients new ≡ clients old
+  pub issued : issued new ≤ issued old + 3
+
 -- numbers are left for one call more, and for far more than any day has
 abbrev pub HasRoom : State → Type 0
 HasRoom s = issued s < 2 ^ 60

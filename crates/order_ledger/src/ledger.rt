@@ -55,7 +55,7 @@ impl OrderLedger {
     ghost use Rattle.to_market.specs.PortsSeen.{port_seen};
     ghost use Rattle.to_market.specs.TermsSeen.{terms_seen};
     ghost use Rattle.order_ledger.specs.Meets.{MeetsMessage};
-    ghost use Rattle.order_ledger.specs.State.{clients, IsClient, issued, HasRoom};
+    ghost use Rattle.order_ledger.specs.State.{IsClient, HasRoom, Keeps};
 
     /// The ledger of these clients, with no orders.
     pub fn new(alloc: Global, terms: &[ClientTerms]) -> Result<OrderLedger, AllocError>
@@ -106,8 +106,7 @@ impl OrderLedger {
         requires room { HasRoom self.old }
         ensures meets { IfOk result (λ turn. MeetsMessage self.old client message.now (port_seen port) turn self.new) }
         ensures few { IfOk result (λ turn. length turn.asks.items ≤ 2) }
-        ensures clients { clients self.new ≡ clients self.old }
-        ensures issued { issued self.new ≤ issued self.old + 3 }
+        ensures keeps { Keeps self.old self.new }
         ensures err { OnErr result (self.new ≡ self.old) }
     {
         match message {

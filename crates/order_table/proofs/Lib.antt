@@ -1,3 +1,3 @@
 pub mod Newest
 pub mod Counted
-pub mod StillOpen
+mod StillOpen

@@ -1,3 +1,3 @@
 pub mod Marks
-pub mod Broken
-pub mod Quantities
+mod Broken
+mod Quantities

@@ -1,5 +1,6 @@
 -- What a change makes of an order: `order_histories`' words, with the fields of the message in place of its bytes.
 use Rattle.std.specs.Prelude.{◌≡◌, ◌≢◌, ◌≤◌, ℕ, Bool, false, not, ◌-◌, ◌+◌, ◌==◌, List, ◌∷◌, Option, Some, None, bytes_eq, filter, if◌then◌else◌}
+use Rattle.fixed_point.specs.Decimal.{most_shares}
 use Rattle.order_law.specs.declared.stage.Stage.TheVariants.{Waiting, Working}
 use Rattle.order_law.specs.Messages.{text}
 use Rattle.order_law.specs.History.{Entry, token_of}
@@ -43,10 +44,6 @@ changed_by (Broken t) o = broken (told_seen t) o
 changed_by Refused o = unasked (refused o)
 changed_by (NotReplaced token) o = at o None (still_without token o.cancel)
 changed_by (NotCanceled token) o = at o o.replace (still_without token o.cancel)
-
--- the most shares of one message
-abbrev pub most_shares : ℕ
-most_shares = 999_999
 
 -- a change that can be of this order
 abbrev pub Fits : Change → OrderRecord → Type 0

@@ -1,6 +1,7 @@
 //! How far an order has come, in numbers.
 
 ghost use Rattle.std.specs.Prelude.{◌≡◌, ◌≢◌, ◌≤◌, ◌<◌, ◌+◌, ◌-◌, ◌*◌, ◌^◌, false, true};
+ghost use Rattle.fixed_point.specs.Decimal.{most_shares};
 ghost use Rattle.order_law.specs.declared.stage.Stage.TheVariants.{Waiting, Working, Closed};
 
 use order_law::Stage;
@@ -27,20 +28,20 @@ pub struct Progress {
     pub tokens: u32,
     /// The shares of all its trades, those that were broken too.
     ever: u64,
-    ghost small: { ever + unfilled + cancelled ≤ 999_999 * tokens },
+    ghost small: { ever + unfilled + cancelled ≤ most_shares * tokens },
     ghost tokens_set: { (1 ≤ tokens) × (tokens ≤ 65_536) },
     ghost executed_set: { executed ≤ ever },
     ghost value_set: { value ≤ ever * 4_294_967_295 },
     ghost closed_set: { stage ≡ Closed → unfilled ≡ 0 },
     ghost waiting_set: { stage ≡ Waiting → (unfilled ≡ 0) × (ever ≡ 0) × (cancelled ≡ 0) },
     ghost price_set: { price < 2 ^ 32 },
-    ghost total_set: { total ≤ 999_999 * tokens },
+    ghost total_set: { total ≤ most_shares * tokens },
 }
 
 impl Progress {
     /// Of an order that waits for the market's answer.
     pub fn entered(total: u32, price: u32) -> Progress
-        requires { total ≤ 999_999 }
+        requires { total ≤ most_shares }
         ensures stage { result.stage ≡ Waiting }
         ensures refused { result.is_refused ≡ false }
         ensures total { result.total ≡ total }
@@ -68,7 +69,7 @@ impl Progress {
     /// In the book with so many shares at this price.
     pub fn opened(self, shares: u32, price: u32) -> Progress
         requires waits { self.stage ≡ Waiting }
-        requires shares { shares ≤ 999_999 }
+        requires shares { shares ≤ most_shares }
         ensures stage { result.stage ≡ Working }
         ensures refused { result.is_refused ≡ self.is_refused }
         ensures total { result.total ≡ self.executed + shares }
@@ -96,7 +97,7 @@ impl Progress {
     /// The same under a further token, in the place of what was open.
     pub fn replaced(self, shares: u32, price: u32) -> Progress
         requires works { self.stage ≡ Working }
-        requires shares { shares ≤ 999_999 }
+        requires shares { shares ≤ most_shares }
         requires tokens { self.tokens < 65_536 }
         ensures stage { result.stage ≡ Working }
         ensures refused { result.is_refused ≡ self.is_refused }

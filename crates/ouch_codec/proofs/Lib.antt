@@ -1,1 +1,1 @@
-pub mod Reading
+mod Reading

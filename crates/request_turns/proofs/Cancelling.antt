@@ -4,6 +4,7 @@ use Rattle.std.specs.Prelude.{option_to_list}
 use Rattle.fix_types.specs.declared.application.AppBody.{AppBody}
 use Rattle.fix_types.specs.declared.cancel_request.CancelRequest.{CancelRequest}
 use Rattle.fix_types.specs.CancelRequest.{cancel_request_fields}
+use Rattle.fix_types.specs.Application.{body_fields}
 use Rattle.ouch_codec.specs.declared.inbound.Inbound.{Inbound}
 use Rattle.order_law.specs.History.{Entry}
 use Rattle.order_law.specs.Messages.{Message}
@@ -14,7 +15,6 @@ use Rattle.order_histories.specs.OrderRecord.{OrderRecord, at, live_token, repla
 use Rattle.order_histories.specs.Table.{State, put}
 use Rattle.orders.specs.declared.requests.Cancelling.{Cancelling}
 use Rattle.orders.specs.Seen.{cancel_seen}
-use Rattle.to_client.specs.Pending.{body_fields}
 use Rattle.to_market.specs.PortsSeen.{port_seen}
 use Rattle.to_market.specs.RequestAsks.{cancel_asked_with}
 use Rattle.request_turns.specs.declared.sender.Sender.{Sender}

@@ -1,5 +1,5 @@
-pub mod Standing
-pub mod Steps
-pub mod Sending
-pub mod Cancelling
-pub mod Replacing
+mod Standing
+mod Steps
+mod Sending
+mod Cancelling
+mod Replacing

@@ -5,6 +5,7 @@ use Rattle.tokens.specs.TokenText.{token_text}
 use Rattle.fix_types.specs.declared.application.AppBody.{AppBody}
 use Rattle.fix_types.specs.declared.replace_request.ReplaceRequest.{ReplaceRequest}
 use Rattle.fix_types.specs.ReplaceRequest.{replace_request_fields}
+use Rattle.fix_types.specs.Application.{body_fields}
 use Rattle.ouch_codec.specs.declared.inbound.Inbound.{Inbound}
 use Rattle.order_law.specs.History.{Entry, Terms, terms_of}
 use Rattle.order_law.specs.Messages.{Message}
@@ -14,7 +15,6 @@ use Rattle.order_histories.specs.OrderRecord.{OrderRecord, at, shown_as}
 use Rattle.order_histories.specs.Table.{GivenToken, State, is_replacement_of, put}
 use Rattle.orders.specs.declared.requests.Replacing.{Replacing}
 use Rattle.orders.specs.Seen.{replace_seen}
-use Rattle.to_client.specs.Pending.{body_fields}
 use Rattle.to_market.specs.PortsSeen.{port_seen}
 use Rattle.request_turns.specs.declared.sender.Sender.{Sender}
 use Rattle.request_turns.specs.Asked.{IsAccepted, TakesToken, replaces_asked}

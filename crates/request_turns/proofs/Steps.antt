@@ -2,6 +2,7 @@
 use Rattle.std.proofs.Common.{◌≡◌, ℕ, Bool, false, List, [], ◌∷◌, length, sym, ap, ◌∙◌, Some}
 use Rattle.std.specs.Prelude.{Option, option_map}
 use Rattle.fix_types.specs.declared.application.AppBody.{AppBody}
+use Rattle.fix_types.specs.Application.{body_fields}
 use Rattle.order_law.specs.History.{is_new_order}
 use Rattle.order_law.specs.Messages.{Message, text}
 use Rattle.order_law.specs.Told.{refused_request}
@@ -9,7 +10,6 @@ use Rattle.order_law.specs.Verdicts.{Accepted, Port, first_row, rows_of_request}
 use Rattle.order_histories.specs.Machine.{accept_on, by_verdict, client_step, tells, verdict_in, with_used}
 use Rattle.order_histories.specs.OrderRecord.{OrderRecord, shown_as}
 use Rattle.order_histories.specs.Table.{State, by_id, has_used, named_as}
-use Rattle.to_client.specs.Pending.{body_fields}
 use Rattle.to_market.specs.declared.refusal.Refusal.{Refusal}
 use Rattle.to_market.specs.PortsSeen.{port_seen}
 use Rattle.to_market.specs.Refusals.{request_code_of, request_refused_by, words_of}

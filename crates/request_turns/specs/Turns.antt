@@ -7,6 +7,7 @@ use Rattle.fix_types.specs.declared.cancel_request.CancelRequest.{CancelRequest}
 use Rattle.fix_types.specs.declared.replace_request.ReplaceRequest.{ReplaceRequest}
 use Rattle.fix_types.specs.CancelRequest.{cancel_request_fields}
 use Rattle.fix_types.specs.ReplaceRequest.{replace_request_fields}
+use Rattle.fix_types.specs.Application.{body_fields}
 use Rattle.ouch_codec.specs.declared.inbound.Inbound.{Inbound}
 use Rattle.ouch_codec.specs.Inbound.{inbound_bytes}
 use Rattle.order_law.specs.Headline.{Each, EachWith, Says}
@@ -20,7 +21,6 @@ use Rattle.orders.specs.declared.requests.Cancelling.{Cancelling}
 use Rattle.orders.specs.declared.requests.Replacing.{Replacing}
 use Rattle.orders.specs.Seen.{cancel_seen, replace_seen}
 use Rattle.order_table.specs.Held.{Held}
-use Rattle.to_client.specs.Pending.{body_fields}
 use Rattle.to_market.specs.PortsSeen.{port_seen}
 use Rattle.to_market.specs.TermsSeen.{terms_seen}
 use Rattle.request_turns.specs.declared.sender.Sender.{Sender}

@@ -1,10 +1,10 @@
 //! Requests that a row of their table refuses.
 
 ghost use Rattle.std.specs.Prelude.{◌≡◌, ◌∷◌, [], ℕ, None, Option, IfOk};
+ghost use Rattle.fix_types.specs.Application.{body_fields};
 ghost use Rattle.order_law.specs.Messages.{Message};
 ghost use Rattle.order_law.specs.Told as law;
 ghost use Rattle.order_law.specs.Verdicts.{Port, first_row, rows_of_request};
-ghost use Rattle.to_client.specs.Pending.{body_fields};
 ghost use Rattle.to_client.specs.Shows.{IsRequest, ShowsAny};
 ghost use Rattle.to_market.specs.Refusals.{request_code_of, request_refused_by, words_of};
 

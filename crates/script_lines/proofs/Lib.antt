@@ -1,4 +1,4 @@
 pub mod Begins
-pub mod Numerals
-pub mod Spaces
-pub mod Tests
+mod Numerals
+mod Spaces
+mod Tests

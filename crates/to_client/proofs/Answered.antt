@@ -7,6 +7,7 @@ use Rattle.fix_types.specs.declared.application.AppBody.{AppBody}
 use Rattle.fix_types.specs.declared.application.AppBody.TheVariants as bodies
 use Rattle.fix_types.specs.declared.cancel_reject.CancelReject.{CancelReject}
 use Rattle.fix_types.specs.CancelReject.{cancel_reject_fields}
+use Rattle.fix_types.specs.Application.{body_fields}
 use Rattle.order_law.specs.Messages.{Message}
 use Rattle.order_law.specs.History.{Entry}
 use Rattle.order_law.specs.Verdicts.{is_replace}
@@ -14,7 +15,7 @@ use Rattle.order_law.specs.Told as law
 use Rattle.to_client.specs.declared.pending.Pending.{Pending}
 use Rattle.to_client.specs.declared.shown.Request.{Request}
 use Rattle.to_client.specs.declared.shown.Shown.{Shown}
-use Rattle.to_client.specs.Pending.{IsPending, body_fields, rejects_of}
+use Rattle.to_client.specs.Pending.{IsPending, rejects_of}
 use Rattle.to_client.specs.Shows.{IsAnyRequest, IsRequest, ShowsAny, ShowsAs}
 
 abbrev RequestsTyped : Option Entry → Option Entry → Type 0

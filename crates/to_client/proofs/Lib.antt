@@ -1,6 +1,5 @@
-pub mod Inside
-pub mod Statuses
-pub mod Reported
-pub mod Refused
-pub mod OnRequests
+mod Statuses
+mod Reported
+mod Refused
+mod OnRequests
 pub mod Answered

@@ -1,9 +1,5 @@
 -- The pending requests of an order, and the bodies that answer them.
 use Rattle.std.specs.Prelude.{◌≡◌, ℕ, true, false, List, [], ◌∷◌, ◌++◌, Option, Some, None, IfSome, option_map, option_to_list}
-use Rattle.fix_types.specs.declared.application.AppBody.{AppBody}
-use Rattle.fix_types.specs.declared.application.AppBody.TheVariants as bodies
-use Rattle.fix_types.specs.CancelReject.{cancel_reject_fields}
-use Rattle.fix_types.specs.Report.{report_fields}
 use Rattle.order_law.specs.Messages.{Message}
 use Rattle.order_law.specs.History.{Entry}
 use Rattle.order_law.specs.Verdicts.{is_replace}
@@ -11,11 +7,6 @@ use Rattle.order_law.specs.Told as law
 use Rattle.order_histories.specs.OrderRecord.{Cancelling}
 use Rattle.to_client.specs.declared.pending.Pending.{Pending}
 use Rattle.to_client.specs.Shows.{IsAnyRequest}
-
--- a body for a client, as fields
-abbrev pub body_fields : AppBody → Message
-body_fields (bodies.Report report) = report_fields report
-body_fields (bodies.CancelReject reject) = cancel_reject_fields reject
 
 abbrev pub cancel_in : Option Cancelling → Option Entry
 cancel_in c = option_map (λ (x : Cancelling). x.request) c

@@ -8,9 +8,10 @@ ghost use Rattle.fix_fields.specs.Field.{is_inside};
 ghost use Rattle.fix_types.specs.Report.{report_fields};
 ghost use Rattle.fix_values.specs.Slots.{char_text};
 ghost use Rattle.wire_law.specs.Printable.{is_printable};
+ghost use Rattle.fix_types.specs.Application.{body_fields};
 ghost use Rattle.order_law.specs.History.{Entry};
 ghost use Rattle.order_law.specs.Told as law;
-ghost use Rattle.to_client.specs.Pending.{IsPending, body_fields, rejects_of};
+ghost use Rattle.to_client.specs.Pending.{IsPending, rejects_of};
 ghost use Rattle.to_client.specs.Shows.{IsAnyRequest, ShowsAs};
 
 use crate::occasion::{Occasion, fields_given_by};

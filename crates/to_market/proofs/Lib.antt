@@ -1,9 +1,8 @@
-pub mod Inside
 pub mod Rows
-pub mod Fields
-pub mod Verdict
-pub mod EnterOrders
-pub mod ReplaceFields
-pub mod RequestBytes
-pub mod RequestVerdict
-pub mod FirstRows
+mod Fields
+mod Verdict
+mod EnterOrders
+mod ReplaceFields
+mod RequestBytes
+mod RequestVerdict
+mod FirstRows

@@ -1,1 +1,1 @@
-pub mod Visible
+mod Visible

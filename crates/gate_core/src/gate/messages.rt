@@ -1,9 +1,9 @@
 //! What a message that a client's session gave up comes to.
 
 ghost use Rattle.std.specs.Prelude.{◌≡◌, ◌<◌, ◌+◌, length, map, IfOk};
+ghost use Rattle.fix_types.specs.Application.{body_fields};
 ghost use Rattle.ouch_codec.specs.Inbound.{inbound_bytes};
 ghost use Rattle.to_market.specs.PortsSeen.{port_seen};
-ghost use Rattle.to_client.specs.Pending.{body_fields};
 ghost use Rattle.core_law.specs.Settings.{Settings, port_of};
 ghost use Rattle.core_law.specs.Lists.{Lists};
 ghost use Rattle.core_law.specs.Sessions.{stands_of};

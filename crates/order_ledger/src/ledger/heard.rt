@@ -2,9 +2,9 @@
 
 ghost use Rattle.std.specs.Prelude.{◌≡◌, ◌≤◌, ◌+◌, ◌<◌, ◌^◌, ◌∷◌, [], List, length, map, IfOk, OnErr};
 ghost use Rattle.std.specs.List.{count_by};
+ghost use Rattle.fix_types.specs.Application.{body_fields};
 ghost use Rattle.order_law.specs.History.{Entry};
 ghost use Rattle.order_law.specs.Told.{to_client_of};
-ghost use Rattle.to_client.specs.Pending.{body_fields};
 ghost use Rattle.order_ledger.specs.Seen.{client_seen, tells_report};
 
 use super::OrderLedger;
@@ -16,7 +16,7 @@ use std::alloc::Global;
 
 impl OrderLedger {
     ghost use Rattle.order_histories.specs.Machine.{market_step};
-    ghost use Rattle.order_ledger.specs.State.{clients, issued, HasRoom};
+    ghost use Rattle.order_ledger.specs.State.{HasRoom, Keeps};
     ghost use Rattle.order_ledger.specs.Meets.{ChangesAny, MeetsMarket};
 
     /// Steps a payload that a market port's session gave.
@@ -36,8 +36,7 @@ impl OrderLedger {
         requires room { HasRoom self.old }
         ensures meets { MeetsMarket self.old (market_step self.old port payload.now) result self.new }
         ensures changed { IfOk result (λ turn. ChangesAny self.old port payload.now turn.changed) }
-        ensures clients { clients self.new ≡ clients self.old }
-        ensures issued { issued self.new ≤ issued self.old + 3 }
+        ensures keeps { Keeps self.old self.new }
         ensures err { OnErr result (self.new ≡ self.old) }
     {
         match hear(alloc, self.exec_ids, &self.table, port, payload)? {

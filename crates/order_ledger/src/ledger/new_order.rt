@@ -4,6 +4,7 @@ ghost use Rattle.std.specs.Prelude.{◌≡◌, ◌≤◌, ◌+◌, ◌<◌, ◌^
 ghost use Rattle.tokens.specs.TokenText.{token_text};
 ghost use Rattle.fix_types.specs.NewOrder.{new_order_fields};
 ghost use Rattle.fix_types.specs.Report.{report_fields};
+ghost use Rattle.fix_types.specs.Application.{body_fields};
 ghost use Rattle.ouch_codec.specs.Inbound.{inbound_bytes};
 ghost use Rattle.order_law.specs.Asks.{Standing};
 ghost use Rattle.order_law.specs.Headline.{EachWith, Says};
@@ -11,7 +12,6 @@ ghost use Rattle.order_law.specs.History.{Asked, terms_of};
 ghost use Rattle.order_law.specs.Told as law;
 ghost use Rattle.order_law.specs.Verdicts.{last_token};
 ghost use Rattle.order_histories.specs.OrderRecord.{shown_as};
-ghost use Rattle.to_client.specs.Pending.{body_fields};
 ghost use Rattle.to_market.specs.NewAsks.{enter_bytes};
 ghost use Rattle.to_market.specs.PortsSeen.{port_seen};
 ghost use Rattle.to_market.specs.TermsSeen.{terms_seen};
@@ -44,7 +44,7 @@ impl OrderLedger {
     ghost use Rattle.to_market.specs.Refusals.{code_of, refused_by, words_of};
     ghost use Rattle.to_market.specs.PortsSeen.{port_seen};
     ghost use Rattle.to_market.specs.TermsSeen.{terms_seen};
-    ghost use Rattle.order_ledger.specs.State.{clients, IsClient, issued, HasRoom, with_order};
+    ghost use Rattle.order_ledger.specs.State.{IsClient, HasRoom, Keeps, with_order};
 
     /// A new order of a client.
     pub(super) fn new_order(
@@ -58,8 +58,7 @@ impl OrderLedger {
         requires room { HasRoom self.old }
         ensures meets { IfOk result (λ turn. MeetsFields self.old client (new_order_fields order.now) (port_seen port) turn self.new) }
         ensures few { IfOk result (λ turn. length turn.asks.items ≤ 2) }
-        ensures clients { clients self.new ≡ clients self.old }
-        ensures issued { issued self.new ≤ issued self.old + 3 }
+        ensures keeps { Keeps self.old self.new }
         ensures err { OnErr result (self.new ≡ self.old) }
     {
         let terms = terms_at(&self.terms, client);
@@ -106,8 +105,7 @@ impl OrderLedger {
         ensures meets { IfOk result (λ turn. (terms : Terms)
             → GivesClient terms client (refuse_new self.old client (new_order_fields order.now) (code_of row) (words_of row)) turn self.new) }
         ensures few { IfOk result (λ turn. length turn.asks.items ≤ 2) }
-        ensures clients { clients self.new ≡ clients self.old }
-        ensures issued { issued self.new ≤ issued self.old + 3 }
+        ensures keeps { Keeps self.old self.new }
         ensures err { OnErr result (self.new ≡ self.old) }
     {
         let order_id = self.order_ids + 1;
@@ -140,8 +138,7 @@ impl OrderLedger {
         requires enter { AsksNext self.old client order.now enter }
         ensures meets { IfOk result (λ turn. GivesClient (terms_of self.old.terms client) client (accept_new self.old client (new_order_fields order.now)) turn self.new) }
         ensures few { IfOk result (λ turn. length turn.asks.items ≤ 2) }
-        ensures clients { clients self.new ≡ clients self.old }
-        ensures issued { issued self.new ≤ issued self.old + 3 }
+        ensures keeps { Keeps self.old self.new }
         ensures err { OnErr result (self.new ≡ self.old) }
     {
         let entered = self.entered(alloc, client, order, &enter)?;
@@ -162,8 +159,7 @@ impl OrderLedger {
         requires room { HasRoom self.old }
         requires fresh { length order.tokens + length (option_to_list order.replace) ≤ 1 }
         ensures kept { IfOk result (λ nothing. self.new ≡ with_order self.old order given id) }
-        ensures clients { clients self.new ≡ clients self.old }
-        ensures issued { issued self.new ≤ issued self.old + 3 }
+        ensures keeps { Keeps self.old self.new }
         ensures err { OnErr result (self.new ≡ self.old) }
     {
         self.used.reserve(1)?;

@@ -20,7 +20,7 @@ use to_market::PortState;
 
 impl OrderLedger {
     ghost use Rattle.order_ledger.specs.Meets.{GoByNumbers, MeetsFields};
-    ghost use Rattle.order_ledger.specs.State.{clients, IsClient, issued, HasRoom};
+    ghost use Rattle.order_ledger.specs.State.{IsClient, HasRoom, Keeps};
     ghost use Rattle.request_turns.specs.Turns.{IsCancelling, IsReplacing};
 
     /// A cancel of a client.
@@ -36,8 +36,7 @@ impl OrderLedger {
         ensures meets { IfOk result (λ turn. GoByNumbers self.old
             → MeetsFields self.old client (cancel_request_fields request.now) (port_seen port) turn self.new) }
         ensures few { IfOk result (λ turn. length turn.asks.items ≤ 2) }
-        ensures clients { clients self.new ≡ clients self.old }
-        ensures issued { issued self.new ≤ issued self.old + 3 }
+        ensures keeps { Keeps self.old self.new }
         ensures err { OnErr result (self.new ≡ self.old) }
     {
         let terms = terms_at(&self.terms, client);
@@ -73,8 +72,7 @@ impl OrderLedger {
         ensures meets { IfOk result (λ turn. GoByNumbers self.old
             → MeetsFields self.old client (replace_request_fields request.now) (port_seen port) turn self.new) }
         ensures few { IfOk result (λ turn. length turn.asks.items ≤ 2) }
-        ensures clients { clients self.new ≡ clients self.old }
-        ensures issued { issued self.new ≤ issued self.old + 3 }
+        ensures keeps { Keeps self.old self.new }
         ensures err { OnErr result (self.new ≡ self.old) }
     {
         let terms = terms_at(&self.terms, client);
@@ -142,8 +140,7 @@ impl OrderLedger {
         ensures meets { IfOk result (λ turn. GoByNumbers self.old
             → MeetsFields self.old sender.now.client (cancel_request_fields request.now) (port_seen sender.now.port) turn self.new) }
         ensures few { IfOk result (λ turn. length turn.asks.items ≤ 2) }
-        ensures clients { clients self.new ≡ clients self.old }
-        ensures issued { issued self.new ≤ issued self.old + 3 }
+        ensures keeps { Keeps self.old self.new }
         ensures err { OnErr result (self.new ≡ self.old) }
     {
         let bodies = one_body(alloc, body)?;
@@ -176,8 +173,7 @@ impl OrderLedger {
         ensures meets { IfOk result (λ turn. GoByNumbers self.old
             → MeetsFields self.old sender.now.client (replace_request_fields request.now) (port_seen sender.now.port) turn self.new) }
         ensures few { IfOk result (λ turn. length turn.asks.items ≤ 2) }
-        ensures clients { clients self.new ≡ clients self.old }
-        ensures issued { issued self.new ≤ issued self.old + 3 }
+        ensures keeps { Keeps self.old self.new }
         ensures err { OnErr result (self.new ≡ self.old) }
     {
         let bodies = one_body(alloc, body)?;

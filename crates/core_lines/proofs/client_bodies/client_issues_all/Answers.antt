@@ -1,9 +1,9 @@
 use Rattle.std.proofs.Common.{◌≡◌, ◌+◌, ◌++◌, ◌∷◌, [], ℕ, List, ap, ◌∙◌, map, subst, sym, take}
 use Rattle.std.proofs.lemmas.List.{take_all}
+use Rattle.fix_types.specs.Application.{body_fields}
 use Rattle.session_law.specs.Frames.{told_of}
 use Rattle.session_law.specs.Runs.{Timed}
 use Rattle.session_frames.specs.Written.{told}
-use Rattle.to_client.specs.Pending.{body_fields}
 use Rattle.order_law.specs.Messages.{body_of}
 use Rattle.core_law.specs.Settings.{client_name}
 use Rattle.core_law.specs.Sessions.{client_outs, client_reports, issues}

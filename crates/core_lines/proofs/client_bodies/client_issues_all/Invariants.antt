@@ -1,8 +1,8 @@
 use Rattle.std.proofs.Common.{◌≡◌, ◌+◌, ℕ, List, Option, length, map, take}
+use Rattle.fix_types.specs.Application.{body_fields}
 use Rattle.session_law.specs.Runs.{Timed}
 use Rattle.session_law.specs.Frames.{told_of}
 use Rattle.session_frames.specs.Written.{told}
-use Rattle.to_client.specs.Pending.{body_fields}
 use Rattle.core_law.specs.Settings.{Settings, client_name}
 use Rattle.core_law.specs.Sessions.{client_outs, client_reports, issues}
 use Rattle.core_lines.specs.Lines.{ClientsLeave, ClientLinks, called_all}

@@ -2,12 +2,13 @@ use Rattle.std.proofs.Common.{◌≡◌, ◌++◌, Bool, true, [], ◌∷◌, No
 use Rattle.std.specs.Prelude.{Option, not, option_to_list}
 use Rattle.std.specs.List.{list_any}
 use Rattle.std.proofs.lemmas.Bool.{and_parts}
+use Rattle.fix_types.specs.Application.{body_fields}
 use Rattle.order_law.specs.History.{Entry}
 use Rattle.order_law.specs.Life.{is_closed}
 use Rattle.order_law.specs.Told as law
 use Rattle.order_histories.specs.OrderRecord.{OrderRecord, replacements, shown_as}
 use Rattle.orders.specs.Seen.{progressed}
-use Rattle.to_client.specs.Pending.{body_fields, cancel_in, rejects_of}
+use Rattle.to_client.specs.Pending.{cancel_in, rejects_of}
 use Rattle.to_client.proofs.Answered.{behind, rest-shows}
 use Rattle.market_rows.proofs.RejectedRow.{not_replaced-is}
 use Rattle.market_rows.proofs.Tells.{only-told}

@@ -31,8 +31,8 @@ loop-event-preserved c = record {
       (sym (history-more c.args.events.now c.loop-event.outcomes.items c.loop-event.event-index c.event-item.result c.in_ok-outcome.outcome c.loop-event-test.true c.event-item.is c.loop-event.invariant.same))
       (c.in_ok-outcome.ensures.after (map terms_seen c.args.terms.now) before short c.loop-event.invariant.after));
   same = rw (c.in_ok-push.ensures.items, length-append) (omega (arith, c.loop-event.invariant.same));
-  clients = c.step.ensures.clients ∙ c.loop-event.invariant.clients;
-  issued = omega (arith, c.step.ensures.issued, c.loop-event.invariant.issued);
+  clients = c.step.ensures.keeps.clients ∙ c.loop-event.invariant.clients;
+  issued = omega (arith, c.step.ensures.keeps.issued, c.loop-event.invariant.issued);
 }
 
 pub returns-clause-exact : goal.returns-clause-exact

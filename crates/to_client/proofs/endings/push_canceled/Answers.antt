@@ -2,11 +2,11 @@ use Rattle.std.proofs.Common.{◌++◌, List, [], map, refl, subst, sym, ap, ◌
 use Rattle.std.proofs.lemmas.Result.{IfOk-weaker}
 use Rattle.fix_types.specs.Report.{report_fields}
 use Rattle.fix_values.specs.Slots.{char_text}
+use Rattle.fix_types.specs.Application.{body_fields}
 use Rattle.order_law.specs.History.{Entry}
 use Rattle.order_law.specs.Messages.{Message}
 use Rattle.order_law.specs.Told as law
 use Rattle.to_client.specs.declared.occasion.Details.{Details}
-use Rattle.to_client.specs.Pending.{body_fields}
 use Rattle.to_client.specs.Shows.{IsOccasion}
 use Rattle.to_client.proofs.Answered.{behind, cancelled-is, last-shows, without_cancel-shows}
 use Rattle.to_client.proofs.endings.push_canceled.Goals as goal

@@ -3,7 +3,7 @@ use Rattle.std.specs.Prelude.{codes}
 use Rattle.std.specs.List.{list_all}
 use Rattle.fix_fields.specs.Field.{is_inside}
 use Rattle.fix_values.proofs.Numbers.{inside-decimal}
-use Rattle.to_market.proofs.Inside.{inside-append}
+use Rattle.fix_values.proofs.Inside.{inside-append}
 use Rattle.to_market.proofs.refusal.fault_text.Goals as goal
 
 inside : (all words digits : List ℕ) (n : ℕ) → all ≡ words ++ digits → words ≡ codes "port fault " → digits ≡ decimal n → n < 2 ^ 64 → list_all is_inside all ≡ true

@@ -1,7 +1,7 @@
 use Rattle.std.proofs.Common.{◌+◌, map, Some}
+use Rattle.fix_types.specs.Application.{body_fields}
 use Rattle.core_law.specs.Lists.{turned, client_called_all}
 use Rattle.core_law.specs.Sessions.{issues}
-use Rattle.to_client.specs.Pending.{body_fields}
 use Rattle.gate_core.specs.Steps.{turn_of}
 use Rattle.gate_core.proofs.Asking.{is-asked}
 use Rattle.gate_core.proofs.Growing.{grows-then}

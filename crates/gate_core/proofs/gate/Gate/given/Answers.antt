@@ -2,8 +2,8 @@ use Rattle.std.proofs.Common.{◌+◌, ℕ, List, Option, Some, None, map, refl,
 use Rattle.std.proofs.lemmas.Result.{IfOk-weaker}
 use Rattle.soup_session.specs.Table.{Hears}
 use Rattle.fix_types.specs.declared.application.AppBody.{AppBody}
+use Rattle.fix_types.specs.Application.{body_fields}
 use Rattle.order_law.specs.Messages.{Message}
-use Rattle.to_client.specs.Pending.{body_fields}
 use Rattle.core_law.specs.Lists.{Lists, port_called}
 use Rattle.gate_core.specs.declared.gate.payloads.Judged.{Judged}
 use Rattle.gate_core.specs.Steps.{IsJudged, IsTold}

@@ -1,6 +1,6 @@
 use Rattle.std.proofs.Common.{◌+◌, map, refl}
+use Rattle.fix_types.specs.Application.{body_fields}
 use Rattle.core_law.specs.Sessions.{issues}
-use Rattle.to_client.specs.Pending.{body_fields}
 use Rattle.gate_core.proofs.Parted.{clients-parts}
 use Rattle.gate_core.proofs.gate.Gate.issue.Goals as goal
 

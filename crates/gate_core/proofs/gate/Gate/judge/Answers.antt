@@ -1,6 +1,6 @@
 use Rattle.std.proofs.Common.{◌+◌, map, refl}
+use Rattle.fix_types.specs.Application.{body_fields}
 use Rattle.order_ledger.specs.Seen.{client_seen}
-use Rattle.to_client.specs.Pending.{body_fields}
 use Rattle.core_law.specs.Settings.{terms}
 use Rattle.gate_core.proofs.Judging.{judged}
 use Rattle.gate_core.proofs.gate.Gate.judge.Goals as goal

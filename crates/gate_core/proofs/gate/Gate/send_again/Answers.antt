@@ -4,9 +4,8 @@ use Rattle.ouch_codec.specs.Inbound.{inbound_bytes}
 use Rattle.ouch_codec.specs.declared.inbound.Inbound.{Inbound}
 use Rattle.soup_session.specs.States.{is_up}
 use Rattle.core_law.specs.Sessions.{port_state}
-use Rattle.order_law.specs.Headline.{EachWith}
+use Rattle.order_law.specs.Headline.{EachWith, SaysIn}
 use Rattle.order_law.specs.History.{outstanding}
-use Rattle.asked_messages.specs.KeptInTurns.{SaysIn}
 use Rattle.core_law.specs.Settings.{terms}
 use Rattle.gate_core.specs.Hearing.{AreDue}
 use Rattle.gate_core.proofs.PortPackets.{comes-up}

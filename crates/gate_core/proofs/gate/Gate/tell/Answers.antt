@@ -1,8 +1,8 @@
 use Rattle.std.proofs.Common.{◌+◌, ◌++◌, ℕ, List, Some, None, map, refl, sym, ap, ◌∙◌, subst}
+use Rattle.fix_types.specs.Application.{body_fields}
 use Rattle.session_frames.specs.declared.output.SessionOut.{SessionOut}
 use Rattle.session_frames.specs.Written.{told as frames}
 use Rattle.soup_session.specs.Table.{Hears}
-use Rattle.to_client.specs.Pending.{body_fields}
 use Rattle.core_law.specs.Events.{Batch, PortPacket}
 use Rattle.core_law.specs.Lists.{Lists, client_called_all, port_called, turned}
 use Rattle.core_law.specs.Sessions.{issues}

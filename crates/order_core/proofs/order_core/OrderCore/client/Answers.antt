@@ -1,7 +1,7 @@
 use Rattle.std.proofs.Common.{◌∷◌, arith}
 use Rattle.std.proofs.lemmas.Result.{IfOk-weaker}
+use Rattle.fix_types.specs.Application.{message_fields}
 use Rattle.to_market.specs.PortsSeen.{port_seen}
-use Rattle.order_ledger.specs.Seen.{message_fields}
 use Rattle.order_core.specs.Turns.{client_turn}
 use Rattle.order_core.proofs.Turns.{client-after, parts-of}
 use Rattle.order_core.proofs.order_core.OrderCore.client.Goals as goal

@@ -1,9 +1,8 @@
 use Rattle.std.proofs.Common.{◌≡◌, ℕ, List, subst, sym, ap, ◌∙◌}
 use Rattle.std.proofs.lemmas.Result.{IfOk-weaker}
-use Rattle.order_law.specs.Headline.{EachWith}
+use Rattle.order_law.specs.Headline.{EachWith, SaysIn}
 use Rattle.order_law.specs.History.{outstanding}
 use Rattle.asked_messages.specs.Kept.{bytes_on}
-use Rattle.asked_messages.specs.KeptInTurns.{SaysIn}
 use Rattle.order_core.specs.State.{CoreState}
 use Rattle.order_core.proofs.Turns.{parts-of}
 use Rattle.order_core.proofs.order_core.OrderCore.outstanding.Goals as goal

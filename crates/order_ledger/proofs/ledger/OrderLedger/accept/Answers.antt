@@ -1,11 +1,11 @@
 use Rattle.std.proofs.Common.{◌+◌, [], ◌∷◌, codes, map, refl, ap, ◌∙◌}
 use Rattle.fix_types.specs.NewOrder.{new_order_fields}
+use Rattle.fix_types.specs.Application.{body_fields}
 use Rattle.order_law.specs.Messages.{Message}
 use Rattle.order_law.specs.Told as law
 use Rattle.order_histories.specs.Machine.{entry_of_new}
 use Rattle.order_histories.specs.OrderRecord.{OrderRecord, shown_as}
 use Rattle.order_histories.specs.Table.{State, UsedId}
-use Rattle.to_client.specs.Pending.{body_fields}
 use Rattle.order_ledger.specs.State.{with_order}
 use Rattle.order_ledger.proofs.Entered.{accepted-state, given_to, of-new, told-new}
 use Rattle.order_ledger.proofs.ledger.OrderLedger.accept.Goals as goal
@@ -28,11 +28,8 @@ returns-clause-meets c = record {
   asks = λ order_of finds. c.in_ok-turn.ensures.says _ order_of _ (c.requires.enter.says order_of);
 }
 
-pub returns-clause-clients : goal.returns-clause-clients
-returns-clause-clients c = c.keep.ensures.clients
-
-pub returns-clause-issued : goal.returns-clause-issued
-returns-clause-issued c = c.keep.ensures.issued
+pub returns-clause-keeps : goal.returns-clause-keeps
+returns-clause-keeps c = c.keep.ensures.keeps
 
 pub returns-clause-few : goal.returns-clause-few
 returns-clause-few c = c.in_ok-turn.ensures.few

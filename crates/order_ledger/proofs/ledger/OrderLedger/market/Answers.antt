@@ -1,6 +1,7 @@
 use Rattle.std.proofs.Common.{◌≡◌, ◌+◌, ◌≤◌, ℕ, List, length, map, refl, sym, subst, ap, ◌∙◌, arith, Option, Some}
 use Rattle.std.specs.List.{count_by}
 use Rattle.fix_types.specs.declared.application.AppBody.{AppBody}
+use Rattle.fix_types.specs.Application.{body_fields}
 use Rattle.order_law.specs.Reading.{is_report}
 use Rattle.order_law.specs.Told.{to_client_of}
 use Rattle.order_histories.specs.Machine.{market_step}
@@ -8,7 +9,6 @@ use Rattle.order_histories.specs.OrderRecord.{OrderRecord}
 use Rattle.order_histories.specs.Table.{State}
 use Rattle.orders.specs.Changes.{Fits}
 use Rattle.order_table.specs.Held.{Held}
-use Rattle.to_client.specs.Pending.{body_fields}
 use Rattle.market_turns.specs.declared.judged.Judged.{Judged}
 use Rattle.market_turns.specs.declared.judged.Judged.TheVariants.{Faulty, Silent}
 use Rattle.market_turns.specs.Turns.{IsJudged, IsTold}
@@ -16,7 +16,7 @@ use Rattle.order_ledger.specs.contracts.ledger.OrderLedger.{the_view}
 use Rattle.order_ledger.specs.declared.turns.MarketTurn.{MarketTurn}
 use Rattle.order_ledger.specs.Meets.{ChangesOrder, GivesMarket}
 use Rattle.order_ledger.specs.Seen.{client_seen, tells_report}
-use Rattle.order_ledger.specs.State.{issued}
+use Rattle.order_ledger.specs.State.{clients, issued}
 use Rattle.order_ledger.proofs.Heard.{reports-same, same_order, silent-changes, silent-meets, told-changes, told-meets}
 use Rattle.order_ledger.proofs.ledger.OrderLedger.market.Goals as goal
 
@@ -52,14 +52,14 @@ returns-in_ok-apply-in-Told-clause-meets c =
     (subst (λ (n : ℕ). GivesMarket (market_step (the_view c.self.inside) c.args.port c.args.payload.now) turn
     (the_view (record { terms = c.self.inside.terms; table = c.apply.new.self; used = c.self.inside.used; order_ids = c.self.inside.order_ids; exec_ids = c.self.inside.exec_ids + n }))) (sym count) here)
 
-pub returns-in_ok-apply-in-Told-clause-issued : goal.returns-in_ok-apply-in-Told-clause-issued
-returns-in_ok-apply-in-Told-clause-issued c =
+pub returns-in_ok-apply-in-Told-clause-keeps : goal.returns-in_ok-apply-in-Told-clause-keeps
+returns-in_ok-apply-in-Told-clause-keeps c =
     let told : IsTold (the_view c.self.inside) c.args.port c.args.payload.now c.in-Told.order_id c.in-Told.client c.in-Told.heard =
     subst (λ (j : Judged). IsJudged (the_view c.self.inside) c.args.port c.args.payload.now j) c.in-Told.is (c.in_ok-hear.ensures (the_view c.self.inside) refl refl refl) in
     let tokens : length c.apply.new.self.tokens ≡ length c.self.inside.table.tokens = ap (λ (h : Held). length h.tokens) (c.in_ok-apply-in-Told.ensures.changed told.order told.found) in
     let few : c.report_count-reports.result ≤ length c.in-Told.heard.bodies.items = subst (λ (bs : List AppBody). c.report_count-reports.result ≤ length bs) c.deref.ensures.value c.report_count-reports.ensures.few in
     let before : issued (the_view c.self.inside) ≡ issued c.args.self.now = ap issued c.self.view_is in
-    omega (arith, tokens, few, c.in-Told.heard.few, before)
+    record { clients = ap clients c.self.view_is; issued = omega (arith, tokens, few, c.in-Told.heard.few, before) }
 
 pub returns-in-Silent-clause-changed : goal.returns-in-Silent-clause-changed
 returns-in-Silent-clause-changed c =

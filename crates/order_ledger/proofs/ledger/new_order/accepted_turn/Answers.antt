@@ -1,7 +1,7 @@
 use Rattle.std.proofs.Common.{[], ◌∷◌, map, ap, ◌∙◌}
+use Rattle.fix_types.specs.Application.{body_fields}
 use Rattle.order_law.specs.Messages.{Message}
 use Rattle.order_histories.specs.OrderRecord.{OrderRecord}
-use Rattle.to_client.specs.Pending.{body_fields}
 use Rattle.order_ledger.proofs.ledger.new_order.accepted_turn.Goals as goal
 
 pub returns-clause-bodies : goal.returns-clause-bodies
