@@ -4,7 +4,6 @@
 #![tactic(auto)]
 
 mod lines;
-mod stop;
 mod write;
 
 pub use lines::audit_text;

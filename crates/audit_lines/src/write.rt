@@ -5,10 +5,10 @@ ghost use Rattle.std.specs.Io.KnownBytes.{Appends};
 ghost use Rattle.audit_lines.specs.Lines.{agreeing, shown_audit};
 
 use crate::lines::{agreeing, audit_text};
-use crate::stop::Stop;
 use gate_audit::OrderPair;
 use std::alloc::Global;
 use std::io::Write;
+use stream_lines::StreamFault;
 
 /// Writes an audit to `output`: the text that `audit_text` gives, and nothing else.
 ///
@@ -27,15 +27,15 @@ pub fn write_audit<W: Write, F: Write>(
 {
     match print(alloc, pairs, output) {
         Ok(()) => u8::from(agreeing(pairs) != pairs.len()),
-        Err(stop) => {
-            let _ = writeln!(faults, "{stop}");
+        Err(fault) => {
+            let _ = writeln!(faults, "{fault}");
             1
         }
     }
 }
 
 /// Writes the text of an audit, to its end.
-fn print<W: Write>(alloc: Global, pairs: &[OrderPair], output: &mut W) -> Result<(), Stop>
+fn print<W: Write>(alloc: Global, pairs: &[OrderPair], output: &mut W) -> Result<(), StreamFault>
     ensures { OnOk result (Appends (W.contents output.old) (W.contents output.new) (shown_audit pairs.now)) }
 {
     let text = audit_text(alloc, pairs)?;

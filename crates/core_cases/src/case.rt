@@ -15,8 +15,8 @@ pub struct Case {
     /// What has to end it, where it isn't its own end.
     told: Vec<u8>,
     flags: Flags,
-    /// Whether each line so far was one of a case.
-    is_read: bool,
+    /// Whether each line so far was one of a case, and each single line that isn't to be understood wasn't.
+    is_right: bool,
 }
 
 impl Case {
@@ -32,7 +32,7 @@ impl Case {
                 raw: false,
                 cold: false,
             },
-            is_read: true,
+            is_right: true,
         }
     }
 
@@ -55,6 +55,11 @@ impl Case {
         if let Some(text) = line.strip_prefix(b"!! ") {
             return push_line(&mut self.told, text);
         }
+        if let Some(text) = line.strip_prefix(b"?? ") {
+            let told = b"line 1: not understood\n";
+            self.is_right = self.is_right && has_run(alloc, self.flags, text, b"", told);
+            return Ok(());
+        }
         if let Some(text) = line.strip_prefix(b"-- ") {
             self.flag(text);
             return Ok(());
@@ -71,7 +76,7 @@ impl Case {
         } else if name == b"cold".as_slice() {
             self.flags.cold = true;
         } else {
-            self.is_read = false;
+            self.is_right = false;
         }
     }
 
@@ -85,7 +90,7 @@ impl Case {
         if self.name.is_empty() {
             return Ok(());
         }
-        let is_right = self.is_read && self.has_run(alloc) && (!is_mixed || self.is_apart(alloc)?);
+        let is_right = self.is_right && self.has_run(alloc) && (!is_mixed || self.is_apart(alloc)?);
         output.write_all(self.name.as_slice())?;
         output.write_all(if is_right {
             b": right\n".as_slice()
@@ -94,17 +99,15 @@ impl Case {
         })
     }
 
-    /// Whether the script prints what it has to, and ends as it is to: at its end, or at a line that isn't understood where
-    /// that is told.
+    /// Whether the script prints what it has to, and ends as it is to.
     fn has_run(&self, alloc: Global) -> bool {
-        let mut input = self.script.as_slice();
-        let mut output = Vec::new(alloc);
-        let mut faults = Vec::new(alloc);
-        let status = run_script(alloc, self.flags, &mut input, &mut output, &mut faults);
-        let ends = if self.told.is_empty() { 0 } else { 2 };
-        status == ends
-            && output.as_slice() == self.wanted.as_slice()
-            && faults.as_slice() == self.told.as_slice()
+        has_run(
+            alloc,
+            self.flags,
+            self.script.as_slice(),
+            self.wanted.as_slice(),
+            self.told.as_slice(),
+        )
     }
 
     /// Whether, with lines of others between, its own lines print the same, and those of the others what they print without
@@ -134,4 +137,14 @@ impl Case {
         }
         Ok(output)
     }
+}
+
+/// Whether a script prints this and ends as it is to: at its end, or at a line that isn't understood where that is told.
+fn has_run(alloc: Global, flags: Flags, script: &[u8], wanted: &[u8], told: &[u8]) -> bool {
+    let mut input = script;
+    let mut output = Vec::new(alloc);
+    let mut faults = Vec::new(alloc);
+    let status = run_script(alloc, flags, &mut input, &mut output, &mut faults);
+    let ends = if told.is_empty() { 0 } else { 2 };
+    status == ends && output.as_slice() == wanted && faults.as_slice() == told
 }

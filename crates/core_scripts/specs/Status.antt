@@ -1,7 +1,7 @@
 -- The status that a run ends with.
 use Rattle.std.specs.Prelude.{◌≡◌, ℕ}
-use Rattle.script_lines.specs.declared.line.LineFault.{LineFault}
-use Rattle.script_lines.specs.declared.line.LineFault.TheVariants as line_fault
+use Rattle.script_lines.specs.declared.fault.LineFault.{LineFault}
+use Rattle.script_lines.specs.declared.fault.LineFault.TheVariants as line_fault
 use Rattle.stream_lines.specs.declared.stream_fault.StreamFault.{StreamFault}
 use Rattle.stream_lines.specs.declared.stream_fault.StreamFault.TheVariants as stream_fault
 use Rattle.core_scripts.specs.declared.stop.Stop.{Stop}

@@ -5,7 +5,7 @@ ghost use Rattle.core_scripts.specs.declared.stop.Stop.TheVariants.{NoMemory, St
 ghost use Rattle.core_scripts.specs.Status.{status_of, stop_at, stop_of_stream};
 
 use script_lines::LineFault;
-use std::alloc::{AllocError, AllocFailed};
+use std::alloc::AllocError;
 use std::io;
 use stream_lines::StreamFault;
 use thiserror::Error;
@@ -51,14 +51,6 @@ impl From<AllocError> for Stop {
     ghost from_gives = { λ _ stop. stop ≡ NoMemory };
 
     fn from(_error: AllocError) -> Stop {
-        Stop::NoMemory
-    }
-}
-
-impl<T: Drop> From<AllocFailed<T>> for Stop {
-    ghost from_gives = { λ _ stop. stop ≡ NoMemory };
-
-    fn from(_error: AllocFailed<T>) -> Stop {
         Stop::NoMemory
     }
 }

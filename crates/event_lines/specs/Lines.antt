@@ -6,7 +6,7 @@ use Rattle.script_lines.specs.declared.client.Client.{Client}
 use Rattle.script_lines.specs.declared.port.Port.{Port}
 use Rattle.script_lines.specs.Words.{number_in, words_of}
 use Rattle.script_lines.specs.Names.{client_name, port_name}
-use Rattle.script_lines.specs.Message.{with_soh}
+use Rattle.script_lines.specs.Bars.{soh_for_bars, with_soh}
 use Rattle.script_lines.specs.Market.{SaysMarket}
 use Rattle.event_lines.specs.declared.line.Line.{Line}
 use Rattle.event_lines.specs.declared.line.Line.TheVariants as line
@@ -31,7 +31,7 @@ SaysClient client rest (line.ClientTick by) = (by ≡ client) × (rest ≡ codes
 SaysClient client rest (line.ClientMessage by fields) =
     (by ≡ client) × (rest ≡ codes "msg " ++ drop 4 rest) × SaysFields (drop 4 rest) fields
 SaysClient client rest (line.ClientBytes by bytes) =
-    (by ≡ client) × (rest ≡ codes "raw " ++ drop 4 rest) × (bytes.items ++ 1 ∷ [] ≡ with_soh (drop 4 rest))
+    (by ≡ client) × (rest ≡ codes "raw " ++ drop 4 rest) × (bytes.items ≡ soh_for_bars (drop 4 rest))
 SaysClient client rest other = ⊥
 
 -- ---- a port's lines, behind its name

@@ -5,7 +5,7 @@ use Rattle.fix_fields.specs.Field.{Field}
 use Rattle.fix_fields.specs.Reading.{fields_of}
 use Rattle.script_lines.specs.Words.{words_of}
 use Rattle.script_lines.specs.Forms.{is_number64, fits}
-use Rattle.script_lines.specs.Message.{with_soh}
+use Rattle.script_lines.specs.Bars.{with_soh}
 use Rattle.script_lines.specs.Understood.{Form, begins_row, is_market_line}
 use Rattle.event_lines.specs.Hexadecimal.{are_bytes}
 use Rattle.event_lines.specs.Login.{login_forms}

@@ -7,16 +7,15 @@
 //! | `msg 35=..\|..` | a frame of these fields; `\|` stands for SOH, the last one is left out |
 //! | `raw ..` | these bytes come on the link; `\|` stands for SOH |
 
-ghost use Rattle.std.specs.Prelude.{◌≡◌, ◌++◌, ◌∷◌, [], IfOk, IsErrOf, true};
-ghost use Rattle.script_lines.specs.Lines.{IsReadWhere};
-ghost use Rattle.script_lines.specs.Message.{with_soh};
+ghost use Rattle.std.specs.Prelude.{◌≡◌, IfOk, IsErrOf, true};
+ghost use Rattle.script_lines.specs.Understood.{IsReadWhere};
 ghost use Rattle.event_lines.specs.Lines as spec;
 ghost use Rattle.event_lines.specs.Understood.{is_client_line, is_client_input, client_takes_memory, is_message};
 
 use crate::line::Line;
-use fix_fields::{Fields, SOH};
-use script_lines::{Client, LineFault, split_bars};
-use std::alloc::{AllocError, Global};
+use fix_fields::Fields;
+use script_lines::{Client, LineFault, soh_for_bars, split_bars};
+use std::alloc::Global;
 
 /// MsgType, the first field of a message.
 ///
@@ -52,7 +51,7 @@ fn client_input(alloc: Global, client: Client, rest: &[u8]) -> Result<Line, Line
         return Ok(Line::ClientMessage(client, message_fields(alloc, text)?));
     }
     if let Some(text) = rest.strip_prefix(b"raw ") {
-        return Ok(Line::ClientBytes(client, bytes_of(alloc, text)?));
+        return Ok(Line::ClientBytes(client, soh_for_bars(alloc, text)?));
     }
     Err(LineFault::NotUnderstood)
 }
@@ -71,15 +70,4 @@ fn message_fields(alloc: Global, text: &[u8]) -> Result<Fields, LineFault>
         return Err(LineFault::NotUnderstood);
     }
     Ok(fields)
-}
-
-/// The bytes of a text in which `|` stands for SOH. One growth.
-fn bytes_of(alloc: Global, text: &[u8]) -> Result<Vec<u8>, AllocError>
-    ensures { IfOk result (λ bytes. bytes.items ++ 1 ∷ [] ≡ with_soh text.now) }
-{
-    let mut bytes = Vec::with_capacity(alloc, text.len())?;
-    for byte in text {
-        bytes.push(if *byte == b'|' { SOH } else { *byte })?;
-    }
-    Ok(bytes)
 }

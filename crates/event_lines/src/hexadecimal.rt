@@ -2,7 +2,7 @@
 
 ghost use Rattle.std.specs.Prelude.{◌≡◌, ◌+◌, ◌*◌, IfOk, IfSome, is_some, ◌&&◌};
 ghost use Rattle.std.specs.Char.{digit_value};
-ghost use Rattle.script_lines.specs.Lines.{IsReadWhere};
+ghost use Rattle.script_lines.specs.Understood.{IsReadWhere};
 ghost use Rattle.event_lines.specs.Hexadecimal.{is_digit, are_bytes, bytes_in};
 
 use script_lines::LineFault;

@@ -10,7 +10,7 @@
 //! Any other line isn't understood.
 
 ghost use Rattle.std.specs.Prelude.{◌≡◌, IfOk, IsErrOf, true};
-ghost use Rattle.script_lines.specs.Lines.{IsReadWhere};
+ghost use Rattle.script_lines.specs.Understood.{IsReadWhere};
 ghost use Rattle.script_lines.specs.Forms.{is_number64};
 ghost use Rattle.event_lines.specs.Lines as spec;
 ghost use Rattle.event_lines.specs.Understood.{is_understood, takes_memory};

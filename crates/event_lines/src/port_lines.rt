@@ -10,7 +10,7 @@
 //! | `A ..`, `E ..`, .. | the market's message, by the table of `script_lines` |
 
 ghost use Rattle.std.specs.Prelude.{◌≡◌, IfOk, IsErrOf, true};
-ghost use Rattle.script_lines.specs.Lines.{IsReadWhere};
+ghost use Rattle.script_lines.specs.Understood.{IsReadWhere};
 ghost use Rattle.event_lines.specs.Lines as spec;
 ghost use Rattle.event_lines.specs.Understood.{is_port_line, is_port_input, port_takes_memory};
 

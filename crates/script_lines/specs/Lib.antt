@@ -1,8 +1,6 @@
+pub mod Bars
 pub mod Forms
-pub mod Frame
-pub mod Lines
 pub mod Market
-pub mod Message
 pub mod Names
 pub mod Understood
 pub mod Words

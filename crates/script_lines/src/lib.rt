@@ -1,23 +1,19 @@
-//! The lines of a script: what each asks for.
-//!
-//! A line is one event: a client's message, the market's message at a port, or the moment from here on. A client's
-//! message is read as its FIX type, the market's is the bytes that OUCH has for it. Nothing is stepped here.
+//! The words of a script's lines: its clients and ports, the market's messages with the bytes that OUCH has for them, and texts in
+//! which `|` stands for SOH. `event_lines` reads whole lines by these.
 #![tactic(auto)]
 
+mod bars;
 mod client;
-mod frame;
-mod line;
+mod fault;
 mod market;
-mod message;
 mod payload;
 mod port;
 mod words;
 
+pub use bars::{soh_for_bars, split_bars};
 pub use client::Client;
-pub use frame::NextNumbers;
-pub use line::{Line, LineFault, line_of};
+pub use fault::LineFault;
 pub use market::market_message;
-pub use message::split_bars;
 pub use payload::payload_of;
 pub use port::Port;
 pub use words::{first_word, number, only_word};

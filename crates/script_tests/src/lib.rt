@@ -1,12 +1,10 @@
-//! Scripts with what they print, through `core_scripts`, command lines, through `script_command`, and lines with what they
-//! say, through `script_lines`, where no case of `script_cases` or `core_cases` can show it. The expected texts and bytes are
-//! written by hand from the rules and the standards, never taken from a run.
+//! Scripts with what they print, through `core_scripts`, command lines, through `script_command`, and lines with the bytes that they
+//! say, through `event_lines` and `script_lines`, where no case of `core_cases` can show it. The expected texts and bytes are written
+//! by hand from the rules and the standards, never taken from a run.
 #![tactic(auto)]
 
 #[cfg(test)]
 mod command_lines;
-#[cfg(test)]
-mod letters;
 #[cfg(test)]
 mod lines;
 #[cfg(test)]

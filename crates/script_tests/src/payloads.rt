@@ -1,11 +1,9 @@
-//! What the market's lines say, as bytes, and which messages the clients' lines are.
+//! What the market's lines say, as bytes.
 
-use fix_types::AppMsg;
-use script_lines::{Client, Line, NextNumbers, Port, line_of, payload_of};
+use event_lines::{Line, line_of};
+use script_lines::{Port, payload_of};
 use std::alloc::Global;
-use std::str;
 use std::test::Fail;
-use wire_law::TextWire;
 
 /// A line of each type behind the port's name, and its bytes in hexadecimal digits, field by field.
 ///
@@ -67,7 +65,7 @@ fn bytes_of(alloc: Global, text: &str) -> Result<Vec<u8>, Fail> {
 
 /// The port and the payload of a line.
 fn heard(alloc: Global, line: &str) -> Result<(Port, Vec<u8>), Fail> {
-    match line_of(alloc, line.as_bytes(), &NextNumbers::new()) {
+    match line_of(alloc, line.as_bytes()) {
         Ok(Line::Market(port, message)) => Ok((port, payload_of(alloc, &message)?)),
         _ => Err("it is the market's line")?,
     }
@@ -85,63 +83,4 @@ fn the_bytes_of_each_type(rt: HostRuntime) -> Result<(), Fail> {
         }
     }
     Ok(())
-}
-
-/// A client's line, and the fields that its message is written as.
-const MESSAGES: [(&str, &str); 3] = [
-    (
-        "C1 msg 35=D|11=A1|54=1|55=INTC|38=300|40=2|44=23.45|59=0|528=P",
-        "35=D|11=A1|54=1|55=INTC|38=300|40=2|44=23.45|59=0|528=P|",
-    ),
-    ("C2 msg 35=F|41=A1|11=A2", "35=F|11=A2|41=A1|"),
-    (
-        "C3 msg 35=G|41=A1|11=A2|38=500|40=2|44=23.45",
-        "35=G|11=A2|41=A1|38=500|40=2|44=23.45|",
-    ),
-];
-
-/// A message's fields, with a bar for each SOH.
-fn fields_of(alloc: Global, message: &AppMsg) -> Result<Vec<u8>, Fail> {
-    let fields = match message {
-        AppMsg::New(order) => order.put(alloc)?,
-        AppMsg::Cancel(request) => request.put(alloc)?,
-        AppMsg::Replace(request) => request.put(alloc)?,
-    };
-    let mut text = Vec::new(alloc);
-    for byte in fields.text() {
-        text.push(if *byte == 1 { b'|' } else { *byte })?;
-    }
-    Ok(text)
-}
-
-#[test]
-fn the_messages_of_clients(rt: HostRuntime) -> Result<(), Fail> {
-    for (line, fields) in MESSAGES {
-        match line_of(rt.alloc(), line.as_bytes(), &NextNumbers::new()) {
-            Ok(Line::Message(client, message)) => {
-                let text = fields_of(rt.alloc(), &message)?;
-                assert_eq!(rt; str::from_utf8(text.as_slice()), Ok(fields), "{line}");
-                assert_eq!(rt;
-                    client.number(),
-                    u16::from(line.as_bytes()[1] - b'0'),
-                    "{line}"
-                );
-            }
-            _ => return Err("it is a client's line")?,
-        }
-    }
-    Ok(())
-}
-
-#[test]
-fn clients_and_their_ports(rt: HostRuntime) {
-    for (client, number, port, port_number) in [
-        (Client::First, 1, Port::First, 1),
-        (Client::Second, 2, Port::First, 1),
-        (Client::Third, 3, Port::Second, 2),
-    ] {
-        assert_eq!(rt; client.number(), number);
-        assert_eq!(rt; client.port(), port);
-        assert_eq!(rt; client.port().number(), port_number);
-    }
 }

@@ -1,4 +1,4 @@
-//! Why no line was given.
+//! Why a stream gave no line, or took no text.
 
 ghost use Rattle.std.specs.Prelude.{◌≡◌};
 ghost use Rattle.stream_lines.specs.declared.stream_fault.StreamFault.TheVariants.{NoMemory, Stream};
@@ -7,13 +7,13 @@ use std::alloc::{AllocError, AllocFailed};
 use std::io;
 use thiserror::Error;
 
-/// Why no line was given.
+/// Why a stream gave no line, or took no text. It prints as the line that tells so.
 #[derive(Clone, Copy, Debug, PartialEq, Eq, Drop, Error)]
 pub enum StreamFault {
     /// Memory ran out.
     #[error("out of memory")]
     NoMemory,
-    /// A read failed, or the stream has no end.
+    /// A read or a write failed, or the stream has no end.
     #[error("read or write failed")]
     Stream,
 }

@@ -1,0 +1,101 @@
+//! FIX messages as types: read from fields, and written in their own order.
+
+use crate::fields::{fields_of, shown};
+use fix_fields::{Fields, SessionRefusal};
+use fix_types::{CancelReject, CancelRequest, NewOrder, ReplaceRequest, Report};
+use fix_values::TextFault;
+use std::alloc::{AllocError, Global};
+use wire_law::TextWire;
+
+/// A message, or why fields are none.
+type Read<M> = Result<M, SessionRefusal>;
+
+/// Want of memory apart from refusals.
+fn read<M: Drop>(read: Result<M, TextFault>) -> Result<Read<M>, AllocError> {
+    match read {
+        Ok(message) => Ok(Ok(message)),
+        Err(TextFault::Refused(refusal)) => Ok(Err(refusal)),
+        Err(TextFault::NoMemory) => Err(AllocError),
+    }
+}
+
+/// The tag and the reason of a refusal.
+fn refused(alloc: Global, refusal: SessionRefusal) -> Result<String, AllocError> {
+    format!(in alloc; "tag {} reason {}", refusal.tag, refusal.reason)
+}
+
+/// A message and its copy as they are written.
+fn both(alloc: Global, written: &Fields, copy: &Fields) -> Result<String, AllocError> {
+    if written.text() == copy.text() {
+        shown(alloc, written.text())
+    } else {
+        String::from_str(alloc, "another copy")
+    }
+}
+
+/// The message of a text, by its type, as it is written; or the tag and the reason of its refusal.
+pub fn message(alloc: Global, text: &[u8]) -> Result<String, AllocError> {
+    let Some(fields) = fields_of(alloc, text)? else {
+        return String::from_str(alloc, "no fields");
+    };
+    match fields.first(35) {
+        Some(b"D") => new_order(alloc, &fields),
+        Some(b"F") => cancel_request(alloc, &fields),
+        Some(b"G") => replace_request(alloc, &fields),
+        Some(b"8") => report(alloc, &fields),
+        Some(b"9") => cancel_reject(alloc, &fields),
+        _ => String::from_str(alloc, "no such type"),
+    }
+}
+
+fn new_order(alloc: Global, fields: &Fields) -> Result<String, AllocError> {
+    match read(NewOrder::get(alloc, fields))? {
+        Ok(order) => both(alloc, &order.put(alloc)?, &order.copied(alloc)?.put(alloc)?),
+        Err(refusal) => refused(alloc, refusal),
+    }
+}
+
+fn cancel_request(alloc: Global, fields: &Fields) -> Result<String, AllocError> {
+    match read(CancelRequest::get(alloc, fields))? {
+        Ok(request) => both(alloc, &request.put(alloc)?, &request.copied(alloc)?.put(alloc)?),
+        Err(refusal) => refused(alloc, refusal),
+    }
+}
+
+fn replace_request(alloc: Global, fields: &Fields) -> Result<String, AllocError> {
+    match read(ReplaceRequest::get(alloc, fields))? {
+        Ok(request) => both(alloc, &request.put(alloc)?, &request.copied(alloc)?.put(alloc)?),
+        Err(refusal) => refused(alloc, refusal),
+    }
+}
+
+fn report(alloc: Global, fields: &Fields) -> Result<String, AllocError> {
+    match read(Report::get(alloc, fields))? {
+        Ok(report) => shown(alloc, report.put(alloc)?.text()),
+        Err(refusal) => refused(alloc, refusal),
+    }
+}
+
+fn cancel_reject(alloc: Global, fields: &Fields) -> Result<String, AllocError> {
+    match read(CancelReject::get(alloc, fields))? {
+        Ok(reject) => shown(alloc, reject.put(alloc)?.text()),
+        Err(refusal) => refused(alloc, refusal),
+    }
+}
+
+/// The body of the report or the reject that a text is: its fields without the type.
+pub fn body(alloc: Global, text: &[u8]) -> Result<String, AllocError> {
+    let Some(fields) = fields_of(alloc, text)? else {
+        return String::from_str(alloc, "no fields");
+    };
+    if fields.first(35) == Some(b"9") {
+        return match read(CancelReject::get(alloc, &fields))? {
+            Ok(reject) => shown(alloc, reject.body(alloc)?.text()),
+            Err(refusal) => refused(alloc, refusal),
+        };
+    }
+    match read(Report::get(alloc, &fields))? {
+        Ok(report) => shown(alloc, report.body(alloc)?.text()),
+        Err(refusal) => refused(alloc, refusal),
+    }
+}
