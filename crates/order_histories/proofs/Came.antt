@@ -186,7 +186,7 @@ module _ (terms : List Terms) (before : History) (client : ℕ) (m : Message) (p
   home-new = next-home terms before en H next-new en (given D + 1) refl refl own-known
 
   passes : Each (PassesOver (token_of en) (character 54 m)) (handled (port_of terms en) before)
-  passes = H.unborn (given D + 1) (port_of terms en) (character 54 m) (omega arith) (omega (arith, says-new.token))
+  passes = H.unheard (given D + 1) (port_of terms en) (character 54 m) (omega arith) (omega (arith, says-new.token))
 
   asked-new : own en.order (outstanding terms (port_of terms en) before ++ asks_of terms (port_of terms en) (Some en) D (issued client before) (handled (port_of terms en) before)) ≡ asked_as terms (entered en)
   asked-new =

@@ -96,7 +96,7 @@ module _ (terms : List Terms) (before : History) (client : ℕ) (m : Message) (p
         records = rw none records-still;
         listed = λ c. rw none (issued-now (λ xs. orders xs ≡ orders_of c A) c (λ mine. rw enters_none (H.listed c)) (H.listed c));
         unread = λ n c above small. issued-now (λ xs. IsUnread (decimal n) xs) c (λ mine. IsUnread-others (decimal n) (r ∷ []) (issued c before) (fresh n above small, tt) (H.unread n c (omega (arith, above, count-now)) small)) (H.unread n c (omega (arith, above, count-now)) small);
-        unborn = λ n p side above most. H.unborn n p side (rw none at above) most;
+        unheard = λ n p side above most. H.unheard n p side (rw none at above) most;
         unasked = λ n p above small. rw none (ap (own (decimal n)) (append-nothing (outstanding terms p before)) ∙ H.unasked n p (omega (arith, above, count-now)) small);
         few = few-now;
       },
@@ -262,7 +262,7 @@ module _ (terms : List Terms) (before : History) (client : ℕ) (m : Message) (p
         unread = λ k c above k_small. issued-now terms before client m port r sends H (λ xs. IsUnread (decimal k) xs) c
             (λ own_c. IsUnread-others (decimal k) (r ∷ []) (issued c before) (off-other (decimal k) (fresh k above k_small), tt) (H.unread k c (omega (arith, above, count-now terms before client m port r sends H)) k_small))
             (H.unread k c (omega (arith, above, count-now terms before client m port r sends H)) k_small);
-        unborn = λ k p side above most. (let more : given (en ∷ E) < k = rw taken at above in H.unborn k p side (omega (arith, more, given-less terms before en H next)) most);
+        unheard = λ k p side above most. (let more : given (en ∷ E) < k = rw taken at above in H.unheard k p side (omega (arith, more, given-less terms before en H next)) most);
         unasked = λ k p above k_small. rw taken (none-else p (decimal k) (fresh k above k_small) ∙ H.unasked k p (omega (arith, above, count-now terms before client m port r sends H)) k_small);
         few = few-now terms before client m port r sends H;
       },

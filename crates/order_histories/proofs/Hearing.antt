@@ -14,9 +14,9 @@ use Rattle.order_histories.proofs.Due.{IsUnread, Reads}
 use Rattle.order_histories.proofs.Executed.{count-more}
 use Rattle.order_histories.proofs.Moves.{Keeps, unanswered}
 use Rattle.order_histories.proofs.Fits.{life-of, own, own-after}
-use Rattle.order_histories.proofs.Deaf.{IsDeaf}
+use Rattle.order_histories.proofs.Untouched.{IsUntouched}
 use Rattle.order_histories.proofs.Holds.{FitsIn, HasRecord, Holds, IsEntry, PassesOver, Still, news, port_of, quiet-Fits, true-of}
-use Rattle.order_histories.proofs.Deaf.{tokenless-deaf}
+use Rattle.order_histories.proofs.Untouched.{tokenless-untouched}
 use Rattle.order_law.specs.declared.stage.Stage.{Stage}
 use Rattle.order_law.specs.declared.stage.Stage.TheVariants.{Waiting, Working, Closed}
 use Rattle.order_law.specs.History.{Said, SaysCancel, SaysNew, SaysReplace}
@@ -62,24 +62,24 @@ module _ (terms : List Terms) (before : History) (port : ℕ) (m : List ℕ) (cl
       by_closed false e = ap (unanswered m) was ∙ goes_on e
 
   -- an order that hears nothing of it
-  module _ (o : OrderRecord) (f : FitsIn terms before o) (deaf : IsDeaf terms m o) where
+  module _ (o : OrderRecord) (f : FitsIn terms before o) (untouched : IsUntouched terms m o) where
     abbrev p : ℕ
     p = port_of terms o.new
 
     same-life : (b : Bool) → life (token_of o.new) (character 54 o.new.message) (if b && true then m ∷ handled p before else handled p before) ≡ life (token_of o.new) (character 54 o.new.message) (handled p before)
-    same-life true = ap (λ (l : Life). after l m) f.lives ∙ deaf.lives ∙ sym f.lives
+    same-life true = ap (λ (l : Life). after l m) f.lives ∙ untouched.lives ∙ sym f.lives
     same-life false = refl
 
     same-price : (b : Bool) → price_after o.new (accepted terms before) (if b && true then m ∷ handled p before else handled p before) ≡ price_after o.new (accepted terms before) (handled p before)
-    same-price true = let none : opens (life_of o.new.order (accepted terms before) (handled p before)) m ≡ false = ap (λ (l : Life). opens l m) (life-of terms (accepted terms before) (numbered before) (issued o.new.client before) (handled p before) (outstanding terms p before) (reports_in before) (1_000_000 * length before) o f) ∙ deaf.opens_none in rw none refl
+    same-price true = let none : opens (life_of o.new.order (accepted terms before) (handled p before)) m ≡ false = ap (λ (l : Life). opens l m) (life-of terms (accepted terms before) (numbered before) (issued o.new.client before) (handled p before) (outstanding terms p before) (reports_in before) (1_000_000 * length before) o f) ∙ untouched.opens_none in rw none refl
     same-price false = refl
 
     same-asked : own o.new.order (outstanding terms p (t ∷ before)) ≡ own o.new.order (outstanding terms p before)
     same-asked =
-        asked-as o o p f.asked_so (rw f.known (same-life (port == p) ∙ f.lives)) (closed-asked terms (reports_in before) (1_000_000 * length before) o f.keeps) (λ e. deaf.asked) ∙ sym f.asked_so
+        asked-as o o p f.asked_so (rw f.known (same-life (port == p) ∙ f.lives)) (closed-asked terms (reports_in before) (1_000_000 * length before) o f.keeps) (λ e. untouched.asked) ∙ sym f.asked_so
 
-    pub deaf-fits : Reads (issued o.new.client (t ∷ before)) o → ((id : List ℕ) → is_used id (issued o.new.client before) ≡ true → is_used id (issued o.new.client (t ∷ before)) ≡ true) → FitsIn terms (t ∷ before) o
-    deaf-fits reads used = quiet-Fits terms (accepted terms before) (numbered before) (numbered (t ∷ before)) (issued o.new.client before) (issued o.new.client (t ∷ before)) (handled p before) (handled p (t ∷ before)) (outstanding terms p before) (outstanding terms p (t ∷ before))
+    pub untouched-fits : Reads (issued o.new.client (t ∷ before)) o → ((id : List ℕ) → is_used id (issued o.new.client before) ≡ true → is_used id (issued o.new.client (t ∷ before)) ≡ true) → FitsIn terms (t ∷ before) o
+    untouched-fits reads used = quiet-Fits terms (accepted terms before) (numbered before) (numbered (t ∷ before)) (issued o.new.client before) (issued o.new.client (t ∷ before)) (handled p before) (handled p (t ∷ before)) (outstanding terms p before) (outstanding terms p (t ∷ before))
         (reports_in before) (reports_in (t ∷ before)) (1_000_000 * length before) (1_000_000 * length (t ∷ before)) o f same_count reads used (same-life (port == p)) (same-price (port == p)) same-asked (omega arith) (omega arith)
       where
         same_count : numbered before ≤ numbered (t ∷ before)
@@ -119,7 +119,7 @@ module _ (terms : List Terms) (before : History) (port : ℕ) (m : List ℕ) (se
       → ((n p side : ℕ) → given (accepted terms before) < n → n ≤ 9_999_999_999_999 → Each (PassesOver (token_text n) side) (handled p (quiet ∷ before)))
       → ((n p : ℕ) → numbered before < n → n < 10 ^ 64 → own (decimal n) (outstanding terms p (quiet ∷ before)) ≡ [])
       → Holds terms (quiet ∷ before) × Each (IsTrueToMarket terms quiet before) (news (accepted terms before)) × Still terms quiet before
-  quiet-Holds same unborn unasked = (
+  quiet-Holds same unheard unasked = (
     record {
       entries = Each-map (IsEntry terms (accepted terms before) (numbered before)) (IsEntry terms (accepted terms before) (numbered (quiet ∷ before))) (accepted terms before)
           (λ e i. record { new = i.new; found = i.found; same_client = i.same_client; is_given = i.is_given; number = i.number; order_is = i.order_is; is_numbered = omega (arith, i.is_numbered, count) }) H.entries;
@@ -127,7 +127,7 @@ module _ (terms : List Terms) (before : History) (port : ℕ) (m : List ℕ) (se
       records = records;
       listed = λ c. ap orders (same-issued c) ∙ H.listed c;
       unread = λ n c above small. subst (λ (xs : List Message). IsUnread (decimal n) xs) (sym (same-issued c)) (H.unread n c (omega (arith, above, count)) small);
-      unborn = unborn;
+      unheard = unheard;
       unasked = λ n p above small. unasked n p (omega (arith, above, count)) small;
       few = omega (arith, H.few, count);
     },
@@ -143,7 +143,7 @@ module _ (terms : List Terms) (before : History) (port : ℕ) (m : List ℕ) (se
 
 -- a payload that is a fault
 pub fault-Holds : (terms : List Terms) (before : History) (port : ℕ) (m : List ℕ) (sends : List (List ℕ)) (n : ℕ) → Holds terms before → Holds terms (heard_turn port m 0 [] sends (Some n) ∷ before) × Each (IsTrueToMarket terms (heard_turn port m 0 [] sends (Some n)) before) (news (accepted terms before)) × Still terms (heard_turn port m 0 [] sends (Some n)) before
-fault-Holds terms before port m sends n H = quiet-Holds terms before port m sends (Some n) H same (λ k p side above most. subst (Each (PassesOver (token_text k) side)) (sym (same-handled p)) (H.unborn k p side above most)) (λ k p above small. ap (own (decimal k)) (append-nothing (outstanding terms p before)) ∙ H.unasked k p above small)
+fault-Holds terms before port m sends n H = quiet-Holds terms before port m sends (Some n) H same (λ k p side above most. subst (Each (PassesOver (token_text k) side)) (sym (same-handled p)) (H.unheard k p side above most)) (λ k p above small. ap (own (decimal k)) (append-nothing (outstanding terms p before)) ∙ H.unasked k p above small)
   where
     q : Turn
     q = heard_turn port m 0 [] sends (Some n)
@@ -167,7 +167,7 @@ pub tokenless-Holds : (terms : List Terms) (before : History) (port : ℕ) (m : 
     → is_type (codes "A") m ≡ false → is_type (codes "U") m ≡ false → is_type (codes "C") m ≡ false → is_type (codes "E") m ≡ false → is_type (codes "B") m ≡ false → is_type (codes "J") m ≡ false → is_type (codes "I") m ≡ false
     → Holds terms (heard_turn port m 0 [] sends None ∷ before) × Each (IsTrueToMarket terms (heard_turn port m 0 [] sends None) before) (news (accepted terms before)) × Still terms (heard_turn port m 0 [] sends None) before
 tokenless-Holds terms before port m sends H a u c e b j i = quiet-Holds terms before port m sends None H
-    (λ o f. deaf-fits terms before port m 0 [] sends H o f (tokenless-deaf terms m o a u c e b j i) (same-reads terms before port m sends None H o f) (same-used terms before port m sends None H o.new.client))
+    (λ o f. untouched-fits terms before port m 0 [] sends H o f (tokenless-untouched terms m o a u c e b j i) (same-reads terms before port m sends None H o f) (same-used terms before port m sends None H o.new.client))
     (λ k p side above most. same-life k p side above most (port == p))
     (λ k p above small. asked-now terms before port m 0 [] sends H (decimal k) p (is_closed (life_of (decimal k) (accepted terms before) (handled p (q ∷ before))).stage) refl ∙ by_closed k p above small (is_closed (life_of (decimal k) (accepted terms before) (handled p (q ∷ before))).stage))
   where
@@ -175,8 +175,8 @@ tokenless-Holds terms before port m sends H a u c e b j i = quiet-Holds terms be
     q = heard_turn port m 0 [] sends None
 
     same-life : (k p side : ℕ) → given (accepted terms before) < k → k ≤ 9_999_999_999_999 → (f : Bool) → Each (PassesOver (token_text k) side) (if f && true then m ∷ handled p before else handled p before)
-    same-life k p side above most true = ((tokenless-life m a u c e b j i (born (token_text k) side), rw (a, u) refl), H.unborn k p side above most)
-    same-life k p side above most false = H.unborn k p side above most
+    same-life k p side above most true = ((tokenless-life m a u c e b j i (born (token_text k) side), rw (a, u) refl), H.unheard k p side above most)
+    same-life k p side above most false = H.unheard k p side above most
 
     by_closed : (k p : ℕ) → numbered before < k → k < 10 ^ 64 → (f : Bool) → (if f then [] else unanswered m (own (decimal k) (outstanding terms p before))) ≡ []
     by_closed k p above small true = refl

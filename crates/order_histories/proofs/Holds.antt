@@ -54,7 +54,7 @@ pub record Holds (terms : List Terms) (h : History) : Type 0 where
   pub records : Each (HasRecord terms h) (news (accepted terms h))
   pub listed : (c : ℕ) → orders (issued c h) ≡ orders_of c (accepted terms h)
   pub unread : (n c : ℕ) → numbered h < n → n < 10 ^ 64 → IsUnread (decimal n) (issued c h)
-  pub unborn : (n p side : ℕ) → given (accepted terms h) < n → n ≤ 9_999_999_999_999 → Each (PassesOver (token_text n) side) (handled p h)
+  pub unheard : (n p side : ℕ) → given (accepted terms h) < n → n ≤ 9_999_999_999_999 → Each (PassesOver (token_text n) side) (handled p h)
   pub unasked : (n p : ℕ) → numbered h < n → n < 10 ^ 64 → own (decimal n) (outstanding terms p h) ≡ []
   pub few : numbered h ≤ length h
 

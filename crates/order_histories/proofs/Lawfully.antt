@@ -23,10 +23,10 @@ use Rattle.order_histories.proofs.Addressed.{IsOn, on-others, onto-reverse, orde
 use Rattle.order_histories.proofs.Fits.{IsFound, IsHome, IsUsed, life-of, named, own, shown-is, tokens-are}
 use Rattle.std.proofs.Common.{ℕ}
 use Rattle.order_histories.proofs.Holds.{FitsIn, HasRecord, Holds, IsEntry, Keeps-more, Of-used, PassesOver, news, orders_of, port_of, true-of, each-find}
-use Rattle.order_histories.proofs.Deaf.{apart-home, other-deaf}
+use Rattle.order_histories.proofs.Untouched.{apart-home, other-untouched}
 use Rattle.order_histories.proofs.Judged.{IsLawful, accepted-shares, replaced-shares}
 use Rattle.order_histories.proofs.Row.{replacement-is, row-moves}
-use Rattle.order_histories.proofs.Hearing.{asked-as, asked-now, closed-asked, deaf-fits, heard_turn, numbered-heard}
+use Rattle.order_histories.proofs.Hearing.{asked-as, asked-now, closed-asked, untouched-fits, heard_turn, numbered-heard}
 use Rattle.order_law.specs.Lawful.{replaced_may, row_holds, same_terms, works_as}
 use Rattle.order_law.specs.Reading.{Reading, reading, Fill}
 use Rattle.order_law.specs.Told.{Shown, shown}
@@ -292,8 +292,8 @@ module _ (terms : List Terms) (before : History) (port : ℕ) (m : List ℕ) (cl
     other-used id used = issued-keeps (λ xs. is_used id xs ≡ true) x.new.client x.new.order apart (λ r xs off e. rw e (Rattle.order_histories.proofs.Texts.or-true (is 11 id r))) used
 
     pub other-fits : FitsIn terms (t ∷ before) x
-    other-fits = deaf-fits terms before port m client bodies sends H x g
-        (other-deaf terms A (issued x.new.client before) m x g.holds g.keeps.first g.keeps.left (apart-home terms A port (heard.token m) o.new x.new on' apart) (λ u. apart-home terms A port (heard.previous_token m) o.new x.new (previous-on u) apart))
+    other-fits = untouched-fits terms before port m client bodies sends H x g
+        (other-untouched terms A (issued x.new.client before) m x g.holds g.keeps.first g.keeps.left (apart-home terms A port (heard.token m) o.new x.new on' apart) (λ u. apart-home terms A port (heard.previous_token m) o.new x.new (previous-on u) apart))
         other-reads other-used
 
     other-well : ReadsWell x.new.order x.new.message (old_ids x.new.client (accepted terms (t ∷ before))) (issued x.new.client before) bodies
@@ -342,12 +342,12 @@ module _ (terms : List Terms) (before : History) (port : ℕ) (m : List ℕ) (cl
           rw (type, off) refl
       by_u false u = rw (u, own_off, Rattle.order_histories.proofs.Texts.and-false (is_type (codes "A") m)) refl
 
-  still-unborn : (n p side : ℕ) → given A < n → n ≤ 9_999_999_999_999 → Each (PassesOver (token_text n) side) (handled p (t ∷ before))
-  still-unborn n p side above most = by_port (port == p)
+  still-unheard : (n p side : ℕ) → given A < n → n ≤ 9_999_999_999_999 → Each (PassesOver (token_text n) side) (handled p (t ∷ before))
+  still-unheard n p side above most = by_port (port == p)
     where
       by_port : (b : Bool) → Each (PassesOver (token_text n) side) (if b && true then m ∷ handled p before else handled p before)
-      by_port true = ((born-on n side above most, opens-none n side above most), H.unborn n p side above most)
-      by_port false = H.unborn n p side above most
+      by_port true = ((born-on n side above most, opens-none n side above most), H.unheard n p side above most)
+      by_port false = H.unheard n p side above most
 
   still-unasked : (n p : ℕ) → numbered before < n → n < 10 ^ 64 → own (decimal n) (outstanding terms p (t ∷ before)) ≡ []
   still-unasked n p above small = asked-now terms before port m client bodies sends H (decimal n) p (is_closed (life_of (decimal n) A (handled p (t ∷ before))).stage) refl ∙ by_closed (is_closed (life_of (decimal n) A (handled p (t ∷ before))).stage)
@@ -401,7 +401,7 @@ module _ (terms : List Terms) (before : History) (port : ℕ) (m : List ℕ) (cl
       records = Each-map Both (HasRecord terms (t ∷ before)) (news A) (λ e b. b.0) all-orders;
       listed = same-orders;
       unread = λ n c above small. issued-keeps (λ xs. IsUnread (decimal n) xs) c (decimal n) (fresh-order n (omega (arith, above, count-same)) small) (λ r xs off u. IsUnread-others (decimal n) (r ∷ []) xs (off, tt) u) (H.unread n c (omega (arith, above, count-same)) small);
-      unborn = still-unborn;
+      unheard = still-unheard;
       unasked = λ n p above small. still-unasked n p (omega (arith, above, count-same)) small;
       few = omega (arith, H.few, count-same);
     },

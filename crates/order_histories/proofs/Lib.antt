@@ -18,7 +18,7 @@ mod Judged
 mod Row
 mod Addressed
 pub mod Fits
-mod Deaf
+mod Untouched
 mod Agreeing
 pub mod Holds
 pub mod Hearing

@@ -252,7 +252,7 @@ empty-Holds terms = record {
   records = tt;
   listed = λ c. refl;
   unread = λ n c above small. record { read_not = refl; chained_not = refl; refused_not = refl };
-  unborn = λ n p side above most. tt;
+  unheard = λ n p side above most. tt;
   unasked = λ n p above small. refl;
   few = omega arith;
 }

@@ -20,8 +20,8 @@ use Rattle.order_histories.proofs.Accepted.{same-cancel}
 use Rattle.order_histories.proofs.Executed.{unanswered-same}
 use Rattle.order_histories.proofs.Fits.{IsFound, IsHome, IsUsed}
 
--- the order hears nothing of the message
-pub record IsDeaf (terms : List Terms) (m : List ℕ) (o : OrderRecord) : Type 0 where
+-- the message changes nothing of the order
+pub record IsUntouched (terms : List Terms) (m : List ℕ) (o : OrderRecord) : Type 0 where
   pub lives : after (lived o) m ≡ lived o
   pub asked : unanswered m (asked_as terms o) ≡ asked_as terms o
   pub opens_none : opens (lived o) m ≡ false
@@ -39,8 +39,8 @@ module _ (terms : List Terms) (m : List ℕ) (o : OrderRecord)
   answers_none (SaysReplace from to) = rw (u, j) refl
   answers_none (SaysCancel token) = rw (u, j, i) refl
 
-  pub tokenless-deaf : IsDeaf terms m o
-  tokenless-deaf = record {
+  pub tokenless-untouched : IsUntouched terms m o
+  tokenless-untouched = record {
     lives = rw (a, u, e, c, b, j) refl;
     asked = unanswered-same terms m o answers_none;
     opens_none = rw (a, u) refl;
@@ -68,24 +68,24 @@ apart-home terms entries port token other new on apart x home = eq-other token x
 module _ (terms : List Terms) (entries : List Entry) (sent : List Message) (m : List ℕ) (o : OrderRecord)
     (holds : Of (IsHome terms entries o.new) (IsFound entries o.new) (IsUsed sent) o) (first : o.stage ≡ Waiting → o.tokens ≡ token_of o.new ∷ [])
     (left : (c : Cancelling) → o.cancel ≡ Some c → c.tokens ≢ [])
-    (deaf : (x : List ℕ) → IsHome terms entries o.new x → bytes_eq (heard.token m) x ≡ false)
-    (deaf_previous : is_type (codes "U") m ≡ true → (x : List ℕ) → IsHome terms entries o.new x → bytes_eq (heard.previous_token m) x ≡ false) where
+    (elsewhere : (x : List ℕ) → IsHome terms entries o.new x → bytes_eq (heard.token m) x ≡ false)
+    (elsewhere_previous : is_type (codes "U") m ≡ true → (x : List ℕ) → IsHome terms entries o.new x → bytes_eq (heard.previous_token m) x ≡ false) where
   live-off : is_live (lived o) (heard.token m) ≡ false
-  live-off = deaf (live_token o) holds.front
+  live-off = elsewhere (live_token o) holds.front
 
   any-off : (tokens : List (List ℕ)) → Each (IsHome terms entries o.new) tokens → list_any (bytes_eq (heard.token m)) tokens ≡ false
   any-off [] homes = refl
-  any-off (token ∷ tokens) homes = rw (deaf token homes.0) (any-off tokens homes.1)
+  any-off (token ∷ tokens) homes = rw (elsewhere token homes.0) (any-off tokens homes.1)
 
   of-off : is_of (lived o) (heard.token m) ≡ false
   of-off = any-off o.tokens holds.live
 
   replaced-off : (b : Bool) → is_type (codes "U") m ≡ b → (b && is_live (lived o) (heard.previous_token m)) ≡ false
-  replaced-off true u = deaf_previous u (live_token o) holds.front
+  replaced-off true u = elsewhere_previous u (live_token o) holds.front
   replaced-off false u = refl
 
   after-replaced : (b : Bool) → is_type (codes "U") m ≡ b → (y : Life) → y ≡ lived o → (if b then Rattle.order_law.specs.Life.after_replaced (lived o) m else y) ≡ lived o
-  after-replaced true u y e = let off = deaf_previous u (live_token o) holds.front in rw off refl
+  after-replaced true u y e = let off = elsewhere_previous u (live_token o) holds.front in rw off refl
   after-replaced false u y e = e
 
   lives-on : after (lived o) m ≡ lived o
@@ -101,10 +101,10 @@ module _ (terms : List Terms) (entries : List Entry) (sent : List Message) (m : 
   cancel-off x home = by_u (is_type (codes "U") m) refl
     where
       off : bytes_eq (heard.token m) x ≡ false
-      off = deaf x home
+      off = elsewhere x home
 
       by_u : (b : Bool) → is_type (codes "U") m ≡ b → ((b && bytes_eq (heard.previous_token m) x) || ((is_type (codes "J") m || is_type (codes "I") m) && bytes_eq (heard.token m) x)) ≡ false
-      by_u true u = rw (deaf_previous u x home, off, and-false (is_type (codes "J") m || is_type (codes "I") m)) refl
+      by_u true u = rw (elsewhere_previous u x home, off, and-false (is_type (codes "J") m || is_type (codes "I") m)) refl
       by_u false u = rw (off, and-false (is_type (codes "J") m || is_type (codes "I") m)) refl
 
   kept-all : (tokens : List (List ℕ)) → Each (IsHome terms entries o.new) tokens → kept m tokens ≡ tokens
@@ -116,7 +116,7 @@ module _ (terms : List Terms) (entries : List Entry) (sent : List Message) (m : 
 
   same-replace : (r : Option Entry) → o.replace ≡ r → unanswered m (replace_asked o.new (live_token o) r) ≡ replace_asked o.new (live_token o) r
   same-replace None is_r = refl
-  same-replace (Some q) is_r = let off = deaf (token_of q) (holds.replace q is_r).0 in rw (off, and-false (is_type (codes "U") m || is_type (codes "J") m)) refl
+  same-replace (Some q) is_r = let off = elsewhere (token_of q) (holds.replace q is_r).0 in rw (off, and-false (is_type (codes "U") m || is_type (codes "J") m)) refl
 
   same-new : (s : Stage) → o.stage ≡ s → unanswered m (new_asked terms o.new s) ≡ new_asked terms o.new s
   same-new Waiting is_s =
@@ -125,8 +125,8 @@ module _ (terms : List Terms) (entries : List Entry) (sent : List Message) (m : 
   same-new Working is_s = refl
   same-new Closed is_s = refl
 
-  pub other-deaf : IsDeaf terms m o
-  other-deaf = record {
+  pub other-untouched : IsUntouched terms m o
+  other-untouched = record {
     lives = lives-on;
     asked = asked-parts terms m o ∙ rw (same-cancels, same-new o.stage refl, same-replace o.replace refl) refl;
     opens_none = rw (live-off, and-false (is_type (codes "A") m)) (replaced-off (is_type (codes "U") m) refl);
