@@ -10,15 +10,9 @@ use Rattle.core_batches.specs.declared.event.Event.{Event}
 use Rattle.core_batches.specs.declared.batch.Batch.{Batch}
 use Rattle.gate_core.specs.Core.{history, onto, turn_of}
 use Rattle.core_batches.specs.Seen.{batch_seen, event_seen}
+use Rattle.gate_core.proofs.Histories.{onto-push}
 use Rattle.gate_audit.specs.Again as read
 use Rattle.gate_audit.specs.Again.{again}
-
-onto-pushed : (events : List Event) (batches : List Batch) (e : Event) (b : Batch) (before : History) → length batches ≡ length events
-    → onto (events ++ e ∷ []) (batches ++ b ∷ []) before ≡ turn_of e b ∷ onto events batches before
-onto-pushed [] [] e b before same = refl
-onto-pushed [] (x ∷ batches) e b before same = absurd (omega (arith, same))
-onto-pushed (x ∷ events) [] e b before same = absurd (omega (arith, same))
-onto-pushed (x ∷ events) (y ∷ batches) e b before same = onto-pushed events batches e b (turn_of x y ∷ before) (omega (arith, same))
 
 onto-length : (events : List Event) (batches : List Batch) (before : History) → length batches ≡ length events → length (onto events batches before) ≡ length events + length before
 onto-length [] [] before same = omega arith
@@ -31,7 +25,7 @@ pub history-more : (events : List Event) (batches : List Batch) (i : ℕ) (e : E
 history-more events batches i e b same inside is_e is_b =
     ap (λ (es : List Event). history es (take (i + 1) batches)) (take_more events i e inside ∙ ap (λ (x : Event). take i events ++ x ∷ []) (sym is_e))
     ∙ (ap (λ (bs : List Batch). history (take i events ++ e ∷ []) bs) (take_more batches i b (omega (arith, same, inside)) ∙ ap (λ (x : Batch). take i batches ++ x ∷ []) (sym is_b))
-    ∙ onto-pushed (take i events) (take i batches) e b [] (length-take-le i batches (omega (arith, same, inside)) ∙ sym (length-take-le i events (omega (arith, inside)))))
+    ∙ onto-push (take i events) (take i batches) e b [] (length-take-le i events (omega (arith, inside)) ∙ sym (length-take-le i batches (omega (arith, same, inside)))))
 
 pub history-length : (events : List Event) (batches : List Batch) (i : ℕ) → length batches ≡ length events → i ≤ length events → length (history (take i events) (take i batches)) ≡ i
 history-length events batches i same inside =

@@ -6,7 +6,7 @@ use Rattle.core_batches.specs.declared.event.Event.{Event}
 use Rattle.core_batches.specs.declared.batch.Batch.{Batch}
 use Rattle.gate_core.specs.Core.{history, onto, turn_of}
 
-onto-push : (events : List Event) (batches : List Batch) (e : Event) (b : Batch) (before : History) → length events ≡ length batches
+pub onto-push : (events : List Event) (batches : List Batch) (e : Event) (b : Batch) (before : History) → length events ≡ length batches
     → onto (events ++ e ∷ []) (batches ++ b ∷ []) before ≡ turn_of e b ∷ onto events batches before
 onto-push [] [] e b before same = refl
 onto-push [] (x ∷ batches) e b before same = absurd (omega arith)

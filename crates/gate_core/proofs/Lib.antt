@@ -16,5 +16,5 @@ mod PortFaults
 mod PortPackets
 mod Stepping
 mod Settled
-mod Histories
+pub mod Histories
 mod Naming
