@@ -57,14 +57,22 @@ fn new_order(alloc: Global, fields: &Fields) -> Result<String, AllocError> {
 
 fn cancel_request(alloc: Global, fields: &Fields) -> Result<String, AllocError> {
     match read(CancelRequest::get(alloc, fields))? {
-        Ok(request) => both(alloc, &request.put(alloc)?, &request.copied(alloc)?.put(alloc)?),
+        Ok(request) => both(
+            alloc,
+            &request.put(alloc)?,
+            &request.copied(alloc)?.put(alloc)?,
+        ),
         Err(refusal) => refused(alloc, refusal),
     }
 }
 
 fn replace_request(alloc: Global, fields: &Fields) -> Result<String, AllocError> {
     match read(ReplaceRequest::get(alloc, fields))? {
-        Ok(request) => both(alloc, &request.put(alloc)?, &request.copied(alloc)?.put(alloc)?),
+        Ok(request) => both(
+            alloc,
+            &request.put(alloc)?,
+            &request.copied(alloc)?.put(alloc)?,
+        ),
         Err(refusal) => refused(alloc, refusal),
     }
 }
