@@ -1,9 +1,10 @@
 -- What is printed of the lines that were given.
-use Rattle.std.proofs.Common.{◌≡◌, ℕ, ◌+◌, ◌-◌, List, [], ◌∷◌, ◌++◌, Option, None, Some, IfSome, Result, Ok, Err, IsErrAnd, IfErr, OnOk, ◌⊎◌, inl, inr, length, refl, sym, subst, arith}
+use Rattle.std.proofs.Common.{◌≡◌, ℕ, ◌+◌, ◌-◌, List, [], ◌∷◌, ◌++◌, Option, None, Some, IfSome, Result, Ok, Err, IsErrAnd, IfErr, OnOk, ◌⊎◌, inl, inr, length, refl, sym, subst, ◌∙◌, arith, append_assoc}
 use Rattle.std.specs.Io.KnownBytes.{Keeps}
 use Rattle.std.proofs.KnownBytes.{Appends-nil, Appends-trans, Appends-kept, Keeps-refl, Keeps-trans}
 use Rattle.std.proofs.lemmas.Fn.{FoldsTo-push}
 use Rattle.batch_lines.specs.declared.flags.Flags.{Flags}
+use Rattle.script_lines.specs.declared.fault.LineFault.TheVariants as line_fault
 use Rattle.stream_lines.specs.declared.stream_fault.StreamFault.{StreamFault}
 use Rattle.stream_lines.specs.declared.stream_fault.StreamFault.TheVariants as stream_fault
 use Rattle.stream_lines.specs.Unread.{Gives, lines_of}
@@ -12,7 +13,7 @@ use Rattle.core_scripts.specs.declared.desk.Desk.{Desk}
 use Rattle.core_scripts.specs.declared.stop.Stop.{Stop}
 use Rattle.core_scripts.specs.declared.stop.Stop.TheVariants.{NotUnderstood, NoMemory, Stream}
 use Rattle.core_scripts.specs.Scripts.{Begins, IsPrintedStep, Prints, PrintsAll, PrintsLine, Stops, StopsAmong, WritesNothing, shown}
-use Rattle.core_scripts.specs.Status.{status_of, stop_of_stream}
+use Rattle.core_scripts.specs.Status.{IsStopAt, status_of, stop_of_stream}
 
 pub none-printed : (flags : Flags) (start : Desk) (held : Option (List ℕ)) → Prints flags start [] start held held
 none-printed flags start held = ([], refl, Appends-nil held)
@@ -33,23 +34,33 @@ all-printed None flags start later given left last before after leaves gives pri
 all-printed (Some text) flags start later given left last before after leaves gives prints =
     subst (λ l. Prints flags start l later before after) (all-given (Some text) given left last leaves gives) prints
 
--- a line stopped the run, or the stream did
-pub stopped-among : (known : Option (List ℕ)) (flags : Flags) (start now : Desk) (given : List (List ℕ)) (left : Option (List (List ℕ))) (before held after : Option (List ℕ)) (number : ℕ) (stop : Stop)
-    → Leaves known given left → Prints flags start given now before held → length given + 1 ≡ number → WritesNothing number stop held after
-    → IfSome known (λ text. StopsAmong flags start text stop before after)
-stopped-among None flags start now given left before held after number stop leaves prints count nothing = tt
-stopped-among (Some text) flags start now given left before held after number (NotUnderstood told) leaves (printed, steps, wrote) count (is, kept) =
+-- the stream stopped the run
+pub stream-stopped : (known : Option (List ℕ)) (flags : Flags) (start now : Desk) (given : List (List ℕ)) (left : Option (List (List ℕ))) (before held : Option (List ℕ)) (fault : StreamFault)
+    → Leaves known given left → Prints flags start given now before held → IfSome known (λ text. StopsAmong flags start text (stop_of_stream fault) before held)
+stream-stopped None flags start now given left before held fault leaves prints = tt
+stream-stopped (Some text) flags start now given left before held stream_fault.NoMemory leaves prints =
     let first = first-given (Some text) given left leaves in
-    let place : length given ≡ told - 1 = omega arith in
-    (given, first.0, now, first.1, place, (printed, steps, Appends-kept before held after printed wrote kept))
-stopped-among (Some text) flags start now given left before held after number NoMemory leaves (printed, steps, wrote) count kept =
-    let first = first-given (Some text) given left leaves in
-    (length given, (given, first.0, now, first.1, refl, (printed, steps, Appends-kept before held after printed wrote kept)))
-stopped-among (Some text) flags start now given left before held after number Stream leaves prints count nothing = tt
+    (length given, (given, first.0, now, first.1, refl, prints))
+stream-stopped (Some text) flags start now given left before held stream_fault.Stream leaves prints = tt
 
-pub no-line-stopped : (number : ℕ) (fault : StreamFault) (held : Option (List ℕ)) → WritesNothing number (stop_of_stream fault) held held
-no-line-stopped number stream_fault.NoMemory held = Keeps-refl held
-no-line-stopped number stream_fault.Stream held = tt
+-- the line behind those that were printed stopped it
+pub line-stopped : (known : Option (List ℕ)) (flags : Flags) (start now : Desk) (given : List (List ℕ)) (line : List ℕ) (left : Option (List (List ℕ))) (before held after : Option (List ℕ)) (number : ℕ) (stop : Stop)
+    → Leaves known (given ++ line ∷ []) left → Prints flags start given now before held → length given + 1 ≡ number → WritesNothing number line stop held after
+    → IfSome known (λ text. StopsAmong flags start text stop before after)
+line-stopped None flags start now given line left before held after number stop leaves prints count nothing = tt
+line-stopped (Some text) flags start now given line left before held after number (NotUnderstood told) leaves (printed, steps, wrote) count (is, may, kept) =
+    let first = first-given (Some text) (given ++ line ∷ []) left leaves in
+    let place : length given ≡ told - 1 = omega arith in
+    (given, line, first.0, now, first.1 ∙ append_assoc given (line ∷ []) first.0, place, may, (printed, steps, Appends-kept before held after printed wrote kept))
+line-stopped (Some text) flags start now given line left before held after number NoMemory leaves (printed, steps, wrote) count kept =
+    let first = first-given (Some text) (given ++ line ∷ []) left leaves in
+    (length given, (given, line ∷ first.0, now, first.1 ∙ append_assoc given (line ∷ []) first.0, refl, (printed, steps, Appends-kept before held after printed wrote kept)))
+line-stopped (Some text) flags start now given line left before held after number Stream leaves prints count nothing = tt
+
+-- nothing is written for a line that stops
+pub not-written : (number : ℕ) (text : List ℕ) (stop : Stop) (held : Option (List ℕ)) → IsStopAt number text stop → WritesNothing number text stop held held
+not-written number text stop held (line_fault.NoMemory, is, may) = subst (λ (s : Stop). WritesNothing number text s held held) (sym is) (Keeps-refl held)
+not-written number text stop held (line_fault.NotUnderstood, is, may) = subst (λ (s : Stop). WritesNothing number text s held held) (sym is) (refl, may refl, Keeps-refl held)
 
 -- an error that is passed on
 pub passed-on : {T : Type 0} (r : Result T Stop) (e : Stop) (P : Stop → Type 0) → IsErrAnd r (λ stop. stop ≡ e) → P e → IfErr r P
@@ -80,8 +91,8 @@ kept-all flags text before held after (start, begins, later, (printed, steps, wr
 
 kept-among : (flags : Flags) (start : Desk) (text : List ℕ) (number : ℕ) (before held after : Option (List ℕ))
     → StopsAmong flags start text (NotUnderstood number) before held → Keeps held after → StopsAmong flags start text (NotUnderstood number) before after
-kept-among flags start text number before held after (given, rest, later, is, count, (printed, steps, wrote)) kept =
-    (given, rest, later, is, count, (printed, steps, Appends-kept before held after printed wrote kept))
+kept-among flags start text number before held after (given, last, rest, later, is, count, may, (printed, steps, wrote)) kept =
+    (given, last, rest, later, is, count, may, (printed, steps, Appends-kept before held after printed wrote kept))
 
 kept-stops : (flags : Flags) (text : List ℕ) (number : ℕ) (before held after : Option (List ℕ))
     → Stops flags text (NotUnderstood number) before held → Keeps held after → Stops flags text (NotUnderstood number) before after

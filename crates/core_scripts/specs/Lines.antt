@@ -1,11 +1,13 @@
 -- What a line of a script comes to: its events, for a core and links that are so, and the links then.
-use Rattle.std.specs.Prelude.{◌≡◌, ℕ, List, [], ◌∷◌, ◌++◌, map, Ok, ⊤}
+use Rattle.std.specs.Prelude.{◌≡◌, ℕ, ◌⊎◌, false, List, [], ◌∷◌, ◌++◌, map, Ok, ⊤}
 use Rattle.ouch_codec.specs.Decoding.{Decodes}
 use Rattle.soup_packets.specs.declared.packet.Packet.{Packet}
 use Rattle.script_lines.specs.Names.{client_number, port_number}
 use Rattle.script_lines.specs.declared.port.Port.{Port}
 use Rattle.event_lines.specs.declared.line.Line.{Line}
 use Rattle.event_lines.specs.declared.line.Line.TheVariants as line
+use Rattle.event_lines.specs.Lines.{SaysLine}
+use Rattle.event_lines.specs.Understood.{is_understood}
 use Rattle.core_law.specs.Events as law
 use Rattle.core_batches.specs.declared.event.Event.{Event}
 use Rattle.gate_core.specs.Core.{CoreState}
@@ -56,3 +58,7 @@ MayStop (line.ClientBytes client bytes) = ⊤
 MayStop (line.PortBytes port bytes) = ⊤
 MayStop (line.Market port message) = ⊤
 MayStop other = ⊥
+
+-- The text of a line may stop a script: it is none of the tables' lines, or its line has a message or bytes.
+abbrev pub MayStopAt : List ℕ → Type 0
+MayStopAt text = (is_understood text ≡ false) ⊎ ((said : Line) × SaysLine text said × MayStop said)

@@ -19,7 +19,7 @@ use Rattle.stream_lines.specs.Unread.{lines_of}
 use Rattle.core_scripts.specs.declared.desk.Desk.{Desk}
 use Rattle.core_scripts.specs.declared.stop.Stop.{Stop}
 use Rattle.core_scripts.specs.declared.stop.Stop.TheVariants.{NotUnderstood, NoMemory, Stream}
-use Rattle.core_scripts.specs.Lines.{NoLinks}
+use Rattle.core_scripts.specs.Lines.{MayStopAt, NoLinks}
 use Rattle.core_scripts.specs.Settings.{fixed}
 use Rattle.core_scripts.specs.Steps.{GoesOn, KeepsLine}
 
@@ -122,10 +122,16 @@ PrintsFirst flags start text count before after =
     (given : List (List ℕ)) × (rest : List (List ℕ)) × (later : Desk)
     × (lines_of text ≡ given ++ rest) × (length given ≡ count) × Prints flags start given later before after
 
+-- the same, and the line behind them may stop a script
+abbrev pub StopsBehind : Flags → Desk → List ℕ → ℕ → Option (List ℕ) → Option (List ℕ) → Type 0
+StopsBehind flags start text count before after =
+    (given : List (List ℕ)) × (last : List ℕ) × (rest : List (List ℕ)) × (later : Desk)
+    × (lines_of text ≡ given ++ last ∷ rest) × (length given ≡ count) × MayStopAt last × Prints flags start given later before after
+
 -- What is printed where a run stops: where a line isn't understood, the lines before it; where memory ran out, some of the first. Of a read or a write
 -- that failed nothing is known, since a write may have taken a part.
 abbrev pub StopsAmong : Flags → Desk → List ℕ → Stop → Option (List ℕ) → Option (List ℕ) → Type 0
-StopsAmong flags start text (NotUnderstood number) before after = PrintsFirst flags start text (number - 1) before after
+StopsAmong flags start text (NotUnderstood number) before after = StopsBehind flags start text (number - 1) before after
 StopsAmong flags start text NoMemory before after = (count : ℕ) × PrintsFirst flags start text count before after
 StopsAmong flags start text Stream before after = ⊤
 
@@ -134,7 +140,7 @@ abbrev pub Stops : Flags → List ℕ → Stop → Option (List ℕ) → Option 
 Stops flags text stop before after = Keeps before after ⊎ ((start : Desk) × Begins flags.cold start × StopsAmong flags start text stop before after)
 
 -- one line stopped it: this one where it isn't understood, and nothing of it is written
-abbrev pub WritesNothing : ℕ → Stop → Option (List ℕ) → Option (List ℕ) → Type 0
-WritesNothing number (NotUnderstood told) before after = (told ≡ number) × Keeps before after
-WritesNothing number NoMemory before after = Keeps before after
-WritesNothing number Stream before after = ⊤
+abbrev pub WritesNothing : ℕ → List ℕ → Stop → Option (List ℕ) → Option (List ℕ) → Type 0
+WritesNothing number text (NotUnderstood told) before after = (told ≡ number) × MayStopAt text × Keeps before after
+WritesNothing number text NoMemory before after = Keeps before after
+WritesNothing number text Stream before after = ⊤

@@ -1,11 +1,12 @@
 -- The status that a run ends with.
-use Rattle.std.specs.Prelude.{◌≡◌, ℕ}
+use Rattle.std.specs.Prelude.{◌≡◌, ℕ, List}
 use Rattle.script_lines.specs.declared.fault.LineFault.{LineFault}
 use Rattle.script_lines.specs.declared.fault.LineFault.TheVariants as line_fault
 use Rattle.stream_lines.specs.declared.stream_fault.StreamFault.{StreamFault}
 use Rattle.stream_lines.specs.declared.stream_fault.StreamFault.TheVariants as stream_fault
 use Rattle.core_scripts.specs.declared.stop.Stop.{Stop}
 use Rattle.core_scripts.specs.declared.stop.Stop.TheVariants.{NotUnderstood, NoMemory, Stream}
+use Rattle.core_scripts.specs.Lines.{MayStopAt}
 
 -- 2 for a line that isn't understood, 1 for what isn't the script's fault
 abbrev pub status_of : Stop → ℕ
@@ -23,6 +24,6 @@ abbrev pub stop_of_stream : StreamFault → Stop
 stop_of_stream stream_fault.NoMemory = NoMemory
 stop_of_stream stream_fault.Stream = Stream
 
--- it stops at this line, for whichever of the two
-abbrev pub IsStopAt : ℕ → Stop → Type 0
-IsStopAt number stop = (fault : LineFault) × (stop ≡ stop_at number fault)
+-- it stops at this line, for whichever of the two, and isn't said not to be understood where it is a line that stops nothing
+abbrev pub IsStopAt : ℕ → List ℕ → Stop → Type 0
+IsStopAt number text stop = (fault : LineFault) × (stop ≡ stop_at number fault) × (fault ≡ line_fault.NotUnderstood → MayStopAt text)

@@ -3,7 +3,7 @@
 ghost use Rattle.std.specs.Prelude.{◌≡◌, ◌++◌, ◌∷◌, [], IfOk, OnOk, IsErrOf};
 ghost use Rattle.std.specs.List.{FoldsTo};
 ghost use Rattle.gate_journal.specs.Kept.{nothing_kept};
-ghost use Rattle.core_scripts.specs.Lines.{MayStop};
+ghost use Rattle.core_scripts.specs.Lines.{MayStop, MayStopAt};
 ghost use Rattle.core_scripts.specs.Scripts.{IsCold, IsStep, IsWarm, StepsText, logs_in, logs_on};
 ghost use Rattle.core_scripts.specs.Scripts as spec;
 ghost use Rattle.core_scripts.specs.Steps.{GoesOn, KeepsLine};
@@ -36,9 +36,11 @@ impl Desk {
         })
     }
 
-    /// Steps the line of this text, and keeps its events with the batches that they give.
+    /// Steps the line of this text, and keeps its events with the batches that they give. `NotUnderstood` where it is none of the tables' lines, and
+    /// where `step` answers it.
     pub fn take(&mut self, alloc: Global, text: &[u8], kept: &mut History) -> Result<(), LineFault>
-        ensures { OnOk result (StepsText self.old kept.old text.now self.new kept.new) }
+        ensures stepped { OnOk result (StepsText self.old kept.old text.now self.new kept.new) }
+        ensures stopped { IsErrOf result LineFault.NotUnderstood → MayStopAt text.now }
     {
         let line = line_of(alloc, text)?;
         self.step(alloc, line, kept)?;

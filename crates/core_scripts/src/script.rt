@@ -126,7 +126,7 @@ fn print_line<W: Write>(
     output: &mut W,
 ) -> Result<(), Stop>
     ensures printed { OnOk result (PrintsLine flags desk.old line.now desk.new (W.contents output.old) (W.contents output.new)) }
-    ensures stopped { IfErr result (λ stop. WritesNothing number stop (W.contents output.old) (W.contents output.new)) }
+    ensures stopped { IfErr result (λ stop. WritesNothing number line.now stop (W.contents output.old) (W.contents output.new)) }
 {
     let mut kept = History::new(alloc);
     step_line(alloc, desk, number, line, &mut kept)?;
@@ -174,7 +174,7 @@ fn step_line(
     kept: &mut History,
 ) -> Result<(), Stop>
     ensures stepped { OnOk result (StepsText desk.old kept.old line.now desk.new kept.new) }
-    ensures stopped { IfErr result (IsStopAt number) }
+    ensures stopped { IfErr result (IsStopAt number line.now) }
 {
     match desk.take(alloc, line, kept) {
         Ok(()) => Ok(()),

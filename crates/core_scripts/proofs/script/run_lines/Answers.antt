@@ -1,8 +1,8 @@
 use Rattle.std.proofs.Common.{ℕ, List, [], ◌∷◌, ◌++◌, subst, arith, length-append}
 use Rattle.stream_lines.proofs.Given.{none-given, one-given}
-use Rattle.core_scripts.specs.Scripts.{PrintsLine}
+use Rattle.core_scripts.specs.Scripts.{PrintsLine, WritesNothing}
 use Rattle.core_scripts.specs.Status.{stop_of_stream}
-use Rattle.core_scripts.proofs.Printing.{none-printed, one-printed, all-printed, stopped-among, no-line-stopped, passed-on}
+use Rattle.core_scripts.proofs.Printing.{none-printed, one-printed, all-printed, line-stopped, stream-stopped, passed-on}
 use Rattle.core_scripts.proofs.script.run_lines.Goals as goal
 
 pub loop-number-init : goal.loop-number-init
@@ -29,15 +29,14 @@ returns-in_err-line-clause-stopped g c =
     let was = c.loop-number.invariant in
     let fault = c.in_err-line.field-0.0 in
     let stop = stop_of_stream fault in
-    let held = g.W.Write.contents c.loop-number.output in
     passed-on c.from_residual.result stop _ c.from_residual.ensures.1
-    (stopped-among (g.R.Read.remaining c.args.input.now) c.args.flags c.args.desk.now c.loop-number.desk was.0 _ (g.W.Write.contents c.args.output.now) held held c.loop-number.number stop was.2 was.1 was.3
-    (no-line-stopped c.loop-number.number fault held))
+    (stream-stopped (g.R.Read.remaining c.args.input.now) c.args.flags c.args.desk.now c.loop-number.desk was.0 _ (g.W.Write.contents c.args.output.now) (g.W.Write.contents c.loop-number.output) fault was.2 was.1)
 
 pub returns-in_err-print_line-clause-stopped : goal.returns-in_err-print_line-clause-stopped
 returns-in_err-print_line-clause-stopped g c =
     let was = c.loop-number.invariant in
     let stop = c.in_err-print_line.field-0.0 in
+    let nothing = subst (λ (text : List ℕ). WritesNothing c.loop-number.number text stop (g.W.Write.contents c.loop-number.output) (g.W.Write.contents c.print_line.new.output)) c.as_slice.ensures.value c.in_err-print_line.ensures.stopped in
     passed-on c.from_residual-in_err-print_line.result stop _ c.from_residual-in_err-print_line.ensures.1
-    (stopped-among (g.R.Read.remaining c.args.input.now) c.args.flags c.args.desk.now c.loop-number.desk was.0 _ (g.W.Write.contents c.args.output.now) (g.W.Write.contents c.loop-number.output) (g.W.Write.contents c.print_line.new.output)
-    c.loop-number.number stop was.2 was.1 was.3 c.in_err-print_line.ensures.stopped)
+    (line-stopped (g.R.Read.remaining c.args.input.now) c.args.flags c.args.desk.now c.loop-number.desk was.0 c.in-Some.line.items _ (g.W.Write.contents c.args.output.now) (g.W.Write.contents c.loop-number.output) (g.W.Write.contents c.print_line.new.output)
+    c.loop-number.number stop (one-given _ _ _ _ _ was.2 (rw c.in-Some.is at c.in_ok-line.ensures)) was.1 was.3 nothing)
