@@ -1,5 +1,5 @@
 -- What callers see of the table: how many clients and numbers there are.
-use Rattle.std.specs.Prelude.{ℕ, ◌+◌, ◌<◌, ◌≤◌, ◌^◌, ◌++◌, ◌∷◌, [], length}
+use Rattle.std.specs.Prelude.{◌≡◌, ℕ, ◌+◌, ◌<◌, ◌≤◌, ◌^◌, ◌++◌, ◌∷◌, [], length}
 use Rattle.order_histories.specs.OrderRecord.{OrderRecord}
 use Rattle.order_histories.specs.Table.{GivenToken, State, UsedId}
 
