@@ -27,16 +27,13 @@ pub fn shown(alloc: Global, bytes: &[u8]) -> Result<String, AllocError> {
     String::from_str(alloc, str::from_utf8(text.as_slice()).unwrap_or("no text"))
 }
 
-/// How many fields a text has, and they made anew, one by one.
+/// How many fields a text has, and they behind no others.
 pub fn fields(alloc: Global, text: &[u8]) -> Result<String, AllocError> {
     let Some(fields) = fields_of(alloc, text)? else {
         return String::from_str(alloc, "none");
     };
     let mut anew = Fields::new(alloc);
-    for i in 0..fields.len() {
-        let field = fields.at(i);
-        anew.push(field.tag, field.value)?;
-    }
+    anew.append(alloc, &fields)?;
     let printed = fields.print(alloc)?;
     if printed.as_slice() != anew.text() {
         return String::from_str(alloc, "other fields");
