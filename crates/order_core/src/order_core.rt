@@ -1,6 +1,6 @@
 //! The value, and the calls that step it.
 
-ghost use Rattle.std.specs.Prelude.{◌≡◌, ◌≤◌, ◌+◌, length, map, IfOk, OnErr, ◌<◌, ◌^◌, ◌∷◌, [], ℕ, List};
+ghost use Rattle.std.specs.Prelude.{◌≡◌, length, map, IfOk, OnErr, ◌<◌, ◌^◌, ◌∷◌, [], List};
 ghost use Rattle.ouch_codec.specs.FromMarket as heard;
 ghost use Rattle.ouch_codec.specs.Inbound.{inbound_bytes};
 ghost use Rattle.to_market.specs.PortsSeen.{port_seen};

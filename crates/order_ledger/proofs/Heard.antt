@@ -1,5 +1,5 @@
 -- What a payload comes to, and what is given of it.
-use Rattle.std.proofs.Common.{◌≡◌, ℕ, ◌+◌, ◌≤◌, Bool, true, false, List, [], ◌∷◌, length, map, refl, sym, ap, ◌∙◌, subst, arith, Option, Some, None, decimal}
+use Rattle.std.proofs.Common.{◌≡◌, ℕ, ◌+◌, Bool, List, [], ◌∷◌, map, refl, sym, ap, ◌∙◌, subst, Option, Some, None, decimal}
 use Rattle.std.specs.Prelude.{if◌then◌else◌}
 use Rattle.fix_types.specs.declared.application.AppBody.{AppBody}
 use Rattle.std.specs.List.{count_by, find}

@@ -5,7 +5,7 @@ use Rattle.fix_types.specs.Application.{body_fields}
 use Rattle.ouch_codec.specs.Inbound.{inbound_bytes}
 use Rattle.ouch_codec.specs.declared.inbound.Inbound.{Inbound}
 use Rattle.order_law.specs.Headline.{Each, EachWith, Says}
-use Rattle.order_law.specs.History.{Terms, terms_of}
+use Rattle.order_law.specs.History.{terms_of}
 use Rattle.order_law.specs.Messages.{Message}
 use Rattle.order_law.specs.Verdicts.{Port}
 use Rattle.order_histories.specs.Machine.{Given, client_step, tells, with_used}

@@ -1,5 +1,5 @@
 -- When what the code gives is what the table's step gives.
-use Rattle.std.specs.Prelude.{◌≡◌, ℕ, ◌+◌, List, [], Option, Some, None, Result, Ok, Err, map, decimal, length}
+use Rattle.std.specs.Prelude.{◌≡◌, ℕ, ◌+◌, List, Option, Some, None, Result, Ok, Err, map, decimal, length}
 use Rattle.tokens.specs.TokenText.{token_text}
 use Rattle.fix_types.specs.declared.application.AppMsg.{AppMsg}
 use Rattle.fix_types.specs.declared.new_order.NewOrder.{NewOrder}

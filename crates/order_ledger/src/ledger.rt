@@ -4,7 +4,7 @@ mod heard;
 mod new_order;
 mod requests;
 
-ghost use Rattle.std.specs.Prelude.{◌≡◌, ◌≤◌, ◌<◌, ◌+◌, length, map, slice_get, Some, IfOk, OnErr};
+ghost use Rattle.std.specs.Prelude.{◌≡◌, ◌≤◌, ◌<◌, length, map, slice_get, Some, IfOk, OnErr};
 ghost use Rattle.order_law.specs.History.{terms_of};
 ghost use Rattle.to_market.specs.TermsSeen.{terms_seen};
 

@@ -1,6 +1,6 @@
 //! Texts in which `|` stands for SOH.
 
-ghost use Rattle.std.specs.Prelude.{◌≡◌, ◌++◌, ◌∷◌, [], IfOk, is_some, Some};
+ghost use Rattle.std.specs.Prelude.{◌≡◌, IfOk, is_some, Some};
 ghost use Rattle.fix_fields.specs.Reading.{fields_of};
 ghost use Rattle.script_lines.specs.Bars as spec;
 ghost use Rattle.script_lines.specs.Understood.{IsReadWhere};

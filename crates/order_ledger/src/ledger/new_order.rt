@@ -1,6 +1,6 @@
 //! A new order: its verdict, and what either verdict does.
 
-ghost use Rattle.std.specs.Prelude.{◌≡◌, ◌≤◌, ◌+◌, ◌<◌, ◌^◌, ◌∷◌, [], ℕ, List, Option, true, false, nat_le, slice_get, Some, length, map, codes, decimal, option_to_list, IfOk, OnErr, MatchResult};
+ghost use Rattle.std.specs.Prelude.{◌≡◌, ◌≤◌, ◌+◌, ◌<◌, ◌^◌, ◌∷◌, [], ℕ, List, Option, true, false, nat_le, length, map, codes, decimal, option_to_list, IfOk, OnErr, MatchResult};
 ghost use Rattle.tokens.specs.TokenText.{token_text};
 ghost use Rattle.fix_types.specs.NewOrder.{new_order_fields};
 ghost use Rattle.fix_types.specs.Report.{report_fields};
@@ -37,7 +37,7 @@ impl OrderLedger {
     ghost use Rattle.std.specs.Prelude.{IfOk, MatchResult};
     ghost use Rattle.fix_types.specs.NewOrder.{new_order_fields};
     ghost use Rattle.order_law.specs.History.{Terms, terms_of};
-    ghost use Rattle.order_law.specs.Verdicts.{Accepted, Port};
+    ghost use Rattle.order_law.specs.Verdicts.{Accepted};
     ghost use Rattle.order_histories.specs.Machine.{accept_new, entry_of_new, refuse_new, verdict_in};
     ghost use Rattle.order_histories.specs.OrderRecord.{entered};
     ghost use Rattle.order_ledger.specs.Meets.{AsksNext, GivesClient, MeetsFields};

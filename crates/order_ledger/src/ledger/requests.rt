@@ -1,6 +1,6 @@
 //! Cancels and replaces: what comes of one is put into the table.
 
-ghost use Rattle.std.specs.Prelude.{◌≡◌, ◌≤◌, ◌+◌, ◌++◌, ◌∷◌, [], ℕ, length, IfOk, OnErr};
+ghost use Rattle.std.specs.Prelude.{◌≡◌, ◌≤◌, ◌+◌, ◌++◌, ◌∷◌, [], length, IfOk, OnErr};
 ghost use Rattle.fix_types.specs.CancelRequest.{cancel_request_fields};
 ghost use Rattle.fix_types.specs.ReplaceRequest.{replace_request_fields};
 ghost use Rattle.to_market.specs.PortsSeen.{port_seen};

@@ -1,7 +1,5 @@
-use Rattle.std.proofs.Common.{◌+◌, [], ◌∷◌, codes, map, refl, ap, ◌∙◌}
+use Rattle.std.proofs.Common.{◌+◌, [], ◌∷◌, codes, refl, ap, ◌∙◌}
 use Rattle.fix_types.specs.NewOrder.{new_order_fields}
-use Rattle.fix_types.specs.Application.{body_fields}
-use Rattle.order_law.specs.Messages.{Message}
 use Rattle.order_law.specs.Told as law
 use Rattle.order_histories.specs.Machine.{entry_of_new}
 use Rattle.order_histories.specs.OrderRecord.{OrderRecord, shown_as}

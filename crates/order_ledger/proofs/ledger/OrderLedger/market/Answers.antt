@@ -1,11 +1,10 @@
-use Rattle.std.proofs.Common.{◌≡◌, ◌+◌, ◌≤◌, ℕ, List, length, map, refl, sym, subst, ap, ◌∙◌, arith, Option, Some}
+use Rattle.std.proofs.Common.{◌≡◌, ◌+◌, ◌≤◌, ℕ, List, length, map, refl, sym, subst, ap, ◌∙◌, arith, Some}
 use Rattle.std.specs.List.{count_by}
 use Rattle.fix_types.specs.declared.application.AppBody.{AppBody}
 use Rattle.fix_types.specs.Application.{body_fields}
 use Rattle.order_law.specs.Reading.{is_report}
 use Rattle.order_law.specs.Told.{to_client_of}
 use Rattle.order_histories.specs.Machine.{market_step}
-use Rattle.order_histories.specs.OrderRecord.{OrderRecord}
 use Rattle.order_histories.specs.Table.{State}
 use Rattle.orders.specs.Changes.{Fits}
 use Rattle.order_table.specs.Held.{Held}
