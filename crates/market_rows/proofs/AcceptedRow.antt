@@ -9,13 +9,14 @@ use Rattle.ouch_codec.specs.declared.outbound.accepted.Accepted.{Accepted}
 use Rattle.ouch_codec.specs.declared.order_state.OrderState.TheVariants.{Live, Dead}
 use Rattle.ouch_codec.specs.declared.side.Side.{Side}
 use Rattle.ouch_codec.specs.declared.side.Side.TheVariants.{Buy, Sell, SellShort, SellShortExempt}
-use Rattle.ouch_codec.specs.AcceptedParts.{SaysAccepted}
+use Rattle.ouch_codec.specs.declared.outbound.Outbound.{Outbound}
+use Rattle.ouch_codec.specs.declared.outbound.Outbound.TheVariants as market
 use Rattle.order_law.specs.Messages.{Message, text, character}
 use Rattle.order_law.specs.Told as law
 use Rattle.order_histories.specs.OrderRecord.{OrderRecord, after_message, live_token, shown_as}
 use Rattle.std.proofs.lemmas.Bool.{and_parts}
 use Rattle.ouch_codec.specs.declared.order_state.OrderState.{OrderState}
-use Rattle.order_law.specs.Life.{is_dead_state, is_waiting}
+use Rattle.order_law.specs.Life.{is_dead, is_waiting}
 use Rattle.order_law.specs.declared.stage.Stage.TheVariants.{Waiting}
 use Rattle.orders.specs.Changes.{changed_by, with_quantities}
 use Rattle.orders.specs.declared.change.Change.TheVariants as changes
@@ -36,50 +37,50 @@ symbol-fields m = text_there 55 (new_order_fields m) m.symbol (symbol-value m)
 
 -- ---- the row
 
-pub accepted-lawful : (m : Accepted) (b : List ℕ) (o : OrderRecord) → SaysAccepted m b → is_lawful b o ≡ may_open_as m o
-accepted-lawful m b o says = by_side m.side refl
+pub accepted-lawful : (m : Accepted) (o : OrderRecord) → is_lawful (market.Accepted m) o ≡ may_open_as m o
+accepted-lawful m o = by_side m.side refl
   where
-    by_side : (s : Side) → m.side ≡ s → is_lawful b o ≡ may_open_as m o
-    by_side Buy e = rw (says.type, says.token, says.stock, says.side, e) refl
-    by_side Sell e = rw (says.type, says.token, says.stock, says.side, e) refl
-    by_side SellShort e = rw (says.type, says.token, says.stock, says.side, e) refl
-    by_side SellShortExempt e = rw (says.type, says.token, says.stock, says.side, e) refl
+    by_side : (s : Side) → m.side ≡ s → is_lawful (market.Accepted m) o ≡ may_open_as m o
+    by_side Buy e = rw e refl
+    by_side Sell e = rw e refl
+    by_side SellShort e = rw e refl
+    by_side SellShortExempt e = rw e refl
 
-dead-is : (m : Accepted) (b : List ℕ) → SaysAccepted m b → is_dead_state b ≡ dead_as m.order_state
-dead-is m b says = by_state m.order_state refl
+dead-is : (m : Accepted) → is_dead m.order_state ≡ dead_as m.order_state
+dead-is m = by_state m.order_state refl
   where
-    by_state : (x : OrderState) → m.order_state ≡ x → is_dead_state b ≡ dead_as m.order_state
-    by_state Live e = rw (says.state, e) refl
-    by_state Dead e = rw (says.state, e) refl
+    by_state : (x : OrderState) → m.order_state ≡ x → is_dead m.order_state ≡ dead_as m.order_state
+    by_state Live e = rw e refl
+    by_state Dead e = rw e refl
 
-module _ (issued : ℕ) (m : Accepted) (b : List ℕ) (o : OrderRecord) (says : SaysAccepted m b) where
+module _ (issued : ℕ) (m : Accepted) (o : OrderRecord) where
   abbrev pub alive : OrderRecord
   alive = with_quantities (changed_by (changes.Opened m.shares m.price false) o) o
 
   abbrev pub over : OrderRecord
   over = with_quantities (changed_by (changes.Opened m.shares m.price true) o) o
 
-  opened-shown : law.opened b (shown_as o) ≡ shown_as alive
-  opened-shown = rw (says.shares, says.price) refl
+  opened-shown : law.opened m.shares m.price (shown_as o) ≡ shown_as alive
+  opened-shown = refl
 
-  closed-shown : law.closed (law.opened b (shown_as o)) ≡ shown_as over
-  closed-shown = rw (says.shares, says.price) refl
+  closed-shown : law.closed (law.opened m.shares m.price (shown_as o)) ≡ shown_as over
+  closed-shown = refl
 
-  pub accepted-now : changed_by (changes.Opened m.shares m.price (dead_as m.order_state)) o ≡ after_message issued b o
-  accepted-now = rw (says.type, says.shares, says.price, dead-is m b says) refl
+  pub accepted-now : changed_by (changes.Opened m.shares m.price (dead_as m.order_state)) o ≡ after_message issued (market.Accepted m) o
+  accepted-now = rw (dead-is m) refl
 
-  told : told_of issued b o ≡ law.report (issued + 1) (law.plain (codes "0")) (shown_as alive) ∷ (if dead_as m.order_state then law.cancelled (issued + 2) None (shown_as over) else [])
+  told : told_of issued (market.Accepted m) o ≡ law.report (issued + 1) (law.plain (codes "0")) (shown_as alive) ∷ (if dead_as m.order_state then law.cancelled (issued + 2) None (shown_as over) else [])
   told =
-      rw says.type (
-      ap (λ (s : law.Shown). law.report (issued + 1) (law.plain (codes "0")) s ∷ (if is_dead_state b then law.cancelled (issued + 2) None (law.closed (law.opened b (shown_as o))) else [])) opened-shown
-      ∙ ap (λ (x : Bool). law.report (issued + 1) (law.plain (codes "0")) (shown_as alive) ∷ (if x then law.cancelled (issued + 2) None (law.closed (law.opened b (shown_as o))) else [])) (dead-is m b says)
+      (
+      ap (λ (s : law.Shown). law.report (issued + 1) (law.plain (codes "0")) s ∷ (if is_dead m.order_state then law.cancelled (issued + 2) None (law.closed (law.opened m.shares m.price (shown_as o))) else [])) opened-shown
+      ∙ ap (λ (x : Bool). law.report (issued + 1) (law.plain (codes "0")) (shown_as alive) ∷ (if x then law.cancelled (issued + 2) None (law.closed (law.opened m.shares m.price (shown_as o))) else [])) (dead-is m)
       ∙ ap (λ (s : law.Shown). law.report (issued + 1) (law.plain (codes "0")) (shown_as alive) ∷ (if dead_as m.order_state then law.cancelled (issued + 2) None s else [])) closed-shown
       )
 
-  pub live-told : dead_as m.order_state ≡ false → told_of issued b o ≡ law.report (issued + 1) (law.plain (codes "0")) (shown_as alive) ∷ []
+  pub live-told : dead_as m.order_state ≡ false → told_of issued (market.Accepted m) o ≡ law.report (issued + 1) (law.plain (codes "0")) (shown_as alive) ∷ []
   live-told e = told ∙ ap (λ (x : Bool). law.report (issued + 1) (law.plain (codes "0")) (shown_as alive) ∷ (if x then law.cancelled (issued + 2) None (shown_as over) else [])) e
 
-  pub dead-told : dead_as m.order_state ≡ true → told_of issued b o ≡ law.report (issued + 1) (law.plain (codes "0")) (shown_as alive) ∷ law.cancelled (issued + 2) None (shown_as over)
+  pub dead-told : dead_as m.order_state ≡ true → told_of issued (market.Accepted m) o ≡ law.report (issued + 1) (law.plain (codes "0")) (shown_as alive) ∷ law.cancelled (issued + 2) None (shown_as over)
   dead-told e = told ∙ ap (λ (x : Bool). law.report (issued + 1) (law.plain (codes "0")) (shown_as alive) ∷ (if x then law.cancelled (issued + 2) None (shown_as over) else [])) e
 
 pub open-waits : (m : Accepted) (o : OrderRecord) → may_open_as m o ≡ true → o.stage ≡ Waiting

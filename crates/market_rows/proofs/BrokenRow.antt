@@ -3,8 +3,8 @@ use Rattle.std.proofs.Common.{◌≡◌, ℕ, ◌+◌, Bool, true, false, List, 
 use Rattle.std.specs.Prelude.{◌==◌, ◌&&◌, ◌||◌, not, bytes_eq, if◌then◌else◌, is_some, option_map}
 use Rattle.std.specs.List.{find, list_any}
 use Rattle.ouch_codec.specs.declared.outbound.broken.Broken.{Broken}
-use Rattle.ouch_codec.specs.BrokenParts.{SaysBroken}
-use Rattle.ouch_codec.specs.FromMarket as heard
+use Rattle.ouch_codec.specs.declared.outbound.Outbound.{Outbound}
+use Rattle.ouch_codec.specs.declared.outbound.Outbound.TheVariants as market
 use Rattle.order_law.specs.declared.stage.Stage.{Stage}
 use Rattle.order_law.specs.declared.stage.Stage.TheVariants.{Waiting, Working, Closed}
 use Rattle.order_law.specs.declared.trade.Trade.{Trade}
@@ -75,9 +75,8 @@ marks-same n ts = map-map trade_of (marked n) ts ∙ sym (map-map (mark n) trade
 
 -- ---- when it is lawful
 
-broken-lawful : (m : Broken) (b : List ℕ) (o : OrderRecord) → SaysBroken m b → is_lawful b o ≡ (list_any (bytes_eq m.token) o.tokens && is_some (find (stands_told m.match_number) o.trades))
-broken-lawful m b o says =
-    rw (says.type, says.token, says.match_number)
+broken-lawful : (m : Broken) (o : OrderRecord) → is_lawful (market.Broken m) o ≡ (list_any (bytes_eq m.token) o.tokens && is_some (find (stands_told m.match_number) o.trades))
+broken-lawful m o =
     (ap (λ (x : Bool). list_any (bytes_eq m.token) o.tokens && x) (any-stands m.match_number o.trades))
 
 -- a trade of an order that may be taken back
@@ -94,41 +93,41 @@ may-break m o t e = by_tests (list_any (bytes_eq m.token) o.tokens) refl (is_wai
     by_tests true own false accepted e = record { own = own; accepted = accepted; here = e }
     by_tests false own w accepted e = absurd (cc)
 
-pub broken-unlawful : (m : Broken) (b : List ℕ) (o : OrderRecord) → SaysBroken m b → IsSteady o → broken_in m o ≡ None → is_lawful b o ≡ false
-broken-unlawful m b o says steady none = broken-lawful m b o says ∙ by_tests (list_any (bytes_eq m.token) o.tokens) (is_waiting o.stage) refl none
+pub broken-unlawful : (m : Broken) (o : OrderRecord) → IsSteady o → broken_in m o ≡ None → is_lawful (market.Broken m) o ≡ false
+broken-unlawful m o steady none = broken-lawful m o ∙ by_tests (list_any (bytes_eq m.token) o.tokens) (is_waiting o.stage) refl none
   where
     by_tests : (b w : Bool) → is_waiting o.stage ≡ w → (if b && not w then find (stands_told m.match_number) o.trades else None) ≡ None → (b && is_some (find (stands_told m.match_number) o.trades)) ≡ false
     by_tests true true waits e = ap (λ (ts : List ToldTrade). is_some (find (stands_told m.match_number) ts)) (steady.idle (waits-is o.stage waits))
     by_tests true false accepted e = ap (λ (x : Option ToldTrade). is_some x) e
     by_tests false w accepted e = refl
 
-pub broken-is-lawful : (m : Broken) (b : List ℕ) (o : OrderRecord) (t : ToldTrade) → SaysBroken m b → MayBreak m o t → is_lawful b o ≡ true
-broken-is-lawful m b o t says may = broken-lawful m b o says ∙ rw (may.own, may.here) refl
+pub broken-is-lawful : (m : Broken) (o : OrderRecord) (t : ToldTrade) → MayBreak m o t → is_lawful (market.Broken m) o ≡ true
+broken-is-lawful m o t may = broken-lawful m o ∙ rw (may.own, may.here) refl
 
 -- ---- the row
 
-module _ (issued : ℕ) (m : Broken) (b : List ℕ) (o : OrderRecord) (told : table.ToldTrade) (says : SaysBroken m b) (steady : IsSteady o) (may : MayBreak m o (told_seen told)) where
+module _ (issued : ℕ) (m : Broken) (o : OrderRecord) (told : table.ToldTrade) (steady : IsSteady o) (may : MayBreak m o (told_seen told)) where
   abbrev t : ToldTrade
   t = told_seen told
 
   abbrev pub left : OrderRecord
   left = with_quantities (changed_by (changes.Broken told) o) o
 
-  own : is_of (lived o) (heard.token b) ≡ true
-  own = ap (is_of (lived o)) says.token ∙ may.own
+  own : is_of (lived o) m.token ≡ true
+  own = may.own
 
-  here : find (stands_told (heard.broken_match b)) o.trades ≡ Some t
-  here = ap (λ (n : ℕ). find (stands_told n) o.trades) says.match_number ∙ may.here
+  here : find (stands_told m.match_number) o.trades ≡ Some t
+  here = may.here
 
-  first : IsFirst (heard.broken_match b) o.trades t
-  first = first-is (heard.broken_match b) o.trades t here
+  first : IsFirst m.match_number o.trades t
+  first = first-is m.match_number o.trades t here
 
-  lives : after (lived o) b ≡ lived (broken t o)
+  lives : after (lived o) (market.Broken m) ≡ lived (broken t o)
   lives =
       let same = first.same_match in
       let found = first.found in
-      let marks = marks-same (heard.broken_match b) o.trades in
-      rw (says.type, own, found, marks, same) refl
+      let marks = marks-same m.match_number o.trades in
+      rw (own, found, marks, same) refl
 
   open_as : law.leaves_at o.stage (total_of o.new.message) o.unfilled ≡ o.unfilled
   open_as = by_stage o.stage refl
@@ -141,10 +140,10 @@ module _ (issued : ℕ) (m : Broken) (b : List ℕ) (o : OrderRecord) (told : ta
   shown : law.lived (lived (broken t o)) (shown_as o) ≡ shown_as left
   shown = rw open_as refl
 
-  pub broken-told : told_of issued b o ≡ law.report (issued + 1) (occasion_seen (occasions.TradeCancel told.number m.reason)) (shown_as left) ∷ []
+  pub broken-told : told_of issued (market.Broken m) o ≡ law.report (issued + 1) (occasion_seen (occasions.TradeCancel told.number m.reason)) (shown_as left) ∷ []
   broken-told =
-      (let exec = first.exec_id in rw (lives, says.type, exec, says.reason) refl)
+      (let exec = first.exec_id in rw (lives, exec) refl)
       ∙ ap (λ (s : law.Shown). law.report (issued + 1) (occasion_seen (occasions.TradeCancel told.number m.reason)) s ∷ []) shown
 
-  pub broken-now : changed_by (changes.Broken told) o ≡ after_message issued b o
-  broken-now = rw (says.type, here) refl
+  pub broken-now : changed_by (changes.Broken told) o ≡ after_message issued (market.Broken m) o
+  broken-now = rw here refl

@@ -4,7 +4,8 @@ use Rattle.std.specs.Prelude.{◌==◌, ◌&&◌, nat_le, not}
 use Rattle.std.specs.List.{list_any}
 use Rattle.std.proofs.lemmas.Bool.{and_parts}
 use Rattle.ouch_codec.specs.declared.outbound.executed.Executed.{Executed}
-use Rattle.ouch_codec.specs.ExecutedParts.{SaysExecuted}
+use Rattle.ouch_codec.specs.declared.outbound.Outbound.{Outbound}
+use Rattle.ouch_codec.specs.declared.outbound.Outbound.TheVariants as market
 use Rattle.order_law.specs.declared.stage.Stage.TheVariants.{Working}
 use Rattle.order_law.specs.declared.trade.Trade.{Trade}
 use Rattle.order_law.specs.Life.{is_working}
@@ -27,9 +28,8 @@ any-seen n ts = sym (any-reverse (has_number n) (map told_seen ts) ∙ any-map (
 
 -- ---- the row
 
-pub executed-lawful : (m : Executed) (b : List ℕ) (o : OrderRecord) → SaysExecuted m b → is_lawful b o ≡ may_trade_as m o
-executed-lawful m b o says =
-    rw (says.type, says.token, says.shares, says.match_number)
+pub executed-lawful : (m : Executed) (o : OrderRecord) → is_lawful (market.Executed m) o ≡ may_trade_as m o
+executed-lawful m o =
     (ap (λ (known : Bool). (bytes_eq m.token (live_token o) && is_working o.stage) && ((nat_le 1 m.shares && nat_le m.shares o.unfilled) && not known))
     (any-map (λ (t : Trade). t.match_number == m.match_number) (λ (t : ToldTrade). t.trade) o.trades))
 
@@ -51,7 +51,7 @@ pub trade-works : (m : Executed) (o : OrderRecord) → may_trade_as m o ≡ true
 trade-works m o may =
     works-is o.stage (and_parts (bytes_eq m.token (live_token o)) (is_working o.stage) (and_parts (is_found m o) (is_open m o && not (is_known m o)) may).0).1
 
-module _ (issued : ℕ) (m : Executed) (b : List ℕ) (o : OrderRecord) (says : SaysExecuted m b) (may : may_trade_as m o ≡ true) where
+module _ (issued : ℕ) (m : Executed) (o : OrderRecord) (may : may_trade_as m o ≡ true) where
   token : bytes_eq m.token (live_token o) ≡ true
   token = (and_parts (bytes_eq m.token (live_token o)) (is_working o.stage) (and_parts (is_found m o) (is_open m o && not (is_known m o)) may).0).0
 
@@ -64,13 +64,13 @@ module _ (issued : ℕ) (m : Executed) (b : List ℕ) (o : OrderRecord) (says : 
   abbrev pub left : OrderRecord
   left = with_quantities (changed_by (changes.Traded (trade_said m (issued + 1))) o) o
 
-  pub executed-now : changed_by (changes.Traded (trade_said m (issued + 1))) o ≡ after_message issued b o
-  executed-now = rw (says.type, says.shares, says.price, says.match_number) refl
+  pub executed-now : changed_by (changes.Traded (trade_said m (issued + 1))) o ≡ after_message issued (market.Executed m) o
+  executed-now = refl
 
-  pub filled-told : m.shares ≡ o.unfilled → told_of issued b o ≡ law.report (issued + 1) (occasion_seen (occasions.Trade m.shares m.price)) (shown_as left) ∷ law.too_late (shown_as left)
-  filled-told all = let nothing : o.unfilled - m.shares ≡ 0 = omega (arith, all) in rw (says.type, says.token, says.shares, says.price, token, works, nothing) refl
+  pub filled-told : m.shares ≡ o.unfilled → told_of issued (market.Executed m) o ≡ law.report (issued + 1) (occasion_seen (occasions.Trade m.shares m.price)) (shown_as left) ∷ law.too_late (shown_as left)
+  filled-told all = let nothing : o.unfilled - m.shares ≡ 0 = omega (arith, all) in rw (token, works, nothing) refl
 
-  pub traded-told : ((m.shares ≡ o.unfilled) → ⊥) → told_of issued b o ≡ law.report (issued + 1) (occasion_seen (occasions.Trade m.shares m.price)) (shown_as left) ∷ []
+  pub traded-told : ((m.shares ≡ o.unfilled) → ⊥) → told_of issued (market.Executed m) o ≡ law.report (issued + 1) (occasion_seen (occasions.Trade m.shares m.price)) (shown_as left) ∷ []
   traded-told part =
       let some : (o.unfilled - m.shares == 0) ≡ false = ne_eqb (o.unfilled - m.shares) 0 (λ e. part (omega (arith, few, e))) in
-      rw (says.type, says.token, says.shares, says.price, token, some, works) refl
+      rw (token, some, works) refl

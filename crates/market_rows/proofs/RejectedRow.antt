@@ -4,7 +4,8 @@ use Rattle.std.specs.Prelude.{◌&&◌, ◌||◌, not, filter, option_to_list, I
 use Rattle.std.specs.List.{find, list_any}
 use Rattle.std.proofs.lemmas.Bool.{and_parts}
 use Rattle.ouch_codec.specs.declared.outbound.rejected.Rejected.{Rejected}
-use Rattle.ouch_codec.specs.RejectedParts.{SaysRejected}
+use Rattle.ouch_codec.specs.declared.outbound.Outbound.{Outbound}
+use Rattle.ouch_codec.specs.declared.outbound.Outbound.TheVariants as market
 use Rattle.order_law.specs.declared.stage.Stage.TheVariants.{Waiting}
 use Rattle.order_law.specs.History.{Entry, SaysCancel, answers, token_of}
 use Rattle.order_law.specs.Life.{is_waiting}
@@ -22,12 +23,12 @@ use Rattle.market_rows.specs.Meets.{is_lawful, told_of}
 use Rattle.market_rows.proofs.CancelRejectRow.{last-same, still-same}
 use Rattle.market_rows.proofs.Stages.{waits-is}
 
-pub rejected-lawful : (m : Rejected) (b : List ℕ) (o : OrderRecord) → SaysRejected m b → is_lawful b o ≡ (may_refuse_as m o || may_reject_replace_as m o)
-rejected-lawful m b o says = rw (says.type, says.token) refl
+pub rejected-lawful : (m : Rejected) (o : OrderRecord) → is_lawful (market.Rejected m) o ≡ (may_refuse_as m o || may_reject_replace_as m o)
+rejected-lawful m o = refl
 
 -- ---- of the new order
 
-module _ (issued : ℕ) (m : Rejected) (b : List ℕ) (o : OrderRecord) (says : SaysRejected m b) (may : may_refuse_as m o ≡ true) where
+module _ (issued : ℕ) (m : Rejected) (o : OrderRecord) (may : may_refuse_as m o ≡ true) where
   abbrev pub over : OrderRecord
   over = with_quantities (changed_by changes.Refused o) o
 
@@ -37,11 +38,11 @@ module _ (issued : ℕ) (m : Rejected) (b : List ℕ) (o : OrderRecord) (says : 
   pub refuse-waits : o.stage ≡ Waiting
   refuse-waits = waits-is o.stage ((and_parts (bytes_eq m.token (live_token o)) (is_waiting o.stage) may).1)
 
-  pub refused-told : told_of issued b o ≡ law.report (issued + 1) (occasion_seen (occasions.Rejected m.reason)) (shown_as over) ∷ law.too_late (shown_as over)
-  refused-told = rw (says.type, says.token, says.reason, token, refuse-waits) refl
+  pub refused-told : told_of issued (market.Rejected m) o ≡ law.report (issued + 1) (occasion_seen (occasions.Rejected m.reason)) (shown_as over) ∷ law.too_late (shown_as over)
+  refused-told = rw (token, refuse-waits) refl
 
-  pub refused-now : changed_by changes.Refused o ≡ after_message issued b o
-  refused-now = rw (says.type, says.token, token, refuse-waits) refl
+  pub refused-now : changed_by changes.Refused o ≡ after_message issued (market.Rejected m) o
+  refused-now = rw (token, refuse-waits) refl
 
 -- ---- of a replace
 
@@ -83,10 +84,10 @@ and-turned true false e = refl
 and-turned false true e = refl
 and-turned false false e = refl
 
-module _ (issued : ℕ) (m : Rejected) (b : List ℕ) (o : OrderRecord) (q : Entry) (says : SaysRejected m b) (not_new : may_refuse_as m o ≡ false) (some : o.replace ≡ Some q) (own : m.token ≡ token_of q)
+module _ (issued : ℕ) (m : Rejected) (o : OrderRecord) (q : Entry) (not_new : may_refuse_as m o ≡ false) (some : o.replace ≡ Some q) (own : m.token ≡ token_of q)
     (is_g : is_replace q.message ≡ true) (is_f : IfSome (cancel_in o.cancel) (λ (p : Entry). is_replace p.message ≡ false)) (in_order : (shown_as o).pending ≡ option_to_list o.replace ++ option_to_list (cancel_in o.cancel)) where
-  answered : (other : List ℕ) → answers b (SaysCancel other) ≡ bytes_eq m.token other
-  answered other = rw (says.type, says.token) refl
+  answered : (other : List ℕ) → answers (market.Rejected m) (SaysCancel other) ≡ bytes_eq m.token other
+  answered other = refl
 
   abbrev pub rest : law.Shown
   rest = record (shown_as (with_quantities (changed_by (changes.NotReplaced m.token) o) o)) { pending = option_to_list (cancel_in o.cancel) }
@@ -101,35 +102,35 @@ module _ (issued : ℕ) (m : Rejected) (b : List ℕ) (o : OrderRecord) (q : Ent
   left = ap (λ (ps : List Entry). record (shown_as o) { pending = filter (λ (p : Entry). not (law.has_token m.token p)) ps }) listed
       ∙ ap (λ (ps : List Entry). record (shown_as o) { pending = ps }) (without-replace m.token q (cancel_in o.cancel) own is_g is_f)
 
-  pub not_replaced-told : told_of issued b o ≡ rejects_of rest o.replace 2 (m.reason ∷ []) ++ law.cancel_rejected (is_last_of m.token o.cancel) rest
+  pub not_replaced-told : told_of issued (market.Rejected m) o ≡ rejects_of rest o.replace 2 (m.reason ∷ []) ++ law.cancel_rejected (is_last_of m.token o.cancel) rest
   not_replaced-told =
-      rw (says.type, says.token, says.reason, not_refused) (
-      ap (λ (x : Bool). map (λ (p : Entry). law.answered_no (law.without_replace m.token (shown_as o)) p 2 (m.reason ∷ [])) (filter (law.has_token m.token) (shown_as o).pending) ++ law.cancel_rejected x (law.without_replace m.token (shown_as o))) (last-same b m.token answered o.cancel)
+      rw not_refused (
+      ap (λ (x : Bool). map (λ (p : Entry). law.answered_no (law.without_replace m.token (shown_as o)) p 2 (m.reason ∷ [])) (filter (law.has_token m.token) (shown_as o).pending) ++ law.cancel_rejected x (law.without_replace m.token (shown_as o))) (last-same (market.Rejected m) m.token answered o.cancel)
       ∙ ap (λ (ps : List Entry). map (λ (p : Entry). law.answered_no (law.without_replace m.token (shown_as o)) p 2 (m.reason ∷ [])) (filter (law.has_token m.token) ps) ++ law.cancel_rejected (is_last_of m.token o.cancel) (law.without_replace m.token (shown_as o))) listed
       ∙ ap (λ (ps : List Entry). map (λ (p : Entry). law.answered_no (law.without_replace m.token (shown_as o)) p 2 (m.reason ∷ [])) ps ++ law.cancel_rejected (is_last_of m.token o.cancel) (law.without_replace m.token (shown_as o))) (only-replace m.token q (cancel_in o.cancel) own is_g is_f)
       ∙ ap (λ (s : law.Shown). law.answered_no s q 2 (m.reason ∷ []) ∷ law.cancel_rejected (is_last_of m.token o.cancel) s) left
       ∙ ap (λ (r : Option Entry). rejects_of rest r 2 (m.reason ∷ []) ++ law.cancel_rejected (is_last_of m.token o.cancel) rest) (sym some)
       )
 
-module _ (issued : ℕ) (m : Rejected) (b : List ℕ) (o : OrderRecord) (says : SaysRejected m b) (not_new : may_refuse_as m o ≡ false) where
-  answers-token : (other : List ℕ) → answers b (SaysCancel other) ≡ bytes_eq m.token other
-  answers-token other = rw (says.type, says.token) refl
+module _ (issued : ℕ) (m : Rejected) (o : OrderRecord) (not_new : may_refuse_as m o ≡ false) where
+  answers-token : (other : List ℕ) → answers (market.Rejected m) (SaysCancel other) ≡ bytes_eq m.token other
+  answers-token other = refl
 
-  pub not_replaced-now : changed_by (changes.NotReplaced m.token) o ≡ after_message issued b o
+  pub not_replaced-now : changed_by (changes.NotReplaced m.token) o ≡ after_message issued (market.Rejected m) o
   not_replaced-now =
       let not_refused : (is_waiting o.stage && bytes_eq m.token (live_token o)) ≡ false = and-turned (bytes_eq m.token (live_token o)) (is_waiting o.stage) not_new in
-      rw (says.type, says.token, not_refused) (ap (λ (c : Option Cancelling). record o { replace = None; cancel = c }) (still-same b m.token answers-token o.cancel))
+      rw not_refused (ap (λ (c : Option Cancelling). record o { replace = None; cancel = c }) (still-same (market.Rejected m) m.token answers-token o.cancel))
 
 -- with any pending replace
-pub not_replaced-is : (issued : ℕ) (m : Rejected) (b : List ℕ) (o : OrderRecord) → SaysRejected m b → may_refuse_as m o ≡ false → list_any (bytes_eq m.token) (replacements o.replace) ≡ true
+pub not_replaced-is : (issued : ℕ) (m : Rejected) (o : OrderRecord) → may_refuse_as m o ≡ false → list_any (bytes_eq m.token) (replacements o.replace) ≡ true
     → IfSome o.replace (λ (q : Entry). is_replace q.message ≡ true) → IfSome (cancel_in o.cancel) (λ (p : Entry). is_replace p.message ≡ false) → (shown_as o).pending ≡ option_to_list o.replace ++ option_to_list (cancel_in o.cancel)
     → (rest : law.Shown) → rest ≡ record (shown_as (with_quantities (changed_by (changes.NotReplaced m.token) o) o)) { pending = option_to_list (cancel_in o.cancel) }
-    → rejects_of rest o.replace 2 (m.reason ∷ []) ++ law.cancel_rejected (is_last_of m.token o.cancel) rest ≡ told_of issued b o
-not_replaced-is issued m b o says not_new awaits typed is_f in_order rest same = by_replace o.replace refl typed
+    → rejects_of rest o.replace 2 (m.reason ∷ []) ++ law.cancel_rejected (is_last_of m.token o.cancel) rest ≡ told_of issued (market.Rejected m) o
+not_replaced-is issued m o not_new awaits typed is_f in_order rest same = by_replace o.replace refl typed
   where
     by_replace : (r : Option Entry) → o.replace ≡ r → IfSome r (λ (q : Entry). is_replace q.message ≡ true)
-        → rejects_of rest o.replace 2 (m.reason ∷ []) ++ law.cancel_rejected (is_last_of m.token o.cancel) rest ≡ told_of issued b o
+        → rejects_of rest o.replace 2 (m.reason ∷ []) ++ law.cancel_rejected (is_last_of m.token o.cancel) rest ≡ told_of issued (market.Rejected m) o
     by_replace None none is_g = absurd (none-replacing m.token o awaits none)
     by_replace (Some q) some is_g =
         ap (λ (s : law.Shown). rejects_of s o.replace 2 (m.reason ∷ []) ++ law.cancel_rejected (is_last_of m.token o.cancel) s) same
-        ∙ sym (not_replaced-told issued m b o q says not_new some (the-replace m.token o q awaits some) is_g is_f in_order)
+        ∙ sym (not_replaced-told issued m o q not_new some (the-replace m.token o q awaits some) is_g is_f in_order)

@@ -1,10 +1,11 @@
 -- When what comes of a message on an order is what the law says.
 use Rattle.std.specs.Prelude.{◌≡◌, ℕ, Bool, true, false, List, [], map, Result, Ok, Err}
 use Rattle.fix_types.specs.Application.{body_fields}
+use Rattle.ouch_codec.specs.declared.outbound.Outbound.{Outbound}
 use Rattle.order_law.specs.declared.stage.Stage.TheVariants.{Waiting, Closed}
 use Rattle.order_law.specs.Messages.{Message}
 use Rattle.order_law.specs.Lawful.{row_holds}
-use Rattle.order_law.specs.Told.{told_by_type}
+use Rattle.order_law.specs.Told.{told_by}
 use Rattle.order_histories.specs.OrderRecord.{OrderRecord, after_message, fill_of, last_of, lived, replacements, shown_as}
 use Rattle.orders.specs.Changes.{Fits, changed_by}
 use Rattle.market_rows.specs.declared.heard.Heard.{Heard}
@@ -12,23 +13,23 @@ use Rattle.market_rows.specs.declared.heard.RowFault.{RowFault}
 use Rattle.market_rows.specs.declared.heard.RowFault.TheVariants.{NoMemory, NotLawful}
 
 -- the message is lawful of the order
-abbrev pub is_lawful : List ℕ → OrderRecord → Bool
+abbrev pub is_lawful : Outbound → OrderRecord → Bool
 is_lawful m o = row_holds m (lived o) o.new (replacements o.replace)
 
 -- what its client is told, after so many reports
-abbrev pub told_of : ℕ → List ℕ → OrderRecord → List Message
-told_of issued m o = told_by_type issued m (lived o) (last_of m o.cancel) (map fill_of o.trades) (shown_as o)
+abbrev pub told_of : ℕ → Outbound → OrderRecord → List Message
+told_of issued m o = told_by issued m (lived o) (last_of m o.cancel) (map fill_of o.trades) (shown_as o)
 
 -- after so many reports: it is lawful, its client is told what the law tells, and what it changes fits the order and makes of it
 -- what the law makes
-pub record IsHeard (issued : ℕ) (m : List ℕ) (o : OrderRecord) (h : Heard) : Type 0 where
+pub record IsHeard (issued : ℕ) (m : Outbound) (o : OrderRecord) (h : Heard) : Type 0 where
   pub lawful : is_lawful m o ≡ true
   pub told : map body_fields h.bodies.items ≡ told_of issued m o
   pub now : changed_by h.change o ≡ after_message issued m o
   pub fits : Fits h.change o
 
 -- nobody is told anything, and the order stays as it is
-pub record IsQuiet (issued : ℕ) (m : List ℕ) (o : OrderRecord) : Type 0 where
+pub record IsQuiet (issued : ℕ) (m : Outbound) (o : OrderRecord) : Type 0 where
   pub told : told_of issued m o ≡ []
   pub now : after_message issued m o ≡ o
 
@@ -37,7 +38,7 @@ pub record IsSteady (o : OrderRecord) : Type 0 where
   pub idle : o.stage ≡ Waiting → o.trades ≡ []
   pub none_closed : o.stage ≡ Closed → o.unfilled ≡ 0
 
-abbrev pub MeetsRow : ℕ → List ℕ → OrderRecord → Result Heard RowFault → Type 0
+abbrev pub MeetsRow : ℕ → Outbound → OrderRecord → Result Heard RowFault → Type 0
 MeetsRow issued m o (Ok h) = IsHeard issued m o h
 MeetsRow issued m o (Err NoMemory) = Unit {0}
 MeetsRow issued m o (Err NotLawful) = is_lawful m o ≡ false

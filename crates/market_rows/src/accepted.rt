@@ -3,7 +3,7 @@
 ghost use Rattle.std.specs.Prelude.{◌≡◌, ◌≤◌, ◌<◌, ◌^◌, true, length, map, IfOk, ℕ, List};
 ghost use Rattle.fix_types.specs.Application.{body_fields};
 ghost use Rattle.orders.specs.declared.change.Change.TheVariants.{Opened};
-ghost use Rattle.ouch_codec.specs.AcceptedParts.{SaysAccepted};
+ghost use Rattle.ouch_codec.specs.declared.outbound.Outbound.TheVariants as market;
 ghost use Rattle.market_rows.specs.May.{dead_as, may_open_as};
 ghost use Rattle.market_rows.specs.Meets.{MeetsRow, told_of};
 
@@ -28,7 +28,7 @@ pub fn on_accepted(
     message: &Accepted,
 ) -> Result<Heard, RowFault>
     requires { issued < 2 ^ 60 }
-    ensures { (b : List ℕ) → SaysAccepted message.now b → MeetsRow issued b order.now result }
+    ensures { MeetsRow issued (market.Accepted message.now) order.now result }
 {
     if !may_open(order, message) {
         return Err(RowFault::NotLawful);
@@ -48,7 +48,7 @@ fn tell_accepted(
 ) -> Result<Vec<AppBody>, AllocError>
     requires issued { issued < 2 ^ 60 }
     requires may { may_open_as message.now order.now ≡ true }
-    ensures told { IfOk result (λ bodies. (b : List ℕ) → SaysAccepted message.now b → map body_fields bodies.items ≡ told_of issued b order.now) }
+    ensures told { IfOk result (λ bodies. map body_fields bodies.items ≡ told_of issued (market.Accepted message.now) order.now) }
     ensures few { IfOk result (λ bodies. length bodies.items ≤ 3) }
 {
     let opened = order.progress_after(opened_by(message, false));

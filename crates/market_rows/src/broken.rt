@@ -5,7 +5,7 @@ ghost use Rattle.std.specs.List.{find, position};
 ghost use Rattle.fix_types.specs.Application.{body_fields};
 ghost use Rattle.order_histories.specs.OrderRecord.{stands_told};
 ghost use Rattle.orders.specs.Seen.{told_seen};
-ghost use Rattle.ouch_codec.specs.BrokenParts.{SaysBroken};
+ghost use Rattle.ouch_codec.specs.declared.outbound.Outbound.TheVariants as market;
 ghost use Rattle.market_rows.specs.May.{broken_in, is_standing, was_in_book_as};
 ghost use Rattle.market_rows.specs.Meets.{IsSteady, MeetsRow, told_of};
 
@@ -28,7 +28,7 @@ pub fn on_broken(
     message: &Broken,
 ) -> Result<Heard, RowFault>
     requires { issued < 2 ^ 60 }
-    ensures { (b : List ℕ) → SaysBroken message.now b → MeetsRow issued b order.now result }
+    ensures { MeetsRow issued (market.Broken message.now) order.now result }
 {
     let Some(told) = trade_of(order, message) else {
         return Err(RowFault::NotLawful);
@@ -50,7 +50,7 @@ fn tell_broken(
     requires issued { issued < 2 ^ 60 }
     requires may { broken_in message.now order.now ≡ Some (told_seen told) }
     requires steady { IsSteady order.now }
-    ensures told { IfOk result (λ bodies. (b : List ℕ) → SaysBroken message.now b → map body_fields bodies.items ≡ told_of issued b order.now) }
+    ensures told { IfOk result (λ bodies. map body_fields bodies.items ≡ told_of issued (market.Broken message.now) order.now) }
     ensures few { IfOk result (λ bodies. length bodies.items ≤ 3) }
 {
     let progress = order.progress_after(Change::Broken(told));

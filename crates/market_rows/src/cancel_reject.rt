@@ -2,7 +2,7 @@
 
 ghost use Rattle.std.specs.Prelude.{◌≡◌, ◌≤◌, ℕ, true, length, map, IfOk, List};
 ghost use Rattle.fix_types.specs.Application.{body_fields};
-ghost use Rattle.ouch_codec.specs.CancelRejectParts.{SaysCancelReject};
+ghost use Rattle.ouch_codec.specs.declared.outbound.Outbound.TheVariants as market;
 ghost use Rattle.market_rows.specs.May.{may_reject_cancel_as};
 ghost use Rattle.market_rows.specs.Meets.{MeetsRow, told_of};
 
@@ -23,7 +23,7 @@ pub fn on_cancel_reject(
     order: &Order,
     message: &CancelReject,
 ) -> Result<Heard, RowFault>
-    ensures { (issued : ℕ) (b : List ℕ) → SaysCancelReject message.now b → MeetsRow issued b order.now result }
+    ensures { (issued : ℕ) → MeetsRow issued (market.CancelReject message.now) order.now result }
 {
     if !may_reject_cancel(order, message) {
         return Err(RowFault::NotLawful);
@@ -41,7 +41,7 @@ fn tell_cancel_reject(
     message: &CancelReject,
 ) -> Result<Vec<AppBody>, AllocError>
     requires { may_reject_cancel_as message.now order.now ≡ true }
-    ensures told { IfOk result (λ bodies. (issued : ℕ) (b : List ℕ) → SaysCancelReject message.now b → map body_fields bodies.items ≡ told_of issued b order.now) }
+    ensures told { IfOk result (λ bodies. (issued : ℕ) → map body_fields bodies.items ≡ told_of issued (market.CancelReject message.now) order.now) }
     ensures few { IfOk result (λ bodies. length bodies.items ≤ 3) }
 {
     let progress = order.progress_after(Change::NotCanceled(message.token));

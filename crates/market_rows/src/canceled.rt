@@ -2,7 +2,7 @@
 
 ghost use Rattle.std.specs.Prelude.{◌≡◌, ◌≤◌, ◌<◌, ◌^◌, true, length, map, IfOk, ℕ, List};
 ghost use Rattle.fix_types.specs.Application.{body_fields};
-ghost use Rattle.ouch_codec.specs.CanceledParts.{SaysCanceled};
+ghost use Rattle.ouch_codec.specs.declared.outbound.Outbound.TheVariants as market;
 ghost use Rattle.market_rows.specs.May.{may_cancel_as};
 ghost use Rattle.market_rows.specs.Meets.{MeetsRow, told_of};
 
@@ -25,7 +25,7 @@ pub fn on_canceled(
     message: &Canceled,
 ) -> Result<Heard, RowFault>
     requires { issued < 2 ^ 60 }
-    ensures { (b : List ℕ) → SaysCanceled message.now b → MeetsRow issued b order.now result }
+    ensures { MeetsRow issued (market.Canceled message.now) order.now result }
 {
     if !may_cancel(order, message) {
         return Err(RowFault::NotLawful);
@@ -45,7 +45,7 @@ fn tell_canceled(
 ) -> Result<Vec<AppBody>, AllocError>
     requires issued { issued < 2 ^ 60 }
     requires may { may_cancel_as message.now order.now ≡ true }
-    ensures told { IfOk result (λ bodies. (b : List ℕ) → SaysCanceled message.now b → map body_fields bodies.items ≡ told_of issued b order.now) }
+    ensures told { IfOk result (λ bodies. map body_fields bodies.items ≡ told_of issued (market.Canceled message.now) order.now) }
     ensures few { IfOk result (λ bodies. length bodies.items ≤ 3) }
 {
     let progress = order.progress_after(Change::Canceled(message.decrement));

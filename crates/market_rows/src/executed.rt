@@ -3,7 +3,7 @@
 ghost use Rattle.std.specs.Prelude.{◌≡◌, ◌≤◌, ◌<◌, ◌^◌, ◌==◌, true, length, map, IfOk, ℕ, List};
 ghost use Rattle.std.specs.List.{list_any};
 ghost use Rattle.fix_types.specs.Application.{body_fields};
-ghost use Rattle.ouch_codec.specs.ExecutedParts.{SaysExecuted};
+ghost use Rattle.ouch_codec.specs.declared.outbound.Outbound.TheVariants as market;
 ghost use Rattle.market_rows.specs.May.{has_number, may_trade_as, trade_said};
 ghost use Rattle.market_rows.specs.Meets.{MeetsRow, told_of};
 
@@ -27,7 +27,7 @@ pub fn on_executed(
     message: &Executed,
 ) -> Result<Heard, RowFault>
     requires { issued < 2 ^ 60 }
-    ensures { (b : List ℕ) → SaysExecuted message.now b → MeetsRow issued b order.now result }
+    ensures { MeetsRow issued (market.Executed message.now) order.now result }
 {
     if !may_trade(order, message) {
         return Err(RowFault::NotLawful);
@@ -47,7 +47,7 @@ fn tell_executed(
 ) -> Result<Vec<AppBody>, AllocError>
     requires issued { issued < 2 ^ 60 }
     requires may { may_trade_as message.now order.now ≡ true }
-    ensures told { IfOk result (λ bodies. (b : List ℕ) → SaysExecuted message.now b → map body_fields bodies.items ≡ told_of issued b order.now) }
+    ensures told { IfOk result (λ bodies. map body_fields bodies.items ≡ told_of issued (market.Executed message.now) order.now) }
     ensures few { IfOk result (λ bodies. length bodies.items ≤ 3) }
 {
     let (shares, price) = (message.shares, message.price);

@@ -2,7 +2,7 @@
 
 ghost use Rattle.std.specs.Prelude.{◌≡◌, ℕ, ◌≤◌, ◌<◌, ◌^◌, true, false, length, map, IfOk, List};
 ghost use Rattle.fix_types.specs.Application.{body_fields};
-ghost use Rattle.ouch_codec.specs.RejectedParts.{SaysRejected};
+ghost use Rattle.ouch_codec.specs.declared.outbound.Outbound.TheVariants as market;
 ghost use Rattle.market_rows.specs.May.{may_refuse_as, may_reject_replace_as};
 ghost use Rattle.market_rows.specs.Meets.{MeetsRow, told_of};
 
@@ -29,7 +29,7 @@ pub fn on_rejected(
     message: &Rejected,
 ) -> Result<Heard, RowFault>
     requires { issued < 2 ^ 60 }
-    ensures { (b : List ℕ) → SaysRejected message.now b → MeetsRow issued b order.now result }
+    ensures { MeetsRow issued (market.Rejected message.now) order.now result }
 {
     if may_refuse(order, message) {
         return Ok(Heard {
@@ -55,7 +55,7 @@ fn tell_refused(
 ) -> Result<Vec<AppBody>, AllocError>
     requires issued { issued < 2 ^ 60 }
     requires may { may_refuse_as message.now order.now ≡ true }
-    ensures told { IfOk result (λ bodies. (b : List ℕ) → SaysRejected message.now b → map body_fields bodies.items ≡ told_of issued b order.now) }
+    ensures told { IfOk result (λ bodies. map body_fields bodies.items ≡ told_of issued (market.Rejected message.now) order.now) }
     ensures few { IfOk result (λ bodies. length bodies.items ≤ 3) }
 {
     let refused = order.progress_after(Change::Refused);
@@ -76,7 +76,7 @@ fn tell_not_replaced(
 ) -> Result<Vec<AppBody>, AllocError>
     requires not_new { may_refuse_as message.now order.now ≡ false }
     requires may { may_reject_replace_as message.now order.now ≡ true }
-    ensures told { IfOk result (λ bodies. (issued : ℕ) (b : List ℕ) → SaysRejected message.now b → map body_fields bodies.items ≡ told_of issued b order.now) }
+    ensures told { IfOk result (λ bodies. (issued : ℕ) → map body_fields bodies.items ≡ told_of issued (market.Rejected message.now) order.now) }
     ensures few { IfOk result (λ bodies. length bodies.items ≤ 3) }
 {
     let progress = order.progress_after(Change::NotReplaced(message.token));

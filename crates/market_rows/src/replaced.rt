@@ -3,7 +3,7 @@
 ghost use Rattle.std.specs.Prelude.{◌≡◌, ◌≤◌, ◌<◌, ◌^◌, true, length, map, IfOk, ℕ, List, Option, option_to_list};
 ghost use Rattle.fix_types.specs.Application.{body_fields};
 ghost use Rattle.orders.specs.declared.change.Change.TheVariants as changes;
-ghost use Rattle.ouch_codec.specs.ReplacedParts.{SaysReplaced};
+ghost use Rattle.ouch_codec.specs.declared.outbound.Outbound.TheVariants as market;
 ghost use Rattle.order_law.specs.History.{Entry};
 ghost use Rattle.order_law.specs.Messages.{Message, text};
 ghost use Rattle.order_law.specs.Told as law;
@@ -39,7 +39,7 @@ pub fn on_replaced(
     message: &Replaced,
 ) -> Result<Heard, RowFault>
     requires { issued < 2 ^ 60 }
-    ensures { (b : List ℕ) → SaysReplaced message.now b → MeetsRow issued b order.now result }
+    ensures { MeetsRow issued (market.Replaced message.now) order.now result }
 {
     if !may_replace(order, message) {
         return Err(RowFault::NotLawful);
@@ -59,7 +59,7 @@ fn tell_replaced(
 ) -> Result<Vec<AppBody>, AllocError>
     requires issued { issued < 2 ^ 60 }
     requires may { may_replace_as message.now order.now ≡ true }
-    ensures told { IfOk result (λ bodies. (b : List ℕ) → SaysReplaced message.now b → map body_fields bodies.items ≡ told_of issued b order.now) }
+    ensures told { IfOk result (λ bodies. map body_fields bodies.items ≡ told_of issued (market.Replaced message.now) order.now) }
     ensures few { IfOk result (λ bodies. length bodies.items ≤ 3) }
 {
     let mut bodies = Vec::with_capacity(alloc, 3)?;

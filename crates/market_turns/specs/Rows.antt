@@ -1,5 +1,6 @@
 -- What a payload comes to on the one order that it is on.
 use Rattle.std.specs.Prelude.{◌≡◌, ℕ, true, false, List, [], decimal}
+use Rattle.ouch_codec.specs.declared.outbound.Outbound.{Outbound}
 use Rattle.order_histories.specs.OrderRecord.{OrderRecord, after_message}
 use Rattle.market_rows.specs.declared.heard.Heard.{Heard}
 use Rattle.market_rows.specs.Meets.{IsHeard, is_lawful, told_of}
@@ -8,18 +9,18 @@ use Rattle.market_turns.specs.declared.judged.Judged.TheVariants.{Faulty, Silent
 use Rattle.market_turns.specs.declared.market_fault.MarketFault.TheVariants.{NotLawful, OutsideProfile, Undecodable, UnknownToken}
 
 -- it is lawful, nobody is told anything, and the order stays as it is
-pub record IsPassedOver (issued : ℕ) (m : List ℕ) (o : OrderRecord) : Type 0 where
+pub record IsPassedOver (issued : ℕ) (m : Outbound) (o : OrderRecord) : Type 0 where
   pub lawful : is_lawful m o ≡ true
   pub told : told_of issued m o ≡ []
   pub now : after_message issued m o ≡ o
 
 -- it is lawful, and changes the order with this OrderID and of this client
-pub record IsToldOf (issued : ℕ) (m : List ℕ) (o : OrderRecord) (order_id client : ℕ) (h : Heard) : Type 0 where
+pub record IsToldOf (issued : ℕ) (m : Outbound) (o : OrderRecord) (order_id client : ℕ) (h : Heard) : Type 0 where
   pub of_order : o.new.order ≡ decimal order_id
   pub of_client : o.new.client ≡ client
   pub is_heard : IsHeard issued m o h
 
-abbrev pub IsJudgedOf : ℕ → List ℕ → OrderRecord → Judged → Type 0
+abbrev pub IsJudgedOf : ℕ → Outbound → OrderRecord → Judged → Type 0
 IsJudgedOf issued m o Silent = IsPassedOver issued m o
 IsJudgedOf issued m o (Faulty NotLawful) = is_lawful m o ≡ false
 IsJudgedOf issued m o (Faulty Undecodable) = ⊥

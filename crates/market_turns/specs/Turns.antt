@@ -1,16 +1,17 @@
 -- What a payload of the market makes of a table, as one answer. (OUCH 4.2, "Outbound Messages".)
-use Rattle.std.specs.Prelude.{◌≡◌, ℕ, ◌+◌, List, [], map, Some, decimal}
+use Rattle.std.specs.Prelude.{◌≡◌, ℕ, ◌+◌, List, [], map, Option, Some, None, Result, Ok, Err, decimal}
 use Rattle.std.specs.List.{count_by}
 use Rattle.fix_types.specs.Application.{body_fields}
 use Rattle.ouch_codec.specs.declared.refusal.DecodeRefusal.{DecodeRefusal}
 use Rattle.ouch_codec.specs.declared.refusal.DecodeRefusal.TheVariants as refusals
+use Rattle.ouch_codec.specs.declared.outbound.Outbound.{Outbound}
 use Rattle.order_law.specs.Messages.{Message}
-use Rattle.order_law.specs.Lawful.{bytes_fault, order_token, row_fault, token_fault, type_fault}
+use Rattle.order_law.specs.Lawful.{bytes_fault, row_fault, token_fault, type_fault}
 use Rattle.order_law.specs.Reading.{is_report}
 use Rattle.order_law.specs.Told.{to_client_of}
-use Rattle.order_histories.specs.Machine.{Given, faulty, market_step, silent, tells}
+use Rattle.order_histories.specs.Machine.{Given, faulty, market_step, order_in, silent, tells}
 use Rattle.order_histories.specs.OrderRecord.{OrderRecord}
-use Rattle.order_histories.specs.Table.{State, by_number, by_token, put}
+use Rattle.order_histories.specs.Table.{State, by_number, put}
 use Rattle.orders.specs.Changes.{Fits, changed_by}
 use Rattle.order_table.specs.Held.{Held}
 use Rattle.market_rows.specs.declared.heard.Heard.{Heard}
@@ -37,23 +38,28 @@ abbrev pub changes_to : State → OrderRecord → OrderRecord → List Message �
 changes_to s o now bodies =
     tells (record s { orders = put now s.orders; exec_ids = s.exec_ids + count_by is_report bodies }) (to_client_of o.new bodies).client bodies []
 
+-- the order that it is on
+abbrev pub order_heard : State → ℕ → Result Outbound DecodeRefusal → Option OrderRecord
+order_heard s port (Ok m) = order_in s port m
+order_heard s port (Err refusal) = None
+
 -- the order with this OrderID is changed, which the change fits, and its client, of this number, is told
-pub record IsTold (s : State) (port : ℕ) (m : List ℕ) (order_id client : ℕ) (h : Heard) : Type 0 where
+pub record IsTold (s : State) (port : ℕ) (heard : Result Outbound DecodeRefusal) (order_id client : ℕ) (h : Heard) : Type 0 where
   pub order : OrderRecord
   pub found : by_number s (decimal order_id) ≡ Some order
-  pub of_token : by_token s port (order_token m) ≡ Some order
+  pub of_token : order_heard s port heard ≡ Some order
   pub of_client : order.new.client ≡ client
   pub fits : Fits h.change order
-  pub gives : market_step s port m ≡ changes_to s order (changed_by h.change order) (map body_fields h.bodies.items)
+  pub gives : market_step s port heard ≡ changes_to s order (changed_by h.change order) (map body_fields h.bodies.items)
 
 -- an answer is what the table makes of a payload on a port
-abbrev pub IsJudged : State → ℕ → List ℕ → Judged → Type 0
-IsJudged s port m Silent = market_step s port m ≡ silent s
-IsJudged s port m (Faulty fault) = market_step s port m ≡ faulty s (number_of fault)
-IsJudged s port m (Told order_id client h) = IsTold s port m order_id client h
+abbrev pub IsJudged : State → ℕ → Result Outbound DecodeRefusal → Judged → Type 0
+IsJudged s port heard Silent = market_step s port heard ≡ silent s
+IsJudged s port heard (Faulty fault) = market_step s port heard ≡ faulty s (number_of fault)
+IsJudged s port heard (Told order_id client h) = IsTold s port heard order_id client h
 
 -- of every state with this table, after so many reports
-abbrev pub Steps : ℕ → ℕ → List ℕ → Held → Judged → Type 0
-Steps issued port m held j =
+abbrev pub Steps : ℕ → ℕ → Result Outbound DecodeRefusal → Held → Judged → Type 0
+Steps issued port heard held j =
     (s : State) → s.orders ≡ held.orders → s.tokens ≡ held.tokens → s.exec_ids ≡ issued
-    → IsJudged s port m j
+    → IsJudged s port heard j

@@ -1,6 +1,7 @@
 //! A payload of the market, judged by the table of orders.
 
 ghost use Rattle.std.specs.Prelude.{◌≡◌, ◌<◌, ◌^◌, IfOk};
+ghost use Rattle.ouch_codec.specs.Values.{decoded};
 ghost use Rattle.market_turns.specs.Turns.{Steps};
 
 use crate::judged::Judged;
@@ -28,7 +29,7 @@ pub fn hear(
     payload: &[u8],
 ) -> Result<Judged, AllocError>
     requires { issued < 2 ^ 60 }
-    ensures { IfOk result (Steps issued port payload.now table.now) }
+    ensures { IfOk result (Steps issued port (decoded payload.now) table.now) }
 {
     match decode(payload) {
         Err(refusal) => Ok(Judged::Faulty(fault_of(refusal))),

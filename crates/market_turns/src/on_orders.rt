@@ -1,15 +1,9 @@
 //! Messages on one order, each by its row.
 
-ghost use Rattle.std.specs.Prelude.{◌≡◌, ℕ, ◌<◌, ◌^◌, List, Err, IfOk};
+ghost use Rattle.std.specs.Prelude.{◌≡◌, ℕ, ◌<◌, ◌^◌, Ok, Err, IfOk};
+ghost use Rattle.ouch_codec.specs.declared.outbound.Outbound.{Outbound};
+ghost use Rattle.ouch_codec.specs.declared.outbound.Outbound.TheVariants as market;
 ghost use Rattle.order_histories.specs.OrderRecord.{OrderRecord};
-ghost use Rattle.ouch_codec.specs.AcceptedParts.{SaysAccepted};
-ghost use Rattle.ouch_codec.specs.BrokenParts.{SaysBroken};
-ghost use Rattle.ouch_codec.specs.CancelPendingParts.{SaysCancelPending};
-ghost use Rattle.ouch_codec.specs.CancelRejectParts.{SaysCancelReject};
-ghost use Rattle.ouch_codec.specs.CanceledParts.{SaysCanceled};
-ghost use Rattle.ouch_codec.specs.ExecutedParts.{SaysExecuted};
-ghost use Rattle.ouch_codec.specs.RejectedParts.{SaysRejected};
-ghost use Rattle.ouch_codec.specs.ReplacedParts.{SaysReplaced};
 ghost use Rattle.market_rows.specs.Meets.{MeetsRow};
 ghost use Rattle.market_turns.specs.Rows.{IsJudgedOf};
 ghost use Rattle.market_turns.specs.Turns.{Steps};
@@ -36,7 +30,7 @@ pub fn hear_accepted(
     message: &Accepted,
 ) -> Result<Judged, AllocError>
     requires { issued < 2 ^ 60 }
-    ensures { (b : List ℕ) → SaysAccepted message.now b → IfOk result (Steps issued port b table.now) }
+    ensures { IfOk result (Steps issued port (Ok (market.Accepted message.now)) table.now) }
 {
     match table.by_token(port, &message.token) {
         None => Ok(Judged::Faulty(MarketFault::UnknownToken)),
@@ -53,7 +47,7 @@ pub fn hear_canceled(
     message: &Canceled,
 ) -> Result<Judged, AllocError>
     requires { issued < 2 ^ 60 }
-    ensures { (b : List ℕ) → SaysCanceled message.now b → IfOk result (Steps issued port b table.now) }
+    ensures { IfOk result (Steps issued port (Ok (market.Canceled message.now)) table.now) }
 {
     match table.by_token(port, &message.token) {
         None => Ok(Judged::Faulty(MarketFault::UnknownToken)),
@@ -70,7 +64,7 @@ pub fn hear_executed(
     message: &Executed,
 ) -> Result<Judged, AllocError>
     requires { issued < 2 ^ 60 }
-    ensures { (b : List ℕ) → SaysExecuted message.now b → IfOk result (Steps issued port b table.now) }
+    ensures { IfOk result (Steps issued port (Ok (market.Executed message.now)) table.now) }
 {
     match table.by_token(port, &message.token) {
         None => Ok(Judged::Faulty(MarketFault::UnknownToken)),
@@ -87,7 +81,7 @@ pub fn hear_broken(
     message: &Broken,
 ) -> Result<Judged, AllocError>
     requires { issued < 2 ^ 60 }
-    ensures { (b : List ℕ) → SaysBroken message.now b → IfOk result (Steps issued port b table.now) }
+    ensures { IfOk result (Steps issued port (Ok (market.Broken message.now)) table.now) }
 {
     match table.by_token(port, &message.token) {
         None => Ok(Judged::Faulty(MarketFault::UnknownToken)),
@@ -104,7 +98,7 @@ pub fn hear_rejected(
     message: &Rejected,
 ) -> Result<Judged, AllocError>
     requires { issued < 2 ^ 60 }
-    ensures { (b : List ℕ) → SaysRejected message.now b → IfOk result (Steps issued port b table.now) }
+    ensures { IfOk result (Steps issued port (Ok (market.Rejected message.now)) table.now) }
 {
     match table.by_token(port, &message.token) {
         None => Ok(Judged::Faulty(MarketFault::UnknownToken)),
@@ -121,7 +115,7 @@ pub fn hear_replaced(
     message: &Replaced,
 ) -> Result<Judged, AllocError>
     requires { issued < 2 ^ 60 }
-    ensures { (b : List ℕ) → SaysReplaced message.now b → IfOk result (Steps issued port b table.now) }
+    ensures { IfOk result (Steps issued port (Ok (market.Replaced message.now)) table.now) }
 {
     let Some(_known) = table.by_token(port, &message.token) else {
         return Ok(Judged::Faulty(MarketFault::UnknownToken));
@@ -139,7 +133,7 @@ pub fn hear_cancel_reject(
     port: u16,
     message: &CancelReject,
 ) -> Result<Judged, AllocError>
-    ensures { (issued : ℕ) (b : List ℕ) → SaysCancelReject message.now b → IfOk result (Steps issued port b table.now) }
+    ensures { (issued : ℕ) → IfOk result (Steps issued port (Ok (market.CancelReject message.now)) table.now) }
 {
     match table.by_token(port, &message.token) {
         None => Ok(Judged::Faulty(MarketFault::UnknownToken)),
@@ -149,7 +143,7 @@ pub fn hear_cancel_reject(
 
 /// A Cancel Pending, which may be said of any order and changes nothing of it.
 pub fn hear_cancel_pending(table: &Table, port: u16, message: &CancelPending) -> Judged
-    ensures { (issued : ℕ) (b : List ℕ) → SaysCancelPending message.now b → Steps issued port b table.now result }
+    ensures { (issued : ℕ) → Steps issued port (Ok (market.CancelPending message.now)) table.now result }
 {
     match table.by_token(port, &message.token) {
         None => Judged::Faulty(MarketFault::UnknownToken),
@@ -159,7 +153,7 @@ pub fn hear_cancel_pending(table: &Table, port: u16, message: &CancelPending) ->
 
 /// What a row's answer on an order comes to.
 fn answer_of(order: &Order, answer: Result<Heard, RowFault>) -> Result<Judged, AllocError>
-    ensures { (issued : ℕ) (b : List ℕ) → MeetsRow issued b order.now answer → IfOk result (IsJudgedOf issued b order.now) }
+    ensures { (issued : ℕ) (b : Outbound) → MeetsRow issued b order.now answer → IfOk result (IsJudgedOf issued b order.now) }
 {
     match answer {
         Ok(heard) => Ok(Judged::Told {
@@ -173,7 +167,7 @@ fn answer_of(order: &Order, answer: Result<Heard, RowFault>) -> Result<Judged, A
 
 /// What a row's refusal comes to.
 fn refusal_of(fault: RowFault) -> Result<Judged, AllocError>
-    ensures { (issued : ℕ) (b : List ℕ) (o : OrderRecord) → MeetsRow issued b o (Err fault) → IfOk result (IsJudgedOf issued b o) }
+    ensures { (issued : ℕ) (b : Outbound) (o : OrderRecord) → MeetsRow issued b o (Err fault) → IfOk result (IsJudgedOf issued b o) }
 {
     match fault {
         RowFault::NoMemory => Err(AllocError),

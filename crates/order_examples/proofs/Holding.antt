@@ -3,16 +3,14 @@ use Rattle.std.proofs.Common.{◌≡◌, ℕ, ◌<◌, ◌^◌, Bool, true, fals
 use Rattle.std.specs.Prelude.{if◌then◌else◌}
 use Rattle.ouch_codec.specs.ToMarket as said
 use Rattle.order_law.specs.Asks.{Standing, ask_of_bytes}
-use Rattle.order_law.specs.Life.{is_type}
 use Rattle.order_law.specs.Verdicts.{Up, Down, Ended, Faulted}
 use Rattle.order_law.specs.History.{Asked, Came, Event, Heard, History, Said, SaysNew, SaysReplace, SaysCancel, Turn, accepted, asks_of, entry_at, handled, issued, terms_of}
 use Rattle.order_law.specs.Told.{reports_in}
-use Rattle.order_law.specs.Headline.{EachWith, HasTokens, Headline, Says, TurnOf, order_number}
-use Rattle.order_histories.specs.Told.{IsEvent, IsTold, IsToldTurn, fault_of}
-use Rattle.order_histories.proofs.Texts.{and-parts}
+use Rattle.order_law.specs.Headline.{EachWith, HasTokens, Headline, Says, TurnOf, is_type, order_number}
+use Rattle.order_histories.specs.Told.{IsTold, IsToldTurn, fault_of}
 use Rattle.order_histories.proofs.Truth.{orders-true}
 use Rattle.order_examples.specs.Transcript.{terms}
-use Rattle.order_examples.specs.Computed.{IsLawful, are_bytes_in, due_in, is_bytes, judged, said_of, sent_asks_by}
+use Rattle.order_examples.specs.Computed.{IsLawful, due_in, judged, said_of, sent_asks_by}
 
 -- ---- what is sent says what is asked
 
@@ -57,10 +55,6 @@ answers t before (Heard port m) asks tokens fault = record { sends = sends-none 
 
 -- ---- turn by turn
 
-event-bytes : (e : Event) → is_bytes e ≡ true → IsEvent e
-event-bytes (Came client m port) bytes = tt
-event-bytes (Heard port m) bytes = λ is_e. bytes
-
 fault-same : (e : Event) (before : History) → judged e before ≡ fault_of terms e before
 fault-same (Came client m port) before = refl
 fault-same (Heard port m) before = refl
@@ -71,12 +65,10 @@ rest-of t before l = record {
   faults = (let e = l.faults in cc);
   asks = (let e = l.asks in cc);
   tokens = (let e = l.tokens in cc);
-  bytes = (and-parts (is_bytes t.event) (are_bytes_in before) l.bytes).1;
 }
 
 turn-told : (t : Turn) (before : History) → IsLawful (t ∷ before) → IsToldTurn terms t before
 turn-told t before l = record {
-  bytes = event-bytes t.event (and-parts (is_bytes t.event) (are_bytes_in before) l.bytes).0;
   tells = (let e = l.tells in cc);
   fault = (let e = l.faults in let first : judged t.event before ≡ t.fault = cc in sym first ∙ fault-same t.event before);
 }

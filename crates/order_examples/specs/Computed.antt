@@ -4,12 +4,11 @@ use Rattle.std.specs.Prelude.{◌≡◌, ◌&&◌, Bool, true, nat_lt, ℕ, List
 use Rattle.std.specs.List.{list_all}
 use Rattle.ouch_codec.specs.ToMarket as said
 use Rattle.order_law.specs.Asks.{Ask, ask_of_bytes}
-use Rattle.order_law.specs.Life.{is_type}
 use Rattle.order_law.specs.Verdicts.{Up, Down, Ended, Faulted}
 use Rattle.order_law.specs.History.{terms_of, Event, Came, Heard, Turn, History, Asked, Said, SaysNew, SaysReplace, SaysCancel, issued, handled, accepted, entry_at, asks_of}
 use Rattle.order_law.specs.Lawful.{judgement}
 use Rattle.order_law.specs.Told.{Told, told}
-use Rattle.order_law.specs.Headline.{order_number, said_in}
+use Rattle.order_law.specs.Headline.{is_type, order_number, said_in}
 use Rattle.order_examples.specs.Transcript.{terms}
 
 -- ---- what is told
@@ -80,18 +79,8 @@ due_tokens (t ∷ before) = map (λ (a : Asked). Some a.said) (due_in t.event be
 
 -- ---- an exchange
 
-abbrev pub is_bytes : Event → Bool
-is_bytes (Came client m port) = true
-is_bytes (Heard port m) = list_all (λ byte. nat_lt byte 256) m
-
--- all payloads are bytes
-abbrev pub are_bytes_in : History → Bool
-are_bytes_in [] = true
-are_bytes_in (t ∷ before) = is_bytes t.event && are_bytes_in before
-
 pub record IsLawful (h : History) : Type 0 where
   pub tells : told_by_law h ≡ told_in h
   pub faults : faults_by_law h ≡ faults_in h
   pub asks : sent_asks h ≡ due_asks h
   pub tokens : sent_tokens h ≡ due_tokens h
-  pub bytes : are_bytes_in h ≡ true

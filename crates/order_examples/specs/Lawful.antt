@@ -9,180 +9,180 @@ use Rattle.order_examples.specs.Exchanges as exchanges
 
 only_entered : IsLawful exchanges.only_entered
 unfolding digits price quantity amount amount_of within scaled fraction worth worth_of last_digits price_text
-only_entered = record { tells = refl; faults = refl; asks = refl; tokens = refl; bytes = refl }
+only_entered = record { tells = refl; faults = refl; asks = refl; tokens = refl }
 
 entered_and_accepted : IsLawful exchanges.entered_and_accepted
 unfolding digits price quantity amount amount_of within scaled fraction worth worth_of last_digits price_text
-entered_and_accepted = record { tells = refl; faults = refl; asks = refl; tokens = refl; bytes = refl }
+entered_and_accepted = record { tells = refl; faults = refl; asks = refl; tokens = refl }
 
 replace_pending : IsLawful exchanges.replace_pending
 unfolding digits price quantity amount amount_of within scaled fraction worth worth_of last_digits price_text
-replace_pending = record { tells = refl; faults = refl; asks = refl; tokens = refl; bytes = refl }
+replace_pending = record { tells = refl; faults = refl; asks = refl; tokens = refl }
 
 filled : IsLawful exchanges.filled
 unfolding digits price quantity amount amount_of within scaled fraction worth worth_of last_digits price_text
-filled = record { tells = refl; faults = refl; asks = refl; tokens = refl; bytes = refl }
+filled = record { tells = refl; faults = refl; asks = refl; tokens = refl }
 
 filled_while_cancel_pending : IsLawful exchanges.filled_while_cancel_pending
 unfolding digits price quantity amount amount_of within scaled fraction worth worth_of last_digits price_text
-filled_while_cancel_pending = record { tells = refl; faults = refl; asks = refl; tokens = refl; bytes = refl }
+filled_while_cancel_pending = record { tells = refl; faults = refl; asks = refl; tokens = refl }
 
 replaced_after_a_trade : IsLawful exchanges.replaced_after_a_trade
 unfolding digits price quantity amount amount_of within scaled fraction worth worth_of last_digits price_text
-replaced_after_a_trade = record { tells = refl; faults = refl; asks = refl; tokens = refl; bytes = refl }
+replaced_after_a_trade = record { tells = refl; faults = refl; asks = refl; tokens = refl }
 
 cancelled_across_a_replace : IsLawful exchanges.cancelled_across_a_replace
 unfolding digits price quantity amount amount_of within scaled fraction worth worth_of last_digits price_text
-cancelled_across_a_replace = record { tells = refl; faults = refl; asks = refl; tokens = refl; bytes = refl }
+cancelled_across_a_replace = record { tells = refl; faults = refl; asks = refl; tokens = refl }
 
 cancelled_after_it_is_replaced : IsLawful exchanges.cancelled_after_it_is_replaced
 unfolding digits price quantity amount amount_of within scaled fraction worth worth_of last_digits price_text
-cancelled_after_it_is_replaced = record { tells = refl; faults = refl; asks = refl; tokens = refl; bytes = refl }
+cancelled_after_it_is_replaced = record { tells = refl; faults = refl; asks = refl; tokens = refl }
 
 filled_across_replace_and_cancel : IsLawful exchanges.filled_across_replace_and_cancel
 unfolding digits price quantity amount amount_of within scaled fraction worth worth_of last_digits price_text
-filled_across_replace_and_cancel = record { tells = refl; faults = refl; asks = refl; tokens = refl; bytes = refl }
+filled_across_replace_and_cancel = record { tells = refl; faults = refl; asks = refl; tokens = refl }
 
 closed_by_the_market : IsLawful exchanges.closed_by_the_market
 unfolding digits price quantity amount amount_of within scaled fraction worth worth_of last_digits price_text
-closed_by_the_market = record { tells = refl; faults = refl; asks = refl; tokens = refl; bytes = refl }
+closed_by_the_market = record { tells = refl; faults = refl; asks = refl; tokens = refl }
 
 replace_rejected : IsLawful exchanges.replace_rejected
 unfolding digits price quantity amount amount_of within scaled fraction worth worth_of last_digits price_text
-replace_rejected = record { tells = refl; faults = refl; asks = refl; tokens = refl; bytes = refl }
+replace_rejected = record { tells = refl; faults = refl; asks = refl; tokens = refl }
 
 asked_twice : IsLawful exchanges.asked_twice
 unfolding digits price quantity amount amount_of within scaled fraction worth worth_of last_digits price_text
-asked_twice = record { tells = refl; faults = refl; asks = refl; tokens = refl; bytes = refl }
+asked_twice = record { tells = refl; faults = refl; asks = refl; tokens = refl }
 
 broken_after_it_is_filled : IsLawful exchanges.broken_after_it_is_filled
 unfolding digits price quantity amount amount_of within scaled fraction worth worth_of last_digits price_text
-broken_after_it_is_filled = record { tells = refl; faults = refl; asks = refl; tokens = refl; bytes = refl }
+broken_after_it_is_filled = record { tells = refl; faults = refl; asks = refl; tokens = refl }
 
 dead_as_it_is_accepted : IsLawful exchanges.dead_as_it_is_accepted
 unfolding digits price quantity amount amount_of within scaled fraction worth worth_of last_digits price_text
-dead_as_it_is_accepted = record { tells = refl; faults = refl; asks = refl; tokens = refl; bytes = refl }
+dead_as_it_is_accepted = record { tells = refl; faults = refl; asks = refl; tokens = refl }
 
 rejected_while_cancel_pending : IsLawful exchanges.rejected_while_cancel_pending
 unfolding digits price quantity amount amount_of within scaled fraction worth worth_of last_digits price_text
-rejected_while_cancel_pending = record { tells = refl; faults = refl; asks = refl; tokens = refl; bytes = refl }
+rejected_while_cancel_pending = record { tells = refl; faults = refl; asks = refl; tokens = refl }
 
 no_order_of_that_name : IsLawful exchanges.no_order_of_that_name
 unfolding digits price quantity amount amount_of within scaled fraction worth worth_of last_digits price_text
-no_order_of_that_name = record { tells = refl; faults = refl; asks = refl; tokens = refl; bytes = refl }
+no_order_of_that_name = record { tells = refl; faults = refl; asks = refl; tokens = refl }
 
 accepted_again : IsLawful exchanges.accepted_again
 unfolding digits price quantity amount amount_of within scaled fraction worth worth_of last_digits price_text
-accepted_again = record { tells = refl; faults = refl; asks = refl; tokens = refl; bytes = refl }
+accepted_again = record { tells = refl; faults = refl; asks = refl; tokens = refl }
 
 executed_too_much : IsLawful exchanges.executed_too_much
 unfolding digits price quantity amount amount_of within scaled fraction worth worth_of last_digits price_text
-executed_too_much = record { tells = refl; faults = refl; asks = refl; tokens = refl; bytes = refl }
+executed_too_much = record { tells = refl; faults = refl; asks = refl; tokens = refl }
 
 cancel_rejected : IsLawful exchanges.cancel_rejected
 unfolding digits price quantity amount amount_of within scaled fraction worth worth_of last_digits price_text
-cancel_rejected = record { tells = refl; faults = refl; asks = refl; tokens = refl; bytes = refl }
+cancel_rejected = record { tells = refl; faults = refl; asks = refl; tokens = refl }
 
 replace_asked_while_waiting : IsLawful exchanges.replace_asked_while_waiting
 unfolding digits price quantity amount amount_of within scaled fraction worth worth_of last_digits price_text
-replace_asked_while_waiting = record { tells = refl; faults = refl; asks = refl; tokens = refl; bytes = refl }
+replace_asked_while_waiting = record { tells = refl; faults = refl; asks = refl; tokens = refl }
 
 accepted_with_a_replace_pending : IsLawful exchanges.accepted_with_a_replace_pending
 unfolding digits price quantity amount amount_of within scaled fraction worth worth_of last_digits price_text
-accepted_with_a_replace_pending = record { tells = refl; faults = refl; asks = refl; tokens = refl; bytes = refl }
+accepted_with_a_replace_pending = record { tells = refl; faults = refl; asks = refl; tokens = refl }
 
 four_unanswered : IsLawful exchanges.four_unanswered
 unfolding digits price quantity amount amount_of within scaled fraction worth worth_of last_digits price_text
-four_unanswered = record { tells = refl; faults = refl; asks = refl; tokens = refl; bytes = refl }
+four_unanswered = record { tells = refl; faults = refl; asks = refl; tokens = refl }
 
 cancelled_while_down : IsLawful exchanges.cancelled_while_down
 unfolding digits price quantity amount amount_of within scaled fraction worth worth_of last_digits price_text
-cancelled_while_down = record { tells = refl; faults = refl; asks = refl; tokens = refl; bytes = refl }
+cancelled_while_down = record { tells = refl; faults = refl; asks = refl; tokens = refl }
 
 ordered_after_the_end : IsLawful exchanges.ordered_after_the_end
 unfolding digits price quantity amount amount_of within scaled fraction worth worth_of last_digits price_text
-ordered_after_the_end = record { tells = refl; faults = refl; asks = refl; tokens = refl; bytes = refl }
+ordered_after_the_end = record { tells = refl; faults = refl; asks = refl; tokens = refl }
 
 ordered_on_a_faulted_port : IsLawful exchanges.ordered_on_a_faulted_port
 unfolding digits price quantity amount amount_of within scaled fraction worth worth_of last_digits price_text
-ordered_on_a_faulted_port = record { tells = refl; faults = refl; asks = refl; tokens = refl; bytes = refl }
+ordered_on_a_faulted_port = record { tells = refl; faults = refl; asks = refl; tokens = refl }
 
 cancel_after_a_fault : IsLawful exchanges.cancel_after_a_fault
 unfolding digits price quantity amount amount_of within scaled fraction worth worth_of last_digits price_text
-cancel_after_a_fault = record { tells = refl; faults = refl; asks = refl; tokens = refl; bytes = refl }
+cancel_after_a_fault = record { tells = refl; faults = refl; asks = refl; tokens = refl }
 
 filled_beside_a_faulted_port : IsLawful exchanges.filled_beside_a_faulted_port
 unfolding digits price quantity amount amount_of within scaled fraction worth worth_of last_digits price_text
-filled_beside_a_faulted_port = record { tells = refl; faults = refl; asks = refl; tokens = refl; bytes = refl }
+filled_beside_a_faulted_port = record { tells = refl; faults = refl; asks = refl; tokens = refl }
 
 accepted_beside_a_faulted_port : IsLawful exchanges.accepted_beside_a_faulted_port
 unfolding digits price quantity amount amount_of within scaled fraction worth worth_of last_digits price_text
-accepted_beside_a_faulted_port = record { tells = refl; faults = refl; asks = refl; tokens = refl; bytes = refl }
+accepted_beside_a_faulted_port = record { tells = refl; faults = refl; asks = refl; tokens = refl }
 
 two_clients : IsLawful exchanges.two_clients
 unfolding digits price quantity amount amount_of within scaled fraction worth worth_of last_digits price_text
-two_clients = record { tells = refl; faults = refl; asks = refl; tokens = refl; bytes = refl }
+two_clients = record { tells = refl; faults = refl; asks = refl; tokens = refl }
 
 asked_under_a_pending_id : IsLawful exchanges.asked_under_a_pending_id
 unfolding digits price quantity amount amount_of within scaled fraction worth worth_of last_digits price_text
-asked_under_a_pending_id = record { tells = refl; faults = refl; asks = refl; tokens = refl; bytes = refl }
+asked_under_a_pending_id = record { tells = refl; faults = refl; asks = refl; tokens = refl }
 
 sold_in_each_way : IsLawful exchanges.sold_in_each_way
 unfolding digits price quantity amount amount_of within scaled fraction worth worth_of last_digits price_text
-sold_in_each_way = record { tells = refl; faults = refl; asks = refl; tokens = refl; bytes = refl }
+sold_in_each_way = record { tells = refl; faults = refl; asks = refl; tokens = refl }
 
 broken_after_it_is_replaced : IsLawful exchanges.broken_after_it_is_replaced
 unfolding digits price quantity amount amount_of within scaled fraction worth worth_of last_digits price_text
-broken_after_it_is_replaced = record { tells = refl; faults = refl; asks = refl; tokens = refl; bytes = refl }
+broken_after_it_is_replaced = record { tells = refl; faults = refl; asks = refl; tokens = refl }
 
 dead_as_it_is_replaced : IsLawful exchanges.dead_as_it_is_replaced
 unfolding digits price quantity amount amount_of within scaled fraction worth worth_of last_digits price_text
-dead_as_it_is_replaced = record { tells = refl; faults = refl; asks = refl; tokens = refl; bytes = refl }
+dead_as_it_is_replaced = record { tells = refl; faults = refl; asks = refl; tokens = refl }
 
 ordered_after_a_cancel : IsLawful exchanges.ordered_after_a_cancel
 unfolding digits price quantity amount amount_of within scaled fraction worth worth_of last_digits price_text
-ordered_after_a_cancel = record { tells = refl; faults = refl; asks = refl; tokens = refl; bytes = refl }
+ordered_after_a_cancel = record { tells = refl; faults = refl; asks = refl; tokens = refl }
 
 two_clients_with_the_same_ids : IsLawful exchanges.two_clients_with_the_same_ids
 unfolding digits price quantity amount amount_of within scaled fraction worth worth_of last_digits price_text
-two_clients_with_the_same_ids = record { tells = refl; faults = refl; asks = refl; tokens = refl; bytes = refl }
+two_clients_with_the_same_ids = record { tells = refl; faults = refl; asks = refl; tokens = refl }
 
 cancelled_under_a_pending_id : IsLawful exchanges.cancelled_under_a_pending_id
 unfolding digits price quantity amount amount_of within scaled fraction worth worth_of last_digits price_text
-cancelled_under_a_pending_id = record { tells = refl; faults = refl; asks = refl; tokens = refl; bytes = refl }
+cancelled_under_a_pending_id = record { tells = refl; faults = refl; asks = refl; tokens = refl }
 
 at_other_prices : IsLawful exchanges.at_other_prices
 unfolding digits price quantity amount amount_of within scaled fraction worth worth_of last_digits price_text
-at_other_prices = record { tells = refl; faults = refl; asks = refl; tokens = refl; bytes = refl }
+at_other_prices = record { tells = refl; faults = refl; asks = refl; tokens = refl }
 
 asked_after_it_is_refused : IsLawful exchanges.asked_after_it_is_refused
 unfolding digits price quantity amount amount_of within scaled fraction worth worth_of last_digits price_text
-asked_after_it_is_refused = record { tells = refl; faults = refl; asks = refl; tokens = refl; bytes = refl }
+asked_after_it_is_refused = record { tells = refl; faults = refl; asks = refl; tokens = refl }
 
 broken_among_equals : IsLawful exchanges.broken_among_equals
 unfolding digits price quantity amount amount_of within scaled fraction worth worth_of last_digits price_text
-broken_among_equals = record { tells = refl; faults = refl; asks = refl; tokens = refl; bytes = refl }
+broken_among_equals = record { tells = refl; faults = refl; asks = refl; tokens = refl }
 
 day_started : IsLawful exchanges.day_started
 unfolding digits price quantity amount amount_of within scaled fraction worth worth_of last_digits price_text
-day_started = record { tells = refl; faults = refl; asks = refl; tokens = refl; bytes = refl }
+day_started = record { tells = refl; faults = refl; asks = refl; tokens = refl }
 
 day_ended : IsLawful exchanges.day_ended
 unfolding digits price quantity amount amount_of within scaled fraction worth worth_of last_digits price_text
-day_ended = record { tells = refl; faults = refl; asks = refl; tokens = refl; bytes = refl }
+day_ended = record { tells = refl; faults = refl; asks = refl; tokens = refl }
 
 priority_updated : IsLawful exchanges.priority_updated
 unfolding digits price quantity amount amount_of within scaled fraction worth worth_of last_digits price_text
-priority_updated = record { tells = refl; faults = refl; asks = refl; tokens = refl; bytes = refl }
+priority_updated = record { tells = refl; faults = refl; asks = refl; tokens = refl }
 
 cancel_at_the_market : IsLawful exchanges.cancel_at_the_market
 unfolding digits price quantity amount amount_of within scaled fraction worth worth_of last_digits price_text
-cancel_at_the_market = record { tells = refl; faults = refl; asks = refl; tokens = refl; bytes = refl }
+cancel_at_the_market = record { tells = refl; faults = refl; asks = refl; tokens = refl }
 
 cancelled : IsLawful exchanges.cancelled
 unfolding digits price quantity amount amount_of within scaled fraction worth worth_of last_digits price_text
-cancelled = record { tells = refl; faults = refl; asks = refl; tokens = refl; bytes = refl }
+cancelled = record { tells = refl; faults = refl; asks = refl; tokens = refl }
 
 replace_asked_twice : IsLawful exchanges.replace_asked_twice
 unfolding digits price quantity amount amount_of within scaled fraction worth worth_of last_digits price_text
-replace_asked_twice = record { tells = refl; faults = refl; asks = refl; tokens = refl; bytes = refl }
+replace_asked_twice = record { tells = refl; faults = refl; asks = refl; tokens = refl }

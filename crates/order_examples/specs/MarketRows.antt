@@ -3,6 +3,7 @@ use Rattle.std.specs.Prelude.{◌≡◌, ℕ, List, [], ◌++◌, codes, refl, O
 use Rattle.std.specs.Fmt.{digits}
 use Rattle.fixed_point.specs.Decimal.{price, quantity, amount, amount_of, within, scaled, fraction, worth, worth_of}
 use Rattle.tokens.specs.TokenText.{last_digits}
+use Rattle.ouch_codec.specs.Values.{decoded}
 use Rattle.order_law.specs.Lawful.{judgement, bytes_fault, token_fault, row_fault, type_fault}
 use Rattle.order_law.specs.History.{History}
 use Rattle.order_examples.specs.Transcript.{terms, accepted_message, replaced_message, replaced_as, executed_message, canceled_message, broken_message, rejected_message, cancel_reject_message, cancel_pending_message, sold_message}
@@ -10,7 +11,7 @@ use Rattle.order_examples.specs.Exchanges.{entered_and_accepted, filled, closed_
 
 -- the fault of a payload of port 1 after a history
 abbrev fault : History → List ℕ → Option ℕ
-fault h payload = judgement terms 1 payload h
+fault h payload = judgement terms 1 (decoded payload) h
 
 -- payloads of port 1
 faults :
@@ -26,7 +27,7 @@ faults :
     × (fault only_entered (accepted_message 1 0 (codes "INTC    ") (codes "L")) ≡ Some bytes_fault)  -- no shares
     × (fault only_entered (accepted_message 1 300 (codes "INTC    ") (codes "X")) ≡ Some bytes_fault)  -- a state outside its set
     × (fault only_entered (accepted_message 2 300 (codes "INTC    ") (codes "L")) ≡ Some token_fault)  -- a token that isn't given
-    × (judgement terms 2 (accepted_message 1 300 (codes "INTC    ") (codes "L")) only_entered ≡ Some token_fault)  -- a token of another port
+    × (judgement terms 2 (decoded (accepted_message 1 300 (codes "INTC    ") (codes "L"))) only_entered ≡ Some token_fault)  -- a token of another port
     × (fault entered_and_accepted (accepted_message 1 300 (codes "INTC    ") (codes "L")) ≡ Some row_fault)  -- the order doesn't wait
     × (fault replace_asked_while_waiting (accepted_message 2 300 (codes "INTC    ") (codes "L")) ≡ Some row_fault)  -- the token of a replace
     × (fault only_entered (accepted_message 1 300 (codes "MSFT    ") (codes "L")) ≡ Some row_fault)  -- another stock

@@ -1,14 +1,15 @@
 -- Accepted: the order is in the book, or dead at once.
 use Rattle.std.proofs.Common.{◌≡◌, ◌≢◌, ℕ, ◌+◌, ◌<◌, ◌≤◌, ◌^◌, Bool, true, false, List, [], ◌∷◌, ◌++◌, map, refl, sym, ap, ◌∙◌, subst, arith, codes, bytes_eq, Option, Some, None}
 use Rattle.std.specs.Prelude.{if◌then◌else◌}
-use Rattle.ouch_codec.specs.Parts.{type_of}
-use Rattle.ouch_codec.specs.FromMarket as heard
+use Rattle.ouch_codec.specs.declared.outbound.Outbound.{Outbound}
+use Rattle.ouch_codec.specs.declared.outbound.Outbound.TheVariants as market
+use Rattle.ouch_codec.specs.declared.outbound.accepted.Accepted.{Accepted}
 use Rattle.order_law.specs.declared.stage.Stage.TheVariants.{Waiting, Closed}
 use Rattle.order_law.specs.Messages.{Message}
-use Rattle.order_law.specs.Life.{after, first_token, is_dead_state, is_live}
+use Rattle.order_law.specs.Life.{after, first_token, is_dead, is_live}
 use Rattle.order_law.specs.Chain.{chain}
 use Rattle.order_law.specs.History.{Entry, Terms, token_of}
-use Rattle.order_law.specs.Told.{Occasion, Shown, cancelled, opens, plain, report, told_by_type}
+use Rattle.order_law.specs.Told.{Occasion, Shown, cancelled, priced, plain, report, told_by}
 use Rattle.order_law.specs.Told as told
 use Rattle.order_law.specs.Headline.{has_due_ids}
 use Rattle.order_histories.specs.OrderRecord.{Cancelling, OrderRecord, asked_as, cancel_asked, chained, fill_of, gone, kept, live_token, lived, opened, replace_asked, shown_as, still_cancelling, unasked, with_tokens}
@@ -23,7 +24,7 @@ use Rattle.order_histories.proofs.Executed.{AreNumbered-more}
 use Rattle.order_histories.proofs.Canceled.{over-keeps}
 
 -- with the same tokens a pending cancel is as it was
-pub same-cancel : (c : Option Cancelling) (m : List ℕ) → ((x : Cancelling) → c ≡ Some x → x.tokens ≢ []) → ((x : Cancelling) → c ≡ Some x → kept m x.tokens ≡ x.tokens) → still_cancelling m c ≡ c
+pub same-cancel : (c : Option Cancelling) (m : Outbound) → ((x : Cancelling) → c ≡ Some x → x.tokens ≢ []) → ((x : Cancelling) → c ≡ Some x → kept m x.tokens ≡ x.tokens) → still_cancelling m c ≡ c
 same-cancel None m left same = refl
 same-cancel (Some c) m left same = rw (same c refl) (by_tokens c.tokens refl (left c refl))
   where
@@ -31,9 +32,9 @@ same-cancel (Some c) m left same = rw (same c refl) (by_tokens c.tokens refl (le
     by_tokens [] e some = absurd (some e)
     by_tokens (token ∷ tokens) e some = ap (λ ts. Some (record { request = c.request; tokens = ts })) (sym e)
 
-module _ (P : List ℕ → Type 0) (Q : Entry → Type 0) (R : List ℕ → Type 0) (terms : List Terms) (old_id : List ℕ → List ℕ) (sent : List Message) (reports limit more : ℕ) (m : List ℕ) (o : OrderRecord)
-    (type : type_of m ≡ 65) (live : is_live (lived o) (heard.token m) ≡ true) (waits : o.stage ≡ Waiting)
-    (shares : heard.shares m ≤ more) (more_small : more < 10 ^ 63) (limit_small : limit < 10 ^ 63)
+module _ (P : List ℕ → Type 0) (Q : Entry → Type 0) (R : List ℕ → Type 0) (terms : List Terms) (old_id : List ℕ → List ℕ) (sent : List Message) (reports limit more : ℕ) (m : Accepted) (o : OrderRecord)
+    (live : is_live (lived o) m.token ≡ true) (waits : o.stage ≡ Waiting)
+    (shares : m.shares ≤ more) (more_small : more < 10 ^ 63) (limit_small : limit < 10 ^ 63)
     (keeps : Keeps reports limit o) (named : AreNamed old_id o) (reads : Reads sent o) where
   live_order : o.is_refused ≡ false
   live_order = by_flag o.is_refused refl
@@ -43,10 +44,10 @@ module _ (P : List ℕ → Type 0) (Q : Entry → Type 0) (R : List ℕ → Type
       by_flag false e = e
 
   abbrev p : OrderRecord
-  p = opened m o
+  p = opened m.shares m.price o
 
   sound : IsSound p
-  sound = opened-sound m o live_order keeps.sound
+  sound = opened-sound m.shares m.price o live_order keeps.sound
 
   apart : AreApart p
   apart = record { requests = keeps.apart.requests; current = keeps.apart.current }
@@ -59,34 +60,34 @@ module _ (P : List ℕ → Type 0) (Q : Entry → Type 0) (R : List ℕ → Type
 
   new-tells : Tells old_id sent (report (reports + 1) (plain (codes "0")) (shown_as p)) p
   new-tells = report-tells (reports + 1) (plain (codes "0")) p old_id sent sound
-      (new-Reads (reports + 1) m o sent waits live_order (omega (arith, shares, more_small)) (omega (arith, keeps.small, shares, more_small, limit_small)) reads) new-ids
+      (new-Reads (reports + 1) m.shares m.price o sent waits live_order (omega (arith, shares, more_small)) (omega (arith, keeps.small, shares, more_small, limit_small)) reads) new-ids
 
-  own : bytes_eq (heard.token m) (token_of o.new) ≡ true
-  own = subst (λ (ts : List (List ℕ)). bytes_eq (heard.token m) (first_token ts) ≡ true) (keeps.first waits) live
+  own : bytes_eq m.token (token_of o.new) ≡ true
+  own = subst (λ (ts : List (List ℕ)). bytes_eq m.token (first_token ts) ≡ true) (keeps.first waits) live
 
-  price_now : (if opens (lived o) m then heard.price m else o.price) ≡ heard.price m
-  price_now = rw (type, live) refl
+  price_now : priced (market.Accepted m) (lived o) o.price ≡ m.price
+  price_now = rw live refl
 
-  live-bodies : is_dead_state m ≡ false → told_by_type reports m (lived o) (answers_last m (asked_as terms o)) (map fill_of o.trades) (shown_as o) ≡ report (reports + 1) (plain (codes "0")) (shown_as p) ∷ []
-  live-bodies alive = rw (type, alive) refl
+  live-bodies : is_dead m.order_state ≡ false → told_by reports (market.Accepted m) (lived o) (answers_last (market.Accepted m) (asked_as terms o)) (map fill_of o.trades) (shown_as o) ≡ report (reports + 1) (plain (codes "0")) (shown_as p) ∷ []
+  live-bodies alive = rw alive refl
 
-  dead-bodies : is_dead_state m ≡ true → told_by_type reports m (lived o) (answers_last m (asked_as terms o)) (map fill_of o.trades) (shown_as o) ≡ report (reports + 1) (plain (codes "0")) (shown_as p) ∷ cancelled (reports + 2) None (told.closed (shown_as p))
-  dead-bodies dead = rw (type, dead) refl
+  dead-bodies : is_dead m.order_state ≡ true → told_by reports (market.Accepted m) (lived o) (answers_last (market.Accepted m) (asked_as terms o)) (map fill_of o.trades) (shown_as o) ≡ report (reports + 1) (plain (codes "0")) (shown_as p) ∷ cancelled (reports + 2) None (told.closed (shown_as p))
+  dead-bodies dead = rw dead refl
 
-  live-lives : is_dead_state m ≡ false → after (lived o) m ≡ lived p
-  live-lives alive = rw (type, live, waits, alive) refl
+  live-lives : is_dead m.order_state ≡ false → after (lived o) (market.Accepted m) ≡ lived p
+  live-lives alive = rw (live, waits, alive) refl
 
-  dead-lives : is_dead_state m ≡ true → after (lived o) m ≡ lived (unasked (gone p))
-  dead-lives dead = rw (type, live, waits, dead) refl
+  dead-lives : is_dead m.order_state ≡ true → after (lived o) (market.Accepted m) ≡ lived (unasked (gone p))
+  dead-lives dead = rw (live, waits, dead) refl
 
-  live-asked : unanswered m (asked_as terms o) ≡ asked_as terms p
-  live-asked = asked-parts terms m o ∙ rw (same-cancel o.cancel m keeps.left (λ c is_c. rw type (filter-all c.tokens)), waits, type, own) (by_replace o.replace)
+  live-asked : unanswered (market.Accepted m) (asked_as terms o) ≡ asked_as terms p
+  live-asked = asked-parts terms (market.Accepted m) o ∙ rw (same-cancel o.cancel (market.Accepted m) keeps.left (λ c is_c. filter-all c.tokens), waits, own) (by_replace o.replace)
     where
-      by_replace : (r : Option Entry) → unanswered m (replace_asked o.new (live_token o) r) ++ cancel_asked o.new o.cancel ≡ replace_asked o.new (live_token o) r ++ cancel_asked o.new o.cancel
+      by_replace : (r : Option Entry) → unanswered (market.Accepted m) (replace_asked o.new (live_token o) r) ++ cancel_asked o.new o.cancel ≡ replace_asked o.new (live_token o) r ++ cancel_asked o.new o.cancel
       by_replace None = refl
-      by_replace (Some q) = rw type refl
+      by_replace (Some q) = refl
 
-  pub live-moves : is_dead_state m ≡ false → Moves P Q R terms old_id sent reports limit more m o p
+  pub live-moves : is_dead m.order_state ≡ false → Moves P Q R terms old_id sent reports limit more (market.Accepted m) o p
   live-moves alive = record {
     same = refl;
     kept = λ k. record { front = k.front; live = k.live; replace = k.replace; cancel = k.cancel; id = k.id };
@@ -110,7 +111,7 @@ module _ (P : List ℕ → Type 0) (Q : Entry → Type 0) (R : List ℕ → Type
     };
   }
 
-  pub dead-moves : is_dead_state m ≡ true → Moves P Q R terms old_id sent reports limit more m o (unasked (gone p))
+  pub dead-moves : is_dead m.order_state ≡ true → Moves P Q R terms old_id sent reports limit more (market.Accepted m) o (unasked (gone p))
   dead-moves dead = record {
     same = refl;
     kept = Of-unasked P Q R o (unasked (gone p)) refl refl refl refl;

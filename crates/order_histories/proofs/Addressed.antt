@@ -4,14 +4,17 @@ use Rattle.std.specs.Prelude.{◌&&◌, ◌==◌, not, if◌then◌else◌, filt
 use Rattle.std.specs.List.{find}
 use Rattle.std.proofs.Common.{append_assoc}
 use Rattle.std.proofs.lemmas.List.{reverse-append}
-use Rattle.ouch_codec.specs.FromMarket as heard
+use Rattle.ouch_codec.specs.declared.outbound.Outbound.{Outbound}
+use Rattle.ouch_codec.specs.declared.outbound.Outbound.TheVariants as market
+use Rattle.ouch_codec.specs.declared.outbound.replaced.Replaced.{Replaced}
+use Rattle.ouch_codec.specs.declared.order_state.OrderState.{OrderState}
 use Rattle.order_law.specs.Messages.{Message, is, text}
-use Rattle.order_law.specs.Life.{Life, after, is_closed, is_dead_state, is_live, is_type, is_waiting}
+use Rattle.order_law.specs.Life.{Life, after, is_closed, is_dead, is_live, is_waiting}
 use Rattle.order_law.specs.Reading.{Fill, is_report}
 use Rattle.order_law.specs.Chain.{is_used, orders}
 use Rattle.order_law.specs.History.{Entry}
 use Rattle.order_law.specs.Told as told
-use Rattle.order_law.specs.Told.{Occasion, Shown, report, told_by_type}
+use Rattle.order_law.specs.Told.{Occasion, Shown, report, told_by}
 use Rattle.order_law.specs.Headline.{Each}
 use Rattle.order_histories.proofs.Texts.{or-true}
 use Rattle.order_histories.proofs.Bodies.{kind-in}
@@ -57,33 +60,30 @@ append-on : (order : List ℕ) (xs ys : List Message) → Each (IsOn order) xs �
 append-on order [] ys x y = y
 append-on order (r ∷ xs) ys x y = (x.0, append-on order xs ys x.1 y)
 
-dead-on : (n : ℕ) (m : List ℕ) (s : Shown) (alive : List Message) → Each (IsOn s.order) alive → Each (IsOn s.order) (told.where_dead n m s alive)
-dead-on n m s alive on = if-on s.order (is_dead_state m) (told.cancelled n None (told.closed s)) alive (cancelled-on n None (told.closed s)) on
+dead-on : (n : ℕ) (state : OrderState) (s : Shown) (alive : List Message) → Each (IsOn s.order) alive → Each (IsOn s.order) (told.where_dead n state s alive)
+dead-on n state s alive on = if-on s.order (is_dead state) (told.cancelled n None (told.closed s)) alive (cancelled-on n None (told.closed s)) on
 
-replaced-on : (reports : ℕ) (m : List ℕ) (is_last : Bool) (s : Shown) → Each (IsOn s.order) (told.told_replaced reports m is_last s)
-replaced-on reports m is_last s = by_request (find (told.has_token (heard.token m)) s.pending) refl
+replaced-on : (reports : ℕ) (m : Replaced) (is_last : Bool) (s : Shown) → Each (IsOn s.order) (told.told_replaced reports m is_last s)
+replaced-on reports m is_last s = by_request (find (told.has_token m.token) s.pending) refl
   where
-    by_request : (x : Option Entry) → find (told.has_token (heard.token m)) s.pending ≡ x → Each (IsOn s.order) (told.told_replaced reports m is_last s)
+    by_request : (x : Option Entry) → find (told.has_token m.token) s.pending ≡ x → Each (IsOn s.order) (told.told_replaced reports m is_last s)
     by_request None e = rw e tt
-    by_request (Some q) e = rw e (report-on (reports + 1) (told.on_request (codes "5") q) (told.renamed m q s) refl, dead-on (reports + 2) m (told.renamed m q s) (told.cancel_rejected is_last (told.renamed m q s)) (cancel_rejected-on is_last (told.renamed m q s)))
+    by_request (Some q) e = rw e (report-on (reports + 1) (told.on_request (codes "5") q) (told.renamed m q s) refl, dead-on (reports + 2) m.order_state (told.renamed m q s) (told.cancel_rejected is_last (told.renamed m q s)) (cancel_rejected-on is_last (told.renamed m q s)))
 
-pub told-on : (reports : ℕ) (m : List ℕ) (l : Life) (is_last : Bool) (fills : List Fill) (s : Shown) → Each (IsOn s.order) (told_by_type reports m l is_last fills s)
-told-on reports m l is_last fills s =
-    if-on s.order (is_type (codes "A") m) _ _ (report-on (reports + 1) (told.plain (codes "0")) (told.opened m s) refl, dead-on (reports + 2) m (told.opened m s) [] tt)
-    (if-on s.order (is_type (codes "U") m) _ _ (replaced-on reports m is_last s)
-    (if-on s.order (is_type (codes "C") m) _ _
-    (if-on s.order (is_closed (after l m).stage) _ _ (cancelled-on (reports + 1) (Some (heard.cancel_reason m ∷ [])) (told.lived (after l m) s)) (report-on (reports + 1) (record (told.plain (codes "D")) { restated = Some (codes "5"); why = Some (heard.cancel_reason m ∷ []) }) (told.lived (after l m) s) refl, tt))
-    (if-on s.order (is_type (codes "E") m) _ _ (
-      report-on (reports + 1) (record (told.plain (codes "F")) { shares = Some (heard.executed_shares m); at = Some (heard.executed_price m) }) (told.lived (after l m) s) refl,
-      if-on s.order (is_closed (after l m).stage) _ _ (too_late-on (told.lived (after l m) s) s.pending) tt,
-    )
-    (if-on s.order (is_type (codes "B") m) _ _
-    (report-on (reports + 1) (record (told.plain (codes "H")) { broken = told.exec_id_of (heard.broken_match m) l.trades fills; why = Some (heard.broken_reason m ∷ []) }) (told.lived (after l m) s) refl, tt)
-    (if-on s.order (is_type (codes "J") m) _ _
-    (if-on s.order (is_waiting l.stage && is_live l (heard.token m)) _ _
-    (report-on (reports + 1) (record (told.plain (codes "8")) { code = Some (codes "99"); why = Some (heard.reject_reason m ∷ []) }) (record (told.closed s) { is_refused = true }) refl, too_late-on (record (told.closed s) { is_refused = true }) s.pending)
-    (append-on s.order _ _ (rejects-on (told.without_replace (heard.token m) s) 2 (heard.reject_reason m ∷ []) (filter (told.has_token (heard.token m)) s.pending)) (cancel_rejected-on is_last (told.without_replace (heard.token m) s))))
-    (if-on s.order (is_type (codes "I") m) _ _ (cancel_rejected-on is_last s) tt))))))
+pub told-on : (reports : ℕ) (m : Outbound) (l : Life) (is_last : Bool) (fills : List Fill) (s : Shown) → Each (IsOn s.order) (told_by reports m l is_last fills s)
+told-on reports (market.Accepted m) l is_last fills s = (report-on (reports + 1) (told.plain (codes "0")) (told.opened m.shares m.price s) refl, dead-on (reports + 2) m.order_state (told.opened m.shares m.price s) [] tt)
+told-on reports (market.Replaced m) l is_last fills s = replaced-on reports m is_last s
+told-on reports (market.Canceled m) l is_last fills s = if-on s.order (is_closed (after l (market.Canceled m)).stage) _ _ (cancelled-on (reports + 1) (Some (m.reason ∷ [])) (told.lived (after l (market.Canceled m)) s)) (report-on (reports + 1) (record (told.plain (codes "D")) { restated = Some (codes "5"); why = Some (m.reason ∷ []) }) (told.lived (after l (market.Canceled m)) s) refl, tt)
+told-on reports (market.Executed m) l is_last fills s = (report-on (reports + 1) (record (told.plain (codes "F")) { shares = Some m.shares; at = Some m.price }) (told.lived (after l (market.Executed m)) s) refl, if-on s.order (is_closed (after l (market.Executed m)).stage) _ _ (too_late-on (told.lived (after l (market.Executed m)) s) s.pending) tt)
+told-on reports (market.Broken m) l is_last fills s = (report-on (reports + 1) (record (told.plain (codes "H")) { broken = told.exec_id_of m.match_number l.trades fills; why = Some (m.reason ∷ []) }) (told.lived (after l (market.Broken m)) s) refl, tt)
+told-on reports (market.Rejected m) l is_last fills s = 
+    if-on s.order (is_waiting l.stage && is_live l m.token) _ _
+    (report-on (reports + 1) (record (told.plain (codes "8")) { code = Some (codes "99"); why = Some (m.reason ∷ []) }) (record (told.closed s) { is_refused = true }) refl, too_late-on (record (told.closed s) { is_refused = true }) s.pending)
+    (append-on s.order _ _ (rejects-on (told.without_replace m.token s) 2 (m.reason ∷ []) (filter (told.has_token m.token) s.pending)) (cancel_rejected-on is_last (told.without_replace m.token s)))
+told-on reports (market.CancelReject m) l is_last fills s = cancel_rejected-on is_last s
+told-on reports (market.CancelPending m) l is_last fills s = tt
+told-on reports (market.SystemEvent m) l is_last fills s = tt
+told-on reports market.Skipped l is_last fills s = tt
 
 -- ---- what follows for lists
 

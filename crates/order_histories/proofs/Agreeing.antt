@@ -2,6 +2,7 @@
 use Rattle.std.proofs.Common.{◌≡◌, ◌≢◌, ℕ, Bool, true, false, List, [], ◌∷◌, ◌++◌, map, refl, sym, ap, ◌∙◌, bytes_eq, Option, Some, None}
 use Rattle.std.specs.Prelude.{◌&&◌, not, if◌then◌else◌, filter}
 use Rattle.std.specs.List.{filter_map}
+use Rattle.ouch_codec.specs.declared.outbound.Outbound.{Outbound}
 use Rattle.order_law.specs.declared.stage.Stage.{Stage}
 use Rattle.order_law.specs.declared.stage.Stage.TheVariants.{Waiting, Working, Closed}
 use Rattle.order_law.specs.Messages.{Message, text}
@@ -87,7 +88,7 @@ cancels-of terms o = by_parts o.stage o.replace o.cancel
     by_parts Closed (Some q) None = refl
     by_parts Closed (Some q) (Some c) = all-cancels o.new c.request c.tokens
 
-module _ (terms : List Terms) (entries : List Entry) (numbered : ℕ) (sent : List Message) (messages : List (List ℕ)) (asked : List Asked) (reports limit : ℕ) (o : OrderRecord)
+module _ (terms : List Terms) (entries : List Entry) (numbered : ℕ) (sent : List Message) (messages : List Outbound) (asked : List Asked) (reports limit : ℕ) (o : OrderRecord)
     (f : Fits terms entries numbered sent messages asked reports limit o) where
   asked-replaces : asked_of is_replace_said o.new.order asked ≡ replace_asked o.new (live_token o) o.replace
   asked-replaces = filter-both is_replace_said o.new.order asked ∙ ap (of_kind is_replace_said) f.asked_so ∙ replaces-of terms o

@@ -1,9 +1,11 @@
 -- Each run leaves, on each port, what the law says is outstanding: turn by turn, from no order on.
-use Rattle.std.proofs.Common.{◌≡◌, ℕ, ◌<◌, ◌^◌, List, [], ◌∷◌, ◌++◌, length, refl, sym, ◌∙◌, subst, arith, None}
+use Rattle.std.proofs.Common.{◌≡◌, ℕ, ◌<◌, ◌^◌, List, [], ◌∷◌, ◌++◌, length, refl, sym, ◌∙◌, subst, arith, None, Result}
+use Rattle.ouch_codec.specs.declared.outbound.Outbound.{Outbound}
+use Rattle.ouch_codec.specs.declared.outbound.Outbound.TheVariants as market
+use Rattle.ouch_codec.specs.declared.refusal.DecodeRefusal.{DecodeRefusal}
 use Rattle.order_law.specs.Messages.{Message}
 use Rattle.order_law.specs.Verdicts.{Port}
 use Rattle.order_law.specs.History.{Came, Event, Heard, History, Terms, Turn, outstanding, terms_of}
-use Rattle.order_histories.specs.Told.{IsEvent}
 use Rattle.order_histories.specs.Table.{State}
 use Rattle.order_histories.specs.Machine.{client_step, market_step, step}
 use Rattle.order_histories.specs.Runs.{Leads, Leaves, Meets}
@@ -23,23 +25,23 @@ module _ (terms : List Terms) (before : History) (s : State) (h : Holding terms 
       subst (λ (ts : List Terms). Asking terms (coming_turn client m port (client_step s client m port).bodies sends ∷ before) (asked ++ asked_on (terms_of ts client).port (client_step s client m port).asks)) (sym h.table.same_terms)
       (came-Asking terms before client m port (client_step s client m port).bodies sends (client_step s client m port).state goes.0.0 asked was (client_step s client m port).asks goes.0.2)
 
-  heard : (port : ℕ) (m : List ℕ) → IsEvent (Heard port m)
+  heard : (port : ℕ) (m : Result Outbound DecodeRefusal)
       → Asking terms (heard_turn port m (market_step s port m).client (market_step s port m).bodies [] (market_step s port m).fault ∷ before) (asked_after s (Heard port m) asked)
-  heard port m is_event = market-rest terms before s h.table port m [] asked was (market-Answers terms before s h.table short port m is_event []).0
+  heard port m = market-rest terms before s h.table port [] asked was m (market-Answers terms before s h.table short port m []).0
 
   next-Asking : (t : Turn) (new : State) → Leads s t new → Asking terms (t ∷ before) (asked_after s t.event asked)
-  next-Asking t new leads = by_event t.event refl leads.is_event leads.meets
+  next-Asking t new leads = by_event t.event refl leads.meets
     where
-      by_event : (e : Event) → t.event ≡ e → IsEvent e → Meets s e (step s e) t new → Asking terms (t ∷ before) (asked_after s e asked)
-      by_event (Came client m port) is_e is_event meets =
+      by_event : (e : Event) → t.event ≡ e → Meets s e (step s e) t new → Asking terms (t ∷ before) (asked_after s e asked)
+      by_event (Came client m port) is_e meets =
           let goes = client-goes terms before s h.table short client m port t.sends in
           subst (λ (x : Turn). Asking terms (x ∷ before) (asked_after s (Came client m port) asked))
           (same-turn terms before s h short t (Came client m port) client (client_step s client m port).bodies t.sends None is_e (meets.client ∙ goes.1) meets.bodies refl (meets.fault ∙ goes.2))
           (came client m port t.sends)
-      by_event (Heard port m) is_e is_event meets =
+      by_event (Heard port m) is_e meets =
           subst (λ (x : Turn). Asking terms (x ∷ before) (asked_after s (Heard port m) asked))
           (same-turn terms before s h short t (Heard port m) (market_step s port m).client (market_step s port m).bodies [] (market_step s port m).fault is_e meets.client meets.bodies meets.sends meets.fault)
-          (heard port m is_event)
+          (heard port m)
 
 -- ---- runs
 

@@ -4,6 +4,8 @@ use Rattle.std.specs.Prelude.{◌&&◌, ◌||◌, not, if◌then◌else◌}
 use Rattle.std.specs.List.{list_any}
 use Rattle.std.proofs.lemmas.List.Elements.{filter-append}
 use Rattle.std.proofs.lemmas.List.Folds.{list_any-append}
+use Rattle.ouch_codec.specs.declared.outbound.Outbound.{Outbound}
+use Rattle.ouch_codec.specs.declared.outbound.Outbound.TheVariants as market
 use Rattle.order_law.specs.declared.stage.Stage.{Stage}
 use Rattle.order_law.specs.declared.stage.Stage.TheVariants.{Waiting, Working, Closed}
 use Rattle.order_law.specs.Messages.{Message}
@@ -17,7 +19,7 @@ use Rattle.order_histories.proofs.Moves.{answers_last, unanswered, unanswered-ca
 -- ---- Cancel Orders
 
 -- a message leaves these of a pending cancel
-pub cancels-left : (m : List ℕ) (new : Entry) (c : Option Cancelling) → unanswered m (cancel_asked new c) ≡ cancel_asked new (still_cancelling m c)
+pub cancels-left : (m : Outbound) (new : Entry) (c : Option Cancelling) → unanswered m (cancel_asked new c) ≡ cancel_asked new (still_cancelling m c)
 cancels-left m new None = refl
 cancels-left m new (Some c) = unanswered-cancels m new c.request c.tokens ∙ same (kept m c.tokens)
   where
@@ -28,7 +30,7 @@ cancels-left m new (Some c) = unanswered-cancels m new c.request c.tokens ∙ sa
 abbrev is_cancel_asked : Asked → Bool
 is_cancel_asked a = is_cancel_said a.said
 
-abbrev is_kept : List ℕ → Asked → Bool
+abbrev is_kept : Outbound → Asked → Bool
 is_kept m a = is_cancel_said a.said && not (answers m a.said)
 
 -- no test on cancels finds anything before them
@@ -51,7 +53,7 @@ any-cancel : (new q : Entry) (tokens : List (List ℕ)) → tokens ≢ [] → li
 any-cancel new q [] some = absurd (some refl)
 any-cancel new q (token ∷ tokens) some = refl
 
-any-kept : (m : List ℕ) (new q : Entry) (tokens : List (List ℕ)) → not (list_any (is_kept m) (map (λ token. cancel_of new q token) tokens)) ≡ is_empty (kept m tokens)
+any-kept : (m : Outbound) (new q : Entry) (tokens : List (List ℕ)) → not (list_any (is_kept m) (map (λ token. cancel_of new q token) tokens)) ≡ is_empty (kept m tokens)
 any-kept m new q [] = refl
 any-kept m new q (token ∷ tokens) = by_test (answers m (SaysCancel token)) (any-kept m new q tokens)
   where
@@ -60,7 +62,7 @@ any-kept m new q (token ∷ tokens) = by_test (answers m (SaysCancel token)) (an
     by_test true e = e
     by_test false e = refl
 
-pub last-is : (terms : List Terms) (m : List ℕ) (o : OrderRecord) → ((c : Cancelling) → o.cancel ≡ Some c → c.tokens ≢ []) → answers_last m (asked_as terms o) ≡ last_of m o.cancel
+pub last-is : (terms : List Terms) (m : Outbound) (o : OrderRecord) → ((c : Cancelling) → o.cancel ≡ Some c → c.tokens ≢ []) → answers_last m (asked_as terms o) ≡ last_of m o.cancel
 last-is terms m o left =
     rw (before-cancels is_cancel_asked (λ a e. e) terms o, before-cancels (is_kept m) (λ a e. rw e refl) terms o) (by_cancel o.cancel left)
   where
@@ -69,7 +71,7 @@ last-is terms m o left =
     by_cancel (Some c) left = rw (any-cancel o.new c.request c.tokens (left c refl), any-kept m o.new c.request c.tokens) refl
 
 -- a cancel is rejected where its last message is answered, and goes on else
-pub cancel-goes_on : (old_id : List ℕ → List ℕ) (m : List ℕ) (o : OrderRecord) (r : Option Entry) (c : Option Cancelling) (sent : List Message)
+pub cancel-goes_on : (old_id : List ℕ → List ℕ) (m : Outbound) (o : OrderRecord) (r : Option Entry) (c : Option Cancelling) (sent : List Message)
     → IsSound (at o r c) → AreApart (at o r c) → AreNamed old_id (at o r c) → Reads sent (at o r c)
     → Leads o.new old_id sent (told.cancel_rejected (last_of m c) (shown_as (at o r c))) (at o r (still_cancelling m c))
 cancel-goes_on old_id m o r None sent sound apart named reads = leads-none old_id sent (at o r None) reads
@@ -81,7 +83,7 @@ cancel-goes_on old_id m o r (Some c) sent sound apart named reads = by_tokens (k
 
 -- ---- all that is asked of an order, part by part
 
-pub asked-parts : (terms : List Terms) (m : List ℕ) (o : OrderRecord) → unanswered m (asked_as terms o) ≡ unanswered m (new_asked terms o.new o.stage) ++ (unanswered m (replace_asked o.new (live_token o) o.replace) ++ cancel_asked o.new (still_cancelling m o.cancel))
+pub asked-parts : (terms : List Terms) (m : Outbound) (o : OrderRecord) → unanswered m (asked_as terms o) ≡ unanswered m (new_asked terms o.new o.stage) ++ (unanswered m (replace_asked o.new (live_token o) o.replace) ++ cancel_asked o.new (still_cancelling m o.cancel))
 asked-parts terms m o =
     filter-append (λ (a : Asked). not (answers m a.said)) (new_asked terms o.new o.stage) (replace_asked o.new (live_token o) o.replace ++ cancel_asked o.new o.cancel)
     ∙ ap (λ xs. unanswered m (new_asked terms o.new o.stage) ++ xs)
@@ -89,7 +91,7 @@ asked-parts terms m o =
     ∙ ap (λ xs. unanswered m (replace_asked o.new (live_token o) o.replace) ++ xs) (cancels-left m o.new o.cancel))
 
 -- what a pending cancel keeps through a message
-pub still-request : (m : List ℕ) (c : Option Cancelling) (x : Cancelling) → still_cancelling m c ≡ Some x → (y : Cancelling) × (c ≡ Some y) × (x.request ≡ y.request) × (x.tokens ≡ kept m y.tokens)
+pub still-request : (m : Outbound) (c : Option Cancelling) (x : Cancelling) → still_cancelling m c ≡ Some x → (y : Cancelling) × (c ≡ Some y) × (x.request ≡ y.request) × (x.tokens ≡ kept m y.tokens)
 still-request m None x e = absurd (cc)
 still-request m (Some c) x e = by_tokens (kept m c.tokens) refl e
   where
@@ -97,7 +99,7 @@ still-request m (Some c) x e = by_tokens (kept m c.tokens) refl e
     by_tokens [] is e = absurd (cc)
     by_tokens (token ∷ tokens) is e = let same = same_some (record { request = c.request; tokens = token ∷ tokens }) x e in (c, refl, ap (λ (k : Cancelling). k.request) (sym same), ap (λ (k : Cancelling). k.tokens) (sym same) ∙ sym is)
 
-pub still-left : (m : List ℕ) (c : Option Cancelling) (x : Cancelling) → still_cancelling m c ≡ Some x → x.tokens ≢ []
+pub still-left : (m : Outbound) (c : Option Cancelling) (x : Cancelling) → still_cancelling m c ≡ Some x → x.tokens ≢ []
 still-left m None x e = absurd (cc)
 still-left m (Some c) x e = by_tokens (kept m c.tokens) e
   where

@@ -2,8 +2,9 @@
 use Rattle.std.proofs.Common.{◌≡◌, ℕ, ◌+◌, ◌-◌, ◌<◌, ◌≤◌, ◌^◌, Bool, true, false, List, [], ◌∷◌, map, refl, sym, ap, ◌∙◌, subst, arith, decimal, bytes_eq, Some, eqb-true}
 use Rattle.std.specs.Prelude.{◌&&◌, ◌||◌, ◌==◌, not}
 use Rattle.std.specs.List.{find, list_any}
-use Rattle.ouch_codec.specs.Parts.{type_of}
-use Rattle.ouch_codec.specs.FromMarket as heard
+use Rattle.ouch_codec.specs.declared.outbound.Outbound.{Outbound}
+use Rattle.ouch_codec.specs.declared.outbound.Outbound.TheVariants as market
+use Rattle.ouch_codec.specs.declared.outbound.broken.Broken.{Broken}
 use Rattle.order_law.specs.declared.stage.Stage.{Stage}
 use Rattle.order_law.specs.declared.stage.Stage.TheVariants.{Waiting, Working, Closed}
 use Rattle.order_law.specs.declared.trade.Trade.{Trade}
@@ -12,7 +13,7 @@ use Rattle.order_law.specs.Life.{after, is_of, is_waiting, marked, stands_as}
 use Rattle.order_law.specs.Reading.{Fill}
 use Rattle.order_law.specs.Chain.{chain}
 use Rattle.order_law.specs.History.{Entry, Said, SaysCancel, SaysNew, SaysReplace, Terms, answers}
-use Rattle.order_law.specs.Told.{Shown, exec_id_of, opens, report, told_by_type}
+use Rattle.order_law.specs.Told.{Shown, exec_id_of, priced, report, told_by}
 use Rattle.order_law.specs.Headline.{has_due_ids}
 use Rattle.order_histories.specs.OrderRecord.{stands_told, OrderRecord, ToldTrade, asked_as, broken, chained, fill_of, lived, mark, shown_as}
 use Rattle.order_histories.proofs.Texts.{and-parts, eq-decimal_other, eq-same}
@@ -85,12 +86,12 @@ shown-broken t o Waiting e off none = absurd (cc)
 shown-broken t o Working e off none = rw e refl
 shown-broken t o Closed e off none = let left = none e in rw (e, left) refl
 
-module _ (P : List ℕ → Type 0) (Q : Entry → Type 0) (R : List ℕ → Type 0) (terms : List Terms) (old_id : List ℕ → List ℕ) (sent : List Message) (reports limit more : ℕ) (m : List ℕ) (o : OrderRecord)
-    (type : type_of m ≡ 66) (own : is_of (lived o) (heard.token m) ≡ true) (stands : list_any (stands_as (heard.broken_match m)) (lived o).trades ≡ true)
+module _ (P : List ℕ → Type 0) (Q : Entry → Type 0) (R : List ℕ → Type 0) (terms : List Terms) (old_id : List ℕ → List ℕ) (sent : List Message) (reports limit more : ℕ) (m : Broken) (o : OrderRecord)
+    (own : is_of (lived o) m.token ≡ true) (stands : list_any (stands_as m.match_number) (lived o).trades ≡ true)
     (reports_small : reports < 10 ^ 64) (limit_small : limit < 10 ^ 63)
     (keeps : Keeps reports limit o) (named : AreNamed old_id o) (reads : Reads sent o) where
-  pub found : Stands (heard.broken_match m) reports o.trades
-  found = stands-in (heard.broken_match m) reports o.trades reports_small keeps.numbered stands
+  pub found : Stands m.match_number reports o.trades
+  found = stands-in m.match_number reports o.trades reports_small keeps.numbered stands
 
   abbrev pub t : ToldTrade
   t = found.told
@@ -99,7 +100,7 @@ module _ (P : List ℕ → Type 0) (Q : Entry → Type 0) (R : List ℕ → Type
   accepted = by_stage o.stage refl
     where
       by_stage : (s : Stage) → o.stage ≡ s → is_waiting s ≡ false
-      by_stage Waiting e = absurd (none-stands (heard.broken_match m) o.trades (keeps.idle e) stands)
+      by_stage Waiting e = absurd (none-stands m.match_number o.trades (keeps.idle e) stands)
       by_stage Working e = refl
       by_stage Closed e = refl
 
@@ -107,37 +108,37 @@ module _ (P : List ℕ → Type 0) (Q : Entry → Type 0) (R : List ℕ → Type
   live_order = by_flag o.is_refused refl
     where
       by_flag : (b : Bool) → o.is_refused ≡ b → o.is_refused ≡ false
-      by_flag true e = absurd (none-stands (heard.broken_match m) o.trades (keeps.rejected e) stands)
+      by_flag true e = absurd (none-stands m.match_number o.trades (keeps.rejected e) stands)
       by_flag false e = e
 
   abbrev reason : List ℕ
-  reason = heard.broken_reason m ∷ []
+  reason = m.reason ∷ []
 
   abbrev pub p : OrderRecord
   p = broken t o
 
-  answers_none : (said : Said) → answers m said ≡ false
-  answers_none (SaysNew token) = rw type refl
-  answers_none (SaysReplace from to) = rw type refl
-  answers_none (SaysCancel token) = rw type refl
+  answers_none : (said : Said) → answers (market.Broken m) said ≡ false
+  answers_none (SaysNew token) = refl
+  answers_none (SaysReplace from to) = refl
+  answers_none (SaysCancel token) = refl
 
-  broken-lives : after (lived o) m ≡ lived p
+  broken-lives : after (lived o) (market.Broken m) ≡ lived p
   broken-lives =
       let same = found.same_match in
       let first = found.found in
-      let marks = marks-same (heard.broken_match m) o.trades in
-      rw (type, own, first, marks, same) refl
+      let marks = marks-same m.match_number o.trades in
+      rw (own, first, marks, same) refl
 
-  broken-bodies : told_by_type reports m (lived o) (answers_last m (asked_as terms o)) (map fill_of o.trades) (shown_as o) ≡ report (reports + 1) (broken_occasion t reason) (shown_as p) ∷ []
+  broken-bodies : told_by reports (market.Broken m) (lived o) (answers_last (market.Broken m) (asked_as terms o)) (map fill_of o.trades) (shown_as o) ≡ report (reports + 1) (broken_occasion t reason) (shown_as p) ∷ []
   broken-bodies =
       let exec = found.exec_id in
-      let first : told_by_type reports m (lived o) (answers_last m (asked_as terms o)) (map fill_of o.trades) (shown_as o) ≡ report (reports + 1) (broken_occasion t reason) (Rattle.order_law.specs.Told.lived (lived p) (shown_as o)) ∷ [] = rw (broken-lives, type, exec) refl in
+      let first : told_by reports (market.Broken m) (lived o) (answers_last (market.Broken m) (asked_as terms o)) (map fill_of o.trades) (shown_as o) ≡ report (reports + 1) (broken_occasion t reason) (Rattle.order_law.specs.Told.lived (lived p) (shown_as o)) ∷ [] = rw (broken-lives, exec) refl in
       first ∙ ap (λ (s : Shown). report (reports + 1) (broken_occasion t reason) s ∷ []) (shown-broken t o o.stage refl accepted keeps.none_closed)
 
   broken-ids : has_due_ids (report (reports + 1) (broken_occasion t reason) (shown_as p)) (chain o.new.order sent) (chained p) old_id ≡ true
   broken-ids = let id = eq-same o.id in rw id refl
 
-  pub broken-moves : Moves P Q R terms old_id sent reports limit more m o p
+  pub broken-moves : Moves P Q R terms old_id sent reports limit more (market.Broken m) o p
   broken-moves = record {
     same = refl;
     kept = λ k. record { front = k.front; live = k.live; replace = k.replace; cancel = k.cancel; id = k.id };
@@ -145,8 +146,8 @@ module _ (P : List ℕ → Type 0) (Q : Entry → Type 0) (R : List ℕ → Type
     leads = subst (λ (bodies : List Message). Leads o.new old_id sent bodies p) (sym broken-bodies)
         (leads-one old_id sent _ p (report-tells (reports + 1) (broken_occasion t reason) p old_id sent (broken-sound t o accepted keeps.sound)
         (broken-Reads (reports + 1) t reason o sent found.fill (omega (arith, keeps.small, limit_small)) live_order accepted reads) broken-ids));
-    asked = λ e. unanswered-same terms m o answers_none;
-    price = rw type refl;
+    asked = λ e. unanswered-same terms (market.Broken m) o answers_none;
+    price = refl;
     keeps = λ after later. record {
       sound = broken-sound t o accepted keeps.sound;
       apart = record { requests = keeps.apart.requests; current = keeps.apart.current };

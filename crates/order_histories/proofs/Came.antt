@@ -2,11 +2,14 @@
 use Rattle.std.proofs.Common.{◌≡◌, ℕ, ◌+◌, ◌*◌, ◌<◌, ◌≤◌, ◌^◌, Bool, true, false, List, [], ◌∷◌, ◌++◌, length, refl, sym, ap, ◌∙◌, subst, arith, decimal, codes, bytes_eq, Some, None, eq-eqb}
 use Rattle.std.specs.Prelude.{if◌then◌else◌}
 use Rattle.tokens.specs.TokenText.{token_text}
+use Rattle.ouch_codec.specs.declared.outbound.Outbound.{Outbound}
+use Rattle.ouch_codec.specs.declared.outbound.Outbound.TheVariants as market
+use Rattle.ouch_codec.specs.declared.refusal.DecodeRefusal.{DecodeRefusal}
 use Rattle.order_law.specs.Messages.{Message, character, is}
 use Rattle.order_law.specs.Life.{Life, after, born, life}
 use Rattle.order_law.specs.Chain.{is_used}
 use Rattle.order_law.specs.History.{Entry, History, Terms, Turn, accepted, given, handled, is_new_order, issued, life_of, new_of, numbered, outstanding, token_of}
-use Rattle.order_law.specs.Told.{opens, price_after, reports_in}
+use Rattle.order_law.specs.Told.{price_after, priced, reports_in}
 use Rattle.order_law.specs.Headline.{Each, IsTrueToMarket, old_ids}
 use Rattle.order_histories.specs.OrderRecord.{OrderRecord, asked_as, shown_as}
 use Rattle.order_histories.proofs.Texts.{eq-decimal_other, eq-is, eq-other, eq-same}
@@ -132,16 +135,15 @@ module _ (terms : List Terms) (before : History) (client : ℕ) (m : Message) (p
 
 -- ---- a new order that is accepted
 
-born-life : (root : List ℕ) (side : ℕ) (ms : List (List ℕ)) → Each (PassesOver root side) ms → life root side ms ≡ born root side
+born-life : (root : List ℕ) (side : ℕ) (ms : List Outbound) → Each (PassesOver root side) ms → life root side ms ≡ born root side
 born-life root side [] each = refl
 born-life root side (m ∷ ms) each = ap (λ (l : Life). after l m) (born-life root side ms each.1) ∙ each.0.0
 
-born-price : (new : Entry) (entries : List Entry) (ms : List (List ℕ)) → new_of new.order entries ≡ Some new → Each (PassesOver (token_of new) (character 54 new.message)) ms → price_after new entries ms ≡ limit_of new.message
+born-price : (new : Entry) (entries : List Entry) (ms : List Outbound) → new_of new.order entries ≡ Some new → Each (PassesOver (token_of new) (character 54 new.message)) ms → price_after new entries ms ≡ limit_of new.message
 born-price new entries [] known each = refl
 born-price new entries (m ∷ ms) known each =
     let lived' : life_of new.order entries ms ≡ born (token_of new) (character 54 new.message) = rw known (born-life (token_of new) (character 54 new.message) ms each.1) in
-    let none : opens (life_of new.order entries ms) m ≡ false = ap (λ (l : Life). opens l m) lived' ∙ each.0.1 in
-    rw none (born-price new entries ms known each.1)
+    ap (λ (l : Life). priced m l (price_after new entries ms)) lived' ∙ each.0.1 (price_after new entries ms) ∙ born-price new entries ms known each.1
 
 module _ (terms : List Terms) (before : History) (client : ℕ) (m : Message) (port : Port) (sends : List (List ℕ)) (H : Holds terms before) (short : length before < 2 ^ 59)
     (v : verdict terms (issued client before) (accepted terms before) port m ≡ Accepted) (new : is_new_order m ≡ true) where

@@ -1,14 +1,15 @@
 -- Canceled: a part of what is open, or all of it.
 use Rattle.std.proofs.Common.{◌≡◌, ℕ, ◌+◌, ◌-◌, ◌<◌, ◌≤◌, ◌^◌, true, false, List, [], ◌∷◌, map, refl, sym, ap, ◌∙◌, subst, arith, codes, Option, Some, None, eqb-true}
 use Rattle.std.specs.Prelude.{◌==◌, if◌then◌else◌}
-use Rattle.ouch_codec.specs.Parts.{type_of}
-use Rattle.ouch_codec.specs.FromMarket as heard
+use Rattle.ouch_codec.specs.declared.outbound.Outbound.{Outbound}
+use Rattle.ouch_codec.specs.declared.outbound.Outbound.TheVariants as market
+use Rattle.ouch_codec.specs.declared.outbound.canceled.Canceled.{Canceled}
 use Rattle.order_law.specs.declared.stage.Stage.TheVariants.{Waiting, Working, Closed}
 use Rattle.order_law.specs.Messages.{Message}
 use Rattle.order_law.specs.Life.{after, is_closed, is_live}
 use Rattle.order_law.specs.Chain.{chain}
 use Rattle.order_law.specs.History.{Entry, Said, SaysCancel, SaysNew, SaysReplace, Terms, answers}
-use Rattle.order_law.specs.Told.{Occasion, Shown, cancelled, opens, plain, report, told_by_type}
+use Rattle.order_law.specs.Told.{Occasion, Shown, cancelled, priced, plain, report, told_by}
 use Rattle.order_law.specs.Told as told
 use Rattle.order_law.specs.Headline.{has_due_ids}
 use Rattle.order_histories.specs.OrderRecord.{Cancelling, OrderRecord, asked_as, chained, fill_of, gone, leaves, lived, reduced, shown_as, unasked}
@@ -46,9 +47,9 @@ over-keeps reports limit more after o p later over no_r no_c same rejected none 
   numbered = rw same (AreNumbered-more reports after o.trades later numbered);
 }
 
-module _ (P : List ℕ → Type 0) (Q : Entry → Type 0) (R : List ℕ → Type 0) (terms : List Terms) (old_id : List ℕ → List ℕ) (sent : List Message) (reports limit more : ℕ) (m : List ℕ) (o : OrderRecord)
-    (type : type_of m ≡ 67) (live : is_live (lived o) (heard.token m) ≡ true) (works : o.stage ≡ Working)
-    (some : 1 ≤ heard.decrement m) (few : heard.decrement m ≤ o.unfilled) (limit_small : limit < 10 ^ 63)
+module _ (P : List ℕ → Type 0) (Q : Entry → Type 0) (R : List ℕ → Type 0) (terms : List Terms) (old_id : List ℕ → List ℕ) (sent : List Message) (reports limit more : ℕ) (m : Canceled) (o : OrderRecord)
+    (live : is_live (lived o) m.token ≡ true) (works : o.stage ≡ Working)
+    (some : 1 ≤ m.decrement) (few : m.decrement ≤ o.unfilled) (limit_small : limit < 10 ^ 63)
     (keeps : Keeps reports limit o) (named : AreNamed old_id o) (reads : Reads sent o) where
   in_book : leaves o ≡ o.unfilled
   in_book = rw works refl
@@ -56,45 +57,45 @@ module _ (P : List ℕ → Type 0) (Q : Entry → Type 0) (R : List ℕ → Type
   small : o.executed + o.unfilled < 10 ^ 64
   small = omega (arith, keeps.small, in_book, limit_small)
 
-  answers_none : (said : Said) → answers m said ≡ false
-  answers_none (SaysNew token) = rw type refl
-  answers_none (SaysReplace from to) = rw type refl
-  answers_none (SaysCancel token) = rw type refl
+  answers_none : (said : Said) → answers (market.Canceled m) said ≡ false
+  answers_none (SaysNew token) = refl
+  answers_none (SaysReplace from to) = refl
+  answers_none (SaysCancel token) = refl
 
-  same_price : (if opens (lived o) m then heard.price m else o.price) ≡ o.price
-  same_price = rw type refl
+  same_price : priced (market.Canceled m) (lived o) o.price ≡ o.price
+  same_price = refl
 
   abbrev reason : List ℕ
-  reason = heard.cancel_reason m ∷ []
+  reason = m.reason ∷ []
 
   abbrev restated : Occasion
   restated = record (plain (codes "D")) { restated = Some (codes "5"); why = Some reason }
 
-  module _ (rest : (o.unfilled - heard.decrement m == 0) ≡ false) where
+  module _ (rest : (o.unfilled - m.decrement == 0) ≡ false) where
     abbrev p : OrderRecord
-    p = reduced (heard.decrement m) o
+    p = reduced m.decrement o
 
-    part-lives : after (lived o) m ≡ lived p
-    part-lives = rw (type, live, rest) refl
+    part-lives : after (lived o) (market.Canceled m) ≡ lived p
+    part-lives = rw (live, rest) refl
 
-    part-bodies : told_by_type reports m (lived o) (answers_last m (asked_as terms o)) (map fill_of o.trades) (shown_as o) ≡ report (reports + 1) restated (shown_as p) ∷ []
-    part-bodies = rw (part-lives, type, works) refl
+    part-bodies : told_by reports (market.Canceled m) (lived o) (answers_last (market.Canceled m) (asked_as terms o)) (map fill_of o.trades) (shown_as o) ≡ report (reports + 1) restated (shown_as p) ∷ []
+    part-bodies = rw (part-lives, works) refl
 
     part-ids : has_due_ids (report (reports + 1) restated (shown_as p)) (chain o.new.order sent) (chained p) old_id ≡ true
     part-ids = let id = eq-same o.id in rw id refl
 
-    pub part-moves : Moves P Q R terms old_id sent reports limit more m o p
+    pub part-moves : Moves P Q R terms old_id sent reports limit more (market.Canceled m) o p
     part-moves = record {
       same = refl;
       kept = λ k. record { front = k.front; live = k.live; replace = k.replace; cancel = k.cancel; id = k.id };
       lives = part-lives;
       leads = subst (λ (bodies : List Message). Leads o.new old_id sent bodies p) (sym part-bodies)
-          (leads-one old_id sent _ p (report-tells (reports + 1) restated p old_id sent (reduced-sound (heard.decrement m) o works keeps.sound)
-          (restated-Reads (reports + 1) (heard.decrement m) (codes "5") reason o sent works few (omega (arith, small)) small reads) part-ids));
-      asked = λ e. unanswered-same terms m o answers_none;
+          (leads-one old_id sent _ p (report-tells (reports + 1) restated p old_id sent (reduced-sound m.decrement o works keeps.sound)
+          (restated-Reads (reports + 1) m.decrement (codes "5") reason o sent works few (omega (arith, small)) small reads) part-ids));
+      asked = λ e. unanswered-same terms (market.Canceled m) o answers_none;
       price = same_price;
       keeps = λ after later. record {
-        sound = reduced-sound (heard.decrement m) o works keeps.sound;
+        sound = reduced-sound m.decrement o works keeps.sound;
         apart = record { requests = keeps.apart.requests; current = keeps.apart.current };
         first = keeps.first;
         over_replace = keeps.over_replace;
@@ -112,20 +113,20 @@ module _ (P : List ℕ → Type 0) (Q : Entry → Type 0) (R : List ℕ → Type
         bound : p.executed + leaves p ≤ limit + more
         bound = rw works (omega (arith, keeps.small, in_book, few))
 
-  module _ (none : (o.unfilled - heard.decrement m == 0) ≡ true) where
-    nothing_left : o.unfilled - heard.decrement m ≡ 0
-    nothing_left = eqb-true (o.unfilled - heard.decrement m) 0 none
+  module _ (none : (o.unfilled - m.decrement == 0) ≡ true) where
+    nothing_left : o.unfilled - m.decrement ≡ 0
+    nothing_left = eqb-true (o.unfilled - m.decrement) 0 none
 
-    all_of_it : heard.decrement m ≡ o.unfilled
+    all_of_it : m.decrement ≡ o.unfilled
     all_of_it = omega (arith, nothing_left, few)
 
-    all-lives : after (lived o) m ≡ lived (unasked (gone o))
-    all-lives = rw (type, live, none, nothing_left, all_of_it) refl
+    all-lives : after (lived o) (market.Canceled m) ≡ lived (unasked (gone o))
+    all-lives = rw (live, none, nothing_left, all_of_it) refl
 
-    all-bodies : told_by_type reports m (lived o) (answers_last m (asked_as terms o)) (map fill_of o.trades) (shown_as o) ≡ cancelled (reports + 1) (Some reason) (told.closed (shown_as o))
-    all-bodies = rw (all-lives, type) refl
+    all-bodies : told_by reports (market.Canceled m) (lived o) (answers_last (market.Canceled m) (asked_as terms o)) (map fill_of o.trades) (shown_as o) ≡ cancelled (reports + 1) (Some reason) (told.closed (shown_as o))
+    all-bodies = rw (all-lives) refl
 
-    pub all-moves : Moves P Q R terms old_id sent reports limit more m o (unasked (gone o))
+    pub all-moves : Moves P Q R terms old_id sent reports limit more (market.Canceled m) o (unasked (gone o))
     all-moves = record {
       same = refl;
       kept = Of-unasked P Q R o (unasked (gone o)) refl refl refl refl;

@@ -2,8 +2,9 @@
 use Rattle.std.proofs.Common.{◌≡◌, ◌≢◌, ℕ, ◌+◌, ◌*◌, ◌<◌, ◌≤◌, ◌^◌, Bool, true, false, List, [], ◌∷◌, ◌++◌, length, map, reverse, refl, sym, ap, ◌∙◌, subst, arith, decimal, codes, bytes_eq, Option, Some, None, eqb-true, eq-eqb, ne_eqb}
 use Rattle.std.specs.Prelude.{◌&&◌, ◌==◌, if◌then◌else◌, is_some}
 use Rattle.std.specs.List.{count_by, find, list_any}
+use Rattle.ouch_codec.specs.declared.outbound.Outbound.{Outbound}
 use Rattle.order_law.specs.Messages.{Message, is}
-use Rattle.order_law.specs.Life.{Life, after, born, is_closed, is_live, is_of, is_type, life}
+use Rattle.order_law.specs.Life.{Life, after, born, is_closed, is_live, is_of, life}
 use Rattle.order_law.specs.Reading.{is_report}
 use Rattle.order_law.specs.Chain.{chain, is_used, orders}
 use Rattle.order_law.specs.History.{Asked, Entry, Heard, History, Terms, Turn, accepted, answers, given, handled, is_new_order, issued, life_of, new_of, numbered, outstanding, pending_tokens, terms_of, token_of}
@@ -110,7 +111,7 @@ none-if false h = refl
 
 -- ---- what an accepted message asks is of its order
 
-asks-order : (terms : List Terms) (e : Entry) (entries : List Entry) (sent : List Message) (messages : List (List ℕ)) → Each (λ (a : Asked). a.order ≡ e.order) (asks terms e entries sent messages)
+asks-order : (terms : List Terms) (e : Entry) (entries : List Entry) (sent : List Message) (messages : List Outbound) → Each (λ (a : Asked). a.order ≡ e.order) (asks terms e entries sent messages)
 asks-order terms e entries sent messages = by_kind (is_new_order e.message) (is_replace e.message)
   where
     live_one : List ℕ

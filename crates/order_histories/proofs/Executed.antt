@@ -4,15 +4,16 @@ use Rattle.std.specs.Prelude.{◌==◌, if◌then◌else◌}
 use Rattle.std.specs.List.{count_by}
 use Rattle.std.proofs.lemmas.List.Sums.{sum_by-append}
 use Rattle.order_law.specs.Reading.{is_report}
-use Rattle.ouch_codec.specs.Parts.{type_of}
-use Rattle.ouch_codec.specs.FromMarket as heard
+use Rattle.ouch_codec.specs.declared.outbound.Outbound.{Outbound}
+use Rattle.ouch_codec.specs.declared.outbound.Outbound.TheVariants as market
+use Rattle.ouch_codec.specs.declared.outbound.executed.Executed.{Executed}
 use Rattle.order_law.specs.declared.stage.Stage.TheVariants.{Waiting, Working, Closed}
 use Rattle.order_law.specs.declared.trade.Trade.{Trade}
 use Rattle.order_law.specs.Messages.{Message}
 use Rattle.order_law.specs.Life.{after, is_live}
 use Rattle.order_law.specs.Chain.{chain}
 use Rattle.order_law.specs.History.{Asked, Entry, Said, SaysCancel, Terms, answers, is_cancel_said, token_of}
-use Rattle.order_law.specs.Told.{Shown, opens, report, told_by_type, too_late}
+use Rattle.order_law.specs.Told.{Shown, priced, report, told_by, too_late}
 use Rattle.order_law.specs.Headline.{has_due_ids}
 use Rattle.order_histories.specs.OrderRecord.{OrderRecord, ToldTrade, asked_as, chained, fill_of, filled, leaves, lived, shown_as, traded, unasked}
 use Rattle.order_histories.proofs.Texts.{eq-same}
@@ -31,19 +32,19 @@ AreNumbered-more n k [] more a = tt
 AreNumbered-more n k (t ∷ ts) more a = (a.0, omega (arith, a.1), a.2)
 
 -- a message that answers nothing leaves all that is asked
-pub unanswered-same : (terms : List Terms) (m : List ℕ) (o : OrderRecord) → ((said : Said) → answers m said ≡ false) → unanswered m (asked_as terms o) ≡ asked_as terms o
+pub unanswered-same : (terms : List Terms) (m : Outbound) (o : OrderRecord) → ((said : Said) → answers m said ≡ false) → unanswered m (asked_as terms o) ≡ asked_as terms o
 unanswered-same terms m o none = same (asked_as terms o)
   where
     same : (asked : List Asked) → unanswered m asked ≡ asked
     same [] = refl
     same (a ∷ asked) = rw (none a.said) (ap (λ xs. a ∷ xs) (same asked))
 
-module _ (P : List ℕ → Type 0) (Q : Entry → Type 0) (R : List ℕ → Type 0) (terms : List Terms) (old_id : List ℕ → List ℕ) (sent : List Message) (reports limit more : ℕ) (m : List ℕ) (o : OrderRecord)
-    (type : type_of m ≡ 69) (live : is_live (lived o) (heard.token m) ≡ true) (works : o.stage ≡ Working)
-    (some : 1 ≤ heard.executed_shares m) (few : heard.executed_shares m ≤ o.unfilled) (price_small : heard.executed_price m < 2 ^ 128) (limit_small : limit < 10 ^ 63)
+module _ (P : List ℕ → Type 0) (Q : Entry → Type 0) (R : List ℕ → Type 0) (terms : List Terms) (old_id : List ℕ → List ℕ) (sent : List Message) (reports limit more : ℕ) (m : Executed) (o : OrderRecord)
+    (live : is_live (lived o) m.token ≡ true) (works : o.stage ≡ Working)
+    (some : 1 ≤ m.shares) (few : m.shares ≤ o.unfilled) (price_small : m.price < 2 ^ 128) (limit_small : limit < 10 ^ 63)
     (keeps : Keeps reports limit o) (named : AreNamed old_id o) (reads : Reads sent o) where
   abbrev trade : Trade
-  trade = record { match_number = heard.executed_match m; shares = heard.executed_shares m; price = heard.executed_price m; is_broken = false }
+  trade = record { match_number = m.match_number; shares = m.shares; price = m.price; is_broken = false }
 
   in_book : leaves o ≡ o.unfilled
   in_book = rw works refl
@@ -51,13 +52,13 @@ module _ (P : List ℕ → Type 0) (Q : Entry → Type 0) (R : List ℕ → Type
   small : o.executed + o.unfilled < 10 ^ 64
   small = omega (arith, keeps.small, in_book, limit_small)
 
-  answers_none : (said : Said) → answers m said ≡ false
-  answers_none (Rattle.order_law.specs.History.SaysNew token) = rw type refl
-  answers_none (Rattle.order_law.specs.History.SaysReplace from to) = rw type refl
-  answers_none (SaysCancel token) = rw type refl
+  answers_none : (said : Said) → answers (market.Executed m) said ≡ false
+  answers_none (Rattle.order_law.specs.History.SaysNew token) = refl
+  answers_none (Rattle.order_law.specs.History.SaysReplace from to) = refl
+  answers_none (SaysCancel token) = refl
 
-  same_price : (if opens (lived o) m then heard.price m else o.price) ≡ o.price
-  same_price = rw type refl
+  same_price : priced (market.Executed m) (lived o) o.price ≡ o.price
+  same_price = refl
 
   live_order : o.is_refused ≡ false
   live_order = by_flag o.is_refused refl
@@ -75,17 +76,17 @@ module _ (P : List ℕ → Type 0) (Q : Entry → Type 0) (R : List ℕ → Type
       let more_reports : count_by is_report bodies ≡ 1 + count_by is_report rs = ap (count_by is_report) same ∙ count-more is_report (report (reports + 1) (trade_occasion trade) s) rs in
       omega (arith, more_reports, later)
 
-  module _ (rest : (o.unfilled - heard.executed_shares m == 0) ≡ false) where
+  module _ (rest : (o.unfilled - m.shares == 0) ≡ false) where
     abbrev p : OrderRecord
     p = traded (reports + 1) trade o
 
-    part-lives : after (lived o) m ≡ lived p
-    part-lives = rw (type, live, rest) refl
+    part-lives : after (lived o) (market.Executed m) ≡ lived p
+    part-lives = rw (live, rest) refl
 
-    part-bodies : told_by_type reports m (lived o) (answers_last m (asked_as terms o)) (map fill_of o.trades) (shown_as o) ≡ report (reports + 1) (trade_occasion trade) (shown_as p) ∷ []
-    part-bodies = rw (part-lives, type, works) refl
+    part-bodies : told_by reports (market.Executed m) (lived o) (answers_last (market.Executed m) (asked_as terms o)) (map fill_of o.trades) (shown_as o) ≡ report (reports + 1) (trade_occasion trade) (shown_as p) ∷ []
+    part-bodies = rw (part-lives, works) refl
 
-    pub part-moves : Moves P Q R terms old_id sent reports limit more m o p
+    pub part-moves : Moves P Q R terms old_id sent reports limit more (market.Executed m) o p
     part-moves = record {
       same = refl;
       kept = λ k. record { front = k.front; live = k.live; replace = k.replace; cancel = k.cancel; id = k.id };
@@ -93,7 +94,7 @@ module _ (P : List ℕ → Type 0) (Q : Entry → Type 0) (R : List ℕ → Type
       leads = subst (λ (bodies : List Message). Leads o.new old_id sent bodies p) (sym part-bodies)
           (leads-one old_id sent _ p (report-tells (reports + 1) (trade_occasion trade) p old_id sent (traded-sound (reports + 1) trade o works keeps.sound)
           (traded-Reads (reports + 1) trade o sent works few rest price_small small reads) (trade-ids (reports + 1) p refl)));
-      asked = λ e. unanswered-same terms m o answers_none;
+      asked = λ e. unanswered-same terms (market.Executed m) o answers_none;
       price = same_price;
       keeps = λ after later. record {
         sound = traded-sound (reports + 1) trade o works keeps.sound;
@@ -114,24 +115,24 @@ module _ (P : List ℕ → Type 0) (Q : Entry → Type 0) (R : List ℕ → Type
         bound : p.executed + leaves p ≤ limit + more
         bound = rw works (omega (arith, keeps.small, in_book, few))
 
-  module _ (none : (o.unfilled - heard.executed_shares m == 0) ≡ true) where
+  module _ (none : (o.unfilled - m.shares == 0) ≡ true) where
     abbrev f : OrderRecord
     f = filled (reports + 1) trade o
 
-    all-lives : after (lived o) m ≡ lived (unasked f)
-    all-lives = rw (type, live, none) refl
+    all-lives : after (lived o) (market.Executed m) ≡ lived (unasked f)
+    all-lives = rw (live, none) refl
 
-    nothing_left : o.unfilled - heard.executed_shares m ≡ 0
-    nothing_left = eqb-true (o.unfilled - heard.executed_shares m) 0 none
+    nothing_left : o.unfilled - m.shares ≡ 0
+    nothing_left = eqb-true (o.unfilled - m.shares) 0 none
 
-    all-bodies : told_by_type reports m (lived o) (answers_last m (asked_as terms o)) (map fill_of o.trades) (shown_as o) ≡ report (reports + 1) (trade_occasion trade) (shown_as f) ∷ too_late (shown_as f)
-    all-bodies = rw (all-lives, type, nothing_left) refl
+    all-bodies : told_by reports (market.Executed m) (lived o) (answers_last (market.Executed m) (asked_as terms o)) (map fill_of o.trades) (shown_as o) ≡ report (reports + 1) (trade_occasion trade) (shown_as f) ∷ too_late (shown_as f)
+    all-bodies = rw (all-lives, nothing_left) refl
 
     first-tells : Tells old_id sent (report (reports + 1) (trade_occasion trade) (shown_as f)) f
     first-tells = report-tells (reports + 1) (trade_occasion trade) f old_id sent (filled-sound (reports + 1) trade o keeps.sound)
         (filled-Reads (reports + 1) trade o sent works few price_small small reads) (trade-ids (reports + 1) f refl)
 
-    pub all-moves : Moves P Q R terms old_id sent reports limit more m o (unasked f)
+    pub all-moves : Moves P Q R terms old_id sent reports limit more (market.Executed m) o (unasked f)
     all-moves = record {
       same = refl;
       kept = Of-unasked P Q R o (unasked f) refl refl refl refl;

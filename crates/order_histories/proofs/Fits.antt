@@ -3,6 +3,7 @@ use Rattle.std.proofs.Common.{◌≡◌, ◌≢◌, ℕ, ◌+◌, ◌≤◌, Boo
 use Rattle.std.specs.Prelude.{◌||◌, not, if◌then◌else◌, filter}
 use Rattle.std.specs.List.{filter_map}
 use Rattle.tokens.specs.TokenText.{token_text}
+use Rattle.ouch_codec.specs.declared.outbound.Outbound.{Outbound}
 use Rattle.order_law.specs.Messages.{Message, character, text}
 use Rattle.order_law.specs.Asks.{total_of}
 use Rattle.order_law.specs.Life.{Life, is_closed, life}
@@ -10,7 +11,7 @@ use Rattle.order_law.specs.Reading.{Reading, is_refused_order, reading}
 use Rattle.order_law.specs.Chain.{Chain, Request, is_used}
 use Rattle.order_law.specs.History.{Asked, Entry, History, Terms, accepted, answers, by_id, given, handled, is_new_order, issued, life_of, new_of, pending_tokens, terms_of, token_of}
 use Rattle.order_law.specs.Lawful.{order_of_token}
-use Rattle.order_law.specs.Told.{Shown, opens, price_after, shown}
+use Rattle.order_law.specs.Told.{Shown, price_after, shown}
 use Rattle.order_law.specs.Headline.{old_ids}
 use Rattle.order_histories.specs.OrderRecord.{Cancelling, OrderRecord, asked_as, chained, leaves, lived, pending, read, replacements, shown_as}
 use Rattle.order_histories.proofs.Texts.{eq-is, eq-same}
@@ -37,7 +38,7 @@ IsUsed sent id = is_used id sent ≡ true
 abbrev pub own : List ℕ → List Asked → List Asked
 own order asked = filter (λ (a : Asked). bytes_eq a.order order) asked
 
-pub record Fits (terms : List Terms) (entries : List Entry) (numbered : ℕ) (sent : List Message) (messages : List (List ℕ)) (asked : List Asked) (reports limit : ℕ) (o : OrderRecord) : Type 0 where
+pub record Fits (terms : List Terms) (entries : List Entry) (numbered : ℕ) (sent : List Message) (messages : List Outbound) (asked : List Asked) (reports limit : ℕ) (o : OrderRecord) : Type 0 where
   pub reads : Reads sent o
   pub lives : life (token_of o.new) (character 54 o.new.message) messages ≡ lived o
   pub priced : price_after o.new entries messages ≡ o.price
@@ -50,7 +51,7 @@ pub record Fits (terms : List Terms) (entries : List Entry) (numbered : ℕ) (se
   pub order_is : o.new.order ≡ decimal number
   pub is_numbered : number ≤ numbered
 
-module _ (terms : List Terms) (entries : List Entry) (numbered : ℕ) (sent : List Message) (messages : List (List ℕ)) (asked : List Asked) (reports limit : ℕ) (o : OrderRecord)
+module _ (terms : List Terms) (entries : List Entry) (numbered : ℕ) (sent : List Message) (messages : List Outbound) (asked : List Asked) (reports limit : ℕ) (o : OrderRecord)
     (f : Fits terms entries numbered sent messages asked reports limit o) where
   pub life-of : life_of o.new.order entries messages ≡ lived o
   life-of = rw f.known f.lives
@@ -124,7 +125,7 @@ module _ (terms : List Terms) (before : History) (numbered : ℕ) (asked : List 
 
 -- ---- what is asked, after a message
 
-module _ (order : List ℕ) (entries : List Entry) (messages : List (List ℕ)) (m : List ℕ) where
+module _ (order : List ℕ) (entries : List Entry) (messages : List Outbound) (m : Outbound) where
   abbrev still : Asked → Bool
   still a = not (answers m a.said || is_closed (life_of a.order entries messages).stage)
 

@@ -1,12 +1,15 @@
 -- A message of the market keeps what every told history keeps, and each order true.
-use Rattle.std.proofs.Common.{◌≡◌, ℕ, ◌+◌, ◌*◌, ◌<◌, ◌≤◌, ◌^◌, Bool, true, false, List, [], ◌∷◌, ◌++◌, length, reverse, refl, sym, ap, ◌∙◌, subst, arith, decimal, codes, Option, Some, None}
+use Rattle.std.proofs.Common.{◌≡◌, ℕ, ◌+◌, ◌*◌, ◌<◌, ◌≤◌, ◌^◌, Bool, true, false, List, [], ◌∷◌, ◌++◌, length, reverse, refl, sym, ap, ◌∙◌, subst, arith, decimal, Option, Some, None, Result, Ok, Err}
 use Rattle.std.specs.Prelude.{◌&&◌, ◌||◌, ◌==◌, not, if◌then◌else◌, filter}
 use Rattle.tokens.specs.TokenText.{token_text}
+use Rattle.ouch_codec.specs.declared.outbound.Outbound.{Outbound}
+use Rattle.ouch_codec.specs.declared.outbound.Outbound.TheVariants as market
+use Rattle.ouch_codec.specs.declared.refusal.DecodeRefusal.{DecodeRefusal}
 use Rattle.order_law.specs.Messages.{Message, character}
-use Rattle.order_law.specs.Life.{Life, after, born, is_closed, is_type, life}
+use Rattle.order_law.specs.Life.{Life, after, born, is_closed, life}
 use Rattle.order_law.specs.Chain.{is_used, orders}
 use Rattle.order_law.specs.History.{Asked, Heard, History, Terms, Turn, accepted, answers, given, handled, issued, life_of, numbered, outstanding, token_of}
-use Rattle.order_law.specs.Told.{opens, price_after, reports_in}
+use Rattle.order_law.specs.Told.{price_after, priced, reports_in}
 use Rattle.order_law.specs.Headline.{Each, IsTrueToMarket}
 use Rattle.order_histories.specs.OrderRecord.{OrderRecord, asked_as, lived}
 use Rattle.order_histories.proofs.Lists.{Each-map}
@@ -19,7 +22,8 @@ use Rattle.order_histories.proofs.Holds.{FitsIn, HasRecord, Holds, IsEntry, Pass
 use Rattle.order_histories.proofs.Untouched.{tokenless-untouched}
 use Rattle.order_law.specs.declared.stage.Stage.{Stage}
 use Rattle.order_law.specs.declared.stage.Stage.TheVariants.{Waiting, Working, Closed}
-use Rattle.order_law.specs.History.{Said, SaysCancel, SaysNew, SaysReplace}
+use Rattle.order_law.specs.History.{Said}
+use Rattle.order_law.specs.Lawful.{order_token}
 
 pub append-nothing : {A : Type 0} (xs : List A) → xs ++ [] ≡ xs
 append-nothing [] = refl
@@ -34,17 +38,17 @@ closed-asked terms reports limit o k over = by_stage o.stage refl over
     by_stage Working e over = absurd (cc)
     by_stage Closed e over = rw (k.over_replace e, k.over_cancel e, e) refl
 
-abbrev pub heard_turn : ℕ → List ℕ → ℕ → List Message → List (List ℕ) → Option ℕ → Turn
+abbrev pub heard_turn : ℕ → Result Outbound DecodeRefusal → ℕ → List Message → List (List ℕ) → Option ℕ → Turn
 heard_turn port m client bodies sends fault = record { event = Heard port m; client = client; bodies = bodies; sends = sends; fault = fault }
 
-pub numbered-heard : (port : ℕ) (m : List ℕ) (client : ℕ) (bodies : List Message) (sends : List (List ℕ)) (fault : Option ℕ) (before : History) → numbered (heard_turn port m client bodies sends fault ∷ before) ≡ 0 + numbered before
+pub numbered-heard : (port : ℕ) (m : Result Outbound DecodeRefusal) (client : ℕ) (bodies : List Message) (sends : List (List ℕ)) (fault : Option ℕ) (before : History) → numbered (heard_turn port m client bodies sends fault ∷ before) ≡ 0 + numbered before
 numbered-heard port m client bodies sends fault before = count-more _ (heard_turn port m client bodies sends fault) before
 
--- ---- a payload that is handled
+-- ---- a message that is handled
 
-module _ (terms : List Terms) (before : History) (port : ℕ) (m : List ℕ) (client : ℕ) (bodies : List Message) (sends : List (List ℕ)) (H : Holds terms before) where
+module _ (terms : List Terms) (before : History) (port : ℕ) (m : Outbound) (client : ℕ) (bodies : List Message) (sends : List (List ℕ)) (H : Holds terms before) where
   abbrev t : Turn
-  t = heard_turn port m client bodies sends None
+  t = heard_turn port (Ok m) client bodies sends None
 
   -- what is then asked for an order
   pub asked-now : (k : List ℕ) (p : ℕ) (c : Bool) → is_closed (life_of k (accepted terms before) (handled p (t ∷ before))).stage ≡ c → own k (outstanding terms p (t ∷ before)) ≡ (if c then [] else unanswered m (own k (outstanding terms p before)))
@@ -71,7 +75,8 @@ module _ (terms : List Terms) (before : History) (port : ℕ) (m : List ℕ) (cl
     same-life false = refl
 
     same-price : (b : Bool) → price_after o.new (accepted terms before) (if b && true then m ∷ handled p before else handled p before) ≡ price_after o.new (accepted terms before) (handled p before)
-    same-price true = let none : opens (life_of o.new.order (accepted terms before) (handled p before)) m ≡ false = ap (λ (l : Life). opens l m) (life-of terms (accepted terms before) (numbered before) (issued o.new.client before) (handled p before) (outstanding terms p before) (reports_in before) (1_000_000 * length before) o f) ∙ untouched.opens_none in rw none refl
+    same-price true = ap (λ (l : Life). priced m l (price_after o.new (accepted terms before) (handled p before))) (life-of terms (accepted terms before) (numbered before) (issued o.new.client before) (handled p before) (outstanding terms p before) (reports_in before) (1_000_000 * length before) o f)
+        ∙ untouched.price (price_after o.new (accepted terms before) (handled p before))
     same-price false = refl
 
     same-asked : own o.new.order (outstanding terms p (t ∷ before)) ≡ own o.new.order (outstanding terms p before)
@@ -83,21 +88,24 @@ module _ (terms : List Terms) (before : History) (port : ℕ) (m : List ℕ) (cl
         (reports_in before) (reports_in (t ∷ before)) (1_000_000 * length before) (1_000_000 * length (t ∷ before)) o f same_count reads used (same-life (port == p)) (same-price (port == p)) same-asked (omega arith) (omega arith)
       where
         same_count : numbered before ≤ numbered (t ∷ before)
-        same_count = omega (arith, numbered-heard port m client bodies sends None before)
+        same_count = omega (arith, numbered-heard port (Ok m) client bodies sends None before)
 
--- a message whose type is none of these changes no order
-module _ (m : List ℕ) (a : is_type (codes "A") m ≡ false) (u : is_type (codes "U") m ≡ false) (c : is_type (codes "C") m ≡ false) (e : is_type (codes "E") m ≡ false) (b : is_type (codes "B") m ≡ false) (j : is_type (codes "J") m ≡ false) (i : is_type (codes "I") m ≡ false) where
-  pub tokenless-life : (l : Life) → after l m ≡ l
-  tokenless-life l = rw (a, u, e, c, b, j) refl
-
-  tokenless-answers : (said : Said) → answers m said ≡ false
-  tokenless-answers (SaysNew token) = rw (a, j) refl
-  tokenless-answers (SaysReplace from to) = rw (u, j) refl
-  tokenless-answers (SaysCancel token) = rw (u, j, i) refl
+-- a message without a token changes no order
+tokenless-life : (m : Outbound) → order_token m ≡ None → (l : Life) → (after l m ≡ l) × ((before : ℕ) → priced m l before ≡ before)
+tokenless-life (market.SystemEvent m) none l = (refl, λ before. refl)
+tokenless-life market.Skipped none l = (refl, λ before. refl)
+tokenless-life (market.Accepted m) none l = absurd (cc)
+tokenless-life (market.Replaced m) none l = absurd (cc)
+tokenless-life (market.Canceled m) none l = absurd (cc)
+tokenless-life (market.Executed m) none l = absurd (cc)
+tokenless-life (market.Broken m) none l = absurd (cc)
+tokenless-life (market.Rejected m) none l = absurd (cc)
+tokenless-life (market.CancelPending m) none l = absurd (cc)
+tokenless-life (market.CancelReject m) none l = absurd (cc)
 
 -- ---- nobody is told anything
 
-module _ (terms : List Terms) (before : History) (port : ℕ) (m : List ℕ) (sends : List (List ℕ)) (fault : Option ℕ) (H : Holds terms before) where
+module _ (terms : List Terms) (before : History) (port : ℕ) (m : Result Outbound DecodeRefusal) (sends : List (List ℕ)) (fault : Option ℕ) (H : Holds terms before) where
   abbrev quiet : Turn
   quiet = heard_turn port m 0 [] sends fault
 
@@ -142,40 +150,45 @@ module _ (terms : List Terms) (before : History) (port : ℕ) (m : List ℕ) (se
       records = Each-map (HasRecord terms before) (HasRecord terms (quiet ∷ before)) (news (accepted terms before)) (λ e r. record { order = r.order; same = r.same; fits = same r.order r.fits }) H.records
 
 -- a payload that is a fault
-pub fault-Holds : (terms : List Terms) (before : History) (port : ℕ) (m : List ℕ) (sends : List (List ℕ)) (n : ℕ) → Holds terms before → Holds terms (heard_turn port m 0 [] sends (Some n) ∷ before) × Each (IsTrueToMarket terms (heard_turn port m 0 [] sends (Some n)) before) (news (accepted terms before)) × Still terms (heard_turn port m 0 [] sends (Some n)) before
-fault-Holds terms before port m sends n H = quiet-Holds terms before port m sends (Some n) H same (λ k p side above most. subst (Each (PassesOver (token_text k) side)) (sym (same-handled p)) (H.unheard k p side above most)) (λ k p above small. ap (own (decimal k)) (append-nothing (outstanding terms p before)) ∙ H.unasked k p above small)
+pub fault-Holds : (terms : List Terms) (before : History) (port : ℕ) (heard : Result Outbound DecodeRefusal) (sends : List (List ℕ)) (n : ℕ) → Holds terms before → Holds terms (heard_turn port heard 0 [] sends (Some n) ∷ before) × Each (IsTrueToMarket terms (heard_turn port heard 0 [] sends (Some n)) before) (news (accepted terms before)) × Still terms (heard_turn port heard 0 [] sends (Some n)) before
+fault-Holds terms before port heard sends n H = quiet-Holds terms before port heard sends (Some n) H same (λ k p side above most. subst (Each (PassesOver (token_text k) side)) (sym (same-handled heard p)) (H.unheard k p side above most)) (λ k p above small. ap (own (decimal k)) (same-asked heard p) ∙ H.unasked k p above small)
   where
-    q : Turn
-    q = heard_turn port m 0 [] sends (Some n)
+    q : Result Outbound DecodeRefusal → Turn
+    q h = heard_turn port h 0 [] sends (Some n)
 
-    same-handled : (p : ℕ) → handled p (q ∷ before) ≡ handled p before
-    same-handled p = by_test (port == p)
+    same-handled : (h : Result Outbound DecodeRefusal) (p : ℕ) → handled p (q h ∷ before) ≡ handled p before
+    same-handled (Err refusal) p = refl
+    same-handled (Ok m) p = by_test (port == p)
       where
         by_test : (b : Bool) → (if b && false then m ∷ handled p before else handled p before) ≡ handled p before
         by_test true = refl
         by_test false = refl
 
-    same : Still terms q before
-    same o f = quiet-Fits terms (accepted terms before) (numbered before) (numbered (q ∷ before)) (issued o.new.client before) (issued o.new.client (q ∷ before)) (handled (port_of terms o.new) before) (handled (port_of terms o.new) (q ∷ before))
-        (outstanding terms (port_of terms o.new) before) (outstanding terms (port_of terms o.new) (q ∷ before)) (reports_in before) (reports_in (q ∷ before)) (1_000_000 * length before) (1_000_000 * length (q ∷ before)) o f
-        (omega (arith, numbered-heard port m 0 [] sends (Some n) before)) (same-reads terms before port m sends (Some n) H o f) (same-used terms before port m sends (Some n) H o.new.client)
-        (ap (life (token_of o.new) (character 54 o.new.message)) (same-handled (port_of terms o.new))) (ap (price_after o.new (accepted terms before)) (same-handled (port_of terms o.new)))
-        (ap (own o.new.order) (append-nothing (outstanding terms (port_of terms o.new) before))) (omega arith) (omega arith)
+    same-asked : (h : Result Outbound DecodeRefusal) (p : ℕ) → outstanding terms p (q h ∷ before) ≡ outstanding terms p before
+    same-asked (Err refusal) p = append-nothing (outstanding terms p before)
+    same-asked (Ok m) p = append-nothing (outstanding terms p before)
 
--- a payload without a token
-pub tokenless-Holds : (terms : List Terms) (before : History) (port : ℕ) (m : List ℕ) (sends : List (List ℕ)) → Holds terms before
-    → is_type (codes "A") m ≡ false → is_type (codes "U") m ≡ false → is_type (codes "C") m ≡ false → is_type (codes "E") m ≡ false → is_type (codes "B") m ≡ false → is_type (codes "J") m ≡ false → is_type (codes "I") m ≡ false
-    → Holds terms (heard_turn port m 0 [] sends None ∷ before) × Each (IsTrueToMarket terms (heard_turn port m 0 [] sends None) before) (news (accepted terms before)) × Still terms (heard_turn port m 0 [] sends None) before
-tokenless-Holds terms before port m sends H a u c e b j i = quiet-Holds terms before port m sends None H
-    (λ o f. untouched-fits terms before port m 0 [] sends H o f (tokenless-untouched terms m o a u c e b j i) (same-reads terms before port m sends None H o f) (same-used terms before port m sends None H o.new.client))
+    same : Still terms (q heard) before
+    same o f = quiet-Fits terms (accepted terms before) (numbered before) (numbered (q heard ∷ before)) (issued o.new.client before) (issued o.new.client (q heard ∷ before)) (handled (port_of terms o.new) before) (handled (port_of terms o.new) (q heard ∷ before))
+        (outstanding terms (port_of terms o.new) before) (outstanding terms (port_of terms o.new) (q heard ∷ before)) (reports_in before) (reports_in (q heard ∷ before)) (1_000_000 * length before) (1_000_000 * length (q heard ∷ before)) o f
+        (omega (arith, numbered-heard port heard 0 [] sends (Some n) before)) (same-reads terms before port heard sends (Some n) H o f) (same-used terms before port heard sends (Some n) H o.new.client)
+        (ap (life (token_of o.new) (character 54 o.new.message)) (same-handled heard (port_of terms o.new))) (ap (price_after o.new (accepted terms before)) (same-handled heard (port_of terms o.new)))
+        (ap (own o.new.order) (same-asked heard (port_of terms o.new))) (omega arith) (omega arith)
+
+-- a message without a token
+pub tokenless-Holds : (terms : List Terms) (before : History) (port : ℕ) (m : Outbound) (sends : List (List ℕ)) → Holds terms before
+    → order_token m ≡ None
+    → Holds terms (heard_turn port (Ok m) 0 [] sends None ∷ before) × Each (IsTrueToMarket terms (heard_turn port (Ok m) 0 [] sends None) before) (news (accepted terms before)) × Still terms (heard_turn port (Ok m) 0 [] sends None) before
+tokenless-Holds terms before port m sends H none = quiet-Holds terms before port (Ok m) sends None H
+    (λ o f. untouched-fits terms before port m 0 [] sends H o f (tokenless-untouched terms m o none) (same-reads terms before port (Ok m) sends None H o f) (same-used terms before port (Ok m) sends None H o.new.client))
     (λ k p side above most. same-life k p side above most (port == p))
     (λ k p above small. asked-now terms before port m 0 [] sends H (decimal k) p (is_closed (life_of (decimal k) (accepted terms before) (handled p (q ∷ before))).stage) refl ∙ by_closed k p above small (is_closed (life_of (decimal k) (accepted terms before) (handled p (q ∷ before))).stage))
   where
     q : Turn
-    q = heard_turn port m 0 [] sends None
+    q = heard_turn port (Ok m) 0 [] sends None
 
     same-life : (k p side : ℕ) → given (accepted terms before) < k → k ≤ 9_999_999_999_999 → (f : Bool) → Each (PassesOver (token_text k) side) (if f && true then m ∷ handled p before else handled p before)
-    same-life k p side above most true = ((tokenless-life m a u c e b j i (born (token_text k) side), rw (a, u) refl), H.unheard k p side above most)
+    same-life k p side above most true = (tokenless-life m none (born (token_text k) side), H.unheard k p side above most)
     same-life k p side above most false = H.unheard k p side above most
 
     by_closed : (k p : ℕ) → numbered before < k → k < 10 ^ 64 → (f : Bool) → (if f then [] else unanswered m (own (decimal k) (outstanding terms p before))) ≡ []

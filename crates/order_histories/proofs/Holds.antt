@@ -3,11 +3,12 @@ use Rattle.std.proofs.Common.{◌≡◌, ℕ, ◌*◌, ◌<◌, ◌≤◌, ◌^�
 use Rattle.std.specs.Prelude.{◌&&◌, ◌==◌, if◌then◌else◌, filter}
 use Rattle.std.specs.List.{find}
 use Rattle.tokens.specs.TokenText.{token_text}
+use Rattle.ouch_codec.specs.declared.outbound.Outbound.{Outbound}
 use Rattle.order_law.specs.Messages.{Message, character, is}
 use Rattle.order_law.specs.Life.{after, born, life}
 use Rattle.order_law.specs.Chain.{is_used, orders}
 use Rattle.order_law.specs.History.{Asked, Entry, History, Terms, Turn, accepted, given, handled, is_new_order, issued, new_of, numbered, outstanding, terms_of, token_of}
-use Rattle.order_law.specs.Told.{opens, price_after, reports_in}
+use Rattle.order_law.specs.Told.{price_after, priced, reports_in}
 use Rattle.order_law.specs.Headline.{Each, IsTrueToMarket, ReadsWell, old_ids}
 use Rattle.order_histories.specs.OrderRecord.{OrderRecord}
 use Rattle.order_histories.proofs.Due.{IsUnread, Reads}
@@ -45,8 +46,8 @@ abbrev pub orders_of : ℕ → List Entry → List (List ℕ)
 orders_of client entries = map (λ (e : Entry). e.order) (filter (λ (e : Entry). e.client == client) (news entries))
 
 -- a message is nothing to an order that no message has been on
-abbrev pub PassesOver : List ℕ → ℕ → List ℕ → Type 0
-PassesOver root side m = (after (born root side) m ≡ born root side) × (opens (born root side) m ≡ false)
+abbrev pub PassesOver : List ℕ → ℕ → Outbound → Type 0
+PassesOver root side m = (after (born root side) m ≡ born root side) × ((before : ℕ) → priced m (born root side) before ≡ before)
 
 pub record Holds (terms : List Terms) (h : History) : Type 0 where
   pub entries : Each (IsEntry terms (accepted terms h) (numbered h)) (accepted terms h)
@@ -115,7 +116,7 @@ Of-used P Q R S o more k = record {
 }
 
 -- an order that a turn doesn't change
-pub quiet-Fits : (terms : List Terms) (entries : List Entry) (n n' : ℕ) (sent sent' : List Message) (messages messages' : List (List ℕ)) (asked asked' : List Asked) (reports reports' limit limit' : ℕ) (o : OrderRecord)
+pub quiet-Fits : (terms : List Terms) (entries : List Entry) (n n' : ℕ) (sent sent' : List Message) (messages messages' : List Outbound) (asked asked' : List Asked) (reports reports' limit limit' : ℕ) (o : OrderRecord)
     → Fits terms entries n sent messages asked reports limit o → n ≤ n'
     → Reads sent' o → ((id : List ℕ) → is_used id sent ≡ true → is_used id sent' ≡ true)
     → life (token_of o.new) (character 54 o.new.message) messages' ≡ life (token_of o.new) (character 54 o.new.message) messages → price_after o.new entries messages' ≡ price_after o.new entries messages

@@ -2,15 +2,18 @@
 use Rattle.std.proofs.Common.{◌≡◌, ℕ, ◌+◌, ◌≤◌, Bool, true, false, List, [], ◌∷◌, ◌++◌, map, refl, sym, ap, ◌∙◌, subst, arith, codes, bytes_eq, Option, Some, None}
 use Rattle.std.specs.Prelude.{◌&&◌, ◌||◌, if◌then◌else◌, filter, option_map, unwrap_or}
 use Rattle.std.specs.List.{count_by, find}
-use Rattle.ouch_codec.specs.FromMarket as heard
+use Rattle.ouch_codec.specs.declared.outbound.Outbound.{Outbound}
+use Rattle.ouch_codec.specs.declared.outbound.Outbound.TheVariants as market
+use Rattle.ouch_codec.specs.declared.outbound.replaced.Replaced.{Replaced}
+use Rattle.ouch_codec.specs.declared.order_state.OrderState.{OrderState}
 use Rattle.order_law.specs.Messages.{Message, is, text}
-use Rattle.order_law.specs.Life.{Life, after, is_closed, is_dead_state, is_live, is_type, is_waiting}
+use Rattle.order_law.specs.Life.{Life, after, is_closed, is_dead, is_live, is_waiting}
 use Rattle.order_law.specs.Reading.{Fill, is_report}
 use Rattle.order_law.specs.Chain.{is_used}
 use Rattle.order_law.specs.Verdicts.{is_replace}
 use Rattle.order_law.specs.History.{Entry}
 use Rattle.order_law.specs.Told as told
-use Rattle.order_law.specs.Told.{Occasion, Shown, report, told_by_type}
+use Rattle.order_law.specs.Told.{Occasion, Shown, report, told_by}
 use Rattle.order_law.specs.Headline.{Each}
 use Rattle.order_histories.proofs.Texts.{eq-is, or-true}
 use Rattle.order_histories.proofs.Lists.{Each-filter}
@@ -67,34 +70,36 @@ module _ (P : List ℕ → Type 0) where
   append-ids [] ys x y = y
   append-ids (r ∷ xs) ys x y = (x.0, append-ids xs ys x.1 y)
 
-  dead-ids : (n : ℕ) (m : List ℕ) (s : Shown) (alive : List Message) → OfShown s → Each HasId alive → Each HasId (told.where_dead n m s alive)
-  dead-ids n m s alive of each = if-ids (is_dead_state m) (told.cancelled n None (told.closed s)) alive (cancelled-ids n None (told.closed s) of) each
+  dead-ids : (n : ℕ) (state : OrderState) (s : Shown) (alive : List Message) → OfShown s → Each HasId alive → Each HasId (told.where_dead n state s alive)
+  dead-ids n state s alive of each = if-ids (is_dead state) (told.cancelled n None (told.closed s)) alive (cancelled-ids n None (told.closed s) of) each
 
   found-of : (p : Entry → Bool) (qs : List Entry) (q : Entry) → find p qs ≡ Some q → Each OfRequest qs → OfRequest q
   found-of p qs q e each = Rattle.order_histories.proofs.Finding.Each-found OfRequest p qs q each e
 
-  replaced-ids : (reports : ℕ) (m : List ℕ) (is_last : Bool) (s : Shown) → OfShown s → Each HasId (told.told_replaced reports m is_last s)
-  replaced-ids reports m is_last s of = by_request (find (told.has_token (heard.token m)) s.pending) refl
+  replaced-ids : (reports : ℕ) (m : Replaced) (is_last : Bool) (s : Shown) → OfShown s → Each HasId (told.told_replaced reports m is_last s)
+  replaced-ids reports m is_last s of = by_request (find (told.has_token m.token) s.pending) refl
     where
-      by_request : (x : Option Entry) → find (told.has_token (heard.token m)) s.pending ≡ x → Each HasId (told.told_replaced reports m is_last s)
+      by_request : (x : Option Entry) → find (told.has_token m.token) s.pending ≡ x → Each HasId (told.told_replaced reports m is_last s)
       by_request None e = rw e tt
       by_request (Some q) e =
-          let mine = found-of (told.has_token (heard.token m)) s.pending q e of.1 in
-          let rest : OfShown (told.renamed m q s) = (mine, Each-filter OfRequest (λ (x : Entry). Rattle.std.specs.Prelude.not (told.has_token (heard.token m) x)) s.pending of.1) in
-          rw e (mine, dead-ids (reports + 2) m (told.renamed m q s) (told.cancel_rejected is_last (told.renamed m q s)) rest (cancel_rejected-ids is_last (told.renamed m q s) rest))
+          let mine = found-of (told.has_token m.token) s.pending q e of.1 in
+          let rest : OfShown (told.renamed m q s) = (mine, Each-filter OfRequest (λ (x : Entry). Rattle.std.specs.Prelude.not (told.has_token m.token x)) s.pending of.1) in
+          rw e (mine, dead-ids (reports + 2) m.order_state (told.renamed m q s) (told.cancel_rejected is_last (told.renamed m q s)) rest (cancel_rejected-ids is_last (told.renamed m q s) rest))
 
-  pub told-ids : (reports : ℕ) (m : List ℕ) (l : Life) (is_last : Bool) (fills : List Fill) (s : Shown) → OfShown s → Each HasId (told_by_type reports m l is_last fills s)
-  told-ids reports m l is_last fills s of =
-      if-ids (is_type (codes "A") m) _ _ (of.0, dead-ids (reports + 2) m (told.opened m s) [] of tt)
-      (if-ids (is_type (codes "U") m) _ _ (replaced-ids reports m is_last s of)
-      (if-ids (is_type (codes "C") m) _ _ (if-ids (is_closed (after l m).stage) _ _ (cancelled-ids (reports + 1) (Some (heard.cancel_reason m ∷ [])) (told.lived (after l m) s) of) (of.0, tt))
-      (if-ids (is_type (codes "E") m) _ _ (of.0, if-ids (is_closed (after l m).stage) _ _ (too_late-ids (told.lived (after l m) s) s.pending of.1) tt)
-      (if-ids (is_type (codes "B") m) _ _ (of.0, tt)
-      (if-ids (is_type (codes "J") m) _ _
-      (if-ids (is_waiting l.stage && is_live l (heard.token m)) _ _ (of.0, too_late-ids (record (told.closed s) { is_refused = true }) s.pending of.1)
-      (append-ids _ _ (rejects-ids (told.without_replace (heard.token m) s) 2 (heard.reject_reason m ∷ []) (filter (told.has_token (heard.token m)) s.pending) (Each-filter OfRequest (told.has_token (heard.token m)) s.pending of.1))
-      (cancel_rejected-ids is_last (told.without_replace (heard.token m) s) (of.0, Each-filter OfRequest (λ (x : Entry). Rattle.std.specs.Prelude.not (told.has_token (heard.token m) x)) s.pending of.1))))
-      (if-ids (is_type (codes "I") m) _ _ (cancel_rejected-ids is_last s of) tt))))))
+  pub told-ids : (reports : ℕ) (m : Outbound) (l : Life) (is_last : Bool) (fills : List Fill) (s : Shown) → OfShown s → Each HasId (told_by reports m l is_last fills s)
+  told-ids reports (market.Accepted m) l is_last fills s of = (of.0, dead-ids (reports + 2) m.order_state (told.opened m.shares m.price s) [] of tt)
+  told-ids reports (market.Replaced m) l is_last fills s of = replaced-ids reports m is_last s of
+  told-ids reports (market.Canceled m) l is_last fills s of = if-ids (is_closed (after l (market.Canceled m)).stage) _ _ (cancelled-ids (reports + 1) (Some (m.reason ∷ [])) (told.lived (after l (market.Canceled m)) s) of) (of.0, tt)
+  told-ids reports (market.Executed m) l is_last fills s of = (of.0, if-ids (is_closed (after l (market.Executed m)).stage) _ _ (too_late-ids (told.lived (after l (market.Executed m)) s) s.pending of.1) tt)
+  told-ids reports (market.Broken m) l is_last fills s of = (of.0, tt)
+  told-ids reports (market.Rejected m) l is_last fills s of = 
+      if-ids (is_waiting l.stage && is_live l m.token) _ _ (of.0, too_late-ids (record (told.closed s) { is_refused = true }) s.pending of.1)
+      (append-ids _ _ (rejects-ids (told.without_replace m.token s) 2 (m.reason ∷ []) (filter (told.has_token m.token) s.pending) (Each-filter OfRequest (told.has_token m.token) s.pending of.1))
+      (cancel_rejected-ids is_last (told.without_replace m.token s) (of.0, Each-filter OfRequest (λ (x : Entry). Rattle.std.specs.Prelude.not (told.has_token m.token x)) s.pending of.1)))
+  told-ids reports (market.CancelReject m) l is_last fills s of = cancel_rejected-ids is_last s of
+  told-ids reports (market.CancelPending m) l is_last fills s of = tt
+  told-ids reports (market.SystemEvent m) l is_last fills s of = tt
+  told-ids reports market.Skipped l is_last fills s of = tt
 
 -- bodies with used ids use up nothing
 pub used-onto : (id : List ℕ) (rs sent : List Message) → Each (λ (r : Message). is_used (text 11 r) sent ≡ true) rs → is_used id (onto rs sent) ≡ is_used id sent
@@ -151,30 +156,29 @@ few-cancel_rejected n true s =
     (few-rejects n (told.without_cancel s) 2 (codes "cancel rejected by market") (filter told.is_cancel s.pending) [] (few-none n))
 few-cancel_rejected n false s = few-none n
 
-few-dead : (number : ℕ) (m : List ℕ) (s : Shown) (alive : List Message) → IsFew 1 alive → IsFew 1 (told.where_dead number m s alive)
-few-dead number m s alive few = few-if 1 (is_dead_state m) (told.cancelled number None (told.closed s)) alive (few-cancelled 0 number None (told.closed s)) few
+few-dead : (number : ℕ) (state : OrderState) (s : Shown) (alive : List Message) → IsFew 1 alive → IsFew 1 (told.where_dead number state s alive)
+few-dead number state s alive few = few-if 1 (is_dead state) (told.cancelled number None (told.closed s)) alive (few-cancelled 0 number None (told.closed s)) few
 
-few-replaced : (reports : ℕ) (m : List ℕ) (is_last : Bool) (s : Shown) → IsFew 2 (told.told_replaced reports m is_last s)
-few-replaced reports m is_last s = by_request (find (told.has_token (heard.token m)) s.pending) refl
+few-replaced : (reports : ℕ) (m : Replaced) (is_last : Bool) (s : Shown) → IsFew 2 (told.told_replaced reports m is_last s)
+few-replaced reports m is_last s = by_request (find (told.has_token m.token) s.pending) refl
   where
-    by_request : (x : Option Entry) → find (told.has_token (heard.token m)) s.pending ≡ x → IsFew 2 (told.told_replaced reports m is_last s)
+    by_request : (x : Option Entry) → find (told.has_token m.token) s.pending ≡ x → IsFew 2 (told.told_replaced reports m is_last s)
     by_request None e = rw e (few-none 2)
-    by_request (Some q) e = rw e (few-report (reports + 1) 1 (told.on_request (codes "5") q) (told.renamed m q s) (told.where_dead (reports + 2) m (told.renamed m q s) (told.cancel_rejected is_last (told.renamed m q s)))
-        (few-dead (reports + 2) m (told.renamed m q s) (told.cancel_rejected is_last (told.renamed m q s)) (few-cancel_rejected 1 is_last (told.renamed m q s))))
+    by_request (Some q) e = rw e (few-report (reports + 1) 1 (told.on_request (codes "5") q) (told.renamed m q s) (told.where_dead (reports + 2) m.order_state (told.renamed m q s) (told.cancel_rejected is_last (told.renamed m q s)))
+        (few-dead (reports + 2) m.order_state (told.renamed m q s) (told.cancel_rejected is_last (told.renamed m q s)) (few-cancel_rejected 1 is_last (told.renamed m q s))))
 
 -- at most two
-pub told-few : (reports : ℕ) (m : List ℕ) (l : Life) (is_last : Bool) (fills : List Fill) (s : Shown) → IsFew 2 (told_by_type reports m l is_last fills s)
-told-few reports m l is_last fills s =
-    few-if 2 (is_type (codes "A") m) _ _ (few-report (reports + 1) 1 (told.plain (codes "0")) (told.opened m s) (told.where_dead (reports + 2) m (told.opened m s) []) (few-dead (reports + 2) m (told.opened m s) [] (few-none 1)))
-    (few-if 2 (is_type (codes "U") m) _ _ (few-replaced reports m is_last s)
-    (few-if 2 (is_type (codes "C") m) _ _
-    (few-if 2 (is_closed (after l m).stage) _ _ (few-cancelled 1 (reports + 1) (Some (heard.cancel_reason m ∷ [])) (told.lived (after l m) s)) (few-report (reports + 1) 1 (record (told.plain (codes "D")) { restated = Some (codes "5"); why = Some (heard.cancel_reason m ∷ []) }) (told.lived (after l m) s) [] (few-none 1)))
-    (few-if 2 (is_type (codes "E") m) _ _
-    (few-report (reports + 1) 1 (record (told.plain (codes "F")) { shares = Some (heard.executed_shares m); at = Some (heard.executed_price m) }) (told.lived (after l m) s) (if is_closed (after l m).stage then told.too_late (told.lived (after l m) s) else []) (few-if 1 (is_closed (after l m).stage) (told.too_late (told.lived (after l m) s)) [] (few-too_late 1 (told.lived (after l m) s) s.pending) (few-none 1)))
-    (few-if 2 (is_type (codes "B") m) _ _
-    (few-report (reports + 1) 1 (record (told.plain (codes "H")) { broken = told.exec_id_of (heard.broken_match m) l.trades fills; why = Some (heard.broken_reason m ∷ []) }) (told.lived (after l m) s) [] (few-none 1))
-    (few-if 2 (is_type (codes "J") m) _ _
-    (few-if 2 (is_waiting l.stage && is_live l (heard.token m)) _ _
-    (few-report (reports + 1) 1 (record (told.plain (codes "8")) { code = Some (codes "99"); why = Some (heard.reject_reason m ∷ []) }) (record (told.closed s) { is_refused = true }) (told.too_late (record (told.closed s) { is_refused = true })) (few-too_late 1 (record (told.closed s) { is_refused = true }) s.pending))
-    (few-rejects 2 (told.without_replace (heard.token m) s) 2 (heard.reject_reason m ∷ []) (filter (told.has_token (heard.token m)) s.pending) (told.cancel_rejected is_last (told.without_replace (heard.token m) s)) (few-cancel_rejected 2 is_last (told.without_replace (heard.token m) s))))
-    (few-if 2 (is_type (codes "I") m) _ _ (few-cancel_rejected 2 is_last s) (few-none 2)))))))
+pub told-few : (reports : ℕ) (m : Outbound) (l : Life) (is_last : Bool) (fills : List Fill) (s : Shown) → IsFew 2 (told_by reports m l is_last fills s)
+told-few reports (market.Accepted m) l is_last fills s = few-report (reports + 1) 1 (told.plain (codes "0")) (told.opened m.shares m.price s) (told.where_dead (reports + 2) m.order_state (told.opened m.shares m.price s) []) (few-dead (reports + 2) m.order_state (told.opened m.shares m.price s) [] (few-none 1))
+told-few reports (market.Replaced m) l is_last fills s = few-replaced reports m is_last s
+told-few reports (market.Canceled m) l is_last fills s = few-if 2 (is_closed (after l (market.Canceled m)).stage) _ _ (few-cancelled 1 (reports + 1) (Some (m.reason ∷ [])) (told.lived (after l (market.Canceled m)) s)) (few-report (reports + 1) 1 (record (told.plain (codes "D")) { restated = Some (codes "5"); why = Some (m.reason ∷ []) }) (told.lived (after l (market.Canceled m)) s) [] (few-none 1))
+told-few reports (market.Executed m) l is_last fills s = few-report (reports + 1) 1 (record (told.plain (codes "F")) { shares = Some m.shares; at = Some m.price }) (told.lived (after l (market.Executed m)) s) (if is_closed (after l (market.Executed m)).stage then told.too_late (told.lived (after l (market.Executed m)) s) else []) (few-if 1 (is_closed (after l (market.Executed m)).stage) (told.too_late (told.lived (after l (market.Executed m)) s)) [] (few-too_late 1 (told.lived (after l (market.Executed m)) s) s.pending) (few-none 1))
+told-few reports (market.Broken m) l is_last fills s = few-report (reports + 1) 1 (record (told.plain (codes "H")) { broken = told.exec_id_of m.match_number l.trades fills; why = Some (m.reason ∷ []) }) (told.lived (after l (market.Broken m)) s) [] (few-none 1)
+told-few reports (market.Rejected m) l is_last fills s = 
+    few-if 2 (is_waiting l.stage && is_live l m.token) _ _
+    (few-report (reports + 1) 1 (record (told.plain (codes "8")) { code = Some (codes "99"); why = Some (m.reason ∷ []) }) (record (told.closed s) { is_refused = true }) (told.too_late (record (told.closed s) { is_refused = true })) (few-too_late 1 (record (told.closed s) { is_refused = true }) s.pending))
+    (few-rejects 2 (told.without_replace m.token s) 2 (m.reason ∷ []) (filter (told.has_token m.token) s.pending) (told.cancel_rejected is_last (told.without_replace m.token s)) (few-cancel_rejected 2 is_last (told.without_replace m.token s)))
+told-few reports (market.CancelReject m) l is_last fills s = few-cancel_rejected 2 is_last s
+told-few reports (market.CancelPending m) l is_last fills s = few-none 2
+told-few reports (market.SystemEvent m) l is_last fills s = few-none 2
+told-few reports market.Skipped l is_last fills s = few-none 2

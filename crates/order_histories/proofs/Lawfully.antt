@@ -1,17 +1,17 @@
 -- A lawful message on an order keeps what every told history keeps, and each order true.
-use Rattle.std.proofs.Common.{◌≡◌, ◌≢◌, ℕ, ◌+◌, ◌*◌, ◌<◌, ◌≤◌, ◌^◌, Bool, true, false, List, [], ◌∷◌, ◌++◌, length, map, reverse, refl, sym, ap, ◌∙◌, subst, arith, decimal, codes, bytes_eq, Option, Some, None, eqb-true, eq-eqb, ne_eqb}
+use Rattle.std.proofs.Common.{◌≡◌, ◌≢◌, ℕ, ◌+◌, ◌*◌, ◌<◌, ◌≤◌, ◌^◌, Bool, true, false, List, [], ◌∷◌, ◌++◌, length, map, reverse, refl, sym, ap, ◌∙◌, subst, arith, decimal, codes, bytes_eq, Option, Some, None, Ok, eqb-true, eq-eqb, ne_eqb}
 use Rattle.std.specs.Prelude.{◌&&◌, ◌||◌, ◌==◌, not, if◌then◌else◌, is_some}
 use Rattle.std.specs.List.{count_by, find, list_any}
 use Rattle.tokens.specs.TokenText.{token_text}
-use Rattle.ouch_codec.specs.FromMarket as heard
-use Rattle.ouch_codec.specs.Parts.{type_of}
+use Rattle.ouch_codec.specs.declared.outbound.Outbound.{Outbound}
+use Rattle.ouch_codec.specs.declared.outbound.Outbound.TheVariants as market
 use Rattle.order_law.specs.Messages.{Message, character, is}
-use Rattle.order_law.specs.Life.{Life, after, born, is_closed, is_type, life}
+use Rattle.order_law.specs.Life.{Life, after, born, is_closed, life}
 use Rattle.order_law.specs.Reading.{is_report}
 use Rattle.order_law.specs.Chain.{chain, is_used, orders}
 use Rattle.order_law.specs.History.{Asked, Entry, Heard, History, Terms, Turn, accepted, answers, given, handled, is_new_order, issued, life_of, new_of, numbered, outstanding, pending_tokens, terms_of, token_of}
 use Rattle.order_law.specs.Lawful.{has_token, judgement, order_of_token, order_token}
-use Rattle.order_law.specs.Told.{Told, answers_last_cancel, opens, price_after, reports_in, told, told_by_type, told_on, to_client_of}
+use Rattle.order_law.specs.Told.{Told, answers_last_cancel, price_after, priced, reports_in, told, told_by, told_on, to_client_of}
 use Rattle.order_law.specs.Headline.{Each, IsTrueToMarket, ReadsWell, old_ids}
 use Rattle.order_histories.specs.OrderRecord.{after_message, OrderRecord, asked_as, fill_of, lived, replacements, shown_as}
 use Rattle.order_histories.proofs.Texts.{and-parts, eq-decimal_other, eq-is, eq-other, eq-same, token-same}
@@ -23,11 +23,11 @@ use Rattle.order_histories.proofs.Addressed.{IsOn, on-others, onto-reverse, orde
 use Rattle.order_histories.proofs.Fits.{IsFound, IsHome, IsUsed, life-of, named, own, shown-is, tokens-are}
 use Rattle.std.proofs.Common.{ℕ}
 use Rattle.order_histories.proofs.Holds.{FitsIn, HasRecord, Holds, IsEntry, Keeps-more, Of-used, PassesOver, news, orders_of, port_of, true-of, each-find}
-use Rattle.order_histories.proofs.Untouched.{apart-home, other-untouched}
-use Rattle.order_histories.proofs.Judged.{IsLawful, accepted-shares, replaced-shares}
+use Rattle.order_histories.proofs.Untouched.{Other, apart-home, born-passes, other-untouched, tokens_in}
+use Rattle.order_histories.proofs.Judged.{IsLawful}
 use Rattle.order_histories.proofs.Row.{replacement-is, row-moves}
 use Rattle.order_histories.proofs.Hearing.{asked-as, asked-now, closed-asked, untouched-fits, heard_turn, numbered-heard}
-use Rattle.order_law.specs.Lawful.{replaced_may, row_holds, same_terms, works_as}
+use Rattle.order_law.specs.Lawful.{row_holds, same_terms, works_as}
 use Rattle.order_law.specs.Reading.{Reading, reading, Fill}
 use Rattle.order_law.specs.Told.{Shown, shown}
 use Rattle.order_law.specs.History.{is_cancel_said}
@@ -98,7 +98,7 @@ any-same : (P Q : Asked → Bool) (xs : List Asked) → ((a : Asked) → P a ≡
 any-same P Q [] same = refl
 any-same P Q (x ∷ xs) same = rw (same x, any-same P Q xs same) refl
 
-last-cancel : (k : List ℕ) (m : List ℕ) (asked : List Asked) → answers_last_cancel k m asked ≡ answers_last m (own k asked)
+last-cancel : (k : List ℕ) (m : Outbound) (asked : List Asked) → answers_last_cancel k m asked ≡ answers_last m (own k asked)
 last-cancel k m asked =
     let first = any-own (λ (a : Asked). is_cancel_said a.said) k asked in
     let second = any-same (λ (a : Asked). (bytes_eq a.order k && is_cancel_said a.said) && not (answers m a.said)) (λ (a : Asked). bytes_eq a.order k && (is_cancel_said a.said && not (answers m a.said))) asked (λ a. and-assoc (bytes_eq a.order k) (is_cancel_said a.said) (not (answers m a.said))) ∙ any-own (λ (a : Asked). is_cancel_said a.said && not (answers m a.said)) k asked in
@@ -133,13 +133,13 @@ told-issued new (r ∷ rs) client bodies e =
 
 -- ---- the turn
 
-module _ (terms : List Terms) (before : History) (port : ℕ) (m : List ℕ) (client : ℕ) (bodies : List Message) (sends : List (List ℕ)) (H : Holds terms before)
-    (no_t : is_type (codes "T") m ≡ false) (no_s : is_type (codes "S") m ≡ false) (judged : judgement terms port m before ≡ None)
-    (tells : told terms (Heard port m) before ≡ record { client = client; bodies = bodies })
-    (price_small : type_of m ≡ 69 → heard.executed_price m < 2 ^ 128) (short : length before < 2 ^ 59) (reports_small : reports_in before < 10 ^ 64)
-    (l : IsLawful terms port m before) (o : OrderRecord) (f : FitsIn terms before o) (own_port : port_of terms o.new ≡ port) (same_new : o.new ≡ l.new) where
+module _ (terms : List Terms) (before : History) (port : ℕ) (m : Outbound) (token : List ℕ) (client : ℕ) (bodies : List Message) (sends : List (List ℕ)) (H : Holds terms before)
+    (has : order_token m ≡ Some token) (judged : judgement terms port (Ok m) before ≡ None)
+    (tells : told terms (Heard port (Ok m)) before ≡ record { client = client; bodies = bodies })
+    (short : length before < 2 ^ 59) (reports_small : reports_in before < 10 ^ 64)
+    (l : IsLawful terms port m token before) (o : OrderRecord) (f : FitsIn terms before o) (own_port : port_of terms o.new ≡ port) (same_new : o.new ≡ l.new) where
   abbrev t : Turn
-  t = heard_turn port m client bodies sends None
+  t = heard_turn port (Ok m) client bodies sends None
 
   abbrev A : List Entry
   A = accepted terms before
@@ -154,27 +154,38 @@ module _ (terms : List Terms) (before : History) (port : ℕ) (m : List ℕ) (cl
       let tokens : pending_tokens o.new.client (chain o.new.order (issued o.new.client before)) A ≡ replacements o.replace = ap (λ (y : Rattle.order_law.specs.Chain.Chain). pending_tokens o.new.client y A) f.reads.chained_so ∙ tokens-are terms A (numbered before) (issued o.new.client before) (handled (port_of terms o.new) before) (outstanding terms (port_of terms o.new) before) (reports_in before) (1_000_000 * length before) o f in
       ap (λ (ts : List (List ℕ)). row_holds m (lived o) o.new ts) (sym tokens) ∙ second
 
-  -- the order that the message is on, by its own token
-  pub on' : order_of_token terms port A (heard.token m) ≡ Some o.new
-  on' = by_u (is_type (codes "U") m) refl
-    where
-      by_u : (b : Bool) → is_type (codes "U") m ≡ b → order_of_token terms port A (heard.token m) ≡ Some o.new
-      by_u false u =
-          let same : order_token m ≡ heard.token m = rw u refl in
-          ap (order_of_token terms port A) (sym same) ∙ l.on ∙ ap Some (sym same_new)
-      by_u true u =
-          let type : type_of m ≡ 85 = eqb-true (type_of m) 85 u in
-          let may : replaced_may m (lived o) o.new (replacements o.replace) ≡ true = rw type at row in
-          let parts = and-parts (works_as (lived o) (heard.previous_token m)) (list_any (bytes_eq (heard.token m)) (replacements o.replace) && same_terms m o.new) may in
-          let asked = replacement-is o.replace (heard.token m) (and-parts (list_any (bytes_eq (heard.token m)) (replacements o.replace)) (same_terms m o.new) parts.1).0 in
-          let home = (f.holds.replace asked.0 asked.1).0 in
-          ap (order_of_token terms port A) asked.2 ∙ subst (λ (p : ℕ). order_of_token terms p A (token_of asked.0) ≡ Some o.new) own_port home.mine
+  -- the order that the message is on
+  pub on' : order_of_token terms port A token ≡ Some o.new
+  on' = l.on ∙ ap Some (sym same_new)
 
-  own-token : IsToken terms before port (heard.token m) o.new
-  own-token = token-of terms before port (heard.token m) o.new H on'
+  abbrev Leads : List ℕ → Type 0
+  Leads x = order_of_token terms port A x ≡ Some o.new
+
+  -- each of its tokens leads to that order
+  on-all : Each Leads (tokens_in m)
+  on-all = by_message m has row
+    where
+      one : (x : List ℕ) → x ≡ token → Leads x
+      one x same = subst Leads (sym same) on'
+
+      by_message : (k : Outbound) → order_token k ≡ Some token → row_holds k (lived o) o.new (replacements o.replace) ≡ true → Each Leads (tokens_in k)
+      by_message (market.Replaced k) has may =
+          let parts = and-parts (works_as (lived o) k.previous_token) (list_any (bytes_eq k.token) (replacements o.replace) && same_terms k.side k.stock o.new) may in
+          let asked = replacement-is o.replace k.token (and-parts (list_any (bytes_eq k.token) (replacements o.replace)) (same_terms k.side k.stock o.new) parts.1).0 in
+          let home = (f.holds.replace asked.0 asked.1).0 in
+          (ap (order_of_token terms port A) asked.2 ∙ subst (λ (p : ℕ). order_of_token terms p A (token_of asked.0) ≡ Some o.new) own_port home.mine, (one k.previous_token (cc), tt))
+      by_message (market.Accepted k) has may = (one k.token (cc), tt)
+      by_message (market.Canceled k) has may = (one k.token (cc), tt)
+      by_message (market.Executed k) has may = (one k.token (cc), tt)
+      by_message (market.Broken k) has may = (one k.token (cc), tt)
+      by_message (market.Rejected k) has may = (one k.token (cc), tt)
+      by_message (market.CancelPending k) has may = (one k.token (cc), tt)
+      by_message (market.CancelReject k) has may = (one k.token (cc), tt)
+      by_message (market.SystemEvent k) has may = tt
+      by_message market.Skipped has may = tt
 
   abbrev pub B : List Message
-  B = told_by_type (reports_in before) m (lived o) (answers_last m (asked_as terms o)) (map fill_of o.trades) (shown_as o)
+  B = told_by (reports_in before) m (lived o) (answers_last m (asked_as terms o)) (map fill_of o.trades) (shown_as o)
 
   asked-own : answers_last_cancel o.new.order m (outstanding terms port before) ≡ answers_last m (asked_as terms o)
   asked-own = last-cancel o.new.order m (outstanding terms port before) ∙ ap (answers_last m) (subst (λ (p : ℕ). own o.new.order (outstanding terms p before) ≡ asked_as terms o) own_port f.asked_so)
@@ -185,17 +196,17 @@ module _ (terms : List Terms) (before : History) (port : ℕ) (m : List ℕ) (cl
   shown-own : shown terms before o.new ≡ shown_as o
   shown-own = shown-is terms before (numbered before) (outstanding terms (port_of terms o.new) before) (reports_in before) (1_000_000 * length before) o f
 
-  told-all : told_by_type (reports_in before) m (life_of o.new.order A (handled port before)) (answers_last_cancel o.new.order m (outstanding terms port before)) (reading o.new.order (issued o.new.client before)).fills (shown terms before o.new) ≡ B
+  told-all : told_by (reports_in before) m (life_of o.new.order A (handled port before)) (answers_last_cancel o.new.order m (outstanding terms port before)) (reading o.new.order (issued o.new.client before)).fills (shown terms before o.new) ≡ B
   told-all =
-      ap (λ (x : Life). told_by_type (reports_in before) m x (answers_last_cancel o.new.order m (outstanding terms port before)) (reading o.new.order (issued o.new.client before)).fills (shown terms before o.new)) lived-on
-      ∙ ap (λ (b : Bool). told_by_type (reports_in before) m (lived o) b (reading o.new.order (issued o.new.client before)).fills (shown terms before o.new)) asked-own
-      ∙ ap (λ (fs : List Fill). told_by_type (reports_in before) m (lived o) (answers_last m (asked_as terms o)) fs (shown terms before o.new)) fills-own
-      ∙ ap (λ (s : Shown). told_by_type (reports_in before) m (lived o) (answers_last m (asked_as terms o)) (map fill_of o.trades) s) shown-own
+      ap (λ (x : Life). told_by (reports_in before) m x (answers_last_cancel o.new.order m (outstanding terms port before)) (reading o.new.order (issued o.new.client before)).fills (shown terms before o.new)) lived-on
+      ∙ ap (λ (b : Bool). told_by (reports_in before) m (lived o) b (reading o.new.order (issued o.new.client before)).fills (shown terms before o.new)) asked-own
+      ∙ ap (λ (fs : List Fill). told_by (reports_in before) m (lived o) (answers_last m (asked_as terms o)) fs (shown terms before o.new)) fills-own
+      ∙ ap (λ (s : Shown). told_by (reports_in before) m (lived o) (answers_last m (asked_as terms o)) (map fill_of o.trades) s) shown-own
 
   pub told-to : to_client_of o.new B ≡ record { client = client; bodies = bodies }
   told-to =
-      let on_order : told_on terms port m before (order_of_token terms port A (heard.token m)) ≡ to_client_of o.new B = ap (told_on terms port m before) on' ∙ ap (to_client_of o.new) told-all in
-      let by_row : told terms (Heard port m) before ≡ told_on terms port m before (order_of_token terms port A (heard.token m)) = rw (judged, no_t, no_s) refl in
+      let on_order : told_on terms port m before (order_of_token terms port A token) ≡ to_client_of o.new B = ap (told_on terms port m before) on' ∙ ap (to_client_of o.new) told-all in
+      let by_row : told terms (Heard port (Ok m)) before ≡ told_on terms port m before (order_of_token terms port A token) = rw (judged, has) refl in
       sym on_order ∙ sym by_row ∙ tells
 
   said : IsIssued o.new bodies B client
@@ -222,15 +233,15 @@ module _ (terms : List Terms) (before : History) (port : ℕ) (m : List ℕ) (cl
   next = after_message (reports_in before) m o
 
   moves : MovesTo next
-  moves = row-moves Homes (IsFound A o.new) (IsUsed (issued o.new.client before)) terms (old_ids o.new.client A) (issued o.new.client before) (reports_in before) (1_000_000 * length before) m o
-      (λ type. omega (arith, accepted-shares terms port m before type l)) (λ type. omega (arith, replaced-shares terms port m before type l)) price_small reports_small (omega arith) row f.keeps
-      (named terms A (numbered before) (issued o.new.client before) (handled (port_of terms o.new) before) (outstanding terms (port_of terms o.new) before) (reports_in before) (1_000_000 * length before) o f) f.reads
+  moves = row-moves Homes (IsFound A o.new) (IsUsed (issued o.new.client before)) terms (old_ids o.new.client A) (issued o.new.client before) (reports_in before) (1_000_000 * length before) o
+      reports_small (omega arith) f.keeps
+      (named terms A (numbered before) (issued o.new.client before) (handled (port_of terms o.new) before) (outstanding terms (port_of terms o.new) before) (reports_in before) (1_000_000 * length before) o f) f.reads m row
 
   handled-own : handled (port_of terms o.new) (t ∷ before) ≡ m ∷ handled (port_of terms o.new) before
   handled-own = rw (eq-eqb port (port_of terms o.new) (sym own_port)) refl
 
   count-same : numbered (t ∷ before) ≡ 0 + numbered before
-  count-same = numbered-heard port m client bodies sends None before
+  count-same = numbered-heard port (Ok m) client bodies sends None before
 
   module _ (q : OrderRecord) (M : MovesTo (record q { new = o.new })) where
     abbrev p : OrderRecord
@@ -250,8 +261,8 @@ module _ (terms : List Terms) (before : History) (port : ℕ) (m : List ℕ) (cl
       reads = subst (λ (xs : List Message). Reads xs p) (sym issued-mine) M.leads.reads;
       lives = ap (life (token_of o.new) (character 54 o.new.message)) handled-own ∙ ap (λ (x : Life). after x m) f.lives ∙ M.lives;
       priced = ap (price_after o.new A) handled-own
-          ∙ ap (λ (x : Life). if opens x m then heard.price m else price_after o.new A (handled (port_of terms o.new) before)) (life-of terms A (numbered before) (issued o.new.client before) (handled (port_of terms o.new) before) (outstanding terms (port_of terms o.new) before) (reports_in before) (1_000_000 * length before) o f)
-          ∙ ap (λ (n : ℕ). if opens (lived o) m then heard.price m else n) f.priced ∙ M.price;
+          ∙ ap (λ (x : Life). priced m x (price_after o.new A (handled (port_of terms o.new) before))) (life-of terms A (numbered before) (issued o.new.client before) (handled (port_of terms o.new) before) (outstanding terms (port_of terms o.new) before) (reports_in before) (1_000_000 * length before) o f)
+          ∙ ap (λ (n : ℕ). priced m (lived o) n) f.priced ∙ M.price;
       asked_so = asked-as terms before port m client bodies sends H o p (port_of terms o.new) f.asked_so life-now (λ e. closed-asked terms (reports_in (t ∷ before)) (1_000_000 * length (t ∷ before)) p keeps-now e) M.asked;
       keeps = keeps-now;
       holds = Of-used Homes (IsFound A o.new) (IsUsed (issued o.new.client before)) (IsUsed (issued o.new.client (t ∷ before))) p
@@ -270,9 +281,6 @@ module _ (terms : List Terms) (before : History) (port : ℕ) (m : List ℕ) (cl
     own-well = subst (λ (xs : List Message). ReadsWell o.new.order o.new.message (old_ids o.new.client A) (issued o.new.client before) xs) (sym said.all) M.leads.well
 
   -- ---- other orders
-
-  previous-on : is_type (codes "U") m ≡ true → order_of_token terms port A (heard.previous_token m) ≡ Some o.new
-  previous-on u = let same : order_token m ≡ heard.previous_token m = rw u refl in ap (order_of_token terms port A) (sym same) ∙ l.on ∙ ap Some (sym same_new)
 
   -- what holds of a client's list and stays so with bodies on this order holds after the turn
   issued-keeps : (P : List Message → Type 0) (c : ℕ) (k : List ℕ) → bytes_eq o.new.order k ≡ false → ((r : Message) (xs : List Message) → is 37 k r ≡ false → P xs → P (r ∷ xs)) → P (issued c before) → P (issued c (t ∷ before))
@@ -293,7 +301,8 @@ module _ (terms : List Terms) (before : History) (port : ℕ) (m : List ℕ) (cl
 
     pub other-fits : FitsIn terms (t ∷ before) x
     other-fits = untouched-fits terms before port m client bodies sends H x g
-        (other-untouched terms A (issued x.new.client before) m x g.holds g.keeps.first g.keeps.left (apart-home terms A port (heard.token m) o.new x.new on' apart) (λ u. apart-home terms A port (heard.previous_token m) o.new x.new (previous-on u) apart))
+        (other-untouched terms A (issued x.new.client before) x g.holds g.keeps.first g.keeps.left m
+        (λ y home. Each-map Leads (λ (own_token : List ℕ). bytes_eq own_token y ≡ false) (tokens_in m) (λ own_token on. apart-home terms A port own_token o.new x.new on apart y home) on-all))
         other-reads other-used
 
     other-well : ReadsWell x.new.order x.new.message (old_ids x.new.client (accepted terms (t ∷ before))) (issued x.new.client before) bodies
@@ -307,46 +316,15 @@ module _ (terms : List Terms) (before : History) (port : ℕ) (m : List ℕ) (cl
   fresh-token : (n : ℕ) → given A < n → n ≤ 9_999_999_999_999 → (token : List ℕ) → IsToken terms before port token o.new → bytes_eq token (token_text n) ≡ false
   fresh-token n above most token k = eq-other token (token_text n) (λ same. (let alike : k.number ≡ n = token-same k.number n (omega (arith, k.is_given, H.short)) most (sym k.is_text ∙ same) in omega (arith, alike, k.is_given, above)))
 
-  born-on : (n side : ℕ) → given A < n → n ≤ 9_999_999_999_999 → after (born (token_text n) side) m ≡ born (token_text n) side
-  born-on n side above most = by_u (is_type (codes "U") m) refl
-    where
-      own_off : bytes_eq (heard.token m) (token_text n) ≡ false
-      own_off = fresh-token n above most (heard.token m) own-token
-
-      both : {X : Type 0} (b : Bool) (y z w : X) → y ≡ w → z ≡ w → (if b then y else z) ≡ w
-      both true y z w e e' = e
-      both false y z w e e' = e'
-
-      by_u : (b : Bool) → is_type (codes "U") m ≡ b → after (born (token_text n) side) m ≡ born (token_text n) side
-      by_u true u =
-          let type : type_of m ≡ 85 = eqb-true (type_of m) 85 u in
-          let off = fresh-token n above most (heard.previous_token m) (token-of terms before port (heard.previous_token m) o.new H (previous-on u)) in
-          rw (type, off) refl
-      by_u false u =
-          rw (u, own_off) (both (is_type (codes "A") m) _ _ (born (token_text n) side) refl
-          (both (is_type (codes "E") m) _ _ (born (token_text n) side) refl
-          (both (is_type (codes "C") m) _ _ (born (token_text n) side) refl
-          (both (is_type (codes "B") m) _ _ (born (token_text n) side) refl
-          (both (is_type (codes "J") m) _ _ (born (token_text n) side) refl refl)))))
-
-  opens-none : (n side : ℕ) → given A < n → n ≤ 9_999_999_999_999 → opens (born (token_text n) side) m ≡ false
-  opens-none n side above most = by_u (is_type (codes "U") m) refl
-    where
-      own_off : bytes_eq (heard.token m) (token_text n) ≡ false
-      own_off = fresh-token n above most (heard.token m) own-token
-
-      by_u : (b : Bool) → is_type (codes "U") m ≡ b → opens (born (token_text n) side) m ≡ false
-      by_u true u =
-          let type : type_of m ≡ 85 = eqb-true (type_of m) 85 u in
-          let off = fresh-token n above most (heard.previous_token m) (token-of terms before port (heard.previous_token m) o.new H (previous-on u)) in
-          rw (type, off) refl
-      by_u false u = rw (u, own_off, Rattle.order_histories.proofs.Texts.and-false (is_type (codes "A") m)) refl
+  born-on : (n side : ℕ) → given A < n → n ≤ 9_999_999_999_999 → PassesOver (token_text n) side m
+  born-on n side above most = born-passes m (token_text n) side
+      (Each-map Leads (λ (own_token : List ℕ). bytes_eq own_token (token_text n) ≡ false) (tokens_in m) (λ own_token on. fresh-token n above most own_token (token-of terms before port own_token o.new H on)) on-all)
 
   still-unheard : (n p side : ℕ) → given A < n → n ≤ 9_999_999_999_999 → Each (PassesOver (token_text n) side) (handled p (t ∷ before))
   still-unheard n p side above most = by_port (port == p)
     where
       by_port : (b : Bool) → Each (PassesOver (token_text n) side) (if b && true then m ∷ handled p before else handled p before)
-      by_port true = ((born-on n side above most, opens-none n side above most), H.unheard n p side above most)
+      by_port true = (born-on n side above most, H.unheard n p side above most)
       by_port false = H.unheard n p side above most
 
   still-unasked : (n p : ℕ) → numbered before < n → n < 10 ^ 64 → own (decimal n) (outstanding terms p (t ∷ before)) ≡ []

@@ -1,20 +1,18 @@
 -- The table of orders is as the lists of a history have it: whatever is looked up in it is what the lists say.
-use Rattle.std.proofs.Common.{◌≡◌, ℕ, ◌+◌, ◌*◌, ◌≤◌, Bool, true, false, List, [], ◌∷◌, length, map, refl, sym, ap, ◌∙◌, subst, arith, bytes_eq, codes, Option, Some, None, eqb-true}
+use Rattle.std.proofs.Common.{◌≡◌, ℕ, ◌+◌, ◌*◌, ◌≤◌, Bool, true, false, List, [], ◌∷◌, length, map, refl, sym, ap, ◌∙◌, subst, arith, bytes_eq, codes, Option, Some, None, Result, Ok, Err, eqb-true}
 use Rattle.std.specs.Prelude.{◌&&◌, ◌==◌, not, if◌then◌else◌, is_some, filter, option_and_then, option_map}
 use Rattle.std.specs.List.{count_by, find}
 use Rattle.order_law.specs.Messages.{Message, text}
 use Rattle.order_law.specs.Asks.{capacity_of}
-use Rattle.ouch_codec.specs.declared.layout.Kind.{Kind}
-use Rattle.ouch_codec.specs.Layout.{is_message}
-use Rattle.ouch_codec.specs.Decoding.{layout_in, outbound_layouts}
-use Rattle.ouch_codec.specs.Parts.{type_of}
-use Rattle.ouch_codec.specs.FromMarket as heard
-use Rattle.order_law.specs.Life.{is_closed, is_type}
+use Rattle.ouch_codec.specs.declared.outbound.Outbound.{Outbound}
+use Rattle.ouch_codec.specs.declared.outbound.Outbound.TheVariants as market
+use Rattle.ouch_codec.specs.declared.refusal.DecodeRefusal.{DecodeRefusal}
+use Rattle.order_law.specs.Life.{is_closed}
 use Rattle.order_law.specs.Reading.{Reading, reading}
 use Rattle.order_law.specs.Chain.{Chain, chain, goes_by, is_used, named, orders}
 use Rattle.order_law.specs.Verdicts.{Named, Port, Verdict, first_row, is_replace, open_orders, rows_of_new, rows_of_request}
 use Rattle.order_law.specs.History.{Entry, History, Terms, accepted, given, handled, is_new_order, issued, life_of, new_of, numbered, pending_tokens, standing_of, terms_of, token_of, verdict}
-use Rattle.order_law.specs.Lawful.{bytes_fault, has_token, is_lawful_on, judged_by, judged_bytes, judged_on, judged_tokens, judgement, order_of_token, order_token, row_holds, token_fault}
+use Rattle.order_law.specs.Lawful.{has_token, is_lawful_on, judged, judged_by, judged_on, judgement, order_of_token, row_holds, token_fault}
 use Rattle.order_law.specs.Told.{reports_in}
 use Rattle.order_law.specs.Headline.{Each}
 use Rattle.order_histories.specs.OrderRecord.{OrderRecord, chained, lived, read, replacements}
@@ -207,23 +205,29 @@ module _ (terms : List Terms) (h : History) (s : State) (t : IsTable terms h s) 
           ∙ ap (λ (x : Option Named). first_row (rows_of_request (is_used (text 11 m) (issued c h)) x port (length s.tokens) m)) (sym (named-so c (text 41 m)))
           ∙ ap (λ n. first_row (rows_of_request (is_used (text 11 m) (issued c h)) (option_and_then (standing_of terms (issued c h) A) (named (text 41 m) (issued c h))) port n m)) given-tokens
 
--- a payload is judged by what its tokens lead to
-module _ (f g : List ℕ → Option Bool) (m : List ℕ) (same : (token : List ℕ) → f token ≡ g token) where
-  judged_tokens-same : judged_tokens f m ≡ judged_tokens g m
-  judged_tokens-same =
-      ap (λ (x : Option Bool). if is_some x then judged_on (f (order_token m)) else Some token_fault) (same (heard.token m))
-      ∙ ap (λ (x : Option Bool). if is_some (g (heard.token m)) then judged_on x else Some token_fault) (same (order_token m))
+-- a message is judged by what its tokens lead to
+module _ (f g : Outbound → List ℕ → Option Bool) (same : (m : Outbound) (token : List ℕ) → f m token ≡ g m token) where
+  judged-same : (m : Outbound) → judged (f m) m ≡ judged (g m) m
+  judged-same (market.Replaced m) =
+      ap (λ (x : Option Bool). if is_some x then judged_on (f (market.Replaced m) m.previous_token) else Some token_fault) (same (market.Replaced m) m.token)
+      ∙ ap (λ (x : Option Bool). if is_some (g (market.Replaced m) m.token) then judged_on x else Some token_fault) (same (market.Replaced m) m.previous_token)
+  judged-same (market.Accepted m) = ap judged_on (same (market.Accepted m) m.token)
+  judged-same (market.Canceled m) = ap judged_on (same (market.Canceled m) m.token)
+  judged-same (market.Executed m) = ap judged_on (same (market.Executed m) m.token)
+  judged-same (market.Broken m) = ap judged_on (same (market.Broken m) m.token)
+  judged-same (market.Rejected m) = ap judged_on (same (market.Rejected m) m.token)
+  judged-same (market.CancelPending m) = ap judged_on (same (market.CancelPending m) m.token)
+  judged-same (market.CancelReject m) = ap judged_on (same (market.CancelReject m) m.token)
+  judged-same (market.SystemEvent m) = refl
+  judged-same market.Skipped = refl
 
-  judged_bytes-same : (x : Option (List Kind)) → judged_bytes f m x ≡ judged_bytes g m x
-  judged_bytes-same None = refl
-  judged_bytes-same (Some layout) = ap (λ (y : Option ℕ). if not (is_message layout m) then Some bytes_fault else (if is_type (codes "S") m then None else y)) judged_tokens-same
-
-  judged-same : judged_by f m ≡ judged_by g m
-  judged-same = ap (λ (y : Option ℕ). if length m == 0 then Some bytes_fault else (if is_type (codes "T") m then None else y)) (judged_bytes-same (layout_in outbound_layouts (type_of m)))
+  judged_by-same : (heard : Result Outbound DecodeRefusal) → judged_by f heard ≡ judged_by g heard
+  judged_by-same (Ok m) = judged-same m
+  judged_by-same (Err refusal) = refl
 
 -- ---- the fault of a payload
 
-module _ (terms : List Terms) (h : History) (s : State) (t : IsTable terms h s) (port : ℕ) (m : List ℕ) where
+module _ (terms : List Terms) (h : History) (s : State) (t : IsTable terms h s) (port : ℕ) (m : Outbound) where
   abbrev E : List Entry
   E = accepted terms h
 
@@ -252,12 +256,12 @@ module _ (terms : List Terms) (h : History) (s : State) (t : IsTable terms h s) 
   abbrev row_of : Entry → Bool
   row_of new = row_holds m (life_of new.order E (handled port h)) new (pending_tokens new.client (chain new.order (issued new.client h)) E)
 
-  lawful-same : (token : List ℕ) → is_lawful_in s port m token ≡ is_lawful_on terms port m h token
+  lawful-same : (token : List ℕ) → is_lawful_in s port m token ≡ is_lawful_on terms port h m token
   lawful-same token = by_order (by_token s port token) refl ∙ ap (option_map row_of) (token-leads terms h s t port token)
     where
       by_order : (x : Option OrderRecord) → by_token s port token ≡ x → option_map (λ (o : OrderRecord). row_holds m (lived o) o.new (replacements o.replace)) x ≡ option_map row_of (option_map (λ (o : OrderRecord). o.new) x)
       by_order None e = refl
       by_order (Some o) e = ap Some (sym (row-same o (token-fits token o e) (token-port token o e)))
 
-  pub fault-same : fault_in s port m ≡ judgement terms port m h
-  fault-same = judged-same (is_lawful_in s port m) (is_lawful_on terms port m h) m lawful-same
+pub fault-same : (terms : List Terms) (h : History) (s : State) → IsTable terms h s → (port : ℕ) (heard : Result Outbound DecodeRefusal) → fault_in s port heard ≡ judgement terms port heard h
+fault-same terms h s t port heard = judged_by-same (is_lawful_in s port) (is_lawful_on terms port h) (lawful-same terms h s t port) heard

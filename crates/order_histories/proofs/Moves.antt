@@ -2,13 +2,14 @@
 use Rattle.std.proofs.Common.{◌≡◌, ◌≢◌, ℕ, ◌+◌, ◌-◌, ◌≤◌, Bool, true, false, List, [], ◌∷◌, map, refl, sym, ap, ◌∙◌, subst, Option, Some, None}
 use Rattle.std.specs.Prelude.{◌&&◌, not, if◌then◌else◌, filter}
 use Rattle.std.specs.List.{count_by, list_any}
-use Rattle.ouch_codec.specs.FromMarket as heard
+use Rattle.ouch_codec.specs.declared.outbound.Outbound.{Outbound}
+use Rattle.ouch_codec.specs.declared.outbound.Outbound.TheVariants as market
 use Rattle.order_law.specs.declared.stage.Stage.TheVariants.{Waiting, Closed}
 use Rattle.order_law.specs.Messages.{Message, text}
 use Rattle.order_law.specs.Life.{after, first_token, is_closed}
 use Rattle.order_law.specs.Reading.{is_report}
 use Rattle.order_law.specs.History.{Asked, Entry, SaysCancel, Terms, answers, is_cancel_said, token_of}
-use Rattle.order_law.specs.Told.{opens, told_by_type}
+use Rattle.order_law.specs.Told.{priced, told_by}
 use Rattle.order_law.specs.Headline.{Each}
 use Rattle.order_histories.specs.OrderRecord.{Cancelling, OrderRecord, ToldTrade, asked_as, cancel_of, fill_of, kept, leaves, live_token, lived, shown_as}
 use Rattle.order_histories.proofs.Due.{IsSound}
@@ -35,12 +36,12 @@ pub record Keeps (reports limit : ℕ) (o : OrderRecord) : Type 0 where
   pub numbered : AreNumbered reports o.trades
 
 -- a message answers the last Cancel Order of what is asked for an order
-abbrev pub answers_last : List ℕ → List Asked → Bool
+abbrev pub answers_last : Outbound → List Asked → Bool
 answers_last m asked =
     list_any (λ (a : Asked). is_cancel_said a.said) asked
     && not (list_any (λ (a : Asked). is_cancel_said a.said && not (answers m a.said)) asked)
 
-abbrev pub unanswered : List ℕ → List Asked → List Asked
+abbrev pub unanswered : Outbound → List Asked → List Asked
 unanswered m asked = filter (λ (a : Asked). not (answers m a.said)) asked
 
 -- what is said of each token of an order, of each pending request and of each id that it goes by
@@ -62,14 +63,14 @@ Of-unasked P Q R o p same same_id no_r no_c k = record {
 }
 
 -- a message makes this of an order
-pub record Moves (P : List ℕ → Type 0) (Q : Entry → Type 0) (R : List ℕ → Type 0) (terms : List Terms) (old_id : List ℕ → List ℕ) (sent : List Message) (reports limit more : ℕ) (m : List ℕ) (o p : OrderRecord) : Type 0 where
+pub record Moves (P : List ℕ → Type 0) (Q : Entry → Type 0) (R : List ℕ → Type 0) (terms : List Terms) (old_id : List ℕ → List ℕ) (sent : List Message) (reports limit more : ℕ) (m : Outbound) (o p : OrderRecord) : Type 0 where
   pub same : p.new ≡ o.new
   pub kept : Of P Q R o → Of P Q R p
   pub lives : after (lived o) m ≡ lived p
-  pub leads : Leads o.new old_id sent (told_by_type reports m (lived o) (answers_last m (asked_as terms o)) (map fill_of o.trades) (shown_as o)) p
+  pub leads : Leads o.new old_id sent (told_by reports m (lived o) (answers_last m (asked_as terms o)) (map fill_of o.trades) (shown_as o)) p
   pub asked : is_closed p.stage ≡ false → unanswered m (asked_as terms o) ≡ asked_as terms p
-  pub price : (if opens (lived o) m then heard.price m else o.price) ≡ p.price
-  pub keeps : (after : ℕ) → count_by is_report (told_by_type reports m (lived o) (answers_last m (asked_as terms o)) (map fill_of o.trades) (shown_as o)) + reports ≤ after → Keeps after (limit + more) p
+  pub price : priced m (lived o) o.price ≡ p.price
+  pub keeps : (after : ℕ) → count_by is_report (told_by reports m (lived o) (answers_last m (asked_as terms o)) (map fill_of o.trades) (shown_as o)) + reports ≤ after → Keeps after (limit + more) p
 
 -- ---- what is asked
 
@@ -77,7 +78,7 @@ pub filter-all : {A : Type 0} (xs : List A) → filter (λ (x : A). true) xs ≡
 filter-all [] = refl
 filter-all (x ∷ xs) = ap (λ ys. x ∷ ys) (filter-all xs)
 
-pub unanswered-cancels : (m : List ℕ) (new q : Entry) (tokens : List (List ℕ)) → unanswered m (map (λ token. cancel_of new q token) tokens) ≡ map (λ token. cancel_of new q token) (kept m tokens)
+pub unanswered-cancels : (m : Outbound) (new q : Entry) (tokens : List (List ℕ)) → unanswered m (map (λ token. cancel_of new q token) tokens) ≡ map (λ token. cancel_of new q token) (kept m tokens)
 unanswered-cancels m new q [] = refl
 unanswered-cancels m new q (token ∷ tokens) = by_test (answers m (SaysCancel token)) (unanswered-cancels m new q tokens)
   where

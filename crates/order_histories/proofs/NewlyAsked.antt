@@ -2,6 +2,7 @@
 use Rattle.std.proofs.Common.{◌≡◌, ℕ, ◌+◌, Bool, true, false, List, [], ◌∷◌, ◌++◌, map, refl, sym, ap, ◌∙◌, subst, decimal, bytes_eq, Option, Some, None, eqb-true}
 use Rattle.std.specs.Prelude.{◌==◌, ◌&&◌, if◌then◌else◌, option_to_list}
 use Rattle.std.specs.List.{find}
+use Rattle.ouch_codec.specs.declared.outbound.Outbound.{Outbound}
 use Rattle.order_law.specs.Messages.{Message}
 use Rattle.order_law.specs.Life.{live}
 use Rattle.order_law.specs.Chain.{chain}
@@ -32,7 +33,7 @@ each-image : {A B : Type 0} (P : B → Type 0) (f : A → B) → ((x : A) → P 
 each-image P f p [] = tt
 each-image P f p (x ∷ xs) = (p x, each-image P f p xs)
 
-pub asks-own : (terms : List Terms) (e : Entry) (entries : List Entry) (sent : List Message) (messages : List (List ℕ)) → Each (λ (a : Asked). a.order ≡ e.order) (asks terms e entries sent messages)
+pub asks-own : (terms : List Terms) (e : Entry) (entries : List Entry) (sent : List Message) (messages : List Outbound) → Each (λ (a : Asked). a.order ≡ e.order) (asks terms e entries sent messages)
 asks-own terms e entries sent messages =
     if-each (λ (a : Asked). a.order ≡ e.order) (is_new_order e.message) _ _ (refl, tt)
     (if-each (λ (a : Asked). a.order ≡ e.order) (is_replace e.message) _ _ (refl, tt)

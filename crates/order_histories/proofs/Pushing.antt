@@ -3,6 +3,9 @@ use Rattle.std.proofs.Common.{◌≡◌, ◌≢◌, ℕ, ◌+◌, ◌*◌, ◌<�
 use Rattle.std.specs.Prelude.{◌&&◌, ◌==◌, if◌then◌else◌, is_some}
 use Rattle.std.specs.List.{find}
 use Rattle.tokens.specs.TokenText.{token_text}
+use Rattle.ouch_codec.specs.declared.outbound.Outbound.{Outbound}
+use Rattle.ouch_codec.specs.declared.outbound.Outbound.TheVariants as market
+use Rattle.ouch_codec.specs.declared.refusal.DecodeRefusal.{DecodeRefusal}
 use Rattle.order_law.specs.Messages.{Message, character, is}
 use Rattle.order_law.specs.Chain.{is_used}
 use Rattle.order_law.specs.History.{Asked, Entry, History, Terms, accepted, given, handled, is_new_order, issued, new_of, numbered, outstanding, terms_of, token_of}
@@ -106,7 +109,7 @@ module _ (terms : List Terms) (before : History) (en : Entry) (H : Holds terms b
   }
 
   -- the same messages came to the same price
-  pub price-kept : (new : Entry) → new_of new.order (en ∷ A) ≡ new_of new.order A → (ms : List (List ℕ)) → price_after new (en ∷ A) ms ≡ price_after new A ms
+  pub price-kept : (new : Entry) → new_of new.order (en ∷ A) ≡ new_of new.order A → (ms : List Outbound) → price_after new (en ∷ A) ms ≡ price_after new A ms
   price-kept new same [] = refl
   price-kept new same (m ∷ ms) = rw (same, price-kept new same ms) refl
 

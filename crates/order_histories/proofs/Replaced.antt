@@ -2,16 +2,18 @@
 use Rattle.std.proofs.Common.{◌≡◌, ◌≢◌, ℕ, ◌+◌, ◌<◌, ◌≤◌, ◌^◌, Bool, true, false, List, [], ◌∷◌, ◌++◌, map, refl, sym, ap, ◌∙◌, subst, arith, codes, bytes_eq, Option, Some, None}
 use Rattle.std.specs.Prelude.{◌&&◌, not, if◌then◌else◌, filter}
 use Rattle.std.specs.List.{find}
-use Rattle.ouch_codec.specs.Parts.{type_of}
-use Rattle.ouch_codec.specs.FromMarket as heard
+use Rattle.ouch_codec.specs.declared.outbound.Outbound.{Outbound}
+use Rattle.ouch_codec.specs.declared.outbound.Outbound.TheVariants as market
+use Rattle.ouch_codec.specs.declared.outbound.rejected.Rejected.{Rejected}
+use Rattle.ouch_codec.specs.declared.outbound.replaced.Replaced.{Replaced}
 use Rattle.order_law.specs.declared.stage.Stage.{Stage}
 use Rattle.order_law.specs.declared.stage.Stage.TheVariants.{Waiting, Working, Closed}
 use Rattle.order_law.specs.Messages.{Message, text}
-use Rattle.order_law.specs.Life.{Life, after, first_token, is_dead_state, is_live, is_waiting}
+use Rattle.order_law.specs.Life.{Life, after, first_token, is_dead, is_live, is_waiting}
 use Rattle.order_law.specs.Reading.{Fill}
 use Rattle.order_law.specs.Verdicts.{is_replace}
 use Rattle.order_law.specs.History.{Entry, Terms, token_of}
-use Rattle.order_law.specs.Told.{Occasion, Shown, answered_no, cancelled, cancel_rejected, on_request, opens, plain, report, told_by_type, too_late}
+use Rattle.order_law.specs.Told.{Occasion, Shown, answered_no, cancelled, cancel_rejected, on_request, priced, plain, report, told_by, too_late}
 use Rattle.order_law.specs.Told as told
 use Rattle.order_law.specs.Headline.{has_due_ids}
 use Rattle.order_histories.specs.OrderRecord.{Cancelling, OrderRecord, asked_as, at, cancel_asked, cancel_entry, chained, fill_of, gone, last_of, leaves, live_token, lived, new_asked, replace_asked, replaced, shown_as, still_cancelling, unasked}
@@ -33,123 +35,123 @@ with-replace o q is_q = ap (λ (r : Option Entry). at o r o.cancel) is_q
 
 -- ---- the row, step by step
 
-not_replaced-row : (reports : ℕ) (m : List ℕ) (l : Life) (last : Bool) (fills : List Fill) (s : Shown) → type_of m ≡ 74 → (is_waiting l.stage && is_live l (heard.token m)) ≡ false
-    → told_by_type reports m l last fills s ≡ told.told_not_replaced m last s
-not_replaced-row reports m l last fills s type off = rw (type, off) refl
+not_replaced-row : (reports : ℕ) (m : Rejected) (l : Life) (last : Bool) (fills : List Fill) (s : Shown) → (is_waiting l.stage && is_live l m.token) ≡ false
+    → told_by reports (market.Rejected m) l last fills s ≡ told.told_not_replaced m.token m.reason last s
+not_replaced-row reports m l last fills s off = rw off refl
 
-not_replaced-told : (m : List ℕ) (last : Bool) (s t : Shown) (q : Entry) → filter (told.has_token (heard.token m)) s.pending ≡ q ∷ [] → told.without_replace (heard.token m) s ≡ t
-    → told.told_not_replaced m last s ≡ answered_no t q 2 (heard.reject_reason m ∷ []) ∷ cancel_rejected last t
-not_replaced-told m last s t q one rest =
-    ap (λ (qs : List Entry). map (λ (x : Entry). answered_no (told.without_replace (heard.token m) s) x 2 (heard.reject_reason m ∷ [])) qs ++ cancel_rejected last (told.without_replace (heard.token m) s)) one
-    ∙ ap (λ (x : Shown). answered_no x q 2 (heard.reject_reason m ∷ []) ∷ cancel_rejected last x) rest
+not_replaced-told : (new_token : List ℕ) (why : ℕ) (last : Bool) (s t : Shown) (q : Entry) → filter (told.has_token (new_token)) s.pending ≡ q ∷ [] → told.without_replace (new_token) s ≡ t
+    → told.told_not_replaced new_token why last s ≡ answered_no t q 2 (why ∷ []) ∷ cancel_rejected last t
+not_replaced-told new_token why last s t q one rest =
+    ap (λ (qs : List Entry). map (λ (x : Entry). answered_no (told.without_replace (new_token) s) x 2 (why ∷ [])) qs ++ cancel_rejected last (told.without_replace (new_token) s)) one
+    ∙ ap (λ (x : Shown). answered_no x q 2 (why ∷ []) ∷ cancel_rejected last x) rest
 
-replaced-row : (reports : ℕ) (m : List ℕ) (l : Life) (last : Bool) (fills : List Fill) (s : Shown) → type_of m ≡ 85 → told_by_type reports m l last fills s ≡ told.told_replaced reports m last s
-replaced-row reports m l last fills s type = rw type refl
+replaced-row : (reports : ℕ) (m : Replaced) (l : Life) (last : Bool) (fills : List Fill) (s : Shown) → told_by reports (market.Replaced m) l last fills s ≡ told.told_replaced reports m last s
+replaced-row reports m l last fills s = refl
 
-replaced-told : (reports : ℕ) (m : List ℕ) (last : Bool) (s t : Shown) (q : Entry) → find (told.has_token (heard.token m)) s.pending ≡ Some q → told.renamed m q s ≡ t
-    → told.told_replaced reports m last s ≡ report (reports + 1) (on_request (codes "5") q) t ∷ told.where_dead (reports + 2) m t (cancel_rejected last t)
+replaced-told : (reports : ℕ) (m : Replaced) (last : Bool) (s t : Shown) (q : Entry) → find (told.has_token (m.token)) s.pending ≡ Some q → told.renamed m q s ≡ t
+    → told.told_replaced reports m last s ≡ report (reports + 1) (on_request (codes "5") q) t ∷ told.where_dead (reports + 2) m.order_state t (cancel_rejected last t)
 replaced-told reports m last s t q found is_t =
-    let first : told.told_replaced reports m last s ≡ report (reports + 1) (on_request (codes "5") q) (told.renamed m q s) ∷ told.where_dead (reports + 2) m (told.renamed m q s) (cancel_rejected last (told.renamed m q s)) = rw found refl in
-    first ∙ ap (λ (x : Shown). report (reports + 1) (on_request (codes "5") q) x ∷ told.where_dead (reports + 2) m x (cancel_rejected last x)) is_t
+    let first : told.told_replaced reports m last s ≡ report (reports + 1) (on_request (codes "5") q) (told.renamed m q s) ∷ told.where_dead (reports + 2) m.order_state (told.renamed m q s) (cancel_rejected last (told.renamed m q s)) = rw found refl in
+    first ∙ ap (λ (x : Shown). report (reports + 1) (on_request (codes "5") q) x ∷ told.where_dead (reports + 2) m.order_state x (cancel_rejected last x)) is_t
 
 -- the pending replace of a token, beside a pending cancel
-module _ (m : List ℕ) (q : Entry) (kind : is_replace q.message ≡ true) (token : heard.token m ≡ token_of q) where
-  own-token : told.has_token (heard.token m) q ≡ true
+module _ (new_token : List ℕ) (q : Entry) (kind : is_replace q.message ≡ true) (token : new_token ≡ token_of q) where
+  own-token : told.has_token (new_token) q ≡ true
   own-token = let own = eq-same (token_of q) in rw (kind, token, own) refl
 
-  other-token : (d : Cancelling) → is_replace d.request.message ≡ false → told.has_token (heard.token m) d.request ≡ false
+  other-token : (d : Cancelling) → is_replace d.request.message ≡ false → told.has_token (new_token) d.request ≡ false
   other-token d no_replace = rw no_replace refl
 
-  one-replace : (k : Option Cancelling) → ((d : Cancelling) → k ≡ Some d → is_replace d.request.message ≡ false) → filter (told.has_token (heard.token m)) (q ∷ cancel_entry k) ≡ q ∷ []
+  one-replace : (k : Option Cancelling) → ((d : Cancelling) → k ≡ Some d → is_replace d.request.message ≡ false) → filter (told.has_token (new_token)) (q ∷ cancel_entry k) ≡ q ∷ []
   one-replace None cancels = let own = own-token in rw own refl
   one-replace (Some d) cancels = let own = own-token in let other = other-token d (cancels d refl) in rw (own, other) refl
 
-  no-replace : (k : Option Cancelling) → ((d : Cancelling) → k ≡ Some d → is_replace d.request.message ≡ false) → filter (λ (x : Entry). not (told.has_token (heard.token m) x)) (q ∷ cancel_entry k) ≡ cancel_entry k
+  no-replace : (k : Option Cancelling) → ((d : Cancelling) → k ≡ Some d → is_replace d.request.message ≡ false) → filter (λ (x : Entry). not (told.has_token (new_token) x)) (q ∷ cancel_entry k) ≡ cancel_entry k
   no-replace None cancels = let own = own-token in rw own refl
   no-replace (Some d) cancels = let own = own-token in let other = other-token d (cancels d refl) in rw (own, other) refl
 
-  found-replace : (k : Option Cancelling) → find (told.has_token (heard.token m)) (q ∷ cancel_entry k) ≡ Some q
+  found-replace : (k : Option Cancelling) → find (told.has_token (new_token)) (q ∷ cancel_entry k) ≡ Some q
   found-replace k = let own = own-token in rw own refl
 
 -- ---- Rejected of a replace
 
-module _ (P : List ℕ → Type 0) (Q : Entry → Type 0) (R : List ℕ → Type 0) (terms : List Terms) (old_id : List ℕ → List ℕ) (sent : List Message) (reports limit more : ℕ) (m : List ℕ) (b : OrderRecord) (q : Entry) (c : Option Cancelling)
-    (type : type_of m ≡ 74) (still : b.stage ≢ Closed) (not_first : (is_waiting b.stage && is_live (lived b) (heard.token m)) ≡ false)
-    (token : heard.token m ≡ token_of q)
+module _ (P : List ℕ → Type 0) (Q : Entry → Type 0) (R : List ℕ → Type 0) (terms : List Terms) (old_id : List ℕ → List ℕ) (sent : List Message) (reports limit more : ℕ) (m : Rejected) (b : OrderRecord) (q : Entry) (c : Option Cancelling)
+    (still : b.stage ≢ Closed) (not_first : (is_waiting b.stage && is_live (lived b) m.token) ≡ false)
+    (token : m.token ≡ token_of q)
     (keeps : Keeps reports limit (at b (Some q) c)) (named : AreNamed old_id (at b (Some q) c)) (reads : Reads sent (at b (Some q) c)) where
   abbrev reason : List ℕ
-  reason = heard.reject_reason m ∷ []
+  reason = m.reason ∷ []
 
   abbrev o : OrderRecord
   o = at b (Some q) c
 
   abbrev p : OrderRecord
-  p = at b None (still_cancelling m c)
+  p = at b None (still_cancelling (market.Rejected m) c)
 
   kind : is_replace q.message ≡ true
   kind = keeps.sound.replaces q refl
 
-  not_replaced-bodies : told_by_type reports m (lived o) (answers_last m (asked_as terms o)) (map fill_of b.trades) (shown_as o) ≡ answered_no (shown_as (at b None c)) q 2 reason ∷ cancel_rejected (last_of m c) (shown_as (at b None c))
+  not_replaced-bodies : told_by reports (market.Rejected m) (lived o) (answers_last (market.Rejected m) (asked_as terms o)) (map fill_of b.trades) (shown_as o) ≡ answered_no (shown_as (at b None c)) q 2 reason ∷ cancel_rejected (last_of (market.Rejected m) c) (shown_as (at b None c))
   not_replaced-bodies =
-      not_replaced-row reports m (lived o) (answers_last m (asked_as terms o)) (map fill_of b.trades) (shown_as o) type not_first
-      ∙ ap (λ (last : Bool). told.told_not_replaced m last (shown_as o)) (last-is terms m o keeps.left)
-      ∙ not_replaced-told m (last_of m c) (shown_as o) (shown_as (at b None c)) q (one-replace m q kind token c keeps.sound.cancels)
-      (ap (λ (ps : List Entry). record (shown_as (at b None c)) { pending = ps }) (no-replace m q kind token c keeps.sound.cancels))
+      not_replaced-row reports m (lived o) (answers_last (market.Rejected m) (asked_as terms o)) (map fill_of b.trades) (shown_as o) not_first
+      ∙ ap (λ (last : Bool). told.told_not_replaced m.token m.reason last (shown_as o)) (last-is terms (market.Rejected m) o keeps.left)
+      ∙ not_replaced-told m.token m.reason (last_of (market.Rejected m) c) (shown_as o) (shown_as (at b None c)) q (one-replace m.token q kind token c keeps.sound.cancels)
+      (ap (λ (ps : List Entry). record (shown_as (at b None c)) { pending = ps }) (no-replace m.token q kind token c keeps.sound.cancels))
 
   flip-and : (x y : Bool) → (x && y) ≡ false → (y && x) ≡ false
   flip-and true y e = rw e refl
   flip-and false true e = refl
   flip-and false false e = refl
 
-  not_replaced-lives : after (lived o) m ≡ lived p
-  not_replaced-lives = let off = flip-and (is_waiting b.stage) (is_live (lived b) (heard.token m)) not_first in rw (type, off) refl
+  not_replaced-lives : after (lived o) (market.Rejected m) ≡ lived p
+  not_replaced-lives = let off = flip-and (is_waiting b.stage) (is_live (lived b) m.token) not_first in rw off refl
 
-  not_replaced-asked : unanswered m (asked_as terms o) ≡ asked_as terms p
-  not_replaced-asked = asked-parts terms m o ∙ by_stage b.stage refl
+  not_replaced-asked : unanswered (market.Rejected m) (asked_as terms o) ≡ asked_as terms p
+  not_replaced-asked = asked-parts terms (market.Rejected m) o ∙ by_stage b.stage refl
     where
-      own : bytes_eq (token_of q) (token_of q) ≡ true
-      own = eq-same (token_of q)
+      own : bytes_eq m.token (token_of q) ≡ true
+      own = rw token (eq-same (token_of q))
 
-      by_stage : (s : Stage) → b.stage ≡ s → unanswered m (new_asked terms b.new b.stage) ++ (unanswered m (replace_asked b.new (live_token o) (Some q)) ++ cancel_asked b.new (still_cancelling m c)) ≡ asked_as terms p
+      by_stage : (s : Stage) → b.stage ≡ s → unanswered (market.Rejected m) (new_asked terms b.new b.stage) ++ (unanswered (market.Rejected m) (replace_asked b.new (live_token o) (Some q)) ++ cancel_asked b.new (still_cancelling (market.Rejected m) c)) ≡ asked_as terms p
       by_stage Waiting e =
-          let root : bytes_eq (heard.token m) (token_of b.new) ≡ false = subst (λ (ts : List (List ℕ)). bytes_eq (heard.token m) (first_token ts) ≡ false) (keeps.first e) (rw e at not_first) in
-          rw (e, type, root, token, own) refl
-      by_stage Working e = rw (e, type, token, own) refl
+          let root : bytes_eq m.token (token_of b.new) ≡ false = subst (λ (ts : List (List ℕ)). bytes_eq m.token (first_token ts) ≡ false) (keeps.first e) (rw e at not_first) in
+          rw (e, root, own) refl
+      by_stage Working e = rw (e, own) refl
       by_stage Closed e = absurd (still e)
 
-  not_replaced-leads : Leads b.new old_id sent (told_by_type reports m (lived o) (answers_last m (asked_as terms o)) (map fill_of b.trades) (shown_as o)) p
+  not_replaced-leads : Leads b.new old_id sent (told_by reports (market.Rejected m) (lived o) (answers_last (market.Rejected m) (asked_as terms o)) (map fill_of b.trades) (shown_as o)) p
   not_replaced-leads =
       let first = replace-answered old_id reason 2 not_used-2 b sent q c keeps.sound keeps.apart named reads in
       subst (λ (bodies : List Message). Leads b.new old_id sent bodies p) (sym not_replaced-bodies)
       (leads-more old_id sent _ _ (at b None c) p first
-      (cancel-goes_on old_id m b None c _ (without_replace-sound o keeps.sound) (AreApart-rest b (Some q) c keeps.apart) (AreNamed-rest old_id b (Some q) c named) first.reads))
+      (cancel-goes_on old_id (market.Rejected m) b None c _ (without_replace-sound o keeps.sound) (AreApart-rest b (Some q) c keeps.apart) (AreNamed-rest old_id b (Some q) c named) first.reads))
 
-  not_replaced-moves : Moves P Q R terms old_id sent reports limit more m o p
+  not_replaced-moves : Moves P Q R terms old_id sent reports limit more (market.Rejected m) o p
   not_replaced-moves = record {
     same = refl;
-    kept = λ k. record { front = k.front; live = k.live; replace = λ x e. absurd (cc); cancel = λ d e. still-of P Q R m c k.cancel d e; id = k.id };
+    kept = λ k. record { front = k.front; live = k.live; replace = λ x e. absurd (cc); cancel = λ d e. still-of P Q R (market.Rejected m) c k.cancel d e; id = k.id };
     lives = not_replaced-lives;
     leads = not_replaced-leads;
     asked = λ e. not_replaced-asked;
-    price = rw type refl;
-    keeps = λ after later. asked-keeps reports limit more after (omega (arith, later)) m o None (λ x e. absurd (cc)) still keeps;
+    price = refl;
+    keeps = λ after later. asked-keeps reports limit more after (omega (arith, later)) (market.Rejected m) o None (λ x e. absurd (cc)) still keeps;
   }
 
-pub not_replaced : (P : List ℕ → Type 0) (Q : Entry → Type 0) (R : List ℕ → Type 0) (terms : List Terms) (old_id : List ℕ → List ℕ) (sent : List Message) (reports limit more : ℕ) (m : List ℕ) (o : OrderRecord) (q : Entry)
-    → type_of m ≡ 74 → o.stage ≢ Closed → (is_waiting o.stage && is_live (lived o) (heard.token m)) ≡ false → o.replace ≡ Some q → heard.token m ≡ token_of q
-    → Keeps reports limit o → AreNamed old_id o → Reads sent o → Moves P Q R terms old_id sent reports limit more m o (at o None (still_cancelling m o.cancel))
-not_replaced P Q R terms old_id sent reports limit more m o q type still not_first is_q token keeps named reads =
+pub not_replaced : (P : List ℕ → Type 0) (Q : Entry → Type 0) (R : List ℕ → Type 0) (terms : List Terms) (old_id : List ℕ → List ℕ) (sent : List Message) (reports limit more : ℕ) (m : Rejected) (o : OrderRecord) (q : Entry)
+    → o.stage ≢ Closed → (is_waiting o.stage && is_live (lived o) m.token) ≡ false → o.replace ≡ Some q → m.token ≡ token_of q
+    → Keeps reports limit o → AreNamed old_id o → Reads sent o → Moves P Q R terms old_id sent reports limit more (market.Rejected m) o (at o None (still_cancelling (market.Rejected m) o.cancel))
+not_replaced P Q R terms old_id sent reports limit more m o q still not_first is_q token keeps named reads =
     let same = with-replace o q is_q in
-    subst (λ (x : OrderRecord). Moves P Q R terms old_id sent reports limit more m x (at o None (still_cancelling m o.cancel))) (sym same)
-    (not_replaced-moves P Q R terms old_id sent reports limit more m o q o.cancel type still not_first token
+    subst (λ (x : OrderRecord). Moves P Q R terms old_id sent reports limit more (market.Rejected m) x (at o None (still_cancelling (market.Rejected m) o.cancel))) (sym same)
+    (not_replaced-moves P Q R terms old_id sent reports limit more m o q o.cancel still not_first token
     (subst (λ (x : OrderRecord). Keeps reports limit x) same keeps) (subst (λ (x : OrderRecord). AreNamed old_id x) same named) (subst (λ (x : OrderRecord). Reads sent x) same reads))
 
 -- ---- Replaced
 
-module _ (P : List ℕ → Type 0) (Q : Entry → Type 0) (R : List ℕ → Type 0) (terms : List Terms) (old_id : List ℕ → List ℕ) (sent : List Message) (reports limit more : ℕ) (m : List ℕ) (b : OrderRecord) (q : Entry) (c : Option Cancelling)
-    (type : type_of m ≡ 85) (works : b.stage ≡ Working) (live : is_live (lived b) (heard.previous_token m) ≡ true)
-    (token : heard.token m ≡ token_of q)
-    (shares : heard.shares m ≤ more) (more_small : more < 10 ^ 63) (limit_small : limit < 10 ^ 63)
+module _ (P : List ℕ → Type 0) (Q : Entry → Type 0) (R : List ℕ → Type 0) (terms : List Terms) (old_id : List ℕ → List ℕ) (sent : List Message) (reports limit more : ℕ) (m : Replaced) (b : OrderRecord) (q : Entry) (c : Option Cancelling)
+    (works : b.stage ≡ Working) (live : is_live (lived b) m.previous_token ≡ true)
+    (token : m.token ≡ token_of q)
+    (shares : m.shares ≤ more) (more_small : more < 10 ^ 63) (limit_small : limit < 10 ^ 63)
     (keeps : Keeps reports limit (at b (Some q) c)) (named : AreNamed old_id (at b (Some q) c)) (reads : Reads sent (at b (Some q) c)) where
   abbrev u : OrderRecord
   u = at b (Some q) c
@@ -166,7 +168,7 @@ module _ (P : List ℕ → Type 0) (Q : Entry → Type 0) (R : List ℕ → Type
   r = replaced m q u
 
   abbrev alive_then : OrderRecord
-  alive_then = at r None (still_cancelling m c)
+  alive_then = at r None (still_cancelling (market.Replaced m) c)
 
   in_book : leaves b ≡ b.unfilled
   in_book = rw works refl
@@ -192,41 +194,41 @@ module _ (P : List ℕ → Type 0) (Q : Entry → Type 0) (R : List ℕ → Type
   is_one : is_replace q.message ≡ true
   is_one = keeps.sound.replaces q refl
 
-  bodies : told_by_type reports m (lived u) (answers_last m (asked_as terms u)) (map fill_of b.trades) (shown_as u) ≡ report (reports + 1) (on_request (codes "5") q) (shown_as r) ∷ told.where_dead (reports + 2) m (shown_as r) (cancel_rejected (last_of m c) (shown_as r))
+  bodies : told_by reports (market.Replaced m) (lived u) (answers_last (market.Replaced m) (asked_as terms u)) (map fill_of b.trades) (shown_as u) ≡ report (reports + 1) (on_request (codes "5") q) (shown_as r) ∷ told.where_dead (reports + 2) m.order_state (shown_as r) (cancel_rejected (last_of (market.Replaced m) c) (shown_as r))
   bodies =
-      replaced-row reports m (lived u) (answers_last m (asked_as terms u)) (map fill_of b.trades) (shown_as u) type
-      ∙ ap (λ (last : Bool). told.told_replaced reports m last (shown_as u)) (last-is terms m u keeps.left)
-      ∙ replaced-told reports m (last_of m c) (shown_as u) (shown_as r) q (found-replace m q is_one token c)
-      (ap (λ (ps : List Entry). record (shown_as r) { pending = ps }) (no-replace m q is_one token c keeps.sound.cancels))
+      replaced-row reports m (lived u) (answers_last (market.Replaced m) (asked_as terms u)) (map fill_of b.trades) (shown_as u)
+      ∙ ap (λ (last : Bool). told.told_replaced reports m last (shown_as u)) (last-is terms (market.Replaced m) u keeps.left)
+      ∙ replaced-told reports m (last_of (market.Replaced m) c) (shown_as u) (shown_as r) q (found-replace m.token q is_one token c)
+      (ap (λ (ps : List Entry). record (shown_as r) { pending = ps }) (no-replace m.token q is_one token c keeps.sound.cancels))
 
-  alive-bodies : is_dead_state m ≡ false → told_by_type reports m (lived u) (answers_last m (asked_as terms u)) (map fill_of b.trades) (shown_as u) ≡ report (reports + 1) (on_request (codes "5") q) (shown_as r) ∷ cancel_rejected (last_of m c) (shown_as r)
+  alive-bodies : is_dead m.order_state ≡ false → told_by reports (market.Replaced m) (lived u) (answers_last (market.Replaced m) (asked_as terms u)) (map fill_of b.trades) (shown_as u) ≡ report (reports + 1) (on_request (codes "5") q) (shown_as r) ∷ cancel_rejected (last_of (market.Replaced m) c) (shown_as r)
   alive-bodies alive = bodies ∙ rw alive refl
 
-  dead-bodies : is_dead_state m ≡ true → told_by_type reports m (lived u) (answers_last m (asked_as terms u)) (map fill_of b.trades) (shown_as u) ≡ report (reports + 1) (on_request (codes "5") q) (shown_as r) ∷ cancelled (reports + 2) None (told.closed (shown_as r))
+  dead-bodies : is_dead m.order_state ≡ true → told_by reports (market.Replaced m) (lived u) (answers_last (market.Replaced m) (asked_as terms u)) (map fill_of b.trades) (shown_as u) ≡ report (reports + 1) (on_request (codes "5") q) (shown_as r) ∷ cancelled (reports + 2) None (told.closed (shown_as r))
   dead-bodies dead = bodies ∙ rw dead refl
 
-  price_now : (if opens (lived u) m then heard.price m else u.price) ≡ heard.price m
-  price_now = rw (type, live) refl
+  price_now : priced (market.Replaced m) (lived u) u.price ≡ m.price
+  price_now = rw live refl
 
-  alive-asked : unanswered m (asked_as terms u) ≡ asked_as terms alive_then
-  alive-asked = asked-parts terms m u ∙ (let own = eq-same (token_of q) in rw (works, type, token, own) refl)
+  alive-asked : unanswered (market.Replaced m) (asked_as terms u) ≡ asked_as terms alive_then
+  alive-asked = asked-parts terms (market.Replaced m) u ∙ (let own : bytes_eq m.token (token_of q) ≡ true = rw token (eq-same (token_of q)) in rw (works, own) refl)
 
-  alive-moves : is_dead_state m ≡ false → Moves P Q R terms old_id sent reports limit more m u alive_then
+  alive-moves : is_dead m.order_state ≡ false → Moves P Q R terms old_id sent reports limit more (market.Replaced m) u alive_then
   alive-moves alive = record {
     same = refl;
-    kept = λ k. record { front = subst P (sym token) (k.replace q refl).0; live = (subst P (sym token) (k.replace q refl).0, k.live); replace = λ x e. absurd (cc); cancel = λ d e. still-of P Q R m c k.cancel d e; id = (k.replace q refl).2 };
-    lives = rw (type, live, alive) refl;
+    kept = λ k. record { front = subst P (sym token) (k.replace q refl).0; live = (subst P (sym token) (k.replace q refl).0, k.live); replace = λ x e. absurd (cc); cancel = λ d e. still-of P Q R (market.Replaced m) c k.cancel d e; id = (k.replace q refl).2 };
+    lives = rw (live, alive) refl;
     leads = subst (λ (bodies : List Message). Leads b.new old_id sent bodies alive_then) (sym (alive-bodies alive))
-        (leads-more old_id sent _ _ r alive_then replaced-tells (cancel-goes_on old_id m r None c _ sound apart named' replaced-tells.reads));
+        (leads-more old_id sent _ _ r alive_then replaced-tells (cancel-goes_on old_id (market.Replaced m) r None c _ sound apart named' replaced-tells.reads));
     asked = λ e. alive-asked;
     price = price_now;
     keeps = λ after later. record {
-      sound = record { total = λ e. refl; refused = λ e. absurd (let x : true ≡ false = sym e ∙ live_order in cc); replaces = λ x e. absurd (cc); cancels = λ d e. (let was = still-request m c d e in ap (λ (x : Entry). is_replace x.message) was.2 ∙ keeps.sound.cancels was.0 was.1) };
+      sound = record { total = λ e. refl; refused = λ e. absurd (let x : true ≡ false = sym e ∙ live_order in cc); replaces = λ x e. absurd (cc); cancels = λ d e. (let was = still-request (market.Replaced m) c d e in ap (λ (x : Entry). is_replace x.message) was.2 ∙ keeps.sound.cancels was.0 was.1) };
       apart = record { requests = λ x d e. absurd (cc); current = λ x e. absurd (cc) };
       first = λ e. absurd (cc);
       over_replace = λ e. absurd (cc);
       over_cancel = λ e. absurd (cc);
-      left = λ d e. still-left m c d e;
+      left = λ d e. still-left (market.Replaced m) c d e;
       idle = λ e. absurd (cc);
       rejected = keeps.rejected;
       none_waiting = λ e. absurd (cc);
@@ -236,11 +238,11 @@ module _ (P : List ℕ → Type 0) (Q : Entry → Type 0) (R : List ℕ → Type
     };
   }
 
-  dead-moves : is_dead_state m ≡ true → Moves P Q R terms old_id sent reports limit more m u (unasked (gone r))
+  dead-moves : is_dead m.order_state ≡ true → Moves P Q R terms old_id sent reports limit more (market.Replaced m) u (unasked (gone r))
   dead-moves dead = record {
     same = refl;
     kept = λ k. record { front = subst P (sym token) (k.replace q refl).0; live = (subst P (sym token) (k.replace q refl).0, k.live); replace = λ x e. absurd (cc); cancel = λ d e. absurd (cc); id = (k.replace q refl).2 };
-    lives = rw (type, live, dead) refl;
+    lives = rw (live, dead) refl;
     leads = subst (λ (bodies : List Message). Leads b.new old_id sent bodies (unasked (gone r))) (sym (dead-bodies dead))
         (leads-more old_id sent _ _ r (unasked (gone r)) replaced-tells
         (cancelled-leads old_id (reports + 2) None r refl _ None c sound apart named' replaced-tells.reads));
@@ -249,10 +251,10 @@ module _ (P : List ℕ → Type 0) (Q : Entry → Type 0) (R : List ℕ → Type
     keeps = λ after later. over-keeps reports limit more after b (unasked (gone r)) (omega (arith, later)) refl refl refl refl keeps.rejected refl (omega (arith, keeps.small)) keeps.numbered;
   }
 
-module _ (P : List ℕ → Type 0) (Q : Entry → Type 0) (R : List ℕ → Type 0) (terms : List Terms) (old_id : List ℕ → List ℕ) (sent : List Message) (reports limit more : ℕ) (m : List ℕ) (o : OrderRecord) (q : Entry)
-    (type : type_of m ≡ 85) (works : o.stage ≡ Working) (live : is_live (lived o) (heard.previous_token m) ≡ true) (is_q : o.replace ≡ Some q)
-    (token : heard.token m ≡ token_of q)
-    (shares : heard.shares m ≤ more) (more_small : more < 10 ^ 63) (limit_small : limit < 10 ^ 63)
+module _ (P : List ℕ → Type 0) (Q : Entry → Type 0) (R : List ℕ → Type 0) (terms : List Terms) (old_id : List ℕ → List ℕ) (sent : List Message) (reports limit more : ℕ) (m : Replaced) (o : OrderRecord) (q : Entry)
+    (works : o.stage ≡ Working) (live : is_live (lived o) m.previous_token ≡ true) (is_q : o.replace ≡ Some q)
+    (token : m.token ≡ token_of q)
+    (shares : m.shares ≤ more) (more_small : more < 10 ^ 63) (limit_small : limit < 10 ^ 63)
     (keeps : Keeps reports limit o) (named : AreNamed old_id o) (reads : Reads sent o) where
   same : o ≡ at o (Some q) o.cancel
   same = with-replace o q is_q
@@ -266,10 +268,10 @@ module _ (P : List ℕ → Type 0) (Q : Entry → Type 0) (R : List ℕ → Type
   reads' : Reads sent (at o (Some q) o.cancel)
   reads' = subst (λ (x : OrderRecord). Reads sent x) same reads
 
-  pub replaced_live : is_dead_state m ≡ false → Moves P Q R terms old_id sent reports limit more m o (at (replaced m q o) None (still_cancelling m o.cancel))
-  replaced_live alive = subst (λ (x : OrderRecord). Moves P Q R terms old_id sent reports limit more m x (at (replaced m q o) None (still_cancelling m o.cancel))) (sym same)
-      (alive-moves P Q R terms old_id sent reports limit more m o q o.cancel type works live token shares more_small limit_small keeps' named'' reads' alive)
+  pub replaced_live : is_dead m.order_state ≡ false → Moves P Q R terms old_id sent reports limit more (market.Replaced m) o (at (replaced m q o) None (still_cancelling (market.Replaced m) o.cancel))
+  replaced_live alive = subst (λ (x : OrderRecord). Moves P Q R terms old_id sent reports limit more (market.Replaced m) x (at (replaced m q o) None (still_cancelling (market.Replaced m) o.cancel))) (sym same)
+      (alive-moves P Q R terms old_id sent reports limit more m o q o.cancel works live token shares more_small limit_small keeps' named'' reads' alive)
 
-  pub replaced_dead : is_dead_state m ≡ true → Moves P Q R terms old_id sent reports limit more m o (unasked (gone (replaced m q o)))
-  replaced_dead dead = subst (λ (x : OrderRecord). Moves P Q R terms old_id sent reports limit more m x (unasked (gone (replaced m q o)))) (sym same)
-      (dead-moves P Q R terms old_id sent reports limit more m o q o.cancel type works live token shares more_small limit_small keeps' named'' reads' dead)
+  pub replaced_dead : is_dead m.order_state ≡ true → Moves P Q R terms old_id sent reports limit more (market.Replaced m) o (unasked (gone (replaced m q o)))
+  replaced_dead dead = subst (λ (x : OrderRecord). Moves P Q R terms old_id sent reports limit more (market.Replaced m) x (unasked (gone (replaced m q o)))) (sym same)
+      (dead-moves P Q R terms old_id sent reports limit more m o q o.cancel works live token shares more_small limit_small keeps' named'' reads' dead)

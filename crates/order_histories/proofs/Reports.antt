@@ -4,7 +4,7 @@ use Rattle.std.specs.Prelude.{◌==◌, not, if◌then◌else◌, filter}
 use Rattle.std.specs.List.{find}
 use Rattle.std.specs.Str.Parse.{digits_value}
 use Rattle.fixed_point.proofs.Printed.{worth_of_price_text}
-use Rattle.ouch_codec.specs.FromMarket as heard
+use Rattle.ouch_codec.specs.declared.outbound.replaced.Replaced.{Replaced}
 use Rattle.order_law.specs.declared.stage.Stage.{Stage}
 use Rattle.order_law.specs.declared.stage.Stage.TheVariants.{Waiting, Working, Closed}
 use Rattle.order_law.specs.declared.trade.Trade.{Trade}
@@ -54,14 +54,14 @@ entered-Reads n new sent small u =
     }
 
 -- 150=0: the market has taken it
-pub new-Reads : (n : ℕ) (m : List ℕ) (o : OrderRecord) (sent : List Message) → o.stage ≡ Waiting → o.is_refused ≡ false → heard.shares m < 10 ^ 64 → o.executed + heard.shares m < 10 ^ 64 → Reads sent o
-    → Reads (report n (plain (codes "0")) (shown_as (opened m o)) ∷ sent) (opened m o)
-new-Reads n m o sent waits live small small_total reads =
+pub new-Reads : (n shares price : ℕ) (o : OrderRecord) (sent : List Message) → o.stage ≡ Waiting → o.is_refused ≡ false → shares < 10 ^ 64 → o.executed + shares < 10 ^ 64 → Reads sent o
+    → Reads (report n (plain (codes "0")) (shown_as (opened shares price o)) ∷ sent) (opened shares price o)
+new-Reads n shares price o sent waits live small small_total reads =
     let own = eq-same o.new.order in
-    let shares = number-decimal (heard.shares m) small in
-    let total = number-decimal (o.executed + heard.shares m) small_total in
+    let left = number-decimal shares small in
+    let total = number-decimal (o.executed + shares) small_total in
     record {
-      read_so = rw (own, reads.read_so, shares, total, waits, live) refl;
+      read_so = rw (own, reads.read_so, left, total, waits, live) refl;
       chained_so = rw (own, reads.chained_so) refl;
       refused_so = rw (own, reads.refused_so) refl;
     }
@@ -73,14 +73,14 @@ cancel-stays id None apart o = refl
 cancel-stays id (Some c) apart o = let other = apart c refl in rw other refl
 
 -- 150=5: a replace is answered, and the order goes by its id
-pub replaced-Reads : (n : ℕ) (m : List ℕ) (q : Entry) (o : OrderRecord) (sent : List Message) → o.stage ≡ Working → o.is_refused ≡ false → o.replace ≡ Some q
+pub replaced-Reads : (n : ℕ) (m : Replaced) (q : Entry) (o : OrderRecord) (sent : List Message) → o.stage ≡ Working → o.is_refused ≡ false → o.replace ≡ Some q
     → ((c : Cancelling) → o.cancel ≡ Some c → bytes_eq (text 11 c.request.message) (text 11 q.message) ≡ false)
-    → heard.shares m < 10 ^ 64 → o.executed + heard.shares m < 10 ^ 64 → Reads sent o
+    → m.shares < 10 ^ 64 → o.executed + m.shares < 10 ^ 64 → Reads sent o
     → Reads (report n (on_request (codes "5") q) (shown_as (replaced m q o)) ∷ sent) (replaced m q o)
 replaced-Reads n m q o sent works live is_q apart small small_total reads =
     let own = eq-same o.new.order in
-    let shares = number-decimal (heard.shares m) small in
-    let total = number-decimal (o.executed + heard.shares m) small_total in
+    let shares = number-decimal (m.shares) small in
+    let total = number-decimal (o.executed + m.shares) small_total in
     let id = eq-same (text 11 q.message) in
     record {
       read_so = rw (own, reads.read_so, shares, total, works, live) refl;

@@ -4,11 +4,11 @@ use Rattle.std.specs.Prelude.{◌&&◌, ◌||◌, ◌==◌, not, if◌then◌els
 use Rattle.std.specs.List.{count_by, find, list_any}
 use Rattle.tokens.specs.TokenText.{token_text}
 use Rattle.order_law.specs.Messages.{Message, is}
-use Rattle.order_law.specs.Life.{Life, after, born, is_closed, is_live, is_of, is_type, life}
+use Rattle.order_law.specs.Life.{Life, after, born, is_closed, is_live, is_of, life}
 use Rattle.order_law.specs.Reading.{is_report}
 use Rattle.order_law.specs.Chain.{chain, is_used}
 use Rattle.order_law.specs.History.{Asked, Entry, History, Terms, Turn, accepted, given, handled, is_new_order, issued, life_of, new_of, numbered, outstanding, pending_tokens, token_of}
-use Rattle.order_law.specs.Told.{Told, answers_last_cancel, nobody, opens, price_after, reports_in, told, told_by_type, told_on, to_client_of}
+use Rattle.order_law.specs.Told.{Told, answers_last_cancel, nobody, price_after, reports_in, told, told_by, told_on, to_client_of}
 use Rattle.order_law.specs.Headline.{Each, IsTrueToMarket, old_ids}
 use Rattle.order_histories.specs.OrderRecord.{Cancelling, OrderRecord, ToldTrade, asked_as, at, fill_of, lived, read, replacements, shown_as}
 use Rattle.order_histories.proofs.Texts.{eq-other, eq-same}

@@ -2,14 +2,21 @@
 use Rattle.std.proofs.Common.{◌≡◌, ◌≢◌, ℕ, ◌-◌, ◌<◌, ◌≤◌, ◌^◌, Bool, true, false, List, [], ◌∷◌, map, refl, sym, subst, arith, codes, bytes_eq, Option, Some, None, eqb-true}
 use Rattle.std.specs.Prelude.{◌&&◌, ◌||◌, ◌==◌, not}
 use Rattle.std.specs.List.{list_any}
-use Rattle.ouch_codec.specs.Parts.{type_of}
-use Rattle.ouch_codec.specs.FromMarket as heard
+use Rattle.ouch_codec.specs.declared.outbound.Outbound.{Outbound}
+use Rattle.ouch_codec.specs.declared.outbound.Outbound.TheVariants as market
+use Rattle.ouch_codec.specs.declared.outbound.accepted.Accepted.{Accepted}
+use Rattle.ouch_codec.specs.declared.outbound.replaced.Replaced.{Replaced}
+use Rattle.ouch_codec.specs.declared.outbound.canceled.Canceled.{Canceled}
+use Rattle.ouch_codec.specs.declared.outbound.executed.Executed.{Executed}
+use Rattle.ouch_codec.specs.declared.outbound.broken.Broken.{Broken}
+use Rattle.ouch_codec.specs.declared.outbound.rejected.Rejected.{Rejected}
+use Rattle.ouch_codec.specs.declared.outbound.cancel_reject.CancelReject.{CancelReject}
 use Rattle.order_law.specs.declared.stage.Stage.{Stage}
 use Rattle.order_law.specs.declared.stage.Stage.TheVariants.{Waiting, Working, Closed}
 use Rattle.order_law.specs.Messages.{Message}
-use Rattle.order_law.specs.Life.{is_closed, is_dead_state, is_live, is_waiting}
-use Rattle.order_law.specs.History.{Entry, Said, SaysCancel, SaysNew, SaysReplace, Terms, answers, token_of}
-use Rattle.order_law.specs.Told.{told_by_type}
+use Rattle.order_law.specs.Life.{after, is_closed, is_dead, is_live, is_waiting}
+use Rattle.order_law.specs.History.{Entry, Said, Terms, answers, token_of}
+use Rattle.order_law.specs.Told.{priced, told_by}
 use Rattle.order_histories.specs.OrderRecord.{after_message, OrderRecord, asked_as, fill_of, lived, replacements, shown_as}
 use Rattle.order_histories.proofs.Texts.{eq-is}
 use Rattle.order_histories.proofs.Due.{Reads}
@@ -17,8 +24,8 @@ use Rattle.order_histories.proofs.Leads.{AreNamed, Leads, leads-none}
 use Rattle.order_histories.proofs.Moves.{Keeps, Moves, answers_last}
 use Rattle.order_histories.proofs.Executed.{AreNumbered-more, unanswered-same}
 use Rattle.order_histories.proofs.Canceled.{over-keeps}
-use Rattle.order_law.specs.Life.{is_of, is_type, is_working, stands_as}
-use Rattle.order_law.specs.Lawful.{accepted_may, broken_may, cancel_reject_may, canceled_may, executed_may, may_leave, rejected_may, replaced_may, row_holds, same_terms, works_as}
+use Rattle.order_law.specs.Life.{is_of, is_working, stands_as}
+use Rattle.order_law.specs.Lawful.{may_leave, row_holds, same_terms, works_as}
 use Rattle.std.specs.Prelude.{nat_le}
 use Rattle.std.proofs.Common.{leb-true}
 use Rattle.order_law.specs.declared.trade.Trade.{Trade}
@@ -58,26 +65,19 @@ or-parts : (a b : Bool) → (a || b) ≡ true → a ≡ false → b ≡ true
 or-parts true b e off = absurd (cc)
 or-parts false b e off = e
 
--- a message of another type changes nothing
-module _ (P : List ℕ → Type 0) (Q : Entry → Type 0) (R : List ℕ → Type 0) (terms : List Terms) (old_id : List ℕ → List ℕ) (sent : List Message) (reports limit more : ℕ) (m : List ℕ) (o : OrderRecord)
-    (a : is_type (codes "A") m ≡ false) (u : is_type (codes "U") m ≡ false) (c : is_type (codes "C") m ≡ false) (e : is_type (codes "E") m ≡ false) (b : is_type (codes "B") m ≡ false) (j : is_type (codes "J") m ≡ false) (i : is_type (codes "I") m ≡ false)
+-- a message that says nothing of an order changes nothing
+module _ (P : List ℕ → Type 0) (Q : Entry → Type 0) (R : List ℕ → Type 0) (terms : List Terms) (old_id : List ℕ → List ℕ) (sent : List Message) (reports limit more : ℕ) (m : Outbound) (o : OrderRecord)
+    (lives : after (lived o) m ≡ lived o) (answers_none : (said : Said) → answers m said ≡ false) (price : priced m (lived o) o.price ≡ o.price)
+    (bodies : told_by reports m (lived o) (answers_last m (asked_as terms o)) (map fill_of o.trades) (shown_as o) ≡ [])
     (keeps : Keeps reports limit o) (reads : Reads sent o) where
-  answers_none : (said : Said) → answers m said ≡ false
-  answers_none (SaysNew token) = rw (a, j) refl
-  answers_none (SaysReplace from to) = rw (u, j) refl
-  answers_none (SaysCancel token) = rw (u, j, i) refl
-
-  passed-bodies : told_by_type reports m (lived o) (answers_last m (asked_as terms o)) (map fill_of o.trades) (shown_as o) ≡ []
-  passed-bodies = rw (a, u, c, e, b, j, i) refl
-
   pub passed-moves : Moves P Q R terms old_id sent reports limit more m o o
   passed-moves = record {
     same = refl;
     kept = λ k. k;
-    lives = rw (a, u, e, c, b, j) refl;
-    leads = subst (λ (bodies : List Message). Leads o.new old_id sent bodies o) (sym passed-bodies) (leads-none old_id sent o reads);
+    lives = lives;
+    leads = subst (λ (bodies : List Message). Leads o.new old_id sent bodies o) (sym bodies) (leads-none old_id sent o reads);
     asked = λ is_live. unanswered-same terms m o answers_none;
-    price = rw (a, u) refl;
+    price = price;
     keeps = λ last later. record {
       sound = keeps.sound;
       apart = keeps.apart;
@@ -94,123 +94,104 @@ module _ (P : List ℕ → Type 0) (Q : Entry → Type 0) (R : List ℕ → Type
     };
   }
 
-module _ (P : List ℕ → Type 0) (Q : Entry → Type 0) (R : List ℕ → Type 0) (terms : List Terms) (old_id : List ℕ → List ℕ) (sent : List Message) (reports limit : ℕ) (m : List ℕ) (o : OrderRecord)
-    (accepted_few : type_of m ≡ 65 → heard.shares m ≤ 1_000_000) (replaced_few : type_of m ≡ 85 → heard.shares m ≤ 1_000_000) (price_small : type_of m ≡ 69 → heard.executed_price m < 2 ^ 128)
+module _ (P : List ℕ → Type 0) (Q : Entry → Type 0) (R : List ℕ → Type 0) (terms : List Terms) (old_id : List ℕ → List ℕ) (sent : List Message) (reports limit : ℕ) (o : OrderRecord)
     (reports_small : reports < 10 ^ 64) (limit_small : limit < 10 ^ 63)
-    (row : row_holds m (lived o) o.new (replacements o.replace) ≡ true)
     (keeps : Keeps reports limit o) (named : AreNamed old_id o) (reads : Reads sent o) where
-  abbrev Goes : Type 0
-  Goes = Moves P Q R terms old_id sent reports limit 1_000_000 m o (after_message reports m o)
+  abbrev Goes : Outbound → Type 0
+  Goes m = Moves P Q R terms old_id sent reports limit 1_000_000 m o (after_message reports m o)
 
-  goes : (p : OrderRecord) → after_message reports m o ≡ p → Moves P Q R terms old_id sent reports limit 1_000_000 m o p → Goes
-  goes p e moves = subst (λ (x : OrderRecord). Moves P Q R terms old_id sent reports limit 1_000_000 m o x) (sym e) moves
+  goes : (m : Outbound) (p : OrderRecord) → after_message reports m o ≡ p → Moves P Q R terms old_id sent reports limit 1_000_000 m o p → Goes m
+  goes m p e moves = subst (λ (x : OrderRecord). Moves P Q R terms old_id sent reports limit 1_000_000 m o x) (sym e) moves
 
-  on_accepted : type_of m ≡ 65 → Goes
-  on_accepted type =
-      let may : accepted_may m (lived o) o.new ≡ true = rw type at row in
-      let parts = and-parts (is_live (lived o) (heard.token m)) (is_waiting o.stage && same_terms m o.new) may in
-      let waits = waiting-is o.stage (and-parts (is_waiting o.stage) (same_terms m o.new) parts.1).0 in
-      by_state parts.0 waits (is_dead_state m) refl
+  abbrev Holds : Outbound → Type 0
+  Holds m = row_holds m (lived o) o.new (replacements o.replace) ≡ true
+
+  on_accepted : (m : Accepted) → Holds (market.Accepted m) → Goes (market.Accepted m)
+  on_accepted m may =
+      let parts = and-parts (is_live (lived o) m.token) (is_waiting o.stage && same_terms m.side m.stock o.new) may in
+      let waits = waiting-is o.stage (and-parts (is_waiting o.stage) (same_terms m.side m.stock o.new) parts.1).0 in
+      by_state parts.0 waits (is_dead m.order_state) refl
     where
-      by_state : is_live (lived o) (heard.token m) ≡ true → o.stage ≡ Waiting → (d : Bool) → is_dead_state m ≡ d → Goes
-      by_state live waits true dead = goes _ (rw (type, dead) refl) (accepted.dead-moves P Q R terms old_id sent reports limit 1_000_000 m o type live waits (accepted_few type) (omega arith) limit_small keeps named reads dead)
-      by_state live waits false alive = goes _ (rw (type, alive) refl) (accepted.live-moves P Q R terms old_id sent reports limit 1_000_000 m o type live waits (accepted_few type) (omega arith) limit_small keeps named reads alive)
+      by_state : is_live (lived o) m.token ≡ true → o.stage ≡ Waiting → (d : Bool) → is_dead m.order_state ≡ d → Goes (market.Accepted m)
+      by_state live waits true dead = goes (market.Accepted m) _ (rw dead refl) (accepted.dead-moves P Q R terms old_id sent reports limit 1_000_000 m o live waits (omega (arith, m.shares_set.1)) (omega arith) limit_small keeps named reads dead)
+      by_state live waits false alive = goes (market.Accepted m) _ (rw alive refl) (accepted.live-moves P Q R terms old_id sent reports limit 1_000_000 m o live waits (omega (arith, m.shares_set.1)) (omega arith) limit_small keeps named reads alive)
 
-  on_replaced : type_of m ≡ 85 → Goes
-  on_replaced type =
-      let may : replaced_may m (lived o) o.new (replacements o.replace) ≡ true = rw type at row in
-      let parts = and-parts (works_as (lived o) (heard.previous_token m)) (list_any (bytes_eq (heard.token m)) (replacements o.replace) && same_terms m o.new) may in
-      let works = and-parts (is_live (lived o) (heard.previous_token m)) (is_working o.stage) parts.0 in
-      let asked = replacement-is o.replace (heard.token m) (and-parts (list_any (bytes_eq (heard.token m)) (replacements o.replace)) (same_terms m o.new) parts.1).0 in
-      by_state works.0 (working-is o.stage works.1) asked.0 asked.1 asked.2 (is_dead_state m) refl
+  on_replaced : (m : Replaced) → Holds (market.Replaced m) → Goes (market.Replaced m)
+  on_replaced m may =
+      let parts = and-parts (works_as (lived o) m.previous_token) (list_any (bytes_eq m.token) (replacements o.replace) && same_terms m.side m.stock o.new) may in
+      let works = and-parts (is_live (lived o) m.previous_token) (is_working o.stage) parts.0 in
+      let asked = replacement-is o.replace m.token (and-parts (list_any (bytes_eq m.token) (replacements o.replace)) (same_terms m.side m.stock o.new) parts.1).0 in
+      by_state works.0 (working-is o.stage works.1) asked.0 asked.1 asked.2 (is_dead m.order_state) refl
     where
-      by_state : is_live (lived o) (heard.previous_token m) ≡ true → o.stage ≡ Working → (q : Entry) → o.replace ≡ Some q → heard.token m ≡ token_of q → (d : Bool) → is_dead_state m ≡ d → Goes
-      by_state live works q is_q token true dead = goes _ (rw (type, is_q, dead) refl) (replaced.replaced_dead P Q R terms old_id sent reports limit 1_000_000 m o q type works live is_q token (replaced_few type) (omega arith) limit_small keeps named reads dead)
-      by_state live works q is_q token false alive = goes _ (rw (type, is_q, alive) refl) (replaced.replaced_live P Q R terms old_id sent reports limit 1_000_000 m o q type works live is_q token (replaced_few type) (omega arith) limit_small keeps named reads alive)
+      by_state : is_live (lived o) m.previous_token ≡ true → o.stage ≡ Working → (q : Entry) → o.replace ≡ Some q → m.token ≡ token_of q → (d : Bool) → is_dead m.order_state ≡ d → Goes (market.Replaced m)
+      by_state live works q is_q token true dead = goes (market.Replaced m) _ (rw (is_q, dead) refl) (replaced.replaced_dead P Q R terms old_id sent reports limit 1_000_000 m o q works live is_q token (omega (arith, m.shares_set.1)) (omega arith) limit_small keeps named reads dead)
+      by_state live works q is_q token false alive = goes (market.Replaced m) _ (rw (is_q, alive) refl) (replaced.replaced_live P Q R terms old_id sent reports limit 1_000_000 m o q works live is_q token (omega (arith, m.shares_set.1)) (omega arith) limit_small keeps named reads alive)
 
-  on_canceled : type_of m ≡ 67 → Goes
-  on_canceled type =
-      let may : canceled_may m (lived o) ≡ true = rw type at row in
-      let parts = and-parts (works_as (lived o) (heard.token m)) (may_leave (heard.decrement m) (lived o)) may in
-      let works = and-parts (is_live (lived o) (heard.token m)) (is_working o.stage) parts.0 in
-      let few = and-parts (nat_le 1 (heard.decrement m)) (nat_le (heard.decrement m) o.unfilled) parts.1 in
-      by_rest works.0 (working-is o.stage works.1) (leb-true 1 (heard.decrement m) few.0) (leb-true (heard.decrement m) o.unfilled few.1) (o.unfilled - heard.decrement m == 0) refl
+  on_canceled : (m : Canceled) → Holds (market.Canceled m) → Goes (market.Canceled m)
+  on_canceled m may =
+      let parts = and-parts (works_as (lived o) m.token) (may_leave m.decrement (lived o)) may in
+      let works = and-parts (is_live (lived o) m.token) (is_working o.stage) parts.0 in
+      let few = and-parts (nat_le 1 m.decrement) (nat_le m.decrement o.unfilled) parts.1 in
+      by_rest works.0 (working-is o.stage works.1) (leb-true 1 m.decrement few.0) (leb-true m.decrement o.unfilled few.1) (o.unfilled - m.decrement == 0) refl
     where
-      by_rest : is_live (lived o) (heard.token m) ≡ true → o.stage ≡ Working → 1 ≤ heard.decrement m → heard.decrement m ≤ o.unfilled → (r : Bool) → (o.unfilled - heard.decrement m == 0) ≡ r → Goes
-      by_rest live works some few true none = goes _ (rw (type, none) refl) (canceled.all-moves P Q R terms old_id sent reports limit 1_000_000 m o type live works some few limit_small keeps named reads none)
-      by_rest live works some few false rest = goes _ (rw (type, rest) refl) (canceled.part-moves P Q R terms old_id sent reports limit 1_000_000 m o type live works some few limit_small keeps named reads rest)
+      by_rest : is_live (lived o) m.token ≡ true → o.stage ≡ Working → 1 ≤ m.decrement → m.decrement ≤ o.unfilled → (r : Bool) → (o.unfilled - m.decrement == 0) ≡ r → Goes (market.Canceled m)
+      by_rest live works some few true none = goes (market.Canceled m) _ (rw none refl) (canceled.all-moves P Q R terms old_id sent reports limit 1_000_000 m o live works some few limit_small keeps named reads none)
+      by_rest live works some few false rest = goes (market.Canceled m) _ (rw rest refl) (canceled.part-moves P Q R terms old_id sent reports limit 1_000_000 m o live works some few limit_small keeps named reads rest)
 
-  on_executed : type_of m ≡ 69 → Goes
-  on_executed type =
-      let may : executed_may m (lived o) ≡ true = rw type at row in
-      let parts = and-parts (works_as (lived o) (heard.token m)) (may_leave (heard.executed_shares m) (lived o) && not (list_any (λ (t : Trade). t.match_number == heard.executed_match m) (lived o).trades)) may in
-      let works = and-parts (is_live (lived o) (heard.token m)) (is_working o.stage) parts.0 in
-      let few = and-parts (nat_le 1 (heard.executed_shares m)) (nat_le (heard.executed_shares m) o.unfilled) (and-parts (may_leave (heard.executed_shares m) (lived o)) (not (list_any (λ (t : Trade). t.match_number == heard.executed_match m) (lived o).trades)) parts.1).0 in
-      by_rest works.0 (working-is o.stage works.1) (leb-true 1 (heard.executed_shares m) few.0) (leb-true (heard.executed_shares m) o.unfilled few.1) (o.unfilled - heard.executed_shares m == 0) refl
+  on_executed : (m : Executed) → Holds (market.Executed m) → Goes (market.Executed m)
+  on_executed m may =
+      let parts = and-parts (works_as (lived o) m.token) (may_leave m.shares (lived o) && not (list_any (λ (t : Trade). t.match_number == m.match_number) (lived o).trades)) may in
+      let works = and-parts (is_live (lived o) m.token) (is_working o.stage) parts.0 in
+      let few = and-parts (nat_le 1 m.shares) (nat_le m.shares o.unfilled) (and-parts (may_leave m.shares (lived o)) (not (list_any (λ (t : Trade). t.match_number == m.match_number) (lived o).trades)) parts.1).0 in
+      by_rest works.0 (working-is o.stage works.1) (leb-true 1 m.shares few.0) (leb-true m.shares o.unfilled few.1) (o.unfilled - m.shares == 0) refl
     where
-      by_rest : is_live (lived o) (heard.token m) ≡ true → o.stage ≡ Working → 1 ≤ heard.executed_shares m → heard.executed_shares m ≤ o.unfilled → (r : Bool) → (o.unfilled - heard.executed_shares m == 0) ≡ r → Goes
-      by_rest live works some few true none = goes _ (rw (type, none) refl) (executed.all-moves P Q R terms old_id sent reports limit 1_000_000 m o type live works some few (price_small type) limit_small keeps named reads none)
-      by_rest live works some few false rest = goes _ (rw (type, rest) refl) (executed.part-moves P Q R terms old_id sent reports limit 1_000_000 m o type live works some few (price_small type) limit_small keeps named reads rest)
+      by_rest : is_live (lived o) m.token ≡ true → o.stage ≡ Working → 1 ≤ m.shares → m.shares ≤ o.unfilled → (r : Bool) → (o.unfilled - m.shares == 0) ≡ r → Goes (market.Executed m)
+      by_rest live works some few true none = goes (market.Executed m) _ (rw none refl) (executed.all-moves P Q R terms old_id sent reports limit 1_000_000 m o live works some few (omega (arith, m.price_set)) limit_small keeps named reads none)
+      by_rest live works some few false rest = goes (market.Executed m) _ (rw rest refl) (executed.part-moves P Q R terms old_id sent reports limit 1_000_000 m o live works some few (omega (arith, m.price_set)) limit_small keeps named reads rest)
 
-  on_broken : type_of m ≡ 66 → Goes
-  on_broken type =
-      let may : broken_may m (lived o) ≡ true = rw type at row in
-      let parts = and-parts (is_of (lived o) (heard.token m)) (list_any (stands_as (heard.broken_match m)) (lived o).trades) may in
-      goes _ (let here = (broken.found P Q R terms old_id sent reports limit 1_000_000 m o type parts.0 parts.1 reports_small limit_small keeps named reads).here in rw (type, here) refl) (broken.broken-moves P Q R terms old_id sent reports limit 1_000_000 m o type parts.0 parts.1 reports_small limit_small keeps named reads)
+  on_broken : (m : Broken) → Holds (market.Broken m) → Goes (market.Broken m)
+  on_broken m may =
+      let parts = and-parts (is_of (lived o) m.token) (list_any (stands_as m.match_number) (lived o).trades) may in
+      goes (market.Broken m) _ (let here = (broken.found P Q R terms old_id sent reports limit 1_000_000 m o parts.0 parts.1 reports_small limit_small keeps named reads).here in rw here refl) (broken.broken-moves P Q R terms old_id sent reports limit 1_000_000 m o parts.0 parts.1 reports_small limit_small keeps named reads)
 
-  on_rejected : type_of m ≡ 74 → Goes
-  on_rejected type =
-      let may : rejected_may m (lived o) (replacements o.replace) ≡ true = rw type at row in
-      by_first may (is_waiting o.stage && is_live (lived o) (heard.token m)) refl
+  on_rejected : (m : Rejected) → Holds (market.Rejected m) → Goes (market.Rejected m)
+  on_rejected m may =
+      by_first may (is_waiting o.stage && is_live (lived o) m.token) refl
     where
       flipped : (x y : Bool) → (x && y) ≡ false → (y && x) ≡ false
       flipped true y e = rw e refl
       flipped false true e = refl
       flipped false false e = refl
 
-      by_first : rejected_may m (lived o) (replacements o.replace) ≡ true → (b : Bool) → (is_waiting o.stage && is_live (lived o) (heard.token m)) ≡ b → Goes
+      by_first : Holds (market.Rejected m) → (b : Bool) → (is_waiting o.stage && is_live (lived o) m.token) ≡ b → Goes (market.Rejected m)
       by_first may true first =
-          let parts = and-parts (is_waiting o.stage) (is_live (lived o) (heard.token m)) first in
-          goes _ (rw (type, first) refl) (rejected.refused-moves P Q R terms old_id sent reports limit 1_000_000 m o type parts.1 (waiting-is o.stage parts.0) keeps named reads)
+          let parts = and-parts (is_waiting o.stage) (is_live (lived o) m.token) first in
+          goes (market.Rejected m) _ (rw first refl) (rejected.refused-moves P Q R terms old_id sent reports limit 1_000_000 m o parts.1 (waiting-is o.stage parts.0) keeps named reads)
       by_first may false not_first =
-          let rest = or-parts (is_live (lived o) (heard.token m) && is_waiting o.stage) (list_any (bytes_eq (heard.token m)) (replacements o.replace) && not (is_closed o.stage)) may (flipped (is_waiting o.stage) (is_live (lived o) (heard.token m)) not_first) in
-          let parts = and-parts (list_any (bytes_eq (heard.token m)) (replacements o.replace)) (not (is_closed o.stage)) rest in
-          let asked = replacement-is o.replace (heard.token m) parts.0 in
-          goes _ (rw (type, not_first) refl) (replaced.not_replaced P Q R terms old_id sent reports limit 1_000_000 m o asked.0 type (closed-is o.stage parts.1) not_first asked.1 asked.2 keeps named reads)
+          let rest = or-parts (is_live (lived o) m.token && is_waiting o.stage) (list_any (bytes_eq m.token) (replacements o.replace) && not (is_closed o.stage)) may (flipped (is_waiting o.stage) (is_live (lived o) m.token) not_first) in
+          let parts = and-parts (list_any (bytes_eq m.token) (replacements o.replace)) (not (is_closed o.stage)) rest in
+          let asked = replacement-is o.replace m.token parts.0 in
+          goes (market.Rejected m) _ (rw not_first refl) (replaced.not_replaced P Q R terms old_id sent reports limit 1_000_000 m o asked.0 (closed-is o.stage parts.1) not_first asked.1 asked.2 keeps named reads)
 
-  on_cancel_reject : type_of m ≡ 73 → Goes
-  on_cancel_reject type =
-      let may : cancel_reject_may m (lived o) ≡ true = rw type at row in
-      let works = and-parts (is_live (lived o) (heard.token m)) (is_working o.stage) may in
-      goes _ (rw type refl) (rejected.cancel_reject-moves P Q R terms old_id sent reports limit 1_000_000 m o type (working-is o.stage works.1) keeps named reads)
+  on_cancel_reject : (m : CancelReject) → Holds (market.CancelReject m) → Goes (market.CancelReject m)
+  on_cancel_reject m may =
+      let works = and-parts (is_live (lived o) m.token) (is_working o.stage) may in
+      goes (market.CancelReject m) _ refl (rejected.cancel_reject-moves P Q R terms old_id sent reports limit 1_000_000 m o (working-is o.stage works.1) keeps named reads)
 
-  pub row-moves : Goes
-  row-moves = by_a (is_type (codes "A") m) refl
-    where
-      by_i : is_type (codes "A") m ≡ false → is_type (codes "U") m ≡ false → is_type (codes "C") m ≡ false → is_type (codes "E") m ≡ false → is_type (codes "B") m ≡ false → is_type (codes "J") m ≡ false → (t : Bool) → is_type (codes "I") m ≡ t → Goes
-      by_i a u c e b j true i = on_cancel_reject (eqb-true (type_of m) 73 i)
-      by_i a u c e b j false i = goes o (rw (a, u, c, e, b, j, i) refl) (passed-moves P Q R terms old_id sent reports limit 1_000_000 m o a u c e b j i keeps reads)
+  abbrev Passes : Outbound → Type 0
+  Passes m = (after (lived o) m ≡ lived o) × ((said : Said) → answers m said ≡ false) × (priced m (lived o) o.price ≡ o.price)
 
-      by_j : is_type (codes "A") m ≡ false → is_type (codes "U") m ≡ false → is_type (codes "C") m ≡ false → is_type (codes "E") m ≡ false → is_type (codes "B") m ≡ false → (t : Bool) → is_type (codes "J") m ≡ t → Goes
-      by_j a u c e b true j = on_rejected (eqb-true (type_of m) 74 j)
-      by_j a u c e b false j = by_i a u c e b j (is_type (codes "I") m) refl
+  passed : (m : Outbound) → Passes m → told_by reports m (lived o) (answers_last m (asked_as terms o)) (map fill_of o.trades) (shown_as o) ≡ [] → after_message reports m o ≡ o → Goes m
+  passed m p none e = goes m o e (passed-moves P Q R terms old_id sent reports limit 1_000_000 m o p.0 p.1 p.2 none keeps reads)
 
-      by_b : is_type (codes "A") m ≡ false → is_type (codes "U") m ≡ false → is_type (codes "C") m ≡ false → is_type (codes "E") m ≡ false → (t : Bool) → is_type (codes "B") m ≡ t → Goes
-      by_b a u c e true b = on_broken (eqb-true (type_of m) 66 b)
-      by_b a u c e false b = by_j a u c e b (is_type (codes "J") m) refl
-
-      by_e : is_type (codes "A") m ≡ false → is_type (codes "U") m ≡ false → is_type (codes "C") m ≡ false → (t : Bool) → is_type (codes "E") m ≡ t → Goes
-      by_e a u c true e = on_executed (eqb-true (type_of m) 69 e)
-      by_e a u c false e = by_b a u c e (is_type (codes "B") m) refl
-
-      by_c : is_type (codes "A") m ≡ false → is_type (codes "U") m ≡ false → (t : Bool) → is_type (codes "C") m ≡ t → Goes
-      by_c a u true c = on_canceled (eqb-true (type_of m) 67 c)
-      by_c a u false c = by_e a u c (is_type (codes "E") m) refl
-
-      by_u : is_type (codes "A") m ≡ false → (t : Bool) → is_type (codes "U") m ≡ t → Goes
-      by_u a true u = on_replaced (eqb-true (type_of m) 85 u)
-      by_u a false u = by_c a u (is_type (codes "C") m) refl
-
-      by_a : (t : Bool) → is_type (codes "A") m ≡ t → Goes
-      by_a true a = on_accepted (eqb-true (type_of m) 65 a)
-      by_a false a = by_u a (is_type (codes "U") m) refl
+  pub row-moves : (m : Outbound) → Holds m → Goes m
+  row-moves (market.Accepted m) may = on_accepted m may
+  row-moves (market.Replaced m) may = on_replaced m may
+  row-moves (market.Canceled m) may = on_canceled m may
+  row-moves (market.Executed m) may = on_executed m may
+  row-moves (market.Broken m) may = on_broken m may
+  row-moves (market.Rejected m) may = on_rejected m may
+  row-moves (market.CancelReject m) may = on_cancel_reject m may
+  row-moves (market.CancelPending m) may = passed (market.CancelPending m) (refl, λ said. refl, refl) refl refl
+  row-moves (market.SystemEvent m) may = passed (market.SystemEvent m) (refl, λ said. refl, refl) refl refl
+  row-moves market.Skipped may = passed market.Skipped (refl, λ said. refl, refl) refl refl

@@ -1,7 +1,10 @@
 -- Each run of the machine has the headline: turn by turn, from the empty table on.
-use Rattle.std.proofs.Common.{◌≡◌, ℕ, ◌+◌, ◌<◌, ◌^◌, Bool, true, false, List, [], ◌∷◌, length, refl, sym, ap, ◌∙◌, subst, arith, codes, Option, Some, None}
+use Rattle.std.proofs.Common.{◌≡◌, ℕ, ◌+◌, ◌<◌, ◌^◌, Bool, true, false, List, [], ◌∷◌, length, refl, sym, ap, ◌∙◌, subst, arith, codes, Option, Some, None, Result}
 use Rattle.std.specs.Prelude.{if◌then◌else◌, option_map}
 use Rattle.std.specs.Str.Parse.{digits_value}
+use Rattle.ouch_codec.specs.declared.outbound.Outbound.{Outbound}
+use Rattle.ouch_codec.specs.declared.outbound.Outbound.TheVariants as market
+use Rattle.ouch_codec.specs.declared.refusal.DecodeRefusal.{DecodeRefusal}
 use Rattle.order_law.specs.Messages.{Message, text}
 use Rattle.order_law.specs.Verdicts.{Accepted, Port, Refused, Verdict, first_row, rows_of_request}
 use Rattle.order_law.specs.History.{Asked, Came, Entry, Event, Heard, History, Terms, Turn, accepted, asks_of, entry_at, handled, is_new_order, issued, terms_of}
@@ -9,7 +12,7 @@ use Rattle.order_law.specs.Lawful.{judgement, order_of_token}
 use Rattle.order_law.specs.Told.{reports_in, told}
 use Rattle.order_law.specs.Headline.{AnswersClient, Headline, Says, Sends, TurnHolds, TurnOf, order_number}
 use Rattle.order_histories.specs.OrderRecord.{OrderRecord}
-use Rattle.order_histories.specs.Told.{IsEvent, IsTold, IsToldTurn, fault_of}
+use Rattle.order_histories.specs.Told.{IsTold, IsToldTurn, fault_of}
 use Rattle.order_histories.specs.Table.{State, by_id, by_token, empty, has_used, named_as}
 use Rattle.order_histories.specs.Machine.{Given, accept_new, accept_on, accept_request, by_verdict, client_step, market_step, refuse_new, refuse_request, step, verdict_in}
 use Rattle.order_histories.specs.Runs.{IsRun, Leads, LeadsTo, Leaves, Meets, SendsAs}
@@ -93,7 +96,7 @@ module _ (terms : List Terms) (before : History) (s : State) (h : Holding terms 
       record {
         tells = goes.0.1;
         answers = record { sends = sends_so; fault = refl };
-        orders = orders-then turn (record { bytes = tt; tells = goes.0.1; fault = refl });
+        orders = orders-then turn (record { tells = goes.0.1; fault = refl });
       },
       h.headline,
     );
@@ -120,22 +123,22 @@ module _ (terms : List Terms) (before : History) (s : State) (h : Holding terms 
           (subst (λ (ts : List Terms). LeadsTo (client_step s client m port).state (terms_of ts client).port (order_number terms (terms_of terms client).port (accepted terms (coming_turn client m port (client_step s client m port).bodies sends ∷ before)))) (sym tb.same_terms)
           (leads-to terms (coming_turn client m port (client_step s client m port).bodies sends ∷ before) (client_step s client m port).state goes.0.0 (terms_of terms client).port))))
 
-  heard : (port : ℕ) (m : List ℕ) → IsEvent (Heard port m)
+  heard : (port : ℕ) (m : Result Outbound DecodeRefusal)
       → Holding terms (heard_turn port m (market_step s port m).client (market_step s port m).bodies [] (market_step s port m).fault ∷ before) (market_step s port m).state
-  heard port m is_event = record {
+  heard port m = record {
     table = answers.0;
     headline = (
       record {
         tells = answers.1;
         answers = record { sends = refl; fault = answers.2 };
-        orders = orders-then (heard_turn port m (market_step s port m).client (market_step s port m).bodies [] (market_step s port m).fault) (record { bytes = is_event; tells = answers.1; fault = answers.2 });
+        orders = orders-then (heard_turn port m (market_step s port m).client (market_step s port m).bodies [] (market_step s port m).fault) (record { tells = answers.1; fault = answers.2 });
       },
       h.headline,
     );
   }
     where
-      answers : Answers terms before s tb short port m is_event [] (market_step s port m)
-      answers = market-Answers terms before s tb short port m is_event []
+      answers : Answers terms before s tb short port m [] (market_step s port m)
+      answers = market-Answers terms before s tb short port m []
 
   -- a turn by its parts
   pub same-turn : (t : Turn) (e : Event) (client : ℕ) (bodies : List Message) (sends : List (List ℕ)) (fault : Option ℕ) → t.event ≡ e → t.client ≡ client → t.bodies ≡ bodies → t.sends ≡ sends → t.fault ≡ fault
@@ -143,20 +146,20 @@ module _ (terms : List Terms) (before : History) (s : State) (h : Holding terms 
   same-turn t e client bodies sends fault is_e is_client is_bodies is_sends is_fault = rw (sym is_e, sym is_client, sym is_bodies, sym is_sends, sym is_fault) refl
 
   pub next-Holding : (t : Turn) (new : State) → Leads s t new → Holding terms (t ∷ before) new
-  next-Holding t new leads = by_event t.event refl leads.is_event leads.meets
+  next-Holding t new leads = by_event t.event refl leads.meets
     where
-      by_event : (e : Event) → t.event ≡ e → IsEvent e → Meets s e (step s e) t new → Holding terms (t ∷ before) new
-      by_event (Came client m port) is_e is_event meets =
+      by_event : (e : Event) → t.event ≡ e → Meets s e (step s e) t new → Holding terms (t ∷ before) new
+      by_event (Came client m port) is_e meets =
           let goes = client-goes terms before s tb short client m port t.sends in
           subst (Holding terms (t ∷ before)) (sym meets.state)
           (subst (λ (x : Turn). Holding terms (x ∷ before) (client_step s client m port).state)
           (same-turn t (Came client m port) client (client_step s client m port).bodies t.sends None is_e (meets.client ∙ goes.1) meets.bodies refl (meets.fault ∙ goes.2))
           (came client m port t.sends meets.sends))
-      by_event (Heard port m) is_e is_event meets =
+      by_event (Heard port m) is_e meets =
           subst (Holding terms (t ∷ before)) (sym meets.state)
           (subst (λ (x : Turn). Holding terms (x ∷ before) (market_step s port m).state)
           (same-turn t (Heard port m) (market_step s port m).client (market_step s port m).bodies [] (market_step s port m).fault is_e meets.client meets.bodies meets.sends meets.fault)
-          (heard port m is_event))
+          (heard port m))
 
 -- ---- runs
 

@@ -7,6 +7,7 @@ use Rattle.order_law.specs.Life.{is_closed, is_waiting}
 use Rattle.order_law.specs.Verdicts.{is_replace}
 use Rattle.order_law.specs.History.{Entry}
 use Rattle.order_histories.specs.OrderRecord.{Cancelling, OrderRecord, ToldTrade, all_cancelled, broken, entered, filled, leaves, opened, reduced, refused, replaced, traded, without_cancel, without_replace}
+use Rattle.ouch_codec.specs.declared.outbound.replaced.Replaced.{Replaced}
 use Rattle.order_histories.proofs.Due.{IsSound}
 use Rattle.order_histories.proofs.Reports.{with_cancel, with_replace}
 use Rattle.std.proofs.Common.{arith}
@@ -14,10 +15,10 @@ use Rattle.std.proofs.Common.{arith}
 pub entered-sound : (new : Entry) → IsSound (entered new)
 entered-sound new = record { total = λ e. omega arith; refused = λ e. absurd (cc); replaces = λ q e. absurd (cc); cancels = λ c e. absurd (cc) }
 
-pub opened-sound : (m : List ℕ) (o : OrderRecord) → o.is_refused ≡ false → IsSound o → IsSound (opened m o)
-opened-sound m o live s = record { total = λ e. refl; refused = λ e. absurd (let x : true ≡ false = sym e ∙ live in cc); replaces = s.replaces; cancels = s.cancels }
+pub opened-sound : (shares price : ℕ) (o : OrderRecord) → o.is_refused ≡ false → IsSound o → IsSound (opened shares price o)
+opened-sound shares price o live s = record { total = λ e. refl; refused = λ e. absurd (let x : true ≡ false = sym e ∙ live in cc); replaces = s.replaces; cancels = s.cancels }
 
-pub replaced-sound : (m : List ℕ) (q : Entry) (o : OrderRecord) → o.is_refused ≡ false → IsSound o → IsSound (replaced m q o)
+pub replaced-sound : (m : Replaced) (q : Entry) (o : OrderRecord) → o.is_refused ≡ false → IsSound o → IsSound (replaced m q o)
 replaced-sound m q o live s = record { total = λ e. refl; refused = λ e. absurd (let x : true ≡ false = sym e ∙ live in cc); replaces = λ q e. absurd (cc); cancels = s.cancels }
 
 pub reduced-sound : (shares : ℕ) (o : OrderRecord) → o.stage ≡ Working → IsSound o → IsSound (reduced shares o)

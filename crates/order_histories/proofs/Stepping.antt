@@ -92,10 +92,10 @@ module _ (terms : List Terms) (before : History) (s : State) (t : IsTable terms 
   reports_small = omega (arith, t.few)
 
   next : (bodies : List Message) → law.told terms event before ≡ record { client = client; bodies = bodies } → Next terms (turn bodies) before
-  next bodies tells = turn-next terms (turn bodies) before t.held short reports_small (record { bytes = tt; tells = tells; fault = refl })
+  next bodies tells = turn-next terms (turn bodies) before t.held short reports_small (record { tells = tells; fault = refl })
 
   told-now : (bodies : List Message) → law.told terms event before ≡ record { client = client; bodies = bodies } → IsTold terms (turn bodies ∷ before)
-  told-now bodies tells = (record { bytes = tt; tells = tells; fault = refl }, t.is_told)
+  told-now bodies tells = (record { tells = tells; fault = refl }, t.is_told)
 
   law-is : (w : Verdict) → verdict_in s client port m ≡ w → verdict terms (issued client before) A port m ≡ w
   law-is w v = sym (verdict-same terms before s t client m port) ∙ v

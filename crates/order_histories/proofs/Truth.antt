@@ -1,21 +1,22 @@
 -- In every told history each order is true to the market, after each turn.
-use Rattle.std.proofs.Common.{◌≡◌, ℕ, suc, ◌+◌, ◌*◌, ◌<◌, ◌^◌, Bool, true, false, List, [], ◌∷◌, length, refl, sym, ap, ◌∙◌, subst, arith, decimal, codes, Option, Some, None, eqb-true}
+use Rattle.std.proofs.Common.{◌≡◌, ℕ, suc, ◌+◌, ◌*◌, ◌<◌, ◌^◌, Bool, true, false, List, [], ◌∷◌, length, refl, sym, ap, ◌∙◌, subst, arith, decimal, codes, Option, Some, None, Result, Ok, Err}
 use Rattle.std.specs.Prelude.{◌&&◌, if◌then◌else◌}
 use Rattle.std.specs.List.{find}
-use Rattle.ouch_codec.specs.FromMarket as heard
-use Rattle.ouch_codec.specs.Parts.{type_of}
+use Rattle.ouch_codec.specs.declared.outbound.Outbound.{Outbound}
+use Rattle.ouch_codec.specs.declared.outbound.Outbound.TheVariants as market
+use Rattle.ouch_codec.specs.declared.refusal.DecodeRefusal.{DecodeRefusal}
 use Rattle.order_law.specs.Messages.{Message}
-use Rattle.order_law.specs.Life.{is_closed, is_type}
+use Rattle.order_law.specs.Life.{is_closed}
 use Rattle.order_law.specs.Reading.{is_report}
 use Rattle.order_law.specs.Chain.{chain}
 use Rattle.order_law.specs.History.{Entry, Heard, History, Terms, Turn, accepted, given, is_new_order, issued, new_of, numbered}
 use Rattle.order_law.specs.Lawful.{judgement, order_token}
-use Rattle.order_law.specs.Told.{Told, answers_last_cancel, nobody, opens, price_after, reports_in, told, told_by_type, told_on, to_client_of}
+use Rattle.order_law.specs.Told.{Told, answers_last_cancel, nobody, price_after, reports_in, told, told_by, told_on, to_client_of}
 use Rattle.order_law.specs.Headline.{Each, IsTrueToMarket, said_in}
 use Rattle.order_histories.specs.OrderRecord.{OrderRecord, after_request, at, live_token, replacements, shown_as}
 use Rattle.order_histories.proofs.Texts.{and-parts}
 use Rattle.order_histories.proofs.Fits.{named}
-use Rattle.order_histories.specs.Told.{AreBytes, IsTold, IsToldTurn, fault_of}
+use Rattle.order_histories.specs.Told.{IsTold, IsToldTurn, fault_of}
 use Rattle.std.specs.Prelude.{nat_lt, take, drop, fold, option_and_then}
 use Rattle.std.specs.List.{list_all}
 use Rattle.std.proofs.lemmas.Bool.Decides.{nat_tests}
@@ -44,61 +45,36 @@ Next terms t before = Holds terms (t ∷ before) × AllTrue terms t before
 
 -- ---- a payload
 
-below : (byte : ℕ) → nat_lt byte 256 ≡ true → byte < 256
-below byte e = grind (arith, nat_tests)
+-- a turn of a port that tells nobody anything, by its parts
+told-nobody : (terms : List Terms) (before : History) (port : ℕ) (heard : Result Outbound DecodeRefusal) (client : ℕ) (bodies : List Message) (sends : List (List ℕ)) → told terms (Heard port heard) before ≡ record { client = client; bodies = bodies }
+    → told terms (Heard port heard) before ≡ nobody → (fault : Option ℕ) → Next terms (heard_turn port heard 0 [] sends fault) before → Next terms (heard_turn port heard client bodies sends fault) before
+told-nobody terms before port heard client bodies sends tells none fault next =
+    let same : nobody ≡ record { client = client; bodies = bodies } = sym none ∙ tells in
+    subst (λ (x : Told). Next terms (heard_turn port heard x.client x.bodies sends fault) before) same next
 
-bytes-drop : (k : ℕ) (bs : List ℕ) → AreBytes bs → AreBytes (drop k bs)
-bytes-drop ℕ.zero bs e = e
-bytes-drop (suc k) [] e = e
-bytes-drop (suc k) (b ∷ bs) e = bytes-drop k bs (and-parts (nat_lt b 256) (list_all (λ byte. nat_lt byte 256) bs) e).1
+-- a message
+module _ (terms : List Terms) (before : History) (port : ℕ) (m : Outbound) (client : ℕ) (bodies : List Message) (sends : List (List ℕ)) (H : Holds terms before)
+    (tells : told terms (Heard port (Ok m)) before ≡ record { client = client; bodies = bodies }) (short : length before < 2 ^ 59) (reports_small : reports_in before < 10 ^ 64) (judged : judgement terms port (Ok m) before ≡ None) where
+  handled-next : Next terms (heard_turn port (Ok m) client bodies sends None) before
+  handled-next = by_token (order_token m) refl
+    where
+      by_token : (x : Option (List ℕ)) → order_token m ≡ x → Next terms (heard_turn port (Ok m) client bodies sends None) before
+      by_token None none = (let next = tokenless-Holds terms before port m sends H none in told-nobody terms before port (Ok m) client bodies sends tells (rw (judged, none) refl) None (next.0, next.1))
+      by_token (Some token) has =
+          let l = lawful terms port before m token has judged in
+          let token_leads = token-of terms before port token l.new H l.on in
+          let r = record-of terms before token_leads.entry.order (accepted terms before) l.new H.records token_leads.found in
+          lawful-Holds terms before port m token client bodies sends H has judged tells short reports_small l r.order r.fits (ap (port_of terms) r.same ∙ token_leads.on_port) r.same
 
-four-small : (bs : List ℕ) → AreBytes bs → fold (λ n byte. 256 * n + byte) 0 (take 4 bs) < 2 ^ 32
-four-small [] e = omega arith
-four-small (a ∷ []) e = let x = below a (and-parts (nat_lt a 256) true e).0 in omega arith
-four-small (a ∷ b ∷ []) e =
-    let p = and-parts (nat_lt a 256) (nat_lt b 256 && true) e in
-    let x = below a p.0 in let y = below b (and-parts (nat_lt b 256) true p.1).0 in omega arith
-four-small (a ∷ b ∷ c ∷ []) e =
-    let p = and-parts (nat_lt a 256) (nat_lt b 256 && (nat_lt c 256 && true)) e in
-    let q = and-parts (nat_lt b 256) (nat_lt c 256 && true) p.1 in
-    let x = below a p.0 in let y = below b q.0 in let z = below c (and-parts (nat_lt c 256) true q.1).0 in omega arith
-four-small (a ∷ b ∷ c ∷ d ∷ bs) e =
-    let p = and-parts (nat_lt a 256) (nat_lt b 256 && (nat_lt c 256 && (nat_lt d 256 && list_all (λ byte. nat_lt byte 256) bs))) e in
-    let q = and-parts (nat_lt b 256) (nat_lt c 256 && (nat_lt d 256 && list_all (λ byte. nat_lt byte 256) bs)) p.1 in
-    let r = and-parts (nat_lt c 256) (nat_lt d 256 && list_all (λ byte. nat_lt byte 256) bs) q.1 in
-    let x = below a p.0 in let y = below b q.0 in let z = below c r.0 in let w = below d (and-parts (nat_lt d 256) (list_all (λ byte. nat_lt byte 256) bs) r.1).0 in omega arith
-
-pub price-small : (m : List ℕ) → AreBytes m → heard.executed_price m < 2 ^ 128
-price-small m e = let x : heard.executed_price m < 2 ^ 32 = four-small (drop 27 m) (bytes-drop 27 m e) in omega arith
-
--- a turn of a port by its parts
-module _ (terms : List Terms) (before : History) (port : ℕ) (m : List ℕ) (client : ℕ) (bodies : List Message) (sends : List (List ℕ)) (H : Holds terms before)
-    (bytes : is_type (codes "E") m ≡ true → AreBytes m) (tells : told terms (Heard port m) before ≡ record { client = client; bodies = bodies }) (short : length before < 2 ^ 59) (reports_small : reports_in before < 10 ^ 64) where
-  told-nobody : told terms (Heard port m) before ≡ nobody → (fault : Option ℕ) → Next terms (heard_turn port m 0 [] sends fault) before → Next terms (heard_turn port m client bodies sends fault) before
-  told-nobody none fault next =
-      let same : nobody ≡ record { client = client; bodies = bodies } = sym none ∙ tells in
-      subst (λ (x : Told). Next terms (heard_turn port m x.client x.bodies sends fault) before) same next
-
-  skipped : (type : ℕ) → type_of m ≡ type → is_type (codes "A") m ≡ false → is_type (codes "U") m ≡ false → is_type (codes "C") m ≡ false → is_type (codes "E") m ≡ false → is_type (codes "B") m ≡ false → is_type (codes "J") m ≡ false → is_type (codes "I") m ≡ false
-      → told terms (Heard port m) before ≡ nobody → Next terms (heard_turn port m client bodies sends None) before
-  skipped type is_type' a u c e b j i none = (let next = tokenless-Holds terms before port m sends H a u c e b j i in told-nobody none None (next.0, next.1))
-
-  handled-next : judgement terms port m before ≡ None → (t s : Bool) → is_type (codes "T") m ≡ t → is_type (codes "S") m ≡ s → Next terms (heard_turn port m client bodies sends None) before
-  handled-next judged true s is_t is_s =
-      let type : type_of m ≡ 84 = eqb-true (type_of m) 84 is_t in
-      skipped 84 type (rw type refl) (rw type refl) (rw type refl) (rw type refl) (rw type refl) (rw type refl) (rw type refl) (rw (judged, is_t) refl)
-  handled-next judged false true is_t is_s =
-      let type : type_of m ≡ 83 = eqb-true (type_of m) 83 is_s in
-      skipped 83 type (rw type refl) (rw type refl) (rw type refl) (rw type refl) (rw type refl) (rw type refl) (rw type refl) (rw (judged, is_t, is_s) refl)
-  handled-next judged false false is_t is_s =
-      let l = lawful terms port m before is_t is_s judged in
-      let token = token-of terms before port (order_token m) l.new H l.on in
-      let r = record-of terms before token.entry.order (accepted terms before) l.new H.records token.found in
-      lawful-Holds terms before port m client bodies sends H is_t is_s judged tells (λ type. price-small m (bytes (rw type refl))) short reports_small l r.order r.fits (ap (port_of terms) r.same ∙ token.on_port) r.same
-
-  heard-next : (fault : Option ℕ) → fault ≡ judgement terms port m before → Next terms (heard_turn port m client bodies sends fault) before
-  heard-next None judged = handled-next (sym judged) (is_type (codes "T") m) (is_type (codes "S") m) refl refl
-  heard-next (Some n) judged = (let next = fault-Holds terms before port m sends n H in told-nobody (rw (sym judged) refl) (Some n) (next.0, next.1))
+heard-next : (terms : List Terms) (before : History) (port : ℕ) (heard : Result Outbound DecodeRefusal) (client : ℕ) (bodies : List Message) (sends : List (List ℕ)) → Holds terms before
+    → told terms (Heard port heard) before ≡ record { client = client; bodies = bodies } → length before < 2 ^ 59 → reports_in before < 10 ^ 64
+    → (fault : Option ℕ) → fault ≡ judgement terms port heard before → Next terms (heard_turn port heard client bodies sends fault) before
+heard-next terms before port (Ok m) client bodies sends H tells short reports_small None judged = handled-next terms before port m client bodies sends H tells short reports_small (sym judged)
+heard-next terms before port (Ok m) client bodies sends H tells short reports_small (Some n) judged =
+    (let next = fault-Holds terms before port (Ok m) sends n H in told-nobody terms before port (Ok m) client bodies sends tells (rw (sym judged) refl) (Some n) (next.0, next.1))
+heard-next terms before port (Err refusal) client bodies sends H tells short reports_small None judged = absurd (cc)
+heard-next terms before port (Err refusal) client bodies sends H tells short reports_small (Some n) judged =
+    (let next = fault-Holds terms before port (Err refusal) sends n H in told-nobody terms before port (Err refusal) client bodies sends tells refl (Some n) (next.0, next.1))
 
 -- ---- a client's message
 
@@ -263,17 +239,17 @@ same-turn : (t : Turn) (e : Event) (client : ℕ) (bodies : List Message) (fault
 same-turn t e client bodies fault is_e is_client is_bodies is_fault = rw (sym is_e, sym is_client, sym is_bodies, sym is_fault) refl
 
 pub turn-next : (terms : List Terms) (t : Turn) (before : History) → Holds terms before → length before < 2 ^ 59 → reports_in before < 10 ^ 64 → IsToldTurn terms t before → Next terms t before
-turn-next terms t before H short reports_small told_turn = by_event t.event refl told_turn.bytes told_turn.tells told_turn.fault
+turn-next terms t before H short reports_small told_turn = by_event t.event refl told_turn.tells told_turn.fault
   where
-    by_event : (e : Event) → t.event ≡ e → Rattle.order_histories.specs.Told.IsEvent e → told terms e before ≡ said_in t → t.fault ≡ fault_of terms e before → Next terms t before
-    by_event (Came client m port) is_e bytes tells fault =
+    by_event : (e : Event) → t.event ≡ e → told terms e before ≡ said_in t → t.fault ≡ fault_of terms e before → Next terms t before
+    by_event (Came client m port) is_e tells fault =
         let is_client : t.client ≡ client = ap (λ (x : Told). x.client) (sym tells) in
         let is_bodies : t.bodies ≡ told_by_verdict terms client m port before (verdict terms (issued client before) (accepted terms before) port m) = ap (λ (x : Told). x.bodies) (sym tells) in
         subst (λ (x : Turn). Next terms x before) (same-turn t (Came client m port) client (told_by_verdict terms client m port before (verdict terms (issued client before) (accepted terms before) port m)) None is_e is_client is_bodies fault)
         (came-next terms before client m port t.sends H short)
-    by_event (Heard port m) is_e bytes tells fault =
-        subst (λ (x : Turn). Next terms x before) (same-turn t (Heard port m) t.client t.bodies t.fault is_e refl refl refl)
-        (heard-next terms before port m t.client t.bodies t.sends H bytes tells short reports_small t.fault fault)
+    by_event (Heard port heard) is_e tells fault =
+        subst (λ (x : Turn). Next terms x before) (same-turn t (Heard port heard) t.client t.bodies t.fault is_e refl refl refl)
+        (heard-next terms before port heard t.client t.bodies t.sends H tells short reports_small t.fault fault)
 
 pub run-Holds : (terms : List Terms) (h : History) → length h < 2 ^ 59 → reports_in h < 10 ^ 64 → IsTold terms h → Holds terms h
 run-Holds terms [] short reports_small t = empty-Holds terms

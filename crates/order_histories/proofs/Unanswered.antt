@@ -1,17 +1,20 @@
 -- After each turn the list of what is asked and not answered has, on each port, what the law reads from all turns.
-use Rattle.std.proofs.Common.{◌≡◌, ◌≢◌, ℕ, ◌-◌, ◌*◌, Bool, true, false, List, [], ◌∷◌, length, refl, sym, ap, ◌∙◌, subst, codes, bytes_eq, Option, Some, None, eq-eqb, eqb-true, ne_eqb}
-use Rattle.std.specs.Prelude.{◌==◌, ◌&&◌, ◌||◌, not, if◌then◌else◌, filter, option_map}
+use Rattle.std.proofs.Common.{◌≡◌, ◌≢◌, ℕ, ◌-◌, ◌*◌, Bool, true, false, List, [], ◌∷◌, length, refl, sym, ap, ◌∙◌, subst, codes, bytes_eq, Option, Some, None, Result, Ok, Err, eq-eqb, eqb-true, ne_eqb}
+use Rattle.std.specs.Prelude.{◌==◌, ◌&&◌, ◌||◌, not, if◌then◌else◌, filter, option_and_then, option_map}
 use Rattle.std.specs.List.{find}
-use Rattle.ouch_codec.specs.FromMarket as heard
+use Rattle.ouch_codec.specs.declared.outbound.Outbound.{Outbound}
+use Rattle.ouch_codec.specs.declared.outbound.Outbound.TheVariants as market
+use Rattle.ouch_codec.specs.declared.refusal.DecodeRefusal.{DecodeRefusal}
+use Rattle.ouch_codec.specs.declared.outbound.replaced.Replaced.{Replaced}
 use Rattle.order_law.specs.Messages.{Message}
-use Rattle.order_law.specs.Life.{Life, is_closed, is_dead_state, is_type}
+use Rattle.order_law.specs.Life.{Life, is_closed, is_dead}
 use Rattle.order_law.specs.History.{Asked, Entry, History, Terms, Turn, accepted, answers, handled, issued, life_of, new_of, numbered, outstanding}
 use Rattle.order_law.specs.Told.{reports_in}
 use Rattle.order_law.specs.Lawful.{order_token}
 use Rattle.order_law.specs.Headline.{Each}
 use Rattle.order_histories.specs.OrderRecord.{OrderRecord, ToldTrade, after_broken, after_message, after_replaced, lived, stands_told}
 use Rattle.order_histories.specs.Table.{State, by_number, by_token, has_number, put}
-use Rattle.order_histories.specs.Machine.{Given, fault_in, faulty, handled_by, heard_on, market_step, silent}
+use Rattle.order_histories.specs.Machine.{Given, fault_in, faulty, heard_on, market_step, silent}
 use Rattle.order_histories.specs.Outstanding.{OnPort, is_answered, is_on, on_port, still_asked, still_asked_on, unanswered_by}
 use Rattle.order_histories.proofs.Texts.{and-false, eq-is, eq-true, eq-turned}
 use Rattle.order_histories.proofs.Lists.{Each-filter, found-passes}
@@ -66,32 +69,34 @@ if-new : (b : Bool) (x y : OrderRecord) (e : Entry) → x.new ≡ e → y.new �
 if-new true x y e same same' = same
 if-new false x y e same same' = same'
 
-pub after_message-new : (n : ℕ) (m : List ℕ) (o : OrderRecord) → (after_message n m o).new ≡ o.new
-after_message-new n m o =
-    if-new (is_type (codes "A") m) _ _ o.new (if-new (is_dead_state m) _ _ o.new refl refl)
-    (if-new (is_type (codes "U") m) _ _ o.new (by_request o.replace refl)
-    (if-new (is_type (codes "C") m) _ _ o.new (if-new (o.unfilled - heard.decrement m == 0) _ _ o.new refl refl)
-    (if-new (is_type (codes "E") m) _ _ o.new (if-new (o.unfilled - heard.executed_shares m == 0) _ _ o.new refl refl)
-    (if-new (is_type (codes "B") m) _ _ o.new (by_trade (find (stands_told (heard.broken_match m)) o.trades) refl)
-    (if-new (is_type (codes "J") m) _ _ o.new (if-new _ _ _ o.new refl refl)
-    (if-new (is_type (codes "I") m) _ _ o.new refl refl))))))
-  where
-    by_request : (x : Option Entry) → o.replace ≡ x → (after_replaced m o).new ≡ o.new
-    by_request None e = rw e refl
-    by_request (Some q) e = rw e (if-new (is_dead_state m) _ _ o.new refl refl)
+replaced-new : (m : Replaced) (o : OrderRecord) (r : Option Entry) → (after_replaced m o r).new ≡ o.new
+replaced-new m o None = refl
+replaced-new m o (Some q) = if-new (is_dead m.order_state) _ _ o.new refl refl
 
-    by_trade : (x : Option ToldTrade) → find (stands_told (heard.broken_match m)) o.trades ≡ x → (after_broken m o).new ≡ o.new
-    by_trade None e = rw e refl
-    by_trade (Some t) e = rw e refl
+broken-new : (o : OrderRecord) (x : Option ToldTrade) → (after_broken o x).new ≡ o.new
+broken-new o None = refl
+broken-new o (Some t) = refl
+
+pub after_message-new : (n : ℕ) (m : Outbound) (o : OrderRecord) → (after_message n m o).new ≡ o.new
+after_message-new n (market.Accepted m) o = if-new (is_dead m.order_state) _ _ o.new refl refl
+after_message-new n (market.Replaced m) o = replaced-new m o o.replace
+after_message-new n (market.Canceled m) o = if-new (o.unfilled - m.decrement == 0) _ _ o.new refl refl
+after_message-new n (market.Executed m) o = if-new (o.unfilled - m.shares == 0) _ _ o.new refl refl
+after_message-new n (market.Broken m) o = broken-new o (find (stands_told m.match_number) o.trades)
+after_message-new n (market.Rejected m) o = if-new _ _ _ o.new refl refl
+after_message-new n (market.CancelReject m) o = refl
+after_message-new n (market.CancelPending m) o = refl
+after_message-new n (market.SystemEvent m) o = refl
+after_message-new n market.Skipped o = refl
 
 -- ---- a payload that is no fault
 
-module _ (terms : List Terms) (before : History) (s : State) (t : IsTable terms before s) (port : ℕ) (m : List ℕ) (client : ℕ) (bodies : List Message) (sends : List (List ℕ)) where
+module _ (terms : List Terms) (before : History) (s : State) (t : IsTable terms before s) (port : ℕ) (m : Outbound) (client : ℕ) (bodies : List Message) (sends : List (List ℕ)) where
   abbrev A : List Entry
   A = accepted terms before
 
   abbrev turn : Turn
-  turn = heard_turn port m client bodies sends None
+  turn = heard_turn port (Ok m) client bodies sends None
 
   -- the law's test of what a port was asked
   abbrev still : ℕ → Asked → Bool
@@ -226,44 +231,48 @@ module _ (terms : List Terms) (before : History) (s : State) (t : IsTable terms 
 
 -- ---- a payload
 
-module _ (terms : List Terms) (before : History) (s : State) (t : IsTable terms before s) (port : ℕ) (m : List ℕ) (sends : List (List ℕ)) (asked : List OnPort) (was : Asking terms before asked) where
+module _ (terms : List Terms) (before : History) (s : State) (port : ℕ) (heard : Result Outbound DecodeRefusal) (sends : List (List ℕ)) where
   abbrev turn_of : Given → Turn
-  turn_of g = heard_turn port m g.client g.bodies sends g.fault
+  turn_of g = heard_turn port heard g.client g.bodies sends g.fault
 
   -- where the table that is given is that of the lists, the list is theirs too
   abbrev pub LeavesRest : Given → List OnPort → Type 0
   LeavesRest g rest = IsTable terms (turn_of g ∷ before) g.state → Asking terms (turn_of g ∷ before) rest
 
-  silent-rest : LeavesRest (silent s) asked
-  silent-rest after = record {
+module _ (terms : List Terms) (before : History) (s : State) (t : IsTable terms before s) (port : ℕ) (sends : List (List ℕ)) (asked : List OnPort) (was : Asking terms before asked) where
+  silent-rest : (m : Outbound) → LeavesRest terms before s port (Ok m) sends (silent s) asked
+  silent-rest m after = record {
     placed = placed-then terms before s t port m 0 [] sends was.placed;
     same = λ p. was.same p ∙ sym (all-stay terms before s t port m 0 [] sends was.placed after p);
   }
 
-  faulty-rest : (n : ℕ) → LeavesRest (faulty s n) asked
-  faulty-rest n after = record {
-    placed = λ p. subst (Each (IsPlaced terms (accepted terms before) p)) (sym (append-nothing (outstanding terms p before))) (was.placed p);
-    same = λ p. was.same p ∙ sym (append-nothing (outstanding terms p before));
+  same-asked : (heard : Result Outbound DecodeRefusal) (n p : ℕ) → outstanding terms p (heard_turn port heard 0 [] sends (Some n) ∷ before) ≡ outstanding terms p before
+  same-asked (Ok m) n p = append-nothing (outstanding terms p before)
+  same-asked (Err refusal) n p = append-nothing (outstanding terms p before)
+
+  faulty-rest : (heard : Result Outbound DecodeRefusal) (n : ℕ) → LeavesRest terms before s port heard sends (faulty s n) asked
+  faulty-rest heard n after = record {
+    placed = λ p. subst (Each (IsPlaced terms (accepted terms before) p)) (sym (same-asked heard n p)) (was.placed p);
+    same = λ p. was.same p ∙ sym (same-asked heard n p);
   }
 
-  heard-rest : (x : Option OrderRecord) → by_token s port (order_token m) ≡ x → LeavesRest (heard_on s m x) (still_asked_on s port m x asked)
-  heard-rest None on = silent-rest
-  heard-rest (Some o) on = λ after. record {
+  heard-rest : (m : Outbound) (token : List ℕ) (x : Option OrderRecord) → by_token s port token ≡ x → LeavesRest terms before s port (Ok m) sends (heard_on s m x) (still_asked_on s port m x asked)
+  heard-rest m token None on = silent-rest m
+  heard-rest m token (Some o) on = λ after. record {
     placed = placed-then terms before s t port m (heard_on s m (Some o)).client (heard_on s m (Some o)).bodies sends was.placed;
     same = rest terms before s t port m (heard_on s m (Some o)).client (heard_on s m (Some o)).bodies sends was.placed (after_message s.exec_ids m o)
-        (ap (port_of terms) (after_message-new s.exec_ids m o) ∙ token-port terms before s t port m (order_token m) o on) after.fit asked was.same;
+        (ap (port_of terms) (after_message-new s.exec_ids m o) ∙ token-port terms before s t port m token o on) after.fit asked was.same;
   }
 
-  handled-rest : LeavesRest (handled_by s port m) (still_asked s port m None asked)
-  handled-rest = by_type (is_type (codes "T") m || is_type (codes "S") m)
-    where
-      by_type : (b : Bool) → LeavesRest (if b then silent s else heard_on s m (by_token s port (order_token m))) (if b then asked else still_asked_on s port m (by_token s port (order_token m)) asked)
-      by_type true = silent-rest
-      by_type false = heard-rest (by_token s port (order_token m)) refl
+  handled-rest : (m : Outbound) (x : Option (List ℕ)) → LeavesRest terms before s port (Ok m) sends (heard_on s m (option_and_then (by_token s port) x)) (still_asked_on s port m (option_and_then (by_token s port) x) asked)
+  handled-rest m None = silent-rest m
+  handled-rest m (Some token) = heard-rest m token (by_token s port token) refl
 
-  pub market-rest : LeavesRest (market_step s port m) (still_asked s port m (fault_in s port m) asked)
-  market-rest = by_fault (fault_in s port m)
-    where
-      by_fault : (x : Option ℕ) → LeavesRest (Rattle.order_histories.specs.Machine.by_fault s port m x) (still_asked s port m x asked)
-      by_fault None = handled-rest
-      by_fault (Some n) = faulty-rest n
+  by_fault-rest : (heard : Result Outbound DecodeRefusal) (x : Option ℕ) → fault_in s port heard ≡ x → LeavesRest terms before s port heard sends (Rattle.order_histories.specs.Machine.by_fault s port heard x) (still_asked s port heard x asked)
+  by_fault-rest (Ok m) None e = handled-rest m (order_token m)
+  by_fault-rest (Ok m) (Some n) e = faulty-rest (Ok m) n
+  by_fault-rest (Err refusal) None e = absurd (cc)
+  by_fault-rest (Err refusal) (Some n) e = faulty-rest (Err refusal) n
+
+  pub market-rest : (heard : Result Outbound DecodeRefusal) → LeavesRest terms before s port heard sends (market_step s port heard) (still_asked s port heard (fault_in s port heard) asked)
+  market-rest heard = by_fault-rest heard (fault_in s port heard) refl

@@ -2,16 +2,18 @@
 -- turns, the machine from its table.
 --
 -- Nobody has to believe it: the code meets it by equality, and the headline is a theorem about its runs.
-use Rattle.std.specs.Prelude.{ℕ, ◌+◌, Bool, List, [], ◌∷◌, ◌++◌, map, length, Option, Some, None, option_map, decimal, if◌then◌else◌, ◌||◌, codes}
+use Rattle.std.specs.Prelude.{ℕ, ◌+◌, Bool, List, [], ◌∷◌, ◌++◌, map, length, Option, Some, None, option_map, decimal, if◌then◌else◌, option_and_then, Result, Ok, Err}
 use Rattle.std.specs.List.{count_by}
 use Rattle.order_law.specs.declared.stage.Stage.TheVariants.{Waiting}
 use Rattle.order_law.specs.Messages.{Message, text}
-use Rattle.order_law.specs.Life.{is_type}
+use Rattle.ouch_codec.specs.declared.outbound.Outbound.{Outbound}
+use Rattle.ouch_codec.specs.declared.outbound.Outbound.TheVariants as market
+use Rattle.ouch_codec.specs.declared.refusal.DecodeRefusal.{DecodeRefusal}
 use Rattle.order_law.specs.Reading.{is_report}
 use Rattle.order_law.specs.Verdicts.{Port, Verdict, Accepted, Refused, first_row, is_replace, rows_of_new, rows_of_request}
 use Rattle.order_law.specs.History.{Asked, Entry, Event, Came, Heard, is_new_order}
 use Rattle.order_law.specs.Lawful.{judged_by, order_token, row_holds}
-use Rattle.order_law.specs.Told.{accepted_new, accepted_request, refusal, refused_request, told_by_type, to_client_of}
+use Rattle.order_law.specs.Told.{accepted_new, accepted_request, refusal, refused_request, told_by, to_client_of}
 use Rattle.order_histories.specs.OrderRecord.{OrderRecord, after_message, after_request, cancel_asked, entered, fill_of, last_of, lived, live_token, new_asked, replace_asked, replacements, shown_as}
 use Rattle.order_histories.specs.Table.{State, by_id, by_token, has_used, named_as, open_count, put, used_by, with_token}
 
@@ -117,17 +119,17 @@ client_step s client m port = by_verdict s client m (verdict_in s client port m)
 -- ---- a payload of the market
 
 -- whether it is lawful of the order that a token leads to
-abbrev pub is_lawful_in : State → ℕ → List ℕ → List ℕ → Option Bool
+abbrev pub is_lawful_in : State → ℕ → Outbound → List ℕ → Option Bool
 is_lawful_in s port m token = option_map (λ (o : OrderRecord). row_holds m (lived o) o.new (replacements o.replace)) (by_token s port token)
 
-abbrev pub fault_in : State → ℕ → List ℕ → Option ℕ
-fault_in s port m = judged_by (is_lawful_in s port m) m
+abbrev pub fault_in : State → ℕ → Result Outbound DecodeRefusal → Option ℕ
+fault_in s port heard = judged_by (is_lawful_in s port) heard
 
 -- the bodies that a message on an order leads to
-abbrev pub bodies_of : State → List ℕ → OrderRecord → List Message
-bodies_of s m o = told_by_type s.exec_ids m (lived o) (last_of m o.cancel) (map fill_of o.trades) (shown_as o)
+abbrev pub bodies_of : State → Outbound → OrderRecord → List Message
+bodies_of s m o = told_by s.exec_ids m (lived o) (last_of m o.cancel) (map fill_of o.trades) (shown_as o)
 
-abbrev pub heard_on : State → List ℕ → Option OrderRecord → Given
+abbrev pub heard_on : State → Outbound → Option OrderRecord → Given
 heard_on s m None = silent s
 heard_on s m (Some o) =
     tells (record s {
@@ -135,19 +137,20 @@ heard_on s m (Some o) =
       exec_ids = s.exec_ids + count_by is_report (bodies_of s m o);
     }) (to_client_of o.new (bodies_of s m o)).client (bodies_of s m o) []
 
--- A payload that is no fault, on the order that it is judged of. `T` and `S` have no token.
-abbrev pub handled_by : State → ℕ → List ℕ → Given
-handled_by s port m =
-    if is_type (codes "T") m || is_type (codes "S") m then silent s else heard_on s m (by_token s port (order_token m))
+-- the order that a message is on
+abbrev pub order_in : State → ℕ → Outbound → Option OrderRecord
+order_in s port m = option_and_then (by_token s port) (order_token m)
 
-abbrev pub by_fault : State → ℕ → List ℕ → Option ℕ → Given
-by_fault s port m None = handled_by s port m
-by_fault s port m (Some fault) = faulty s fault
+-- a payload that is no fault, on the order that it is on
+abbrev pub by_fault : State → ℕ → Result Outbound DecodeRefusal → Option ℕ → Given
+by_fault s port (Err refusal) None = silent s
+by_fault s port (Ok m) None = heard_on s m (order_in s port m)
+by_fault s port heard (Some fault) = faulty s fault
 
 -- a payload on a port
-abbrev pub market_step : State → ℕ → List ℕ → Given
-market_step s port m = by_fault s port m (fault_in s port m)
+abbrev pub market_step : State → ℕ → Result Outbound DecodeRefusal → Given
+market_step s port heard = by_fault s port heard (fault_in s port heard)
 
 abbrev pub step : State → Event → Given
 step s (Came client m port) = client_step s client m port
-step s (Heard port m) = market_step s port m
+step s (Heard port heard) = market_step s port heard

@@ -8,8 +8,12 @@ use Rattle.order_law.specs.declared.stage.Stage.TheVariants.{Waiting, Working, C
 use Rattle.order_law.specs.declared.trade.Trade.{Trade}
 use Rattle.order_law.specs.Messages.{text, character}
 use Rattle.order_law.specs.Asks.{asked_by_new, asked_by_request, limit_of, total_of}
-use Rattle.ouch_codec.specs.FromMarket as heard
-use Rattle.order_law.specs.Life.{Life, first_token, is_closed, is_dead_state, is_live, is_type, is_waiting, marked, stands_as}
+use Rattle.ouch_codec.specs.declared.outbound.Outbound.{Outbound}
+use Rattle.ouch_codec.specs.declared.outbound.Outbound.TheVariants as market
+use Rattle.ouch_codec.specs.declared.outbound.replaced.Replaced.{Replaced}
+use Rattle.ouch_codec.specs.declared.outbound.executed.Executed.{Executed}
+use Rattle.ouch_codec.specs.declared.order_state.OrderState.{OrderState}
+use Rattle.order_law.specs.Life.{Life, first_token, is_closed, is_dead, is_live, is_waiting, marked, stands_as}
 use Rattle.order_law.specs.Reading.{Fill, Reading}
 use Rattle.order_law.specs.Chain.{Chain, Request}
 use Rattle.order_law.specs.History.{Terms, terms_of, Entry, token_of, Asked, SaysNew, SaysReplace, SaysCancel, answers}
@@ -164,8 +168,8 @@ entered new = record {
 }
 
 -- in the book with the shares and price of an Accepted or Replaced
-abbrev pub opened : List ℕ → OrderRecord → OrderRecord
-opened m o = record o { stage = Working; unfilled = heard.shares m; total = o.executed + heard.shares m; price = heard.price m }
+abbrev pub opened : ℕ → ℕ → OrderRecord → OrderRecord
+opened shares price o = record o { stage = Working; unfilled = shares; total = o.executed + shares; price = price }
 
 -- nothing is open any more
 abbrev pub gone : OrderRecord → OrderRecord
@@ -182,7 +186,7 @@ abbrev pub unasked : OrderRecord → OrderRecord
 unasked o = record o { replace = None; cancel = None }
 
 -- the tokens whose Cancel Order a message doesn't answer
-abbrev pub kept : List ℕ → List (List ℕ) → List (List ℕ)
+abbrev pub kept : Outbound → List (List ℕ) → List (List ℕ)
 kept m tokens = filter (λ token. not (answers m (SaysCancel token))) tokens
 
 abbrev pub with_tokens : Entry → List (List ℕ) → Option Cancelling
@@ -190,7 +194,7 @@ with_tokens q [] = None
 with_tokens q (token ∷ tokens) = Some (record { request = q; tokens = token ∷ tokens })
 
 -- a pending cancel after a message: it is answered where none of its messages is left
-abbrev pub still_cancelling : List ℕ → Option Cancelling → Option Cancelling
+abbrev pub still_cancelling : Outbound → Option Cancelling → Option Cancelling
 still_cancelling m None = None
 still_cancelling m (Some c) = with_tokens c.request (kept m c.tokens)
 
@@ -203,8 +207,8 @@ abbrev pub at : OrderRecord → Option Entry → Option Cancelling → OrderReco
 at o r c = record o { replace = r; cancel = c }
 
 -- in the book under a replace
-abbrev pub replaced : List ℕ → Entry → OrderRecord → OrderRecord
-replaced m q o = record (opened m o) { id = text 11 q.message; tokens = heard.token m ∷ o.tokens; replace = None }
+abbrev pub replaced : Replaced → Entry → OrderRecord → OrderRecord
+replaced m q o = record (opened m.shares m.price o) { id = text 11 q.message; tokens = m.token ∷ o.tokens; replace = None }
 
 -- less is open
 abbrev pub reduced : ℕ → OrderRecord → OrderRecord
@@ -256,65 +260,41 @@ is_empty [] = true
 is_empty (token ∷ tokens) = false
 
 -- a message answers the last Cancel Order of a pending cancel
-abbrev pub last_of : List ℕ → Option Cancelling → Bool
+abbrev pub last_of : Outbound → Option Cancelling → Bool
 last_of m None = false
 last_of m (Some c) = is_empty (kept m c.tokens)
 
 -- ---- what a message of the market makes of it, which is lawful of it: a line for each row
 
-abbrev pub after_accepted : List ℕ → OrderRecord → OrderRecord
-after_accepted m o = if is_dead_state m then unasked (gone (opened m o)) else opened m o
+-- over as it is answered, or not
+abbrev pub after_opened : OrderState → OrderRecord → OrderRecord
+after_opened state o = if is_dead state then unasked (gone o) else o
 
-abbrev pub after_replaced : List ℕ → OrderRecord → OrderRecord
-after_replaced m o = by_request o.replace
-  where
-    by_request : Option Entry → OrderRecord
-    by_request None = o
-    by_request (Some q) =
-        if is_dead_state m then unasked (gone (replaced m q o)) else at (replaced m q o) None (still_cancelling m o.cancel)
+abbrev pub after_replaced : Replaced → OrderRecord → Option Entry → OrderRecord
+after_replaced m o None = o
+after_replaced m o (Some q) = if is_dead m.order_state then unasked (gone (replaced m q o)) else at (replaced m q o) None (still_cancelling (market.Replaced m) o.cancel)
 
-abbrev pub after_canceled : List ℕ → OrderRecord → OrderRecord
-after_canceled m o = if o.unfilled - heard.decrement m == 0 then unasked (gone o) else reduced (heard.decrement m) o
-
-abbrev pub trade_in : List ℕ → Trade
-trade_in m = record { match_number = heard.executed_match m; shares = heard.executed_shares m; price = heard.executed_price m; is_broken = false }
-
--- its report has the number after so many
-abbrev pub after_executed : ℕ → List ℕ → OrderRecord → OrderRecord
-after_executed reports m o =
-    if o.unfilled - heard.executed_shares m == 0 then unasked (filled (reports + 1) (trade_in m) o)
-    else traded (reports + 1) (trade_in m) o
+abbrev pub trade_in : Executed → Trade
+trade_in m = record { match_number = m.match_number; shares = m.shares; price = m.price; is_broken = false }
 
 -- a trade stands under this number
 abbrev pub stands_told : ℕ → ToldTrade → Bool
 stands_told match_number t = stands_as match_number t.trade
 
-abbrev pub after_broken : List ℕ → OrderRecord → OrderRecord
-after_broken m o = by_trade (find (stands_told (heard.broken_match m)) o.trades)
-  where
-    by_trade : Option ToldTrade → OrderRecord
-    by_trade None = o
-    by_trade (Some t) = broken t o
+abbrev pub after_broken : OrderRecord → Option ToldTrade → OrderRecord
+after_broken o None = o
+after_broken o (Some t) = broken t o
 
--- of the new order while it waits, or of its replace
-abbrev pub after_rejected : List ℕ → OrderRecord → OrderRecord
-after_rejected m o =
-    if is_waiting o.stage && is_live (lived o) (heard.token m) then unasked (refused o)
-    else at o None (still_cancelling m o.cancel)
-
-abbrev pub after_cancel_reject : List ℕ → OrderRecord → OrderRecord
-after_cancel_reject m o = at o o.replace (still_cancelling m o.cancel)
-
--- by its type, after so many reports
-abbrev pub after_message : ℕ → List ℕ → OrderRecord → OrderRecord
-after_message reports m o =
-    if is_type (codes "A") m then after_accepted m o
-    else (if is_type (codes "U") m then after_replaced m o
-    else (if is_type (codes "C") m then after_canceled m o
-    else (if is_type (codes "E") m then after_executed reports m o
-    else (if is_type (codes "B") m then after_broken m o
-    else (if is_type (codes "J") m then after_rejected m o
-    else (if is_type (codes "I") m then after_cancel_reject m o else o))))))
+-- after so many reports: a line for each message
+abbrev pub after_message : ℕ → Outbound → OrderRecord → OrderRecord
+after_message reports (market.Accepted m) o = after_opened m.order_state (opened m.shares m.price o)
+after_message reports (market.Replaced m) o = after_replaced m o o.replace
+after_message reports (market.Canceled m) o = if o.unfilled - m.decrement == 0 then unasked (gone o) else reduced m.decrement o
+after_message reports (market.Executed m) o = if o.unfilled - m.shares == 0 then unasked (filled (reports + 1) (trade_in m) o) else traded (reports + 1) (trade_in m) o
+after_message reports (market.Broken m) o = after_broken o (find (stands_told m.match_number) o.trades)
+after_message reports (market.Rejected m) o = if is_waiting o.stage && is_live (lived o) m.token then unasked (refused o) else at o None (still_cancelling (market.Rejected m) o.cancel)
+after_message reports (market.CancelReject m) o = at o o.replace (still_cancelling (market.CancelReject m) o.cancel)
+after_message reports other o = o
 
 -- ---- what an accepted request makes of it
 

@@ -2,13 +2,15 @@
 -- all turns.
 --
 -- Nobody has to believe it: on each port it is what the law says is outstanding, which is a theorem about its runs.
-use Rattle.std.specs.Prelude.{◌≡◌, ℕ, ◌==◌, Bool, not, ◌&&◌, ◌||◌, List, [], ◌∷◌, ◌++◌, map, filter, Option, Some, None, bytes_eq, codes, if◌then◌else◌}
-use Rattle.order_law.specs.Life.{is_closed, is_type}
-use Rattle.order_law.specs.Lawful.{order_token}
+use Rattle.std.specs.Prelude.{◌≡◌, ℕ, ◌==◌, Bool, not, ◌&&◌, ◌||◌, List, [], ◌∷◌, ◌++◌, map, filter, Option, Some, None, bytes_eq, Result, Ok, Err}
+use Rattle.order_law.specs.Life.{is_closed}
+use Rattle.ouch_codec.specs.declared.outbound.Outbound.{Outbound}
+use Rattle.ouch_codec.specs.declared.outbound.Outbound.TheVariants as market
+use Rattle.ouch_codec.specs.declared.refusal.DecodeRefusal.{DecodeRefusal}
 use Rattle.order_law.specs.History.{Asked, Came, Event, Heard, History, Terms, answers, terms_of}
 use Rattle.order_histories.specs.OrderRecord.{OrderRecord, after_message}
 use Rattle.order_histories.specs.Table.{State, by_token, empty}
-use Rattle.order_histories.specs.Machine.{client_step, fault_in}
+use Rattle.order_histories.specs.Machine.{client_step, fault_in, order_in}
 use Rattle.order_histories.specs.Runs.{Leads}
 
 -- one message that a port is asked
@@ -28,27 +30,27 @@ asked_on port asks = map (λ (a : Asked). record { port = port; asked = a }) ask
 
 -- A message on a port, after which its order is this one: it answers what it says it does of that port, and, where the order
 -- is closed then, all that is asked of it.
-abbrev pub is_answered : ℕ → List ℕ → OrderRecord → OnPort → Bool
+abbrev pub is_answered : ℕ → Outbound → OrderRecord → OnPort → Bool
 is_answered port m o q = is_on port q && (answers m q.asked.said || (is_closed o.stage && bytes_eq q.asked.order o.new.order))
 
-abbrev pub unanswered_by : ℕ → List ℕ → OrderRecord → List OnPort → List OnPort
+abbrev pub unanswered_by : ℕ → Outbound → OrderRecord → List OnPort → List OnPort
 unanswered_by port m o asked = filter (λ (q : OnPort). not (is_answered port m o q)) asked
 
 -- after a message on an order
-abbrev pub still_asked_on : State → ℕ → List ℕ → Option OrderRecord → List OnPort → List OnPort
+abbrev pub still_asked_on : State → ℕ → Outbound → Option OrderRecord → List OnPort → List OnPort
 still_asked_on s port m None asked = asked
 still_asked_on s port m (Some o) asked = unanswered_by port m (after_message s.exec_ids m o) asked
 
--- after a payload: a fault answers nothing, nor do `T` and `S`, which have no token
-abbrev pub still_asked : State → ℕ → List ℕ → Option ℕ → List OnPort → List OnPort
-still_asked s port m (Some fault) asked = asked
-still_asked s port m None asked =
-    if is_type (codes "T") m || is_type (codes "S") m then asked else still_asked_on s port m (by_token s port (order_token m)) asked
+-- after a payload: a fault answers nothing
+abbrev pub still_asked : State → ℕ → Result Outbound DecodeRefusal → Option ℕ → List OnPort → List OnPort
+still_asked s port (Err refusal) fault asked = asked
+still_asked s port (Ok m) (Some fault) asked = asked
+still_asked s port (Ok m) None asked = still_asked_on s port m (order_in s port m) asked
 
 -- what is asked after an event, from this table on: what a client's message asks stands behind, on the client's port
 abbrev pub asked_after : State → Event → List OnPort → List OnPort
 asked_after s (Came client m port) asked = asked ++ asked_on (terms_of s.terms client).port (client_step s client m port).asks
-asked_after s (Heard port m) asked = still_asked s port m (fault_in s port m) asked
+asked_after s (Heard port heard) asked = still_asked s port heard (fault_in s port heard) asked
 
 -- the turns, the newest first, leave this table and this list
 unfoldable pub LeavesAsked : List Terms → History → State → List OnPort → Type 0

@@ -4,7 +4,6 @@ use Rattle.std.specs.Str.Parse.{digits_value}
 use Rattle.order_law.specs.History.{Asked, Said, SaysNew, SaysReplace, SaysCancel, Terms, terms_of, Event, Came, Heard, History, Turn}
 use Rattle.order_law.specs.Headline.{Says, Sends}
 use Rattle.order_histories.specs.OrderRecord.{OrderRecord}
-use Rattle.order_histories.specs.Told.{IsEvent}
 use Rattle.order_histories.specs.Table.{State, by_token, empty}
 use Rattle.order_histories.specs.Machine.{Given, step}
 
@@ -27,7 +26,7 @@ abbrev pub SendsAs : State → Event → Given → List (List ℕ) → Type 0
 SendsAs old (Came client m port) g sends =
     (order_of : List ℕ → Option ℕ) → LeadsTo g.state (terms_of old.terms client).port order_of
     → Sends port (Says (terms_of old.terms client).standing order_of) g.asks sends
-SendsAs old (Heard port m) g sends = sends ≡ []
+SendsAs old (Heard port heard) g sends = sends ≡ []
 
 -- a turn is what its event gives, and leaves the table that it gives
 pub record Meets (old : State) (event : Event) (g : Given) (t : Turn) (s : State) : Type 0 where
@@ -39,7 +38,6 @@ pub record Meets (old : State) (event : Event) (g : Given) (t : Turn) (s : State
 
 -- one turn leads from one table to the next
 pub record Leads (old : State) (t : Turn) (s : State) : Type 0 where
-  pub is_event : IsEvent t.event
   pub meets : Meets old t.event (step old t.event) t s
 
 -- the turns, the newest first, leave this table

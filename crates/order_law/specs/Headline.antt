@@ -1,12 +1,15 @@
 -- What each turn of the order level promises, and the headline: that every turn of a history keeps it.
-use Rattle.std.specs.Prelude.{◌≡◌, ℕ, ◌+◌, ◌==◌, Bool, true, not, ◌&&◌, ◌||◌, List, [], ◌∷◌, map, filter, Option, Some, None, if◌then◌else◌, bytes_eq, codes, decimal, option_map, unwrap_or}
+use Rattle.std.specs.Prelude.{◌≡◌, ℕ, ◌+◌, ◌==◌, Bool, true, not, ◌&&◌, ◌||◌, List, [], ◌∷◌, map, filter, Option, Some, None, if◌then◌else◌, bytes_eq, codes, decimal, option_map, unwrap_or, slice_index, Result}
 use Rattle.std.specs.List.{filter_map, list_any}
 use Rattle.std.specs.Str.Parse.{digits_value}
 use Rattle.fixed_point.specs.Price.{price_text}
+use Rattle.ouch_codec.specs.Parts.{type_of}
 use Rattle.ouch_codec.specs.ToMarket as said
+use Rattle.ouch_codec.specs.declared.outbound.Outbound.{Outbound}
+use Rattle.ouch_codec.specs.declared.refusal.DecodeRefusal.{DecodeRefusal}
 use Rattle.order_law.specs.Messages.{Message, text, is, is_one_of, has}
 use Rattle.order_law.specs.Asks.{Standing, ask_of_bytes, total_of}
-use Rattle.order_law.specs.Life.{Life, is_closed, is_type}
+use Rattle.order_law.specs.Life.{Life, is_closed}
 use Rattle.order_law.specs.Reading.{Reading, reading, is_report, is_report_on, is_refused_order, average_of}
 use Rattle.order_law.specs.Chain.{Chain, chain, Request, has_pending_cancel, has_pending_replace}
 use Rattle.order_law.specs.Verdicts.{Port, Up, Down, Ended, Faulted}
@@ -25,6 +28,10 @@ EachWith P (x ∷ xs) [] = ⊥
 EachWith P (x ∷ xs) (y ∷ ys) = P x y × EachWith P xs ys
 
 -- ---- asks
+
+-- the message has this type
+abbrev pub is_type : List ℕ → List ℕ → Bool
+is_type letter m = type_of m == slice_index letter 0
 
 -- the message has the type and tokens of what was asked
 abbrev pub HasTokens : Said → List ℕ → Type 0
@@ -236,13 +243,13 @@ pub record AnswersClient (terms : List Terms) (client : ℕ) (m : Message) (port
   pub fault : t.fault ≡ None
 
 -- a port's turn: nothing is sent, and its fault is that of the table
-pub record AnswersMarket (terms : List Terms) (port : ℕ) (m : List ℕ) (t : Turn) (before : History) : Type 0 where
+pub record AnswersMarket (terms : List Terms) (port : ℕ) (heard : Result Outbound DecodeRefusal) (t : Turn) (before : History) : Type 0 where
   pub sends : t.sends ≡ []
-  pub fault : t.fault ≡ judgement terms port m before
+  pub fault : t.fault ≡ judgement terms port heard before
 
 abbrev pub TurnOf : List Terms → Event → Turn → History → Type 0
 TurnOf terms (Came client m port) t before = AnswersClient terms client m port t before
-TurnOf terms (Heard port m) t before = AnswersMarket terms port m t before
+TurnOf terms (Heard port heard) t before = AnswersMarket terms port heard t before
 
 -- what a turn says to clients
 abbrev pub said_in : Turn → Told

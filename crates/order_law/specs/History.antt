@@ -1,12 +1,14 @@
 -- What came of a list of events of the order level: what was accepted, is asked of the market and is outstanding.
-use Rattle.std.specs.Prelude.{ℕ, ◌+◌, ◌-◌, ◌==◌, Bool, true, false, not, ◌&&◌, ◌||◌, List, [], ◌∷◌, ◌++◌, reverse, map, filter, Option, Some, None, if◌then◌else◌, bytes_eq, codes, decimal, option_map, option_and_then, unwrap_or, is_some, option_to_list}
+use Rattle.std.specs.Prelude.{ℕ, ◌+◌, ◌-◌, ◌==◌, Bool, true, false, not, ◌&&◌, ◌||◌, List, [], ◌∷◌, ◌++◌, reverse, map, filter, Option, Some, None, if◌then◌else◌, bytes_eq, codes, decimal, option_map, option_and_then, unwrap_or, is_some, option_to_list, Result, Ok, Err}
 use Rattle.std.specs.List.{find, filter_map, count_by}
 use Rattle.std.specs.Str.Parse.{digits_value}
 use Rattle.tokens.specs.TokenText.{token_text}
-use Rattle.ouch_codec.specs.FromMarket as heard
+use Rattle.ouch_codec.specs.declared.outbound.Outbound.{Outbound}
+use Rattle.ouch_codec.specs.declared.outbound.Outbound.TheVariants as market
+use Rattle.ouch_codec.specs.declared.refusal.DecodeRefusal.{DecodeRefusal}
 use Rattle.order_law.specs.Messages.{Message, text, is, character}
 use Rattle.order_law.specs.Asks.{Ask, Standing, asked_by_new, asked_by_request, capacity_of}
-use Rattle.order_law.specs.Life.{Life, life, live, is_closed, is_type}
+use Rattle.order_law.specs.Life.{Life, life, live, is_closed}
 use Rattle.order_law.specs.Reading.{reading}
 use Rattle.order_law.specs.Chain.{Chain, chain, named}
 use Rattle.order_law.specs.Verdicts.{Port, Verdict, Accepted, Refused, verdict_of_new, verdict_of_request, Named, is_replace}
@@ -29,8 +31,8 @@ terms_of (t ∷ ts) client = if client == 1 then t else terms_of ts (client - 1)
 pub data Event : Type 0 where
   -- a new order, cancel or replace that the client's session gave up, and how its port stood
   Came : (client : ℕ) (message : Message) (port : Port) → Event
-  -- a payload that the port's session gave up
-  Heard : (port : ℕ) (payload : List ℕ) → Event
+  -- what a payload that the port's session gave up is decoded as
+  Heard : (port : ℕ) (heard : Result Outbound DecodeRefusal) → Event
 
 -- An event with what came of it. Bodies are the reports and rejects, without what a session writes round them.
 pub record Turn : Type 0 where
@@ -50,21 +52,22 @@ abbrev pub issued : ℕ → History → List Message
 issued client [] = []
 issued client (t ∷ before) = if t.client == client then reverse t.bodies ++ issued client before else issued client before
 
-abbrev and_payload : ℕ → Event → Option ℕ → List (List ℕ) → List (List ℕ)
-and_payload port (Came client m s) fault earlier = earlier
-and_payload port (Heard p m) fault earlier = if p == port && not (is_some fault) then m ∷ earlier else earlier
+abbrev and_heard : ℕ → Event → Option ℕ → List Outbound → List Outbound
+and_heard port (Came client m s) fault earlier = earlier
+and_heard port (Heard p (Err refusal)) fault earlier = earlier
+and_heard port (Heard p (Ok m)) fault earlier = if p == port && not (is_some fault) then m ∷ earlier else earlier
 
--- the payloads of a port that were no fault, the newest first
-abbrev pub handled : ℕ → History → List (List ℕ)
+-- the messages of a port that were no fault, the newest first
+abbrev pub handled : ℕ → History → List Outbound
 handled port [] = []
-handled port (t ∷ before) = and_payload port t.event t.fault (handled port before)
+handled port (t ∷ before) = and_heard port t.event t.fault (handled port before)
 
 abbrev pub is_new_order : Message → Bool
 is_new_order m = is 35 (codes "D") m
 
 abbrev is_numbered : Event → Bool
 is_numbered (Came client m port) = is_new_order m
-is_numbered (Heard port m) = false
+is_numbered (Heard port heard) = false
 
 -- the new orders that came, accepted or refused: each has the next OrderID
 abbrev pub numbered : History → ℕ
@@ -130,7 +133,7 @@ entry_of client sent number entries m Accepted =
 abbrev entry_by : List Terms → Event → (ℕ → List Message) → ℕ → List Entry → Option Entry
 entry_by terms (Came client m port) sent number entries =
     entry_of client (sent client) number entries m (verdict terms (sent client) entries port m)
-entry_by terms (Heard port m) sent number entries = None
+entry_by terms (Heard port heard) sent number entries = None
 
 -- what was accepted, of all clients, the newest first
 abbrev pub accepted : List Terms → History → List Entry
@@ -156,7 +159,7 @@ abbrev pub side_of : List ℕ → List Entry → ℕ
 side_of order entries = unwrap_or (option_map (λ (e : Entry). character 54 e.message) (new_of order entries)) 0
 
 -- the life of an order, by its OrderID, after these messages
-abbrev pub life_of : List ℕ → List Entry → List (List ℕ) → Life
+abbrev pub life_of : List ℕ → List Entry → List Outbound → Life
 life_of order entries messages = life (root_of order entries) (side_of order entries) messages
 
 -- a client's accepted message, by its ClOrdID
@@ -196,7 +199,7 @@ pub record Asked : Type 0 where
 
 -- What an accepted message asks, one after another: a new order its own token; a replace of the live token by its own; a
 -- cancel of the live token and of each pending replacement. The lists are those before it.
-abbrev pub asks : List Terms → Entry → List Entry → List Message → List (List ℕ) → List Asked
+abbrev pub asks : List Terms → Entry → List Entry → List Message → List Outbound → List Asked
 asks terms e entries sent messages =
     if is_new_order e.message then asked (SaysNew (token_of e)) (Some (asked_by_new (terms_of terms e.client).capacity e.message)) ∷ []
     else (if is_replace e.message then asked (SaysReplace live_token (token_of e)) request ∷ []
@@ -212,7 +215,7 @@ asks terms e entries sent messages =
     asked what ask = record { order = e.order; id = text 11 e.message; said = what; ask = ask }
 
 -- of a port: nothing where the client is on another one
-abbrev pub asks_of : List Terms → ℕ → Option Entry → List Entry → List Message → List (List ℕ) → List Asked
+abbrev pub asks_of : List Terms → ℕ → Option Entry → List Entry → List Message → List Outbound → List Asked
 asks_of terms port None entries sent messages = []
 asks_of terms port (Some e) entries sent messages =
     if (terms_of terms e.client).port == port then asks terms e entries sent messages else []
@@ -221,23 +224,27 @@ asks_of terms port (Some e) entries sent messages =
 
 -- Whether a market message answers what was asked: a new order its Accepted or Rejected; a replace its Replaced or
 -- Rejected; a cancel a Replaced away from its token, the Rejected of its token, or a Cancel Reject on it.
-abbrev pub answers : List ℕ → Said → Bool
-answers m (SaysNew token) = (is_type (codes "A") m || is_type (codes "J") m) && bytes_eq (heard.token m) token
-answers m (SaysReplace from to) = (is_type (codes "U") m || is_type (codes "J") m) && bytes_eq (heard.token m) to
-answers m (SaysCancel token) =
-    (is_type (codes "U") m && bytes_eq (heard.previous_token m) token)
-    || ((is_type (codes "J") m || is_type (codes "I") m) && bytes_eq (heard.token m) token)
+abbrev pub answers : Outbound → Said → Bool
+answers (market.Accepted m) (SaysNew token) = bytes_eq m.token token
+answers (market.Rejected m) (SaysNew token) = bytes_eq m.token token
+answers (market.Replaced m) (SaysReplace from to) = bytes_eq m.token to
+answers (market.Rejected m) (SaysReplace from to) = bytes_eq m.token to
+answers (market.Replaced m) (SaysCancel token) = bytes_eq m.previous_token token
+answers (market.Rejected m) (SaysCancel token) = bytes_eq m.token token
+answers (market.CancelReject m) (SaysCancel token) = bytes_eq m.token token
+answers other said = false
 
 -- what no message of this event answers; the closing of its order answers all that is asked of it
-abbrev still_asked : List Entry → List (List ℕ) → Event → Option ℕ → List Asked → List Asked
+abbrev still_asked : List Entry → List Outbound → Event → Option ℕ → List Asked → List Asked
 still_asked entries messages (Came client m port) fault earlier = earlier
-still_asked entries messages (Heard port m) fault earlier =
+still_asked entries messages (Heard port (Err refusal)) fault earlier = earlier
+still_asked entries messages (Heard port (Ok m)) fault earlier =
     if is_some fault then earlier
     else filter (λ a. not (answers m a.said || is_closed (life_of a.order entries messages).stage)) earlier
 
 abbrev client_of : Event → ℕ
 client_of (Came client m port) = client
-client_of (Heard port m) = 0
+client_of (Heard port heard) = 0
 
 -- what a port was asked and no later message has answered, in the order in which it was asked
 abbrev pub outstanding : List Terms → ℕ → History → List Asked

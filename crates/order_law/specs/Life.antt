@@ -1,8 +1,10 @@
 -- What the market's messages say of one order: a fold along its chain of tokens. (OUCH 4.2, "Outbound Messages".)
-use Rattle.std.specs.Prelude.{map, ℕ, Bool, true, false, not, ◌&&◌, ◌+◌, ◌-◌, ◌*◌, ◌==◌, List, [], ◌∷◌, Option, Some, None, if◌then◌else◌, bytes_eq, codes, slice_index}
+use Rattle.std.specs.Prelude.{map, ℕ, Bool, true, false, not, ◌&&◌, ◌+◌, ◌-◌, ◌*◌, ◌==◌, List, [], ◌∷◌, Option, Some, None, if◌then◌else◌, bytes_eq}
 use Rattle.std.specs.List.{list_any, find}
-use Rattle.ouch_codec.specs.Parts.{type_of}
-use Rattle.ouch_codec.specs.FromMarket as heard
+use Rattle.ouch_codec.specs.declared.outbound.Outbound.{Outbound}
+use Rattle.ouch_codec.specs.declared.outbound.Outbound.TheVariants as market
+use Rattle.ouch_codec.specs.declared.order_state.OrderState.{OrderState}
+use Rattle.ouch_codec.specs.declared.order_state.OrderState.TheVariants.{Live, Dead}
 use Rattle.order_law.specs.declared.account.Account.{Account}
 use Rattle.order_law.specs.declared.stage.Stage.{Stage}
 use Rattle.order_law.specs.declared.stage.Stage.TheVariants.{Waiting, Working, Closed}
@@ -58,7 +60,7 @@ settled l = if l.unfilled == 0 then record l { stage = Closed } else l
 
 -- in the book with so many shares, or dead at once
 abbrev pub opened : ℕ → Bool → Life → Life
-opened shares is_dead l = if is_dead then dead (working l) else working l
+opened shares is_over l = if is_over then dead (working l) else working l
   where
     working : Life → Life
     working before = record before { stage = Working; unfilled = shares }
@@ -96,47 +98,23 @@ is_of l token = list_any (bytes_eq token) l.tokens
 abbrev pub is_live : Life → List ℕ → Bool
 is_live l token = bytes_eq token (live l)
 
--- the message has this type
-abbrev pub is_type : List ℕ → List ℕ → Bool
-is_type letter m = type_of m == slice_index letter 0
+-- dead as it is answered
+abbrev pub is_dead : OrderState → Bool
+is_dead Live = false
+is_dead Dead = true
 
--- `D`: dead as it is answered
-abbrev pub is_dead_state : List ℕ → Bool
-is_dead_state m = heard.state m == slice_index (codes "D") 0
-
-abbrev pub after_accepted : Life → List ℕ → Life
-after_accepted l m = if is_live l (heard.token m) && is_waiting l.stage then opened (heard.shares m) (is_dead_state m) l else l
-
-abbrev pub after_replaced : Life → List ℕ → Life
-after_replaced l m =
-    if is_live l (heard.previous_token m)
-    then opened (heard.shares m) (is_dead_state m) (record l { tokens = heard.token m ∷ l.tokens })
-    else l
-
-abbrev pub after_executed : Life → List ℕ → Life
-after_executed l m = if is_live l (heard.token m) then traded (heard.executed_match m) (heard.executed_shares m) (heard.executed_price m) l else l
-
-abbrev pub after_canceled : Life → List ℕ → Life
-after_canceled l m = if is_live l (heard.token m) then decreased (heard.decrement m) l else l
-
-abbrev pub after_broken : Life → List ℕ → Life
-after_broken l m = if is_of l (heard.token m) then broken (heard.broken_match m) l else l
-
-abbrev pub after_rejected : Life → List ℕ → Life
-after_rejected l m = if is_live l (heard.token m) && is_waiting l.stage then record l { stage = Closed } else l
-
--- What a message makes of an order. Rejected of a replacement, Cancel Pending and Cancel Reject make nothing of it.
-abbrev pub after : Life → List ℕ → Life
-after l m =
-    if is_type (codes "A") m then after_accepted l m
-    else (if is_type (codes "U") m then after_replaced l m
-    else (if is_type (codes "E") m then after_executed l m
-    else (if is_type (codes "C") m then after_canceled l m
-    else (if is_type (codes "B") m then after_broken l m
-    else (if is_type (codes "J") m then after_rejected l m else l)))))
+-- What a message makes of an order: a line for each. Rejected of a replacement, and every other one, make nothing of it.
+abbrev pub after : Life → Outbound → Life
+after l (market.Accepted m) = if is_live l m.token && is_waiting l.stage then opened m.shares (is_dead m.order_state) l else l
+after l (market.Replaced m) = if is_live l m.previous_token then opened m.shares (is_dead m.order_state) (record l { tokens = m.token ∷ l.tokens }) else l
+after l (market.Executed m) = if is_live l m.token then traded m.match_number m.shares m.price l else l
+after l (market.Canceled m) = if is_live l m.token then decreased m.decrement l else l
+after l (market.Broken m) = if is_of l m.token then broken m.match_number l else l
+after l (market.Rejected m) = if is_live l m.token && is_waiting l.stage then record l { stage = Closed } else l
+after l other = l
 
 -- the order whose first token is `root`, after these messages, the newest first
-abbrev pub life : List ℕ → ℕ → List (List ℕ) → Life
+abbrev pub life : List ℕ → ℕ → List Outbound → Life
 life root side [] = born root side
 life root side (m ∷ earlier) = after (life root side earlier) m
 

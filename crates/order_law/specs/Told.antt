@@ -3,22 +3,29 @@
 --
 -- Nothing here is a table or a counter: an order is shown as the lists of turns have it, and a row says which bodies a
 -- message of its type leads to.
-use Rattle.std.specs.Prelude.{ℕ, Bool, true, false, not, ◌&&◌, ◌||◌, ◌+◌, ◌/◌, ◌==◌, List, [], ◌∷◌, ◌++◌, map, filter, Option, Some, None, option_map, unwrap_or, if◌then◌else◌, bytes_eq, codes, decimal, is_some}
+use Rattle.std.specs.Prelude.{ℕ, Bool, true, false, not, ◌&&◌, ◌||◌, ◌+◌, ◌/◌, ◌==◌, List, [], ◌∷◌, ◌++◌, map, filter, Option, Some, None, option_map, unwrap_or, if◌then◌else◌, bytes_eq, codes, decimal, is_some, option_and_then, Result, Ok, Err}
 use Rattle.std.specs.List.{find, filter_map, count_by, list_any}
 use Rattle.fix_fields.specs.Field.{first_value}
 use Rattle.fixed_point.specs.Price.{price_text}
-use Rattle.ouch_codec.specs.FromMarket as heard
+use Rattle.ouch_codec.specs.declared.outbound.Outbound.{Outbound}
+use Rattle.ouch_codec.specs.declared.outbound.Outbound.TheVariants as market
+use Rattle.ouch_codec.specs.declared.outbound.replaced.Replaced.{Replaced}
+use Rattle.ouch_codec.specs.declared.outbound.canceled.Canceled.{Canceled}
+use Rattle.ouch_codec.specs.declared.outbound.executed.Executed.{Executed}
+use Rattle.ouch_codec.specs.declared.outbound.broken.Broken.{Broken}
+use Rattle.ouch_codec.specs.declared.order_state.OrderState.{OrderState}
+use Rattle.ouch_codec.specs.declared.refusal.DecodeRefusal.{DecodeRefusal}
 use Rattle.order_law.specs.declared.stage.Stage.{Stage}
 use Rattle.order_law.specs.declared.stage.Stage.TheVariants.{Waiting, Working, Closed}
 use Rattle.order_law.specs.declared.trade.Trade.{Trade}
 use Rattle.order_law.specs.Messages.{Message, text}
 use Rattle.order_law.specs.Asks.{total_of, limit_of}
-use Rattle.order_law.specs.Life.{Life, after, is_live, is_waiting, is_closed, is_dead_state, is_type, stands_as}
+use Rattle.order_law.specs.Life.{Life, after, is_dead, is_live, is_waiting, is_closed, stands_as}
 use Rattle.order_law.specs.Reading.{reading, Fill, is_report, is_refused_order, average_of}
 use Rattle.order_law.specs.Chain.{Request, chain, named}
 use Rattle.order_law.specs.Verdicts.{Port, Verdict, Accepted, Refused, is_replace}
 use Rattle.order_law.specs.History.{Terms, terms_of, Event, Came, Heard, History, issued, handled, accepted, numbered, Entry, entry_at, new_of, by_id, token_of, life_of, verdict, is_new_order, Asked, is_cancel_said, outstanding, answers}
-use Rattle.order_law.specs.Lawful.{judgement, order_of_token}
+use Rattle.order_law.specs.Lawful.{judgement, order_of_token, order_token}
 
 -- what one event tells
 pub record Told : Type 0 where
@@ -67,17 +74,16 @@ newly_shown new = record {
   pending = [];
 }
 
--- the message puts the order into the book: an Accepted of it, or a Replaced of its live token
-abbrev pub opens : Life → List ℕ → Bool
-opens l m =
-    (is_type (codes "A") m && is_live l (heard.token m))
-    || (is_type (codes "U") m && is_live l (heard.previous_token m))
+-- the price that a message puts the order into the book at: an Accepted of it, or a Replaced of its live token
+abbrev pub priced : Outbound → Life → ℕ → ℕ
+priced (market.Accepted m) l before = if is_live l m.token then m.price else before
+priced (market.Replaced m) l before = if is_live l m.previous_token then m.price else before
+priced other l before = before
 
 -- Price (44): that of the Accepted or the last Replaced, and before them the order's own
-abbrev pub price_after : Entry → List Entry → List (List ℕ) → ℕ
+abbrev pub price_after : Entry → List Entry → List Outbound → ℕ
 price_after new entries [] = limit_of new.message
-price_after new entries (m ∷ earlier) =
-    if opens (life_of new.order entries earlier) m then heard.price m else price_after new entries earlier
+price_after new entries (m ∷ earlier) = priced m (life_of new.order entries earlier) (price_after new entries earlier)
 
 -- LeavesQty (151): all of it before the market's answer, what is open in the book, nothing once it is closed
 abbrev pub leaves_at : Stage → ℕ → ℕ → ℕ
@@ -105,7 +111,7 @@ shown terms before new = record {
     sent : List Message
     sent = issued new.client before
 
-    messages : List (List ℕ)
+    messages : List Outbound
     messages = handled (terms_of terms new.client).port before
 
     l : Life
@@ -117,8 +123,8 @@ shown terms before new = record {
 -- ---- what changes it
 
 -- in the book as an Accepted or Replaced says, be it dead at once or not
-abbrev pub opened : List ℕ → Shown → Shown
-opened m s = record s { stage = Working; leaves = heard.shares m; total = s.executed + heard.shares m; price = heard.price m }
+abbrev pub opened : ℕ → ℕ → Shown → Shown
+opened shares price s = record s { stage = Working; leaves = shares; total = s.executed + shares; price = price }
 
 abbrev pub closed : Shown → Shown
 closed s = record s { stage = Closed; leaves = 0 }
@@ -320,49 +326,47 @@ cancel_rejected is_last s =
     else []
 
 -- dead at once, it is cancelled without a reason
-abbrev pub where_dead : ℕ → List ℕ → Shown → List Message → List Message
-where_dead number m s alive = if is_dead_state m then cancelled number None (closed s) else alive
+abbrev pub where_dead : ℕ → OrderState → Shown → List Message → List Message
+where_dead number state s alive = if is_dead state then cancelled number None (closed s) else alive
 
 -- Accepted: 150=0
-abbrev pub told_accepted : ℕ → List ℕ → Shown → List Message
-told_accepted reports m s =
-    report (reports + 1) (plain (codes "0")) (opened m s)
-    ∷ where_dead (reports + 2) m (opened m s) []
+abbrev pub told_opened : ℕ → OrderState → Shown → List Message
+told_opened reports state s = report (reports + 1) (plain (codes "0")) s ∷ where_dead (reports + 2) state s []
 
 -- in the book under the replace's token and its ClOrdID, and the replace is answered
-abbrev pub renamed : List ℕ → Entry → Shown → Shown
-renamed m q s = opened m (record (without_replace (heard.token m) s) { id = text 11 q.message })
+abbrev pub renamed : Replaced → Entry → Shown → Shown
+renamed m q s = opened m.shares m.price (record (without_replace m.token s) { id = text 11 q.message })
 
 -- Replaced: 150=5
-abbrev pub told_replaced : ℕ → List ℕ → Bool → Shown → List Message
-told_replaced reports m is_last s = by_request (find (has_token (heard.token m)) s.pending)
+abbrev pub told_replaced : ℕ → Replaced → Bool → Shown → List Message
+told_replaced reports m is_last s = by_request (find (has_token m.token) s.pending)
   where
     by_request : Option Entry → List Message
     by_request None = []
     by_request (Some q) =
         report (reports + 1) (on_request (codes "5") q) (renamed m q s)
-        ∷ where_dead (reports + 2) m (renamed m q s) (cancel_rejected is_last (renamed m q s))
+        ∷ where_dead (reports + 2) m.order_state (renamed m q s) (cancel_rejected is_last (renamed m q s))
 
 -- Canceled: 150=D, or 150=4 where nothing is left
-abbrev pub told_canceled : ℕ → List ℕ → Life → Shown → List Message
+abbrev pub told_canceled : ℕ → Canceled → Life → Shown → List Message
 told_canceled reports m l s =
     if is_closed l.stage then cancelled (reports + 1) (Some reason) (lived l s)
     else report (reports + 1) restated (lived l s) ∷ []
   where
     reason : List ℕ
-    reason = heard.cancel_reason m ∷ []
+    reason = m.reason ∷ []
 
     restated : Occasion
     restated = record (plain (codes "D")) { restated = Some (codes "5"); why = Some reason }
 
 -- Executed: 150=F, and what is too late where nothing is left
-abbrev pub told_executed : ℕ → List ℕ → Life → Shown → List Message
+abbrev pub told_executed : ℕ → Executed → Life → Shown → List Message
 told_executed reports m l s =
     report (reports + 1) trade (lived l s)
     ∷ (if is_closed l.stage then too_late (lived l s) else [])
   where
     trade : Occasion
-    trade = record (plain (codes "F")) { shares = Some (heard.executed_shares m); at = Some (heard.executed_price m) }
+    trade = record (plain (codes "F")) { shares = Some (m.shares); at = Some (m.price) }
 
 -- The ExecID (17) under which a trade that stands was told: the trades of an order and the fills that its client read are
 -- told one for one.
@@ -373,30 +377,30 @@ exec_id_of match_number (t ∷ trades) (f ∷ fills) =
     if stands_as match_number t then Some f.exec_id else exec_id_of match_number trades fills
 
 -- Broken Trade: 150=H, with the ExecID of the trade
-abbrev pub told_broken : ℕ → List ℕ → Option (List ℕ) → Life → Shown → List Message
+abbrev pub told_broken : ℕ → Broken → Option (List ℕ) → Life → Shown → List Message
 told_broken reports m exec_id l s = report (reports + 1) occasion (lived l s) ∷ []
   where
     occasion : Occasion
-    occasion = record (plain (codes "H")) { broken = exec_id; why = Some (heard.broken_reason m ∷ []) }
+    occasion = record (plain (codes "H")) { broken = exec_id; why = Some (m.reason ∷ []) }
 
 -- Rejected of the new order: 150=8
-abbrev pub told_refused : ℕ → List ℕ → Shown → List Message
-told_refused reports m s = report (reports + 1) occasion refused ∷ too_late refused
+abbrev pub told_refused : ℕ → ℕ → Shown → List Message
+told_refused reports reason s = report (reports + 1) occasion refused ∷ too_late refused
   where
     refused : Shown
     refused = record (closed s) { is_refused = true }
 
     occasion : Occasion
-    occasion = record (plain (codes "8")) { code = Some (codes "99"); why = Some (heard.reject_reason m ∷ []) }
+    occasion = record (plain (codes "8")) { code = Some (codes "99"); why = Some (reason ∷ []) }
 
 -- Rejected of a replace: its 9
-abbrev pub told_not_replaced : List ℕ → Bool → Shown → List Message
-told_not_replaced m is_last s =
-    map (λ (q : Entry). answered_no rest q 2 (heard.reject_reason m ∷ [])) (filter (has_token (heard.token m)) s.pending)
+abbrev pub told_not_replaced : List ℕ → ℕ → Bool → Shown → List Message
+told_not_replaced token reason is_last s =
+    map (λ (q : Entry). answered_no rest q 2 (reason ∷ [])) (filter (has_token token) s.pending)
     ++ cancel_rejected is_last rest
   where
     rest : Shown
-    rest = without_replace (heard.token m) s
+    rest = without_replace token s
 
 -- ---- all of it
 
@@ -404,44 +408,47 @@ abbrev pub is_cancel_of : List ℕ → Asked → Bool
 is_cancel_of order a = bytes_eq a.order order && is_cancel_said a.said
 
 -- cancels of an order were unanswered, and after this message none is
-abbrev pub answers_last_cancel : List ℕ → List ℕ → List Asked → Bool
+abbrev pub answers_last_cancel : List ℕ → Outbound → List Asked → Bool
 answers_last_cancel order m asked =
     list_any (is_cancel_of order) asked
     && not (list_any (λ (a : Asked). is_cancel_of order a && not (answers m a.said)) asked)
 
--- A lawful message on an order, by its type: a line for each row. `l` is the order's life before it, `is_last` whether it
--- answers the last message of a pending cancel.
-abbrev pub told_by_type : ℕ → List ℕ → Life → Bool → List Fill → Shown → List Message
-told_by_type reports m l is_last fills s =
-    if is_type (codes "A") m then told_accepted reports m s
-    else (if is_type (codes "U") m then told_replaced reports m is_last s
-    else (if is_type (codes "C") m then told_canceled reports m (after l m) s
-    else (if is_type (codes "E") m then told_executed reports m (after l m) s
-    else (if is_type (codes "B") m then told_broken reports m (exec_id_of (heard.broken_match m) l.trades fills) (after l m) s
-    else (if is_type (codes "J") m then (if is_waiting l.stage && is_live l (heard.token m) then told_refused reports m s else told_not_replaced m is_last s)
-    else (if is_type (codes "I") m then cancel_rejected is_last s
-    else []))))))
+-- A lawful message on an order: a line for each row. `l` is the order's life before it, `is_last` whether it answers the last
+-- message of a pending cancel.
+abbrev pub told_by : ℕ → Outbound → Life → Bool → List Fill → Shown → List Message
+told_by reports (market.Accepted m) l is_last fills s = told_opened reports m.order_state (opened m.shares m.price s)
+told_by reports (market.Replaced m) l is_last fills s = told_replaced reports m is_last s
+told_by reports (market.Canceled m) l is_last fills s = told_canceled reports m (after l (market.Canceled m)) s
+told_by reports (market.Executed m) l is_last fills s = told_executed reports m (after l (market.Executed m)) s
+told_by reports (market.Broken m) l is_last fills s = told_broken reports m (exec_id_of m.match_number l.trades fills) (after l (market.Broken m)) s
+told_by reports (market.Rejected m) l is_last fills s = if is_waiting l.stage && is_live l m.token then told_refused reports m.reason s else told_not_replaced m.token m.reason is_last s
+told_by reports (market.CancelReject m) l is_last fills s = cancel_rejected is_last s
+told_by reports other l is_last fills s = []
 
 -- bodies are for the order's client, and where there are none nobody is told anything
 abbrev pub to_client_of : Entry → List Message → Told
 to_client_of new [] = nobody
 to_client_of new (r ∷ rs) = record { client = new.client; bodies = r ∷ rs }
 
--- a payload on a new order's order
-abbrev pub told_on : List Terms → ℕ → List ℕ → History → Option Entry → Told
+-- a message on a new order's order
+abbrev pub told_on : List Terms → ℕ → Outbound → History → Option Entry → Told
 told_on terms port m before None = nobody
 told_on terms port m before (Some new) =
-    to_client_of new (told_by_type (reports_in before) m
+    to_client_of new (told_by (reports_in before) m
     (life_of new.order (accepted terms before) (handled port before))
     (answers_last_cancel new.order m (outstanding terms port before))
     (reading new.order (issued new.client before)).fills
     (shown terms before new))
 
--- a payload that is a fault, and one without a token (T, S), tells nobody anything
-abbrev pub told_by_market : List Terms → ℕ → List ℕ → History → Told
-told_by_market terms port m before =
-    if is_some (judgement terms port m before) || (is_type (codes "T") m || is_type (codes "S") m) then nobody
-    else told_on terms port m before (order_of_token terms port (accepted terms before) (heard.token m))
+-- the order that a message is on
+abbrev pub on_token : List Terms → ℕ → History → Option (List ℕ) → Option Entry
+on_token terms port before token = option_and_then (order_of_token terms port (accepted terms before)) token
+
+-- a payload that is a fault, and one without a token, tells nobody anything
+abbrev pub told_by_market : List Terms → ℕ → Result Outbound DecodeRefusal → History → Told
+told_by_market terms port (Err refusal) before = nobody
+told_by_market terms port (Ok m) before =
+    if is_some (judgement terms port (Ok m) before) then nobody else told_on terms port m before (on_token terms port before (order_token m))
 
 -- the order of an OrderID, if there is one
 abbrev pub shown_in : List Terms → History → Option (List ℕ) → Option Shown
@@ -468,4 +475,4 @@ told terms (Came client m port) before = record {
   client = client;
   bodies = told_by_verdict terms client m port before (verdict terms (issued client before) (accepted terms before) port m);
 }
-told terms (Heard port m) before = told_by_market terms port m before
+told terms (Heard port heard) before = told_by_market terms port heard before

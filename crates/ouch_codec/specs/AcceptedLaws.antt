@@ -64,4 +64,4 @@ accepted_of (_, (timestamp, (token, (side, (shares, (stock, (price, (time_in_for
 }
 
 abbrev pub accepted_laid_out : LaidOut Accepted accepted
-accepted_laid_out = record { row = accepted_row; known = known; make = accepted_of; made = λ m. refl }
+accepted_laid_out = record { row = accepted_row; known = known; make = accepted_of; made = λ m. refl; remade = λ r k. refl }

@@ -30,4 +30,4 @@ broken_of (_, (timestamp, (token, (match_number, (reason, _))))) (_, (timestamp_
 }
 
 abbrev pub broken_laid_out : LaidOut Broken broken
-broken_laid_out = record { row = broken_row; known = known; make = broken_of; made = λ m. refl }
+broken_laid_out = record { row = broken_row; known = known; make = broken_of; made = λ m. refl; remade = λ r k. refl }

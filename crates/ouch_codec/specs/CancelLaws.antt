@@ -24,4 +24,4 @@ cancel_of (_, (token, (shares, _))) (_, (token_set, (shares_set, _))) = record {
 }
 
 abbrev pub cancel_laid_out : LaidOut Cancel cancel
-cancel_laid_out = record { row = cancel_row; known = known; make = cancel_of; made = λ m. refl }
+cancel_laid_out = record { row = cancel_row; known = known; make = cancel_of; made = λ m. refl; remade = λ r k. refl }

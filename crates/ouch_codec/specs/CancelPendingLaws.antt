@@ -24,4 +24,4 @@ cancel_pending_of (_, (timestamp, (token, _))) (_, (timestamp_set, (token_set, _
 }
 
 abbrev pub cancel_pending_laid_out : LaidOut CancelPending cancel_pending
-cancel_pending_laid_out = record { row = cancel_pending_row; known = known; make = cancel_pending_of; made = λ m. refl }
+cancel_pending_laid_out = record { row = cancel_pending_row; known = known; make = cancel_pending_of; made = λ m. refl; remade = λ r k. refl }

@@ -24,4 +24,4 @@ cancel_reject_of (_, (timestamp, (token, _))) (_, (timestamp_set, (token_set, _)
 }
 
 abbrev pub cancel_reject_laid_out : LaidOut CancelReject cancel_reject
-cancel_reject_laid_out = record { row = cancel_reject_row; known = known; make = cancel_reject_of; made = λ m. refl }
+cancel_reject_laid_out = record { row = cancel_reject_row; known = known; make = cancel_reject_of; made = λ m. refl; remade = λ r k. refl }

@@ -30,4 +30,4 @@ canceled_of (_, (timestamp, (token, (decrement, (reason, _))))) (_, (timestamp_s
 }
 
 abbrev pub canceled_laid_out : LaidOut Canceled canceled
-canceled_laid_out = record { row = canceled_row; known = known; make = canceled_of; made = λ m. refl }
+canceled_laid_out = record { row = canceled_row; known = known; make = canceled_of; made = λ m. refl; remade = λ r k. refl }

@@ -56,4 +56,4 @@ enter_order_of (_, (token, (side, (shares, (stock, (price, (time_in_force, (firm
 }
 
 abbrev pub enter_order_laid_out : LaidOut EnterOrder enter_order
-enter_order_laid_out = record { row = enter_order_row; known = known; make = enter_order_of; made = λ m. refl }
+enter_order_laid_out = record { row = enter_order_row; known = known; make = enter_order_of; made = λ m. refl; remade = λ r k. refl }

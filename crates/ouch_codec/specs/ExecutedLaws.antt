@@ -36,4 +36,4 @@ executed_of (_, (timestamp, (token, (shares, (price, (liquidity, (match_number, 
 }
 
 abbrev pub executed_laid_out : LaidOut Executed executed
-executed_laid_out = record { row = executed_row; known = known; make = executed_of; made = λ m. refl }
+executed_laid_out = record { row = executed_row; known = known; make = executed_of; made = λ m. refl; remade = λ r k. refl }

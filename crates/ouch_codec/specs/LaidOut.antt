@@ -14,6 +14,7 @@ pub record LaidOut (M : Type 0) (kinds : List Kind) : Type 0 where
   pub known : (m : M) → AreValues kinds (row m)
   pub make : (r : Row kinds) → AreValues kinds r → M
   pub made : (m : M) → make (row m) (known m) ≡ m
+  pub remade : (r : Row kinds) (k : AreValues kinds r) → row (make r k) ≡ r
 
 -- what a value is written as
 abbrev pub written : {M : Type 0} {kinds : List Kind} → LaidOut M kinds → M → List ℕ

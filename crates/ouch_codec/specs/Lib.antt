@@ -35,7 +35,9 @@ pub mod CancelPendingParts
 pub mod CancelRejectLaws
 pub mod CancelRejectParts
 pub mod Reading
+pub mod RowReading
 pub mod Inbound
 pub mod Decoding
 pub mod DecodingLaws
+pub mod Values
 pub mod Examples

@@ -27,4 +27,4 @@ rejected_of (_, (timestamp, (token, (reason, _)))) (_, (timestamp_set, (token_se
 }
 
 abbrev pub rejected_laid_out : LaidOut Rejected rejected
-rejected_laid_out = record { row = rejected_row; known = known; make = rejected_of; made = λ m. refl }
+rejected_laid_out = record { row = rejected_row; known = known; make = rejected_of; made = λ m. refl; remade = λ r k. refl }

@@ -42,4 +42,4 @@ replace_of (_, (token, (replacement_token, (shares, (price, (time_in_force, (dis
 }
 
 abbrev pub replace_laid_out : LaidOut Replace replace
-replace_laid_out = record { row = replace_row; known = known; make = replace_of; made = λ m. refl }
+replace_laid_out = record { row = replace_row; known = known; make = replace_of; made = λ m. refl; remade = λ r k. refl }

@@ -67,4 +67,4 @@ replaced_of (_, (timestamp, (token, (side, (shares, (stock, (price, (time_in_for
 }
 
 abbrev pub replaced_laid_out : LaidOut Replaced replaced
-replaced_laid_out = record { row = replaced_row; known = known; make = replaced_of; made = λ m. refl }
+replaced_laid_out = record { row = replaced_row; known = known; make = replaced_of; made = λ m. refl; remade = λ r k. refl }

@@ -24,4 +24,4 @@ system_event_of (_, (timestamp, (event, _))) (_, (timestamp_set, (event_set, _))
 }
 
 abbrev pub system_event_laid_out : LaidOut SystemEvent system_event
-system_event_laid_out = record { row = system_event_row; known = known; make = system_event_of; made = λ m. refl }
+system_event_laid_out = record { row = system_event_row; known = known; make = system_event_of; made = λ m. refl; remade = λ r k. refl }

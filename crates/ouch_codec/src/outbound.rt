@@ -10,8 +10,10 @@ mod rejected;
 mod replaced;
 mod system_event;
 
-ghost use Rattle.std.specs.Prelude.{◌≡◌, ℕ, List, Result, IfOk, IfErr};
+ghost use Rattle.std.specs.Prelude.{◌≡◌, ℕ, List, Result, IfOk, IfErr, true};
+ghost use Rattle.std.specs.List.{list_all};
 ghost use Rattle.ouch_codec.specs.Decoding.{Decodes, RefusesAs};
+ghost use Rattle.ouch_codec.specs.Values.{decoded, is_byte};
 
 use crate::refusal::DecodeRefusal;
 pub use accepted::Accepted;
@@ -59,6 +61,13 @@ pub enum Outbound {
 ///
 /// Source: OUCH 4.2, "Outbound Messages".
 pub fn decode(payload: &[u8]) -> Result<Outbound, DecodeRefusal>
+    ensures { result ≡ decoded payload.now }
+{
+    decode_any(payload)
+}
+
+/// The message that is written as these bytes.
+fn decode_any(payload: &[u8]) -> Result<Outbound, DecodeRefusal>
     ensures { Decodes payload.now result }
 {
     match payload {
@@ -81,6 +90,12 @@ pub fn decode(payload: &[u8]) -> Result<Outbound, DecodeRefusal>
 /// contract is the law, for callers to cite.
 pub fn one_answer()
     ensures { (payload : List ℕ) (a b : Result Outbound DecodeRefusal) → Decodes payload a → Decodes payload b → a ≡ b }
+{}
+
+/// What the law reads of bytes is what `decode` answers of them. It does nothing: its contract is the law, for callers to
+/// cite.
+pub fn one_reading()
+    ensures { (payload : List ℕ) → list_all is_byte payload ≡ true → Decodes payload (decoded payload) }
 {}
 
 /// The message that bytes of its type are, as one from the market.

@@ -12,7 +12,7 @@ use Rattle.market_rows.proofs.Tells.{first-told, more-told}
 use Rattle.market_rows.proofs.accepted.tell_accepted.Goals as goal
 
 pub returns-then-is_dead-clause-told : goal.returns-then-is_dead-clause-told
-returns-then-is_dead-clause-told c = λ b says.
+returns-then-is_dead-clause-told c =
     let m = c.args.message.now in
     let o = c.args.order.now in
     let p = c.progress_after-opened.result in
@@ -27,10 +27,10 @@ returns-then-is_dead-clause-told c = λ b says.
     ∙ ap (λ (x : OrderRecord). law.report (c.args.issued + 1) (law.plain (codes "0")) (shown_as x)) opened))
     (c.in_ok-push_canceled.ensures.told o.replace (cancel_in o.cancel) (shown_as (progressed q o)) c.shown_of-closed.ensures (c.pending_of-pending.ensures q))
     (ap (λ (x : OrderRecord). law.cancelled (c.args.issued + 2) None (shown_as x)) gone)
-    ∙ sym (dead-told c.args.issued m b o says (sym c.if-is_dead.ensures))
+    ∙ sym (dead-told c.args.issued m o  (sym c.if-is_dead.ensures))
 
 pub returns-clause-told : goal.returns-clause-told
-returns-clause-told c = λ b says.
+returns-clause-told c =
     let m = c.args.message.now in
     let o = c.args.order.now in
     let p = c.progress_after-opened.result in
@@ -39,4 +39,4 @@ returns-clause-told c = λ b says.
     first-told c.in_ok-bodies.bodies.items c.push_report.new.bodies.items (report_fields c.in_ok-report.report) _ c.in_ok-bodies.ensures.items c.in_ok-push_report.ensures.told
     (c.in_ok-report.ensures.told (shown_as (progressed p o)) c.shown_of-shown.ensures
     ∙ ap (λ (x : OrderRecord). law.report (c.args.issued + 1) (law.plain (codes "0")) (shown_as x)) opened)
-    ∙ sym (live-told c.args.issued m b o says (sym c.if-is_dead.ensures))
+    ∙ sym (live-told c.args.issued m o  (sym c.if-is_dead.ensures))

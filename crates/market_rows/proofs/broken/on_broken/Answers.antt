@@ -8,18 +8,18 @@ use Rattle.market_rows.proofs.BrokenRow.{broken-is-lawful, broken-now, broken-un
 use Rattle.market_rows.proofs.broken.on_broken.Goals as goal
 
 pub returns-in_default : goal.returns-in_default
-returns-in_default c = λ b says.
+returns-in_default c =
     let none : broken_in c.args.message.now c.args.order.now ≡ None = sym c.trade_of.ensures.trade ∙ ap (option_map told_seen) c.in_default.is in
-    broken-unlawful c.args.message.now b c.args.order.now says c.trade_of.ensures.steady none
+    broken-unlawful c.args.message.now c.args.order.now c.trade_of.ensures.steady none
 
 pub returns : goal.returns
-returns c = λ b says.
+returns c =
     let m = c.args.message.now in
     let o = c.args.order.now in
     let may = may-break m o (told_seen c.in-Some.told) (sym c.trade_of.ensures.trade ∙ ap (option_map told_seen) c.in-Some.is) in
     record {
-      lawful = broken-is-lawful m b o (told_seen c.in-Some.told) says may;
-      told = c.in_ok-tell_broken.ensures.told b says;
-      now = broken-now c.args.issued m b o c.in-Some.told says c.trade_of.ensures.steady may;
+      lawful = broken-is-lawful m o (told_seen c.in-Some.told) may;
+      told = c.in_ok-tell_broken.ensures.told;
+      now = broken-now c.args.issued m o c.in-Some.told  c.trade_of.ensures.steady may;
       fits = λ e. (let x : is_waiting Waiting ≡ false = ap is_waiting (sym e) ∙ may.accepted in cc);
     }

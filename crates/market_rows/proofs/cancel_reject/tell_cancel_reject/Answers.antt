@@ -9,7 +9,7 @@ use Rattle.market_rows.proofs.Tells.{only-told}
 use Rattle.market_rows.proofs.cancel_reject.tell_cancel_reject.Goals as goal
 
 pub returns-clause-told : goal.returns-clause-told
-returns-clause-told c = λ issued b says.
+returns-clause-told c = λ issued.
     let m = c.args.message.now in
     let o = c.args.order.now in
     let p = c.progress_after-progress.result in
@@ -17,4 +17,4 @@ returns-clause-told c = λ issued b says.
     (c.in_ok-push_cancel_rejected.ensures.told o.replace (cancel_in o.cancel) (shown_as (progressed p o)) c.shown_of-shown.ensures (c.pending_of.ensures p))
     (ap (λ (x : Bool). law.cancel_rejected x (shown_as (progressed p o))) c.is_last-is_last.ensures
     ∙ ap (λ (x : OrderRecord). law.cancel_rejected (is_last_of m.token o.cancel) (shown_as x)) c.progress_after-progress.ensures.after)
-    ∙ sym (reject-told m b o says issued)
+    ∙ sym (reject-told m o issued)

@@ -11,7 +11,7 @@ use Rattle.market_rows.proofs.Tells.{first-told, only-told}
 use Rattle.market_rows.proofs.canceled.tell_canceled.Goals as goal
 
 pub returns-then-message-order-clause-told : goal.returns-then-message-order-clause-told
-returns-then-message-order-clause-told c = λ b says.
+returns-then-message-order-clause-told c =
     let m = c.args.message.now in
     let o = c.args.order.now in
     let p = c.progress_after-progress.result in
@@ -19,10 +19,10 @@ returns-then-message-order-clause-told c = λ b says.
     only-told c.in_ok-bodies.bodies.items c.push_canceled.new.bodies.items _ _ c.in_ok-bodies.ensures.items
     (c.in_ok-push_canceled.ensures.told o.replace (cancel_in o.cancel) (shown_as (progressed p o)) c.shown_of-shown.ensures (c.pending_of-pending.ensures p))
     (ap (λ (x : OrderRecord). law.cancelled (c.args.issued + 1) (Some (m.reason ∷ [])) (shown_as x)) c.progress_after-progress.ensures.after)
-    ∙ sym (gone-told c.args.issued m b o says c.requires.may all)
+    ∙ sym (gone-told c.args.issued m o c.requires.may all)
 
 pub returns-clause-told : goal.returns-clause-told
-returns-clause-told c = λ b says.
+returns-clause-told c =
     let m = c.args.message.now in
     let o = c.args.order.now in
     let p = c.progress_after-progress.result in
@@ -30,4 +30,4 @@ returns-clause-told c = λ b says.
     first-told c.in_ok-bodies.bodies.items c.push_report.new.bodies.items (report_fields c.in_ok-report.report) _ c.in_ok-bodies.ensures.items c.in_ok-push_report.ensures.told
     (c.in_ok-report.ensures.told (shown_as (progressed p o)) c.shown_of-reduced.ensures
     ∙ ap (λ (x : OrderRecord). law.report (c.args.issued + 1) (occasion_seen (occasions.Restated m.reason)) (shown_as x)) c.progress_after-progress.ensures.after)
-    ∙ sym (reduced-told c.args.issued m b o says c.requires.may part)
+    ∙ sym (reduced-told c.args.issued m o c.requires.may part)

@@ -15,7 +15,7 @@ use Rattle.market_rows.proofs.Tells.{first-told, more-told}
 use Rattle.market_rows.proofs.executed.tell_executed.Goals as goal
 
 pub returns-then-shares-order-clause-told : goal.returns-then-shares-order-clause-told
-returns-then-shares-order-clause-told c = λ b says.
+returns-then-shares-order-clause-told c =
     let m = c.args.message.now in
     let o = c.args.order.now in
     let p = c.progress_after-progress.result in
@@ -28,10 +28,10 @@ returns-then-shares-order-clause-told c = λ b says.
     ∙ ap (λ (x : OrderRecord). law.report (c.args.issued + 1) (occasion_seen (occasions.Trade m.shares m.price)) (shown_as x)) after))
     (c.in_ok-push_too_late.ensures.told o.replace (cancel_in o.cancel) (shown_as (progressed p o)) c.shown_of-shown.ensures (c.pending_of.ensures p))
     (ap (λ (x : OrderRecord). law.too_late (shown_as x)) after)
-    ∙ sym (filled-told c.args.issued m b o says c.requires.may all)
+    ∙ sym (filled-told c.args.issued m o c.requires.may all)
 
 pub returns-clause-told : goal.returns-clause-told
-returns-clause-told c = λ b says.
+returns-clause-told c =
     let m = c.args.message.now in
     let o = c.args.order.now in
     let p = c.progress_after-progress.result in
@@ -41,4 +41,4 @@ returns-clause-told c = λ b says.
     first-told c.in_ok-bodies.bodies.items c.push_report.new.bodies.items (report_fields c.in_ok-report.report) _ c.in_ok-bodies.ensures.items c.in_ok-push_report.ensures.told
     (c.in_ok-report.ensures.told (shown_as (progressed p o)) c.shown_of-shown.ensures
     ∙ ap (λ (x : OrderRecord). law.report (c.args.issued + 1) (occasion_seen (occasions.Trade m.shares m.price)) (shown_as x)) after)
-    ∙ sym (traded-told c.args.issued m b o says c.requires.may part)
+    ∙ sym (traded-told c.args.issued m o c.requires.may part)

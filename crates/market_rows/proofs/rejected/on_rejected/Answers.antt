@@ -5,34 +5,34 @@ use Rattle.market_rows.proofs.RejectedRow.{not_replaced-now, refuse-waits, refus
 use Rattle.market_rows.proofs.rejected.on_rejected.Goals as goal
 
 pub returns-then-may_refuse : goal.returns-then-may_refuse
-returns-then-may_refuse c = λ b says.
+returns-then-may_refuse c =
     let m = c.args.message.now in
     let o = c.args.order.now in
     let may : may_refuse_as m o ≡ true = sym c.if-may_refuse.ensures in
     record {
-      lawful = rejected-lawful m b o says ∙ ap (λ (x : Bool). x || may_reject_replace_as m o) may;
-      told = c.in_ok-tell_refused.ensures.told b says;
-      now = refused-now c.args.issued m b o says may;
-      fits = refuse-waits c.args.issued m b o says may;
+      lawful = rejected-lawful m o  ∙ ap (λ (x : Bool). x || may_reject_replace_as m o) may;
+      told = c.in_ok-tell_refused.ensures.told;
+      now = refused-now c.args.issued m o  may;
+      fits = refuse-waits c.args.issued m o  may;
     }
 
 pub returns-then-may_reject_replace : goal.returns-then-may_reject_replace
-returns-then-may_reject_replace c = λ b says.
+returns-then-may_reject_replace c =
     let m = c.args.message.now in
     let o = c.args.order.now in
     let not_new : may_refuse_as m o ≡ false = sym c.if-may_refuse.ensures in
     let may : may_reject_replace_as m o ≡ true = sym c.if-may_reject_replace.ensures in
     record {
-      lawful = rejected-lawful m b o says ∙ ap (λ (x : Bool). x || may_reject_replace_as m o) not_new ∙ may;
-      told = c.in_ok-tell_not_replaced.ensures.told c.args.issued b says;
-      now = not_replaced-now c.args.issued m b o says not_new;
+      lawful = rejected-lawful m o  ∙ ap (λ (x : Bool). x || may_reject_replace_as m o) not_new ∙ may;
+      told = c.in_ok-tell_not_replaced.ensures.told c.args.issued;
+      now = not_replaced-now c.args.issued m o  not_new;
       fits = tt;
     }
 
 pub returns : goal.returns
-returns c = λ b says.
+returns c =
     let m = c.args.message.now in
     let o = c.args.order.now in
     let not_new : may_refuse_as m o ≡ false = sym c.if-may_refuse.ensures in
     let not_so : may_reject_replace_as m o ≡ false = sym c.if-may_reject_replace.ensures in
-    rejected-lawful m b o says ∙ ap (λ (x : Bool). x || may_reject_replace_as m o) not_new ∙ not_so
+    rejected-lawful m o  ∙ ap (λ (x : Bool). x || may_reject_replace_as m o) not_new ∙ not_so

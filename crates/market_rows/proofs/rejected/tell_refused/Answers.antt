@@ -11,7 +11,7 @@ use Rattle.market_rows.proofs.Tells.{first-told, more-told}
 use Rattle.market_rows.proofs.rejected.tell_refused.Goals as goal
 
 pub returns-clause-told : goal.returns-clause-told
-returns-clause-told c = λ b says.
+returns-clause-told c =
     let m = c.args.message.now in
     let o = c.args.order.now in
     let p = c.progress_after-refused.result in
@@ -21,4 +21,4 @@ returns-clause-told c = λ b says.
     ∙ ap (λ (x : OrderRecord). law.report (c.args.issued + 1) (occasion_seen (occasions.Rejected m.reason)) (shown_as x)) c.progress_after-refused.ensures.after))
     (c.in_ok-push_too_late.ensures.told o.replace (cancel_in o.cancel) (shown_as (progressed p o)) c.shown_of-shown.ensures (c.pending_of.ensures p))
     (ap (λ (x : OrderRecord). law.too_late (shown_as x)) c.progress_after-refused.ensures.after)
-    ∙ sym (refused-told c.args.issued m b o says c.requires.may)
+    ∙ sym (refused-told c.args.issued m o  c.requires.may)

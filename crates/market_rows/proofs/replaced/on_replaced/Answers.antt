@@ -7,19 +7,19 @@ use Rattle.market_rows.proofs.ReplacedRow.{replace-works, replaced-is, replaced-
 use Rattle.market_rows.proofs.replaced.on_replaced.Goals as goal
 
 pub returns-then-not-may_replace : goal.returns-then-not-may_replace
-returns-then-not-may_replace c = λ b says.
+returns-then-not-may_replace c =
     let not_so : may_replace_as c.args.message.now c.args.order.now ≡ false = (search rules) in
-    replaced-lawful c.args.message.now b c.args.order.now says ∙ not_so
+    replaced-lawful c.args.message.now c.args.order.now ∙ not_so
 
 pub returns : goal.returns
-returns c = λ b says.
+returns c =
     let may : may_replace_as c.args.message.now c.args.order.now ≡ true = (search rules) in
     let few : c.args.message.now.shares ≤ 999_999 = (search rules) in
     record {
-      lawful = replaced-lawful c.args.message.now b c.args.order.now says ∙ may;
-      told = c.in_ok-tell_replaced.ensures.told b says;
+      lawful = replaced-lawful c.args.message.now c.args.order.now ∙ may;
+      told = c.in_ok-tell_replaced.ensures.told;
       now = ap (λ (x : Change). changed_by x c.args.order.now) c.replaced_by.ensures
           ∙ ap (λ (x : Bool). changed_by (changes.Replaced c.args.message.now.shares c.args.message.now.price x) c.args.order.now) c.is_dead.ensures
-          ∙ replaced-is c.args.issued c.args.message.now b c.args.order.now says may;
+          ∙ replaced-is c.args.issued c.args.message.now c.args.order.now may;
       fits = rw c.replaced_by.ensures (replace-works c.args.message.now c.args.order.now may, few);
     }

@@ -17,13 +17,13 @@ use Rattle.market_rows.proofs.Tells.{first-told, more-told}
 use Rattle.market_rows.proofs.replaced.tell_replaced.Goals as goal
 
 pub returns-in_default-clause-told : goal.returns-in_default-clause-told
-returns-in_default-clause-told c = λ b says.
+returns-in_default-clause-told c =
     let o = c.args.order.now in
     let none : o.replace ≡ None = ap (λ (x : OrderRecord). x.replace) (sym c.order.view_is) ∙ ap (option_map (replace_seen c.order.inside.client c.order.inside.order_id)) c.in_default.is in
     absurd (none-replacing c.args.message.now.token o (replace-pending c.args.message.now o c.requires.may) none)
 
 pub returns-then-is_dead-clause-told : goal.returns-then-is_dead-clause-told
-returns-then-is_dead-clause-told c = λ b says.
+returns-then-is_dead-clause-told c =
     let m = c.args.message.now in
     let o = c.args.order.now in
     let q : Entry = replace_seen c.order.inside.client c.order.inside.order_id c.in-Some.replacing in
@@ -48,10 +48,10 @@ returns-then-is_dead-clause-told c = λ b says.
     more-told c.push_report.new.bodies.items c.push_canceled.new.bodies.items _ _ _ first
     (c.in_ok-push_canceled.ensures.told None cancel t closed (record { in_order = refl; replace_is = tt; cancel_is = is.cancel_is; is_replace_set = tt; is_cancel_set = is.is_cancel_set }))
     (ap (λ (x : OrderRecord). law.cancelled (c.args.issued + 2) None (record (shown_as x) { id = text 11 q.message; pending = option_to_list cancel })) gone)
-    ∙ sym (replaced-dead c.args.issued m b o q says some own (replace-live m o c.requires.may) is_g is.is_cancel_set is.in_order (sym c.if-is_dead.ensures))
+    ∙ sym (replaced-dead c.args.issued m o q  some own (replace-live m o c.requires.may) is_g is.is_cancel_set is.in_order (sym c.if-is_dead.ensures))
 
 pub returns-clause-told : goal.returns-clause-told
-returns-clause-told c = λ b says.
+returns-clause-told c =
     let m = c.args.message.now in
     let o = c.args.order.now in
     let q : Entry = replace_seen c.order.inside.client c.order.inside.order_id c.in-Some.replacing in
@@ -72,4 +72,4 @@ returns-clause-told c = λ b says.
     (c.in_ok-push_cancel_rejected.ensures.told None cancel s shows (record { in_order = refl; replace_is = tt; cancel_is = is.cancel_is; is_replace_set = tt; is_cancel_set = is.is_cancel_set }))
     (ap (λ (x : Bool). law.cancel_rejected x s) c.is_last-is_last.ensures
     ∙ ap (λ (x : OrderRecord). law.cancel_rejected (is_last_of m.previous_token o.cancel) (record (shown_as x) { id = text 11 q.message; pending = option_to_list cancel })) opened)
-    ∙ sym (replaced-live c.args.issued m b o q says some own (replace-live m o c.requires.may) is_g is.is_cancel_set is.in_order (sym c.if-is_dead.ensures))
+    ∙ sym (replaced-live c.args.issued m o q  some own (replace-live m o c.requires.may) is_g is.is_cancel_set is.in_order (sym c.if-is_dead.ensures))

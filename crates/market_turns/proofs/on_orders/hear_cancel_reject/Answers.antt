@@ -1,15 +1,11 @@
-use Rattle.std.proofs.Common.{refl, ap, ◌∙◌}
-use Rattle.ouch_codec.specs.Layouts as layouts
-use Rattle.order_table.specs.Held.{found}
-use Rattle.market_turns.proofs.Judging.{own-token, steps-own, steps-none, whole}
+use Rattle.std.proofs.Common.{refl}
+use Rattle.ouch_codec.specs.declared.outbound.Outbound.TheVariants as market
+use Rattle.market_turns.proofs.Judging.{steps-found, steps-none}
 use Rattle.market_turns.proofs.on_orders.hear_cancel_reject.Goals as goal
 
 pub returns-in-None : goal.returns-in-None
-returns-in-None c = λ issued b says.
-    steps-none issued c.args.port b c.args.table.now layouts.cancel_reject (whole b 73 layouts.cancel_reject says.type refl says.is_one refl refl refl)
-    (ap (found c.args.table.now c.args.port) says.token ∙ c.in-None.ensures)
+returns-in-None c = λ issued. steps-none issued c.args.port (market.CancelReject c.args.message.now) c.args.table.now c.args.message.now.token (record { has = refl; fault = λ s a b. refl }) c.in-None.ensures
 
 pub returns-in-Some : goal.returns-in-Some
-returns-in-Some c = λ issued b says.
-    steps-own issued c.args.port b c.args.table.now layouts.cancel_reject (whole b 73 layouts.cancel_reject says.type refl says.is_one refl refl refl) (own-token b 73 says.type refl)
-    c.in-Some.order.now (ap (found c.args.table.now c.args.port) says.token ∙ c.in-Some.ensures) c.answer_of.result (c.answer_of.ensures issued b (c.on_cancel_reject.ensures issued b says))
+returns-in-Some c = λ issued. steps-found issued c.args.port (market.CancelReject c.args.message.now) c.args.table.now c.args.message.now.token (record { has = refl; fault = λ s a b. refl })
+    c.in-Some.order.now c.in-Some.ensures c.answer_of.result (c.answer_of.ensures issued (market.CancelReject c.args.message.now) (c.on_cancel_reject.ensures issued))

@@ -1,15 +1,11 @@
-use Rattle.std.proofs.Common.{refl, ap, ◌∙◌}
-use Rattle.ouch_codec.specs.Layouts as layouts
-use Rattle.order_table.specs.Held.{found}
-use Rattle.market_turns.proofs.Judging.{own-token, steps-own, steps-none, whole}
+use Rattle.std.proofs.Common.{refl}
+use Rattle.ouch_codec.specs.declared.outbound.Outbound.TheVariants as market
+use Rattle.market_turns.proofs.Judging.{steps-found, steps-none}
 use Rattle.market_turns.proofs.on_orders.hear_canceled.Goals as goal
 
 pub returns-in-None : goal.returns-in-None
-returns-in-None c = λ b says.
-    steps-none c.args.issued c.args.port b c.args.table.now layouts.canceled (whole b 67 layouts.canceled says.type refl says.is_one refl refl refl)
-    (ap (found c.args.table.now c.args.port) says.token ∙ c.in-None.ensures)
+returns-in-None c = steps-none c.args.issued c.args.port (market.Canceled c.args.message.now) c.args.table.now c.args.message.now.token (record { has = refl; fault = λ s a b. refl }) c.in-None.ensures
 
 pub returns-in-Some : goal.returns-in-Some
-returns-in-Some c = λ b says.
-    steps-own c.args.issued c.args.port b c.args.table.now layouts.canceled (whole b 67 layouts.canceled says.type refl says.is_one refl refl refl) (own-token b 67 says.type refl)
-    c.in-Some.order.now (ap (found c.args.table.now c.args.port) says.token ∙ c.in-Some.ensures) c.answer_of.result (c.answer_of.ensures c.args.issued b (c.on_canceled.ensures b says))
+returns-in-Some c = steps-found c.args.issued c.args.port (market.Canceled c.args.message.now) c.args.table.now c.args.message.now.token (record { has = refl; fault = λ s a b. refl })
+    c.in-Some.order.now c.in-Some.ensures c.answer_of.result (c.answer_of.ensures c.args.issued (market.Canceled c.args.message.now) c.on_canceled.ensures)

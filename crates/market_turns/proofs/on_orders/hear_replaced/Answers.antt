@@ -1,23 +1,18 @@
-use Rattle.std.proofs.Common.{refl, ap, ◌∙◌}
-use Rattle.ouch_codec.specs.Layouts as layouts
-use Rattle.order_table.specs.Held.{found}
-use Rattle.market_turns.proofs.Judging.{previous-token, steps-found, steps-none, steps-order_none, whole}
+use Rattle.std.proofs.Common.{refl}
+use Rattle.ouch_codec.specs.declared.outbound.Outbound.TheVariants as market
+use Rattle.market_turns.proofs.Judging.{replaced-on, replaced-unknown, steps-found, steps-none}
 use Rattle.market_turns.proofs.on_orders.hear_replaced.Goals as goal
 
 pub returns-in_default : goal.returns-in_default
-returns-in_default c = λ b says.
-    steps-none c.args.issued c.args.port b c.args.table.now layouts.replaced (whole b 85 layouts.replaced says.type refl says.is_one refl refl refl)
-    (ap (found c.args.table.now c.args.port) says.token ∙ c.in_default.ensures)
+returns-in_default c = replaced-unknown c.args.port c.args.message.now c.args.table.now c.args.issued c.in_default.ensures
 
 pub returns-in-None : goal.returns-in-None
-returns-in-None c = λ b says.
-    steps-order_none c.args.issued c.args.port b c.args.table.now layouts.replaced (whole b 85 layouts.replaced says.type refl says.is_one refl refl refl)
-    c.in-Some._known.now (ap (found c.args.table.now c.args.port) says.token ∙ c.in-Some.ensures)
-    (ap (found c.args.table.now c.args.port) (previous-token b says.type ∙ says.previous_token) ∙ c.in-None.ensures)
+returns-in-None c =
+    steps-none c.args.issued c.args.port (market.Replaced c.args.message.now) c.args.table.now c.args.message.now.previous_token
+    (replaced-on c.args.port c.args.message.now c.args.table.now c.in-Some._known.now c.in-Some.ensures) c.in-None.ensures
 
 pub returns-in-Some-by_token : goal.returns-in-Some-by_token
-returns-in-Some-by_token c = λ b says.
-    steps-found c.args.issued c.args.port b c.args.table.now layouts.replaced (whole b 85 layouts.replaced says.type refl says.is_one refl refl refl)
-    c.in-Some._known.now c.in-Some-by_token.order.now (ap (found c.args.table.now c.args.port) says.token ∙ c.in-Some.ensures)
-    (ap (found c.args.table.now c.args.port) (previous-token b says.type ∙ says.previous_token) ∙ c.in-Some-by_token.ensures)
-    c.answer_of.result (c.answer_of.ensures c.args.issued b (c.on_replaced.ensures b says))
+returns-in-Some-by_token c =
+    steps-found c.args.issued c.args.port (market.Replaced c.args.message.now) c.args.table.now c.args.message.now.previous_token
+    (replaced-on c.args.port c.args.message.now c.args.table.now c.in-Some._known.now c.in-Some.ensures)
+    c.in-Some-by_token.order.now c.in-Some-by_token.ensures c.answer_of.result (c.answer_of.ensures c.args.issued (market.Replaced c.args.message.now) c.on_replaced.ensures)
