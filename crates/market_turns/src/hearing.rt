@@ -1,7 +1,6 @@
 //! A payload of the market, judged by the table of orders.
 
 ghost use Rattle.std.specs.Prelude.{◌≡◌, ◌<◌, ◌^◌, IfOk};
-ghost use Rattle.ouch_codec.specs.Values.{decoded};
 ghost use Rattle.market_turns.specs.Turns.{Steps};
 
 use crate::judged::Judged;
@@ -11,10 +10,11 @@ use crate::on_orders::{
     hear_executed, hear_rejected, hear_replaced,
 };
 use order_table::Table;
-use ouch_codec::{Outbound, decode};
+use ouch_codec::{DecodeRefusal, Outbound};
 use std::alloc::{AllocError, Global};
 
-/// What a payload that a port's session gave comes to, where so many reports were issued, of all clients.
+/// What a payload that a port's session gave comes to, by what it is decoded as, where so many reports were issued, of all
+/// clients.
 ///
 /// The faults, the first that holds: `OutsideProfile` (the type of no message), `Undecodable` (another length than its
 /// type's, a field outside its set, or no byte at all), `UnknownToken` (no order of this port has it), `NotLawful` (it doesn't
@@ -26,22 +26,22 @@ pub fn hear(
     issued: u64,
     table: &Table,
     port: u16,
-    payload: &[u8],
+    heard: &Result<Outbound, DecodeRefusal>,
 ) -> Result<Judged, AllocError>
     requires { issued < 2 ^ 60 }
-    ensures { IfOk result (Steps issued port (decoded payload.now) table.now) }
+    ensures { IfOk result (Steps issued port heard.now table.now) }
 {
-    match decode(payload) {
-        Err(refusal) => Ok(Judged::Faulty(fault_of(refusal))),
+    match heard {
+        Err(refusal) => Ok(Judged::Faulty(fault_of(*refusal))),
         Ok(Outbound::Skipped) => Ok(Judged::Silent),
         Ok(Outbound::SystemEvent(_)) => Ok(Judged::Silent),
-        Ok(Outbound::Accepted(message)) => hear_accepted(alloc, issued, table, port, &message),
-        Ok(Outbound::Executed(message)) => hear_executed(alloc, issued, table, port, &message),
-        Ok(Outbound::Canceled(message)) => hear_canceled(alloc, issued, table, port, &message),
-        Ok(Outbound::Broken(message)) => hear_broken(alloc, issued, table, port, &message),
-        Ok(Outbound::Rejected(message)) => hear_rejected(alloc, issued, table, port, &message),
-        Ok(Outbound::Replaced(message)) => hear_replaced(alloc, issued, table, port, &message),
-        Ok(Outbound::CancelReject(message)) => hear_cancel_reject(alloc, table, port, &message),
-        Ok(Outbound::CancelPending(message)) => Ok(hear_cancel_pending(table, port, &message)),
+        Ok(Outbound::Accepted(message)) => hear_accepted(alloc, issued, table, port, message),
+        Ok(Outbound::Executed(message)) => hear_executed(alloc, issued, table, port, message),
+        Ok(Outbound::Canceled(message)) => hear_canceled(alloc, issued, table, port, message),
+        Ok(Outbound::Broken(message)) => hear_broken(alloc, issued, table, port, message),
+        Ok(Outbound::Rejected(message)) => hear_rejected(alloc, issued, table, port, message),
+        Ok(Outbound::Replaced(message)) => hear_replaced(alloc, issued, table, port, message),
+        Ok(Outbound::CancelReject(message)) => hear_cancel_reject(alloc, table, port, message),
+        Ok(Outbound::CancelPending(message)) => Ok(hear_cancel_pending(table, port, message)),
     }
 }
