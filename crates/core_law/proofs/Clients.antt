@@ -1,14 +1,14 @@
 -- For whom the bodies are that a payload tells.
-use Rattle.std.proofs.Common.{◌≡◌, ℕ, Bool, true, false, List, [], ◌∷◌, ◌++◌, Option, Some, None, refl, ap, sym, subst, ◌∙◌, is_some, inl, inr}
-use Rattle.std.specs.Prelude.{if◌then◌else◌, ◌⊎◌, ◌||◌, codes, option_to_list}
+use Rattle.std.proofs.Common.{◌≡◌, ℕ, Bool, true, false, List, [], ◌∷◌, ◌++◌, Option, Some, None, Result, Ok, Err, refl, ap, sym, subst, ◌∙◌, is_some, inl, inr}
+use Rattle.std.specs.Prelude.{if◌then◌else◌, ◌⊎◌, option_to_list}
 use Rattle.std.specs.List.{find}
-use Rattle.ouch_codec.specs.FromMarket as heard
+use Rattle.ouch_codec.specs.declared.outbound.Outbound.{Outbound}
+use Rattle.ouch_codec.specs.declared.refusal.DecodeRefusal.{DecodeRefusal}
 use Rattle.order_law.specs.Messages.{Message}
-use Rattle.order_law.specs.Life.{is_type}
 use Rattle.order_law.specs.Verdicts.{Verdict, Accepted, Refused}
 use Rattle.order_law.specs.History.{Terms, Event, Came, Heard, Turn, History, Entry, accepted, entry_at, is_new_order, issued, verdict}
-use Rattle.order_law.specs.Lawful.{has_token, judgement, order_of_token}
-use Rattle.order_law.specs.Told.{Told, nobody, told, told_on, to_client_of}
+use Rattle.order_law.specs.Lawful.{has_token, judgement, order_of_token, order_token, token_of_heard}
+use Rattle.order_law.specs.Told.{Told, nobody, told, told_on, to_client_of, on_token}
 use Rattle.order_law.specs.Headline.{Each, said_in}
 use Rattle.core_law.specs.Clients.{IsFrom, AreFrom}
 
@@ -56,54 +56,59 @@ order-of P terms p token before new from is = by_found (find (has_token terms p 
     by_found None f is = absurd (let x : ◌≡◌ {A = Option Entry} None (Some new) = rw f at is in cc)
     by_found (Some e) f is = found-of P _ (accepted terms before) new (accepted-of P terms before from) (rw f at is)
 
+-- likewise of the token that a message is on, if it has one
+on-of : (P : ℕ → Type 0) (terms : List Terms) (p : ℕ) (token : Option (List ℕ)) (before : History) (new : Entry) → AreFrom P before → on_token terms p before token ≡ Some new → P new.client
+on-of P terms p None before new from is = absurd (cc)
+on-of P terms p (Some token) before new from is = order-of P terms p token before new from is
+
 -- ---- what a payload tells
 
 -- some bodies, to the client of the order that its token leads to
-record TellsOf (terms : List Terms) (p : ℕ) (m : List ℕ) (before : History) (t : Told) : Type 0 where
+record TellsOf (terms : List Terms) (p : ℕ) (m : Result Outbound DecodeRefusal) (before : History) (t : Told) : Type 0 where
   new : Entry
-  found : order_of_token terms p (accepted terms before) (heard.token m) ≡ Some new
+  found : on_token terms p before (token_of_heard m) ≡ Some new
   client : t.client ≡ new.client
   some : t.bodies ≡ [] → ⊥
 
-module _ (terms : List Terms) (p : ℕ) (m : List ℕ) (before : History) where
-  payload-tells : (told terms (Heard p m) before ≡ nobody) ⊎ TellsOf terms p m before (told terms (Heard p m) before)
-  payload-tells = by_row (is_some (judgement terms p m before) || (is_type (codes "T") m || is_type (codes "S") m))
-    where
-      by_bodies : (new : Entry) → order_of_token terms p (accepted terms before) (heard.token m) ≡ Some new → (bodies : List Message)
-          → (to_client_of new bodies ≡ nobody) ⊎ TellsOf terms p m before (to_client_of new bodies)
-      by_bodies new found [] = inl refl
-      by_bodies new found (r ∷ rs) = inr (record { new = new; found = found; client = refl; some = λ none. absurd (cc) })
+payload-tells : (terms : List Terms) (p : ℕ) (m : Result Outbound DecodeRefusal) (before : History) → (told terms (Heard p m) before ≡ nobody) ⊎ TellsOf terms p m before (told terms (Heard p m) before)
+payload-tells terms p (Err refusal) before = inl refl
+payload-tells terms p (Ok m) before = by_row (is_some (judgement terms p (Ok m) before))
+  where
+    by_bodies : (new : Entry) → on_token terms p before (order_token m) ≡ Some new → (bodies : List Message)
+        → (to_client_of new bodies ≡ nobody) ⊎ TellsOf terms p (Ok m) before (to_client_of new bodies)
+    by_bodies new found [] = inl refl
+    by_bodies new found (r ∷ rs) = inr (record { new = new; found = found; client = refl; some = λ none. absurd (cc) })
 
-      by_order : (found : Option Entry) → order_of_token terms p (accepted terms before) (heard.token m) ≡ found
-          → (told_on terms p m before found ≡ nobody) ⊎ TellsOf terms p m before (told_on terms p m before found)
-      by_order None is = inl refl
-      by_order (Some new) is = by_bodies new is _
+    by_order : (found : Option Entry) → on_token terms p before (order_token m) ≡ found
+        → (told_on terms p m before found ≡ nobody) ⊎ TellsOf terms p (Ok m) before (told_on terms p m before found)
+    by_order None is = inl refl
+    by_order (Some new) is = by_bodies new is _
 
-      by_row : (w : Bool) → (let t : Told = if w then nobody else told_on terms p m before (order_of_token terms p (accepted terms before) (heard.token m)) in (t ≡ nobody) ⊎ TellsOf terms p m before t)
-      by_row true = inl refl
-      by_row false = by_order (order_of_token terms p (accepted terms before) (heard.token m)) refl
+    by_row : (w : Bool) → (let t : Told = if w then nobody else told_on terms p m before (on_token terms p before (order_token m)) in (t ≡ nobody) ⊎ TellsOf terms p (Ok m) before t)
+    by_row true = inl refl
+    by_row false = by_order (on_token terms p before (order_token m)) refl
 
 -- none for nobody, or for a client from which a message came
-pub told-either : (terms : List Terms) (P : ℕ → Type 0) (before : History) (p : ℕ) (m : List ℕ) → AreFrom P before
+pub told-either : (terms : List Terms) (P : ℕ → Type 0) (before : History) (p : ℕ) (m : Result Outbound DecodeRefusal) → AreFrom P before
     → (((told terms (Heard p m) before).bodies ≡ []) × ((told terms (Heard p m) before).client ≡ 0)) ⊎ (P (told terms (Heard p m) before).client)
 told-either terms P before p m from = by_told (payload-tells terms p m before)
   where
     by_told : (told terms (Heard p m) before ≡ nobody) ⊎ TellsOf terms p m before (told terms (Heard p m) before)
         → (((told terms (Heard p m) before).bodies ≡ []) × ((told terms (Heard p m) before).client ≡ 0)) ⊎ (P (told terms (Heard p m) before).client)
     by_told (inl is) = inl (ap (λ (t : Told). t.bodies) is, ap (λ (t : Told). t.client) is)
-    by_told (inr of) = inr (subst P (sym of.client) (order-of P terms p (heard.token m) before of.new from of.found))
+    by_told (inr of) = inr (subst P (sym of.client) (on-of P terms p (token_of_heard m) before of.new from of.found))
 
-pub told-none : (terms : List Terms) (before : History) (p : ℕ) (m : List ℕ) (t : Turn) → told terms (Heard p m) before ≡ said_in t → t.bodies ≡ [] → t.client ≡ 0
+pub told-none : (terms : List Terms) (before : History) (p : ℕ) (m : Result Outbound DecodeRefusal) (t : Turn) → told terms (Heard p m) before ≡ said_in t → t.bodies ≡ [] → t.client ≡ 0
 told-none terms before p m t is none = by_told (payload-tells terms p m before)
   where
     by_told : (told terms (Heard p m) before ≡ nobody) ⊎ TellsOf terms p m before (told terms (Heard p m) before) → t.client ≡ 0
     by_told (inl silent) = ap (λ (x : Told). x.client) (sym is ∙ silent)
     by_told (inr of) = absurd (of.some (ap (λ (x : Told). x.bodies) is ∙ none))
 
-pub told-some : (terms : List Terms) (P : ℕ → Type 0) (before : History) (p : ℕ) (m : List ℕ) (t : Turn) → AreFrom P before → told terms (Heard p m) before ≡ said_in t
+pub told-some : (terms : List Terms) (P : ℕ → Type 0) (before : History) (p : ℕ) (m : Result Outbound DecodeRefusal) (t : Turn) → AreFrom P before → told terms (Heard p m) before ≡ said_in t
     → (t.bodies ≡ [] → ⊥) → P t.client
 told-some terms P before p m t from is some = by_told (payload-tells terms p m before)
   where
     by_told : (told terms (Heard p m) before ≡ nobody) ⊎ TellsOf terms p m before (told terms (Heard p m) before) → P t.client
     by_told (inl silent) = absurd (some (ap (λ (x : Told). x.bodies) (sym is ∙ silent)))
-    by_told (inr of) = subst P (sym of.client ∙ ap (λ (x : Told). x.client) is) (order-of P terms p (heard.token m) before of.new from of.found)
+    by_told (inr of) = subst P (sym of.client ∙ ap (λ (x : Told). x.client) is) (on-of P terms p (token_of_heard m) before of.new from of.found)

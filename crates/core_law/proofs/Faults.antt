@@ -4,6 +4,7 @@ use Rattle.std.proofs.lemmas.Bool.{eqb-false, ne_eqb, cases_Bool, cond-true, con
 use Rattle.std.specs.Prelude.{if◌then◌else◌, ◌&&◌, ◌⊎◌}
 use Rattle.fix_types.specs.declared.application.AppMsg.{AppMsg}
 use Rattle.soup_packets.specs.declared.packet.Packet.{Packet}
+use Rattle.ouch_codec.specs.Values.{decoded}
 use Rattle.soup_session.specs.declared.port_state.PortState.{PortState}
 use Rattle.soup_session.specs.declared.port_state.PortState.TheVariants.{Down, LoggingIn, Up, Ended, Faulted}
 use Rattle.soup_session.specs.States.{is_open}
@@ -115,7 +116,7 @@ packet-outcome s p link at packet b v payload is has =
 
 -- the turn of a payload
 abbrev pub turn_of : ℕ → Batch → List ℕ → Option orders.Turn
-turn_of p b payload = Some (record { event = orders.Heard p payload; client = addressee b; bodies = bodies b; sends = []; fault = b.fault })
+turn_of p b payload = Some (record { event = orders.Heard p (decoded payload); client = addressee b; bodies = bodies b; sends = []; fault = b.fault })
 
 pub told-outcome : (p at : ℕ) (packet : Packet) (b : Batch) (payload : List ℕ) (fault : Option ℕ) → b.fault ≡ fault
     → told p at packet b payload ≡ record (by_fault p at packet b fault) { turn = turn_of p b payload }

@@ -1,17 +1,18 @@
 -- A batch names nobody but those whom its event is for.
-use Rattle.std.proofs.Common.{◌≡◌, ◌==◌, ℕ, Bool, true, false, List, [], ◌∷◌, Option, Some, None, refl, ap, sym, subst, ◌∙◌, is_some, map, unwrap_or, option_map, inl, inr}
+use Rattle.std.proofs.Common.{◌≡◌, ◌==◌, ℕ, Bool, true, false, List, [], ◌∷◌, Option, Some, None, Result, Ok, Err, refl, ap, sym, subst, ◌∙◌, is_some, map, unwrap_or, option_map, inl, inr}
 use Rattle.std.proofs.lemmas.Bool.{cases_Bool}
-use Rattle.std.specs.Prelude.{if◌then◌else◌, ◌⊎◌, ◌||◌, codes}
-use Rattle.ouch_codec.specs.FromMarket as heard
+use Rattle.std.specs.Prelude.{if◌then◌else◌, ◌⊎◌}
+use Rattle.ouch_codec.specs.declared.outbound.Outbound.{Outbound}
+use Rattle.ouch_codec.specs.declared.refusal.DecodeRefusal.{DecodeRefusal}
+use Rattle.ouch_codec.specs.Values.{decoded}
 use Rattle.soup_packets.specs.declared.packet.Packet.{Packet}
 use Rattle.soup_session.specs.Table.{Hears}
 use Rattle.order_law.specs.Messages.{Message, body_of}
-use Rattle.order_law.specs.Life.{is_type}
 use Rattle.order_law.specs.History as orders
-use Rattle.order_law.specs.History.{Terms, Entry, accepted}
-use Rattle.order_law.specs.Lawful.{judgement, order_of_token}
+use Rattle.order_law.specs.History.{Terms, Entry}
+use Rattle.order_law.specs.Lawful.{judgement, order_token, token_of_heard}
 use Rattle.order_law.specs.Told as tale
-use Rattle.order_law.specs.Told.{nobody, told_on, told_by_market}
+use Rattle.order_law.specs.Told.{nobody, told_on, told_by_market, on_token}
 use Rattle.order_law.specs.Headline.{Headline}
 use Rattle.core_law.specs.Settings.{Settings, terms}
 use Rattle.core_law.specs.Events.{Event, ClientUp, ClientMessage, ClientGone, ClientTick, PortUp, PortPacket, PortGone, PortTick, Batch, is_for_client, is_for_port}
@@ -68,10 +69,11 @@ no-port-if s v false x y p q = q
 -- ---- whom a payload is for
 
 -- what is told of a payload is told to the client whose order its token leads to
-token-tells : (ts : List Terms) (p : ℕ) (m : List ℕ) (before : orders.History) (client : ℕ) (said : List Message)
+token-tells : (ts : List Terms) (p : ℕ) (m : Result Outbound DecodeRefusal) (before : orders.History) (client : ℕ) (said : List Message)
     → told_by_market ts p m before ≡ record { client = client; bodies = said }
-    → (said ≡ []) ⊎ (option_map (λ (new : Entry). new.client) (order_of_token ts p (accepted ts before) (heard.token m)) ≡ Some client)
-token-tells ts p m before client said = by_row (is_some (judgement ts p m before) || (is_type (codes "T") m || is_type (codes "S") m)) (order_of_token ts p (accepted ts before) (heard.token m))
+    → (said ≡ []) ⊎ (option_map (λ (new : Entry). new.client) (on_token ts p before (token_of_heard m)) ≡ Some client)
+token-tells ts p (Err refusal) before client said is = inl (sym (ap (λ (t : tale.Told). t.bodies) is))
+token-tells ts p (Ok m) before client said is = by_row (is_some (judgement ts p (Ok m) before)) (on_token ts p before (order_token m)) is
   where
     by_bodies : (new : Entry) (bs : List Message) → tale.to_client_of new bs ≡ record { client = client; bodies = said } → (said ≡ []) ⊎ (Some new.client ≡ Some client)
     by_bodies new [] is = inl (sym (ap (λ (t : tale.Told). t.bodies) is))
@@ -106,7 +108,7 @@ module _ (s : Settings) (p link at : ℕ) (packet : Packet) (b : Batch) (v : Lis
       among-none b.client _ (nobody-named _ (is ∙ told-outcome p at packet b payload (Some n) at_fault) (record { reports = refl; lines = no-client-lines s 0 (v.client_link 0) }))
   payload-target payload None lawful is =
       let kept = subst (λ (o : Outcome). Headline (terms s) (turned o.turn v).turns) is turns in
-      by_said (token-tells (terms s) p payload v.turns (addressee b) (bodies b) kept.0.tells)
+      by_said (token-tells (terms s) p (decoded payload) v.turns (addressee b) (bodies b) kept.0.tells)
     where
       c : ℕ
       c = addressee b

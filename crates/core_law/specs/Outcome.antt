@@ -8,6 +8,7 @@ use Rattle.std.specs.Prelude.{ℕ, ◌==◌, Bool, true, false, ◌&&◌, List, 
 use Rattle.std.specs.List.{flat_map}
 use Rattle.fix_types.specs.declared.application.AppMsg.{AppMsg}
 use Rattle.soup_packets.specs.declared.packet.Packet.{Packet}
+use Rattle.ouch_codec.specs.Values.{decoded}
 use Rattle.fix_types.specs.Application.{message_fields}
 use Rattle.soup_session.specs.Table as calls
 use Rattle.session_law.specs.Runs.{Timed, Linked, Came, Ticked}
@@ -120,8 +121,8 @@ by_app s client at frame b v (Some app) = asked s client at frame b v app
 
 -- ---- a port's packet
 
--- A payload that the session gives up is a turn of the order level: its bodies are issued to the client that they are for, or it
--- is at fault, and the session is told. (OUCH 4.2, "Outbound Messages".)
+-- A payload that the session gives up is a turn of the order level, which hears the message that it is decoded as: its bodies are
+-- issued to the client that they are for, or it is at fault, and the session is told. (OUCH 4.2, "Outbound Messages".)
 abbrev pub by_fault : ℕ → ℕ → Packet → Batch → Option ℕ → Outcome
 by_fault p at packet b None = record (of_port p Stays (calls.Hears packet at ∷ [])) { client = addressee b; client_calls = issues at (bodies b) }
 by_fault p at packet b (Some n) = record (of_port p Stays (calls.Hears packet at ∷ calls.Fails n ∷ [])) { fault = Some n }
@@ -129,7 +130,7 @@ by_fault p at packet b (Some n) = record (of_port p Stays (calls.Hears packet at
 abbrev pub told : ℕ → ℕ → Packet → Batch → List ℕ → Outcome
 told p at packet b payload = record (by_fault p at packet b b.fault) {
   turn = Some (record {
-    event = Heard p payload;
+    event = Heard p (decoded payload);
     client = addressee b;
     bodies = bodies b;
     sends = [];

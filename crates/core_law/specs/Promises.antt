@@ -1,12 +1,13 @@
 -- What is promised of single events beside what they give: which messages go to the market, what a fault does, whom a batch names.
 use Rattle.std.specs.Prelude.{◌≡◌, ℕ, ◌==◌, Bool, true, false, not, ◌&&◌, List, [], Option, Some, None, is_some, option_map}
-use Rattle.ouch_codec.specs.FromMarket as heard
+use Rattle.ouch_codec.specs.Values.{decoded}
 use Rattle.soup_session.specs.declared.port_state.PortState.TheVariants.{Faulted}
 use Rattle.soup_session.specs.States.{is_up}
 use Rattle.soup_session.specs.Table as port
 use Rattle.session_law.specs.Runs.{Came}
-use Rattle.order_law.specs.History.{Entry, accepted, outstanding}
-use Rattle.order_law.specs.Lawful.{order_of_token}
+use Rattle.order_law.specs.History.{Entry, outstanding}
+use Rattle.order_law.specs.Lawful.{token_of_heard}
+use Rattle.order_law.specs.Told.{on_token}
 use Rattle.order_law.specs.Headline.{EachWith, SaysIn}
 use Rattle.core_law.specs.Settings.{Settings, terms, port_of}
 use Rattle.core_law.specs.Events.{Event, ClientUp, ClientMessage, ClientGone, ClientTick, PortUp, PortPacket, PortGone, PortTick, Batch}
@@ -86,10 +87,10 @@ Faults s e b v = ByFault s e b v b.fault
 
 -- ---- targets: whom a batch may name at most
 
--- a payload is for the client whose order its token leads to
+-- A payload is for the client whose order the token of its message leads to. One that is no message, or has no token, is for nobody.
 abbrev pub by_token : Settings → ℕ → Option (List ℕ) → Lists → Option ℕ
 by_token s p None v = None
-by_token s p (Some payload) v = option_map (λ (new : Entry). new.client) (order_of_token (terms s) p (accepted (terms s) v.turns) (heard.token payload))
+by_token s p (Some payload) v = option_map (λ (new : Entry). new.client) (on_token (terms s) p v.turns (token_of_heard (decoded payload)))
 
 abbrev pub client_target : Settings → Event → Lists → Option ℕ
 client_target s (ClientUp client link at) v = Some client

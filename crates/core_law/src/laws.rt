@@ -1,6 +1,6 @@
 //! Laws of these definitions, for those who reason about runs.
 
-ghost use Rattle.std.specs.Prelude.{◌≡◌, ◌≤◌, ◌==◌, ◌⊎◌, ℕ, Bool, List, true, false, [], ◌∷◌, Some, is_some, length, if◌then◌else◌};
+ghost use Rattle.std.specs.Prelude.{◌≡◌, ◌≤◌, ◌==◌, ◌⊎◌, ℕ, Bool, List, Result, true, false, [], ◌∷◌, Some, is_some, length, if◌then◌else◌};
 ghost use Rattle.std.specs.List.{flat_map};
 ghost use Rattle.soup_session.specs.States.{is_open};
 ghost use Rattle.soup_session.specs.Table.{Call};
@@ -18,6 +18,8 @@ ghost use Rattle.order_law.specs.History as history;
 ghost use Rattle.order_law.specs.History.{Terms, Heard, Turn};
 ghost use Rattle.order_law.specs.Told.{told};
 ghost use Rattle.core_law.specs.Clients.{AreFrom};
+ghost use Rattle.ouch_codec.specs.declared.outbound.Outbound.{Outbound};
+ghost use Rattle.ouch_codec.specs.declared.refusal.DecodeRefusal.{DecodeRefusal};
 
 use soup_session::links_end_by_a_close;
 
@@ -62,13 +64,13 @@ pub fn turns_are_no_more_than_events()
 /// Where each message came from a client that passes a test, so does the client for whom a payload's bodies are; where it tells
 /// none, they are for nobody. `none` and `some` say it of a turn that tells what is told. It does nothing: its contract is the law.
 pub fn payloads_are_told_to_clients_that_came()
-    ensures either { (terms : List Terms) (is_ours : ℕ → Bool) (before : history.History) (p : ℕ) (m : List ℕ)
+    ensures either { (terms : List Terms) (is_ours : ℕ → Bool) (before : history.History) (p : ℕ) (m : Result Outbound DecodeRefusal)
         → AreFrom (λ (client : ℕ). is_ours client ≡ true) before
         → (((told terms (Heard p m) before).bodies ≡ []) × ((told terms (Heard p m) before).client ≡ 0))
         ⊎ (is_ours (told terms (Heard p m) before).client ≡ true) }
-    ensures none { (terms : List Terms) (before : history.History) (p : ℕ) (m : List ℕ) (t : Turn)
+    ensures none { (terms : List Terms) (before : history.History) (p : ℕ) (m : Result Outbound DecodeRefusal) (t : Turn)
         → told terms (Heard p m) before ≡ said_in t → t.bodies ≡ [] → t.client ≡ 0 }
-    ensures some { (terms : List Terms) (is_ours : ℕ → Bool) (before : history.History) (p : ℕ) (m : List ℕ) (t : Turn)
+    ensures some { (terms : List Terms) (is_ours : ℕ → Bool) (before : history.History) (p : ℕ) (m : Result Outbound DecodeRefusal) (t : Turn)
         → AreFrom (λ (client : ℕ). is_ours client ≡ true) before → told terms (Heard p m) before ≡ said_in t
         → (t.bodies ≡ [] → ⊥) → is_ours t.client ≡ true }
 {}
