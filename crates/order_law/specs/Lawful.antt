@@ -83,6 +83,11 @@ order_token (market.CancelPending m) = Some m.token
 order_token (market.CancelReject m) = Some m.token
 order_token other = None
 
+-- of a payload
+abbrev pub token_of_heard : Result Outbound DecodeRefusal → Option (List ℕ)
+token_of_heard (Ok m) = order_token m
+token_of_heard (Err refusal) = None
+
 -- of the order that its token leads to, where it leads to one: whether the row of its type holds
 abbrev pub judged_on : Option Bool → Option ℕ
 judged_on None = Some token_fault
