@@ -1,6 +1,7 @@
 -- What the code keeps, by its fields and by its bytes.
 use Rattle.std.proofs.Common.{◌≡◌, ℕ, ◌<◌, ◌^◌, Bool, true, false, List, [], ◌∷◌, map, refl, sym, ap, ◌∙◌, arith, decimal, bytes_eq, eq-eqb, eqb-true}
 use Rattle.std.specs.Prelude.{◌==◌, ◌&&◌, ◌||◌, filter, if◌then◌else◌}
+use Rattle.ouch_codec.specs.declared.outbound.Outbound.{Outbound}
 use Rattle.order_law.specs.History.{Said, answers}
 use Rattle.order_histories.proofs.Texts.{decimal-same, eq-other, eq-true}
 use Rattle.asked_messages.specs.declared.messages.AskedMessage.{AskedMessage}
@@ -15,11 +16,11 @@ number-test m n m_small n_small = by_test (m == n) refl
     by_test false e = sym (eq-other (decimal m) (decimal n) (λ same. (let alike : m ≡ n = decimal-same m n (omega arith) (omega arith) same in let on : (m == n) ≡ true = eq-eqb m n alike in let x : true ≡ false = sym on ∙ e in cc)))
 
 -- a message is answered as its fields have it
-pub answered-by_fields : (asked : AskedMessage) (port : ℕ) (payload order : List ℕ) (is_closed : Bool)
-    → is_answered_by port payload order is_closed (seen asked)
-    ≡ (asked.port == port && (answers payload (said_by asked.message) || (is_closed && bytes_eq (decimal asked.order_id) order)))
-answered-by_fields asked port payload order is_closed =
-    ap (λ (s : Said). asked.port == port && (answers payload s || (is_closed && bytes_eq (decimal asked.order_id) order))) (said_in-written asked.message)
+pub answered-by_fields : (asked : AskedMessage) (port : ℕ) (m : Outbound) (order : List ℕ) (is_closed : Bool)
+    → is_answered_by port m order is_closed (seen asked)
+    ≡ (asked.port == port && (answers m (said_by asked.message) || (is_closed && bytes_eq (decimal asked.order_id) order)))
+answered-by_fields asked port m order is_closed =
+    ap (λ (s : Said). asked.port == port && (answers m s || (is_closed && bytes_eq (decimal asked.order_id) order))) (said_in-written asked.message)
 
 pub is-answer : (p x c y : Bool) → p ≡ true → x ≡ true → (p && (x || (c && y))) ≡ true
 is-answer p x c y e f = rw (e, f) refl

@@ -1,8 +1,10 @@
 -- Each turn keeps the messages that are asked and not answered, and no others.
-use Rattle.std.proofs.Common.{◌≡◌, ℕ, ◌<◌, ◌^◌, Bool, true, false, List, [], ◌∷◌, ◌++◌, length, map, refl, sym, ap, ◌∙◌, subst, subst₂, arith, Option, Some, None, eq-eqb}
+use Rattle.std.proofs.Common.{◌≡◌, ℕ, ◌<◌, ◌^◌, Bool, true, false, List, [], ◌∷◌, ◌++◌, length, map, refl, sym, ap, ◌∙◌, subst, subst₂, arith, Option, Some, None, Result, Ok, Err, eq-eqb}
 use Rattle.std.specs.Prelude.{◌==◌, filter, if◌then◌else◌, option_to_list}
 use Rattle.ouch_codec.specs.declared.inbound.Inbound.{Inbound}
 use Rattle.ouch_codec.specs.Inbound.{inbound_bytes}
+use Rattle.ouch_codec.specs.declared.outbound.Outbound.{Outbound}
+use Rattle.ouch_codec.specs.declared.refusal.DecodeRefusal.{DecodeRefusal}
 use Rattle.order_law.specs.Asks.{Standing}
 use Rattle.order_law.specs.Life.{is_closed}
 use Rattle.order_law.specs.Messages.{Message}
@@ -166,7 +168,7 @@ client-turns terms before s short leaves kept (asked, same, along) t new client 
         same-turn terms before s h long t (Came client m port) client (client_step s client m port).bodies t.sends None is_e (meets.client ∙ goes.1) meets.bodies refl (meets.fault ∙ goes.2)
 
 -- a payload's turn, by its fault
-module _ (terms : List Terms) (before : History) (s : State) (short : length before < 2 ^ 58) (leaves : Leaves terms before s) (t : Turn) (new : State) (port : ℕ) (m : List ℕ) (is_e : t.event ≡ Heard port m) (leads : Leads s t new) where
+module _ (terms : List Terms) (before : History) (s : State) (short : length before < 2 ^ 58) (leaves : Leaves terms before s) (t : Turn) (new : State) (port : ℕ) (heard : Result Outbound DecodeRefusal) (is_e : t.event ≡ Heard port heard) (leads : Leads s t new) where
   long : length before < 2 ^ 59
   long = omega (arith, short)
 
@@ -176,14 +178,14 @@ module _ (terms : List Terms) (before : History) (s : State) (short : length bef
   placed : ArePlaced terms before
   placed = known-in terms before s long leaves
 
-  meets : Meets s (Heard port m) (market_step s port m) t new
+  meets : Meets s (Heard port heard) (market_step s port heard) t new
   meets = subst (λ (e : Event). Meets s e (step s e) t new) is_e leads.meets
 
-  turn-is : (fault : Option ℕ) → t.fault ≡ fault → heard_turn port m t.client t.bodies t.sends fault ≡ t
-  turn-is fault is_fault = same-turn terms before s h long t (Heard port m) t.client t.bodies t.sends fault is_e refl refl refl is_fault
+  turn-is : (fault : Option ℕ) → t.fault ≡ fault → heard_turn port heard t.client t.bodies t.sends fault ≡ t
+  turn-is fault is_fault = same-turn terms before s h long t (Heard port heard) t.client t.bodies t.sends fault is_e refl refl refl is_fault
 
   -- the table then
-  table-then : (fault : Option ℕ) → t.fault ≡ fault → IsTable terms (heard_turn port m t.client t.bodies t.sends fault ∷ before) (market_step s port m).state
+  table-then : (fault : Option ℕ) → t.fault ≡ fault → IsTable terms (heard_turn port heard t.client t.bodies t.sends fault ∷ before) (market_step s port heard).state
   table-then fault is_fault =
       subst₂ (λ (x : Turn) (y : State). IsTable terms (x ∷ before) y) (sym (turn-is fault is_fault)) meets.state (next-Holding terms before s h long t new leads).table
 
@@ -191,36 +193,42 @@ module _ (terms : List Terms) (before : History) (s : State) (short : length bef
   stands : (asked : List OnPort) (kept : List KeptMessage) → AreKept (standing_in terms before) asked kept → AreKept (standing_in terms (t ∷ before)) asked kept
   stands asked kept along = subst (StandsBy terms before asked kept) (sym is_e) along
 
-  quiet-same : (market_step s port m).state ≡ s → (p : ℕ) (fault : Option ℕ) → t.fault ≡ fault → outstanding terms p (t ∷ before) ≡ outstanding terms p before
-  quiet-same quiet p None is_fault =
-      ap (λ (x : Turn). outstanding terms p (x ∷ before)) (sym (turn-is None is_fault))
-      ∙ all-stay terms before s h.table port m t.client t.bodies t.sends placed (subst (IsTable terms (heard_turn port m t.client t.bodies t.sends None ∷ before)) quiet (table-then None is_fault)) p
-  quiet-same quiet p (Some n) is_fault =
-      ap (λ (x : Turn). outstanding terms p (x ∷ before)) (sym (turn-is (Some n) is_fault)) ∙ append-nothing (outstanding terms p before)
+-- where no order is changed
+module _ (terms : List Terms) (before : History) (s : State) (short : length before < 2 ^ 58) (leaves : Leaves terms before s) (t : Turn) (new : State) (port : ℕ) where
+  heard-quiet : (heard : Result Outbound DecodeRefusal) → t.event ≡ Heard port heard → Leads s t new → (market_step s port heard).state ≡ s → (p : ℕ) (fault : Option ℕ) → t.fault ≡ fault → outstanding terms p (t ∷ before) ≡ outstanding terms p before
+  heard-quiet (Ok m) is_e leads quiet p None is_fault =
+      ap (λ (x : Turn). outstanding terms p (x ∷ before)) (sym (turn-is terms before s short leaves t new port (Ok m) is_e leads None is_fault))
+      ∙ all-stay terms before s (h terms before s short leaves t new port (Ok m) is_e leads).table port m t.client t.bodies t.sends (placed terms before s short leaves t new port (Ok m) is_e leads)
+      (subst (IsTable terms (heard_turn port (Ok m) t.client t.bodies t.sends None ∷ before)) quiet (table-then terms before s short leaves t new port (Ok m) is_e leads None is_fault)) p
+  heard-quiet (Ok m) is_e leads quiet p (Some n) is_fault =
+      ap (λ (x : Turn). outstanding terms p (x ∷ before)) (sym (turn-is terms before s short leaves t new port (Ok m) is_e leads (Some n) is_fault)) ∙ append-nothing (outstanding terms p before)
+  heard-quiet (Err refusal) is_e leads quiet p fault is_fault =
+      ap (λ (x : Turn). outstanding terms p (x ∷ before)) (sym (turn-is terms before s short leaves t new port (Err refusal) is_e leads fault is_fault)) ∙ append-nothing (outstanding terms p before)
 
-  told-same : (now : OrderRecord) → port_of terms now.new ≡ port → (market_step s port m).fault ≡ None → (market_step s port m).state.orders ≡ put now s.orders
+module _ (terms : List Terms) (before : History) (s : State) (short : length before < 2 ^ 58) (leaves : Leaves terms before s) (t : Turn) (new : State) (port : ℕ) (m : Outbound) (is_e : t.event ≡ Heard port (Ok m)) (leads : Leads s t new) where
+  told-same : (now : OrderRecord) → port_of terms now.new ≡ port → (market_step s port (Ok m)).fault ≡ None → (market_step s port (Ok m)).state.orders ≡ put now s.orders
       → (asked : List OnPort) → ((p : ℕ) → on_port p asked ≡ outstanding terms p before) → (p : ℕ) → on_port p (unanswered_by port m now asked) ≡ outstanding terms p (t ∷ before)
   told-same now home no_fault is_put asked same p =
-      let is_fault : t.fault ≡ None = meets.fault ∙ no_fault in
-      rest terms before s h.table port m t.client t.bodies t.sends placed now home
-      (subst (Each (FitsIn terms (heard_turn port m t.client t.bodies t.sends None ∷ before))) is_put (table-then None is_fault).fit) asked same p
-      ∙ ap (λ (x : Turn). outstanding terms p (x ∷ before)) (turn-is None is_fault)
+      let is_fault : t.fault ≡ None = (meets terms before s short leaves t new port (Ok m) is_e leads).fault ∙ no_fault in
+      rest terms before s (h terms before s short leaves t new port (Ok m) is_e leads).table port m t.client t.bodies t.sends (placed terms before s short leaves t new port (Ok m) is_e leads) now home
+      (subst (Each (FitsIn terms (heard_turn port (Ok m) t.client t.bodies t.sends None ∷ before))) is_put (table-then terms before s short leaves t new port (Ok m) is_e leads None is_fault).fit) asked same p
+      ∙ ap (λ (x : Turn). outstanding terms p (x ∷ before)) (turn-is terms before s short leaves t new port (Ok m) is_e leads None is_fault)
 
   home-of : (token : List ℕ) (order now : OrderRecord) → by_token s port token ≡ Some order → now.new ≡ order.new → port_of terms now.new ≡ port
-  home-of token order now found same = ap (port_of terms) same ∙ token-port terms before s h.table port m token order found
+  home-of token order now found same = ap (port_of terms) same ∙ token-port terms before s (h terms before s short leaves t new port (Ok m) is_e leads).table port m token order found
 
 pub quiet-turns : QuietTurnsKeep
-quiet-turns terms before s short leaves kept (asked, same, along) t new port m is_e leads quiet = (
+quiet-turns terms before s short leaves kept (asked, same, along) t new port heard is_e leads quiet = (
   asked,
-  λ p. same p ∙ sym (quiet-same terms before s short leaves t new port m is_e leads quiet p t.fault refl),
-  stands terms before s short leaves t new port m is_e leads asked kept along,
+  λ p. same p ∙ sym (heard-quiet terms before s short leaves t new port heard is_e leads quiet p t.fault refl),
+  stands terms before s short leaves t new port heard is_e leads asked kept along,
 )
 
 pub market-turns : MarketTurnsKeep
 market-turns terms before s short leaves kept (asked, same, along) t new port m is_e leads token order now found same_new no_fault is_put = (
   unanswered_by port m now asked,
   told-same terms before s short leaves t new port m is_e leads now (home-of terms before s short leaves t new port m is_e leads token order now found same_new) no_fault is_put asked same,
-  stands terms before s short leaves t new port m is_e leads (unanswered_by port m now asked) (left_by port m now.new.order (is_closed now.stage) kept)
+  stands terms before s short leaves t new port (Ok m) is_e leads (unanswered_by port m now asked) (left_by port m now.new.order (is_closed now.stage) kept)
       (answering-keeps (standing_in terms before) asked kept along port m now),
 )
 

@@ -4,6 +4,7 @@ use Rattle.std.specs.Prelude.{◌==◌, ◌&&◌, ◌||◌, not, filter, Option,
 use Rattle.ouch_codec.specs.declared.inbound.Inbound.{Inbound}
 use Rattle.ouch_codec.specs.Inbound.{inbound_bytes}
 use Rattle.order_law.specs.Asks.{Standing}
+use Rattle.ouch_codec.specs.declared.outbound.Outbound.{Outbound}
 use Rattle.order_law.specs.Life.{is_closed}
 use Rattle.order_law.specs.History.{Asked, Said, answers}
 use Rattle.order_law.specs.Headline.{Each, EachWith, Says}
@@ -59,17 +60,17 @@ pushing-keeps standing_of asked kept along port order asks messages of_order say
     step-append (IsKept standing_of) asked kept (asked_on port asks) (kept_from port order messages) along (newly-kept standing_of port order asks messages of_order says)
 
 -- a message is answered where what it asks is
-answered-alike : (standing_of : List ℕ → Standing) (port : ℕ) (payload : List ℕ) (o : OrderRecord) (q : OnPort) (k : KeptMessage) → IsKept standing_of q k
-    → not (is_answered port payload o q) ≡ not (is_answered_by port payload o.new.order (is_closed o.stage) k)
-answered-alike standing_of port payload o q k keeps =
-    ap (λ (n : ℕ). not (n == port && (answers payload q.asked.said || (is_closed o.stage && bytes_eq q.asked.order o.new.order)))) keeps.port
-    ∙ ap (λ (s : Said). not (k.port == port && (answers payload s || (is_closed o.stage && bytes_eq q.asked.order o.new.order)))) (sym (said_in-is q.asked.said k.bytes keeps.says.tokens))
-    ∙ ap (λ (order : List ℕ). not (k.port == port && (answers payload (said_in k.bytes) || (is_closed o.stage && bytes_eq order o.new.order)))) keeps.order
+answered-alike : (standing_of : List ℕ → Standing) (port : ℕ) (m : Outbound) (o : OrderRecord) (q : OnPort) (k : KeptMessage) → IsKept standing_of q k
+    → not (is_answered port m o q) ≡ not (is_answered_by port m o.new.order (is_closed o.stage) k)
+answered-alike standing_of port m o q k keeps =
+    ap (λ (n : ℕ). not (n == port && (answers m q.asked.said || (is_closed o.stage && bytes_eq q.asked.order o.new.order)))) keeps.port
+    ∙ ap (λ (s : Said). not (k.port == port && (answers m s || (is_closed o.stage && bytes_eq q.asked.order o.new.order)))) (sym (said_in-is q.asked.said k.bytes keeps.says.tokens))
+    ∙ ap (λ (order : List ℕ). not (k.port == port && (answers m (said_in k.bytes) || (is_closed o.stage && bytes_eq order o.new.order)))) keeps.order
 
 pub answering-keeps : AnsweringKeeps
-answering-keeps standing_of asked kept along port payload o =
-    step-filter (IsKept standing_of) (λ (q : OnPort). not (is_answered port payload o q)) (λ (k : KeptMessage). not (is_answered_by port payload o.new.order (is_closed o.stage) k))
-    (answered-alike standing_of port payload o) asked kept along
+answering-keeps standing_of asked kept along port m o =
+    step-filter (IsKept standing_of) (λ (q : OnPort). not (is_answered port m o q)) (λ (k : KeptMessage). not (is_answered_by port m o.new.order (is_closed o.stage) k))
+    (answered-alike standing_of port m o) asked kept along
 
 -- what a port is asked, and its own messages
 said-along : (standing_of : List ℕ → Standing) (order_of : List ℕ → Option ℕ) (asked : List OnPort) (kept : List KeptMessage) → AreKept standing_of asked kept

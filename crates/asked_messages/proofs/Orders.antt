@@ -7,9 +7,8 @@ use Rattle.ouch_codec.specs.Layouts as layouts
 use Rattle.ouch_codec.specs.Parts.{type_of}
 use Rattle.ouch_codec.specs.ToMarket as said
 use Rattle.order_law.specs.Asks.{Standing, ask_of_bytes}
-use Rattle.order_law.specs.Life.{is_type}
 use Rattle.order_law.specs.History.{Asked, Said, SaysNew, SaysReplace, SaysCancel}
-use Rattle.order_law.specs.Headline.{HasTokens, Says}
+use Rattle.order_law.specs.Headline.{HasTokens, Says, is_type}
 use Rattle.asked_messages.specs.Keeping.{always}
 use Rattle.order_histories.specs.Runs.{finds_said, Finds}
 

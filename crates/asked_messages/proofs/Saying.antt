@@ -12,9 +12,8 @@ use Rattle.ouch_codec.specs.CancelParts.{SaysCancel-written}
 use Rattle.ouch_codec.specs.EnterOrderParts.{SaysEnterOrder-written}
 use Rattle.ouch_codec.specs.ReplaceParts.{SaysReplace-written}
 use Rattle.ouch_codec.specs.ToMarket as said
-use Rattle.order_law.specs.Life.{is_type}
 use Rattle.order_law.specs.History.{Said, SaysNew, SaysReplace, SaysCancel}
-use Rattle.order_law.specs.Headline.{HasTokens}
+use Rattle.order_law.specs.Headline.{HasTokens, is_type}
 use Rattle.asked_messages.specs.Kept.{said_by, said_in}
 
 -- ---- types and tokens say what is asked

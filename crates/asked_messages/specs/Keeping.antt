@@ -4,6 +4,7 @@ use Rattle.std.specs.Prelude.{◌≡◌, ℕ, List, ◌++◌, Option, Some, map}
 use Rattle.std.specs.Str.Parse.{digits_value}
 use Rattle.ouch_codec.specs.declared.inbound.Inbound.{Inbound}
 use Rattle.ouch_codec.specs.Inbound.{inbound_bytes}
+use Rattle.ouch_codec.specs.declared.outbound.Outbound.{Outbound}
 use Rattle.order_law.specs.Asks.{Standing}
 use Rattle.order_law.specs.Life.{is_closed}
 use Rattle.order_law.specs.History.{Asked}
@@ -49,8 +50,8 @@ PushingKeeps =
 abbrev pub AnsweringKeeps : Type 0
 AnsweringKeeps =
     (standing_of : List ℕ → Standing) (asked : List OnPort) (kept : List KeptMessage) → AreKept standing_of asked kept
-    → (port : ℕ) (payload : List ℕ) (o : OrderRecord)
-    → AreKept standing_of (unanswered_by port payload o asked) (left_by port payload o.new.order (is_closed o.stage) kept)
+    → (port : ℕ) (m : Outbound) (o : OrderRecord)
+    → AreKept standing_of (unanswered_by port m o asked) (left_by port m o.new.order (is_closed o.stage) kept)
 
 -- A port's own messages say what it is asked, in order: where its tokens lead to the orders that are meant.
 abbrev pub PortsAreSaid : Type 0

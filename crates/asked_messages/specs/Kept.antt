@@ -3,8 +3,9 @@ use Rattle.std.specs.Prelude.{ℕ, ◌==◌, Bool, not, ◌&&◌, ◌||◌, List
 use Rattle.ouch_codec.specs.declared.inbound.Inbound.{Inbound}
 use Rattle.ouch_codec.specs.declared.inbound.Inbound.TheVariants.{Enter, Replace, Cancel}
 use Rattle.ouch_codec.specs.Inbound.{inbound_bytes}
+use Rattle.ouch_codec.specs.declared.outbound.Outbound.{Outbound}
 use Rattle.ouch_codec.specs.ToMarket as said
-use Rattle.order_law.specs.Life.{is_type}
+use Rattle.order_law.specs.Headline.{is_type}
 use Rattle.order_law.specs.History.{Said, SaysNew, SaysReplace, SaysCancel, answers}
 use Rattle.asked_messages.specs.declared.messages.AskedMessage.{AskedMessage}
 
@@ -47,15 +48,15 @@ said_by (Cancel message) = SaysCancel message.token
 abbrev pub is_kept_on : ℕ → KeptMessage → Bool
 is_kept_on port k = k.port == port
 
--- A payload on a port, after which its order has this OrderID and is closed or not: it answers the message, or closes the
--- order that the message is of.
-abbrev pub is_answered_by : ℕ → List ℕ → List ℕ → Bool → KeptMessage → Bool
-is_answered_by port payload order is_closed k =
-    is_kept_on port k && (answers payload (said_in k.bytes) || (is_closed && bytes_eq k.order order))
+-- A message from the market on a port, after which its order has this OrderID and is closed or not: it answers what is kept, or
+-- closes the order that this is of.
+abbrev pub is_answered_by : ℕ → Outbound → List ℕ → Bool → KeptMessage → Bool
+is_answered_by port m order is_closed k =
+    is_kept_on port k && (answers m (said_in k.bytes) || (is_closed && bytes_eq k.order order))
 
--- what the payload leaves
-abbrev pub left_by : ℕ → List ℕ → List ℕ → Bool → List KeptMessage → List KeptMessage
-left_by port payload order is_closed kept = filter (λ (k : KeptMessage). not (is_answered_by port payload order is_closed k)) kept
+-- what the message leaves
+abbrev pub left_by : ℕ → Outbound → List ℕ → Bool → List KeptMessage → List KeptMessage
+left_by port m order is_closed kept = filter (λ (k : KeptMessage). not (is_answered_by port m order is_closed k)) kept
 
 -- the bytes of a port's own messages, in order
 abbrev pub bytes_on : ℕ → List KeptMessage → List (List ℕ)

@@ -1,7 +1,9 @@
 -- What is kept from turn to turn, beside the table that the turns leave: on each port what the law says is outstanding.
-use Rattle.std.specs.Prelude.{◌≡◌, ℕ, ◌<◌, ◌^◌, List, [], ◌∷◌, ◌++◌, length, map, Option, Some, None}
+use Rattle.std.specs.Prelude.{◌≡◌, ℕ, ◌<◌, ◌^◌, List, [], ◌∷◌, ◌++◌, length, map, Option, Some, None, Result, Ok}
 use Rattle.ouch_codec.specs.declared.inbound.Inbound.{Inbound}
 use Rattle.ouch_codec.specs.Inbound.{inbound_bytes}
+use Rattle.ouch_codec.specs.declared.outbound.Outbound.{Outbound}
+use Rattle.ouch_codec.specs.declared.refusal.DecodeRefusal.{DecodeRefusal}
 use Rattle.order_law.specs.Asks.{Standing}
 use Rattle.order_law.specs.Life.{is_closed}
 use Rattle.order_law.specs.Messages.{Message}
@@ -46,15 +48,15 @@ ClientTurnsKeep =
     → EachWith (Says (terms_of s.terms client).standing (always order)) (client_step s client m port).asks (map inbound_bytes messages)
     → KeepsOutstanding terms (t ∷ before) (kept ++ kept_from (terms_of s.terms client).port order messages)
 
--- A turn of a payload by which a token of the port has its order become this one: what it answers of the port goes, and what
+-- A turn of a message by which a token of the port has its order become this one: what it answers of the port goes, and what
 -- was asked of the order if it is closed now.
 abbrev pub MarketTurnsKeep : Type 0
 MarketTurnsKeep =
     (terms : List Terms) (before : History) (s : State) → length before < 2 ^ 58 → Leaves terms before s
     → (kept : List KeptMessage) → KeepsOutstanding terms before kept
-    → (t : Turn) (new : State) (port : ℕ) (m : List ℕ) → t.event ≡ Heard port m → Leads s t new
+    → (t : Turn) (new : State) (port : ℕ) (m : Outbound) → t.event ≡ Heard port (Ok m) → Leads s t new
     → (token : List ℕ) (order now : OrderRecord) → by_token s port token ≡ Some order → now.new ≡ order.new
-    → (market_step s port m).fault ≡ None → (market_step s port m).state.orders ≡ put now s.orders
+    → (market_step s port (Ok m)).fault ≡ None → (market_step s port (Ok m)).state.orders ≡ put now s.orders
     → KeepsOutstanding terms (t ∷ before) (left_by port m now.new.order (is_closed now.stage) kept)
 
 -- A turn of a payload that changes no order, be it a fault or not: nothing goes.
@@ -62,8 +64,8 @@ abbrev pub QuietTurnsKeep : Type 0
 QuietTurnsKeep =
     (terms : List Terms) (before : History) (s : State) → length before < 2 ^ 58 → Leaves terms before s
     → (kept : List KeptMessage) → KeepsOutstanding terms before kept
-    → (t : Turn) (new : State) (port : ℕ) (m : List ℕ) → t.event ≡ Heard port m → Leads s t new
-    → (market_step s port m).state ≡ s
+    → (t : Turn) (new : State) (port : ℕ) (heard : Result Outbound DecodeRefusal) → t.event ≡ Heard port heard → Leads s t new
+    → (market_step s port heard).state ≡ s
     → KeepsOutstanding terms (t ∷ before) kept
 
 -- A port's own messages say what is outstanding on it, one by one and in order.

@@ -5,7 +5,7 @@ ghost use Rattle.ouch_codec.specs.Inbound.{inbound_bytes};
 ghost use Rattle.asked_messages.specs.Kept.{bytes_on, is_answered_by, kept_from, left_by, seen};
 
 use crate::answering::answers;
-use ouch_codec::Inbound;
+use ouch_codec::{Inbound, Outbound};
 use std::alloc::{AllocError, Global};
 use std::marker::Model;
 
@@ -76,10 +76,10 @@ impl AskedMessages {
     /// goes, and where the order is closed, all that the port was asked of it. Takes no memory.
     ///
     /// Source: OUCH 4.2, "Outbound Messages".
-    pub fn answer(&mut self, port: u16, payload: &[u8], order_id: u64, is_closed: bool)
-        ensures { self.new.messages ≡ left_by port payload.now (decimal order_id) is_closed self.old.messages }
+    pub fn answer(&mut self, port: u16, heard: &Outbound, order_id: u64, is_closed: bool)
+        ensures { self.new.messages ≡ left_by port heard.now (decimal order_id) is_closed self.old.messages }
     {
-        self.messages.retain(|asked| !is_answered(asked, port, payload, order_id, is_closed));
+        self.messages.retain(|asked| !is_answered(asked, port, heard, order_id, is_closed));
     }
 
     /// Copies of a port's own messages, in the order in which it was asked them.
@@ -106,18 +106,18 @@ fn push_each(kept: &mut Vec<AskedMessage>, port: u16, order_id: u64, messages: &
     }
 }
 
-/// Whether a payload on a port answers a message, or closes its order.
+/// Whether a message from the market on a port answers one that is kept, or closes its order.
 fn is_answered(
     asked: &AskedMessage,
     port: u16,
-    payload: &[u8],
+    heard: &Outbound,
     order_id: u64,
     is_closed: bool,
 ) -> bool
-    ensures { result ≡ is_answered_by port payload.now (decimal order_id) is_closed (seen asked.now) }
+    ensures { result ≡ is_answered_by port heard.now (decimal order_id) is_closed (seen asked.now) }
 {
     asked.port == port
-        && (answers(payload, &asked.message) || (is_closed && asked.order_id == order_id))
+        && (answers(heard, &asked.message) || (is_closed && asked.order_id == order_id))
 }
 
 /// Copies of the messages of one port, in order.

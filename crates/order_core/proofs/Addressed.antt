@@ -1,6 +1,6 @@
 -- The client whose order a token leads to.
 use Rattle.std.proofs.Common.{◌≡◌, ℕ, ◌<◌, ◌^◌, List, length, Option, Some, None, refl, ap, ◌∙◌}
-use Rattle.std.specs.Prelude.{option_map}
+use Rattle.std.specs.Prelude.{option_and_then, option_map}
 use Rattle.order_law.specs.History.{Entry, History, Terms, accepted}
 use Rattle.order_law.specs.Lawful.{order_of_token}
 use Rattle.order_histories.specs.OrderRecord.{OrderRecord}
@@ -22,3 +22,9 @@ pub client-by-token : TokensLead → (terms : List Terms) (before : History) (c 
 unfolding IsAfter
 client-by-token lead terms before c port token short is =
     of-new (by_token c.table port token) ∙ ap (option_map (λ (new : Entry). new.client)) (lead terms before c.table short is.0 port token)
+
+-- and that of a payload's token, where it has one
+pub client-by-heard : TokensLead → (terms : List Terms) (before : History) (c : CoreState) (port : ℕ) (token : Option (List ℕ)) → length before < 2 ^ 58 → IsAfter terms before c
+    → option_map (λ (o : OrderRecord). o.new.client) (option_and_then (by_token c.table port) token) ≡ option_map (λ (new : Entry). new.client) (option_and_then (order_of_token terms port (accepted terms before)) token)
+client-by-heard lead terms before c port None short is = refl
+client-by-heard lead terms before c port (Some token) short is = client-by-token lead terms before c port token short is

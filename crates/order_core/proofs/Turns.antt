@@ -1,7 +1,6 @@
 -- A call that meets the ledger's leads on, as a turn, and keeps what is outstanding.
 use Rattle.std.proofs.Common.{◌≡◌, ℕ, suc, ◌<◌, ◌^◌, ◌++◌, List, [], ◌∷◌, length, map, refl, sym, ap, ◌∙◌, subst, subst₂, arith, decimal, Option, None, Some, Result, Ok, Err, get_or}
 use Rattle.std.specs.Prelude.{OnErr, Bool, nat_lt, true}
-use Rattle.std.proofs.lemmas.Bool.Decides.{nat_tests}
 use Rattle.fix_types.specs.declared.application.AppMsg.{AppMsg}
 use Rattle.fix_types.specs.Application.{body_fields, message_fields}
 use Rattle.ouch_codec.specs.declared.inbound.Inbound.{Inbound}
@@ -9,8 +8,9 @@ use Rattle.ouch_codec.specs.Inbound.{inbound_bytes}
 use Rattle.order_law.specs.Headline.{Each, EachWith, Says, Sends}
 use Rattle.order_law.specs.History.{Asked, Heard, History, Terms, Turn, terms_of}
 use Rattle.order_law.specs.Lawful.{order_token}
+use Rattle.ouch_codec.specs.declared.outbound.Outbound.{Outbound}
+use Rattle.ouch_codec.specs.declared.refusal.DecodeRefusal.{DecodeRefusal}
 use Rattle.order_law.specs.Verdicts.{Port, Down, Up, Ended, Faulted}
-use Rattle.order_histories.specs.Told.{AreBytes}
 use Rattle.order_histories.specs.Table.{State, empty}
 use Rattle.order_histories.specs.Machine.{Given, client_step, faulty, market_step}
 use Rattle.order_histories.specs.Runs.{Finds, Leads, LeadsTo, Leaves}
@@ -31,13 +31,6 @@ use Rattle.order_core.specs.declared.outcome.MarketOut.{MarketOut}
 use Rattle.order_core.specs.Meets.{MeetsClient, MeetsHandled, MeetsPayload, left_after, sent_of}
 use Rattle.order_core.specs.State.{CoreState, IsAfter}
 use Rattle.order_core.specs.Turns.{OfTurn, client_turn, fault_turn, told_turn}
-
--- the bytes of a slice are below 256
-pub all-bytes : (bytes : List ℕ) → ((i : ℕ) → get_or bytes i 0 < 256) → AreBytes bytes
-all-bytes [] below = refl
-all-bytes (byte ∷ bytes) below =
-    let first : nat_lt byte 256 ≡ true = grind (arith, nat_tests, below 0) in
-    rw (first, all-bytes bytes (λ i. below (suc i))) refl
 
 -- where the port is up, what goes out is all that is asked
 sends-as : (port : Port) (P : Asked → List ℕ → Type 0) (asked : List Asked) (asks : List Inbound) → EachWith P asked (map inbound_bytes asks) → Sends port P asked (map inbound_bytes (sent_of port asks))
@@ -72,7 +65,6 @@ module _ (terms : List Terms) (before : History) (old : CoreState) (client : ℕ
   client-leads numbered known meets =
       let gives = meets.gives numbered in
       record {
-        is_event = tt;
         meets = record {
           state = gives.state;
           client = sym gives.for_client;
@@ -103,20 +95,27 @@ module _ (terms : List Terms) (before : History) (old : CoreState) (client : ℕ
 
 -- ---- a payload
 
-module _ (terms : List Terms) (before : History) (old : CoreState) (port : ℕ) (m : List ℕ) (short : length before < 2 ^ 58) (market : MarketTurnsKeep) (quiet : QuietTurnsKeep) (leaves : Leaves terms before old.table) (keeps : KeepsOutstanding terms before old.kept) (t : Turn) (is_event : t.event ≡ Heard port m) (new : State) (leads : Leads old.table t new) where
-  -- what it leaves of what is kept is what is outstanding
-  pub kept-after : (market_step old.table port m).fault ≡ None → (changed : Option ChangedOrder) → ChangesAny old.table port m changed
-      → KeepsOutstanding terms (t ∷ before) (left_after port m changed old.kept)
-  kept-after no_fault None same = quiet terms before old.table short leaves old.kept keeps t new port m is_event leads same
-  kept-after no_fault (Some c) is =
+module _ (terms : List Terms) (before : History) (old : CoreState) (port : ℕ) (short : length before < 2 ^ 58) (market : MarketTurnsKeep) (quiet : QuietTurnsKeep) (leaves : Leaves terms before old.table) (keeps : KeepsOutstanding terms before old.kept) (t : Turn) (new : State) (leads : Leads old.table t new) where
+  -- a message leaves what is outstanding of what is kept
+  kept-by_token : (m : Outbound) → t.event ≡ Heard port (Ok m) → (market_step old.table port (Ok m)).fault ≡ None → (c : ChangedOrder) (is : ChangesOrder old.table port (Ok m) c)
+      → (x : Option (List ℕ)) → order_token m ≡ x → KeepsOutstanding terms (t ∷ before) (left_by port m (decimal c.order_id) c.is_closed old.kept)
+  kept-by_token m is_event no_fault c is None has =
+      let found : option_and_then (by_token old.table port) None ≡ Some is.order = ap (option_and_then (by_token old.table port)) (sym has) ∙ is.found in cc
+  kept-by_token m is_event no_fault c is (Some token) has =
       subst₂ (λ (order : List ℕ) (closed : Bool). KeepsOutstanding terms (t ∷ before) (left_by port m order closed old.kept)) is.of_order is.closed
-      (market terms before old.table short leaves old.kept keeps t new port m is_event leads (order_token m) is.order is.now is.found is.same no_fault is.orders)
+      (market terms before old.table short leaves old.kept keeps t new port m is_event leads token is.order is.now (ap (option_and_then (by_token old.table port)) (sym has) ∙ is.found) is.same no_fault is.orders)
 
-module _ (terms : List Terms) (before : History) (old : CoreState) (port : ℕ) (payload : List ℕ) (new : CoreState) (bytes : AreBytes payload) where
+  -- and any payload does
+  pub kept-after : (heard : Result Outbound DecodeRefusal) → t.event ≡ Heard port heard → (market_step old.table port heard).fault ≡ None → (changed : Option ChangedOrder) → ChangesAny old.table port heard changed
+      → KeepsOutstanding terms (t ∷ before) (left_after port heard changed old.kept)
+  kept-after heard is_event no_fault None same = quiet terms before old.table short leaves old.kept keeps t new port heard is_event leads same
+  kept-after (Err refusal) is_event no_fault (Some c) is = absurd (let found : None ≡ Some is.order = is.found in cc)
+  kept-after (Ok m) is_event no_fault (Some c) is = kept-by_token m is_event no_fault c is (order_token m) refl
+
+module _ (terms : List Terms) (before : History) (old : CoreState) (port : ℕ) (heard : Result Outbound DecodeRefusal) (new : CoreState) where
   -- one that was handled
-  told-leads : (out : MarketOut) → MeetsHandled old port payload out new → Leads old.table (told_turn port payload out) new.table
+  told-leads : (out : MarketOut) → MeetsHandled old port heard out new → Leads old.table (told_turn port heard out) new.table
   told-leads out meets = record {
-    is_event = λ executed. bytes;
     meets = record {
       state = meets.gives.state;
       client = ap client_seen meets.client ∙ meets.gives.client;
@@ -126,19 +125,18 @@ module _ (terms : List Terms) (before : History) (old : CoreState) (port : ℕ) 
     };
   }
 
-  pub told-after : length before < 2 ^ 58 → MarketTurnsKeep → QuietTurnsKeep → (out : MarketOut) → MeetsHandled old port payload out new
-      → IsAfter terms before old → IsAfter terms (told_turn port payload out ∷ before) new
+  pub told-after : length before < 2 ^ 58 → MarketTurnsKeep → QuietTurnsKeep → (out : MarketOut) → MeetsHandled old port heard out new
+      → IsAfter terms before old → IsAfter terms (told_turn port heard out ∷ before) new
   told-after short market quiet out meets after =
       let parts = parts-of terms before old after in
       let leads = told-leads out meets in
-      more terms before old (told_turn port payload out) new parts.0 leads
-      (subst (KeepsOutstanding terms (told_turn port payload out ∷ before)) (sym meets.kept)
-      (kept-after terms before old port payload short market quiet parts.0 parts.1 (told_turn port payload out) refl new.table leads meets.gives.fault meets.turn.changed meets.changes))
+      more terms before old (told_turn port heard out) new parts.0 leads
+      (subst (KeepsOutstanding terms (told_turn port heard out ∷ before)) (sym meets.kept)
+      (kept-after terms before old port short market quiet parts.0 parts.1 (told_turn port heard out) new.table leads heard refl meets.gives.fault meets.turn.changed meets.changes))
 
   -- and one that is a fault
-  fault-leads : (fault : MarketFault) → market_step old.table port payload ≡ faulty old.table (number_of fault) → new ≡ old → Leads old.table (fault_turn port payload fault) new.table
+  fault-leads : (fault : MarketFault) → market_step old.table port heard ≡ faulty old.table (number_of fault) → new ≡ old → Leads old.table (fault_turn port heard fault) new.table
   fault-leads fault is same = record {
-    is_event = λ executed. bytes;
     meets = record {
       state = ap (λ (c : CoreState). c.table) same ∙ ap (λ (g : Given). g.state) (sym is);
       client = ap (λ (g : Given). g.client) (sym is);
@@ -148,39 +146,39 @@ module _ (terms : List Terms) (before : History) (old : CoreState) (port : ℕ) 
     };
   }
 
-  pub fault-after : length before < 2 ^ 58 → QuietTurnsKeep → (fault : MarketFault) → market_step old.table port payload ≡ faulty old.table (number_of fault) → new ≡ old
-      → IsAfter terms before old → IsAfter terms (fault_turn port payload fault ∷ before) new
+  pub fault-after : length before < 2 ^ 58 → QuietTurnsKeep → (fault : MarketFault) → market_step old.table port heard ≡ faulty old.table (number_of fault) → new ≡ old
+      → IsAfter terms before old → IsAfter terms (fault_turn port heard fault ∷ before) new
   fault-after short quiet fault is same after =
       let parts = parts-of terms before old after in
       let leads = fault-leads fault is same in
-      more terms before old (fault_turn port payload fault) new parts.0 leads
-      (subst (KeepsOutstanding terms (fault_turn port payload fault ∷ before)) (ap (λ (c : CoreState). c.kept) (sym same))
-      (quiet terms before old.table short parts.0 old.kept parts.1 (fault_turn port payload fault) new.table port payload refl leads (ap (λ (g : Given). g.state) is)))
+      more terms before old (fault_turn port heard fault) new parts.0 leads
+      (subst (KeepsOutstanding terms (fault_turn port heard fault ∷ before)) (ap (λ (c : CoreState). c.kept) (sym same))
+      (quiet terms before old.table short parts.0 old.kept parts.1 (fault_turn port heard fault) new.table port heard refl leads (ap (λ (g : Given). g.state) is)))
 
 -- what holds of every turn that may come of it
-pub OfTurn-weaker : (port : ℕ) (payload : List ℕ) (result : Result MarketOut MarketError) (P Q : Turn → Type 0) → ((t : Turn) → P t → Q t) → OfTurn port payload result P → OfTurn port payload result Q
-OfTurn-weaker port payload (Ok out) P Q weaker p = weaker (told_turn port payload out) p
-OfTurn-weaker port payload (Err errors.NoMemory) P Q weaker p = tt
-OfTurn-weaker port payload (Err (errors.Faulty fault)) P Q weaker p = weaker (fault_turn port payload fault) p
+pub OfTurn-weaker : (port : ℕ) (heard : Result Outbound DecodeRefusal) (result : Result MarketOut MarketError) (P Q : Turn → Type 0) → ((t : Turn) → P t → Q t) → OfTurn port heard result P → OfTurn port heard result Q
+OfTurn-weaker port heard (Ok out) P Q weaker p = weaker (told_turn port heard out) p
+OfTurn-weaker port heard (Err errors.NoMemory) P Q weaker p = tt
+OfTurn-weaker port heard (Err (errors.Faulty fault)) P Q weaker p = weaker (fault_turn port heard fault) p
 
-pub market-after : (old : CoreState) (port : ℕ) (payload : List ℕ) (result : Result MarketOut MarketError) (new : CoreState)
-    → AreBytes payload → MarketTurnsKeep → QuietTurnsKeep → MeetsPayload old port payload result new → OnErr result (new ≡ old)
-    → OfTurn port payload result (λ turn. (terms : List Terms) (before : History) → length before < 2 ^ 58 → IsAfter terms before old → IsAfter terms (turn ∷ before) new)
-market-after old port payload (Ok out) new bytes market quiet meets same =
-    λ terms before short after. told-after terms before old port payload new bytes short market quiet out meets after
-market-after old port payload (Err errors.NoMemory) new bytes market quiet meets same = tt
-market-after old port payload (Err (errors.Faulty fault)) new bytes market quiet meets same =
-    λ terms before short after. fault-after terms before old port payload new bytes short quiet fault meets same after
+pub market-after : (old : CoreState) (port : ℕ) (heard : Result Outbound DecodeRefusal) (result : Result MarketOut MarketError) (new : CoreState)
+    → MarketTurnsKeep → QuietTurnsKeep → MeetsPayload old port heard result new → OnErr result (new ≡ old)
+    → OfTurn port heard result (λ turn. (terms : List Terms) (before : History) → length before < 2 ^ 58 → IsAfter terms before old → IsAfter terms (turn ∷ before) new)
+market-after old port heard (Ok out) new market quiet meets same =
+    λ terms before short after. told-after terms before old port heard new short market quiet out meets after
+market-after old port heard (Err errors.NoMemory) new market quiet meets same = tt
+market-after old port heard (Err (errors.Faulty fault)) new market quiet meets same =
+    λ terms before short after. fault-after terms before old port heard new short quiet fault meets same after
 
 -- ---- what the calls keep
 
 pub kept-as : (a b : List KeptMessage) (p q : ℕ) (order : List ℕ) (xs ys : List Inbound) → a ≡ b → p ≡ q → xs ≡ ys → a ++ kept_from p order xs ≡ b ++ kept_from q order ys
 kept-as a b p q order xs ys same_kept same_port same = rw (same_kept, same_port, same) refl
 
-pub handled-as : (old new : CoreState) (port : ℕ) (m : List ℕ) (turn : MarketTurn) (out : MarketOut) (table : State) (kept : List KeptMessage)
-    → GivesMarket (market_step old.table port m) turn table → ChangesAny old.table port m turn.changed → out.client ≡ turn.client → out.bodies.items ≡ turn.bodies.items
-    → new ≡ record { table = table; kept = kept } → kept ≡ left_after port m turn.changed old.kept → MeetsHandled old port m out new
-handled-as old new port m turn out table kept gives changes client bodies is leaves = record {
+pub handled-as : (old new : CoreState) (port : ℕ) (heard : Result Outbound DecodeRefusal) (turn : MarketTurn) (out : MarketOut) (table : State) (kept : List KeptMessage)
+    → GivesMarket (market_step old.table port m) turn table → ChangesAny old.table port heard turn.changed → out.client ≡ turn.client → out.bodies.items ≡ turn.bodies.items
+    → new ≡ record { table = table; kept = kept } → kept ≡ left_after port heard turn.changed old.kept → MeetsHandled old port heard out new
+handled-as old new port heard turn out table kept gives changes client bodies is leaves = record {
   turn = turn;
   gives = subst (λ (c : CoreState). GivesMarket (market_step old.table port m) turn c.table) (sym is) gives;
   changes = changes;

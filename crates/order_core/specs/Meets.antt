@@ -2,6 +2,8 @@
 use Rattle.std.specs.Prelude.{◌≡◌, ℕ, ◌++◌, List, [], Option, Some, None, Result, Ok, Err, decimal}
 use Rattle.fix_types.specs.declared.application.AppMsg.{AppMsg}
 use Rattle.ouch_codec.specs.declared.inbound.Inbound.{Inbound}
+use Rattle.ouch_codec.specs.declared.outbound.Outbound.{Outbound}
+use Rattle.ouch_codec.specs.declared.refusal.DecodeRefusal.{DecodeRefusal}
 use Rattle.order_law.specs.History.{terms_of}
 use Rattle.order_law.specs.Verdicts.{Port, Down, Up, Ended, Faulted}
 use Rattle.order_histories.specs.Machine.{faulty, market_step}
@@ -32,22 +34,23 @@ pub record MeetsClient (old : CoreState) (client : ℕ) (message : AppMsg) (port
   pub sends : out.sends.items ≡ sent_of port turn.asks.items
   pub kept : new.kept ≡ old.kept ++ kept_from (terms_of old.table.terms client).port (decimal turn.order_id) turn.asks.items
 
--- what a payload that changes this order, or none, leaves of what is kept
-abbrev pub left_after : ℕ → List ℕ → Option ChangedOrder → List KeptMessage → List KeptMessage
-left_after port m None kept = kept
-left_after port m (Some c) kept = left_by port m (decimal c.order_id) c.is_closed kept
+-- what a message that changes this order leaves of what is kept; any other payload leaves all of it
+abbrev pub left_after : ℕ → Result Outbound DecodeRefusal → Option ChangedOrder → List KeptMessage → List KeptMessage
+left_after port heard None kept = kept
+left_after port (Err refusal) (Some c) kept = kept
+left_after port (Ok m) (Some c) kept = left_by port m (decimal c.order_id) c.is_closed kept
 
 -- a payload that is handled: what the ledger gives is told, and what it answers goes
-pub record MeetsHandled (old : CoreState) (port : ℕ) (m : List ℕ) (out : MarketOut) (new : CoreState) : Type 0 where
+pub record MeetsHandled (old : CoreState) (port : ℕ) (heard : Result Outbound DecodeRefusal) (out : MarketOut) (new : CoreState) : Type 0 where
   pub turn : MarketTurn
-  pub gives : GivesMarket (market_step old.table port m) turn new.table
-  pub changes : ChangesAny old.table port m turn.changed
+  pub gives : GivesMarket (market_step old.table port heard) turn new.table
+  pub changes : ChangesAny old.table port heard turn.changed
   pub client : out.client ≡ turn.client
   pub bodies : out.bodies.items ≡ turn.bodies.items
-  pub kept : new.kept ≡ left_after port m turn.changed old.kept
+  pub kept : new.kept ≡ left_after port heard turn.changed old.kept
 
 -- A payload: what it gives, or the fault that it is, of which nothing else comes. Want of memory is no fault.
-abbrev pub MeetsPayload : CoreState → ℕ → List ℕ → Result MarketOut MarketError → CoreState → Type 0
-MeetsPayload old port m (Ok out) new = MeetsHandled old port m out new
-MeetsPayload old port m (Err errors.NoMemory) new = Unit {0}
-MeetsPayload old port m (Err (errors.Faulty fault)) new = market_step old.table port m ≡ faulty old.table (number_of fault)
+abbrev pub MeetsPayload : CoreState → ℕ → Result Outbound DecodeRefusal → Result MarketOut MarketError → CoreState → Type 0
+MeetsPayload old port heard (Ok out) new = MeetsHandled old port heard out new
+MeetsPayload old port heard (Err errors.NoMemory) new = Unit {0}
+MeetsPayload old port heard (Err (errors.Faulty fault)) new = market_step old.table port heard ≡ faulty old.table (number_of fault)

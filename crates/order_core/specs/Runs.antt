@@ -3,6 +3,7 @@ use Rattle.std.specs.Prelude.{◌≡◌, ℕ, Bool, true, ◌&&◌, nat_le, List
 use Rattle.std.specs.List.{list_all}
 use Rattle.fix_types.specs.Application.{body_fields, message_fields}
 use Rattle.ouch_codec.specs.Inbound.{inbound_bytes}
+use Rattle.ouch_codec.specs.Values.{decoded}
 use Rattle.order_law.specs.History as law
 use Rattle.order_core.specs.declared.runs.Event.{Event}
 use Rattle.order_core.specs.declared.runs.Event.TheVariants.{Came, Heard}
@@ -12,7 +13,7 @@ use Rattle.order_ledger.specs.Seen.{client_seen}
 
 abbrev pub event_of : Event → law.Event
 event_of (Came client message port) = law.Came client (message_fields message) (port_seen port)
-event_of (Heard port payload) = law.Heard port payload.items
+event_of (Heard port payload) = law.Heard port (decoded payload.items)
 
 -- an event with what came of it
 abbrev pub outcome_turn : law.Event → Outcome → law.Turn

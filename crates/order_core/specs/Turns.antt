@@ -3,6 +3,8 @@ use Rattle.std.specs.Prelude.{ℕ, List, [], Some, None, map, Result, Ok, Err}
 use Rattle.fix_types.specs.declared.application.AppMsg.{AppMsg}
 use Rattle.fix_types.specs.Application.{body_fields, message_fields}
 use Rattle.ouch_codec.specs.Inbound.{inbound_bytes}
+use Rattle.ouch_codec.specs.declared.outbound.Outbound.{Outbound}
+use Rattle.ouch_codec.specs.declared.refusal.DecodeRefusal.{DecodeRefusal}
 use Rattle.order_law.specs.History.{Came, Heard, Turn}
 use Rattle.market_turns.specs.Turns.{number_of}
 use Rattle.market_turns.specs.declared.market_fault.MarketFault.{MarketFault}
@@ -25,20 +27,20 @@ client_turn client message port out = record {
 }
 
 -- a port's turn: it was handled, or it is a fault
-abbrev pub told_turn : ℕ → List ℕ → MarketOut → Turn
-told_turn port payload out = record {
-  event = Heard port payload;
+abbrev pub told_turn : ℕ → Result Outbound DecodeRefusal → MarketOut → Turn
+told_turn port heard out = record {
+  event = Heard port heard;
   client = client_seen out.client;
   bodies = map body_fields out.bodies.items;
   sends = [];
   fault = None;
 }
 
-abbrev pub fault_turn : ℕ → List ℕ → MarketFault → Turn
-fault_turn port payload fault = record { event = Heard port payload; client = 0; bodies = []; sends = []; fault = Some (number_of fault) }
+abbrev pub fault_turn : ℕ → Result Outbound DecodeRefusal → MarketFault → Turn
+fault_turn port heard fault = record { event = Heard port heard; client = 0; bodies = []; sends = []; fault = Some (number_of fault) }
 
 -- a call that ran out of memory is no turn
-abbrev pub OfTurn : ℕ → List ℕ → Result MarketOut MarketError → (Turn → Type 0) → Type 0
-OfTurn port payload (Ok out) P = P (told_turn port payload out)
-OfTurn port payload (Err errors.NoMemory) P = Unit {0}
-OfTurn port payload (Err (errors.Faulty fault)) P = P (fault_turn port payload fault)
+abbrev pub OfTurn : ℕ → Result Outbound DecodeRefusal → Result MarketOut MarketError → (Turn → Type 0) → Type 0
+OfTurn port heard (Ok out) P = P (told_turn port heard out)
+OfTurn port heard (Err errors.NoMemory) P = Unit {0}
+OfTurn port heard (Err (errors.Faulty fault)) P = P (fault_turn port heard fault)

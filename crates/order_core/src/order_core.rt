@@ -1,10 +1,11 @@
 //! The value, and the calls that step it.
 
 ghost use Rattle.std.specs.Prelude.{◌≡◌, length, map, IfOk, OnErr, ◌<◌, ◌^◌, ◌∷◌, [], List};
-ghost use Rattle.ouch_codec.specs.FromMarket as heard;
+ghost use Rattle.ouch_codec.specs.Values.{decoded};
+ghost use Rattle.order_law.specs.Lawful.{token_of_heard};
 ghost use Rattle.ouch_codec.specs.Inbound.{inbound_bytes};
 ghost use Rattle.to_market.specs.PortsSeen.{port_seen};
-ghost use Rattle.order_core.specs.Meets.{sent_of};
+ghost use Rattle.order_core.specs.Meets.{left_after, sent_of};
 
 use crate::outcome::{CoreOut, MarketOut};
 use asked_messages::{
@@ -15,8 +16,8 @@ use order_histories::{
     asked_tokens_lead_to_their_orders, orders_go_by_their_numbers, tables_have_the_headline,
     tokens_lead_to_accepted_orders,
 };
-use order_ledger::{ClientTerms, MarketError, OrderLedger, PortState};
-use ouch_codec::Inbound;
+use order_ledger::{ChangedOrder, ClientTerms, MarketError, OrderLedger, PortState};
+use ouch_codec::{DecodeRefusal, Inbound, Outbound, decode};
 use std::alloc::{AllocError, Global};
 use std::marker::Model;
 
@@ -39,7 +40,7 @@ impl Model for OrderCore {
 
 impl OrderCore {
     ghost use Rattle.order_law.specs.Headline.{EachWith, Headline, SaysIn};
-    ghost use Rattle.std.specs.Prelude.{option_map};
+    ghost use Rattle.std.specs.Prelude.{option_map, option_and_then};
     ghost use Rattle.order_law.specs.History.{Entry, History, Terms, accepted, outstanding};
     ghost use Rattle.order_law.specs.Lawful.{order_of_token};
     ghost use Rattle.to_market.specs.TermsSeen.{terms_seen};
@@ -106,16 +107,16 @@ impl OrderCore {
         payload: &[u8],
     ) -> Result<MarketOut, MarketError>
         requires room { HasRoom self.old }
-        ensures after { OfTurn port payload.now result (λ turn. (terms : List Terms) (before : History)
+        ensures after { OfTurn port (decoded payload.now) result (λ turn. (terms : List Terms) (before : History)
             → length before < 2 ^ 58 → IsAfter terms before self.old → IsAfter terms (turn ∷ before) self.new) }
-        ensures headline { OfTurn port payload.now result (λ turn. (terms : List Terms) (before : History)
+        ensures headline { OfTurn port (decoded payload.now) result (λ turn. (terms : List Terms) (before : History)
             → length before < 2 ^ 58 → IsAfter terms before self.old → Headline terms (turn ∷ before)) }
         ensures keeps { Keeps self.old self.new }
         ensures err { OnErr result (self.new ≡ self.old) }
     {
         tables_have_the_headline();
         kept_messages_say_what_is_outstanding();
-        self.market_step(alloc, port, payload)
+        self.market_step(alloc, port, &decode(payload))
     }
 
     /// What a port was asked and no message that was handled has answered, in the order in which it was asked: to be sent
@@ -130,16 +131,17 @@ impl OrderCore {
         self.asked.on_port(alloc, port)
     }
 
-    /// The number of the client whose order a payload of a market port is on, from 1: that of its token, whatever else the
-    /// payload is.
+    /// The number of the client whose order a payload of a market port is on, from 1: that of the token that the message goes by,
+    /// be it lawful or not.
     ///
     /// Source: OUCH 4.2, "Outbound Messages" (Order Token).
     pub fn client_of(&self, port: u16, payload: &[u8]) -> Option<u16>
         ensures { (terms : List Terms) (before : History) → length before < 2 ^ 58 → IsAfter terms before self.now
-            → result ≡ option_map (λ (new : Entry). new.client) (order_of_token terms port (accepted terms before) (heard.token payload.now)) }
+            → result ≡ option_map (λ (new : Entry). new.client) (option_and_then (order_of_token terms port (accepted terms before)) (token_of_heard (decoded payload.now))) }
     {
         tokens_lead_to_accepted_orders();
-        self.ledger.client_of_token(port, token_of(payload))
+        let token = token_of(&decode(payload))?;
+        self.ledger.client_of_token(port, &token)
     }
 
     /// The step of a client's message: on the ledger, and then what it asks is kept.
@@ -172,18 +174,15 @@ impl OrderCore {
         &mut self,
         alloc: Global,
         port: u16,
-        payload: &[u8],
+        heard: &Result<Outbound, DecodeRefusal>,
     ) -> Result<MarketOut, MarketError>
         requires room { HasRoom self.old }
-        ensures meets { MeetsPayload self.old port payload.now result self.new }
+        ensures meets { MeetsPayload self.old port heard.now result self.new }
         ensures keeps { Keeps self.old self.new }
         ensures err { OnErr result (self.new ≡ self.old) }
     {
-        let turn = self.ledger.market(alloc, port, payload)?;
-        if let Some(changed) = turn.changed {
-            self.asked
-                .answer(port, payload, changed.order_id, changed.is_closed);
-        }
+        let turn = self.ledger.market(alloc, port, heard)?;
+        drop_answered(&mut self.asked, port, heard, turn.changed);
         Ok(MarketOut {
             client: turn.client,
             bodies: turn.bodies,
@@ -201,19 +200,37 @@ fn sent_now(alloc: Global, asks: Vec<Inbound>, port: PortState) -> Vec<Inbound>
     }
 }
 
-/// The bytes of a payload at which each message that has a token has it: fewer than 14 where the payload is short.
-///
-/// Source: OUCH 4.2, "Outbound Messages" (Order Token, offset 9).
-fn token_of(payload: &[u8]) -> &[u8]
-    ensures { result.now ≡ heard.token payload.now }
+/// What a message that changed this order answers goes; any other payload answers nothing.
+fn drop_answered(
+    asked: &mut AskedMessages,
+    port: u16,
+    heard: &Result<Outbound, DecodeRefusal>,
+    changed: Option<ChangedOrder>,
+)
+    ensures { asked.new.messages ≡ left_after port heard.now changed asked.old.messages }
 {
-    if payload.len() < 9 {
-        return &[];
+    if let Some(changed) = changed
+        && let Ok(message) = heard
+    {
+        asked.answer(port, message, changed.order_id, changed.is_closed);
     }
-    let (_, behind) = payload.split_at(9);
-    if behind.len() < 14 {
-        return behind;
+}
+
+/// The token that a payload's message goes by: of a Replaced the previous one.
+///
+/// Source: OUCH 4.2, "Outbound Messages" (Order Token, Previous Order Token).
+fn token_of(heard: &Result<Outbound, DecodeRefusal>) -> Option<[u8; 14]>
+    ensures { result ≡ token_of_heard heard.now }
+{
+    match heard {
+        Ok(Outbound::Accepted(message)) => Some(message.token),
+        Ok(Outbound::Replaced(message)) => Some(message.previous_token),
+        Ok(Outbound::Canceled(message)) => Some(message.token),
+        Ok(Outbound::Executed(message)) => Some(message.token),
+        Ok(Outbound::Broken(message)) => Some(message.token),
+        Ok(Outbound::Rejected(message)) => Some(message.token),
+        Ok(Outbound::CancelPending(message)) => Some(message.token),
+        Ok(Outbound::CancelReject(message)) => Some(message.token),
+        Ok(Outbound::SystemEvent(_) | Outbound::Skipped) | Err(_) => None,
     }
-    let (token, _) = behind.split_at(14);
-    token
 }

@@ -2,6 +2,7 @@
 
 ghost use Rattle.std.specs.Prelude.{◌≡◌, ◌<◌, ◌^◌, ◌∷◌, true, Some, List, length, map, IfOk, OnErr};
 ghost use Rattle.fix_types.specs.Application.{message_fields};
+ghost use Rattle.ouch_codec.specs.Values.{decoded};
 ghost use Rattle.order_law.specs.Headline.{Headline};
 ghost use Rattle.order_law.specs.History.{Came, Heard, History, Terms};
 ghost use Rattle.order_histories.specs.Runs.{IsRun};
@@ -104,10 +105,10 @@ fn market_outcome(
     requires room { HasRoom core.old }
     ensures after { IfOk result (λ outcome. (terms : List Terms) (before : History)
         → length before < 2 ^ 58 → IsAfter terms before core.old
-        → IsAfter terms (outcome_turn (Heard port payload.now) outcome ∷ before) core.new) }
+        → IsAfter terms (outcome_turn (Heard port (decoded payload.now)) outcome ∷ before) core.new) }
     ensures headline { IfOk result (λ outcome. (terms : List Terms) (before : History)
         → length before < 2 ^ 58 → IsAfter terms before core.old
-        → Headline terms (outcome_turn (Heard port payload.now) outcome ∷ before)) }
+        → Headline terms (outcome_turn (Heard port (decoded payload.now)) outcome ∷ before)) }
     ensures keeps { Keeps core.old core.new }
     ensures err { OnErr result (core.new ≡ core.old) }
 {

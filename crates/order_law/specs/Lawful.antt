@@ -83,7 +83,7 @@ order_token (market.CancelPending m) = Some m.token
 order_token (market.CancelReject m) = Some m.token
 order_token other = None
 
--- of what a payload is decoded as: none where it is refused
+-- of a payload
 abbrev pub token_of_heard : Result Outbound DecodeRefusal → Option (List ℕ)
 token_of_heard (Ok m) = order_token m
 token_of_heard (Err refusal) = None

@@ -1,9 +1,11 @@
 -- What a payload comes to, and what is given of it.
-use Rattle.std.proofs.Common.{◌≡◌, ℕ, ◌+◌, Bool, List, [], ◌∷◌, map, refl, sym, ap, ◌∙◌, subst, Option, Some, None, decimal}
+use Rattle.std.proofs.Common.{◌≡◌, ℕ, ◌+◌, Bool, List, [], ◌∷◌, map, refl, sym, ap, ◌∙◌, subst, Option, Some, None, Result, decimal}
 use Rattle.std.specs.Prelude.{if◌then◌else◌}
 use Rattle.fix_types.specs.declared.application.AppBody.{AppBody}
 use Rattle.std.specs.List.{count_by, find}
 use Rattle.fix_types.specs.Application.{body_fields}
+use Rattle.ouch_codec.specs.declared.outbound.Outbound.{Outbound}
+use Rattle.ouch_codec.specs.declared.refusal.DecodeRefusal.{DecodeRefusal}
 use Rattle.order_law.specs.History.{Entry}
 use Rattle.order_law.specs.Life.{is_closed}
 use Rattle.order_law.specs.Reading.{is_report}
@@ -26,7 +28,7 @@ use Rattle.order_ledger.specs.Meets.{ChangesAny, ChangesOrder, GivesMarket}
 use Rattle.order_ledger.specs.Seen.{client_seen, tells_report}
 
 -- where nothing comes of it
-pub silent-meets : (old : State) (port : ℕ) (m : List ℕ) (turn : MarketTurn) → turn.client ≡ None → turn.bodies.items ≡ [] → market_step old port m ≡ silent old → GivesMarket (market_step old port m) turn old
+pub silent-meets : (old : State) (port : ℕ) (m : Result Outbound DecodeRefusal) (turn : MarketTurn) → turn.client ≡ None → turn.bodies.items ≡ [] → market_step old port m ≡ silent old → GivesMarket (market_step old port m) turn old
 silent-meets old port m turn nobody nothing is = record {
   state = ap (λ (g : Given). g.state) (sym is);
   client = ap client_seen nobody ∙ ap (λ (g : Given). g.client) (sym is);
@@ -34,11 +36,11 @@ silent-meets old port m turn nobody nothing is = record {
   fault = ap (λ (g : Given). g.fault) is;
 }
 
-pub silent-changes : (old : State) (port : ℕ) (m : List ℕ) (changed : Option ChangedOrder) → changed ≡ None → market_step old port m ≡ silent old → ChangesAny old port m changed
+pub silent-changes : (old : State) (port : ℕ) (m : Result Outbound DecodeRefusal) (changed : Option ChangedOrder) → changed ≡ None → market_step old port m ≡ silent old → ChangesAny old port m changed
 silent-changes old port m changed nothing is = subst (λ (x : Option ChangedOrder). ChangesAny old port m x) (sym nothing) (ap (λ (g : Given). g.state) is)
 
 -- where an order is changed, and its client told
-module _ (old : State) (port : ℕ) (m : List ℕ) (order_id client : ℕ) (h : Heard) (turn : MarketTurn) (told : IsTold old port m order_id client h) (held : Held) where
+module _ (old : State) (port : ℕ) (m : Result Outbound DecodeRefusal) (order_id client : ℕ) (h : Heard) (turn : MarketTurn) (told : IsTold old port m order_id client h) (held : Held) where
   pub told-meets : ((o : OrderRecord) → by_number old (decimal order_id) ≡ Some o → held ≡ record { orders = put (changed_by h.change o) old.orders; tokens = old.tokens })
       → client_seen turn.client ≡ (to_client_of told.order.new (map body_fields h.bodies.items)).client → turn.bodies.items ≡ h.bodies.items
       → GivesMarket (market_step old port m) turn (record old { orders = held.orders; tokens = held.tokens; exec_ids = old.exec_ids + count_by is_report (map body_fields h.bodies.items) })

@@ -6,20 +6,21 @@ use Rattle.fix_types.specs.declared.new_order.NewOrder.{NewOrder}
 use Rattle.fix_types.specs.NewOrder.{new_order_fields}
 use Rattle.fix_types.specs.Application.{body_fields, message_fields}
 use Rattle.ouch_codec.specs.declared.inbound.enter_order.EnterOrder.{EnterOrder}
+use Rattle.ouch_codec.specs.declared.outbound.Outbound.{Outbound}
+use Rattle.ouch_codec.specs.declared.refusal.DecodeRefusal.{DecodeRefusal}
 use Rattle.ouch_codec.specs.Inbound.{inbound_bytes}
 use Rattle.order_law.specs.Asks.{limit_of, total_of}
 use Rattle.order_law.specs.History.{Asked, Terms, terms_of}
 use Rattle.order_law.specs.Headline.{Each, EachWith, Says}
-use Rattle.order_law.specs.Lawful.{order_token}
 use Rattle.order_law.specs.Life.{is_closed}
 use Rattle.order_law.specs.Messages.{Message}
 use Rattle.order_law.specs.Verdicts.{Port}
 use Rattle.order_histories.specs.OrderRecord.{OrderRecord}
-use Rattle.order_histories.specs.Table.{State, by_id, by_number, by_token, put}
+use Rattle.order_histories.specs.Table.{State, by_id, by_number, put}
 use Rattle.order_histories.specs.Machine.{Given, client_step, faulty, market_step}
 use Rattle.order_histories.specs.Runs.{Finds}
 use Rattle.to_market.specs.NewAsks.{asked_with, enter_bytes}
-use Rattle.market_turns.specs.Turns.{number_of}
+use Rattle.market_turns.specs.Turns.{number_of, order_heard}
 use Rattle.order_ledger.specs.declared.market_error.MarketError.{MarketError}
 use Rattle.order_ledger.specs.declared.market_error.MarketError.TheVariants.{NoMemory, Faulty}
 use Rattle.request_turns.specs.Turns.{AreOf}
@@ -63,21 +64,20 @@ MeetsMarket old g (Ok turn) new = GivesMarket g turn new
 MeetsMarket old g (Err NoMemory) new = Unit {0}
 MeetsMarket old g (Err (Faulty fault)) new = g ≡ faulty old (number_of fault)
 
--- An order that a token of the port leads to is changed, and no other: it keeps its OrderID and its client, and is closed then
--- or isn't.
-pub record ChangesOrder (s : State) (port : ℕ) (m : List ℕ) (c : ChangedOrder) : Type 0 where
+-- The order that the message is on is changed, and no other: it keeps its OrderID and its client, and is closed then or isn't.
+pub record ChangesOrder (s : State) (port : ℕ) (heard : Result Outbound DecodeRefusal) (c : ChangedOrder) : Type 0 where
   pub order : OrderRecord
   pub now : OrderRecord
-  pub found : by_token s port (order_token m) ≡ Some order
+  pub found : order_heard s port heard ≡ Some order
   pub same : now.new ≡ order.new
   pub of_order : now.new.order ≡ decimal c.order_id
   pub closed : is_closed now.stage ≡ c.is_closed
-  pub orders : (market_step s port m).state.orders ≡ put now s.orders
+  pub orders : (market_step s port heard).state.orders ≡ put now s.orders
 
 -- a payload changes this order, or nothing
-abbrev pub ChangesAny : State → ℕ → List ℕ → Option ChangedOrder → Type 0
-ChangesAny s port m None = (market_step s port m).state ≡ s
-ChangesAny s port m (Some c) = ChangesOrder s port m c
+abbrev pub ChangesAny : State → ℕ → Result Outbound DecodeRefusal → Option ChangedOrder → Type 0
+ChangesAny s port heard None = (market_step s port heard).state ≡ s
+ChangesAny s port heard (Some c) = ChangesOrder s port heard c
 
 -- what a new order asks under the next OrderID and the next token
 abbrev pub asked_next : State → ℕ → NewOrder → Asked

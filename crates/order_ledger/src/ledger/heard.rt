@@ -12,6 +12,7 @@ use crate::market_error::MarketError;
 use crate::turns::{ChangedOrder, MarketTurn};
 use fix_types::AppBody;
 use market_turns::{Judged, hear};
+use ouch_codec::{DecodeRefusal, Outbound};
 use std::alloc::Global;
 
 impl OrderLedger {
@@ -19,7 +20,7 @@ impl OrderLedger {
     ghost use Rattle.order_ledger.specs.State.{HasRoom, Keeps};
     ghost use Rattle.order_ledger.specs.Meets.{ChangesAny, MeetsMarket};
 
-    /// Steps a payload that a market port's session gave.
+    /// Steps a payload that a market port's session gave, by what it is decoded as.
     ///
     /// What the market says of an order changes it and is told to its client, in order. Any fault leaves the ledger as it
     /// was. The faults, the first that holds: `OutsideProfile` (a type that isn't known), `Undecodable` (another length
@@ -31,15 +32,15 @@ impl OrderLedger {
         &mut self,
         alloc: Global,
         port: u16,
-        payload: &[u8],
+        heard: &Result<Outbound, DecodeRefusal>,
     ) -> Result<MarketTurn, MarketError>
         requires room { HasRoom self.old }
-        ensures meets { MeetsMarket self.old (market_step self.old port payload.now) result self.new }
-        ensures changed { IfOk result (λ turn. ChangesAny self.old port payload.now turn.changed) }
+        ensures meets { MeetsMarket self.old (market_step self.old port heard.now) result self.new }
+        ensures changed { IfOk result (λ turn. ChangesAny self.old port heard.now turn.changed) }
         ensures keeps { Keeps self.old self.new }
         ensures err { OnErr result (self.new ≡ self.old) }
     {
-        match hear(alloc, self.exec_ids, &self.table, port, payload)? {
+        match hear(alloc, self.exec_ids, &self.table, port, heard)? {
             Judged::Silent => Ok(MarketTurn::nothing(alloc)),
             Judged::Faulty(fault) => Err(MarketError::Faulty(fault)),
             Judged::Told {

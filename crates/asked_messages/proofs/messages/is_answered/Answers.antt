@@ -11,8 +11,8 @@ returns-then-answers c =
     let on = eq-eqb a.port c.args.port c.if-asked-port.true in
     let answered = sym c.answers.ensures ∙ c.if-answers.true in
     c.if-answers.true
-    ∙ sym (is-answer (a.port == c.args.port) (answers c.args.payload.now (said_by a.message)) c.args.is_closed (bytes_eq (decimal a.order_id) (decimal c.args.order_id)) on answered)
-    ∙ sym (answered-by_fields a c.args.port c.args.payload.now (decimal c.args.order_id) c.args.is_closed)
+    ∙ sym (is-answer (a.port == c.args.port) (answers c.args.heard.now (said_by a.message)) c.args.is_closed (bytes_eq (decimal a.order_id) (decimal c.args.order_id)) on answered)
+    ∙ sym (answered-by_fields a c.args.port c.args.heard.now (decimal c.args.order_id) c.args.is_closed)
 
 pub returns-then-is_closed : goal.returns-then-is_closed
 returns-then-is_closed c =
@@ -20,8 +20,8 @@ returns-then-is_closed c =
     let on = eq-eqb a.port c.args.port c.if-asked-port.true in
     let other = sym c.answers.ensures ∙ c.if-answers.false in
     number-test a.order_id c.args.order_id (omega arith) (omega arith)
-    ∙ sym (is-closing (a.port == c.args.port) (answers c.args.payload.now (said_by a.message)) c.args.is_closed (bytes_eq (decimal a.order_id) (decimal c.args.order_id)) on other c.if-is_closed.true)
-    ∙ sym (answered-by_fields a c.args.port c.args.payload.now (decimal c.args.order_id) c.args.is_closed)
+    ∙ sym (is-closing (a.port == c.args.port) (answers c.args.heard.now (said_by a.message)) c.args.is_closed (bytes_eq (decimal a.order_id) (decimal c.args.order_id)) on other c.if-is_closed.true)
+    ∙ sym (answered-by_fields a c.args.port c.args.heard.now (decimal c.args.order_id) c.args.is_closed)
 
 pub returns-else-is_closed : goal.returns-else-is_closed
 returns-else-is_closed c =
@@ -29,5 +29,5 @@ returns-else-is_closed c =
     let on = eq-eqb a.port c.args.port c.if-asked-port.true in
     let other = sym c.answers.ensures ∙ c.if-answers.false in
     c.if-is_closed.false
-    ∙ sym (is-neither (a.port == c.args.port) (answers c.args.payload.now (said_by a.message)) c.args.is_closed (bytes_eq (decimal a.order_id) (decimal c.args.order_id)) on other c.if-is_closed.false)
-    ∙ sym (answered-by_fields a c.args.port c.args.payload.now (decimal c.args.order_id) c.args.is_closed)
+    ∙ sym (is-neither (a.port == c.args.port) (answers c.args.heard.now (said_by a.message)) c.args.is_closed (bytes_eq (decimal a.order_id) (decimal c.args.order_id)) on other c.if-is_closed.false)
+    ∙ sym (answered-by_fields a c.args.port c.args.heard.now (decimal c.args.order_id) c.args.is_closed)

@@ -8,7 +8,7 @@ use Rattle.asked_messages.proofs.messages.AskedMessages.answer.Goals as goal
 
 pub returns : goal.returns
 returns c =
-    let test : KeptMessage → Bool = λ k. not (is_answered_by c.args.port c.args.payload.now (decimal c.args.order_id) c.args.is_closed k) in
+    let test : KeptMessage → Bool = λ k. not (is_answered_by c.args.port c.args.heard.now (decimal c.args.order_id) c.args.is_closed k) in
     ap (map seen) (filter_same _ (λ (a : AskedMessage). test (seen a)) _ (λ x b f k. search rules) _ _ c.retain.ensures.filtered)
     ∙ seen-filter test c.self.inside.messages.items
-    ∙ ap (λ (h : Held). left_by c.args.port c.args.payload.now (decimal c.args.order_id) c.args.is_closed h.messages) c.self.view_is
+    ∙ ap (λ (h : Held). left_by c.args.port c.args.heard.now (decimal c.args.order_id) c.args.is_closed h.messages) c.self.view_is
