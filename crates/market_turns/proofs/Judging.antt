@@ -5,8 +5,7 @@ use Rattle.std.specs.declared.alloc.AllocError.{AllocError}
 use Rattle.fix_types.specs.Application.{body_fields}
 use Rattle.ouch_codec.specs.declared.outbound.Outbound.{Outbound}
 use Rattle.ouch_codec.specs.declared.outbound.Outbound.TheVariants as market
-use Rattle.ouch_codec.specs.declared.outbound.replaced.Replaced.{Replaced}
-use Rattle.order_law.specs.Lawful.{judged_on, order_token, row_fault, token_fault}
+use Rattle.order_law.specs.Lawful.{judged_on, judged_token, order_token, row_fault, token_fault}
 use Rattle.order_histories.specs.Machine.{by_fault, fault_in, faulty, heard_on, is_lawful_in, market_step, silent, tells}
 use Rattle.order_histories.specs.OrderRecord.{OrderRecord, after_message}
 use Rattle.order_histories.specs.Table.{State, by_number, by_token, put}
@@ -18,7 +17,7 @@ use Rattle.market_turns.specs.declared.judged.Judged.{Judged}
 use Rattle.market_turns.specs.declared.judged.Judged.TheVariants.{Faulty, Silent, Told}
 use Rattle.market_turns.specs.declared.market_fault.MarketFault.TheVariants.{NotLawful, OutsideProfile, Undecodable, UnknownToken}
 use Rattle.market_turns.specs.Turns.{IsJudged, Steps, changes_to}
-use Rattle.market_turns.specs.Rows.{IsJudgedOf, IsPassedOver}
+use Rattle.market_turns.specs.Rows.{IsJudgedOf, IsPassedOver, knows_new_token}
 use Rattle.market_turns.proofs.Found.{by_token-held, found-by_number, put-same}
 
 -- ---- what is told
@@ -45,10 +44,6 @@ heard-quiet s m o is here =
 -- ---- the step of a message that is judged on the order of one token
 
 module _ (s : State) (port : ℕ) (m : Outbound) (token : List ℕ) (has : order_token m ≡ Some token) (fault : fault_in s port (Ok m) ≡ judged_on (is_lawful_in s port m token)) where
-  -- no order has it
-  nobody's : by_token s port token ≡ None → market_step s port (Ok m) ≡ faulty s token_fault
-  nobody's none = ap (by_fault s port (Ok m)) (fault ∙ ap (λ (x : Option OrderRecord). judged_on (option_map (is_lawful m) x)) none)
-
   -- it isn't lawful of its order, or is
   unlawful : (o : OrderRecord) → by_token s port token ≡ Some o → is_lawful m o ≡ false → market_step s port (Ok m) ≡ faulty s row_fault
   unlawful o on not_so = ap (by_fault s port (Ok m)) (fault ∙ ap (λ (x : Option OrderRecord). judged_on (option_map (is_lawful m) x)) on ∙ ap (λ (b : Bool). judged_on (Some b)) not_so)
@@ -80,10 +75,6 @@ pub record IsOn (port : ℕ) (m : Outbound) (held : Held) (token : List ℕ) : T
   pub has : order_token m ≡ Some token
   pub fault : (s : State) → s.orders ≡ held.orders → s.tokens ≡ held.tokens → fault_in s port (Ok m) ≡ judged_on (is_lawful_in s port m token)
 
--- no order of the table has the token
-pub steps-none : (issued port : ℕ) (m : Outbound) (held : Held) (token : List ℕ) → IsOn port m held token → found held port token ≡ None → Steps issued port (Ok m) held (Faulty UnknownToken)
-steps-none issued port m held token is none = λ s same_orders same_tokens same_ids. nobody's s port m token is.has (is.fault s same_orders same_tokens) (by_token-held s held port token same_orders same_tokens ∙ none)
-
 pub steps-found : (issued port : ℕ) (m : Outbound) (held : Held) (token : List ℕ) → IsOn port m held token → (o : OrderRecord) → found held port token ≡ Some o
     → (r : Result Judged AllocError) → IfOk r (IsJudgedOf issued m o) → IfOk r (Steps issued port (Ok m) held)
 steps-found issued port m held token is o on (Ok j) meets = λ s same_orders same_tokens same_ids.
@@ -91,17 +82,38 @@ steps-found issued port m held token is o on (Ok j) meets = λ s same_orders sam
     (subst (λ (n : ℕ). IsJudgedOf n m o j) (sym same_ids) meets)
 steps-found issued port m held token is o on (Err e) meets = tt
 
--- ---- a Replaced, whose new token has to be known too
+-- ---- the fault of a message: its own token, then that of its order
 
-module _ (port : ℕ) (m : Replaced) (held : Held) where
-  pub replaced-unknown : (issued : ℕ) → found held port m.token ≡ None → Steps issued port (Ok (market.Replaced m)) held (Faulty UnknownToken)
-  replaced-unknown issued none = λ s same_orders same_tokens same_ids.
-      ap (by_fault s port (Ok (market.Replaced m)))
-      (ap (λ (x : Option OrderRecord). if is_some (option_map (is_lawful (market.Replaced m)) x) then judged_on (is_lawful_in s port (market.Replaced m) m.previous_token) else Some token_fault) (by_token-held s held port m.token same_orders same_tokens ∙ none))
+-- what is_some says stays through a map
+some-map : {A B : Type 0} (f : A → B) (x : Option A) → is_some (option_map f x) ≡ is_some x
+some-map f None = refl
+some-map f (Some a) = refl
 
-  pub replaced-on : (known : OrderRecord) → found held port m.token ≡ Some known → IsOn port (market.Replaced m) held m.previous_token
-  replaced-on known here = record {
-    has = refl;
-    fault = λ s same_orders same_tokens.
-        ap (λ (x : Option OrderRecord). if is_some (option_map (is_lawful (market.Replaced m)) x) then judged_on (is_lawful_in s port (market.Replaced m) m.previous_token) else Some token_fault) (by_token-held s held port m.token same_orders same_tokens ∙ here);
+module _ (s : State) (port : ℕ) (held : Held) (same_orders : s.orders ≡ held.orders) (same_tokens : s.tokens ≡ held.tokens) where
+  -- as it is where its new token is known
+  abbrev on_order : Outbound → Option ℕ
+  on_order m = judged_token (is_lawful_in s port m) (order_token m)
+
+  fault-known : (m : Outbound) → fault_in s port (Ok m) ≡ (if knows_new_token held port m then on_order m else Some token_fault)
+  fault-known (market.Replaced m) =
+      ap (λ (b : Bool). if b then on_order (market.Replaced m) else Some token_fault)
+      (some-map (is_lawful (market.Replaced m)) (by_token s port m.token) ∙ ap (λ (x : Option OrderRecord). is_some x) (by_token-held s held port m.token same_orders same_tokens))
+  fault-known (market.SystemEvent m) = refl
+  fault-known (market.Accepted m) = refl
+  fault-known (market.Canceled m) = refl
+  fault-known (market.Executed m) = refl
+  fault-known (market.Broken m) = refl
+  fault-known (market.Rejected m) = refl
+  fault-known (market.CancelPending m) = refl
+  fault-known (market.CancelReject m) = refl
+  fault-known market.Skipped = refl
+
+  fault-by : (m : Outbound) (b : Bool) → knows_new_token held port m ≡ b → fault_in s port (Ok m) ≡ (if b then on_order m else Some token_fault)
+  fault-by m b known = fault-known m ∙ ap (λ (b : Bool). if b then on_order m else Some token_fault) known
+
+module _ (port : ℕ) (m : Outbound) (held : Held) where
+  pub is-on : (token : List ℕ) → knows_new_token held port m ≡ true → order_token m ≡ Some token → IsOn port m held token
+  is-on token known has = record {
+    has = has;
+    fault = λ s same_orders same_tokens. fault-by s port held same_orders same_tokens m true known ∙ ap (judged_token (is_lawful_in s port m)) has;
   }

@@ -1,7 +1,9 @@
--- What a payload comes to on the one order that it is on.
-use Rattle.std.specs.Prelude.{◌≡◌, ℕ, true, false, List, [], decimal}
+-- What a message comes to on the one order that it is on, and whether the token is known that it gives the order.
+use Rattle.std.specs.Prelude.{◌≡◌, ℕ, Bool, true, false, List, [], is_some, decimal}
 use Rattle.ouch_codec.specs.declared.outbound.Outbound.{Outbound}
+use Rattle.ouch_codec.specs.declared.outbound.Outbound.TheVariants as market
 use Rattle.order_histories.specs.OrderRecord.{OrderRecord, after_message}
+use Rattle.order_table.specs.Held.{Held, found}
 use Rattle.market_rows.specs.declared.heard.Heard.{Heard}
 use Rattle.market_rows.specs.Meets.{IsHeard, is_lawful, told_of}
 use Rattle.market_turns.specs.declared.judged.Judged.{Judged}
@@ -27,3 +29,8 @@ IsJudgedOf issued m o (Faulty Undecodable) = ⊥
 IsJudgedOf issued m o (Faulty UnknownToken) = ⊥
 IsJudgedOf issued m o (Faulty OutsideProfile) = ⊥
 IsJudgedOf issued m o (Told order_id client h) = IsToldOf issued m o order_id client h
+
+-- a Replaced gives its order a token: the replace's, so it has to be known; no other message gives one
+abbrev pub knows_new_token : Held → ℕ → Outbound → Bool
+knows_new_token held port (market.Replaced m) = is_some (found held port m.token)
+knows_new_token held port other = true

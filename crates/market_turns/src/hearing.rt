@@ -5,10 +5,7 @@ ghost use Rattle.market_turns.specs.Turns.{Steps};
 
 use crate::judged::Judged;
 use crate::market_fault::fault_of;
-use crate::on_orders::{
-    hear_accepted, hear_broken, hear_cancel_pending, hear_cancel_reject, hear_canceled,
-    hear_executed, hear_rejected, hear_replaced,
-};
+use crate::on_orders::hear_message;
 use order_table::Table;
 use ouch_codec::{DecodeRefusal, Outbound};
 use std::alloc::{AllocError, Global};
@@ -33,15 +30,6 @@ pub fn hear(
 {
     match heard {
         Err(refusal) => Ok(Judged::Faulty(fault_of(*refusal))),
-        Ok(Outbound::Skipped) => Ok(Judged::Silent),
-        Ok(Outbound::SystemEvent(_)) => Ok(Judged::Silent),
-        Ok(Outbound::Accepted(message)) => hear_accepted(alloc, issued, table, port, message),
-        Ok(Outbound::Executed(message)) => hear_executed(alloc, issued, table, port, message),
-        Ok(Outbound::Canceled(message)) => hear_canceled(alloc, issued, table, port, message),
-        Ok(Outbound::Broken(message)) => hear_broken(alloc, issued, table, port, message),
-        Ok(Outbound::Rejected(message)) => hear_rejected(alloc, issued, table, port, message),
-        Ok(Outbound::Replaced(message)) => hear_replaced(alloc, issued, table, port, message),
-        Ok(Outbound::CancelReject(message)) => hear_cancel_reject(alloc, table, port, message),
-        Ok(Outbound::CancelPending(message)) => Ok(hear_cancel_pending(table, port, message)),
+        Ok(message) => hear_message(alloc, issued, table, port, message),
     }
 }

@@ -1,11 +1,10 @@
-//! Messages on one order, each by its row.
+//! A message on the order that its token leads to, by its row.
 
 ghost use Rattle.std.specs.Prelude.{◌≡◌, ℕ, ◌<◌, ◌^◌, Ok, Err, IfOk};
 ghost use Rattle.ouch_codec.specs.declared.outbound.Outbound.{Outbound};
-ghost use Rattle.ouch_codec.specs.declared.outbound.Outbound.TheVariants as market;
 ghost use Rattle.order_histories.specs.OrderRecord.{OrderRecord};
 ghost use Rattle.market_rows.specs.Meets.{MeetsRow};
-ghost use Rattle.market_turns.specs.Rows.{IsJudgedOf};
+ghost use Rattle.market_turns.specs.Rows.{IsJudgedOf, knows_new_token};
 ghost use Rattle.market_turns.specs.Turns.{Steps};
 
 use crate::judged::Judged;
@@ -16,138 +15,65 @@ use market_rows::{
 };
 use order_table::Table;
 use orders::Order;
-use ouch_codec::{
-    Accepted, Broken, CancelPending, CancelReject, Canceled, Executed, Rejected, Replaced,
-};
+use ouch_codec::Outbound;
 use std::alloc::{AllocError, Global};
 
-/// An Accepted on the order that its token leads to.
-pub fn hear_accepted(
+/// What a message comes to: on the order that its token leads to, where it has one. The token that a Replaced gives the
+/// order has to be known, too.
+pub fn hear_message(
     alloc: Global,
     issued: u64,
     table: &Table,
     port: u16,
-    message: &Accepted,
+    message: &Outbound,
 ) -> Result<Judged, AllocError>
     requires { issued < 2 ^ 60 }
-    ensures { IfOk result (Steps issued port (Ok (market.Accepted message.now)) table.now) }
+    ensures { IfOk result (Steps issued port (Ok message.now) table.now) }
 {
-    match table.by_token(port, &message.token) {
-        None => Ok(Judged::Faulty(MarketFault::UnknownToken)),
-        Some(order) => answer_of(order, on_accepted(alloc, issued, order, message)),
-    }
-}
-
-/// A Canceled on the order that its token leads to.
-pub fn hear_canceled(
-    alloc: Global,
-    issued: u64,
-    table: &Table,
-    port: u16,
-    message: &Canceled,
-) -> Result<Judged, AllocError>
-    requires { issued < 2 ^ 60 }
-    ensures { IfOk result (Steps issued port (Ok (market.Canceled message.now)) table.now) }
-{
-    match table.by_token(port, &message.token) {
-        None => Ok(Judged::Faulty(MarketFault::UnknownToken)),
-        Some(order) => answer_of(order, on_canceled(alloc, issued, order, message)),
-    }
-}
-
-/// An Executed on the order that its token leads to.
-pub fn hear_executed(
-    alloc: Global,
-    issued: u64,
-    table: &Table,
-    port: u16,
-    message: &Executed,
-) -> Result<Judged, AllocError>
-    requires { issued < 2 ^ 60 }
-    ensures { IfOk result (Steps issued port (Ok (market.Executed message.now)) table.now) }
-{
-    match table.by_token(port, &message.token) {
-        None => Ok(Judged::Faulty(MarketFault::UnknownToken)),
-        Some(order) => answer_of(order, on_executed(alloc, issued, order, message)),
-    }
-}
-
-/// A Broken Trade on the order that its token leads to.
-pub fn hear_broken(
-    alloc: Global,
-    issued: u64,
-    table: &Table,
-    port: u16,
-    message: &Broken,
-) -> Result<Judged, AllocError>
-    requires { issued < 2 ^ 60 }
-    ensures { IfOk result (Steps issued port (Ok (market.Broken message.now)) table.now) }
-{
-    match table.by_token(port, &message.token) {
-        None => Ok(Judged::Faulty(MarketFault::UnknownToken)),
-        Some(order) => answer_of(order, on_broken(alloc, issued, order, message)),
-    }
-}
-
-/// A Rejected on the order that its token leads to.
-pub fn hear_rejected(
-    alloc: Global,
-    issued: u64,
-    table: &Table,
-    port: u16,
-    message: &Rejected,
-) -> Result<Judged, AllocError>
-    requires { issued < 2 ^ 60 }
-    ensures { IfOk result (Steps issued port (Ok (market.Rejected message.now)) table.now) }
-{
-    match table.by_token(port, &message.token) {
-        None => Ok(Judged::Faulty(MarketFault::UnknownToken)),
-        Some(order) => answer_of(order, on_rejected(alloc, issued, order, message)),
-    }
-}
-
-/// A Replaced on the order that its previous token leads to. Its own token has to be known, too.
-pub fn hear_replaced(
-    alloc: Global,
-    issued: u64,
-    table: &Table,
-    port: u16,
-    message: &Replaced,
-) -> Result<Judged, AllocError>
-    requires { issued < 2 ^ 60 }
-    ensures { IfOk result (Steps issued port (Ok (market.Replaced message.now)) table.now) }
-{
-    let Some(_known) = table.by_token(port, &message.token) else {
+    if !is_new_token_known(table, port, message) {
         return Ok(Judged::Faulty(MarketFault::UnknownToken));
+    }
+    let Some(token) = message.order_token() else {
+        return Ok(Judged::Silent);
     };
-    match table.by_token(port, &message.previous_token) {
+    match table.by_token(port, token) {
         None => Ok(Judged::Faulty(MarketFault::UnknownToken)),
-        Some(order) => answer_of(order, on_replaced(alloc, issued, order, message)),
+        Some(order) => hear_on_order(alloc, issued, order, message),
     }
 }
 
-/// A Cancel Reject on the order that its token leads to.
-pub fn hear_cancel_reject(
+/// Whether the token that a message gives its order is one of the table. Only a Replaced gives one.
+fn is_new_token_known(table: &Table, port: u16, message: &Outbound) -> bool
+    ensures { result ≡ knows_new_token table.now port message.now }
+{
+    match message {
+        Outbound::Replaced(replaced) => table.by_token(port, &replaced.token).is_some(),
+        _ => true,
+    }
+}
+
+/// What a message comes to on its order: a line for each row. A Cancel Pending may be said of any order and changes nothing of
+/// it; the other two are on none.
+fn hear_on_order(
     alloc: Global,
-    table: &Table,
-    port: u16,
-    message: &CancelReject,
+    issued: u64,
+    order: &Order,
+    message: &Outbound,
 ) -> Result<Judged, AllocError>
-    ensures { (issued : ℕ) → IfOk result (Steps issued port (Ok (market.CancelReject message.now)) table.now) }
+    requires { issued < 2 ^ 60 }
+    ensures { IfOk result (IsJudgedOf issued message.now order.now) }
 {
-    match table.by_token(port, &message.token) {
-        None => Ok(Judged::Faulty(MarketFault::UnknownToken)),
-        Some(order) => answer_of(order, on_cancel_reject(alloc, order, message)),
-    }
-}
-
-/// A Cancel Pending, which may be said of any order and changes nothing of it.
-pub fn hear_cancel_pending(table: &Table, port: u16, message: &CancelPending) -> Judged
-    ensures { (issued : ℕ) → Steps issued port (Ok (market.CancelPending message.now)) table.now result }
-{
-    match table.by_token(port, &message.token) {
-        None => Judged::Faulty(MarketFault::UnknownToken),
-        Some(_) => Judged::Silent,
+    match message {
+        Outbound::Accepted(said) => answer_of(order, on_accepted(alloc, issued, order, said)),
+        Outbound::Replaced(said) => answer_of(order, on_replaced(alloc, issued, order, said)),
+        Outbound::Canceled(said) => answer_of(order, on_canceled(alloc, issued, order, said)),
+        Outbound::Executed(said) => answer_of(order, on_executed(alloc, issued, order, said)),
+        Outbound::Broken(said) => answer_of(order, on_broken(alloc, issued, order, said)),
+        Outbound::Rejected(said) => answer_of(order, on_rejected(alloc, issued, order, said)),
+        Outbound::CancelReject(said) => answer_of(order, on_cancel_reject(alloc, order, said)),
+        Outbound::CancelPending(_) => Ok(Judged::Silent),
+        Outbound::SystemEvent(_) => Ok(Judged::Silent),
+        Outbound::Skipped => Ok(Judged::Silent),
     }
 }
 

@@ -140,8 +140,8 @@ impl OrderCore {
             → result ≡ option_map (λ (new : Entry). new.client) (option_and_then (order_of_token terms port (accepted terms before)) (token_of_heard (decoded payload.now))) }
     {
         tokens_lead_to_accepted_orders();
-        let token = token_of(&decode(payload))?;
-        self.ledger.client_of_token(port, &token)
+        let message = decode(payload).ok()?;
+        self.ledger.client_of_token(port, message.order_token()?)
     }
 
     /// The step of a client's message: on the ledger, and then what it asks is kept.
@@ -213,24 +213,5 @@ fn drop_answered(
         && let Ok(message) = heard
     {
         asked.answer(port, message, changed.order_id, changed.is_closed);
-    }
-}
-
-/// The token that a payload's message goes by: of a Replaced the previous one.
-///
-/// Source: OUCH 4.2, "Outbound Messages" (Order Token, Previous Order Token).
-fn token_of(heard: &Result<Outbound, DecodeRefusal>) -> Option<[u8; 14]>
-    ensures { result ≡ token_of_heard heard.now }
-{
-    match heard {
-        Ok(Outbound::Accepted(message)) => Some(message.token),
-        Ok(Outbound::Replaced(message)) => Some(message.previous_token),
-        Ok(Outbound::Canceled(message)) => Some(message.token),
-        Ok(Outbound::Executed(message)) => Some(message.token),
-        Ok(Outbound::Broken(message)) => Some(message.token),
-        Ok(Outbound::Rejected(message)) => Some(message.token),
-        Ok(Outbound::CancelPending(message)) => Some(message.token),
-        Ok(Outbound::CancelReject(message)) => Some(message.token),
-        Ok(Outbound::SystemEvent(_) | Outbound::Skipped) | Err(_) => None,
     }
 }

@@ -9,6 +9,7 @@ use Rattle.ouch_codec.specs.declared.refusal.DecodeRefusal.TheVariants as refusa
 use Rattle.ouch_codec.specs.declared.side.Side.{Side}
 use Rattle.ouch_codec.specs.Letters.{side_letter}
 use Rattle.ouch_codec.specs.Parts.{unpadded}
+pub use Rattle.ouch_codec.specs.Tokens.{order_token}
 use Rattle.order_law.specs.Messages.{text, character}
 use Rattle.order_law.specs.Asks.{side_of_letter}
 use Rattle.order_law.specs.Life.{Life, is_of, is_live, is_closed, is_waiting, is_working, stands_as}
@@ -71,19 +72,7 @@ row_holds (market.Rejected m) l new pending = (is_live l m.token && is_waiting l
 row_holds (market.CancelReject m) l new pending = works_as l m.token
 row_holds other l new pending = true
 
--- the token that a message is on, which a System Event and a Priority Update have not: of a Replaced the previous one
-abbrev pub order_token : Outbound → Option (List ℕ)
-order_token (market.Accepted m) = Some m.token
-order_token (market.Replaced m) = Some m.previous_token
-order_token (market.Canceled m) = Some m.token
-order_token (market.Executed m) = Some m.token
-order_token (market.Broken m) = Some m.token
-order_token (market.Rejected m) = Some m.token
-order_token (market.CancelPending m) = Some m.token
-order_token (market.CancelReject m) = Some m.token
-order_token other = None
-
--- of a payload
+-- the token of a payload
 abbrev pub token_of_heard : Result Outbound DecodeRefusal → Option (List ℕ)
 token_of_heard (Ok m) = order_token m
 token_of_heard (Err refusal) = None

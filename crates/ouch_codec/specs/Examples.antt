@@ -1,12 +1,26 @@
 -- Messages as bytes, and what the layouts say of them, computed. The Enter Order is one that was written elsewhere.
-use Rattle.std.specs.Prelude.{◌≡◌, ℕ, ◌+◌, ◌-◌, ◌*◌, true, false, List, [], ◌∷◌, ◌++◌, take, nat_le, if◌then◌else◌, Some, None, codes, refl}
+use Rattle.std.specs.Prelude.{◌≡◌, ℕ, ◌+◌, ◌-◌, ◌*◌, true, false, List, [], ◌∷◌, ◌++◌, take, nat_le, if◌then◌else◌, Option, Some, None, Result, Ok, codes, refl}
 use Rattle.ouch_codec.specs.declared.layout.Kind.{Kind}
+use Rattle.ouch_codec.specs.declared.order_state.OrderState.TheVariants.{Live, Dead}
+use Rattle.ouch_codec.specs.declared.outbound.system_event.SystemEvent.{SystemEvent}
+use Rattle.ouch_codec.specs.declared.outbound.accepted.Accepted.{Accepted}
+use Rattle.ouch_codec.specs.declared.outbound.replaced.Replaced.{Replaced}
+use Rattle.ouch_codec.specs.declared.outbound.canceled.Canceled.{Canceled}
+use Rattle.ouch_codec.specs.declared.outbound.executed.Executed.{Executed}
+use Rattle.ouch_codec.specs.declared.outbound.broken.Broken.{Broken}
+use Rattle.ouch_codec.specs.declared.outbound.rejected.Rejected.{Rejected}
+use Rattle.ouch_codec.specs.declared.outbound.cancel_pending.CancelPending.{CancelPending}
+use Rattle.ouch_codec.specs.declared.outbound.cancel_reject.CancelReject.{CancelReject}
+use Rattle.ouch_codec.specs.declared.outbound.Outbound.{Outbound}
+use Rattle.ouch_codec.specs.declared.outbound.Outbound.TheVariants as market
+use Rattle.ouch_codec.specs.declared.refusal.DecodeRefusal.{DecodeRefusal}
+use Rattle.ouch_codec.specs.declared.side.Side.TheVariants.{Sell, SellShort}
 use Rattle.ouch_codec.specs.Layout.{is_message, total}
 use Rattle.ouch_codec.specs.Layouts.{enter_order, replace, cancel, system_event, accepted, replaced, canceled, executed, broken, rejected, cancel_pending, cancel_reject}
 use Rattle.ouch_codec.specs.Parts.{type_of}
 use Rattle.ouch_codec.specs.Decoding.{outbound_layout}
 use Rattle.ouch_codec.specs.ToMarket as to_market
-use Rattle.ouch_codec.specs.FromMarket as from_market
+use Rattle.ouch_codec.specs.Values.{decoded}
 
 abbrev digit : ℕ → ℕ
 digit byte = if nat_le byte 57 then byte - 48 else byte - 87
@@ -27,31 +41,31 @@ abbrev cancel_bytes : List ℕ
 cancel_bytes = bytes (codes "58473030303030303030303030303100000000")
 
 abbrev system_event_bytes : List ℕ
-system_event_bytes = bytes (codes "53000000000000000053")
+system_event_bytes = bytes (codes "5300001f1aced9f00051")
 
 abbrev accepted_bytes : List ℕ
-accepted_bytes = bytes (codes "4100000000000000004730303030303030303030303031420000012c494e544320202020000394040001869e4649524d590000000000000001504e000000004e4c4e")
+accepted_bytes = bytes (codes "4100001f1aced9f0014730303030303030303030303031530000012c494e544320202020000394040001869e4649524d590000000000000011504e00000064434c31")
 
 abbrev replaced_bytes : List ℕ
-replaced_bytes = bytes (codes "5500000000000000004730303030303030303030303032420000012c494e544320202020000394040001869e4649524d590000000000000001504e000000004e4c47303030303030303030303030314e")
+replaced_bytes = bytes (codes "5500001f1aced9f002473030303030303030303030303254000000c84d53465420202020000f42400001869f5452494d4100000000000000125259000000324e44473030303030303030303030303132")
 
 abbrev canceled_bytes : List ℕ
-canceled_bytes = bytes (codes "43000000000000000047303030303030303030303030310000006455")
+canceled_bytes = bytes (codes "4300001f1aced9f00347303030303030303030303030330000009655")
 
 abbrev executed_bytes : List ℕ
-executed_bytes = bytes (codes "45000000000000000047303030303030303030303030310000006400039404520000000000000007")
+executed_bytes = bytes (codes "4500001f1aced9f00447303030303030303030303030340000006400039404520000000000000007")
 
 abbrev broken_bytes : List ℕ
-broken_bytes = bytes (codes "4200000000000000004730303030303030303030303031000000000000000745")
+broken_bytes = bytes (codes "4200001f1aced9f0054730303030303030303030303035000000000000000845")
 
 abbrev rejected_bytes : List ℕ
-rejected_bytes = bytes (codes "4a0000000000000000473030303030303030303030303154")
+rejected_bytes = bytes (codes "4a00001f1aced9f006473030303030303030303030303654")
 
 abbrev cancel_pending_bytes : List ℕ
-cancel_pending_bytes = bytes (codes "5000000000000000004730303030303030303030303031")
+cancel_pending_bytes = bytes (codes "5000001f1aced9f0074730303030303030303030303037")
 
 abbrev cancel_reject_bytes : List ℕ
-cancel_reject_bytes = bytes (codes "4900000000000000004730303030303030303030303031")
+cancel_reject_bytes = bytes (codes "4900001f1aced9f0084730303030303030303030303038")
 
 -- a message of a layout, and none with one byte less or more
 pub record Fits (layout : List Kind) (message : List ℕ) : Type 0 where
@@ -128,7 +142,7 @@ listed :
     × (outbound_layout (type_of (codes "T")) ≡ None)
 listed = (refl, refl, refl, refl, refl, refl, refl, refl, refl, refl, refl)
 
--- what they say
+-- what those towards the market say
 said :
     (to_market.token enter_order_bytes ≡ codes "G0000000000001")
     × (to_market.enter_side enter_order_bytes ≡ 66)
@@ -139,12 +153,152 @@ said :
     × (to_market.replacement_token replace_bytes ≡ codes "G0000000000002")
     × (to_market.replace_shares replace_bytes ≡ 300)
     × (to_market.cancel_shares cancel_bytes ≡ 0)
-    × (from_market.token accepted_bytes ≡ codes "G0000000000001")
-    × (from_market.state accepted_bytes ≡ 76)
-    × (from_market.previous_token replaced_bytes ≡ codes "G0000000000001")
-    × (from_market.decrement canceled_bytes ≡ 100)
-    × (from_market.executed_price executed_bytes ≡ 234_500)
-    × (from_market.executed_match executed_bytes ≡ 7)
-    × (from_market.broken_match broken_bytes ≡ 7)
-    × (from_market.reject_reason rejected_bytes ≡ 84)
-said = (refl, refl, refl, refl, refl, refl, refl, refl, refl, refl, refl, refl, refl, refl, refl, refl, refl)
+said = (refl, refl, refl, refl, refl, refl, refl, refl, refl)
+
+-- ---- what those from the market are decoded as, field by field. In each message all of them differ, so that none stands for another.
+
+abbrev system_event_says : {A : Type 0} → (SystemEvent → A) → Option A
+system_event_says {A} field = of_message (decoded system_event_bytes)
+  where
+    of_message : Result Outbound DecodeRefusal → Option A
+    of_message (Ok (market.SystemEvent m)) = Some (field m)
+    of_message other = None
+
+system_event_said :
+    (system_event_says (λ m. m.timestamp) ≡ Some 34_200_000_000_000)
+    × (system_event_says (λ m. m.event) ≡ Some 81)
+system_event_said = (refl, refl)
+
+abbrev accepted_says : {A : Type 0} → (Accepted → A) → Option A
+accepted_says {A} field = of_message (decoded accepted_bytes)
+  where
+    of_message : Result Outbound DecodeRefusal → Option A
+    of_message (Ok (market.Accepted m)) = Some (field m)
+    of_message other = None
+
+accepted_said :
+    (accepted_says (λ m. m.timestamp) ≡ Some 34_200_000_000_001)
+    × (accepted_says (λ m. m.token) ≡ Some (codes "G0000000000001"))
+    × (accepted_says (λ m. m.side) ≡ Some Sell)
+    × (accepted_says (λ m. m.shares) ≡ Some 300)
+    × (accepted_says (λ m. m.stock) ≡ Some (codes "INTC    "))
+    × (accepted_says (λ m. m.price) ≡ Some 234_500)
+    × (accepted_says (λ m. m.time_in_force) ≡ Some 99_998)
+    × (accepted_says (λ m. m.firm) ≡ Some (codes "FIRM"))
+    × (accepted_says (λ m. m.display) ≡ Some 89)
+    × (accepted_says (λ m. m.order_reference) ≡ Some 17)
+    × (accepted_says (λ m. m.capacity) ≡ Some 80)
+    × (accepted_says (λ m. m.intermarket_sweep) ≡ Some 78)
+    × (accepted_says (λ m. m.minimum_quantity) ≡ Some 100)
+    × (accepted_says (λ m. m.cross_type) ≡ Some 67)
+    × (accepted_says (λ m. m.order_state) ≡ Some Live)
+    × (accepted_says (λ m. m.bbo_weight) ≡ Some 49)
+accepted_said = (refl, refl, refl, refl, refl, refl, refl, refl, refl, refl, refl, refl, refl, refl, refl, refl)
+
+abbrev replaced_says : {A : Type 0} → (Replaced → A) → Option A
+replaced_says {A} field = of_message (decoded replaced_bytes)
+  where
+    of_message : Result Outbound DecodeRefusal → Option A
+    of_message (Ok (market.Replaced m)) = Some (field m)
+    of_message other = None
+
+replaced_said :
+    (replaced_says (λ m. m.timestamp) ≡ Some 34_200_000_000_002)
+    × (replaced_says (λ m. m.token) ≡ Some (codes "G0000000000002"))
+    × (replaced_says (λ m. m.side) ≡ Some SellShort)
+    × (replaced_says (λ m. m.shares) ≡ Some 200)
+    × (replaced_says (λ m. m.stock) ≡ Some (codes "MSFT    "))
+    × (replaced_says (λ m. m.price) ≡ Some 1_000_000)
+    × (replaced_says (λ m. m.time_in_force) ≡ Some 99_999)
+    × (replaced_says (λ m. m.firm) ≡ Some (codes "TRIM"))
+    × (replaced_says (λ m. m.display) ≡ Some 65)
+    × (replaced_says (λ m. m.order_reference) ≡ Some 18)
+    × (replaced_says (λ m. m.capacity) ≡ Some 82)
+    × (replaced_says (λ m. m.intermarket_sweep) ≡ Some 89)
+    × (replaced_says (λ m. m.minimum_quantity) ≡ Some 50)
+    × (replaced_says (λ m. m.cross_type) ≡ Some 78)
+    × (replaced_says (λ m. m.order_state) ≡ Some Dead)
+    × (replaced_says (λ m. m.previous_token) ≡ Some (codes "G0000000000001"))
+    × (replaced_says (λ m. m.bbo_weight) ≡ Some 50)
+replaced_said = (refl, refl, refl, refl, refl, refl, refl, refl, refl, refl, refl, refl, refl, refl, refl, refl, refl)
+
+abbrev canceled_says : {A : Type 0} → (Canceled → A) → Option A
+canceled_says {A} field = of_message (decoded canceled_bytes)
+  where
+    of_message : Result Outbound DecodeRefusal → Option A
+    of_message (Ok (market.Canceled m)) = Some (field m)
+    of_message other = None
+
+canceled_said :
+    (canceled_says (λ m. m.timestamp) ≡ Some 34_200_000_000_003)
+    × (canceled_says (λ m. m.token) ≡ Some (codes "G0000000000003"))
+    × (canceled_says (λ m. m.decrement) ≡ Some 150)
+    × (canceled_says (λ m. m.reason) ≡ Some 85)
+canceled_said = (refl, refl, refl, refl)
+
+abbrev executed_says : {A : Type 0} → (Executed → A) → Option A
+executed_says {A} field = of_message (decoded executed_bytes)
+  where
+    of_message : Result Outbound DecodeRefusal → Option A
+    of_message (Ok (market.Executed m)) = Some (field m)
+    of_message other = None
+
+executed_said :
+    (executed_says (λ m. m.timestamp) ≡ Some 34_200_000_000_004)
+    × (executed_says (λ m. m.token) ≡ Some (codes "G0000000000004"))
+    × (executed_says (λ m. m.shares) ≡ Some 100)
+    × (executed_says (λ m. m.price) ≡ Some 234_500)
+    × (executed_says (λ m. m.liquidity) ≡ Some 82)
+    × (executed_says (λ m. m.match_number) ≡ Some 7)
+executed_said = (refl, refl, refl, refl, refl, refl)
+
+abbrev broken_says : {A : Type 0} → (Broken → A) → Option A
+broken_says {A} field = of_message (decoded broken_bytes)
+  where
+    of_message : Result Outbound DecodeRefusal → Option A
+    of_message (Ok (market.Broken m)) = Some (field m)
+    of_message other = None
+
+broken_said :
+    (broken_says (λ m. m.timestamp) ≡ Some 34_200_000_000_005)
+    × (broken_says (λ m. m.token) ≡ Some (codes "G0000000000005"))
+    × (broken_says (λ m. m.match_number) ≡ Some 8)
+    × (broken_says (λ m. m.reason) ≡ Some 69)
+broken_said = (refl, refl, refl, refl)
+
+abbrev rejected_says : {A : Type 0} → (Rejected → A) → Option A
+rejected_says {A} field = of_message (decoded rejected_bytes)
+  where
+    of_message : Result Outbound DecodeRefusal → Option A
+    of_message (Ok (market.Rejected m)) = Some (field m)
+    of_message other = None
+
+rejected_said :
+    (rejected_says (λ m. m.timestamp) ≡ Some 34_200_000_000_006)
+    × (rejected_says (λ m. m.token) ≡ Some (codes "G0000000000006"))
+    × (rejected_says (λ m. m.reason) ≡ Some 84)
+rejected_said = (refl, refl, refl)
+
+abbrev cancel_pending_says : {A : Type 0} → (CancelPending → A) → Option A
+cancel_pending_says {A} field = of_message (decoded cancel_pending_bytes)
+  where
+    of_message : Result Outbound DecodeRefusal → Option A
+    of_message (Ok (market.CancelPending m)) = Some (field m)
+    of_message other = None
+
+cancel_pending_said :
+    (cancel_pending_says (λ m. m.timestamp) ≡ Some 34_200_000_000_007)
+    × (cancel_pending_says (λ m. m.token) ≡ Some (codes "G0000000000007"))
+cancel_pending_said = (refl, refl)
+
+abbrev cancel_reject_says : {A : Type 0} → (CancelReject → A) → Option A
+cancel_reject_says {A} field = of_message (decoded cancel_reject_bytes)
+  where
+    of_message : Result Outbound DecodeRefusal → Option A
+    of_message (Ok (market.CancelReject m)) = Some (field m)
+    of_message other = None
+
+cancel_reject_said :
+    (cancel_reject_says (λ m. m.timestamp) ≡ Some 34_200_000_000_008)
+    × (cancel_reject_says (λ m. m.token) ≡ Some (codes "G0000000000008"))
+cancel_reject_said = (refl, refl)

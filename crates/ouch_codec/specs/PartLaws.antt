@@ -1,12 +1,12 @@
 -- For any layout: what the bytes of a row say at the offset of a field is the field's own value.
 use Rattle.std.proofs.Common.{◌≡◌, true, false, ℕ, ◌+◌, ◌*◌, ◌^◌, ◌<◌, zero, suc, List, [], ◌∷◌, ◌++◌, take, drop, reverse, replicate, fold, get_or, refl, sym, ap, ◌∙◌, arith}
 use Rattle.std.specs.Prelude.{◌==◌, slice_index}
-use Rattle.std.specs.Int.{w32, w64, to_be_bytes}
+use Rattle.std.specs.Int.{w32, to_be_bytes}
 use Rattle.std.specs.List.{list_all}
 use Rattle.std.proofs.lemmas.Bool.Decides.{nat_tests}
 use Rattle.std.proofs.lemmas.List.{take_at, drop_at, drop-drop, get_or-take, get_or-drop, reverse-append, reverse-reverse, replicate_more}
 use Rattle.std.proofs.lemmas.List.Folds.{list_all-append}
-use Rattle.std.proofs.lemmas.Nat.{from_be_bytes-to_be_bytes_4, from_be_bytes-to_be_bytes_8}
+use Rattle.std.proofs.lemmas.Nat.{from_be_bytes-to_be_bytes_4}
 use Rattle.wire_law.specs.Printable.{is_visible}
 use Rattle.ouch_codec.specs.declared.layout.Kind.{Kind}
 use Rattle.ouch_codec.specs.Layout.{width, field, Row, AreValues, spelled}
@@ -49,10 +49,6 @@ byte_at-one offset b message e =
 pub number_at-four : (offset n : ℕ) (message : List ℕ) → n < 2 ^ 32 → bytes_at offset 4 message ≡ to_be_bytes w32 n → number_at offset 4 message ≡ n
 number_at-four offset n message below e =
     ap (λ (bs : List ℕ). fold (λ n byte. 256 * n + byte) 0 bs) e ∙ omega (arith, from_be_bytes-to_be_bytes_4 n below)
-
-pub number_at-eight : (offset n : ℕ) (message : List ℕ) → n < 2 ^ 64 → bytes_at offset 8 message ≡ to_be_bytes w64 n → number_at offset 8 message ≡ n
-number_at-eight offset n message below e =
-    ap (λ (bs : List ℕ). fold (λ n byte. 256 * n + byte) 0 bs) e ∙ omega (arith, from_be_bytes-to_be_bytes_8 n below)
 
 -- a text is read without the spaces behind it
 pub text_at-unpadded : (offset count : ℕ) (message text : List ℕ) → bytes_at offset count message ≡ text → text_at offset count message ≡ unpadded text

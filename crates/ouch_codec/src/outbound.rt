@@ -10,9 +10,10 @@ mod rejected;
 mod replaced;
 mod system_event;
 
-ghost use Rattle.std.specs.Prelude.{◌≡◌, ℕ, List, Result, IfOk, IfErr, true};
+ghost use Rattle.std.specs.Prelude.{◌≡◌, ℕ, List, Result, IfOk, IfErr, MatchOption, true};
 ghost use Rattle.std.specs.List.{list_all};
 ghost use Rattle.ouch_codec.specs.Decoding.{Decodes, RefusesAs};
+ghost use Rattle.ouch_codec.specs.Tokens.{order_token};
 ghost use Rattle.ouch_codec.specs.Values.{decoded, is_byte};
 
 use crate::refusal::DecodeRefusal;
@@ -52,6 +53,25 @@ pub enum Outbound {
     CancelReject(CancelReject),
     /// A Priority Update, `T`, whatever its length: it says nothing that the gateway reports.
     Skipped,
+}
+
+impl Outbound {
+    /// The token that it is on, which a System Event and a Priority Update have not. Of a Replaced it is the previous one.
+    pub fn order_token(&self) -> Option<&[u8; 14]>
+        ensures { MatchOption result (order_token self.now ≡ None) (λ token. order_token self.now ≡ Some token.now) }
+    {
+        match self {
+            Outbound::Accepted(message) => Some(&message.token),
+            Outbound::Replaced(message) => Some(&message.previous_token),
+            Outbound::Canceled(message) => Some(&message.token),
+            Outbound::Executed(message) => Some(&message.token),
+            Outbound::Broken(message) => Some(&message.token),
+            Outbound::Rejected(message) => Some(&message.token),
+            Outbound::CancelPending(message) => Some(&message.token),
+            Outbound::CancelReject(message) => Some(&message.token),
+            Outbound::SystemEvent(_) | Outbound::Skipped => None,
+        }
+    }
 }
 
 /// The message that these bytes from the market are. Takes no memory.
