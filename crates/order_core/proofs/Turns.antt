@@ -1,6 +1,6 @@
 -- A call that meets the ledger's leads on, as a turn, and keeps what is outstanding.
-use Rattle.std.proofs.Common.{◌≡◌, ℕ, suc, ◌<◌, ◌^◌, ◌++◌, List, [], ◌∷◌, length, map, refl, sym, ap, ◌∙◌, subst, subst₂, arith, decimal, Option, None, Some, Result, Ok, Err, get_or}
-use Rattle.std.specs.Prelude.{OnErr, Bool, nat_lt, true}
+use Rattle.std.proofs.Common.{◌≡◌, ℕ, ◌<◌, ◌^◌, ◌++◌, List, [], ◌∷◌, length, map, refl, sym, ap, ◌∙◌, subst, subst₂, arith, decimal, Option, None, Some, Result, Ok, Err}
+use Rattle.std.specs.Prelude.{OnErr, Bool, option_and_then}
 use Rattle.fix_types.specs.declared.application.AppMsg.{AppMsg}
 use Rattle.fix_types.specs.Application.{body_fields, message_fields}
 use Rattle.ouch_codec.specs.declared.inbound.Inbound.{Inbound}
@@ -11,7 +11,7 @@ use Rattle.order_law.specs.Lawful.{order_token}
 use Rattle.ouch_codec.specs.declared.outbound.Outbound.{Outbound}
 use Rattle.ouch_codec.specs.declared.refusal.DecodeRefusal.{DecodeRefusal}
 use Rattle.order_law.specs.Verdicts.{Port, Down, Up, Ended, Faulted}
-use Rattle.order_histories.specs.Table.{State, empty}
+use Rattle.order_histories.specs.Table.{State, by_token, empty}
 use Rattle.order_histories.specs.Machine.{Given, client_step, faulty, market_step}
 use Rattle.order_histories.specs.Runs.{Finds, Leads, LeadsTo, Leaves}
 use Rattle.asked_messages.specs.Kept.{KeptMessage, kept_from, left_by}
@@ -24,7 +24,7 @@ use Rattle.order_ledger.specs.declared.market_error.MarketError.{MarketError}
 use Rattle.order_ledger.specs.declared.market_error.MarketError.TheVariants as errors
 use Rattle.order_ledger.specs.declared.turns.ChangedOrder.{ChangedOrder}
 use Rattle.order_ledger.specs.declared.turns.MarketTurn.{MarketTurn}
-use Rattle.order_ledger.specs.Meets.{ChangesAny, GivesMarket, GoByNumbers}
+use Rattle.order_ledger.specs.Meets.{ChangesAny, ChangesOrder, GivesMarket, GoByNumbers}
 use Rattle.order_ledger.specs.Seen.{client_seen}
 use Rattle.order_core.specs.declared.outcome.CoreOut.{CoreOut}
 use Rattle.order_core.specs.declared.outcome.MarketOut.{MarketOut}
@@ -176,11 +176,11 @@ pub kept-as : (a b : List KeptMessage) (p q : ℕ) (order : List ℕ) (xs ys : L
 kept-as a b p q order xs ys same_kept same_port same = rw (same_kept, same_port, same) refl
 
 pub handled-as : (old new : CoreState) (port : ℕ) (heard : Result Outbound DecodeRefusal) (turn : MarketTurn) (out : MarketOut) (table : State) (kept : List KeptMessage)
-    → GivesMarket (market_step old.table port m) turn table → ChangesAny old.table port heard turn.changed → out.client ≡ turn.client → out.bodies.items ≡ turn.bodies.items
+    → GivesMarket (market_step old.table port heard) turn table → ChangesAny old.table port heard turn.changed → out.client ≡ turn.client → out.bodies.items ≡ turn.bodies.items
     → new ≡ record { table = table; kept = kept } → kept ≡ left_after port heard turn.changed old.kept → MeetsHandled old port heard out new
 handled-as old new port heard turn out table kept gives changes client bodies is leaves = record {
   turn = turn;
-  gives = subst (λ (c : CoreState). GivesMarket (market_step old.table port m) turn c.table) (sym is) gives;
+  gives = subst (λ (c : CoreState). GivesMarket (market_step old.table port heard) turn c.table) (sym is) gives;
   changes = changes;
   client = client;
   bodies = bodies;

@@ -1,6 +1,6 @@
 //! The value, and the calls that step it.
 
-ghost use Rattle.std.specs.Prelude.{◌≡◌, length, map, IfOk, OnErr, ◌<◌, ◌^◌, ◌∷◌, [], List};
+ghost use Rattle.std.specs.Prelude.{◌≡◌, length, map, IfOk, MatchOption, OnErr, ◌<◌, ◌^◌, ◌∷◌, [], List};
 ghost use Rattle.ouch_codec.specs.Values.{decoded};
 ghost use Rattle.order_law.specs.Lawful.{token_of_heard};
 ghost use Rattle.ouch_codec.specs.Inbound.{inbound_bytes};
@@ -140,8 +140,11 @@ impl OrderCore {
             → result ≡ option_map (λ (new : Entry). new.client) (option_and_then (order_of_token terms port (accepted terms before)) (token_of_heard (decoded payload.now))) }
     {
         tokens_lead_to_accepted_orders();
-        let message = decode(payload).ok()?;
-        self.ledger.client_of_token(port, message.order_token()?)
+        let heard = decode(payload);
+        match token_of(&heard) {
+            Some(token) => self.ledger.client_of_token(port, token),
+            None => None,
+        }
     }
 
     /// The step of a client's message: on the ledger, and then what it asks is kept.
@@ -213,5 +216,17 @@ fn drop_answered(
         && let Ok(message) = heard
     {
         asked.answer(port, message, changed.order_id, changed.is_closed);
+    }
+}
+
+/// The token that a payload's message is on, where it has one.
+///
+/// Source: OUCH 4.2, "Outbound Messages" (Order Token, Previous Order Token).
+fn token_of(heard: &Result<Outbound, DecodeRefusal>) -> Option<&[u8; 14]>
+    ensures { MatchOption result (token_of_heard heard.now ≡ None) (λ token. token_of_heard heard.now ≡ Some token.now) }
+{
+    match heard {
+        Ok(message) => message.order_token(),
+        Err(_) => None,
     }
 }

@@ -1,13 +1,19 @@
-use Rattle.std.proofs.Common.{◌≡◌, ℕ, List, Option, Some, None, Result, refl, ap, sym, subst, ◌∙◌}
+use Rattle.std.proofs.Common.{◌≡◌, ℕ, List, Option, Some, None, ap, sym, subst, ◌∙◌}
 use Rattle.std.specs.Prelude.{option_and_then, option_map}
-use Rattle.ouch_codec.specs.declared.outbound.Outbound.{Outbound}
-use Rattle.ouch_codec.specs.declared.refusal.DecodeRefusal.{DecodeRefusal}
-use Rattle.order_law.specs.Lawful.{token_of_heard}
-use Rattle.order_histories.specs.OrderRecord.{OrderRecord}
-use Rattle.order_histories.specs.Table.{by_token}
+use Rattle.order_law.specs.History.{Entry, accepted}
+use Rattle.order_law.specs.Lawful.{order_of_token, token_of_heard}
 use Rattle.order_core.specs.State.{IsAfter}
 use Rattle.order_core.proofs.Addressed.{client-by-heard}
 use Rattle.order_core.proofs.order_core.OrderCore.client_of.Goals as goal
 
-pub returns : goal.returns
-returns c terms before short is = ?
+pub returns-in-Some : goal.returns-in-Some
+returns-in-Some c terms before short is =
+    c.client_of_token.ensures
+    ∙ client-by-heard c.tokens_lead_to_accepted_orders.ensures terms before _ c.args.port (Some c.in-Some.token.now) short (subst (IsAfter terms before) (sym c.self.view_is) is)
+    ∙ ap (λ (x : Option (List ℕ)). option_map (λ (new : Entry). new.client) (option_and_then (order_of_token terms c.args.port (accepted terms before)) x))
+    (sym (ap token_of_heard (sym c.decode-heard.ensures) ∙ c.in-Some.ensures))
+
+pub returns-in-None : goal.returns-in-None
+returns-in-None c terms before short is =
+    ap (λ (x : Option (List ℕ)). option_map (λ (new : Entry). new.client) (option_and_then (order_of_token terms c.args.port (accepted terms before)) x))
+    (sym (ap token_of_heard (sym c.decode-heard.ensures) ∙ c.in-None.ensures))
