@@ -3,6 +3,7 @@
 use fix_fields::{Fields, split};
 use order_accounts::{ReadingFault, life_of, reading_of};
 use order_law::Account;
+use ouch_codec::{Outbound, decode};
 use std::alloc::Global;
 use std::test::Fail;
 
@@ -25,12 +26,17 @@ const BREAK: &[u8] = b"B\0\0\0\0\0\0\0\0G0000000000001\0\0\0\0\0\0\0\x07E";
 /// 200 are cancelled, by the user.
 const CANCELED: &[u8] = b"C\0\0\0\0\0\0\0\0G0000000000001\0\0\0\xc8U";
 
+/// What bytes of the market are decoded as.
+fn heard(message: &[u8]) -> Result<Outbound, Fail> {
+    Ok(decode(message).map_err(|_| "these are a message")?)
+}
+
 #[test]
 fn an_order_that_is_traded_broken_and_cancelled(rt: HostRuntime) -> Result<(), Fail> {
     let alloc = rt.alloc();
     let mut messages = Vec::new(alloc);
     for message in [ACCEPTED, TRADE, OTHER_TRADE] {
-        messages.push(Vec::from_slice(alloc, message)?)?;
+        messages.push(heard(message)?)?;
     }
     let traded = life_of(alloc, TOKEN, b'1', messages.as_slice())?;
     let account = Account {
@@ -43,7 +49,7 @@ fn an_order_that_is_traded_broken_and_cancelled(rt: HostRuntime) -> Result<(), F
     };
     assert_eq!(rt; traded.account(), account);
     for message in [BREAK, BREAK, CANCELED] {
-        messages.push(Vec::from_slice(alloc, message)?)?;
+        messages.push(heard(message)?)?;
     }
     let closed = life_of(alloc, TOKEN, b'1', messages.as_slice())?;
     let account = Account {

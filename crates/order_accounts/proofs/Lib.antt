@@ -1,4 +1,3 @@
-mod Bytes
 mod Held
 mod Lists
 mod Numbers

@@ -8,7 +8,6 @@
 
 mod life;
 mod message;
-mod part;
 mod reading;
 mod reading_fault;
 

@@ -4,11 +4,12 @@
 
 ghost use Rattle.std.specs.Prelude.{◌≡◌, ◌≤◌, ◌<◌, ◌+◌, ◌^◌, ◌*◌, IfOk, OnOk, map, reverse, bytes_eq};
 ghost use Rattle.std.specs.List.{find, list_any};
+ghost use Rattle.ouch_codec.specs.declared.outbound.Outbound.TheVariants as market;
 ghost use Rattle.order_law.specs.Life as spec;
 ghost use Rattle.order_accounts.specs.Growth.{Grows};
 
-use crate::part::{byte_at, bytes_at, number_at, number32_at, type_of};
 use order_law::{Account, Stage, Trade};
+use ouch_codec::{Accepted, Broken, Canceled, Executed, OrderState, Outbound, Rejected, Replaced};
 use std::alloc::{AllocError, Global};
 use std::marker::Model;
 
@@ -80,94 +81,90 @@ impl Life {
     }
 
     /// What a message makes of the order.
-    fn hear(&mut self, alloc: Global, message: &[u8]) -> Result<(), AllocError>
+    fn hear(&mut self, alloc: Global, message: &Outbound) -> Result<(), AllocError>
         requires executed { self.old.executed < 2 ^ 100 }
         requires cancelled { self.old.cancelled < 2 ^ 100 }
         requires value { self.old.value ≤ 2 ^ 127 }
         ensures life { OnOk result (self.new ≡ spec.after self.old message.now) }
         ensures grows { OnOk result (Grows self.old self.new) }
     {
-        match type_of(message) {
-            b'A' => self.hear_accepted(message),
-            b'U' => self.hear_replaced(alloc, message)?,
-            b'E' => self.hear_executed(message)?,
-            b'C' => self.hear_canceled(message),
-            b'B' => self.hear_broken(message),
-            b'J' => self.hear_rejected(message),
+        match message {
+            Outbound::Accepted(message) => self.hear_accepted(message),
+            Outbound::Replaced(message) => self.hear_replaced(alloc, message)?,
+            Outbound::Executed(message) => self.hear_executed(message)?,
+            Outbound::Canceled(message) => self.hear_canceled(message),
+            Outbound::Broken(message) => self.hear_broken(message),
+            Outbound::Rejected(message) => self.hear_rejected(message),
             _ => {}
         }
         Ok(())
     }
 
     /// An Accepted of an order that waits.
-    fn hear_accepted(&mut self, message: &[u8])
+    fn hear_accepted(&mut self, message: &Accepted)
         requires { self.old.cancelled < 2 ^ 100 }
-        ensures life { self.new ≡ spec.after_accepted self.old message.now }
+        ensures life { self.new ≡ spec.after self.old (market.Accepted message.now) }
         ensures grows { Grows self.old self.new }
     {
-        if self.is_live(bytes_at(message, 9, 14)) && self.stage == Stage::Waiting {
-            self.enter(number32_at(message, 24), is_dead(message));
+        if self.is_live(&message.token) && self.stage == Stage::Waiting {
+            self.enter(message.shares, is_dead(message.order_state));
         }
     }
 
     /// A Canceled of the live token.
-    fn hear_canceled(&mut self, message: &[u8])
+    fn hear_canceled(&mut self, message: &Canceled)
         requires { self.old.cancelled < 2 ^ 100 }
-        ensures life { self.new ≡ spec.after_canceled self.old message.now }
+        ensures life { self.new ≡ spec.after self.old (market.Canceled message.now) }
         ensures grows { Grows self.old self.new }
     {
-        if self.is_live(bytes_at(message, 9, 14)) {
-            self.decrease(number32_at(message, 23));
+        if self.is_live(&message.token) {
+            self.decrease(message.decrement);
         }
     }
 
     /// A Broken Trade of a token of the chain.
-    fn hear_broken(&mut self, message: &[u8])
-        ensures life { self.new ≡ spec.after_broken self.old message.now }
+    fn hear_broken(&mut self, message: &Broken)
+        ensures life { self.new ≡ spec.after self.old (market.Broken message.now) }
         ensures grows { Grows self.old self.new }
     {
-        if self.is_of(bytes_at(message, 9, 14)) {
-            self.take_back(number_at(message, 23, 8));
+        if self.is_of(&message.token) {
+            self.take_back(message.match_number);
         }
     }
 
     /// A Rejected of an order that waits.
-    fn hear_rejected(&mut self, message: &[u8])
-        ensures life { self.new ≡ spec.after_rejected self.old message.now }
+    fn hear_rejected(&mut self, message: &Rejected)
+        ensures life { self.new ≡ spec.after self.old (market.Rejected message.now) }
         ensures grows { Grows self.old self.new }
     {
-        if self.is_live(bytes_at(message, 9, 14)) && self.stage == Stage::Waiting {
+        if self.is_live(&message.token) && self.stage == Stage::Waiting {
             self.stage = Stage::Closed;
         }
     }
 
     /// An Executed Order of the live token.
-    fn hear_executed(&mut self, message: &[u8]) -> Result<(), AllocError>
+    fn hear_executed(&mut self, message: &Executed) -> Result<(), AllocError>
         requires executed { self.old.executed < 2 ^ 100 }
         requires value { self.old.value ≤ 2 ^ 127 }
-        ensures life { OnOk result (self.new ≡ spec.after_executed self.old message.now) }
+        ensures life { OnOk result (self.new ≡ spec.after self.old (market.Executed message.now)) }
         ensures grows { OnOk result (Grows self.old self.new) }
     {
-        if self.is_live(bytes_at(message, 9, 14)) {
-            self.trade(
-                number_at(message, 32, 8),
-                number32_at(message, 23),
-                number32_at(message, 27),
-            )?;
+        if self.is_live(&message.token) {
+            self.trade(message.match_number, message.shares, message.price)?;
         }
         Ok(())
     }
 
     /// A Replaced of the live token.
-    fn hear_replaced(&mut self, alloc: Global, message: &[u8]) -> Result<(), AllocError>
+    fn hear_replaced(&mut self, alloc: Global, message: &Replaced) -> Result<(), AllocError>
         requires { self.old.cancelled < 2 ^ 100 }
-        ensures life { OnOk result (self.new ≡ spec.after_replaced self.old message.now) }
+        ensures life { OnOk result (self.new ≡ spec.after self.old (market.Replaced message.now)) }
         ensures grows { OnOk result (Grows self.old self.new) }
     {
-        if self.is_live(bytes_at(message, 65, 14)) {
-            let token = Vec::from_slice(alloc, bytes_at(message, 9, 14))?;
+        if self.is_live(&message.previous_token) {
+            let token = Vec::from_slice(alloc, &message.token)?;
             self.tokens.insert(0, token)?;
-            self.enter(number32_at(message, 24), is_dead(message));
+            self.enter(message.shares, is_dead(message.order_state));
         }
         Ok(())
     }
@@ -280,22 +277,25 @@ pub fn life_of(
     alloc: Global,
     root: &[u8],
     side: u8,
-    messages: &[Vec<u8>],
+    messages: &[Outbound],
 ) -> Result<Life, AllocError>
-    ensures { IfOk result (λ life. life ≡ spec.life root.now side (reverse (map (λ m. m.items) messages.now))) }
+    ensures { IfOk result (λ life. life ≡ spec.life root.now side (reverse messages.now)) }
 {
     let mut life = Life::born(alloc, root, side)?;
     for message in messages {
-        life.hear(alloc, message.as_slice())?;
+        life.hear(alloc, message)?;
     }
     Ok(life)
 }
 
-/// The order state is dead.
-fn is_dead(message: &[u8]) -> bool
-    ensures { result ≡ spec.is_dead_state message.now }
+/// Whether the order was cancelled as it was answered.
+fn is_dead(state: OrderState) -> bool
+    ensures { result ≡ spec.is_dead state }
 {
-    byte_at(message, 64) == b'D'
+    match state {
+        OrderState::Live => false,
+        OrderState::Dead => true,
+    }
 }
 
 /// The token is one of these.
