@@ -1,6 +1,9 @@
 -- The order level's turn of a payload.
-use Rattle.std.proofs.Common.{◌≡◌, ◌+◌, ◌<◌, ℕ, Bool, true, false, List, [], ◌∷◌, length, Option, Some, None, refl, sym, ap, ◌∙◌, subst, arith}
+use Rattle.std.proofs.Common.{◌≡◌, ◌+◌, ◌<◌, ℕ, Bool, true, false, List, [], ◌∷◌, length, Option, Some, None, Result, refl, sym, ap, ◌∙◌, subst, arith}
 use Rattle.std.specs.Prelude.{◌&&◌, nat_le, is_some, IfSome}
+use Rattle.ouch_codec.specs.declared.outbound.Outbound.{Outbound}
+use Rattle.ouch_codec.specs.declared.refusal.DecodeRefusal.{DecodeRefusal}
+use Rattle.ouch_codec.specs.Values.{decoded}
 use Rattle.order_law.specs.Headline.{Headline, said_in}
 use Rattle.order_law.specs.History as orders
 use Rattle.order_law.specs.History.{Heard, Turn}
@@ -16,10 +19,10 @@ use Rattle.gate_core.specs.Steps.{IsTold, heard_turn}
 
 -- the laws of core_law on whom a payload is told to, as they are cited
 abbrev pub ToldNone : Type 0
-ToldNone = (ts : List orders.Terms) (before : orders.History) (p : ℕ) (m : List ℕ) (t : Turn) → told ts (Heard p m) before ≡ said_in t → t.bodies ≡ [] → t.client ≡ 0
+ToldNone = (ts : List orders.Terms) (before : orders.History) (p : ℕ) (m : Result Outbound DecodeRefusal) (t : Turn) → told ts (Heard p m) before ≡ said_in t → t.bodies ≡ [] → t.client ≡ 0
 
 abbrev pub ToldSome : Type 0
-ToldSome = (ts : List orders.Terms) (is_ours : ℕ → Bool) (before : orders.History) (p : ℕ) (m : List ℕ) (t : Turn)
+ToldSome = (ts : List orders.Terms) (is_ours : ℕ → Bool) (before : orders.History) (p : ℕ) (m : Result Outbound DecodeRefusal) (t : Turn)
     → AreFrom (λ (client : ℕ). is_ours client ≡ true) before → told ts (Heard p m) before ≡ said_in t → (t.bodies ≡ [] → ⊥) → is_ours t.client ≡ true
 
 -- a turn of which it is known how it came about
@@ -32,10 +35,10 @@ module _ (s : Settings) (p n : ℕ) (payload : List ℕ) (bodies : List Message)
   t = heard_turn p payload n bodies None
 
   no-client : bodies ≡ [] → n ≡ 0
-  no-client is = none (terms s) v.turns p payload t headline.0.tells is
+  no-client is = none (terms s) v.turns p (decoded payload) t headline.0.tells is
 
   has-client : (bodies ≡ [] → ⊥) → has_client s n ≡ true
-  has-client is = some (terms s) (has_client s) v.turns p payload t parts.known headline.0.tells is
+  has-client is = some (terms s) (has_client s) v.turns p (decoded payload) t parts.known headline.0.tells is
 
   -- where nobody has the number there are no bodies
   none-told : (nat_le 1 n && nat_le n (length g.clients.items)) ≡ false → bodies ≡ []

@@ -2,6 +2,7 @@
 use Rattle.std.specs.Prelude.{◌≡◌, ℕ, ◌+◌, ◌≤◌, ◌<◌, ◌^◌, ◌&&◌, true, false, List, [], ◌∷◌, length, map, Option, Some, None}
 use Rattle.fix_types.specs.declared.application.AppMsg.{AppMsg}
 use Rattle.ouch_codec.specs.Inbound.{inbound_bytes}
+use Rattle.ouch_codec.specs.Values.{decoded}
 use Rattle.session_law.specs.Frames.{told_of}
 use Rattle.session_frames.specs.declared.output.SessionOut.{SessionOut}
 use Rattle.session_frames.specs.Written.{told}
@@ -121,7 +122,7 @@ pub record IsHeard (s : Settings) (n link at : ℕ) (frame : Message) (app : Opt
 
 -- the order level's turn of it
 abbrev pub heard_turn : ℕ → List ℕ → ℕ → List Message → Option ℕ → orders.Turn
-heard_turn p payload client bodies fault = record { event = orders.Heard p payload; client = client; bodies = bodies; sends = []; fault = fault }
+heard_turn p payload client bodies fault = record { event = orders.Heard p (decoded payload); client = client; bodies = bodies; sends = []; fault = fault }
 
 -- a client's number by its place, 0 for none
 abbrev pub number_at : Option ℕ → ℕ

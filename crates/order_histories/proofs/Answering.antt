@@ -91,7 +91,7 @@ module _ (terms : List Terms) (before : History) (s : State) (t : IsTable terms 
 -- ---- a message on an order
 
 module _ (terms : List Terms) (before : History) (s : State) (t : IsTable terms before s) (short : length before < 2 ^ 59) (port : ℕ) (m : Outbound) (token : List ℕ) (sends : List (List ℕ))
-  (has : order_token m ≡ Some token) (is_judged : judgement terms port (Ok m) before ≡ None) where
+    (has : order_token m ≡ Some token) (is_judged : judgement terms port (Ok m) before ≡ None) where
   abbrev E : List Entry
   E = accepted terms before
 

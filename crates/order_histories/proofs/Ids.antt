@@ -92,7 +92,7 @@ module _ (P : List ℕ → Type 0) where
   told-ids reports (market.Canceled m) l is_last fills s of = if-ids (is_closed (after l (market.Canceled m)).stage) _ _ (cancelled-ids (reports + 1) (Some (m.reason ∷ [])) (told.lived (after l (market.Canceled m)) s) of) (of.0, tt)
   told-ids reports (market.Executed m) l is_last fills s of = (of.0, if-ids (is_closed (after l (market.Executed m)).stage) _ _ (too_late-ids (told.lived (after l (market.Executed m)) s) s.pending of.1) tt)
   told-ids reports (market.Broken m) l is_last fills s of = (of.0, tt)
-  told-ids reports (market.Rejected m) l is_last fills s of = 
+  told-ids reports (market.Rejected m) l is_last fills s of =
       if-ids (is_waiting l.stage && is_live l m.token) _ _ (of.0, too_late-ids (record (told.closed s) { is_refused = true }) s.pending of.1)
       (append-ids _ _ (rejects-ids (told.without_replace m.token s) 2 (m.reason ∷ []) (filter (told.has_token m.token) s.pending) (Each-filter OfRequest (told.has_token m.token) s.pending of.1))
       (cancel_rejected-ids is_last (told.without_replace m.token s) (of.0, Each-filter OfRequest (λ (x : Entry). Rattle.std.specs.Prelude.not (told.has_token m.token x)) s.pending of.1)))
@@ -174,7 +174,7 @@ told-few reports (market.Replaced m) l is_last fills s = few-replaced reports m 
 told-few reports (market.Canceled m) l is_last fills s = few-if 2 (is_closed (after l (market.Canceled m)).stage) _ _ (few-cancelled 1 (reports + 1) (Some (m.reason ∷ [])) (told.lived (after l (market.Canceled m)) s)) (few-report (reports + 1) 1 (record (told.plain (codes "D")) { restated = Some (codes "5"); why = Some (m.reason ∷ []) }) (told.lived (after l (market.Canceled m)) s) [] (few-none 1))
 told-few reports (market.Executed m) l is_last fills s = few-report (reports + 1) 1 (record (told.plain (codes "F")) { shares = Some m.shares; at = Some m.price }) (told.lived (after l (market.Executed m)) s) (if is_closed (after l (market.Executed m)).stage then told.too_late (told.lived (after l (market.Executed m)) s) else []) (few-if 1 (is_closed (after l (market.Executed m)).stage) (told.too_late (told.lived (after l (market.Executed m)) s)) [] (few-too_late 1 (told.lived (after l (market.Executed m)) s) s.pending) (few-none 1))
 told-few reports (market.Broken m) l is_last fills s = few-report (reports + 1) 1 (record (told.plain (codes "H")) { broken = told.exec_id_of m.match_number l.trades fills; why = Some (m.reason ∷ []) }) (told.lived (after l (market.Broken m)) s) [] (few-none 1)
-told-few reports (market.Rejected m) l is_last fills s = 
+told-few reports (market.Rejected m) l is_last fills s =
     few-if 2 (is_waiting l.stage && is_live l m.token) _ _
     (few-report (reports + 1) 1 (record (told.plain (codes "8")) { code = Some (codes "99"); why = Some (m.reason ∷ []) }) (record (told.closed s) { is_refused = true }) (told.too_late (record (told.closed s) { is_refused = true })) (few-too_late 1 (record (told.closed s) { is_refused = true }) s.pending))
     (few-rejects 2 (told.without_replace m.token s) 2 (m.reason ∷ []) (filter (told.has_token m.token) s.pending) (told.cancel_rejected is_last (told.without_replace m.token s)) (few-cancel_rejected 2 is_last (told.without_replace m.token s)))

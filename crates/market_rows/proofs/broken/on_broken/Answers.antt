@@ -20,6 +20,6 @@ returns c =
     record {
       lawful = broken-is-lawful m o (told_seen c.in-Some.told) may;
       told = c.in_ok-tell_broken.ensures.told;
-      now = broken-now c.args.issued m o c.in-Some.told  c.trade_of.ensures.steady may;
+      now = broken-now c.args.issued m o c.in-Some.told c.trade_of.ensures.steady may;
       fits = λ e. (let x : is_waiting Waiting ≡ false = ap is_waiting (sym e) ∙ may.accepted in cc);
     }

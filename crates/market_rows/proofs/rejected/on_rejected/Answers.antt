@@ -10,10 +10,10 @@ returns-then-may_refuse c =
     let o = c.args.order.now in
     let may : may_refuse_as m o ≡ true = sym c.if-may_refuse.ensures in
     record {
-      lawful = rejected-lawful m o  ∙ ap (λ (x : Bool). x || may_reject_replace_as m o) may;
+      lawful = rejected-lawful m o ∙ ap (λ (x : Bool). x || may_reject_replace_as m o) may;
       told = c.in_ok-tell_refused.ensures.told;
-      now = refused-now c.args.issued m o  may;
-      fits = refuse-waits c.args.issued m o  may;
+      now = refused-now c.args.issued m o may;
+      fits = refuse-waits c.args.issued m o may;
     }
 
 pub returns-then-may_reject_replace : goal.returns-then-may_reject_replace
@@ -23,9 +23,9 @@ returns-then-may_reject_replace c =
     let not_new : may_refuse_as m o ≡ false = sym c.if-may_refuse.ensures in
     let may : may_reject_replace_as m o ≡ true = sym c.if-may_reject_replace.ensures in
     record {
-      lawful = rejected-lawful m o  ∙ ap (λ (x : Bool). x || may_reject_replace_as m o) not_new ∙ may;
+      lawful = rejected-lawful m o ∙ ap (λ (x : Bool). x || may_reject_replace_as m o) not_new ∙ may;
       told = c.in_ok-tell_not_replaced.ensures.told c.args.issued;
-      now = not_replaced-now c.args.issued m o  not_new;
+      now = not_replaced-now c.args.issued m o not_new;
       fits = tt;
     }
 
@@ -35,4 +35,4 @@ returns c =
     let o = c.args.order.now in
     let not_new : may_refuse_as m o ≡ false = sym c.if-may_refuse.ensures in
     let not_so : may_reject_replace_as m o ≡ false = sym c.if-may_reject_replace.ensures in
-    rejected-lawful m o  ∙ ap (λ (x : Bool). x || may_reject_replace_as m o) not_new ∙ not_so
+    rejected-lawful m o ∙ ap (λ (x : Bool). x || may_reject_replace_as m o) not_new ∙ not_so

@@ -30,4 +30,4 @@ returns-clause-told c = λ issued.
     (c.in_ok-push_reject.ensures.told o.replace rest is.replace_is shows)
     (c.in_ok-push_cancel_rejected.ensures.told None cancel rest shows (record { in_order = refl; replace_is = tt; cancel_is = is.cancel_is; is_replace_set = tt; is_cancel_set = is.is_cancel_set })))
     (ap (λ (x : Bool). rejects_of rest o.replace 2 (m.reason ∷ []) ++ law.cancel_rejected x rest) c.is_last-is_last.ensures
-    ∙ not_replaced-is issued m o  c.requires.not_new awaits is.is_replace_set is.is_cancel_set is.in_order rest (ap (λ (x : OrderRecord). record (shown_as x) { pending = option_to_list cancel }) c.progress_after-progress.ensures.after))
+    ∙ not_replaced-is issued m o c.requires.not_new awaits is.is_replace_set is.is_cancel_set is.in_order rest (ap (λ (x : OrderRecord). record (shown_as x) { pending = option_to_list cancel }) c.progress_after-progress.ensures.after))

@@ -21,4 +21,4 @@ returns-clause-told c =
     ∙ ap (λ (x : OrderRecord). law.report (c.args.issued + 1) (occasion_seen (occasions.Rejected m.reason)) (shown_as x)) c.progress_after-refused.ensures.after))
     (c.in_ok-push_too_late.ensures.told o.replace (cancel_in o.cancel) (shown_as (progressed p o)) c.shown_of-shown.ensures (c.pending_of.ensures p))
     (ap (λ (x : OrderRecord). law.too_late (shown_as x)) c.progress_after-refused.ensures.after)
-    ∙ sym (refused-told c.args.issued m o  c.requires.may)
+    ∙ sym (refused-told c.args.issued m o c.requires.may)

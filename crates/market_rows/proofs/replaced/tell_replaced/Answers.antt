@@ -48,7 +48,7 @@ returns-then-is_dead-clause-told c =
     more-told c.push_report.new.bodies.items c.push_canceled.new.bodies.items _ _ _ first
     (c.in_ok-push_canceled.ensures.told None cancel t closed (record { in_order = refl; replace_is = tt; cancel_is = is.cancel_is; is_replace_set = tt; is_cancel_set = is.is_cancel_set }))
     (ap (λ (x : OrderRecord). law.cancelled (c.args.issued + 2) None (record (shown_as x) { id = text 11 q.message; pending = option_to_list cancel })) gone)
-    ∙ sym (replaced-dead c.args.issued m o q  some own (replace-live m o c.requires.may) is_g is.is_cancel_set is.in_order (sym c.if-is_dead.ensures))
+    ∙ sym (replaced-dead c.args.issued m o q some own (replace-live m o c.requires.may) is_g is.is_cancel_set is.in_order (sym c.if-is_dead.ensures))
 
 pub returns-clause-told : goal.returns-clause-told
 returns-clause-told c =
@@ -72,4 +72,4 @@ returns-clause-told c =
     (c.in_ok-push_cancel_rejected.ensures.told None cancel s shows (record { in_order = refl; replace_is = tt; cancel_is = is.cancel_is; is_replace_set = tt; is_cancel_set = is.is_cancel_set }))
     (ap (λ (x : Bool). law.cancel_rejected x s) c.is_last-is_last.ensures
     ∙ ap (λ (x : OrderRecord). law.cancel_rejected (is_last_of m.previous_token o.cancel) (record (shown_as x) { id = text 11 q.message; pending = option_to_list cancel })) opened)
-    ∙ sym (replaced-live c.args.issued m o q  some own (replace-live m o c.requires.may) is_g is.is_cancel_set is.in_order (sym c.if-is_dead.ensures))
+    ∙ sym (replaced-live c.args.issued m o q some own (replace-live m o c.requires.may) is_g is.is_cancel_set is.in_order (sym c.if-is_dead.ensures))
