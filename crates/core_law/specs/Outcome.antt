@@ -9,6 +9,7 @@ use Rattle.std.specs.List.{flat_map}
 use Rattle.fix_types.specs.declared.application.AppMsg.{AppMsg}
 use Rattle.soup_packets.specs.declared.packet.Packet.{Packet}
 use Rattle.fix_types.specs.Application.{message_fields}
+use Rattle.ouch_codec.specs.Values.{decoded}
 use Rattle.soup_session.specs.Table as calls
 use Rattle.session_law.specs.Runs.{Timed, Linked, Came, Ticked}
 use Rattle.order_law.specs.Messages.{Message, body_of}
@@ -129,7 +130,7 @@ by_fault p at packet b (Some n) = record (of_port p Stays (calls.Hears packet at
 abbrev pub told : ℕ → ℕ → Packet → Batch → List ℕ → Outcome
 told p at packet b payload = record (by_fault p at packet b b.fault) {
   turn = Some (record {
-    event = Heard p payload;
+    event = Heard p (decoded payload);
     client = addressee b;
     bodies = bodies b;
     sends = [];
