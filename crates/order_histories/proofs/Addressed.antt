@@ -1,6 +1,6 @@
--- Each body that a message of the market leads to is on its order, and enters none.
+-- Each body that a message of the market leads to is on its order, enters none and gives no token.
 use Rattle.std.proofs.Common.{◌≡◌, ℕ, ◌+◌, Bool, true, false, List, [], ◌∷◌, ◌++◌, map, reverse, refl, ap, ◌∙◌, codes, bytes_eq, Option, Some, None}
-use Rattle.std.specs.Prelude.{◌&&◌, ◌==◌, not, if◌then◌else◌, filter}
+use Rattle.std.specs.Prelude.{◌&&◌, ◌||◌, ◌==◌, not, if◌then◌else◌, filter, unwrap_or}
 use Rattle.std.specs.List.{find}
 use Rattle.std.proofs.Common.{append_assoc}
 use Rattle.std.proofs.lemmas.List.{reverse-append}
@@ -24,18 +24,28 @@ use Rattle.order_histories.proofs.Leads.{onto}
 abbrev enters : Message → Bool
 enters r = is_report r && is 150 (codes "A") r
 
+-- it tells that a new order or a replace was accepted
+abbrev gives : Message → Bool
+gives r = is_report r && (is 150 (codes "A") r || is 150 (codes "E") r)
+
 pub record IsOn (order : List ℕ) (r : Message) : Type 0 where
   pub order_is : text 37 r ≡ order
   pub enters_none : enters r ≡ false
+  pub gives_none : gives r ≡ false
 
-report-on : (n : ℕ) (o : Occasion) (s : Shown) → bytes_eq o.exec_type (codes "A") ≡ false → IsOn s.order (report n o s)
+neither : (a b : Bool) → (a || b) ≡ false → a ≡ false
+neither true b none = none
+neither false b none = refl
+
+report-on : (n : ℕ) (o : Occasion) (s : Shown) → (bytes_eq o.exec_type (codes "A") || bytes_eq o.exec_type (codes "E")) ≡ false → IsOn s.order (report n o s)
 report-on n o s other = record {
   order_is = refl;
-  enters_none = ap (λ (x : Option (List ℕ)). bytes_eq (Rattle.std.specs.Prelude.unwrap_or x []) (codes "A")) (kind-in n o s) ∙ other;
+  enters_none = ap (λ (x : Option (List ℕ)). bytes_eq (unwrap_or x []) (codes "A")) (kind-in n o s) ∙ neither (bytes_eq o.exec_type (codes "A")) (bytes_eq o.exec_type (codes "E")) other;
+  gives_none = ap (λ (x : Option (List ℕ)). bytes_eq (unwrap_or x []) (codes "A") || bytes_eq (unwrap_or x []) (codes "E")) (kind-in n o s) ∙ other;
 }
 
 reject-on : (s : Shown) (q : Entry) (code : ℕ) (why : List ℕ) → IsOn s.order (told.answered_no s q code why)
-reject-on s q code why = record { order_is = refl; enters_none = refl }
+reject-on s q code why = record { order_is = refl; enters_none = refl; gives_none = refl }
 
 too_late-on : (s : Shown) (qs : List Entry) → Each (IsOn s.order) (told.each_too_late s qs)
 too_late-on s [] = tt
@@ -76,7 +86,7 @@ told-on reports (market.Replaced m) l is_last fills s = replaced-on reports m is
 told-on reports (market.Canceled m) l is_last fills s = if-on s.order (is_closed (after l (market.Canceled m)).stage) _ _ (cancelled-on (reports + 1) (Some (m.reason ∷ [])) (told.lived (after l (market.Canceled m)) s)) (report-on (reports + 1) (record (told.plain (codes "D")) { restated = Some (codes "5"); why = Some (m.reason ∷ []) }) (told.lived (after l (market.Canceled m)) s) refl, tt)
 told-on reports (market.Executed m) l is_last fills s = (report-on (reports + 1) (record (told.plain (codes "F")) { shares = Some m.shares; at = Some m.price }) (told.lived (after l (market.Executed m)) s) refl, if-on s.order (is_closed (after l (market.Executed m)).stage) _ _ (too_late-on (told.lived (after l (market.Executed m)) s) s.pending) tt)
 told-on reports (market.Broken m) l is_last fills s = (report-on (reports + 1) (record (told.plain (codes "H")) { broken = told.exec_id_of m.match_number l.trades fills; why = Some (m.reason ∷ []) }) (told.lived (after l (market.Broken m)) s) refl, tt)
-told-on reports (market.Rejected m) l is_last fills s = 
+told-on reports (market.Rejected m) l is_last fills s =
     if-on s.order (is_waiting l.stage && is_live l m.token) _ _
     (report-on (reports + 1) (record (told.plain (codes "8")) { code = Some (codes "99"); why = Some (m.reason ∷ []) }) (record (told.closed s) { is_refused = true }) refl, too_late-on (record (told.closed s) { is_refused = true }) s.pending)
     (append-on s.order _ _ (rejects-on (told.without_replace m.token s) 2 (m.reason ∷ []) (filter (told.has_token m.token) s.pending)) (cancel_rejected-on is_last (told.without_replace m.token s)))

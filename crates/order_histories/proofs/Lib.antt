@@ -16,7 +16,7 @@ mod Rejected
 mod Replaced
 mod Judged
 mod Row
-mod Addressed
+pub mod Addressed
 pub mod Fits
 mod Untouched
 mod Agreeing
