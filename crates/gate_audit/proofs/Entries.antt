@@ -1,6 +1,8 @@
 -- What an event is accepted as, by its verdict; and each accepted new order is the one that its OrderID leads to.
 use Rattle.std.proofs.Common.{◌≡◌, ℕ, ◌+◌, ◌<◌, ◌≤◌, ◌^◌, Bool, true, false, List, [], ◌∷◌, ◌++◌, refl, sym, ap, ◌∙◌, subst, arith, bytes_eq, decimal, Option, Some, None}
-use Rattle.std.specs.Prelude.{filter, if◌then◌else◌, option_to_list, unwrap_or}
+use Rattle.std.specs.Prelude.{filter, if◌then◌else◌, option_to_list, unwrap_or, Result}
+use Rattle.ouch_codec.specs.declared.outbound.Outbound.{Outbound}
+use Rattle.ouch_codec.specs.declared.refusal.DecodeRefusal.{DecodeRefusal}
 use Rattle.order_law.specs.Messages.{Message, text}
 use Rattle.order_law.specs.Verdicts.{Accepted, Port, Refused, Verdict, is_replace}
 use Rattle.order_law.specs.Chain.{named}
@@ -53,11 +55,11 @@ module _ (terms : List Terms) (t : Turn) (before : History) (client : ℕ) (m : 
   numbered-now : numbered (t ∷ before) ≡ (if is_new_order m then 1 else 0) + numbered before
   numbered-now = count-more _ t before ∙ rw is_e refl
 
-pub heard-accepted : (terms : List Terms) (t : Turn) (before : History) (p : ℕ) (m : List ℕ) → t.event ≡ Heard p m → accepted terms (t ∷ before) ≡ accepted terms before
-heard-accepted terms t before p m is_e = rw is_e refl
+pub heard-accepted : (terms : List Terms) (t : Turn) (before : History) (p : ℕ) (heard : Result Outbound DecodeRefusal) → t.event ≡ Heard p heard → accepted terms (t ∷ before) ≡ accepted terms before
+heard-accepted terms t before p heard is_e = rw is_e refl
 
-numbered-heard : (t : Turn) (before : History) (p : ℕ) (m : List ℕ) → t.event ≡ Heard p m → numbered (t ∷ before) ≡ 0 + numbered before
-numbered-heard t before p m is_e = count-more _ t before ∙ rw is_e refl
+numbered-heard : (t : Turn) (before : History) (p : ℕ) (heard : Result Outbound DecodeRefusal) → t.event ≡ Heard p heard → numbered (t ∷ before) ≡ 0 + numbered before
+numbered-heard t before p heard is_e = count-more _ t before ∙ rw is_e refl
 
 -- ---- by its OrderID
 
@@ -127,9 +129,9 @@ all-found terms [] few = tt
 all-found terms (t ∷ before) few = by_event (λ (k : numbered before < 10 ^ 64). all-found terms before k) t.event refl
   where
     by_event : (numbered before < 10 ^ 64 → AllFound terms before) → (e : Event) → t.event ≡ e → AllFound terms (t ∷ before)
-    by_event earlier (Heard p m) is_e =
-        let same = numbered-heard t before p m is_e in
-        quiet-found terms t before (heard-accepted terms t before p m is_e) (omega (arith, same)) (earlier (omega (arith, same, few)))
+    by_event earlier (Heard p heard) is_e =
+        let same = numbered-heard t before p heard is_e in
+        quiet-found terms t before (heard-accepted terms t before p heard is_e) (omega (arith, same)) (earlier (omega (arith, same, few)))
     by_event earlier (Came client m port) is_e = by_verdict (verdict_at terms before client m port) refl (is_new_order m) refl
       where
         counted : (b : Bool) → is_new_order m ≡ b → numbered (t ∷ before) ≡ (if b then 1 else 0) + numbered before
@@ -169,8 +171,8 @@ all-by-order terms (t ∷ before) few = by_event (λ (k : numbered before < 10 ^
     same-order same ordered = subst (λ (es : List Entry). AreByOrder (news es)) (sym same) ordered
 
     by_event : (numbered before < 10 ^ 64 → AreByOrder (news (accepted terms before))) → (e : Event) → t.event ≡ e → AreByOrder (news (accepted terms (t ∷ before)))
-    by_event earlier (Heard p m) is_e =
-        let same = numbered-heard t before p m is_e in same-order (heard-accepted terms t before p m is_e) (earlier (omega (arith, same, few)))
+    by_event earlier (Heard p heard) is_e =
+        let same = numbered-heard t before p heard is_e in same-order (heard-accepted terms t before p heard is_e) (earlier (omega (arith, same, few)))
     by_event earlier (Came client m port) is_e = by_verdict (verdict_at terms before client m port) refl (is_new_order m) refl
       where
         counted : (b : Bool) → is_new_order m ≡ b → numbered (t ∷ before) ≡ (if b then 1 else 0) + numbered before

@@ -211,9 +211,9 @@ turn-told terms t before tells earlier = by_event t.event refl tells
   where
     by_event : (e : Event) → t.event ≡ e → told terms e before ≡ said_in t → IsTold terms (t ∷ before)
     by_event (Came client m port) is_e tells = came-told terms t before client m port is_e tells earlier
-    by_event (Heard p m) is_e tells =
-        let same_accepted : accepted terms (t ∷ before) ≡ accepted terms before = heard-accepted terms t before p m is_e in
-        quiet-told terms t before (subst (Each GivesNone) (ap (λ (x : Told). x.bodies) tells) (market-none terms p m before))
+    by_event (Heard p heard) is_e tells =
+        let same_accepted : accepted terms (t ∷ before) ≡ accepted terms before = heard-accepted terms t before p heard is_e in
+        quiet-told terms t before (subst (Each GivesNone) (ap (λ (x : Told). x.bodies) tells) (market-none terms p heard before))
         (ap given same_accepted) (ap (λ (es : List Entry). map started (news es)) same_accepted) earlier
 
 pub headline-told : (terms : List Terms) (h : History) → Headline terms h → IsTold terms h

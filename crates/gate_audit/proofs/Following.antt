@@ -1,7 +1,7 @@
--- A port's session that is called once more follows the port's session of a run, and gives up the same payloads.
+-- A port's session that is called once more follows the port's session of a run, and gives up the same messages.
 use Rattle.std.proofs.Common.{◌≡◌, ◌==◌, ℕ, Bool, true, false, List, [], ◌∷◌, Option, Some, None, refl, ap, sym, subst, ◌∙◌, is_some, eq-eqb, eqb-true, inl, inr}
 use Rattle.std.proofs.lemmas.Bool.{cond-true, cond-false, cases_Bool}
-use Rattle.std.specs.Prelude.{if◌then◌else◌, ◌&&◌, ◌⊎◌}
+use Rattle.std.specs.Prelude.{if◌then◌else◌, ◌&&◌, ◌++◌, ◌⊎◌, Result, Ok, Err, option_to_list}
 use Rattle.std.specs.List.{list_any}
 use Rattle.fix_types.specs.declared.application.AppMsg.{AppMsg}
 use Rattle.soup_packets.specs.declared.packet.Packet.{Packet}
@@ -11,6 +11,9 @@ use Rattle.soup_session.specs.States.{is_down, is_open}
 use Rattle.soup_session.specs.Table as port
 use Rattle.soup_session.specs.Table.{Answer, Call, Standing, standing}
 use Rattle.session_law.specs.Runs.{Timed, Came}
+use Rattle.ouch_codec.specs.declared.outbound.Outbound.{Outbound}
+use Rattle.ouch_codec.specs.declared.refusal.DecodeRefusal.{DecodeRefusal}
+use Rattle.ouch_codec.specs.Values.{decoded}
 use Rattle.order_law.specs.History as orders
 use Rattle.order_law.specs.History.{handled}
 use Rattle.order_law.specs.Messages.{Message}
@@ -25,7 +28,7 @@ use Rattle.core_law.proofs.Links.{IsLinked, links-current, EndsAll}
 use Rattle.core_law.proofs.Parts.{called, link-after, moved-other, other-calls, own-calls}
 use Rattle.core_law.proofs.Telling.{turns-after}
 use Rattle.gate_audit.specs.Again as read
-use Rattle.gate_audit.specs.Again.{Again, again, and_handled, unless_lost}
+use Rattle.gate_audit.specs.Again.{Again, again, and_handled, unless_fault, unless_lost}
 use Rattle.gate_audit.proofs.Alike.{Fades, IsAlike, SameNumbers, fails-numbers, goes-numbers, goes-state, packet-after, packet-payload, same-numbers, stays, ticks-fade, up-numbers, up-state}
 
 -- ---- numbers
@@ -191,6 +194,22 @@ moved-if : (s : Settings) (p : ℕ) (v : Lists) (r : Again) (w : Bool) (x y : Ou
 moved-if s p v r true x y m n = m
 moved-if s p v r false x y m n = n
 
+-- the turn of a payload
+abbrev heard_turn : ℕ → Batch → Result Outbound DecodeRefusal → Option ℕ → orders.Turn
+heard_turn p b heard fault = record { event = orders.Heard p heard; client = addressee b; bodies = bodies b; sends = []; fault = fault }
+
+handled-more : (p : ℕ) (b : Batch) (heard : Result Outbound DecodeRefusal) (fault : Option ℕ) (before : orders.History) (ms : List Outbound)
+    → handled p before ≡ ms → handled p (heard_turn p b heard fault ∷ before) ≡ option_to_list (unless_fault heard fault) ++ ms
+handled-more p b (Err refusal) fault before ms same = same
+handled-more p b (Ok m) None before ms same = cond-true (p == p && true) _ _ (rw (eq-eqb p p refl) refl) ∙ ap (λ (xs : List Outbound). m ∷ xs) same
+handled-more p b (Ok m) (Some n) before ms same = cond-false (p == p && false) _ _ (rw (eq-eqb p p refl) refl) ∙ same
+
+-- of another port
+handled-other : (p q : ℕ) → (q == p) ≡ false → (b : Batch) (heard : Result Outbound DecodeRefusal) (fault : Option ℕ) (before : orders.History)
+    → handled p (heard_turn q b heard fault ∷ before) ≡ handled p before
+handled-other p q apart b (Err refusal) fault before = refl
+handled-other p q apart b (Ok m) fault before = rw apart refl
+
 module _ (s : Settings) (p : ℕ) (v : Lists) (r : Again) (b : Batch) (linked : IsLinked s v p) (sim : Sim s p v r) where
   abbrev terms : port.Terms
   terms = port_terms s p
@@ -245,9 +264,12 @@ module _ (s : Settings) (p : ℕ) (v : Lists) (r : Again) (b : Batch) (linked : 
   other-payload q at packet a other turned' None = other-moved (by_payload q at packet b a None) other refl
   other-payload q at packet a other turned' (Some m) = by_fault_of b.fault
     where
-      by_fault_of : (f : Option ℕ) → Moved s p v (record (by_fault q at packet b f) { turn = Some (record { event = orders.Heard q m; client = addressee b; bodies = bodies b; sends = []; fault = b.fault }) }) r
-      by_fault_of None = other-moved _ other (rw turned' refl)
-      by_fault_of (Some n) = other-moved _ other (rw turned' refl)
+      same : handled p (heard_turn q b (decoded m) b.fault ∷ v.turns) ≡ handled p v.turns
+      same = handled-other p q turned' b (decoded m) b.fault v.turns
+
+      by_fault_of : (f : Option ℕ) → Moved s p v (record (by_fault q at packet b f) { turn = Some (heard_turn q b (decoded m) b.fault) }) r
+      by_fault_of None = other-moved _ other same
+      by_fault_of (Some n) = other-moved _ other same
 
   -- its own link comes
   up-moves : (link at : ℕ) → r.link ≡ None → Moves (Some link) (standing terms (port.Opens at ∷ v.port_calls p)) (standing terms (port.Opens 0 ∷ r.calls))
@@ -320,17 +342,17 @@ module _ (s : Settings) (p : ℕ) (v : Lists) (r : Again) (b : Batch) (linked : 
     handled-so x is f is_f = ap (λ (y : Option (List ℕ)). and_handled y b.fault r.handled) (sym payload-is ∙ is) ∙ ap (λ (g : Option ℕ). and_handled x g r.handled) is_f
 
     own-told : (m : List ℕ) → (port.answer terms (v.port_calls p) (port.Hears packet at)).payload ≡ Some m → (f : Option ℕ) → b.fault ≡ f
-        → Moved s p v (record (by_fault p at packet b f) { turn = Some (record { event = orders.Heard p m; client = addressee b; bodies = bodies b; sends = []; fault = f }) }) heard
+        → Moved s p v (record (by_fault p at packet b f) { turn = Some (heard_turn p b (decoded m) f) }) heard
     own-told m is None none = record {
       link = sim.link;
-      handled = cond-true (p == p && true) _ _ (rw (eq-eqb p p refl) refl) ∙ (ap (λ (ms : List (List ℕ)). m ∷ ms) sim.handled ∙ sym (handled-so (Some m) is None none));
+      handled = handled-more p b (decoded m) None v.turns r.handled sim.handled ∙ sym (handled-so (Some m) is None none);
       moves = λ calls is_calls.
           subst (λ (cs : List Call). Moves r.link (standing terms cs) (standing terms heard.calls)) (sym (is_calls ∙ cond-true (p == p) _ _ (eq-eqb p p refl)))
           (alike-moves r.link _ _ alike-now);
     }
     own-told m is (Some n) some = record {
       link = sim.link;
-      handled = cond-false (p == p && false) _ _ (rw (eq-eqb p p refl) refl) ∙ (sim.handled ∙ sym (handled-so (Some m) is (Some n) some));
+      handled = handled-more p b (decoded m) (Some n) v.turns r.handled sim.handled ∙ sym (handled-so (Some m) is (Some n) some);
       moves = λ calls is_calls.
           subst (λ (cs : List Call). Moves r.link (standing terms cs) (standing terms heard.calls)) (sym (is_calls ∙ cond-true (p == p) _ _ (eq-eqb p p refl)))
           (record {

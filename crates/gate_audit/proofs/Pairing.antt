@@ -1,10 +1,11 @@
--- Of the history of a run, the pairs by batches and payloads are those of the accepted new orders, and both accounts of each agree.
+-- Of the history of a run, the pairs by batches and messages are those of the accepted new orders, and both accounts of each agree.
 use Rattle.std.proofs.Common.{◌≡◌, ◌<◌, ◌≤◌, ◌+◌, ◌-◌, ◌^◌, ℕ, suc, zero, Bool, true, false, not, List, [], ◌∷◌, Option, Some, map, reverse, length, get_or, refl, sym, ap, ◌∙◌, arith, eqb-true, eq-eqb}
 use Rattle.std.specs.Prelude.{◌==◌, filter, if◌then◌else◌, option_map, unwrap_or}
 use Rattle.std.specs.List.{All}
 use Rattle.std.proofs.lemmas.List.Elements.{All-get_or}
 use Rattle.std.proofs.lemmas.List.Sums.{count_by-le-length}
 use Rattle.std.proofs.lemmas.Bool.Decides.{nat_tests}
+use Rattle.ouch_codec.specs.declared.outbound.Outbound.{Outbound}
 use Rattle.order_law.specs.Messages.{Message, character, text}
 use Rattle.order_law.specs.Life.{Life, account_of, is_closed, life}
 use Rattle.order_law.specs.Reading.{Reading, account_read, reading}
@@ -89,7 +90,7 @@ module _ (s : Settings) (h : History) (c : ℕ) where
   f = pair_in (issued c h) (handled_for s h c)
 
   -- from its first token on its life is the law's
-  first-life : (e : Entry) (ms : List (List ℕ)) → new_of e.order A ≡ Some e → life (token_of e) (character 54 e.message) ms ≡ life_of e.order A ms
+  first-life : (e : Entry) (ms : List Outbound) → new_of e.order A ≡ Some e → life (token_of e) (character 54 e.message) ms ≡ life_of e.order A ms
   first-life e ms found =
       ap (λ (x : Option Entry). life (unwrap_or (option_map token_of x) []) (unwrap_or (option_map (λ (new : Entry). character 54 new.message) x) 0) ms) (sym found)
 
@@ -97,10 +98,10 @@ module _ (s : Settings) (h : History) (c : ℕ) where
       → (e.client == c) ≡ true → IsFound A (numbered T) e → AgreesIn s h e → f (started e) ≡ accepted_pair s h e
   one-pair e told handled is_c found agrees =
       let sent : List Message = orders.issued e.client T in
-      let ms : List (List ℕ) = orders.handled (port_of s e.client) T in
+      let ms : List Outbound = orders.handled (port_of s e.client) T in
       let its_client : c ≡ e.client = sym (eqb-true e.client c is_c) in
       ap (λ (rs : List Message). pair_in rs (handled_for s h c) (started e)) told
-      ∙ ap (λ (m : List (List ℕ)). pair_in (orders.issued c T) m (started e)) handled
+      ∙ ap (λ (m : List Outbound). pair_in (orders.issued c T) m (started e)) handled
       ∙ ap (λ (k : ℕ). pair_in (orders.issued k T) (orders.handled (port_of s k) T) (started e)) its_client
       ∙ ap (λ (l : Life). paired e.client (text 11 e.message) (account_read (reading e.order sent)) (account_of l)) (first-life e ms found.found)
       ∙ ap (λ (b : Bool). record {

@@ -3,6 +3,7 @@ use Rattle.std.proofs.Common.{◌≡◌, ◌+◌, ℕ, Bool, List, [], ◌∷◌
 use Rattle.std.specs.Prelude.{◌==◌, if◌then◌else◌}
 use Rattle.order_accounts.specs.Held.{StaysHeld}
 use Rattle.std.proofs.lemmas.List.{append-nil, map-append, reverse-append, reverse-reverse}
+use Rattle.ouch_codec.specs.declared.outbound.Outbound.{Outbound}
 use Rattle.order_law.specs.Messages.{Message, body_of}
 use Rattle.order_histories.proofs.Executed.{count-more}
 use Rattle.core_law.specs.Settings.{Settings, port_of, port_terms}
@@ -77,7 +78,7 @@ said-is events batches same = said-onto events batches [] same ∙ (append-nil (
 
 -- ---- pairs
 
-same-pair : (sent : List Message) (ms : List (List ℕ)) (o : OpenedOrder) → pair_in (map body_of sent) ms o ≡ pair_in sent ms o
+same-pair : (sent : List Message) (ms : List Outbound) (o : OpenedOrder) → pair_in (map body_of sent) ms o ≡ pair_in sent ms o
 same-pair sent ms o = rw (same-reading o.order sent) refl
 
 -- the orders of a client, the oldest first
@@ -101,7 +102,7 @@ pairs-whole s events batches c same =
     ∙ map-same (pair_in (map body_of sent) (handled_for s h c)) (pair_in sent (handled_for s h c)) (same-pair sent (handled_for s h c)) (orders_of c os)
 
 -- one client more
-pub pairs-more : (s : Settings) (n port : ℕ) (kept : List Pair) (reports : List Message) (handled : List (List ℕ)) (openings : List OpenedOrder) (events : List Event) (batches : List Batch) → length batches ≡ length events
+pub pairs-more : (s : Settings) (n port : ℕ) (kept : List Pair) (reports : List Message) (handled : List Outbound) (openings : List OpenedOrder) (events : List Event) (batches : List Batch) → length batches ≡ length events
     → reports ≡ reports_to (n + 1) batches → port ≡ port_of s (n + 1) → handled ≡ reverse (again (port_terms s port) port (history events batches)).handled
     → openings ≡ reverse (opened_orders (reverse (said_by batches)))
     → kept ≡ for_clients (pairs_of s (history events batches)) n
@@ -113,7 +114,7 @@ pairs-more s n port kept reports handled openings events batches same are_report
     ap (λ (ps : List Pair). ps ++ map (pair_in (reverse reports) (reverse handled)) (orders_of (n + 1) openings)) is_kept
     ∙ ap (λ (ps : List Pair). for_clients (pairs_of s h) n ++ ps)
     (ap (λ (rs : List Message). map (pair_in (reverse rs) (reverse handled)) (orders_of (n + 1) openings)) are_reports
-    ∙ ap (λ (x : List (List ℕ)). map (pair_in (reverse (reports_to (n + 1) batches)) x) (orders_of (n + 1) openings)) ms
+    ∙ ap (λ (x : List Outbound). map (pair_in (reverse (reports_to (n + 1) batches)) x) (orders_of (n + 1) openings)) ms
     ∙ ap (λ (os : List OpenedOrder). map (pair_in (reverse (reports_to (n + 1) batches)) (handled_for s h (n + 1))) (orders_of (n + 1) os)) are_openings
     ∙ sym (pairs-whole s events batches (n + 1) same))
     ∙ sym (for-more (pairs_of s h) n)

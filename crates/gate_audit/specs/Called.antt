@@ -1,5 +1,5 @@
 -- A session that the code calls once more is the one that is read.
-use Rattle.std.specs.Prelude.{◌≡◌, map, reverse}
+use Rattle.std.specs.Prelude.{◌≡◌, reverse}
 use Rattle.soup_session.specs.Table.{Terms}
 use Rattle.soup_session.specs.Calls.{Leaves}
 use Rattle.gate_audit.specs.declared.port_again.PortAgain.{PortAgain}
@@ -8,4 +8,4 @@ use Rattle.gate_audit.specs.Again.{Again}
 pub record IsAgain (terms : Terms) (r : Again) (x : PortAgain) : Type 0 where
   pub link : x.link ≡ r.link
   pub session : Leaves terms r.calls x.session
-  pub handled : map (λ m. m.items) x.handled.items ≡ reverse r.handled
+  pub handled : x.handled.items ≡ reverse r.handled

@@ -1,9 +1,10 @@
--- Orders by both of their accounts: by the reports of the batches and the payloads that were handled, and as the order level's turns
+-- Orders by both of their accounts: by the reports of the batches and the messages that were handled, and as the order level's turns
 -- have them. (FIX 4.4 Volume 4, "Execution Report"; OUCH 4.2, "Enter Order Message", order token.)
 use Rattle.std.specs.Prelude.{ℕ, ◌<◌, ◌≤◌, ◌==◌, Bool, true, not, ◌&&◌, ◌||◌, List, [], ◌∷◌, ◌++◌, Option, Some, None, map, filter, reverse, length, codes, if◌then◌else◌}
 use Rattle.std.specs.List.{count_by, flat_map}
 use Rattle.std.specs.Str.Parse.{digits_value}
 use Rattle.tokens.specs.TokenText.{token_text}
+use Rattle.ouch_codec.specs.declared.outbound.Outbound.{Outbound}
 use Rattle.order_law.specs.declared.account.Account.{Account}
 use Rattle.order_law.specs.Messages.{Message, character, is, text}
 use Rattle.order_law.specs.Reading.{account_read, is_report, reading}
@@ -105,11 +106,11 @@ abbrev pub paired : ℕ → List ℕ → Account → Account → Pair
 paired client id fix ouch = record { client = client; id = id; fix = fix; ouch = ouch; agree = same_account fix ouch }
 
 -- of an order whose client was told these, and whose port handled these, both the newest first
-abbrev pub pair_in : List Message → List (List ℕ) → OpenedOrder → Pair
+abbrev pub pair_in : List Message → List Outbound → OpenedOrder → Pair
 pair_in sent handled o = paired o.client o.id (account_read (reading o.order sent)) (account_of (life o.root o.side handled))
 
--- the payloads of a client's port that were handled
-abbrev pub handled_for : Settings → History → ℕ → List (List ℕ)
+-- the messages of a client's port that were handled
+abbrev pub handled_for : Settings → History → ℕ → List Outbound
 handled_for s h client = (again (port_terms s (port_of s client)) (port_of s client) h).handled
 
 -- those of a client, the oldest first

@@ -1,4 +1,4 @@
-//! The audit of a history: what each accepted order's client has read of it, from the reports of the batches alone; and which payloads
+//! The audit of a history: what each accepted order's client has read of it, from the reports of the batches alone; and which messages
 //! of a port were handled, from its links and packets.
 //!
 //! It reads events and batches after they were given, for programs that print an audit and for tests; it judges nothing.
@@ -7,17 +7,17 @@
 #![tactic(auto)]
 
 mod accounts;
+mod messages;
 mod opening;
 mod openings;
 mod order_pair;
 mod order_reading;
 mod pairs;
-mod payloads;
 mod port_again;
 mod reports;
 
 pub use accounts::readings;
+pub use messages::handled_messages;
 pub use order_pair::OrderPair;
 pub use order_reading::OrderReading;
 pub use pairs::audit;
-pub use payloads::handled_payloads;

@@ -1,6 +1,6 @@
-//! The payloads of a port that a run handled.
+//! The market's messages on a port that a run handled.
 
-ghost use Rattle.std.specs.Prelude.{◌≡◌, ◌≤◌, IfOk, length, map, reverse};
+ghost use Rattle.std.specs.Prelude.{◌≡◌, ◌≤◌, IfOk, length, reverse};
 ghost use Rattle.order_law.specs.History as orders;
 ghost use Rattle.core_law.specs.Settings.{port_terms};
 ghost use Rattle.core_law.specs.After.{order_turns};
@@ -11,29 +11,31 @@ ghost use Rattle.gate_audit.specs.Again.{again};
 use crate::port_again::PortAgain;
 use core_settings::Settings;
 use gate_journal::History;
+use ouch_codec::Outbound;
 use soup_session::links_end_by_a_close;
 use std::alloc::{AllocError, Global};
 
 /// So many events of a history were stepped: any that came later changed nothing.
 const MOST_EVENTS: u64 = 1 << 48;
 
-/// The payloads of a port that the order level handled: those that the port's session gave up and that were no fault, the oldest first.
+/// The messages of a port that the order level handled: what the payloads that the port's session gave up are decoded as, where that
+/// is a message and was no fault, the oldest first.
 ///
 /// The session is called once more with the links and packets of the history; that it was silent or refused shows in the links that
 /// batches close. `port` is one of the settings', from 1.
 ///
 /// Source: SoupBinTCP 3.00, "Sequenced Data Packet".
-pub fn handled_payloads(
+pub fn handled_messages(
     alloc: Global,
     history: &History,
     settings: &Settings,
     port: u16,
-) -> Result<Vec<Vec<u8>>, AllocError>
+) -> Result<Vec<Outbound>, AllocError>
     requires some { 1 ≤ port }
     requires known { port ≤ length settings.now.ports }
-    ensures read { IfOk result (λ handled. map (λ m. m.items) handled.items ≡ reverse (again (port_terms settings.now port) port (turns history.now)).handled) }
+    ensures read { IfOk result (λ handled. handled.items ≡ reverse (again (port_terms settings.now port) port (turns history.now)).handled) }
     ensures run { IfOk result (λ handled. Holds settings.now (turns history.now)
-        → map (λ m. m.items) handled.items ≡ reverse (orders.handled port (order_turns settings.now (turns history.now)))) }
+        → handled.items ≡ reverse (orders.handled port (order_turns settings.now (turns history.now)))) }
 {
     links_end_by_a_close();
     let (events, batches) = (history.events(), history.batches());

@@ -9,22 +9,23 @@ ghost use Rattle.gate_audit.specs.Again.{again};
 ghost use Rattle.gate_audit.specs.Pairs as read;
 ghost use Rattle.gate_audit.specs.Read.{new_orders};
 
+use crate::messages::handled_messages;
 use crate::opening::Opening;
 use crate::openings::openings_of;
 use crate::order_pair::OrderPair;
-use crate::payloads::handled_payloads;
 use crate::reports::reports_of;
 use core_settings::Settings;
 use fix_fields::Fields;
 use gate_journal::History;
 use order_accounts::{ReadingFault, life_of, reading_of};
 use order_law::Account;
+use ouch_codec::Outbound;
 use soup_session::links_end_by_a_close;
 use std::alloc::Global;
 
 /// Each order that was accepted by both of its accounts, by client and then in the order of acceptance, which is that of OrderIDs: what
 /// its client read of it, from the reports of the batches alone, and what the market said of it, from its first token on, in the
-/// payloads of its client's port that were handled.
+/// messages of its client's port that were handled.
 ///
 /// Of the history of a run these are the accepted new orders, and both accounts of each agree. `TooLarge` just where, after one of its
 /// client's reports, what was read of an order has a number that is larger than its integer holds, or more tokens were given than there
@@ -49,23 +50,23 @@ pub fn audit(
         let client = (place + 1) as u16;
         let reports = reports_of(alloc, client, history.batches())?;
         let own = &settings.clients()[place];
-        let handled = handled_payloads(alloc, history, settings, own.terms.port)?;
+        let handled = handled_messages(alloc, history, settings, own.terms.port)?;
         pair_all(alloc, client, &openings, &reports, &handled, &mut pairs)?;
     }
     Ok(pairs)
 }
 
-/// The orders of a client that was told these reports and whose port handled these payloads, behind the pairs before.
+/// The orders of a client that was told these reports and whose port handled these messages, behind the pairs before.
 fn pair_all(
     alloc: Global,
     client: u16,
     openings: &[Opening],
     reports: &[Fields],
-    handled: &[Vec<u8>],
+    handled: &[Outbound],
     pairs: &mut Vec<OrderPair>,
 ) -> Result<(), ReadingFault>
     ensures paired { IfOk result (λ u. pairs.new.items
-        ≡ pairs.old.items ++ map (read.pair_in (reverse reports.now) (reverse (map (λ m. m.items) handled.now))) (read.orders_of client openings.now)) }
+        ≡ pairs.old.items ++ map (read.pair_in (reverse reports.now) (reverse handled.now)) (read.orders_of client openings.now)) }
     ensures held { OnOk result (read.AreHeld (reverse reports.now) (read.orders_of client openings.now)) }
     ensures large { IsErrOf result ReadingFault.TooLarge → read.AreHeld (reverse reports.now) (read.orders_of client openings.now) → ⊥ }
 {
@@ -77,14 +78,14 @@ fn pair_all(
     Ok(())
 }
 
-/// An order by both of its accounts: its client was told these reports, and its port handled these payloads.
+/// An order by both of its accounts: its client was told these reports, and its port handled these messages.
 fn pair_of(
     alloc: Global,
     opening: &Opening,
     reports: &[Fields],
-    handled: &[Vec<u8>],
+    handled: &[Outbound],
 ) -> Result<OrderPair, ReadingFault>
-    ensures paired { IfOk result (λ pair. pair ≡ read.pair_in (reverse reports.now) (reverse (map (λ m. m.items) handled.now)) opening.now) }
+    ensures paired { IfOk result (λ pair. pair ≡ read.pair_in (reverse reports.now) (reverse handled.now) opening.now) }
     ensures held { OnOk result (StaysHeld opening.now.order (reverse reports.now)) }
     ensures large { IsErrOf result ReadingFault.TooLarge → StaysHeld opening.now.order (reverse reports.now) → ⊥ }
 {

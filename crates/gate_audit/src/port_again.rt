@@ -1,6 +1,6 @@
 //! A port's session, called once more with what a history brought it.
 
-ghost use Rattle.std.specs.Prelude.{◌≡◌, ◌<◌, ◌≤◌, ◌+◌, ◌^◌, IfOk, Some, None, is_some, if◌then◌else◌, map};
+ghost use Rattle.std.specs.Prelude.{◌≡◌, ◌<◌, ◌≤◌, ◌+◌, ◌^◌, IfOk, Some, None, is_some, if◌then◌else◌};
 ghost use Rattle.soup_session.specs.Table.{Terms};
 ghost use Rattle.soup_session.specs.Calls.{next_of};
 ghost use Rattle.core_settings.specs.Kept.{CanLogIn};
@@ -12,6 +12,7 @@ ghost use Rattle.gate_audit.specs.Called.{IsAgain};
 use core_batches::closes_link;
 use core_settings::PortSettings;
 use gate_core::{Batch, Event, PortFault};
+use ouch_codec::{Outbound, decode};
 use soup_packets::{Packet, Payload};
 use soup_session::PortSession;
 use std::alloc::{AllocError, Global};
@@ -22,8 +23,8 @@ pub struct PortAgain {
     /// Its current link.
     pub link: Option<u64>,
     pub session: PortSession,
-    /// The payloads that it gave up and that were no fault, the oldest first.
-    pub handled: Vec<Vec<u8>>,
+    /// The messages that it gave up and that were no fault, the oldest first.
+    pub handled: Vec<Outbound>,
 }
 
 impl PortAgain {
@@ -139,7 +140,10 @@ impl PortAgain {
         ensures next { next_of self.new.session ≤ next_of self.old.session + 1 }
     {
         let turn = self.session.on_packet(alloc, packet, 0)?;
-        keep(alloc, &turn.payload, batch.fault, &mut self.handled)
+        if let Some(message) = message_of(&turn.payload, batch.fault) {
+            self.handled.push(message)?;
+        }
+        Ok(())
     }
 
     /// A link that the batch closes is gone.
@@ -153,19 +157,15 @@ impl PortAgain {
     }
 }
 
-/// A payload that was given up and is no fault stands behind those before.
-fn keep(
-    alloc: Global,
-    payload: &Option<Payload>,
-    fault: Option<PortFault>,
-    handled: &mut Vec<Vec<u8>>,
-) -> Result<(), AllocError>
-    ensures { IfOk result (λ u. map (λ m. m.items) handled.new.items ≡ read.and_behind payload.now fault (map (λ m. m.items) handled.old.items)) }
+/// What a payload that was given up is decoded as, where that is a message and was no fault.
+fn message_of(payload: &Option<Payload>, fault: Option<PortFault>) -> Option<Outbound>
+    ensures { result ≡ read.message_of payload.now fault }
 {
-    if let Some(payload) = payload
-        && fault.is_none()
-    {
-        handled.push(Vec::from_slice(alloc, payload.as_slice())?)?;
+    let Some(payload) = payload else {
+        return None;
+    };
+    match decode(payload.as_slice()) {
+        Ok(message) => { if fault.is_none() { Some(message) } else { None } }
+        Err(_) => None,
     }
-    Ok(())
 }

@@ -9,8 +9,8 @@ use Rattle.soup_session.specs.Table.{Terms}
 use Rattle.gate_core.specs.Core.{history, turn_of}
 use Rattle.gate_audit.specs.Again.{again}
 use Rattle.gate_audit.proofs.Calling.{again-more, again-past, has-of, history-length, history-more}
-use Rattle.gate_audit.proofs.payloads.handled_payloads.Goals as goal
-use Rattle.gate_audit.proofs.payloads.handled_payloads.Goals.{then-i-lt-MOST_EVENTS+in_ok-step, else-i-lt-MOST_EVENTS}
+use Rattle.gate_audit.proofs.messages.handled_messages.Goals as goal
+use Rattle.gate_audit.proofs.messages.handled_messages.Goals.{then-i-lt-MOST_EVENTS+in_ok-step, else-i-lt-MOST_EVENTS}
 
 pub loop-i-preserved : goal.loop-i-preserved
 loop-i-preserved c =

@@ -4,7 +4,7 @@ use Rattle.soup_session.specs.Calls.{next_of}
 use Rattle.gate_core.specs.Core.{history}
 use Rattle.gate_audit.specs.Again as read
 use Rattle.gate_audit.specs.Called.{IsAgain}
-use Rattle.gate_audit.proofs.payloads.handled_payloads.Given as goal
+use Rattle.gate_audit.proofs.messages.handled_messages.Given as goal
 
 abbrev pub invariant-loop-i : goal.invariant-loop-i
 invariant-loop-i l = record {

@@ -1,4 +1,4 @@
-use Rattle.std.proofs.Common.{rules, ◌≡◌, ◌<◌, ◌+◌, ◌∙◌, ℕ, List, map, reverse, length, ap, sym, subst, arith, Err, get_or}
+use Rattle.std.proofs.Common.{rules, ◌≡◌, ◌<◌, ◌+◌, ◌∙◌, ℕ, List, reverse, length, ap, sym, subst, arith, Err, get_or}
 use Rattle.std.specs.Prelude.{IsErrOf}
 use Rattle.std.specs.List.{All}
 use Rattle.order_accounts.specs.declared.reading_fault.ReadingFault.{ReadingFault}
@@ -34,8 +34,8 @@ loop-place-preserved c =
     record {
       pairs =
           c.in_ok-pair_all.ensures.paired
-          ∙ pairs-more s n c.own.inside.terms.port c.loop-place.pairs.items c.deref-in-loop-place.result.now (map (λ m. m.items) c.deref-in-loop-place-2.result.now) c.deref.result.now h.events h.batches
-          same reports port (ap (map (λ m. m.items)) c.deref-in-loop-place-2.ensures.value ∙ c.in_ok-handled.ensures.read) openings c.loop-place.invariant.pairs;
+          ∙ pairs-more s n c.own.inside.terms.port c.loop-place.pairs.items c.deref-in-loop-place.result.now c.deref-in-loop-place-2.result.now c.deref.result.now h.events h.batches
+          same reports port (c.deref-in-loop-place-2.ensures.value ∙ c.in_ok-handled.ensures.read) openings c.loop-place.invariant.pairs;
       held =
           known-more (λ (k : ℕ). read.AreHeld (issued k (turns h)) (reverse (read.orders_of k (read.opened_orders (read.said (turns h)))))) n c.loop-place.invariant.held
           (held-now h.events h.batches (n + 1) same c.deref-in-loop-place.result.now c.deref.result.now reports openings c.in_ok-pair_all.ensures.held);

@@ -4,6 +4,6 @@ use Rattle.gate_audit.proofs.pairs.pair_all.Given as goal
 
 abbrev pub invariant-loop-opening : goal.invariant-loop-opening
 invariant-loop-opening l = record {
-  paired : l.pairs.items ≡ l.fn.pairs.items ++ map (read.pair_in (reverse l.reports) (reverse (map (λ m. m.items) l.handled))) (read.orders_of l.client (take l.opening-index l.openings));
+  paired : l.pairs.items ≡ l.fn.pairs.items ++ map (read.pair_in (reverse l.reports) (reverse l.handled)) (read.orders_of l.client (take l.opening-index l.openings));
   held : read.AreHeld (reverse l.reports) (read.orders_of l.client (take l.opening-index l.openings));
 }
