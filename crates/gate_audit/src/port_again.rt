@@ -1,6 +1,6 @@
 //! A port's session, called once more with what a history brought it.
 
-ghost use Rattle.std.specs.Prelude.{◌≡◌, ◌<◌, ◌≤◌, ◌+◌, ◌^◌, IfOk, Some, None, is_some, if◌then◌else◌, map};
+ghost use Rattle.std.specs.Prelude.{◌≡◌, ◌<◌, ◌≤◌, ◌+◌, ◌^◌, IfOk, Some, None, is_some, if◌then◌else◌};
 ghost use Rattle.soup_session.specs.Table.{Terms};
 ghost use Rattle.soup_session.specs.Calls.{next_of};
 ghost use Rattle.core_settings.specs.Kept.{CanLogIn};

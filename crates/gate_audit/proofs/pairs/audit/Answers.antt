@@ -1,4 +1,4 @@
-use Rattle.std.proofs.Common.{rules, ◌≡◌, ◌<◌, ◌+◌, ◌∙◌, ℕ, List, map, reverse, length, ap, sym, subst, arith, Err, get_or}
+use Rattle.std.proofs.Common.{rules, ◌≡◌, ◌<◌, ◌+◌, ◌∙◌, ℕ, List, reverse, length, ap, sym, subst, arith, Err, get_or}
 use Rattle.std.specs.Prelude.{IsErrOf}
 use Rattle.std.specs.List.{All}
 use Rattle.order_accounts.specs.declared.reading_fault.ReadingFault.{ReadingFault}
