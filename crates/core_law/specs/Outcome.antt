@@ -10,7 +10,6 @@ use Rattle.fix_types.specs.declared.application.AppMsg.{AppMsg}
 use Rattle.soup_packets.specs.declared.packet.Packet.{Packet}
 use Rattle.ouch_codec.specs.Values.{decoded}
 use Rattle.fix_types.specs.Application.{message_fields}
-use Rattle.ouch_codec.specs.Values.{decoded}
 use Rattle.soup_session.specs.Table as calls
 use Rattle.session_law.specs.Runs.{Timed, Linked, Came, Ticked}
 use Rattle.order_law.specs.Messages.{Message, body_of}
