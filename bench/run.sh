@@ -8,8 +8,8 @@ set -euo pipefail
 
 here=$(cd "$(dirname "${BASH_SOURCE[0]}")" && pwd)
 repository=$(dirname "$here")
-measured=(core_settings fix_fields fix_framing fix_session fix_stamp fix_types fixed_point gate_core order_core ouch_codec
-    session_frames soup_packets to_market tokens wire_law)
+measured=(gate_settings fix_fields fix_framing fix_session fix_stamp fix_types fixed_point gate_core order_core ouch_codec
+    session_writing soup_packets to_market tokens wire_law)
 seconds_to_build=1500
 seconds_to_run=120
 

@@ -1,13 +1,13 @@
 #!/usr/bin/env python3
-"""Puts wrong definitions into order_law and order_histories, one at a time, and says which the computed examples refuse.
+"""Puts wrong definitions into order_law and order_machine, one at a time, and says which the computed examples refuse.
 
     scripts/try-wrong-definitions.py [WORD..] [--histories]
 
 Each entry of scripts/wrong-definitions.txt is a name, a file of order_law/specs/ or, with its crate before it, of
-order_histories/specs/, a line as it stands and the wrong one, in which `\\n` is a line break; WORDs take those whose name has
+order_machine/specs/, a line as it stands and the wrong one, in which `\\n` is a line break; WORDs take those whose name has
 one, or those of the files with these names. The edits are made in a copy, with its `out/` folders, in which order_examples is
 checked over definitions alone, so that an example refuses it and no lemma: fifteen to twenty seconds each after the first. What
-is refused is said with its first message. With `--histories` the lemmas of order_histories are checked too, in another copy.
+is refused is said with its first message. With `--histories` the lemmas of order_machine are checked too, in another copy.
 Exit status: 0 all but the known ones refused, 1 one more isn't, 2 an entry doesn't fit its file or is ill-formed.
 """
 
@@ -48,7 +48,7 @@ def copied(folder: str, name: str) -> pathlib.Path:
 
 def without_laws(crate: pathlib.Path) -> None:
     """Takes a crate's laws and their lemmas away: the definitions stay."""
-    (crate / "src/laws.rt").unlink()
+    (crate / "src/laws.rt").unlink(missing_ok=True)
     shutil.rmtree(crate / "proofs")
     head = crate / "src/lib.rt"
     head.write_text("".join(line for line in head.read_text().splitlines(True) if "laws" not in line))
@@ -61,10 +61,10 @@ def main() -> int:
     with tempfile.TemporaryDirectory() as folder:
         examples = copied(folder, "examples")
         without_laws(examples / "order_examples")
-        without_laws(examples / "order_histories")
+        without_laws(examples / "order_machine")
         checked = {"order_examples": examples}
         if "--histories" in sys.argv:
-            checked["order_histories"] = copied(folder, "lemmas")
+            checked["order_machine"] = copied(folder, "lemmas")
         for crate, crates in checked.items():
             if first_error(crates / crate):
                 print(f"{crate} isn't proved as it stands")

@@ -5,27 +5,29 @@ use Rattle.order_law.specs.declared.account.Account.{Account}
 use Rattle.gate_audit.specs.Pairs.{Pair}
 
 -- a word and a number
-abbrev pub counted : List ℕ → ℕ → List ℕ
-counted word number = word ++ decimal number
+abbrev pub counted_word : List ℕ → ℕ → List ℕ
+counted_word word number = word ++ decimal number
 
 -- side as in 54, and shares that are executed and open
 abbrev pub shown_shares : Account → List ℕ
-shown_shares a = codes " side " ++ a.side ∷ [] ++ counted (codes " executed ") a.executed ++ counted (codes " open ") a.unfilled
+shown_shares a = codes " side " ++ a.side ∷ [] ++ counted_word (codes " executed ") a.executed
+    ++ counted_word (codes " open ") a.unfilled
 
 -- shares that are cancelled, and shares times price in 1/10,000
 abbrev pub shown_sums : Account → List ℕ
-shown_sums a = counted (codes " cancelled ") a.cancelled ++ counted (codes " value ") a.value
+shown_sums a = counted_word (codes " cancelled ") a.cancelled ++ counted_word (codes " value ") a.value
 
 unfoldable pub shown_account : Account → List ℕ
 shown_account a = shown_shares a ++ shown_sums a
 
-abbrev pub verdict : Bool → List ℕ
-verdict agree = if agree then codes " agree" else codes " differ"
+abbrev pub verdict_word : Bool → List ℕ
+verdict_word agree = if agree then codes " agree" else codes " differ"
 
 -- an order as its client read it, and whether the market said the same:
 -- `C1 A1 side 1 executed 300 open 0 cancelled 0 value 70330000 agree`
 unfoldable pub shown_pair : Pair → List ℕ
-shown_pair p = codes "C" ++ decimal p.client ++ codes " " ++ p.id ++ shown_account p.fix ++ verdict p.agree ++ 10 ∷ []
+shown_pair p = codes "C" ++ decimal p.client ++ codes " " ++ p.id ++ shown_account p.fix ++ verdict_word p.agree ++ 10
+    ∷ []
 
 -- of how many orders both accounts agree
 abbrev pub agreeing : List Pair → ℕ

@@ -8,8 +8,8 @@ use itoa::Buffer;
 use order_law::Account;
 use std::alloc::{AllocError, Global};
 
-/// The lines of an audit: one for each order, in the order of the pairs, and last how many there are and of how many both accounts
-/// agree.
+/// The lines of an audit: one for each order, in the order of the pairs, and last how many there are and of how many
+/// both accounts agree.
 ///
 /// | Line | What it shows |
 /// |---|---|
@@ -55,7 +55,7 @@ fn push_pair(text: &mut Vec<u8>, pair: &OrderPair) -> Result<(), AllocError>
 
 /// Whether both accounts agree, in a word.
 fn verdict(agree: bool) -> &'static [u8]
-    ensures { result.now ≡ shown.verdict agree }
+    ensures { result.now ≡ shown.verdict_word agree }
 {
     if agree { b" agree" } else { b" differ" }
 }
@@ -94,7 +94,7 @@ fn push_total(text: &mut Vec<u8>, orders: usize, agreeing: usize) -> Result<(), 
 
 /// Adds a word and a number.
 fn push_number(text: &mut Vec<u8>, word: &[u8], number: u128) -> Result<(), AllocError>
-    ensures { OnOk result (text.new.items ≡ text.old.items ++ shown.counted word.now number) }
+    ensures { OnOk result (text.new.items ≡ text.old.items ++ shown.counted_word word.now number) }
 {
     let mut buffer = Buffer::new();
     text.extend_from_slice(word)?;

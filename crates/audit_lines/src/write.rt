@@ -8,13 +8,13 @@ use crate::lines::{agreeing, audit_text};
 use gate_audit::OrderPair;
 use std::alloc::Global;
 use std::io::Write;
-use stream_lines::StreamFault;
+use text_lines::StreamFault;
 
 /// Writes an audit to `output`: the text that `audit_text` gives, and nothing else.
 ///
-/// Answers the status that a program ends with which prints it: 0 where both accounts of each order agree; 1 where those of an order
-/// don't; and 1 where memory runs out, with `out of memory` on `faults`, and where a write fails, with `read or write failed`. An
-/// output that can't be flushed is a write that failed.
+/// Answers the status that a program ends with which prints it: 0 where both accounts of each order agree; 1 where
+/// those of an order don't; and 1 where memory runs out, with `out of memory` on `faults`, and where a write fails,
+/// with `read or write failed`. An output that can't be flushed is a write that failed.
 pub fn write_audit<W: Write, F: Write>(
     alloc: Global,
     pairs: &[OrderPair],

@@ -4,7 +4,7 @@ use crate::served::settings;
 use audit_lines::audit_text;
 use fix_fields::{Fields, split};
 use gate_audit::audit;
-use gate_core::{Batch, Event, IssuedReport, LineNumber};
+use gate_core::{Batch, ClientNumber, Event, IssuedReport, PortNumber};
 use gate_journal::History;
 use soup_packets::{Packet, Payload};
 use std::alloc::Global;
@@ -31,14 +31,14 @@ const ACCEPTED: &[u8] =
 fn a_life_begins_with_the_token_that_the_reports_count(rt: HostRuntime) -> Result<(), Fail> {
     let alloc = rt.alloc();
     let mut history = History::new(alloc);
-    history.push(tick(), told(alloc, LineNumber::at_place(0), &FIRST)?)?;
-    history.push(tick(), told(alloc, LineNumber::at_place(1), &SECOND)?)?;
+    history.push(tick(), told(alloc, ClientNumber::at_place(0), &FIRST)?)?;
+    history.push(tick(), told(alloc, ClientNumber::at_place(1), &SECOND)?)?;
     history.push(up(), Batch::empty(alloc))?;
     let login = packet(alloc, b'A', b"SESSION001                   1")?;
     history.push(login, Batch::empty(alloc))?;
     history.push(
         packet(alloc, b'S', ACCEPTED)?,
-        told(alloc, LineNumber::at_place(1), &OPEN)?,
+        told(alloc, ClientNumber::at_place(1), &OPEN)?,
     )?;
     let Ok(pairs) = audit(alloc, &history, &settings(alloc)?) else {
         return Err(Fail::new("no pairs"));
@@ -54,7 +54,7 @@ fn a_life_begins_with_the_token_that_the_reports_count(rt: HostRuntime) -> Resul
 /// Time passes.
 fn tick() -> Event {
     Event::PortTick {
-        port: LineNumber::at_place(0),
+        port: PortNumber::at_place(0),
         at: 0,
     }
 }
@@ -62,7 +62,7 @@ fn tick() -> Event {
 /// The port's link is up.
 fn up() -> Event {
     Event::PortUp {
-        port: LineNumber::at_place(0),
+        port: PortNumber::at_place(0),
         link: 7,
         at: 0,
     }
@@ -74,7 +74,7 @@ fn packet(alloc: Global, kind: u8, payload: &[u8]) -> Result<Event, Fail> {
         return Err(Fail::new("too long for a packet"));
     }
     Ok(Event::PortPacket {
-        port: LineNumber::at_place(0),
+        port: PortNumber::at_place(0),
         link: 7,
         at: 0,
         packet: Packet {
@@ -85,13 +85,13 @@ fn packet(alloc: Global, kind: u8, payload: &[u8]) -> Result<Event, Fail> {
 }
 
 /// A client is told these reports.
-fn told(alloc: Global, client: LineNumber, reports: &[&[u8]]) -> Result<Batch, Fail> {
+fn told(alloc: Global, client: ClientNumber, reports: &[&[u8]]) -> Result<Batch, Fail> {
     let mut told = Vec::new(alloc);
     for report in reports {
         told.push(issued(alloc, report)?)?;
     }
     let (outs, port_outs) = (Vec::new(alloc), Vec::new(alloc));
-    let port = LineNumber::at_place(0);
+    let port = PortNumber::at_place(0);
     Ok(Batch::of_parts(client, told, outs, port, port_outs, None))
 }
 

@@ -1,10 +1,9 @@
 //! The settings of all tests.
 
-use core_settings::{ClientSettings, PortSettings, Settings};
 use fix_fields::Text;
+use gate_core::{ClientSettings, ClientTerms, PortSettings, Settings};
 use std::alloc::Global;
 use std::test::Fail;
-use to_market::ClientTerms;
 
 /// The gateway GATE with one port and two clients on it, C1 and C2.
 pub fn settings(alloc: Global) -> Result<Settings, Fail> {

@@ -4,3 +4,4 @@ pub mod Lines
 pub mod Messages
 pub mod Packets
 pub mod Words
+pub use Rattle.gate_events.specs.Seen

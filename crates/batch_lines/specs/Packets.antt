@@ -1,6 +1,7 @@
 -- What is shown of a packet to the market.
 --
--- Source: SoupBinTCP 3.00, "Logical Packets", "Unsequenced Data Packet", "Login Request Packet", "Client Heartbeat Packet".
+-- Source: SoupBinTCP 3.00, "Logical Packets", "Unsequenced Data Packet", "Login Request Packet", "Client Heartbeat
+-- Packet".
 use Rattle.std.specs.Prelude.{ℕ, ◌+◌, ◌*◌, ◌==◌, List, [], ◌∷◌, ◌++◌, length, take, drop, codes, if◌then◌else◌}
 use Rattle.batch_lines.specs.Words.{bare}
 use Rattle.batch_lines.specs.Layouts.{shown_message}
@@ -29,4 +30,5 @@ abbrev pub shown_bytes : List ℕ → List ℕ
 shown_bytes [] = []
 shown_bytes (high ∷ []) = []
 shown_bytes (high ∷ low ∷ []) = []
-shown_bytes (high ∷ low ∷ kind ∷ payload) = if high * 256 + low == length payload + 1 then shown_packet kind payload else []
+shown_bytes (high ∷ low ∷ kind ∷ payload) = if high * 256 + low == length payload + 1 then shown_packet kind payload
+    else []

@@ -24,5 +24,5 @@ abbrev pub letter : ℕ → List ℕ
 letter byte = word (byte ∷ [])
 
 -- a space and a number
-abbrev pub number : ℕ → List ℕ
-number n = 32 ∷ decimal n
+abbrev pub shown_number : ℕ → List ℕ
+shown_number n = 32 ∷ decimal n

@@ -9,8 +9,8 @@ use crate::words::push_digits;
 use fix_fields::{Field, Fields, SOH, split};
 use std::alloc::{AllocError, Global};
 
-/// Adds a frame: whole where the flags ask for it, else its fields with `|` between them, without those of framing, names and
-/// moments. Nothing where the bytes are no fields.
+/// Adds a frame: whole where the flags ask for it, else its fields with `|` between them, without those of framing,
+/// names and moments. Nothing where the bytes are no fields.
 ///
 /// Source: FIX 4.4 Volume 2, "Standard Message Header", "Standard Message Trailer".
 pub(crate) fn push_frame(
@@ -80,8 +80,9 @@ fn push_field(text: &mut Vec<u8>, with_number: bool, field: Field<'_>) -> Result
     text.extend_from_slice(field.value)
 }
 
-/// Whether a field of this tag is shown: all are but BeginString (8), BodyLength (9), CheckSum (10), SenderCompID (49),
-/// TargetCompID (56), SendingTime (52), OrigSendingTime (122) and TransactTime (60); MsgSeqNum (34) is where it is asked for.
+/// Whether a field of this tag is shown: all are but BeginString (8), BodyLength (9), CheckSum (10), SenderCompID
+/// (49), TargetCompID (56), SendingTime (52), OrigSendingTime (122) and TransactTime (60); MsgSeqNum (34) is where it
+/// is asked for.
 fn is_shown(with_number: bool, tag: u32) -> bool
     ensures { result ≡ shown.is_shown with_number tag }
 {

@@ -2,18 +2,19 @@
 
 ghost use Rattle.std.specs.Prelude.{◌≡◌, ◌++◌, IfOk, OnOk, map};
 ghost use Rattle.std.specs.List.{flat_map};
-ghost use Rattle.core_batches.specs.Seen.{batch_seen, link_out_seen};
+ghost use Rattle.gate_events.specs.Seen.{batch_seen, link_out_seen};
 ghost use Rattle.batch_lines.specs.Lines as shown;
 
 use crate::flags::Flags;
 use crate::frames::push_frame;
 use crate::packets::push_packet;
 use crate::words::{push_name, push_number};
-use core_batches::{Batch, LinkOut, PortFault};
+use gate_events::{Batch, LinkOut, PortFault};
 use std::alloc::{AllocError, Global};
 
-/// The lines of a batch: what the client's link is told, then the port's fault, then what the port's link is told. They name the
-/// client and the port that the batch names; where it names none there are no such lines. Reports that aren't written aren't shown.
+/// The lines of a batch: what the client's link is told, then the port's fault, then what the port's link is told.
+/// They name the client and the port that the batch names; where it names none there are no such lines. Reports that
+/// aren't written aren't shown.
 ///
 /// | Line | What it shows |
 /// |---|---|
@@ -24,10 +25,11 @@ use std::alloc::{AllocError, Global};
 /// | `P1 fault 2` | the port's fault |
 /// | `C1 > close`, `P1 > close` | the link is closed |
 ///
-/// Of bytes that are none of these a line has nothing behind `>` but, for a client, a space. A link's number isn't shown.
+/// Of bytes that are none of these a line has nothing behind `>` but, for a client, a space. A link's number isn't
+/// shown.
 ///
-/// Source: FIX 4.4 Volume 2, "Standard Message Header"; OUCH 4.2, "Inbound Messages"; SoupBinTCP 3.00, "Packets Sent by the
-/// Client".
+/// Source: FIX 4.4 Volume 2, "Standard Message Header"; OUCH 4.2, "Inbound Messages"; SoupBinTCP 3.00, "Packets Sent
+/// by the Client".
 pub fn batch_text(alloc: Global, flags: Flags, batch: &Batch) -> Result<Vec<u8>, AllocError>
     ensures { IfOk result (λ text. text.items ≡ shown.shown_batch flags (batch_seen batch.now)) }
 {
@@ -56,7 +58,8 @@ fn push_client_outs(
     client: u16,
     outs: &[LinkOut],
 ) -> Result<(), AllocError>
-    ensures { OnOk result (text.new.items ≡ text.old.items ++ flat_map (shown.shown_client_out flags client) (map link_out_seen outs.now)) }
+    ensures { OnOk result (text.new.items ≡ text.old.items
+        ++ flat_map (shown.shown_client_out flags client) (map link_out_seen outs.now)) }
 {
     for out in outs {
         push_client_out(alloc, text, flags, client, out)?;
@@ -72,7 +75,8 @@ fn push_client_out(
     client: u16,
     out: &LinkOut,
 ) -> Result<(), AllocError>
-    ensures { OnOk result (text.new.items ≡ text.old.items ++ shown.shown_client_out flags client (link_out_seen out.now)) }
+    ensures { OnOk result (text.new.items ≡ text.old.items
+        ++ shown.shown_client_out flags client (link_out_seen out.now)) }
 {
     push_name(text, b'C', client)?;
     text.extend_from_slice(b" > ")?;
@@ -105,7 +109,8 @@ fn push_port_outs(
     port: u16,
     outs: &[LinkOut],
 ) -> Result<(), AllocError>
-    ensures { OnOk result (text.new.items ≡ text.old.items ++ flat_map (shown.shown_port_out port) (map link_out_seen outs.now)) }
+    ensures { OnOk result (text.new.items ≡ text.old.items
+        ++ flat_map (shown.shown_port_out port) (map link_out_seen outs.now)) }
 {
     for out in outs {
         push_port_out(alloc, text, port, out)?;

@@ -9,8 +9,8 @@ use ouch_codec::{Cancel, EnterOrder, Replace};
 use std::alloc::AllocError;
 use wire_law::FixedWire;
 
-/// Adds the message that these bytes are: its type and its fields, without padding, with a space before each. Nothing where
-/// they are none.
+/// Adds the message that these bytes are: its type and its fields, without padding, with a space before each. Nothing
+/// where they are none.
 ///
 /// Source: OUCH 4.2, "Inbound Messages".
 pub(crate) fn push_message(text: &mut Vec<u8>, bytes: &[u8]) -> Result<(), AllocError>

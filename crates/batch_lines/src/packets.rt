@@ -18,8 +18,8 @@ const SESSION: usize = 10;
 /// How many bytes a login has.
 const LOGIN: usize = 46;
 
-/// Adds what the packet of these bytes says: a message to the market, a login request or a heartbeat, with a space before
-/// each word. Nothing where they are none of these.
+/// Adds what the packet of these bytes says: a message to the market, a login request or a heartbeat, with a space
+/// before each word. Nothing where they are none of these.
 ///
 /// Source: SoupBinTCP 3.00, "Packets Sent by the Client".
 pub(crate) fn push_packet(alloc: Global, text: &mut Vec<u8>, bytes: &[u8]) -> Result<(), AllocError>
@@ -44,8 +44,8 @@ fn push_said(text: &mut Vec<u8>, packet: &Packet) -> Result<(), AllocError>
     }
 }
 
-/// Adds a login request: the session that is asked for, `-` where it is blank, and the number that is wanted next. Neither user
-/// nor password is shown. Nothing where these bytes are none.
+/// Adds a login request: the session that is asked for, `-` where it is blank, and the number that is wanted next.
+/// Neither user nor password is shown. Nothing where these bytes are none.
 ///
 /// Source: SoupBinTCP 3.00, "Login Request Packet".
 fn push_login(text: &mut Vec<u8>, payload: &[u8]) -> Result<(), AllocError>

@@ -31,7 +31,7 @@ fn trimmed(word: &[u8]) -> &[u8]
 
 /// Adds a space and a number.
 pub(crate) fn push_number(text: &mut Vec<u8>, number: u32) -> Result<(), AllocError>
-    ensures { OnOk result (text.new.items ≡ text.old.items ++ shown.number number) }
+    ensures { OnOk result (text.new.items ≡ text.old.items ++ shown.shown_number number) }
 {
     text.push(b' ')?;
     push_digits(text, number)

@@ -1,10 +1,10 @@
 //! Runs the examples: each script that an argument names has to print just what stands beside it.
 //!
-//! For a script NAME the folder has the files `NAME`, the script, and `NAME.stdout`, what it prints. A verdict for each is
-//! printed.
+//! For a script NAME the folder has the files `NAME`, the script, and `NAME.stdout`, what it prints. A verdict for
+//! each is printed.
 #![tactic(auto)]
 
-use core_scripts::{Flags, run_script};
+use gate_lines::{Flags, run_script};
 use std::{env, fs, io};
 
 /// No flag.

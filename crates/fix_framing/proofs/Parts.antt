@@ -2,7 +2,7 @@
 use Rattle.std.proofs.Common.{◌≡◌, ◌≢◌, ◌^◌, min, ℕ, zero, suc, ◌+◌, ◌-◌, ◌≤◌, List, [], ◌∷◌, ◌++◌, length, drop, refl, sym, ap, ◌∙◌, arith, append_assoc}
 use Rattle.std.proofs.lemmas.List.{append-nil, drop-drop, length-drop}
 use Rattle.fix_fields.specs.Field.{Field}
-use Rattle.fix_framing.specs.Stream.{Place, Frame, Skipped, Waiting, TooLong, End, Rest, Over, Parts, place, parts, parts_of, parts_behind, with_frame, with_skipped, only, Standing, Leaves, Feeds}
+use Rattle.fix_framing.specs.Stream.{Place, Frame, Skipped, Waiting, TooLong, End, Rest, Over, StreamParts, place, parts, parts_of, parts_behind, with_frame, with_skipped, only, ReaderStanding, BytesLeave, Feeds}
 use Rattle.fix_framing.proofs.Places.{place_more, frame_is_there, place_of_nothing}
 
 -- ---- what stands in front, and the parts behind it
@@ -51,25 +51,25 @@ parts-too_long (byte ∷ s) e = ap (λ (p : Place). parts_of p (byte ∷ s) (λ 
 -- ---- one stream behind another
 
 -- these frames and so many skipped bytes come before the parts
-abbrev pub behind : List (List Field) → ℕ → Parts → Parts
+abbrev pub behind : List (List Field) → ℕ → StreamParts → StreamParts
 behind frames skipped p = record { frames = frames ++ p.frames; skipped = skipped + p.skipped; end = p.end }
 
-abbrev go_on : List (List Field) → ℕ → End → List ℕ → Parts
+abbrev go_on : List (List Field) → ℕ → End → List ℕ → StreamParts
 go_on frames skipped (Rest bytes) more = behind frames skipped (parts (bytes ++ more))
 go_on frames skipped Over more = record { frames = frames; skipped = skipped; end = Over }
 
 -- the parts of a stream that goes on after its end
-abbrev pub joined : Parts → List ℕ → Parts
+abbrev pub joined : StreamParts → List ℕ → StreamParts
 joined p more = go_on p.frames p.skipped p.end more
 
-joined-with_frame : (fields : List Field) (p : Parts) (more : List ℕ) → with_frame fields (joined p more) ≡ joined (with_frame fields p) more
+joined-with_frame : (fields : List Field) (p : StreamParts) (more : List ℕ) → with_frame fields (joined p more) ≡ joined (with_frame fields p) more
 joined-with_frame fields p more = by_end p.end
   where
     by_end : (e : End) → with_frame fields (go_on p.frames p.skipped e more) ≡ go_on (fields ∷ p.frames) p.skipped e more
     by_end (Rest bytes) = refl
     by_end Over = refl
 
-joined-with_skipped : (p : Parts) (more : List ℕ) → with_skipped (joined p more) ≡ joined (with_skipped p) more
+joined-with_skipped : (p : StreamParts) (more : List ℕ) → with_skipped (joined p more) ≡ joined (with_skipped p) more
 joined-with_skipped p more = by_end p.end
   where
     by_end : (e : End) → with_skipped (go_on p.frames p.skipped e more) ≡ go_on p.frames (p.skipped + 1) e more
@@ -79,7 +79,7 @@ joined-with_skipped p more = by_end p.end
     by_end Over = refl
 
 -- nothing before the parts
-pub behind-nothing : (p : Parts) → p ≡ behind [] 0 p
+pub behind-nothing : (p : StreamParts) → p ≡ behind [] 0 p
 behind-nothing p = let zero-more : 0 + p.skipped ≡ p.skipped = omega arith in rw zero-more refl
 
 -- at a byte, if what is behind it goes on so
@@ -103,7 +103,7 @@ append_at byte s more rest Skipped e =
     other h = cc
 append_at byte s more rest Waiting e = at_place (parts_of (place (byte ∷ (s ++ more))) (byte ∷ (s ++ more)) (λ inside. parts_behind inside (s ++ more))) (parts ((byte ∷ s) ++ more)) refl
   where
-    at_place : (p q : Parts) → p ≡ q → p ≡ behind [] 0 q
+    at_place : (p q : StreamParts) → p ≡ q → p ≡ behind [] 0 q
     at_place p q same = same ∙ behind-nothing q
 append_at byte s more rest TooLong e =
     let kept : place (byte ∷ (s ++ more)) ≡ TooLong = place_more (byte ∷ s) more (λ w. other (sym e ∙ w)) ∙ e in
@@ -180,23 +180,23 @@ at_over text frames skipped at on e = at_end text frames skipped at Over on (par
 -- ---- a piece that is fed
 
 -- a reader with bytes that wait, fed a piece, is as the parts of both together say
-pub feeds : (fed piece bytes : List ℕ) (old after : Standing) (p : Parts) → Leaves fed old → old.end ≡ Rest bytes → p ≡ parts (bytes ++ piece) → after.end ≡ p.end → after.skipped ≡ min (old.skipped + p.skipped) (2 ^ 64 - 1) → Feeds fed piece p.frames after
-unfolding Leaves
+pub feeds : (fed piece bytes : List ℕ) (old after : ReaderStanding) (p : StreamParts) → BytesLeave fed old → old.end ≡ Rest bytes → p ≡ parts (bytes ++ piece) → after.end ≡ p.end → after.skipped ≡ min (old.skipped + p.skipped) (2 ^ 64 - 1) → Feeds fed piece p.frames after
+unfolding BytesLeave
 feeds fed piece bytes old after p left waits same end skipped =
     let all : parts (fed ++ piece) ≡ behind (parts fed).frames (parts fed).skipped p =
     parts-append fed piece ∙ ap (λ (e : End). go_on (parts fed).frames (parts fed).skipped e piece) (sym left.0 ∙ waits) ∙ ap (behind (parts fed).frames (parts fed).skipped) (sym same) in
     record {
-      frames = ap (λ (q : Parts). q.frames) all;
-      leaves = (end ∙ sym (ap (λ (q : Parts). q.end) all), omega (arith, skipped, left.1, ap (λ (q : Parts). q.skipped) all));
+      frames = ap (λ (q : StreamParts). q.frames) all;
+      leaves = (end ∙ sym (ap (λ (q : StreamParts). q.end) all), omega (arith, skipped, left.1, ap (λ (q : StreamParts). q.skipped) all));
     }
 
 -- one that is over gives nothing more
-pub feeds_over : (fed piece : List ℕ) (old : Standing) → Leaves fed old → old.end ≡ Over → Feeds fed piece [] old
-unfolding Leaves
+pub feeds_over : (fed piece : List ℕ) (old : ReaderStanding) → BytesLeave fed old → old.end ≡ Over → Feeds fed piece [] old
+unfolding BytesLeave
 feeds_over fed piece old left over =
     let all : parts (fed ++ piece) ≡ record { frames = (parts fed).frames; skipped = (parts fed).skipped; end = Over } =
     parts-append fed piece ∙ ap (λ (e : End). go_on (parts fed).frames (parts fed).skipped e piece) (sym left.0 ∙ over) in
     record {
-      frames = ap (λ (q : Parts). q.frames) all ∙ sym (append-nil (parts fed).frames);
-      leaves = (over ∙ sym (ap (λ (q : Parts). q.end) all), omega (arith, left.1, ap (λ (q : Parts). q.skipped) all));
+      frames = ap (λ (q : StreamParts). q.frames) all ∙ sym (append-nil (parts fed).frames);
+      leaves = (over ∙ sym (ap (λ (q : StreamParts). q.end) all), omega (arith, left.1, ap (λ (q : StreamParts). q.skipped) all));
     }

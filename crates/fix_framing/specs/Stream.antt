@@ -1,10 +1,11 @@
--- The frames of a stream of bytes. A stream is cut from the left: a frame where one stands, else one byte is skipped, up
--- to what can't be judged yet, or to a head that announces too long a frame.
-use Rattle.std.specs.Prelude.{◌≡◌, ◌++◌, ◌^◌, min, ℕ, zero, suc, ◌+◌, ◌-◌, ◌==◌, Bool, ◌&&◌, nat_lt, List, [], ◌∷◌, length, take, drop, Option, Some, None, slice_index_or, if◌then◌else◌}
+-- The frames of a stream of bytes. A stream is cut from the left: a frame where one stands, else one byte is skipped,
+-- up to what can't be judged yet, or to a head that announces too long a frame.
+use Rattle.std.specs.Prelude.{◌≡◌, ◌++◌, ◌^◌, min, ℕ, zero, suc, ◌+◌, ◌-◌, ◌==◌, Bool, ◌&&◌, nat_lt, List, [], ◌∷◌}
+use Rattle.std.specs.Prelude.{length, take, drop, Option, Some, None, slice_index_or, if◌then◌else◌}
 use Rattle.std.specs.Char.{is_ascii_digit}
 use Rattle.std.specs.List.{prefix_len}
 use Rattle.fix_fields.specs.Field.{Field}
-use Rattle.fix_fields.specs.Front.{number_of}
+use Rattle.decimal_digits.specs.Digits.{number_of}
 use Rattle.fix_fields.specs.Reading.{fields_of}
 use Rattle.fix_framing.specs.Frame.{opening, begins_with, ends_with, trailer, trailer_size, is_body}
 
@@ -16,8 +17,8 @@ longest = 8_192
 abbrev pub most_digits : ℕ
 most_digits = 6
 
--- what a stream begins with: a head of so many bytes that announces a body of so many; less than a head, but what a head
--- may begin with; or neither
+-- what a stream begins with: a head of so many bytes that announces a body of so many; less than a head, but what a
+-- head may begin with; or neither
 pub data Start : Type 0 where
   Head : (head body : ℕ) → Start
   LessThanHead : Start
@@ -45,8 +46,8 @@ is_whole head text =
     let counted = take (length text - trailer_size) text in
     is_body (drop head counted) && ends_with (trailer counted) text
 
--- what stands in front of a stream: a frame of so many bytes with these fields; a byte that is skipped; what has to wait
--- for more; or a head that announces too long a frame
+-- what stands in front of a stream: a frame of so many bytes with these fields; a byte that is skipped; what has to
+-- wait for more; or a head that announces too long a frame
 pub data Place : Type 0 where
   Frame : (size : ℕ) (fields : List Field) → Place
   Skipped : Place
@@ -79,42 +80,44 @@ pub data End : Type 0 where
   Over : End
 
 -- the parts of a stream
-pub record Parts : Type 0 where
+pub record StreamParts : Type 0 where
   pub frames : List (List Field)
   pub skipped : ℕ
   pub end : End
 
-abbrev pub with_frame : List Field → Parts → Parts
+abbrev pub with_frame : List Field → StreamParts → StreamParts
 with_frame fields parts = record parts { frames = fields ∷ parts.frames }
 
-abbrev pub with_skipped : Parts → Parts
+abbrev pub with_skipped : StreamParts → StreamParts
 with_skipped parts = record parts { skipped = parts.skipped + 1 }
 
-abbrev pub only : End → Parts
+abbrev pub only : End → StreamParts
 only end = record { frames = []; skipped = 0; end = end }
 
--- the parts of a stream with this place in front; `rest` are those of what is behind its first byte, so many bytes further
-abbrev pub parts_of : Place → List ℕ → (ℕ → Parts) → Parts
+-- the parts of a stream with this place in front; `rest` are those of what is behind its first byte, so many bytes
+-- further
+abbrev pub parts_of : Place → List ℕ → (ℕ → StreamParts) → StreamParts
 parts_of (Frame size fields) stream rest = with_frame fields (rest (size - 1))
 parts_of Skipped stream rest = with_skipped (rest 0)
 parts_of Waiting stream rest = only (Rest stream)
 parts_of TooLong stream rest = only Over
 
 -- the parts of a stream of which so many bytes still belong to the last frame
-unfoldable pub parts_behind : ℕ → List ℕ → Parts
+unfoldable pub parts_behind : ℕ → List ℕ → StreamParts
 parts_behind inside [] = only (Rest [])
 parts_behind (suc inside) (byte ∷ stream) = parts_behind inside stream
-parts_behind zero (byte ∷ stream) = parts_of (place (byte ∷ stream)) (byte ∷ stream) (λ inside. parts_behind inside stream)
+parts_behind zero (byte ∷ stream) = parts_of (place (byte ∷ stream)) (byte ∷ stream)
+    (λ inside. parts_behind inside stream)
 
 -- the parts of a whole stream
-abbrev pub parts : List ℕ → Parts
+abbrev pub parts : List ℕ → StreamParts
 parts stream = parts_behind 0 stream
 
 -- ---- what a reader of a stream is
 
 -- the bytes that it still has to judge, or that no more frames come; and how many bytes it passed over, which doesn't
 -- count further than a word of 64 bits does
-pub record Standing : Type 0 where
+pub record ReaderStanding : Type 0 where
   pub end : End
   pub skipped : ℕ
 
@@ -122,11 +125,11 @@ abbrev pub counted_skips : ℕ → ℕ
 counted_skips skipped = min skipped (2 ^ 64 - 1)
 
 -- the reader is what these bytes leave, fed in whatever pieces
-unfoldable pub Leaves : List ℕ → Standing → Type 0
-Leaves fed reader = (reader.end ≡ (parts fed).end) × (reader.skipped ≡ counted_skips (parts fed).skipped)
+unfoldable pub BytesLeave : List ℕ → ReaderStanding → Type 0
+BytesLeave fed reader = (reader.end ≡ (parts fed).end) × (reader.skipped ≡ counted_skips (parts fed).skipped)
 
--- fed a piece after these bytes, it gave these frames and is now so: with the frames given before, they are those of all
--- bytes fed
-pub record Feeds (fed piece : List ℕ) (given : List (List Field)) (after : Standing) : Type 0 where
+-- fed a piece after these bytes, it gave these frames and is now so: with the frames given before, they are those of
+-- all bytes fed
+pub record Feeds (fed piece : List ℕ) (given : List (List Field)) (after : ReaderStanding) : Type 0 where
   pub frames : (parts (fed ++ piece)).frames ≡ (parts fed).frames ++ given
-  pub leaves : Leaves (fed ++ piece) after
+  pub leaves : BytesLeave (fed ++ piece) after

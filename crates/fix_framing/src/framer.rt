@@ -1,7 +1,7 @@
 //! The reader of a stream.
 
 ghost use Rattle.std.specs.Prelude.{◌≡◌, ◌≢◌, ◌+◌, ◌-◌, ◌^◌, ◌++◌, ℕ, List, [], min, IfOk, IfErr, IsTrue, ◌↔◌};
-ghost use Rattle.fix_framing.specs.Stream.{Rest, Over, Leaves, Feeds, parts, counted_skips};
+ghost use Rattle.fix_framing.specs.Stream.{Rest, Over, BytesLeave, Feeds, parts, counted_skips};
 ghost use Rattle.fix_framing.specs.Scanned.{scanned_end, scanned_parts};
 ghost use Rattle.fix_framing.specs.declared.frame_fault.FrameFault.TheVariants.{TooLong, NoMemory};
 
@@ -24,19 +24,19 @@ pub struct Framer {
 }
 
 impl Model for Framer {
-    ghost use Rattle.fix_framing.specs.Stream.{Standing};
+    ghost use Rattle.fix_framing.specs.Stream.{ReaderStanding};
     ghost use Rattle.fix_framing.specs.Scanned.{scanned_end};
 
-    ghost Value = { Standing };
+    ghost Value = { ReaderStanding };
 
     ghost view = { λ f. record { end = scanned_end f.end; skipped = f.skipped } };
 }
 
 impl Framer {
     /// The reader of a stream of which nothing has come. Takes no memory.
-    #[tactic(auto, unfolding(crate::specs::Stream::Leaves, crate::specs::Stream::parts_behind))]
+    #[tactic(auto, unfolding(crate::specs::Stream::BytesLeave, crate::specs::Stream::parts_behind))]
     pub fn new(alloc: Global) -> Framer
-        ensures { Leaves [] result }
+        ensures { BytesLeave [] result }
     {
         Framer {
             end: StreamEnd::Rest(Vec::new(alloc)),
@@ -49,11 +49,13 @@ impl Framer {
     /// `TooLong` where a head announces a frame of more than 8,192 bytes: frames before it in the same piece are given
     /// first, and `TooLong` by the next feed and by all that follow. After `NoMemory` nothing of the piece was taken.
     pub fn feed(&mut self, alloc: Global, piece: &[u8]) -> Result<Vec<Fields>, FrameFault>
-        ensures frames { IfOk result (λ given. (fed : List ℕ) → Leaves fed self.old → Feeds fed piece.now given.items self.new) }
+        ensures frames { IfOk result (λ given. (fed : List ℕ) → BytesLeave fed self.old
+            → Feeds fed piece.now given.items self.new) }
 
         // Frames before too long a one are given first.
         ensures first { IfOk result (λ given. self.new.end ≡ Over → given.items ≢ []) }
-        ensures too_long { result ≡ Err TooLong → (fed : List ℕ) → Leaves fed self.old → Feeds fed piece.now [] self.new }
+        ensures too_long { result ≡ Err TooLong → (fed : List ℕ) → BytesLeave fed self.old
+            → Feeds fed piece.now [] self.new }
 
         // From then on there are no frames.
         ensures over { result ≡ Err TooLong → self.new.end ≡ Over }
@@ -99,7 +101,7 @@ impl Framer {
     /// How many bytes were skipped; 2^64 - 1 stands for more. Takes no memory.
     pub fn skipped(&self) -> u64
         ensures now { result ≡ self.now.skipped }
-        ensures counted { (fed : List ℕ) → Leaves fed self.now → result ≡ counted_skips (parts fed).skipped }
+        ensures counted { (fed : List ℕ) → BytesLeave fed self.now → result ≡ counted_skips (parts fed).skipped }
     {
         self.skipped
     }

@@ -1,7 +1,7 @@
 //! FIX messages out of a stream of bytes, and messages as bytes again.
 //!
-//! A stream comes in pieces of any size. Each frame in it is given once, as its fields, whatever lies between frames and
-//! however the stream was cut; bytes that can be no part of a frame are skipped and counted.
+//! A stream comes in pieces of any size. Each frame in it is given once, as its fields, whatever lies between frames
+//! and however the stream was cut; bytes that can be no part of a frame are skipped and counted.
 //!
 //! Source: FIX 4.4 Volume 1, "Message Format"; Volume 2, "Standard Message Header", "Standard Message Trailer",
 //! "CheckSum Calculation".

@@ -1,18 +1,18 @@
 -- When the code's call is what the table gives.
 use Rattle.std.specs.Prelude.{◌≡◌, ℕ, List, map}
 use Rattle.session_law.specs.Session.{State, Given}
-use Rattle.session_law.specs.Runs.{Turn}
-use Rattle.session_law.specs.Frames.{told_of}
-use Rattle.session_frames.specs.Written.{told}
+use Rattle.session_law.specs.Runs.{CallTurn}
+use Rattle.session_law.specs.Frames.{told_of_out}
+use Rattle.session_writing.specs.Written.{told_bytes}
 use Rattle.fix_session.specs.declared.session.SessionTurn.{SessionTurn}
 
--- a call gives the outputs of this turn, in bytes between these two, and what it gives up
-pub record Tells (gate client : List ℕ) (turn : SessionTurn) (t : Turn) : Type 0 where
-  pub outs : map told turn.outs.items ≡ map (told_of gate client) t.outs
+-- a call gives the outputs of this turn, in bytes between these two, and what it delivers
+pub record Tells (gate client : List ℕ) (turn : SessionTurn) (t : CallTurn) : Type 0 where
+  pub outs : map told_bytes turn.outs.items ≡ map (told_of_out gate client) t.outs
   pub app : turn.app ≡ t.app
 
 -- a call gives what the table gives, and leaves the table's state
 pub record Meets (s : State) (g : Given) (turn : SessionTurn) (new : State) : Type 0 where
-  pub outs : map told turn.outs.items ≡ map (told_of s.gate s.client) g.outs
+  pub outs : map told_bytes turn.outs.items ≡ map (told_of_out s.gate s.client) g.outs
   pub app : turn.app ≡ g.app
   pub state : new ≡ g.state

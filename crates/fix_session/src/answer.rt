@@ -1,19 +1,21 @@
 //! What each line of the table writes.
 
-ghost use Rattle.std.specs.Prelude.{fold, ◌≡◌, ◌≤◌, ◌<◌, ◌^◌, ◌++◌, ◌∷◌, [], length, IfOk, OnOk, Some, None, codes, decimal, true, false, nat_le};
+ghost use Rattle.std.specs.Prelude.{fold, ◌≡◌, ◌≤◌, ◌<◌, ◌^◌, ◌++◌, ◌∷◌, [], length, IfOk, OnOk, Some, None, codes};
+ghost use Rattle.std.specs.Prelude.{decimal, true, false, nat_le};
 ghost use Rattle.fix_fields.specs.Field.{IsValue};
-ghost use Rattle.session_law.specs.Session.{State, Given, perform, quiet, answered, sent_again, SayUnsupported, kept, Say, Heartbeat};
+ghost use Rattle.session_law.specs.Session.{State, Given, perform, quiet, answered, sent_again, SayUnsupported, kept};
+ghost use Rattle.session_law.specs.Session.{Say, Heartbeat};
 ghost use Rattle.session_law.specs.Table as table;
-ghost use Rattle.session_law.specs.Messages as law;
+ghost use Rattle.fix_fields.specs.Field as tags;
 ghost use Rattle.fix_session.specs.Made.{made};
-ghost use Rattle.session_rows.specs.Judged.{taken_answer, row_answer, RowFits, TakenFits};
+ghost use Rattle.session_reading.specs.Judged.{taken_answer, row_answer, RowFits, TakenFits};
 
 use crate::draft::Draft;
 use crate::session::Session;
 use fix_fields::Fields;
-use session_frames::{echo_body, too_low_body, unsupported_body};
 use session_law::Kind;
-use session_rows::{Row, Taken, numbered, text};
+use session_reading::{Row, Taken, numbered, text};
+use session_writing::{echo_body, too_low_body, unsupported_body};
 use std::alloc::{AllocError, Global};
 
 /// Does what the line of the table says, from nothing on.
@@ -30,7 +32,8 @@ pub fn answer(
     requires expected { draft.old.expected < 2 ^ 61 }
     requires row { RowFits m.now (length session.now.given) row }
     ensures { OnOk result (made session.now draft.new
-        ≡ answered at (made session.now draft.old).state (row_answer session.now m.now (table.numbered m.now) session.now.expected row)) }
+        ≡ answered at (made session.now draft.old).state
+        (row_answer session.now m.now (table.message_number m.now) session.now.expected row)) }
 {
     match row {
         Row::NumberMissing => draft.log_out(alloc, session, b"MsgSeqNum missing", at),
@@ -81,7 +84,8 @@ fn names_wrong(
     at: u64,
 ) -> Result<(), AllocError>
     ensures { OnOk result (made session.now draft.new
-        ≡ fold (perform at) (made session.now draft.old) (table.reject m.now tag 9 ∷ table.log_out (codes "CompID problem"))) }
+        ≡ fold (perform at) (made session.now draft.old)
+        (table.reject_act m.now tag 9 ∷ table.log_out (codes "CompID problem"))) }
 {
     draft.reject(alloc, session, m, tag, 9, at)?;
     draft.log_out(alloc, session, b"CompID problem", at)
@@ -95,7 +99,8 @@ fn ask_unless_waiting(
     received: u64,
     at: u64,
 ) -> Result<(), AllocError>
-    ensures { OnOk result (made session.now draft.new ≡ fold (perform at) (made session.now draft.old) (table.ask_again session.now received)) }
+    ensures { OnOk result (made session.now draft.new
+        ≡ fold (perform at) (made session.now draft.old) (table.ask_again session.now received)) }
 {
     if session.is_waiting() {
         Ok(())
@@ -114,7 +119,8 @@ fn act(
     at: u64,
 ) -> Result<(), AllocError>
     requires { TakenFits m.now (length session.now.given) taken }
-    ensures { OnOk result (made session.now draft.new ≡ fold (perform at) (made session.now draft.old) (taken_answer m.now taken).acts) }
+    ensures { OnOk result (made session.now draft.new
+        ≡ fold (perform at) (made session.now draft.old) (taken_answer m.now taken).acts) }
 {
     match taken {
         Taken::Nothing => Ok(()),
@@ -127,7 +133,7 @@ fn act(
         }
         Taken::LoggedOut => draft.log_out_silently(alloc, session, at),
         Taken::AlreadyLoggedOn => draft.log_out(alloc, session, b"already logged on", at),
-        Taken::GivenUp => draft.give_up(alloc, session, m, at),
+        Taken::Delivered => draft.deliver(alloc, session, m, at),
         Taken::Unsupported => unsupported(alloc, draft, session, m, at),
     }
 }
@@ -141,7 +147,7 @@ fn echo(
     at: u64,
 ) -> Result<(), AllocError>
     ensures { OnOk result (made session.now draft.new
-        ≡ perform at (made session.now draft.old) (Say Heartbeat (law.field 112 (law.text 112 m.now) ∷ []))) }
+        ≡ perform at (made session.now draft.old) (Say Heartbeat (tags.field 112 (tags.text 112 m.now) ∷ []))) }
 {
     let body = echo_body(alloc, text(m, 112))?;
     draft.say(session, Kind::Heartbeat, body, at)

@@ -1,14 +1,15 @@
 //! An answer as it is made: nothing of the session changes before all of it stands.
 
 ghost use Rattle.session_law.specs.Table as table;
-ghost use Rattle.std.specs.Prelude.{max, fold, ◌≤◌, ◌≡◌, ◌+◌, ◌<◌, ◌^◌, ◌∷◌, ◌++◌, [], length, IfOk, OnErr, OnOk, Some, None, true, false, if◌then◌else◌};
+ghost use Rattle.std.specs.Prelude.{max, fold, ◌≤◌, ◌≡◌, ◌+◌, ◌<◌, ◌^◌, ◌∷◌, ◌++◌, [], length, IfOk, OnErr, OnOk, Some};
+ghost use Rattle.std.specs.Prelude.{None, true, false, if◌then◌else◌};
 
 use crate::session::Session;
 use fix_fields::Fields;
 use fix_types::AppMsg;
-use session_frames::{append_resend, ask_body, echo_body, reject_body, text_body};
 use session_law::{Frame, Kept, Kind, Logged, Out, Phase};
-use session_rows::application_of;
+use session_reading::application_of;
+use session_writing::{append_resend, ask_body, echo_body, reject_body, text_body};
 use std::alloc::{AllocError, Global};
 
 /// What a call gives, as far as it is made.
@@ -22,16 +23,18 @@ pub struct Draft {
     /// What the numbers that it takes are given to.
     pub slots: Vec<Option<Kept>>,
     pub outs: Vec<Out>,
-    /// The message, where it is given up as the application's.
+    /// The message, where it is delivered to the application.
     pub app: Option<AppMsg>,
 }
 
 impl Draft {
     ghost use Rattle.session_law.specs.Runs.{at_moment, heard};
     ghost use Rattle.session_law.specs.Table.{is_logged_on};
-    ghost use Rattle.session_law.specs.Session.{quiet, logged, reset, Logon, perform, numbered, said, kept, next_out, on_written, Given, Say, Shut, Grow, Expect, Slot, AskAgain, Test, GiveUp, sent_again};
+    ghost use Rattle.session_law.specs.Session.{quiet, logged, reset, Logon, perform, numbered, said, kept, next_out};
+    ghost use Rattle.session_law.specs.Session.{on_written, Given, Say, Shut, Grow, Expect, Slot, AskAgain, Test};
+    ghost use Rattle.session_law.specs.Session.{Deliver, sent_again};
     ghost use Rattle.session_law.specs.Formats.{application_refusal};
-    ghost use Rattle.session_law.specs.Table.{reject, log_out, log_out_silently};
+    ghost use Rattle.session_law.specs.Table.{reject_act, log_out, log_out_silently};
     ghost use Rattle.fix_fields.specs.Field.{IsValue};
     ghost use Rattle.fix_session.specs.Made.{made};
 
@@ -122,7 +125,8 @@ impl Draft {
         body: Fields,
         at: u64,
     ) -> Result<(), AllocError>
-        ensures { OnOk result (made session.now self.new ≡ kept at (is_logged_on self.old.phase) kind body (made session.now self.old)) }
+        ensures { OnOk result (made session.now self.new
+            ≡ kept at (is_logged_on self.old.phase) kind body (made session.now self.old)) }
     {
         match self.phase {
             Phase::LoggedOn(on) => {
@@ -231,7 +235,8 @@ impl Draft {
         reason: u64,
         at: u64,
     ) -> Result<(), AllocError>
-        ensures { OnOk result (made session.now self.new ≡ perform at (made session.now self.old) (reject m.now tag reason)) }
+        ensures { OnOk result (made session.now self.new
+            ≡ perform at (made session.now self.old) (reject_act m.now tag reason)) }
     {
         let body = reject_body(alloc, m, tag, reason)?;
         self.say(session, Kind::Reject, body, at)
@@ -246,7 +251,8 @@ impl Draft {
         at: u64,
     ) -> Result<(), AllocError>
         requires { IsValue why.now }
-        ensures { OnOk result (made session.now self.new ≡ fold (perform at) (made session.now self.old) (log_out why.now)) }
+        ensures { OnOk result (made session.now self.new
+            ≡ fold (perform at) (made session.now self.old) (log_out why.now)) }
     {
         let body = text_body(alloc, why)?;
         self.say(session, Kind::Logout, body, at)?;
@@ -260,7 +266,8 @@ impl Draft {
         session: &Session,
         at: u64,
     ) -> Result<(), AllocError>
-        ensures { OnOk result (made session.now self.new ≡ fold (perform at) (made session.now self.old) log_out_silently) }
+        ensures { OnOk result (made session.now self.new
+            ≡ fold (perform at) (made session.now self.old) log_out_silently) }
     {
         self.say(session, Kind::Logout, Fields::new(alloc), at)?;
         self.shut(session, at)
@@ -299,8 +306,8 @@ impl Draft {
         Ok(())
     }
 
-    /// The message is given up as the application's.
-    pub fn give_up(
+    /// The message is delivered to the application.
+    pub fn deliver(
         &mut self,
         alloc: Global,
         session: &Session,
@@ -308,7 +315,7 @@ impl Draft {
         at: u64,
     ) -> Result<(), AllocError>
         requires { application_refusal m.now ≡ None }
-        ensures { OnOk result (made session.now self.new ≡ perform at (made session.now self.old) (GiveUp m.now)) }
+        ensures { OnOk result (made session.now self.new ≡ perform at (made session.now self.old) (Deliver m.now)) }
     {
         self.app = Some(application_of(alloc, m)?);
         Ok(())
@@ -326,7 +333,8 @@ impl Draft {
         requires given { (made session.now self.old).state.given ≡ session.now.given }
         requires from { 1 ≤ from }
         requires to { to ≤ length session.now.given }
-        ensures { OnOk result (made session.now self.new ≡ sent_again at (made session.now self.old) (Some (record { from = from; to = to }))) }
+        ensures { OnOk result (made session.now self.new
+            ≡ sent_again at (made session.now self.old) (Some (record { from = from; to = to }))) }
     {
         let before = self.outs.len();
         append_resend(alloc, &mut self.outs, session.given(), from, to, at)?;

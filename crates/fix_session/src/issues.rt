@@ -10,7 +10,7 @@ use std::alloc::{AllocError, Global};
 
 /// The type of the frame of a body.
 pub fn kind_of(body: &AppBody) -> Kind
-    ensures { result ≡ law.kind_of body.now }
+    ensures { result ≡ law.issued_kind body.now }
 {
     match body {
         AppBody::Report(_) => Kind::Report,
@@ -20,7 +20,7 @@ pub fn kind_of(body: &AppBody) -> Kind
 
 /// The fields of a body, behind a header.
 pub fn body_of(alloc: Global, body: &AppBody) -> Result<Fields, AllocError>
-    ensures { IfOk result (λ fields. fields ≡ law.body_of body.now) }
+    ensures { IfOk result (λ fields. fields ≡ law.issued_body body.now) }
 {
     match body {
         AppBody::Report(report) => report.body(alloc),

@@ -2,16 +2,15 @@
 //! nothing and takes no memory.
 
 ghost use Rattle.std.specs.Prelude.{◌≡◌, ◌≤◌, ◌<◌, ◌^◌, length, if◌then◌else◌, codes};
-ghost use Rattle.session_law.specs.Messages as law;
 ghost use Rattle.session_law.specs.Table as table;
-ghost use Rattle.session_law.specs.Table.{first_row, resend_answer, with_acts, ask_again};
-ghost use Rattle.session_rows.specs.Judged.{row_answer, RowFits};
+ghost use Rattle.session_law.specs.Table.{answer_by, resend_answer, with_acts, ask_again};
+ghost use Rattle.session_reading.specs.Judged.{row_answer, RowFits};
 ghost use Rattle.fix_session.specs.Logons.{logon_answer};
 
 use crate::draft::first_number;
 use crate::session::Session;
 use fix_fields::Fields;
-use session_rows::{
+use session_reading::{
     Row, interval_of, is, is_interval, is_plain_reset, is_reset_flag, is_type, judge_low,
     judge_plain_reset, judge_resend, judge_taken, numbered, resets,
 };
@@ -25,8 +24,9 @@ fn is_from_client(session: &Session, m: &Fields) -> bool
 
 /// The line that a message of a client that is logged on meets.
 pub fn judge(session: &Session, m: &Fields) -> Row
-    ensures answer { first_row (table.logged_on_rows session.now m.now (table.numbered m.now) session.now.expected)
-        ≡ row_answer session.now m.now (table.numbered m.now) session.now.expected result }
+    ensures answer { answer_by (table.logged_on_rows session.now m.now
+        (table.message_number m.now) session.now.expected)
+        ≡ row_answer session.now m.now (table.message_number m.now) session.now.expected result }
     ensures fits { RowFits m.now (length session.now.given) result }
 {
     let received = numbered(m);
@@ -56,10 +56,11 @@ pub fn judge(session: &Session, m: &Fields) -> Row
 /// A number above the expected one.
 fn judge_high(session: &Session, m: &Fields) -> Row
     ensures fits { RowFits m.now (length session.now.given) result }
-    ensures answer { row_answer session.now m.now (table.numbered m.now) session.now.expected result
+    ensures answer { row_answer session.now m.now (table.message_number m.now) session.now.expected result
         ≡ (if table.is_type (codes "5") m.now then table.acts table.log_out_silently
-        else (if table.is_type (codes "2") m.now then with_acts (resend_answer (length session.now.given) m.now) (ask_again session.now (table.numbered m.now))
-        else table.acts (ask_again session.now (table.numbered m.now)))) }
+        else (if table.is_type (codes "2") m.now then with_acts (resend_answer (length session.now.given) m.now)
+        (ask_again session.now (table.message_number m.now))
+        else table.acts (ask_again session.now (table.message_number m.now)))) }
 {
     if is_type(m, b"5") {
         return Row::LoggedOut;
@@ -96,8 +97,9 @@ fn is_logon(session: &Session, m: &Fields) -> bool
 
 /// The line that a message of a link that isn't logged on meets.
 pub fn judge_logon(session: &Session, m: &Fields) -> LogonRow
-    ensures { first_row (table.logon_rows session.now m.now (table.numbered m.now) (if table.resets m.now then 1 else session.now.expected))
-        ≡ logon_answer m.now (table.numbered m.now) result }
+    ensures { answer_by (table.logon_rows session.now m.now (table.message_number m.now)
+        (if table.resets m.now then 1 else session.now.expected))
+        ≡ logon_answer m.now (table.message_number m.now) result }
 {
     if !is_logon(session, m) {
         return LogonRow::NotAnswered;

@@ -1,7 +1,8 @@
 //! The gateway's end of a FIX session: numbers, gaps, resends, silence, the end.
 //!
-//! A session is a value that is stepped by calls; it reads no clock and no link. What a message or a moment brings is judged
-//! first, then made beside the session, and then taken over whole, so want of memory leaves the session as it was.
+//! A session is a value that is stepped by calls; it reads no clock and no link. What a message or a moment brings is
+//! judged first, then made beside the session, and then taken over whole, so want of memory leaves the session as it
+//! was.
 //!
 //! Source: FIX 4.4 Volume 2, "Session Protocol"; `session_law` has the table.
 #![tactic(auto)]
@@ -15,4 +16,4 @@ mod session;
 mod ticks;
 
 pub use session::{Session, SessionTurn};
-pub use session_frames::SessionOut;
+pub use session_writing::SessionOut;

@@ -1,10 +1,10 @@
 //! What the lines of a link that isn't logged on give.
 
 ghost use Rattle.std.specs.Prelude.{◌≡◌, ◌≤◌, ◌^◌, IfOk, Some};
-ghost use Rattle.session_law.specs.Session.{answered, opened};
+ghost use Rattle.session_law.specs.Session.{answered, logon_opened};
 ghost use Rattle.session_law.specs.Runs.{at_moment, heard};
 ghost use Rattle.session_law.specs.Table as table;
-ghost use Rattle.session_law.specs.Messages as law;
+ghost use Rattle.fix_fields.specs.Field as tags;
 ghost use Rattle.fix_session.specs.Made.{made};
 ghost use Rattle.fix_session.specs.Logons.{logon_answer};
 
@@ -13,9 +13,9 @@ use crate::draft::Draft;
 use crate::judge::LogonRow;
 use crate::session::Session;
 use fix_fields::Fields;
-use session_frames::logon_body;
 use session_law::Kind;
-use session_rows::numbered;
+use session_reading::numbered;
+use session_writing::logon_body;
 use std::alloc::{AllocError, Global};
 
 /// What the line gives at this moment.
@@ -27,7 +27,7 @@ pub fn answer_logon(
     at: u64,
 ) -> Result<Draft, AllocError>
     ensures { IfOk result (λ draft. made session.now draft
-        ≡ answered at (heard (at_moment at session.now)) (logon_answer m.now (table.numbered m.now) row)) }
+        ≡ answered at (heard (at_moment at session.now)) (logon_answer m.now (table.message_number m.now) row)) }
 {
     match row {
         LogonRow::NotAnswered => {
@@ -63,7 +63,8 @@ fn open(
     at: u64,
 ) -> Result<Draft, AllocError>
     ensures opened { IfOk result (λ draft. made session.now draft
-        ≡ opened at (heard (at_moment at session.now)) (Some (record { interval_text = law.text 108 m.now; interval = interval; resets = resets }))) }
+        ≡ logon_opened at (heard (at_moment at session.now))
+        (Some (record { interval_text = tags.text 108 m.now; interval = interval; resets = resets }))) }
     ensures expected { IfOk result (λ draft. draft.expected ≤ 10 ^ 18) }
 {
     let body = logon_body(alloc, m, resets)?;

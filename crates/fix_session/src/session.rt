@@ -1,7 +1,8 @@
 //! The session and its calls.
 
-ghost use Rattle.std.specs.Prelude.{◌≡◌, ◌≤◌, ◌<◌, ◌+◌, ◌^◌, ◌∷◌, [], List, ℕ, length, nat_le, if◌then◌else◌, IfOk, OnErr, OnOk, Some, None};
-ghost use Rattle.session_law.specs.Messages.{Fields as Message};
+ghost use Rattle.std.specs.Prelude.{◌≡◌, ◌≤◌, ◌<◌, ◌+◌, ◌^◌, ◌∷◌, [], List, ℕ, length, nat_le, if◌then◌else◌, IfOk};
+ghost use Rattle.std.specs.Prelude.{OnErr, OnOk, Some, None};
+ghost use Rattle.fix_fields.specs.Field.{Message};
 
 use crate::answer::answer;
 use crate::draft::Draft;
@@ -11,9 +12,9 @@ use crate::logon::answer_logon;
 use crate::ticks::do_due;
 use fix_fields::{Fields, Text};
 use fix_types::{AppBody, AppMsg};
-use session_frames::{SessionOut, fields_of_frame, written};
 use session_law::{Frame, Kept, Kind, Phase};
-use session_rows::due_at;
+use session_reading::due_at;
+use session_writing::{SessionOut, fields_of_frame, written};
 use std::alloc::{AllocError, Global};
 use std::marker::Model;
 
@@ -54,19 +55,20 @@ impl Model for Session {
 pub struct SessionTurn {
     /// What goes to the link, in order.
     pub outs: Vec<SessionOut>,
-    /// The message, where it is given up as the application's.
+    /// The message, where it is delivered to the application.
     pub app: Option<AppMsg>,
 }
 
 impl Session {
     ghost use Rattle.session_law.specs.Session.{next_out, new_session, quiet, Given, fresh};
-    ghost use Rattle.session_law.specs.Runs.{History, Leaves, turn_after, step, Call, Linked, Came, Ticked, Issued, at_moment, heard, by_rows};
+    ghost use Rattle.session_law.specs.Runs.{SessionHistory, Leaves, turn_after, step, Call, OnLink, OnMessage, OnTick};
+    ghost use Rattle.session_law.specs.Runs.{Issue, at_moment, heard, by_rows};
     ghost use Rattle.session_law.specs.Expected.{expected};
-    ghost use Rattle.session_law.specs.Numbers.{Headline, given};
-    ghost use Rattle.session_law.specs.Table.{asked_number, logon_rows, logged_on_rows, numbered, resets};
+    ghost use Rattle.session_law.specs.Numbers.{SessionHeadline, given};
+    ghost use Rattle.session_law.specs.Table.{asked_number, logon_rows, logged_on_rows, message_number, resets};
     ghost use Rattle.fix_session.specs.Meets.{Meets, Tells};
     ghost use Rattle.fix_session.specs.Issues as issues;
-    ghost use Rattle.fix_session.specs.Issues.{issued};
+    ghost use Rattle.fix_session.specs.Issues.{call_of_body};
     ghost use Rattle.session_law.specs.Frames.{frame_fields};
     ghost use Rattle.fix_stamp.specs.Stamp.{stamp_text};
     ghost use Rattle.fix_fields.specs.Field.{IsValue};
@@ -90,14 +92,16 @@ impl Session {
 
     /// The number of the next frame or issued body.
     pub fn next_out(&self) -> u64
-        ensures { (gate client : List ℕ) (h : History) → Leaves gate client h self.now → result ≡ length (given h) + 1 }
+        ensures { (gate client : List ℕ) (h : SessionHistory) → Leaves gate client h self.now
+            → result ≡ length (given h) + 1 }
     {
         self.last() + 1
     }
 
     /// The number that is expected of the client.
     pub fn next_in(&self) -> u64
-        ensures number { (gate client : List ℕ) (h : History) → Leaves gate client h self.now → result ≡ expected gate client h }
+        ensures number { (gate client : List ℕ) (h : SessionHistory) → Leaves gate client h self.now
+            → result ≡ expected gate client h }
         ensures small { result ≤ 10 ^ 18 }
     {
         self.expected()
@@ -110,11 +114,12 @@ impl Session {
         body: &AppBody,
         at: u64,
     ) -> Result<SessionTurn, AllocError>
-        ensures turn { IfOk result (λ turn. Tells self.old.gate self.old.client turn (turn_after self.old at (issued body.now))) }
-        ensures leaves { OnOk result ((gate client : List ℕ) (h : History) → Leaves gate client h self.old
-            → Leaves gate client (turn_after self.old at (issued body.now) ∷ h) self.new) }
-        ensures headline { OnOk result ((gate client : List ℕ) (h : History) → Leaves gate client h self.old
-            → Headline (turn_after self.old at (issued body.now) ∷ h)) }
+        ensures turn { IfOk result (λ turn. Tells self.old.gate self.old.client turn
+            (turn_after self.old at (call_of_body body.now))) }
+        ensures leaves { OnOk result ((gate client : List ℕ) (h : SessionHistory) → Leaves gate client h self.old
+            → Leaves gate client (turn_after self.old at (call_of_body body.now) ∷ h) self.new) }
+        ensures headline { OnOk result ((gate client : List ℕ) (h : SessionHistory) → Leaves gate client h self.old
+            → SessionHeadline (turn_after self.old at (call_of_body body.now) ∷ h)) }
         ensures numbers { OnOk result (MovesLittle 1 self.old self.new) }
         ensures err { OnErr result (self.new ≡ self.old) }
     {
@@ -130,7 +135,7 @@ impl Session {
         at: u64,
     ) -> Result<Fields, AllocError>
         ensures { IfOk result (λ fields. fields ≡ frame_fields stamp_text self.now.gate self.now.client
-            (fresh (next_out self.now) (issues.kind_of body.now) (issues.body_of body.now) at)) }
+            (fresh (next_out self.now) (issues.issued_kind body.now) (issues.issued_body body.now) at)) }
     {
         let frame = Frame {
             number: self.last() + 1,
@@ -149,11 +154,12 @@ impl Session {
         m: &Fields,
         at: u64,
     ) -> Result<SessionTurn, AllocError>
-        ensures turn { IfOk result (λ turn. Tells self.old.gate self.old.client turn (turn_after self.old at (Came m.now))) }
-        ensures leaves { OnOk result ((gate client : List ℕ) (h : History) → Leaves gate client h self.old
-            → Leaves gate client (turn_after self.old at (Came m.now) ∷ h) self.new) }
-        ensures headline { OnOk result ((gate client : List ℕ) (h : History) → Leaves gate client h self.old
-            → Headline (turn_after self.old at (Came m.now) ∷ h)) }
+        ensures turn { IfOk result (λ turn. Tells self.old.gate self.old.client turn
+            (turn_after self.old at (OnMessage m.now))) }
+        ensures leaves { OnOk result ((gate client : List ℕ) (h : SessionHistory) → Leaves gate client h self.old
+            → Leaves gate client (turn_after self.old at (OnMessage m.now) ∷ h) self.new) }
+        ensures headline { OnOk result ((gate client : List ℕ) (h : SessionHistory) → Leaves gate client h self.old
+            → SessionHeadline (turn_after self.old at (OnMessage m.now) ∷ h)) }
         ensures numbers { OnOk result (MovesLittle 2 self.old self.new) }
         ensures err { OnErr result (self.new ≡ self.old) }
     {
@@ -162,11 +168,11 @@ impl Session {
 
     /// Time passes.
     pub fn on_tick(&mut self, alloc: Global, at: u64) -> Result<SessionTurn, AllocError>
-        ensures turn { IfOk result (λ turn. Tells self.old.gate self.old.client turn (turn_after self.old at Ticked)) }
-        ensures leaves { OnOk result ((gate client : List ℕ) (h : History) → Leaves gate client h self.old
-            → Leaves gate client (turn_after self.old at Ticked ∷ h) self.new) }
-        ensures headline { OnOk result ((gate client : List ℕ) (h : History) → Leaves gate client h self.old
-            → Headline (turn_after self.old at Ticked ∷ h)) }
+        ensures turn { IfOk result (λ turn. Tells self.old.gate self.old.client turn (turn_after self.old at OnTick)) }
+        ensures leaves { OnOk result ((gate client : List ℕ) (h : SessionHistory) → Leaves gate client h self.old
+            → Leaves gate client (turn_after self.old at OnTick ∷ h) self.new) }
+        ensures headline { OnOk result ((gate client : List ℕ) (h : SessionHistory) → Leaves gate client h self.old
+            → SessionHeadline (turn_after self.old at OnTick ∷ h)) }
         ensures numbers { OnOk result (MovesLittle 1 self.old self.new) }
         ensures err { OnErr result (self.new ≡ self.old) }
     {
@@ -175,11 +181,11 @@ impl Session {
 
     /// The link came up, or went. It takes no memory.
     pub fn on_link(&mut self, alloc: Global, up: bool, at: u64) -> SessionTurn
-        ensures turn { Tells self.old.gate self.old.client result (turn_after self.old at (Linked up)) }
-        ensures leaves { (gate client : List ℕ) (h : History) → Leaves gate client h self.old
-            → Leaves gate client (turn_after self.old at (Linked up) ∷ h) self.new }
-        ensures headline { (gate client : List ℕ) (h : History) → Leaves gate client h self.old
-            → Headline (turn_after self.old at (Linked up) ∷ h) }
+        ensures turn { Tells self.old.gate self.old.client result (turn_after self.old at (OnLink up)) }
+        ensures leaves { (gate client : List ℕ) (h : SessionHistory) → Leaves gate client h self.old
+            → Leaves gate client (turn_after self.old at (OnLink up) ∷ h) self.new }
+        ensures headline { (gate client : List ℕ) (h : SessionHistory) → Leaves gate client h self.old
+            → SessionHeadline (turn_after self.old at (OnLink up) ∷ h) }
         ensures numbers { MovesLittle 0 self.old self.new }
     {
         self.link_step(alloc, up, at)
@@ -250,7 +256,7 @@ impl Session {
         body: Fields,
         at: u64,
     ) -> Result<SessionTurn, AllocError>
-        ensures meets { IfOk result (λ turn. Meets self.old (step self.old at (Issued kind body)) turn self.new) }
+        ensures meets { IfOk result (λ turn. Meets self.old (step self.old at (Issue kind body)) turn self.new) }
         ensures err { OnErr result (self.new ≡ self.old) }
     {
         let mut draft = Draft::at(alloc, self, at);
@@ -265,7 +271,7 @@ impl Session {
         m: &Fields,
         at: u64,
     ) -> Result<SessionTurn, AllocError>
-        ensures meets { IfOk result (λ turn. Meets self.old (step self.old at (Came m.now)) turn self.new) }
+        ensures meets { IfOk result (λ turn. Meets self.old (step self.old at (OnMessage m.now)) turn self.new) }
         ensures err { OnErr result (self.new ≡ self.old) }
     {
         match self.phase {
@@ -282,7 +288,8 @@ impl Session {
     fn on_first(&mut self, alloc: Global, m: &Fields, at: u64) -> Result<SessionTurn, AllocError>
         requires expected { self.old.expected ≤ 10 ^ 18 }
         ensures meets { IfOk result (λ turn. Meets self.old (by_rows at (heard (at_moment at self.old))
-            (logon_rows self.old m.now (numbered m.now) (if resets m.now then 1 else self.old.expected))) turn self.new) }
+            (logon_rows self.old m.now (message_number m.now)
+            (if resets m.now then 1 else self.old.expected))) turn self.new) }
         ensures err { OnErr result (self.new ≡ self.old) }
     {
         let row = judge_logon(self, m);
@@ -294,7 +301,7 @@ impl Session {
     fn on_next(&mut self, alloc: Global, m: &Fields, at: u64) -> Result<SessionTurn, AllocError>
         requires expected { self.old.expected ≤ 10 ^ 18 }
         ensures meets { IfOk result (λ turn. Meets self.old (by_rows at (heard (at_moment at self.old))
-            (logged_on_rows self.old m.now (numbered m.now) self.old.expected)) turn self.new) }
+            (logged_on_rows self.old m.now (message_number m.now) self.old.expected)) turn self.new) }
         ensures err { OnErr result (self.new ≡ self.old) }
     {
         let row = judge(self, m);
@@ -305,7 +312,7 @@ impl Session {
 
     /// The link came up, or went.
     fn link_step(&mut self, alloc: Global, up: bool, at: u64) -> SessionTurn
-        ensures meets { Meets self.old (step self.old at (Linked up)) result self.new }
+        ensures meets { Meets self.old (step self.old at (OnLink up)) result self.new }
     {
         self.latest = self.latest.max(at);
         self.phase = if up {
@@ -343,7 +350,7 @@ impl Session {
 
     /// Time passes: silence of either side brings what is due.
     fn tick_step(&mut self, alloc: Global, at: u64) -> Result<SessionTurn, AllocError>
-        ensures meets { IfOk result (λ turn. Meets self.old (step self.old at Ticked) turn self.new) }
+        ensures meets { IfOk result (λ turn. Meets self.old (step self.old at OnTick) turn self.new) }
         ensures err { OnErr result (self.new ≡ self.old) }
     {
         let mut draft = Draft::at(alloc, self, at);

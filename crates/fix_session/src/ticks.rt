@@ -2,14 +2,14 @@
 
 ghost use Rattle.std.specs.Prelude.{◌≡◌, OnOk};
 ghost use Rattle.session_law.specs.Session.{quiet, answered};
-ghost use Rattle.session_rows.specs.Due.{due_answer};
+ghost use Rattle.session_reading.specs.Due.{due_answer};
 ghost use Rattle.fix_session.specs.Made.{made};
 
 use crate::draft::Draft;
 use crate::session::Session;
 use fix_fields::Fields;
 use session_law::Kind;
-use session_rows::Due;
+use session_reading::Due;
 use std::alloc::{AllocError, Global};
 
 /// Does what is due, from nothing on.
@@ -21,7 +21,8 @@ pub fn do_due(
     at: u64,
 ) -> Result<(), AllocError>
     requires quiet { made session.now draft.old ≡ quiet (made session.now draft.old).state }
-    ensures { OnOk result (made session.now draft.new ≡ answered at (made session.now draft.old).state (due_answer due)) }
+    ensures { OnOk result (made session.now draft.new
+        ≡ answered at (made session.now draft.old).state (due_answer due)) }
 {
     match due {
         Due::Nothing => Ok(()),

@@ -1,6 +1,7 @@
--- The text of a moment: YYYYMMDD-HH:MM:SS.sss in UTC.
--- (FIX 4.4 Volume 1, "FIX Data Types", UTCTimestamp; the calendar is the Gregorian one, and no second is a leap second.)
-use Rattle.std.specs.Prelude.{ℕ, zero, suc, ◌+◌, ◌-◌, ◌/◌, ◌%◌, ◌==◌, Bool, not, ◌&&◌, ◌||◌, nat_lt, List, [], ◌∷◌, ◌++◌, min, if◌then◌else◌}
+-- The text of a moment: YYYYMMDD-HH:MM:SS.sss in UTC. (FIX 4.4 Volume 1, "FIX Data Types", UTCTimestamp; the calendar
+-- is the Gregorian one, and no second is a leap second.)
+use Rattle.std.specs.Prelude.{ℕ, zero, suc, ◌+◌, ◌-◌, ◌/◌, ◌%◌, ◌==◌, Bool, not, ◌&&◌, ◌||◌, nat_lt, List, [], ◌∷◌}
+use Rattle.std.specs.Prelude.{◌++◌, min, if◌then◌else◌}
 
 -- every fourth year, but of the centuries only every fourth
 abbrev pub is_leap_year : ℕ → Bool
@@ -14,7 +15,7 @@ days_in_year year = if is_leap_year year then 366 else 365
 abbrev pub days_in_month : ℕ → ℕ → ℕ
 days_in_month year month =
     if month == 2 then (if is_leap_year year then 29 else 28)
-    else (if (month == 4) || (month == 6) || (month == 9) || (month == 11) then 30 else 31)
+    else if (month == 4) || (month == 6) || (month == 9) || (month == 11) then 30 else 31
 
 -- a day of the calendar
 pub record CalendarDay : Type 0 where
@@ -47,21 +48,21 @@ last_digit number = 48 + number % 10
 abbrev pub two_digits : ℕ → List ℕ
 two_digits number = last_digit (number / 10) ∷ last_digit number ∷ []
 
-abbrev pub three_digits : ℕ → List ℕ
-three_digits number = last_digit (number / 100) ∷ two_digits number
+abbrev pub millisecond_digits : ℕ → List ℕ
+millisecond_digits number = last_digit (number / 100) ∷ two_digits number
 
-abbrev pub four_digits : ℕ → List ℕ
-four_digits number = last_digit (number / 1_000) ∷ three_digits number
+abbrev pub year_digits : ℕ → List ℕ
+year_digits number = last_digit (number / 1_000) ∷ millisecond_digits number
 
 -- YYYYMMDD
 abbrev pub day_text : CalendarDay → List ℕ
-day_text d = four_digits d.year ++ two_digits d.month ++ two_digits d.day
+day_text d = year_digits d.year ++ two_digits d.month ++ two_digits d.day
 
 -- HH:MM:SS.sss, of the milliseconds since midnight
 abbrev pub time_text : ℕ → List ℕ
 time_text ms =
     two_digits (ms / 3_600_000) ++ 58 ∷ two_digits (ms / 60_000 % 60) ++ 58 ∷ two_digits (ms / 1_000 % 60)
-    ++ 46 ∷ three_digits (ms % 1_000)
+    ++ 46 ∷ millisecond_digits (ms % 1_000)
 
 -- the greatest moment that is stamped as itself, in the year 9892
 abbrev pub greatest_moment : ℕ
@@ -76,5 +77,5 @@ unfoldable pub stamp_text : ℕ → List ℕ
 stamp_text ms = moment_text (min ms greatest_moment)
 
 -- a byte that a field's value may have: any but SOH
-abbrev pub is_inside : ℕ → Bool
-is_inside byte = not (byte == 1)
+abbrev pub is_value_byte : ℕ → Bool
+is_value_byte byte = not (byte == 1)

@@ -3,7 +3,8 @@
 ghost use Rattle.std.specs.Prelude.{◌≡◌, ◌≤◌, ◌%◌, ◌+◌, pos, true};
 ghost use Rattle.std.specs.List.{list_all};
 ghost use Rattle.jiff_core.specs.Date.{epoch_day};
-ghost use Rattle.fix_stamp.specs.Stamp.{stamp_text, is_inside, calendar_day as calendar_day_of, last_digit as last_digit_of};
+ghost use Rattle.fix_stamp.specs.Stamp.{stamp_text, is_value_byte, calendar_day as calendar_day_of};
+ghost use Rattle.fix_stamp.specs.Stamp.{last_digit as last_digit_of};
 
 use jiff::Timestamp;
 use jiff::civil::Date;
@@ -24,7 +25,7 @@ const SECONDS_OF_A_DAY: i64 = 86_400;
 /// Source: FIX 4.4 Volume 1, "FIX Data Types", UTCTimestamp.
 pub fn stamp(ms: u64) -> [u8; 21]
     ensures text { result ≡ stamp_text ms }
-    ensures value { list_all is_inside (stamp_text ms) ≡ true }
+    ensures value { list_all is_value_byte (stamp_text ms) ≡ true }
 {
     let ms = ms.min(GREATEST_MOMENT);
     let CalendarDay { year, month, day } = calendar_day((ms / MILLISECONDS_OF_A_DAY) as u32);

@@ -4,13 +4,13 @@ use Rattle.std.specs.Prelude.{Option, Some, None}
 use Rattle.fix_fields.specs.Field.{Field}
 use Rattle.fix_types.specs.declared.business_reject.BusinessReject.{BusinessReject}
 use Rattle.fix_fields.specs.declared.session_refusal.SessionRefusal.{SessionRefusal}
-use Rattle.fix_types.specs.BusinessReject.{required, rows, business_reject_fields, business_reject_refusal, business_reject_of, IsBusinessReject}
+use Rattle.fix_types.specs.BusinessReject.{business_reject_tags, business_reject_formats, business_reject_fields, business_reject_refusal, business_reject_of, IsBusinessReject}
 use Rattle.fix_values.proofs.Numbers.{number_of-decimal, is_number-decimal}
 use Rattle.fix_values.proofs.Tables.{none_refused}
 
 pub refusal-business_reject_fields : (m : BusinessReject) → IsBusinessReject m → business_reject_refusal (business_reject_fields m) ≡ None
 refusal-business_reject_fields m is =
-    none_refused required rows (business_reject_fields m) (refl, (refl, (refl, (refl, tt)))) (is_number-decimal m.ref_seq_num is.ref_seq_num, (is_number-decimal m.reason is.reason, tt))
+    none_refused business_reject_tags business_reject_formats (business_reject_fields m) (refl, (refl, (refl, (refl, tt)))) (is_number-decimal m.ref_seq_num is.ref_seq_num, (is_number-decimal m.reason is.reason, tt))
 
 pub business_reject_of-fields : (m : BusinessReject) → IsBusinessReject m → business_reject_of (business_reject_fields m) ≡ m
 business_reject_of-fields m is = rw (number_of-decimal m.ref_seq_num is.ref_seq_num, number_of-decimal m.reason is.reason) refl

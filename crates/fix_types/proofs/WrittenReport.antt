@@ -9,12 +9,12 @@ use Rattle.fix_values.proofs.Tables.{none_refused}
 use Rattle.fix_values.proofs.Numbers.{number_of-decimal, is_number-decimal}
 use Rattle.fix_values.proofs.Values.{passes-number_text, number-number_text, passes-exec_letter, exec_type_of-letter, passes-status_letter, status_of-letter}
 use Rattle.fix_types.specs.declared.report.Report.{Report}
-use Rattle.fix_types.specs.Report.{required, rows, report_fields, report_refusal, report_of, IsReport}
+use Rattle.fix_types.specs.Report.{report_tags, report_formats, report_fields, report_refusal, report_of, IsReport}
 use Rattle.fix_types.proofs.ReportValues.{average-value, broken-value, code-value, exec_type-value, executed-value, id-value, last_price-value, last_quantity-value, leaves-value, order-value, original-value, price-value, quantity-value, report-value, restated-value, side-value, status-value, symbol-value, why-value}
 
 refusal-report_fields : (m : Report) → IsReport m → report_refusal (report_fields m) ≡ None
 refusal-report_fields m is =
-    none_refused required rows (report_fields m)
+    none_refused report_tags report_formats (report_fields m)
     (ap is_some (order-value m), (ap is_some (id-value m), (ap is_some (report-value m), (ap is_some (exec_type-value m), (ap is_some (status-value m), (ap is_some (symbol-value m), (ap is_some (side-value m), (ap is_some (quantity-value m), (ap is_some (leaves-value m), (ap is_some (executed-value m), (ap is_some (average-value m), tt)))))))))))
     (ap (passes formats.Number) (order-value m) ∙ is_number-decimal m.order_id is.0.order_id, (ap (passes formats.ClOrdId) (id-value m) ∙ is.0.cl_ord_id, (ap (passes formats.ClOrdId) (original-value m) ∙ is.0.orig_cl_ord_id, (ap (passes formats.Number) (report-value m) ∙ is_number-decimal m.exec_id is.0.exec_id, (ap (passes formats.Number) (broken-value m) ∙ passes-number_text m.exec_ref_id is.0.exec_ref_id, (ap (passes formats.ExecType) (exec_type-value m) ∙ passes-exec_letter m.exec_type, (ap (passes formats.OrdStatus) (status-value m) ∙ passes-status_letter m.ord_status, (ap (passes formats.Number) (code-value m) ∙ passes-number_text m.ord_rej_reason is.0.ord_rej_reason, (ap (passes formats.Number) (restated-value m) ∙ passes-number_text m.exec_restatement_reason is.0.exec_restatement_reason, (ap (passes formats.Char) (side-value m), (ap (passes formats.Number) (last_quantity-value m) ∙ passes-number_text m.last_qty is.1.last_qty, (ap (passes formats.Number) (leaves-value m) ∙ is_number-decimal m.leaves_qty is.1.leaves_qty, (ap (passes formats.Number) (executed-value m) ∙ is_number-decimal m.cum_qty is.1.cum_qty, tt)))))))))))))
 

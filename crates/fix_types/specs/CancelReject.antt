@@ -6,17 +6,18 @@ use Rattle.fix_values.specs.declared.format.Row.{Row}
 use Rattle.fix_fields.specs.declared.session_refusal.SessionRefusal.{SessionRefusal}
 use Rattle.fix_types.specs.declared.cancel_reject.CancelReject.{CancelReject}
 use Rattle.fix_values.specs.Texts.{is_cl_ord_id}
-use Rattle.fix_values.specs.Letters.{response_letter, response_of, status_letter, status_of}
+use Rattle.fix_values.specs.Letters.{response_letter, response_of, status_letter, ord_status_of}
 use Rattle.fix_values.specs.Formats.{first_refusal}
-use Rattle.fix_values.specs.Slots.{Slot, field, fields_of, order_id_text, text_of, char_of, number_at, order_id_at}
+use Rattle.fix_values.specs.Slots.{FieldSlot, field_slot, fields_of_slots, order_id_text, text_of, char_of}
+use Rattle.fix_values.specs.Slots.{number_of_tag, order_id_at}
 
 -- the tags that have to be there, in the order in which they are judged
-abbrev pub required : List ℕ
-required = 37 ∷ 11 ∷ 41 ∷ 39 ∷ 434 ∷ 102 ∷ 58 ∷ []
+abbrev pub cancel_reject_tags : List ℕ
+cancel_reject_tags = 37 ∷ 11 ∷ 41 ∷ 39 ∷ 434 ∷ 102 ∷ 58 ∷ []
 
 -- what values have to be, in the order in which they are judged
-abbrev pub rows : List Row
-rows =
+abbrev pub cancel_reject_formats : List Row
+cancel_reject_formats =
     record { tag = 37; format = formats.OrderId }
     ∷ record { tag = 11; format = formats.ClOrdId }
     ∷ record { tag = 41; format = formats.ClOrdId }
@@ -27,39 +28,39 @@ rows =
 
 -- the first refusal that fields meet as a reject
 abbrev pub cancel_reject_refusal : List Field → Option SessionRefusal
-cancel_reject_refusal fs = first_refusal required rows fs
+cancel_reject_refusal fs = first_refusal cancel_reject_tags cancel_reject_formats fs
 
 -- a reject without its type
-abbrev pub body_slots : CancelReject → List Slot
-body_slots m =
-    field 37 (order_id_text m.order_id)
-    ∷ field 11 m.cl_ord_id
-    ∷ field 41 m.orig_cl_ord_id
-    ∷ field 39 (status_letter m.ord_status ∷ [])
-    ∷ field 434 (response_letter m.cxl_rej_response_to ∷ [])
-    ∷ field 102 (decimal m.cxl_rej_reason)
-    ∷ field 58 m.text
+abbrev pub cancel_reject_body_slots : CancelReject → List FieldSlot
+cancel_reject_body_slots m =
+    field_slot 37 (order_id_text m.order_id)
+    ∷ field_slot 11 m.cl_ord_id
+    ∷ field_slot 41 m.orig_cl_ord_id
+    ∷ field_slot 39 (status_letter m.ord_status ∷ [])
+    ∷ field_slot 434 (response_letter m.cxl_rej_response_to ∷ [])
+    ∷ field_slot 102 (decimal m.cxl_rej_reason)
+    ∷ field_slot 58 m.text
     ∷ []
 
 -- the fields that a reject is written as, in their order
-abbrev pub cancel_reject_slots : CancelReject → List Slot
-cancel_reject_slots m = field 35 (57 ∷ []) ∷ body_slots m
+abbrev pub cancel_reject_slots : CancelReject → List FieldSlot
+cancel_reject_slots m = field_slot 35 (57 ∷ []) ∷ cancel_reject_body_slots m
 
 abbrev pub cancel_reject_body : CancelReject → List Field
-cancel_reject_body m = fields_of (body_slots m)
+cancel_reject_body m = fields_of_slots (cancel_reject_body_slots m)
 
 abbrev pub cancel_reject_fields : CancelReject → List Field
-cancel_reject_fields m = fields_of (cancel_reject_slots m)
+cancel_reject_fields m = fields_of_slots (cancel_reject_slots m)
 
 -- the reject that fields say
-abbrev pub cancel_reject_of : List Field → CancelReject
-cancel_reject_of fs = record {
+abbrev pub cancel_reject_in : List Field → CancelReject
+cancel_reject_in fs = record {
   order_id = order_id_at 37 fs;
   cl_ord_id = text_of 11 fs;
   orig_cl_ord_id = text_of 41 fs;
-  ord_status = status_of (char_of 39 fs);
+  ord_status = ord_status_of (char_of 39 fs);
   cxl_rej_response_to = response_of (char_of 434 fs);
-  cxl_rej_reason = number_at 102 fs;
+  cxl_rej_reason = number_of_tag 102 fs;
   text = text_of 58 fs;
 }
 

@@ -6,3 +6,5 @@ pub mod Report
 pub mod CancelReject
 pub mod BusinessReject
 pub mod Application
+pub use Rattle.fix_values.specs.Formats
+pub use Rattle.fix_values.specs.Slots

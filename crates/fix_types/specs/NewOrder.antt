@@ -5,17 +5,18 @@ use Rattle.fix_values.specs.declared.format.Format.TheVariants as formats
 use Rattle.fix_types.specs.declared.new_order.NewOrder.{NewOrder}
 use Rattle.fix_values.specs.Texts.{is_cl_ord_id, is_float}
 use Rattle.fix_values.specs.Formats.{passes}
-use Rattle.fix_values.specs.Slots.{Slot, slot, field, fields_of, char_text, text_of, char_of, optional_char}
+use Rattle.fix_values.specs.Slots.{FieldSlot, slot, field_slot, fields_of_slots, char_text, text_of, char_of}
+use Rattle.fix_values.specs.Slots.{optional_char}
 
 -- the fields that a new order is written as, in their order
-abbrev pub new_order_slots : NewOrder → List Slot
+abbrev pub new_order_slots : NewOrder → List FieldSlot
 new_order_slots m =
-    field 35 (68 ∷ [])
-    ∷ field 11 m.cl_ord_id
-    ∷ field 54 (m.side ∷ [])
-    ∷ field 55 m.symbol
-    ∷ field 38 m.order_qty
-    ∷ field 40 (m.ord_type ∷ [])
+    field_slot 35 (68 ∷ [])
+    ∷ field_slot 11 m.cl_ord_id
+    ∷ field_slot 54 (m.side ∷ [])
+    ∷ field_slot 55 m.symbol
+    ∷ field_slot 38 m.order_qty
+    ∷ field_slot 40 (m.ord_type ∷ [])
     ∷ slot 44 m.price
     ∷ slot 59 (char_text m.time_in_force)
     ∷ slot 18 m.exec_inst
@@ -24,7 +25,7 @@ new_order_slots m =
     ∷ []
 
 abbrev pub new_order_fields : NewOrder → List Field
-new_order_fields m = fields_of (new_order_slots m)
+new_order_fields m = fields_of_slots (new_order_slots m)
 
 -- the new order that fields say
 abbrev pub new_order_of : List Field → NewOrder

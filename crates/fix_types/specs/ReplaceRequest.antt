@@ -5,18 +5,19 @@ use Rattle.fix_values.specs.declared.format.Format.TheVariants as formats
 use Rattle.fix_types.specs.declared.replace_request.ReplaceRequest.{ReplaceRequest}
 use Rattle.fix_values.specs.Texts.{is_cl_ord_id, is_float}
 use Rattle.fix_values.specs.Formats.{passes}
-use Rattle.fix_values.specs.Slots.{Slot, slot, field, fields_of, char_text, text_of, char_of, optional_char}
+use Rattle.fix_values.specs.Slots.{FieldSlot, slot, field_slot, fields_of_slots, char_text, text_of, char_of}
+use Rattle.fix_values.specs.Slots.{optional_char}
 
 -- the fields that a replace request is written as, in their order
-abbrev pub replace_request_slots : ReplaceRequest → List Slot
+abbrev pub replace_request_slots : ReplaceRequest → List FieldSlot
 replace_request_slots m =
-    field 35 (71 ∷ [])
-    ∷ field 11 m.cl_ord_id
-    ∷ field 41 m.orig_cl_ord_id
+    field_slot 35 (71 ∷ [])
+    ∷ field_slot 11 m.cl_ord_id
+    ∷ field_slot 41 m.orig_cl_ord_id
     ∷ slot 54 (char_text m.side)
     ∷ slot 55 m.symbol
-    ∷ field 38 m.order_qty
-    ∷ field 40 (m.ord_type ∷ [])
+    ∷ field_slot 38 m.order_qty
+    ∷ field_slot 40 (m.ord_type ∷ [])
     ∷ slot 44 m.price
     ∷ slot 59 (char_text m.time_in_force)
     ∷ slot 18 m.exec_inst
@@ -25,7 +26,7 @@ replace_request_slots m =
     ∷ []
 
 abbrev pub replace_request_fields : ReplaceRequest → List Field
-replace_request_fields m = fields_of (replace_request_slots m)
+replace_request_fields m = fields_of_slots (replace_request_slots m)
 
 -- the replace request that fields say
 abbrev pub replace_request_of : List Field → ReplaceRequest

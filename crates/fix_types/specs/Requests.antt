@@ -1,6 +1,6 @@
--- What the fields of a new order, of a cancel request and of a replace request have to be.
--- (FIX 4.4 Volume 4, "New Order - Single", "Order Cancel Request" and "Order Cancel/Replace Request", with the fields that
--- the gateway reads.)
+-- What the fields of a new order, of a cancel request and of a replace request have to be. (FIX 4.4 Volume 4, "New
+-- Order - Single", "Order Cancel Request" and "Order Cancel/Replace Request", with the fields that the gateway
+-- reads.)
 use Rattle.std.specs.Prelude.{ℕ, List, [], ◌∷◌, Option}
 use Rattle.fix_fields.specs.Field.{Field}
 use Rattle.fix_values.specs.declared.format.Format.TheVariants as formats
@@ -13,8 +13,8 @@ abbrev pub new_order_required : List ℕ
 new_order_required = 11 ∷ 54 ∷ 55 ∷ 38 ∷ 40 ∷ []
 
 -- what values have to be, in the order in which they are judged
-abbrev pub new_order_rows : List Row
-new_order_rows =
+abbrev pub new_order_formats : List Row
+new_order_formats =
     record { tag = 11; format = formats.ClOrdId }
     ∷ record { tag = 54; format = formats.Char }
     ∷ record { tag = 38; format = formats.Float }
@@ -27,7 +27,7 @@ new_order_rows =
 
 -- the first refusal that fields meet as a new order
 abbrev pub new_order_refusal : List Field → Option SessionRefusal
-new_order_refusal fs = first_refusal new_order_required new_order_rows fs
+new_order_refusal fs = first_refusal new_order_required new_order_formats fs
 
 -- of an OrderCancelRequest (35=F) the two ids alone are read
 abbrev pub cancel_required : List ℕ

@@ -1,7 +1,8 @@
 //! BusinessMessageReject: 35=j.
 
 ghost use Rattle.std.specs.Prelude.{◌≡◌, None, IfOk, OnOk};
-ghost use Rattle.fix_types.specs.BusinessReject.{body_slots, business_reject_of, business_reject_refusal, IsBusinessReject};
+ghost use Rattle.fix_types.specs.BusinessReject.{business_reject_body_slots, business_reject_of};
+ghost use Rattle.fix_types.specs.BusinessReject.{business_reject_refusal, IsBusinessReject};
 ghost use Rattle.fix_values.specs.Slots.{appended};
 
 use fix_fields::{Fields, Text};
@@ -40,8 +41,9 @@ impl TextWire<Fields, TextFault> for BusinessReject {
     ghost use Rattle.fix_values.specs.declared.refusal.TextFault.TheVariants.{NoMemory};
     ghost use Rattle.std.specs.Prelude.{◌≡◌, None, IfOk, IfErr, MatchResult};
     ghost use Rattle.fix_types.specs.declared.business_reject.BusinessReject.{BusinessReject};
-    ghost use Rattle.fix_values.specs.Formats.{Tells};
-    ghost use Rattle.fix_types.specs.BusinessReject.{business_reject_fields, business_reject_refusal, business_reject_of, IsBusinessReject};
+    ghost use Rattle.fix_values.specs.Formats.{TellsFault};
+    ghost use Rattle.fix_types.specs.BusinessReject.{business_reject_fields, business_reject_refusal};
+    ghost use Rattle.fix_types.specs.BusinessReject.{business_reject_of, IsBusinessReject};
 
     ghost text = { business_reject_fields };
 
@@ -60,8 +62,9 @@ impl TextWire<Fields, TextFault> for BusinessReject {
         ensures read { (value : BusinessReject) → IsBusinessReject value → fields.now ≡ business_reject_fields value
             → MatchResult result (λ read. read ≡ value) (λ fault. fault ≡ NoMemory) }
         ensures kept { IfOk result IsBusinessReject }
-        ensures said { IfOk result (λ said. (business_reject_refusal fields.now ≡ None) × (said ≡ business_reject_of fields.now)) }
-        ensures refused { IfErr result (Tells (business_reject_refusal fields.now)) }
+        ensures said { IfOk result (λ said. (business_reject_refusal fields.now ≡ None)
+            × (said ≡ business_reject_of fields.now)) }
+        ensures refused { IfErr result (TellsFault (business_reject_refusal fields.now)) }
     {
         match first_refusal(fields, &REQUIRED, &ROWS) {
             Some(refusal) => Err(TextFault::Refused(refusal)),
@@ -72,7 +75,7 @@ impl TextWire<Fields, TextFault> for BusinessReject {
 
 /// Adds what is refused, and why.
 fn push_body(fields: &mut Fields, reject: &BusinessReject) -> Result<(), AllocError>
-    ensures written { OnOk result (fields.new ≡ appended fields.old (body_slots reject.now)) }
+    ensures written { OnOk result (fields.new ≡ appended fields.old (business_reject_body_slots reject.now)) }
     ensures kept { OnOk result (IsBusinessReject reject.now) }
 {
     push_number(fields, 45, reject.ref_seq_num)?;

@@ -2,7 +2,8 @@
 
 ghost use Rattle.std.specs.Prelude.{◌≡◌, None, IfOk, OnOk};
 ghost use Rattle.fix_values.specs.Slots.{appended};
-ghost use Rattle.fix_types.specs.CancelReject.{body_slots, cancel_reject_body, cancel_reject_of, cancel_reject_refusal, IsCancelReject};
+ghost use Rattle.fix_types.specs.CancelReject.{cancel_reject_body_slots, cancel_reject_body, cancel_reject_in};
+ghost use Rattle.fix_types.specs.CancelReject.{cancel_reject_refusal, IsCancelReject};
 
 use fix_fields::{Fields, Text};
 use fix_values::reading::{id_at, number_in, ord_status_at, order_id_in, response_at, text_at};
@@ -62,8 +63,9 @@ impl TextWire<Fields, TextFault> for CancelReject {
     ghost use Rattle.fix_values.specs.declared.refusal.TextFault.TheVariants.{NoMemory};
     ghost use Rattle.std.specs.Prelude.{◌≡◌, None, IfOk, IfErr, MatchResult};
     ghost use Rattle.fix_types.specs.declared.cancel_reject.CancelReject.{CancelReject};
-    ghost use Rattle.fix_values.specs.Formats.{Tells};
-    ghost use Rattle.fix_types.specs.CancelReject.{cancel_reject_fields, cancel_reject_refusal, cancel_reject_of, IsCancelReject};
+    ghost use Rattle.fix_values.specs.Formats.{TellsFault};
+    ghost use Rattle.fix_types.specs.CancelReject.{cancel_reject_fields, cancel_reject_refusal, cancel_reject_in};
+    ghost use Rattle.fix_types.specs.CancelReject.{IsCancelReject};
 
     ghost text = { cancel_reject_fields };
 
@@ -82,8 +84,9 @@ impl TextWire<Fields, TextFault> for CancelReject {
         ensures read { (value : CancelReject) → IsCancelReject value → fields.now ≡ cancel_reject_fields value
             → MatchResult result (λ read. read ≡ value) (λ fault. fault ≡ NoMemory) }
         ensures kept { IfOk result IsCancelReject }
-        ensures said { IfOk result (λ said. (cancel_reject_refusal fields.now ≡ None) × (said ≡ cancel_reject_of fields.now)) }
-        ensures refused { IfErr result (Tells (cancel_reject_refusal fields.now)) }
+        ensures said { IfOk result (λ said. (cancel_reject_refusal fields.now ≡ None)
+            × (said ≡ cancel_reject_in fields.now)) }
+        ensures refused { IfErr result (TellsFault (cancel_reject_refusal fields.now)) }
     {
         match first_refusal(fields, &REQUIRED, &ROWS) {
             Some(refusal) => Err(TextFault::Refused(refusal)),
@@ -94,7 +97,7 @@ impl TextWire<Fields, TextFault> for CancelReject {
 
 /// Adds all but the type.
 fn push_body(fields: &mut Fields, reject: &CancelReject) -> Result<(), AllocError>
-    ensures written { OnOk result (fields.new ≡ appended fields.old (body_slots reject.now)) }
+    ensures written { OnOk result (fields.new ≡ appended fields.old (cancel_reject_body_slots reject.now)) }
     ensures kept { OnOk result (IsCancelReject reject.now) }
 {
     push_order_id(fields, 37, reject.order_id)?;
@@ -109,7 +112,7 @@ fn push_body(fields: &mut Fields, reject: &CancelReject) -> Result<(), AllocErro
 /// The reject that fields say, which meet no refusal.
 fn read_cancel_reject(alloc: Global, fields: &Fields) -> Result<CancelReject, AllocError>
     requires { cancel_reject_refusal fields.now ≡ None }
-    ensures said { IfOk result (λ reject. reject ≡ cancel_reject_of fields.now) }
+    ensures said { IfOk result (λ reject. reject ≡ cancel_reject_in fields.now) }
     ensures kept { IfOk result IsCancelReject }
 {
     Ok(CancelReject {

@@ -39,7 +39,7 @@ impl TextWire<Fields, TextFault> for CancelRequest {
     ghost use Rattle.fix_values.specs.declared.refusal.TextFault.TheVariants.{NoMemory};
     ghost use Rattle.std.specs.Prelude.{◌≡◌, None, IfOk, IfErr, MatchResult};
     ghost use Rattle.fix_types.specs.declared.cancel_request.CancelRequest.{CancelRequest};
-    ghost use Rattle.fix_values.specs.Formats.{Tells};
+    ghost use Rattle.fix_values.specs.Formats.{TellsFault};
     ghost use Rattle.fix_types.specs.CancelRequest.{cancel_request_fields, cancel_request_of, IsCancelRequest};
     ghost use Rattle.fix_types.specs.Requests as requests;
 
@@ -61,8 +61,9 @@ impl TextWire<Fields, TextFault> for CancelRequest {
         ensures read { (value : CancelRequest) → IsCancelRequest value → fields.now ≡ cancel_request_fields value
             → MatchResult result (λ read. read ≡ value) (λ fault. fault ≡ NoMemory) }
         ensures kept { IfOk result IsCancelRequest }
-        ensures said { IfOk result (λ said. (requests.cancel_refusal fields.now ≡ None) × (said ≡ cancel_request_of fields.now)) }
-        ensures refused { IfErr result (Tells (requests.cancel_refusal fields.now)) }
+        ensures said { IfOk result (λ said. (requests.cancel_refusal fields.now ≡ None)
+            × (said ≡ cancel_request_of fields.now)) }
+        ensures refused { IfErr result (TellsFault (requests.cancel_refusal fields.now)) }
     {
         match cancel_refusal(fields) {
             Some(refusal) => Err(TextFault::Refused(refusal)),

@@ -64,7 +64,7 @@ impl TextWire<Fields, TextFault> for NewOrder {
     ghost use Rattle.fix_values.specs.declared.refusal.TextFault.TheVariants.{NoMemory};
     ghost use Rattle.std.specs.Prelude.{◌≡◌, None, IfOk, IfErr, MatchResult};
     ghost use Rattle.fix_types.specs.declared.new_order.NewOrder.{NewOrder};
-    ghost use Rattle.fix_values.specs.Formats.{Tells};
+    ghost use Rattle.fix_values.specs.Formats.{TellsFault};
     ghost use Rattle.fix_types.specs.NewOrder.{new_order_fields, new_order_of, IsNewOrder};
     ghost use Rattle.fix_types.specs.Requests as requests;
 
@@ -94,8 +94,9 @@ impl TextWire<Fields, TextFault> for NewOrder {
         ensures read { (value : NewOrder) → IsNewOrder value → fields.now ≡ new_order_fields value
             → MatchResult result (λ read. read ≡ value) (λ fault. fault ≡ NoMemory) }
         ensures kept { IfOk result IsNewOrder }
-        ensures said { IfOk result (λ said. (requests.new_order_refusal fields.now ≡ None) × (said ≡ new_order_of fields.now)) }
-        ensures refused { IfErr result (Tells (requests.new_order_refusal fields.now)) }
+        ensures said { IfOk result (λ said. (requests.new_order_refusal fields.now ≡ None)
+            × (said ≡ new_order_of fields.now)) }
+        ensures refused { IfErr result (TellsFault (requests.new_order_refusal fields.now)) }
     {
         match new_order_refusal(fields) {
             Some(refusal) => Err(TextFault::Refused(refusal)),

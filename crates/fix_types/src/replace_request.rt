@@ -68,7 +68,7 @@ impl TextWire<Fields, TextFault> for ReplaceRequest {
     ghost use Rattle.fix_values.specs.declared.refusal.TextFault.TheVariants.{NoMemory};
     ghost use Rattle.std.specs.Prelude.{◌≡◌, None, IfOk, IfErr, MatchResult};
     ghost use Rattle.fix_types.specs.declared.replace_request.ReplaceRequest.{ReplaceRequest};
-    ghost use Rattle.fix_values.specs.Formats.{Tells};
+    ghost use Rattle.fix_values.specs.Formats.{TellsFault};
     ghost use Rattle.fix_types.specs.ReplaceRequest.{replace_request_fields, replace_request_of, IsReplaceRequest};
     ghost use Rattle.fix_types.specs.Requests as requests;
 
@@ -99,8 +99,9 @@ impl TextWire<Fields, TextFault> for ReplaceRequest {
         ensures read { (value : ReplaceRequest) → IsReplaceRequest value → fields.now ≡ replace_request_fields value
             → MatchResult result (λ read. read ≡ value) (λ fault. fault ≡ NoMemory) }
         ensures kept { IfOk result IsReplaceRequest }
-        ensures said { IfOk result (λ said. (requests.replace_refusal fields.now ≡ None) × (said ≡ replace_request_of fields.now)) }
-        ensures refused { IfErr result (Tells (requests.replace_refusal fields.now)) }
+        ensures said { IfOk result (λ said. (requests.replace_refusal fields.now ≡ None)
+            × (said ≡ replace_request_of fields.now)) }
+        ensures refused { IfErr result (TellsFault (requests.replace_refusal fields.now)) }
     {
         match replace_refusal(fields) {
             Some(refusal) => Err(TextFault::Refused(refusal)),

@@ -94,7 +94,7 @@ impl TextWire<Fields, TextFault> for Report {
     ghost use Rattle.fix_values.specs.declared.refusal.TextFault.TheVariants.{NoMemory};
     ghost use Rattle.std.specs.Prelude.{◌≡◌, None, IfOk, IfErr, MatchResult};
     ghost use Rattle.fix_types.specs.declared.report.Report.{Report};
-    ghost use Rattle.fix_values.specs.Formats.{Tells};
+    ghost use Rattle.fix_values.specs.Formats.{TellsFault};
     ghost use Rattle.fix_types.specs.Report.{report_fields, report_refusal, report_of, IsReport};
 
     ghost text = { report_fields };
@@ -116,7 +116,7 @@ impl TextWire<Fields, TextFault> for Report {
             → MatchResult result (λ read. read ≡ value) (λ fault. fault ≡ NoMemory) }
         ensures kept { IfOk result IsReport }
         ensures said { IfOk result (λ said. (report_refusal fields.now ≡ None) × (said ≡ report_of fields.now)) }
-        ensures refused { IfErr result (Tells (report_refusal fields.now)) }
+        ensures refused { IfErr result (TellsFault (report_refusal fields.now)) }
     {
         match first_refusal(fields, &REQUIRED, &ROWS) {
             Some(refusal) => Err(TextFault::Refused(refusal)),

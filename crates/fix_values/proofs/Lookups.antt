@@ -3,10 +3,10 @@ use Rattle.std.proofs.Common.{◌≡◌, Bool, true, false, ℕ, List, [], ◌�
 use Rattle.std.specs.Prelude.{Option, Some, None, ◌==◌, if◌then◌else◌, unwrap_or}
 use Rattle.std.specs.Option.{option_or}
 use Rattle.fix_fields.specs.Field.{Field, first_value}
-use Rattle.fix_values.specs.Slots.{Slot, value_fields, slot_fields, appended, fields_of, text_of}
+use Rattle.fix_values.specs.Slots.{FieldSlot, value_fields, slot_fields, appended, fields_of_slots, text_of}
 
 -- the first value that a slot of this tag has
-abbrev pub lookup : ℕ → List Slot → Option (List ℕ)
+abbrev pub lookup : ℕ → List FieldSlot → Option (List ℕ)
 lookup tag [] = None
 lookup tag (s ∷ slots) = if s.tag == tag then option_or s.value (lookup tag slots) else lookup tag slots
 
@@ -38,17 +38,17 @@ slot_value : (tag other : ℕ) (value rest : Option (List ℕ)) → option_or (f
 slot_value tag other None rest = same_either_way (other == tag) rest
 slot_value tag other (Some v) rest = chosen (other == tag) v rest
 
-first_value-appended : (tag : ℕ) (slots : List Slot) (fs : List Field) → first_value tag (appended fs slots) ≡ option_or (first_value tag fs) (lookup tag slots)
+first_value-appended : (tag : ℕ) (slots : List FieldSlot) (fs : List Field) → first_value tag (appended fs slots) ≡ option_or (first_value tag fs) (lookup tag slots)
 first_value-appended tag [] fs = sym (option_or-none (first_value tag fs))
 first_value-appended tag (s ∷ slots) fs =
     first_value-appended tag slots (fs ++ slot_fields s) ∙ ap (λ (o : Option (List ℕ)). option_or o (lookup tag slots)) (first_value-append tag fs (slot_fields s)) ∙ option_or_assoc (first_value tag fs) (first_value tag (slot_fields s)) (lookup tag slots)
     ∙ ap (λ (o : Option (List ℕ)). option_or (first_value tag fs) o) (slot_value tag s.tag s.value (lookup tag slots))
 
-pub first_value-fields_of : (tag : ℕ) (slots : List Slot) → first_value tag (fields_of slots) ≡ lookup tag slots
+pub first_value-fields_of : (tag : ℕ) (slots : List FieldSlot) → first_value tag (fields_of_slots slots) ≡ lookup tag slots
 first_value-fields_of tag slots = first_value-appended tag slots []
 
 -- the value of a tag that one slot alone has
-pub value_in : (tag : ℕ) (slots : List Slot) (value : Option (List ℕ)) → lookup tag slots ≡ option_or value None → first_value tag (fields_of slots) ≡ value
+pub value_in : (tag : ℕ) (slots : List FieldSlot) (value : Option (List ℕ)) → lookup tag slots ≡ option_or value None → first_value tag (fields_of_slots slots) ≡ value
 value_in tag slots value e = first_value-fields_of tag slots ∙ e ∙ option_or-none value
 
 -- the text of a tag that is there

@@ -6,8 +6,9 @@ use Rattle.std.specs.List.{list_all}
 use Rattle.std.specs.Option.{option_map}
 use Rattle.std.proofs.lemmas.Bool.Decides.{nat_tests}
 use Rattle.std.proofs.lemmas.Fmt.{digits_decimal}
-use Rattle.fix_fields.specs.Front.{number_of}
-use Rattle.fix_fields.proofs.Tags.{own, and_parts}
+use Rattle.decimal_digits.specs.Digits.{number_of}
+use Rattle.decimal_digits.proofs.Numbers.{own}
+use Rattle.fix_fields.proofs.Tags.{and_parts}
 use Rattle.fix_values.specs.declared.format.Format.TheVariants as formats
 use Rattle.fix_values.specs.declared.cxl_rej_response_to.CxlRejResponseTo.{CxlRejResponseTo}
 use Rattle.fix_values.specs.declared.cxl_rej_response_to.CxlRejResponseTo.TheVariants as responses
@@ -15,7 +16,7 @@ use Rattle.fix_values.specs.declared.exec_type.ExecType.{ExecType}
 use Rattle.fix_values.specs.declared.exec_type.ExecType.TheVariants as kinds
 use Rattle.fix_values.specs.declared.ord_status.OrdStatus.{OrdStatus}
 use Rattle.fix_values.specs.declared.ord_status.OrdStatus.TheVariants as statuses
-use Rattle.fix_values.specs.Letters.{exec_letter, exec_type_of, status_letter, status_of, response_letter, response_of}
+use Rattle.fix_values.specs.Letters.{exec_letter, exec_type_of, status_letter, ord_status_of, response_letter, response_of}
 use Rattle.fix_values.specs.Formats.{passes, is_none_text}
 use Rattle.fix_values.specs.Slots.{char_text, number_text, order_id_text, order_id_of}
 use Rattle.fix_values.proofs.Numbers.{number_of-decimal, is_number-decimal}
@@ -70,7 +71,7 @@ passes-status_letter statuses.PendingCancel = refl
 passes-status_letter statuses.Rejected = refl
 passes-status_letter statuses.PendingReplace = refl
 
-pub status_of-letter : (k : OrdStatus) → status_of (status_letter k) ≡ k
+pub status_of-letter : (k : OrdStatus) → ord_status_of (status_letter k) ≡ k
 status_of-letter statuses.PendingNew = refl
 status_of-letter statuses.New = refl
 status_of-letter statuses.PartiallyFilled = refl

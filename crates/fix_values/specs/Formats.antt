@@ -1,10 +1,11 @@
 -- Which values a field may have, and which refusal a message meets first.
-use Rattle.std.specs.Prelude.{◌≡◌, ℕ, ◌^◌, Bool, true, ◌&&◌, ◌||◌, ◌==◌, nat_le, nat_lt, List, [], ◌∷◌, length, slice_index, Option, Some, None, is_none, if◌then◌else◌, bytes_eq, codes}
+use Rattle.std.specs.Prelude.{◌≡◌, ℕ, ◌^◌, Bool, true, ◌&&◌, ◌||◌, ◌==◌, nat_le, nat_lt, List, [], ◌∷◌, length}
+use Rattle.std.specs.Prelude.{slice_index, Option, Some, None, is_none, if◌then◌else◌, bytes_eq, codes}
 use Rattle.std.specs.Option.{option_or}
 use Rattle.std.specs.List.{list_all, list_any}
 use Rattle.std.specs.Char.{is_ascii_digit}
 use Rattle.fix_fields.specs.Field.{Field, first_value}
-use Rattle.fix_fields.specs.Front.{number_of}
+use Rattle.decimal_digits.specs.Digits.{number_of}
 use Rattle.fix_values.specs.Texts.{is_cl_ord_id, is_float}
 use Rattle.fix_values.specs.declared.format.Format.{Format}
 use Rattle.fix_values.specs.declared.format.Format.TheVariants as formats
@@ -15,7 +16,8 @@ use Rattle.fix_values.specs.declared.refusal.TextFault.TheVariants.{NoMemory, Re
 
 -- 1 to 20 digits of a number below 2 ^ 64. (FIX 4.4 Volume 1, data type int.)
 abbrev pub is_number : List ℕ → Bool
-is_number text = nat_le 1 (length text) && (nat_le (length text) 20 && (list_all is_ascii_digit text && nat_lt (number_of text) (2 ^ 64)))
+is_number text = nat_le 1 (length text) && (nat_le (length text) 20
+    && (list_all is_ascii_digit text && nat_lt (number_of text) (2 ^ 64)))
 
 -- The letters of ExecType (150) and of OrdStatus (39) that the gateway writes.
 abbrev pub exec_types : List ℕ
@@ -50,7 +52,8 @@ fits formats.OrdStatus text = is_one_of ord_statuses text
 fits formats.OrderId text = is_order_id text
 fits formats.CxlRejResponseTo text = is_one_of responses text
 
--- What a value of another format is refused with. (FIX 4.4 Volume 2, SessionRejectReason, 373: 5 value is incorrect, 6 incorrect data format.)
+-- What a value of another format is refused with. (FIX 4.4 Volume 2, SessionRejectReason, 373: 5 value is incorrect,
+-- 6 incorrect data format.)
 abbrev pub misfit_reason : Format → ℕ
 misfit_reason formats.ClOrdId = 5
 misfit_reason formats.Char = 6
@@ -77,13 +80,14 @@ passes format (Some text) = fits format text
 -- The first of these rows whose tag is there with a value of another format.
 abbrev pub first_misfit : List Row → List Field → Option SessionRefusal
 first_misfit [] fs = None
-first_misfit (row ∷ rows) fs = if passes row.format (first_value row.tag fs) then first_misfit rows fs else Some (refusal row.tag (misfit_reason row.format))
+first_misfit (row ∷ rows) fs = if passes row.format (first_value row.tag fs) then first_misfit rows fs
+    else Some (refusal row.tag (misfit_reason row.format))
 
 -- The first refusal that a message of these required tags and formats meets.
 abbrev pub first_refusal : List ℕ → List Row → List Field → Option SessionRefusal
 first_refusal tags rows fs = option_or (first_missing tags fs) (first_misfit rows fs)
 
 -- A fault says just what refuses a message, or that memory ran out.
-abbrev pub Tells : Option SessionRefusal → TextFault → Type 0
-Tells first NoMemory = Unit {0}
-Tells first (Refused r) = first ≡ Some r
+abbrev pub TellsFault : Option SessionRefusal → TextFault → Type 0
+TellsFault first NoMemory = Unit {0}
+TellsFault first (Refused r) = first ≡ Some r

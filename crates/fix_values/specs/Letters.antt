@@ -40,26 +40,26 @@ response_letter responses.Replace = 50
 abbrev pub exec_type_of : ℕ → ExecType
 exec_type_of letter =
     if letter == 65 then kinds.PendingNew
-    else (if letter == 48 then kinds.New
-    else (if letter == 56 then kinds.Rejected
-    else (if letter == 52 then kinds.Canceled
-    else (if letter == 68 then kinds.Restated
-    else (if letter == 70 then kinds.Trade
-    else (if letter == 72 then kinds.TradeCancel
-    else (if letter == 54 then kinds.PendingCancel
-    else (if letter == 69 then kinds.PendingReplace
-    else kinds.Replaced))))))))
+    else if letter == 48 then kinds.New
+    else if letter == 56 then kinds.Rejected
+    else if letter == 52 then kinds.Canceled
+    else if letter == 68 then kinds.Restated
+    else if letter == 70 then kinds.Trade
+    else if letter == 72 then kinds.TradeCancel
+    else if letter == 54 then kinds.PendingCancel
+    else if letter == 69 then kinds.PendingReplace
+    else kinds.Replaced
 
-abbrev pub status_of : ℕ → OrdStatus
-status_of letter =
+abbrev pub ord_status_of : ℕ → OrdStatus
+ord_status_of letter =
     if letter == 65 then statuses.PendingNew
-    else (if letter == 48 then statuses.New
-    else (if letter == 49 then statuses.PartiallyFilled
-    else (if letter == 50 then statuses.Filled
-    else (if letter == 52 then statuses.Canceled
-    else (if letter == 54 then statuses.PendingCancel
-    else (if letter == 56 then statuses.Rejected
-    else statuses.PendingReplace))))))
+    else if letter == 48 then statuses.New
+    else if letter == 49 then statuses.PartiallyFilled
+    else if letter == 50 then statuses.Filled
+    else if letter == 52 then statuses.Canceled
+    else if letter == 54 then statuses.PendingCancel
+    else if letter == 56 then statuses.Rejected
+    else statuses.PendingReplace
 
 abbrev pub response_of : ℕ → CxlRejResponseTo
 response_of letter = if letter == 49 then responses.Cancel else responses.Replace

@@ -2,3 +2,4 @@ pub mod Texts
 pub mod Letters
 pub mod Formats
 pub mod Slots
+pub use Rattle.fix_fields.specs.Field

@@ -1,37 +1,38 @@
 -- Fields of which some may be missing, in the order in which they are written.
-use Rattle.std.specs.Prelude.{ℕ, List, [], ◌∷◌, ◌++◌, Option, Some, None, fold, decimal, slice_index, unwrap_or, codes, if◌then◌else◌}
+use Rattle.std.specs.Prelude.{ℕ, List, [], ◌∷◌, ◌++◌, Option, Some, None, fold, decimal, slice_index, unwrap_or, codes}
+use Rattle.std.specs.Prelude.{if◌then◌else◌}
 use Rattle.std.specs.Option.{option_map}
 use Rattle.fix_fields.specs.Field.{Field, first_value}
-use Rattle.fix_fields.specs.Front.{number_of}
+use Rattle.decimal_digits.specs.Digits.{number_of}
 use Rattle.fix_values.specs.Formats.{is_none_text}
 
 -- a tag, and its value where it has one
-pub record Slot : Type 0 where
+pub record FieldSlot : Type 0 where
   pub tag : ℕ
   pub value : Option (List ℕ)
 
-abbrev pub slot : ℕ → Option (List ℕ) → Slot
+abbrev pub slot : ℕ → Option (List ℕ) → FieldSlot
 slot tag value = record { tag = tag; value = value }
 
 -- a field that is always there
-abbrev pub field : ℕ → List ℕ → Slot
-field tag value = slot tag (Some value)
+abbrev pub field_slot : ℕ → List ℕ → FieldSlot
+field_slot tag value = slot tag (Some value)
 
 -- the field of a slot, where it has one
 abbrev pub value_fields : ℕ → Option (List ℕ) → List Field
 value_fields tag None = []
 value_fields tag (Some value) = record { tag = tag; value = value } ∷ []
 
-abbrev pub slot_fields : Slot → List Field
+abbrev pub slot_fields : FieldSlot → List Field
 slot_fields s = value_fields s.tag s.value
 
 -- fields, and those of all slots behind them, one after another
-abbrev pub appended : List Field → List Slot → List Field
+abbrev pub appended : List Field → List FieldSlot → List Field
 appended fs slots = fold (λ before s. before ++ slot_fields s) fs slots
 
 -- the fields of all slots, one after another
-abbrev pub fields_of : List Slot → List Field
-fields_of slots = appended [] slots
+abbrev pub fields_of_slots : List FieldSlot → List Field
+fields_of_slots slots = appended [] slots
 
 -- a text of one byte, and a text of digits, where there is one
 abbrev pub char_text : Option ℕ → Option (List ℕ)
@@ -55,8 +56,8 @@ text_of tag fs = unwrap_or (first_value tag fs) []
 abbrev pub char_of : ℕ → List Field → ℕ
 char_of tag fs = slice_index (text_of tag fs) 0
 
-abbrev pub number_at : ℕ → List Field → ℕ
-number_at tag fs = number_of (text_of tag fs)
+abbrev pub number_of_tag : ℕ → List Field → ℕ
+number_of_tag tag fs = number_of (text_of tag fs)
 
 abbrev pub order_id_at : ℕ → List Field → Option ℕ
 order_id_at tag fs = order_id_of (text_of tag fs)

@@ -1,10 +1,8 @@
 //! The table of what a message's fields have to be, and the first that isn't.
 
-ghost use Rattle.std.specs.Prelude.{◌≡◌, ◌≤◌, length, MatchOption, true, false};
+ghost use Rattle.std.specs.Prelude.{◌≡◌, MatchOption, true, false};
 ghost use Rattle.std.specs.Option.{option_copied};
-ghost use Rattle.std.specs.Char.{is_ascii_digit};
-ghost use Rattle.std.specs.List.{list_all};
-ghost use Rattle.fix_fields.specs.Front as front;
+ghost use Rattle.decimal_digits.specs.Digits.{number_of as digits_number};
 ghost use Rattle.fix_values.specs.Formats as spec;
 ghost use Rattle.fix_values.specs.Texts as texts;
 
@@ -130,7 +128,7 @@ fn is_none(value: &[u8]) -> bool
 pub fn number_of(digits: &[u8]) -> Option<u64>
     ensures { MatchOption result
         (spec.is_number digits.now ≡ false)
-        (λ n. (spec.is_number digits.now ≡ true) × (n ≡ front.number_of digits.now)) }
+        (λ n. (spec.is_number digits.now ≡ true) × (n ≡ digits_number digits.now)) }
 {
     if digits.is_empty() {
         return None;
@@ -138,28 +136,7 @@ pub fn number_of(digits: &[u8]) -> Option<u64>
     if digits.len() > 20 {
         return None;
     }
-    let number = wide_number_of(digits)?;
-    if number > u128::from(u64::MAX) {
-        return None;
-    }
-    Some(number as u64)
-}
-
-/// The number that at most 20 digits write; `None` where a byte is no digit.
-fn wide_number_of(digits: &[u8]) -> Option<u128>
-    requires { length digits.now ≤ 20 }
-    ensures { MatchOption result
-        (list_all is_ascii_digit digits.now ≡ false)
-        (λ n. (list_all is_ascii_digit digits.now ≡ true) × (n ≡ front.number_of digits.now)) }
-{
-    let mut number = 0u128;
-    for digit in digits {
-        if !digit.is_ascii_digit() {
-            return None;
-        }
-        number = 10 * number + u128::from(*digit - b'0');
-    }
-    Some(number)
+    decimal_digits::number_of(digits)
 }
 
 /// What a value of another format is refused with.

@@ -4,8 +4,8 @@ ghost use Rattle.std.specs.Prelude.{◌≡◌, ◌<◌, ◌^◌, true, IfOk, IfS
 ghost use Rattle.fix_fields.specs.Field.{IsValue, first_value};
 ghost use Rattle.fix_values.specs.declared.format.Format.TheVariants as formats;
 ghost use Rattle.fix_values.specs.Formats.{passes};
-ghost use Rattle.fix_values.specs.Letters.{exec_type_of, response_of, status_of};
-ghost use Rattle.fix_values.specs.Slots.{text_of, char_of, number_at, order_id_at, optional_char, optional_number};
+ghost use Rattle.fix_values.specs.Letters.{exec_type_of, response_of, ord_status_of};
+ghost use Rattle.fix_values.specs.Slots.{text_of, char_of, number_of_tag, order_id_at, optional_char, optional_number};
 
 use crate::character::Character;
 use crate::cl_ord_id::ClOrdId;
@@ -65,7 +65,7 @@ pub fn char_at(fields: &Fields, tag: u32) -> Character
 pub fn number_in(fields: &Fields, tag: u32) -> u64
     requires there { is_some (first_value tag fields.now) ≡ true }
     requires format { passes formats.Number (first_value tag fields.now) ≡ true }
-    ensures number { result ≡ number_at tag fields.now }
+    ensures number { result ≡ number_of_tag tag fields.now }
     ensures kept { result < 2 ^ 64 }
 {
     number_of(value_at(fields, tag)).unwrap()
@@ -151,7 +151,7 @@ pub fn exec_type_at(fields: &Fields, tag: u32) -> ExecType
 pub fn ord_status_at(fields: &Fields, tag: u32) -> OrdStatus
     requires there { is_some (first_value tag fields.now) ≡ true }
     requires format { passes formats.OrdStatus (first_value tag fields.now) ≡ true }
-    ensures { result ≡ status_of (char_of tag fields.now) }
+    ensures { result ≡ ord_status_of (char_of tag fields.now) }
 {
     OrdStatus::of_letter(value_at(fields, tag)[0]).unwrap()
 }

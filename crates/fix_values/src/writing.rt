@@ -5,7 +5,7 @@ ghost use Rattle.fix_fields.specs.Field.{IsTag, IsValue};
 ghost use Rattle.fix_values.specs.declared.format.Format.TheVariants as formats;
 ghost use Rattle.fix_values.specs.Texts.{is_cl_ord_id, is_float};
 ghost use Rattle.fix_values.specs.Formats.{passes};
-ghost use Rattle.fix_values.specs.Slots.{slot, field, slot_fields, char_text, number_text, order_id_text};
+ghost use Rattle.fix_values.specs.Slots.{slot, field_slot, slot_fields, char_text, number_text, order_id_text};
 
 use crate::character::Character;
 use crate::cl_ord_id::ClOrdId;
@@ -18,7 +18,7 @@ use std::alloc::AllocError;
 pub fn push_letter(fields: &mut Fields, tag: u32, letter: u8) -> Result<(), AllocError>
     requires tag { IsTag tag }
     requires letter { IsValue (letter ∷ []) }
-    ensures { OnOk result (fields.new ≡ fields.old ++ slot_fields (field tag (letter ∷ []))) }
+    ensures { OnOk result (fields.new ≡ fields.old ++ slot_fields (field_slot tag (letter ∷ []))) }
 {
     fields.push(tag, &[letter])
 }
@@ -26,7 +26,7 @@ pub fn push_letter(fields: &mut Fields, tag: u32, letter: u8) -> Result<(), Allo
 /// Adds a value of one byte.
 pub fn push_char(fields: &mut Fields, tag: u32, value: Character) -> Result<(), AllocError>
     requires { IsTag tag }
-    ensures { OnOk result (fields.new ≡ fields.old ++ slot_fields (field tag (value ∷ []))) }
+    ensures { OnOk result (fields.new ≡ fields.old ++ slot_fields (field_slot tag (value ∷ []))) }
 {
     push_letter(fields, tag, value.byte())
 }
@@ -49,7 +49,7 @@ pub fn push_optional_char(
 /// Adds a text.
 pub fn push_text(fields: &mut Fields, tag: u32, text: &Text) -> Result<(), AllocError>
     requires { IsTag tag }
-    ensures { OnOk result (fields.new ≡ fields.old ++ slot_fields (field tag text.now)) }
+    ensures { OnOk result (fields.new ≡ fields.old ++ slot_fields (field_slot tag text.now)) }
 {
     fields.push(tag, text.as_slice())
 }
@@ -72,7 +72,7 @@ pub fn push_optional_text(
 /// Adds a float as it was written.
 pub fn push_float(fields: &mut Fields, tag: u32, float: &FloatText) -> Result<(), AllocError>
     requires { IsTag tag }
-    ensures written { OnOk result (fields.new ≡ fields.old ++ slot_fields (field tag float.now)) }
+    ensures written { OnOk result (fields.new ≡ fields.old ++ slot_fields (field_slot tag float.now)) }
     ensures kept { is_float float.now ≡ true }
 {
     fields.push(tag, float.as_slice())
@@ -113,7 +113,7 @@ pub fn push_optional_id(
 /// Adds a number in decimal.
 pub fn push_number(fields: &mut Fields, tag: u32, number: u64) -> Result<(), AllocError>
     requires { IsTag tag }
-    ensures written { OnOk result (fields.new ≡ fields.old ++ slot_fields (field tag (decimal number))) }
+    ensures written { OnOk result (fields.new ≡ fields.old ++ slot_fields (field_slot tag (decimal number))) }
     ensures kept { number < 2 ^ 64 }
 {
     let mut buffer = Buffer::new();
@@ -139,7 +139,7 @@ pub fn push_optional_number(
 /// Adds a ClOrdID.
 pub fn push_id(fields: &mut Fields, tag: u32, id: &ClOrdId) -> Result<(), AllocError>
     requires { IsTag tag }
-    ensures written { OnOk result (fields.new ≡ fields.old ++ slot_fields (field tag id.now)) }
+    ensures written { OnOk result (fields.new ≡ fields.old ++ slot_fields (field_slot tag id.now)) }
     ensures kept { is_cl_ord_id id.now ≡ true }
 {
     fields.push(tag, id.as_slice())
@@ -148,7 +148,7 @@ pub fn push_id(fields: &mut Fields, tag: u32, id: &ClOrdId) -> Result<(), AllocE
 /// Adds the number of an order in decimal, or `NONE` where there is none.
 pub fn push_order_id(fields: &mut Fields, tag: u32, order_id: Option<u64>) -> Result<(), AllocError>
     requires { IsTag tag }
-    ensures written { OnOk result (fields.new ≡ fields.old ++ slot_fields (field tag (order_id_text order_id))) }
+    ensures written { OnOk result (fields.new ≡ fields.old ++ slot_fields (field_slot tag (order_id_text order_id))) }
     ensures kept { IfSome order_id (λ n. n < 2 ^ 64) }
 {
     match order_id {

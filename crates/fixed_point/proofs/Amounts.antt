@@ -5,8 +5,9 @@ use Rattle.std.proofs.lemmas.Bool.Decides.{nat_tests}
 use Rattle.std.specs.Prelude.{◌||◌, nat_lt, if◌then◌else◌, Option, None, Some, Result, Ok, Err}
 use Rattle.fixed_point.specs.declared.refusal.DecimalRefusal.{DecimalRefusal}
 use Rattle.fixed_point.specs.declared.refusal.DecimalRefusal.TheVariants.{OutOfRange}
-use Rattle.fixed_point.specs.Decimal.{value, are_digits, scaled, fraction_of, fraction, is_negative, without_sign, whole, behind, within, amount_of, amount, is_below_zero}
-use Rattle.fixed_point.specs.Steps.{capped, capped_size, size}
+use Rattle.decimal_digits.specs.Digits.{number_of}
+use Rattle.fixed_point.specs.Decimal.{are_digits, scaled, fraction_of, fraction, is_negative, without_sign, whole, behind, within, amount_of, amount, is_below_zero}
+use Rattle.fixed_point.specs.Steps.{capped, capped_size, scaled_size}
 
 -- what becomes of a size
 abbrev pub judged : ℕ → ℕ → Bool → Result ℕ DecimalRefusal → Result ℕ DecimalRefusal
@@ -71,8 +72,8 @@ same_scaled scale digits places negative = refl
 
 judged_fraction : (scale least most digits places : ℕ) (negative test : Bool) → most < 100_000_000_000
     → amount_of scale least most (if test then Some (record { negative = negative; digits = digits; places = places }) else None)
-    ≡ judged least most negative (size scale (if test then Some (record { negative = false; digits = digits; places = places }) else None))
-unfolding amount_of size
+    ≡ judged least most negative (scaled_size scale (if test then Some (record { negative = false; digits = digits; places = places }) else None))
+unfolding amount_of scaled_size
 judged_fraction scale least most digits places negative false low = refl
 judged_fraction scale least most digits places negative true low =
     ap (within least most negative) (same_scaled scale digits places negative)
@@ -82,10 +83,10 @@ judged_fraction scale least most digits places negative true low =
 pub amount_by_size : (scale least most : ℕ) (text rest front back : List ℕ) (negative : Bool) (result : Result ℕ DecimalRefusal)
     → most < 100_000_000_000
     → negative ≡ is_negative text → rest ≡ without_sign text → front ≡ whole rest → back ≡ behind rest
-    → result ≡ size scale (fraction_of false front back)
+    → result ≡ scaled_size scale (fraction_of false front back)
     → judged least most negative result ≡ amount scale least most text
 unfolding amount fraction
 amount_by_size scale least most text rest front back negative result low n r f b e =
-    let judged_of = judged_fraction scale least most (value (front ++ back)) (length back) negative (are_digits (front ++ back)) low in
+    let judged_of = judged_fraction scale least most (number_of (front ++ back)) (length back) negative (are_digits (front ++ back)) low in
     let parts : fraction_of negative front back ≡ fraction_of (is_negative text) (whole (without_sign text)) (behind (without_sign text)) = rw (f, b, r, n) refl in
     ap (judged least most negative) e ∙ sym judged_of ∙ ap (amount_of scale least most) parts

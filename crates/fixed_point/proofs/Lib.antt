@@ -4,5 +4,5 @@ mod Points
 pub mod Printed
 pub mod SaidInRange
 mod Sizes
-mod Values
+mod Numbers
 mod Worths

@@ -9,28 +9,31 @@ use Rattle.std.proofs.lemmas.Bool.Decides.{nat_tests}
 use Rattle.std.proofs.lemmas.Fmt.{decimal_by_steps_wide}
 use Rattle.std.specs.Prelude.{◌==◌, nat_lt, if◌then◌else◌, decimal, Some}
 use Rattle.std.specs.List.{list_all}
-use Rattle.fixed_point.specs.Decimal.{value, is_digit, is_negative, without_sign, whole, behind, are_digits, fraction, fraction_of, scaled, worth, worth_of}
+use Rattle.std.specs.Char.{is_ascii_digit}
+use Rattle.decimal_digits.specs.Digits.{number_of}
+use Rattle.fixed_point.specs.Decimal.{is_negative, without_sign, whole, behind, are_digits, fraction, fraction_of, scaled, worth, worth_of}
 use Rattle.fixed_point.specs.Price.{four_digits, significant, price_text}
-use Rattle.fixed_point.proofs.Values.{value-push, first_digit, other_digits}
+use Rattle.decimal_digits.proofs.Numbers.{number_of-push}
+use Rattle.fixed_point.proofs.Numbers.{first_digit, other_digits}
 use Rattle.fixed_point.proofs.Points.{whole_before, behind_after, whole_of_all, behind_none}
 use Rattle.fixed_point.proofs.Sizes.{scaled_exact}
 
 -- digits, one at least, that make a number
 record Spells (n : ℕ) (ds : List ℕ) : Type 0 where
-  digits : list_all is_digit ds ≡ true
-  number : value ds ≡ n
+  digits : list_all is_ascii_digit ds ≡ true
+  number : number_of ds ≡ n
   some : 0 < length ds
 
-is_digit_of : (d : ℕ) → d < 10 → is_digit (48 + d) ≡ true
-is_digit_of d lt = grind (arith, nat_tests)
+ascii_digit_of : (d : ℕ) → d < 10 → is_ascii_digit (48 + d) ≡ true
+ascii_digit_of d lt = grind (arith, nat_tests)
 
 one_digit : (n : ℕ) → n < 10 → Spells n ((48 + n) ∷ [])
-one_digit n lt = record { digits = rw (is_digit_of n lt) refl; number = omega arith; some = omega arith }
+one_digit n lt = record { digits = rw (ascii_digit_of n lt) refl; number = omega arith; some = omega arith }
 
 one_more_digit : (n : ℕ) (ds : List ℕ) → 10 ≤ n → Spells (n / 10) ds → Spells n (ds ++ ((48 + n % 10) ∷ []))
 one_more_digit n ds le front = record {
-  digits = list_all-append is_digit ds ((48 + n % 10) ∷ []) ∙ rw (front.digits, is_digit_of (n % 10) (omega arith)) refl;
-  number = value-push ds (48 + n % 10) ∙ rw front.number (omega arith);
+  digits = list_all-append is_ascii_digit ds ((48 + n % 10) ∷ []) ∙ rw (front.digits, ascii_digit_of (n % 10) (omega arith)) refl;
+  number = number_of-push ds (48 + n % 10) ∙ rw front.number (omega arith);
   some = omega (arith, length-append ds ((48 + n % 10) ∷ []));
 }
 
@@ -39,9 +42,9 @@ decimal_spells n lt = decimal_by_steps_wide Spells one_digit one_more_digit n lt
 
 -- the digits of a fraction, in 1/10,000
 record SpellsFraction (n : ℕ) (ds : List ℕ) : Type 0 where
-  digits : list_all is_digit ds ≡ true
+  digits : list_all is_ascii_digit ds ≡ true
   short : length ds ≤ 4
-  number : value ds * 10 ^ (4 - length ds) ≡ n
+  number : number_of ds * 10 ^ (4 - length ds) ≡ n
 
 no_fraction : SpellsFraction 0 []
 no_fraction = record { digits = refl; short = omega arith; number = refl }
@@ -51,28 +54,28 @@ test_holds n h = grind (arith, nat_tests)
 
 one_place : (n : ℕ) → n < 10_000 → n % 1000 ≡ 0 → SpellsFraction n (take 1 (four_digits n))
 one_place n lt e = record {
-  digits = rw (is_digit_of (n / 1000) (omega arith)) refl;
+  digits = rw (ascii_digit_of (n / 1000) (omega arith)) refl;
   short = omega arith;
   number = omega arith;
 }
 
 two_places : (n : ℕ) → n < 10_000 → n % 100 ≡ 0 → SpellsFraction n (take 2 (four_digits n))
 two_places n lt e = record {
-  digits = rw (is_digit_of (n / 1000) (omega arith), is_digit_of (n / 100 % 10) (omega arith)) refl;
+  digits = rw (ascii_digit_of (n / 1000) (omega arith), ascii_digit_of (n / 100 % 10) (omega arith)) refl;
   short = omega arith;
   number = omega arith;
 }
 
 three_places : (n : ℕ) → n < 10_000 → n % 10 ≡ 0 → SpellsFraction n (take 3 (four_digits n))
 three_places n lt e = record {
-  digits = rw (is_digit_of (n / 1000) (omega arith), is_digit_of (n / 100 % 10) (omega arith), is_digit_of (n / 10 % 10) (omega arith)) refl;
+  digits = rw (ascii_digit_of (n / 1000) (omega arith), ascii_digit_of (n / 100 % 10) (omega arith), ascii_digit_of (n / 10 % 10) (omega arith)) refl;
   short = omega arith;
   number = omega arith;
 }
 
 four_places : (n : ℕ) → n < 10_000 → SpellsFraction n (take 4 (four_digits n))
 four_places n lt = record {
-  digits = rw (is_digit_of (n / 1000) (omega arith), is_digit_of (n / 100 % 10) (omega arith), is_digit_of (n / 10 % 10) (omega arith), is_digit_of (n % 10) (omega arith)) refl;
+  digits = rw (ascii_digit_of (n / 1000) (omega arith), ascii_digit_of (n / 100 % 10) (omega arith), ascii_digit_of (n / 10 % 10) (omega arith), ascii_digit_of (n % 10) (omega arith)) refl;
   short = omega arith;
   number = omega arith;
 }
@@ -88,25 +91,25 @@ significant_digits n lt = by_tests (n % 1000 == 0) (n % 100 == 0) (n % 10 == 0) 
 
 -- a text that begins with a digit has no sign
 
-no_sign : (ds rest : List ℕ) → list_all is_digit ds ≡ true → 0 < length ds → is_negative (ds ++ rest) ≡ false
+no_sign : (ds rest : List ℕ) → list_all is_ascii_digit ds ≡ true → 0 < length ds → is_negative (ds ++ rest) ≡ false
 no_sign [] rest h some = absurd (omega arith)
 no_sign (d ∷ ds) rest h some = let range = first_digit d ds h in grind (arith, nat_tests)
 
-all_unsigned : (ds rest : List ℕ) → list_all is_digit ds ≡ true → 0 < length ds → without_sign (ds ++ rest) ≡ ds ++ rest
+all_unsigned : (ds rest : List ℕ) → list_all is_ascii_digit ds ≡ true → 0 < length ds → without_sign (ds ++ rest) ≡ ds ++ rest
 all_unsigned [] rest h some = absurd (omega arith)
 all_unsigned (d ∷ ds) rest h some =
     let range = first_digit d ds h in
     let test : (d == 45) ≡ false = grind (arith, nat_tests) in
     rw test refl
 
-no_point_in : (ds : List ℕ) (k : ℕ) → list_all is_digit ds ≡ true → k < length ds → get_or ds k 0 ≢ 46
+no_point_in : (ds : List ℕ) (k : ℕ) → list_all is_ascii_digit ds ≡ true → k < length ds → get_or ds k 0 ≢ 46
 no_point_in [] k h lt = absurd (omega arith)
 no_point_in (d ∷ ds) zero h lt = let range = first_digit d ds h in omega arith
 no_point_in (d ∷ ds) (suc k) h lt = no_point_in ds k (other_digits d ds h) (omega arith)
 
-some_digits : (ds fs : List ℕ) → list_all is_digit ds ≡ true → list_all is_digit fs ≡ true → 0 < length ds → are_digits (ds ++ fs) ≡ true
+some_digits : (ds fs : List ℕ) → list_all is_ascii_digit ds ≡ true → list_all is_ascii_digit fs ≡ true → 0 < length ds → are_digits (ds ++ fs) ≡ true
 some_digits ds fs h k some =
-    let all : list_all is_digit (ds ++ fs) ≡ true = list_all-append is_digit ds fs ∙ rw (h, k) refl in
+    let all : list_all is_ascii_digit (ds ++ fs) ≡ true = list_all-append is_ascii_digit ds fs ∙ rw (h, k) refl in
     let more : 0 < length (ds ++ fs) = omega (arith, length-append ds fs) in
     let test : nat_lt 0 (length (ds ++ fs)) ≡ true = grind (arith, nat_tests) in
     rw (test, all) refl
@@ -116,9 +119,9 @@ worth_of_digits : (m n : ℕ) (ds fs : List ℕ) → Spells m ds → SpellsFract
 unfolding worth_of
 worth_of_digits m n ds fs front back =
     let exact = scaled_exact false ds fs [] (4 - length fs) 4 (short_sum (length fs) back.short) refl in
-    let same = subst (λ (t : List ℕ). scaled 10_000 (record { negative = false; digits = value (ds ++ t); places = length t }) ≡ Some ((value ds * 10 ^ length fs + value fs) * 10 ^ (4 - length fs))) (append-nil fs) exact in
-    let number : (value ds * 10 ^ length fs + value fs) * 10 ^ (4 - length fs) ≡ m * 10_000 + n =
-    joined (value ds) m (10 ^ length fs) (value fs) (10 ^ (4 - length fs)) n front.number back.number
+    let same = subst (λ (t : List ℕ). scaled 10_000 (record { negative = false; digits = number_of (ds ++ t); places = length t }) ≡ Some ((number_of ds * 10 ^ length fs + number_of fs) * 10 ^ (4 - length fs))) (append-nil fs) exact in
+    let number : (number_of ds * 10 ^ length fs + number_of fs) * 10 ^ (4 - length fs) ≡ m * 10_000 + n =
+    joined (number_of ds) m (10 ^ length fs) (number_of fs) (10 ^ (4 - length fs)) n front.number back.number
     (sym (pow-add 10 (length fs) (4 - length fs)) ∙ ap (λ k. 10 ^ k) (short_sum (length fs) back.short)) in
     let test : are_digits (ds ++ fs) ≡ true = some_digits ds fs front.digits back.digits front.some in
     rw (test, same, number) refl

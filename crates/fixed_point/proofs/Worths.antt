@@ -8,7 +8,9 @@ use Rattle.std.specs.Prelude.{◌==◌, nat_lt, Option, None, Some, SomeIff, Ok,
 use Rattle.std.specs.List.{list_all}
 use Rattle.fixed_point.specs.declared.worth.WorthRefusal.{WorthRefusal}
 use Rattle.fixed_point.specs.declared.worth.WorthRefusal.TheVariants.{NoWorth, TooLarge}
-use Rattle.fixed_point.specs.Decimal.{value, is_digit, are_digits, scaled, fraction_of, fraction, is_negative, without_sign, whole, behind, not_below_zero, worth_of, worth}
+use Rattle.std.specs.Char.{is_ascii_digit}
+use Rattle.decimal_digits.specs.Digits.{number_of}
+use Rattle.fixed_point.specs.Decimal.{are_digits, scaled, fraction_of, fraction, is_negative, without_sign, whole, behind, not_below_zero, worth_of, worth}
 use Rattle.fixed_point.specs.Worth.{counted}
 use Rattle.fixed_point.proofs.Sizes.{scaled_exact, scaled_inexact}
 
@@ -70,17 +72,17 @@ pub no_float : (negative : Bool) (front back : List ℕ) → are_digits (front +
 unfolding counted worth_of
 no_float negative front back h = rw h refl
 
-far_digits : (front back near far : List ℕ) → near ++ far ≡ back → are_digits (front ++ back) ≡ true → list_all is_digit far ≡ true
+far_digits : (front back near far : List ℕ) → near ++ far ≡ back → are_digits (front ++ back) ≡ true → list_all is_ascii_digit far ≡ true
 far_digits front back near far joined h =
-    let all = (and_parts (nat_lt 0 (length (front ++ back))) (list_all is_digit (front ++ back)) h).1 in
-    let cut = (and_parts (list_all is_digit front) (list_all is_digit back) (sym (list_all-append is_digit front back) ∙ all)).1 in
-    (and_parts (list_all is_digit near) (list_all is_digit far) (sym (list_all-append is_digit near far) ∙ ap (list_all is_digit) joined ∙ cut)).1
+    let all = (and_parts (nat_lt 0 (length (front ++ back))) (list_all is_ascii_digit (front ++ back)) h).1 in
+    let cut = (and_parts (list_all is_ascii_digit front) (list_all is_ascii_digit back) (sym (list_all-append is_ascii_digit front back) ∙ all)).1 in
+    (and_parts (list_all is_ascii_digit near) (list_all is_ascii_digit far) (sym (list_all-append is_ascii_digit near far) ∙ ap (list_all is_ascii_digit) joined ∙ cut)).1
 
-worth_none : (negative : Bool) (front back : List ℕ) → are_digits (front ++ back) ≡ true → scaled 10_000 (record { negative = negative; digits = value (front ++ back); places = length back }) ≡ None → Err NoWorth ≡ counted (of_parts negative front back)
+worth_none : (negative : Bool) (front back : List ℕ) → are_digits (front ++ back) ≡ true → scaled 10_000 (record { negative = negative; digits = number_of (front ++ back); places = length back }) ≡ None → Err NoWorth ≡ counted (of_parts negative front back)
 unfolding counted worth_of
 worth_none negative front back digits e = rw (digits, e) refl
 
-worth_some : (negative : Bool) (n : ℕ) (front back : List ℕ) → are_digits (front ++ back) ≡ true → scaled 10_000 (record { negative = negative; digits = value (front ++ back); places = length back }) ≡ Some n → of_parts negative front back ≡ not_below_zero negative (Some n)
+worth_some : (negative : Bool) (n : ℕ) (front back : List ℕ) → are_digits (front ++ back) ≡ true → scaled 10_000 (record { negative = negative; digits = number_of (front ++ back); places = length back }) ≡ Some n → of_parts negative front back ≡ not_below_zero negative (Some n)
 unfolding worth_of
 worth_some negative n front back digits e = rw (digits, e) refl
 
@@ -96,8 +98,8 @@ too_fine negative front back near far kept digits k a b some =
           let joined : near ++ far ≡ back = rw (a, b) (take-append-drop kept back) in
           let len : length near ≡ 4 = ap (λ (t : List ℕ). length t) a ∙ length-take-le kept back (omega arith) ∙ omega arith in
           let e = scaled_inexact negative front near far (far_digits front back near far joined digits) some in
-          let f = subst (λ n. scaled (10 ^ n) (record { negative = negative; digits = value (front ++ (near ++ far)); places = length (near ++ far) }) ≡ None) len e in
-          let g = subst (λ (t : List ℕ). scaled 10_000 (record { negative = negative; digits = value (front ++ t); places = length t }) ≡ None) joined f in
+          let f = subst (λ n. scaled (10 ^ n) (record { negative = negative; digits = number_of (front ++ (near ++ far)); places = length (near ++ far) }) ≡ None) len e in
+          let g = subst (λ (t : List ℕ). scaled 10_000 (record { negative = negative; digits = number_of (front ++ t); places = length t }) ≡ None) joined f in
           worth_none negative front back digits g
       | inr all ↦
           let none : far ≡ [] = b ∙ drop_all kept back all in
@@ -109,12 +111,12 @@ pub worth_exact : (negative : Bool) (front back near far : List ℕ) (kept : ℕ
     → are_digits (front ++ back) ≡ true
     → kept ≡ min (length back) 4 → near ≡ take kept back → far ≡ drop kept back
     → list_all (λ d. d == 48) far ≡ true
-    → of_parts negative front back ≡ not_below_zero negative (Some ((value front * 10 ^ length near + value near) * 10 ^ (4 - length near)))
+    → of_parts negative front back ≡ not_below_zero negative (Some ((number_of front * 10 ^ length near + number_of near) * 10 ^ (4 - length near)))
 worth_exact negative front back near far kept digits k a b zeros =
     let joined : near ++ far ≡ back = rw (a, b) (take-append-drop kept back) in
     let len : length near ≡ kept = ap (λ (t : List ℕ). length t) a ∙ length-take-le kept back (omega arith) in
     let sum : length near + (4 - length near) ≡ 4 = omega arith in
-    let exact = (value front * 10 ^ length near + value near) * 10 ^ (4 - length near) in
+    let exact = (number_of front * 10 ^ length near + number_of near) * 10 ^ (4 - length near) in
     let e = scaled_exact negative front near far (4 - length near) 4 sum zeros in
-    let f = subst (λ (t : List ℕ). scaled 10_000 (record { negative = negative; digits = value (front ++ t); places = length t }) ≡ Some exact) joined e in
+    let f = subst (λ (t : List ℕ). scaled 10_000 (record { negative = negative; digits = number_of (front ++ t); places = length t }) ≡ Some exact) joined e in
     worth_some negative exact front back digits f

@@ -2,8 +2,11 @@
 --
 -- Source: FIX 4.4 Volume 1, data type float: an optional minus sign, digits and at most one point; no exponent and no
 -- plus sign. Zeros in front and behind change nothing.
-use Rattle.std.specs.Prelude.{ℕ, ◌+◌, ◌-◌, ◌*◌, ◌/◌, ◌%◌, ◌^◌, Bool, false, ◌&&◌, ◌||◌, ◌==◌, nat_le, nat_lt, if◌then◌else◌, List, [], ◌∷◌, ◌++◌, length, Option, None, Some, Result, Ok, Err}
+use Rattle.std.specs.Prelude.{ℕ, ◌*◌, ◌/◌, ◌%◌, ◌^◌, Bool, false, ◌&&◌, ◌||◌, ◌==◌, nat_lt, if◌then◌else◌, List, []}
+use Rattle.std.specs.Prelude.{◌∷◌, ◌++◌, length, Option, None, Some, Result, Ok, Err}
+use Rattle.std.specs.Char.{is_ascii_digit}
 use Rattle.std.specs.List.{list_all, before_first, after_first}
+use Rattle.decimal_digits.specs.Digits.{number_of}
 use Rattle.fixed_point.specs.declared.refusal.DecimalRefusal.{DecimalRefusal}
 use Rattle.fixed_point.specs.declared.refusal.DecimalRefusal.TheVariants.{NotFloat, NotExact, OutOfRange}
 
@@ -13,17 +16,8 @@ pub record Fraction : Type 0 where
   pub digits : ℕ
   pub places : ℕ
 
--- `0` to `9`
-abbrev pub is_digit : ℕ → Bool
-is_digit byte = nat_le 48 byte && nat_le byte 57
-
 abbrev pub is_point : ℕ → Bool
 is_point byte = byte == 46
-
--- what digits stand for, each by its place
-abbrev pub value : List ℕ → ℕ
-value [] = 0
-value (digit ∷ digits) = (digit - 48) * 10 ^ length digits + value digits
 
 -- a minus sign stands in front
 abbrev pub is_negative : List ℕ → Bool
@@ -44,13 +38,13 @@ behind text = after_first is_point text
 
 -- one digit or more, and nothing else
 abbrev pub are_digits : List ℕ → Bool
-are_digits bytes = nat_lt 0 (length bytes) && list_all is_digit bytes
+are_digits bytes = nat_lt 0 (length bytes) && list_all is_ascii_digit bytes
 
 -- the fraction that these bytes denote before and behind the point, if they are digits
 abbrev pub fraction_of : Bool → List ℕ → List ℕ → Option Fraction
 fraction_of negative front back =
     if are_digits (front ++ back)
-    then Some (record { negative = negative; digits = value (front ++ back); places = length back })
+    then Some (record { negative = negative; digits = number_of (front ++ back); places = length back })
     else None
 
 -- the fraction that a text denotes, if it is a float

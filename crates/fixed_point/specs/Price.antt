@@ -8,7 +8,7 @@ four_digits n = (48 + n / 1000) ∷ (48 + n / 100 % 10) ∷ (48 + n / 10 % 10) �
 -- how many of the four digits stand up to the last that is no 0, or 1 where all are
 abbrev pub significant : ℕ → ℕ
 significant n =
-    if n % 1000 == 0 then 1 else (if n % 100 == 0 then 2 else (if n % 10 == 0 then 3 else 4))
+    if n % 1000 == 0 then 1 else if n % 100 == 0 then 2 else if n % 10 == 0 then 3 else 4
 
 -- a point and the fraction without the zeros at its end, or nothing where it is 0
 abbrev pub fraction_text : ℕ → List ℕ

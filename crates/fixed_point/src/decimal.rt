@@ -2,10 +2,11 @@
 
 ghost use Rattle.std.specs.Prelude.{◌≡◌, ◌^◌, ◌≤◌, false};
 ghost use Rattle.fixed_point.specs.Decimal as decimal;
-ghost use Rattle.fixed_point.specs.Steps.{size};
+ghost use Rattle.fixed_point.specs.Steps.{scaled_size};
 
-use crate::digits::{TOO_LARGE, are_digits, are_zeros, power_of_ten, read_on};
+use crate::digits::{TOO_LARGE, are_zeros, power_of_ten, read_on};
 use crate::refusal::DecimalRefusal;
+use decimal_digits::are_digits;
 
 /// Whether a `-` stands in front, and what stands behind it.
 pub fn sign_of(text: &[u8]) -> (bool, &[u8])
@@ -34,7 +35,7 @@ pub fn parts_of(text: &[u8]) -> (&[u8], &[u8])
 /// How many 1 / 10 ^ `places` these digits before and behind the point make, `TOO_LARGE` at most.
 pub fn size_of(whole: &[u8], behind: &[u8], places: usize) -> Result<u64, DecimalRefusal>
     requires { places ≤ 4 }
-    ensures { result ≡ size (10 ^ places) (decimal.fraction_of false whole.now behind.now) }
+    ensures { result ≡ scaled_size (10 ^ places) (decimal.fraction_of false whole.now behind.now) }
 {
     if whole.len() == 0 && behind.len() == 0 {
         return Err(DecimalRefusal::NotFloat);

@@ -1,8 +1,10 @@
-//! Digits, and the numbers that they make.
+//! Digits that are read on behind others: up to a cap, since a number that is too large is out of range and no reason
+//! to stop looking for what is no digit; and up to 2^128, where a worth has no range. `decimal_digits` reads all
+//! others.
 
 ghost use Rattle.std.specs.Prelude.{◌≡◌, ◌^◌, ◌≤◌, ◌<◌, ◌+◌, ◌*◌, ◌==◌, IfSome, SomeIff, length};
 ghost use Rattle.std.specs.List.{list_all};
-ghost use Rattle.fixed_point.specs.Decimal as decimal;
+ghost use Rattle.decimal_digits.specs.Digits.{number_of};
 ghost use Rattle.fixed_point.specs.Steps as steps;
 
 /// Above every amount; a number that reaches it stays there, so that no number of digits makes it wrap.
@@ -16,7 +18,7 @@ pub fn read_on(start: u64, digits: &[u8]) -> Option<u64>
 {
     let mut number = start;
     for byte in digits {
-        if !is_digit(*byte) {
+        if !byte.is_ascii_digit() {
             return None;
         }
         number = (10 * number + u64::from(*byte - b'0')).min(TOO_LARGE);
@@ -26,7 +28,7 @@ pub fn read_on(start: u64, digits: &[u8]) -> Option<u64>
 
 /// The number that these digits make behind those of `start`; `None` for 2^128 and more.
 pub fn exact_on(start: u128, digits: &[u8]) -> Option<u128>
-    ensures { let number = start * 10 ^ length digits.now + decimal.value digits.now in
+    ensures { let number = start * 10 ^ length digits.now + number_of digits.now in
         SomeIff result (number < 2 ^ 128) number }
 {
     let mut number = start;
@@ -35,13 +37,6 @@ pub fn exact_on(start: u128, digits: &[u8]) -> Option<u128>
         number = number.checked_mul(10)?.checked_add(digit)?;
     }
     Some(number)
-}
-
-/// Whether each of these bytes is a digit.
-pub fn are_digits(bytes: &[u8]) -> bool
-    ensures { result ≡ list_all decimal.is_digit bytes.now }
-{
-    bytes.iter().all(|byte| is_digit(*byte))
 }
 
 /// Whether each of these bytes is the digit 0.
@@ -64,10 +59,4 @@ pub fn power_of_ten(exponent: usize) -> u64
         3 => 1_000,
         _ => 10_000,
     }
-}
-
-fn is_digit(byte: u8) -> bool
-    ensures { result ≡ decimal.is_digit byte }
-{
-    byte >= b'0' && byte <= b'9'
 }

@@ -19,5 +19,6 @@ pub fn printed_reads_back()
 /// What a text says lies in range.
 pub fn said_in_range()
     ensures prices { (text : List ℕ) (n : ℕ) → price text ≡ Ok n → (1 ≤ n) × (n ≤ most_price) }
-    ensures quantities { (least : ℕ) (text : List ℕ) (n : ℕ) → quantity least text ≡ Ok n → (least ≤ n) × (n ≤ most_shares) }
+    ensures quantities { (least : ℕ) (text : List ℕ) (n : ℕ) → quantity least text ≡ Ok n
+        → (least ≤ n) × (n ≤ most_shares) }
 {}

@@ -1,7 +1,7 @@
 //! Why a text says no amount.
 
 ghost use Rattle.std.specs.Prelude.{◌≡◌};
-ghost use Rattle.fixed_point.specs.Refusal.{number_of};
+ghost use Rattle.fixed_point.specs.Refusal.{decimal_refusal_number};
 
 use thiserror::Error;
 
@@ -22,7 +22,7 @@ pub enum DecimalRefusal {
 impl DecimalRefusal {
     /// The refusal's number: 1 `NotFloat`, 2 `NotExact`, 3 `OutOfRange`. Takes no memory.
     pub fn number(self) -> u8
-        ensures { result ≡ number_of self }
+        ensures { result ≡ decimal_refusal_number self }
     {
         match self {
             DecimalRefusal::NotFloat => 1,

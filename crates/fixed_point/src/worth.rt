@@ -1,11 +1,13 @@
 //! What a text is worth, with no range: as reports carry prices and averages.
 
 ghost use Rattle.std.specs.Prelude.{◌≡◌, ◌≤◌, ◌<◌, ◌+◌, ◌-◌, ◌*◌, ◌^◌, ◌++◌, ℕ, true, false, Some, SomeIff, length};
+ghost use Rattle.decimal_digits.specs.Digits.{number_of};
 ghost use Rattle.fixed_point.specs.Decimal as decimal;
 ghost use Rattle.fixed_point.specs.Worth.{counted};
 
 use crate::decimal::{parts_of, sign_of};
-use crate::digits::{are_digits, are_zeros, exact_on, power_of_ten};
+use crate::digits::{are_zeros, exact_on, power_of_ten};
+use decimal_digits::are_digits;
 use thiserror::Error;
 
 /// Why a text gives no number of 1/10,000.
@@ -51,7 +53,7 @@ fn is_float(whole: &[u8], behind: &[u8]) -> bool
 /// How many 1/10,000 these digits before and behind the point make; `None` for 2^128 and more.
 fn units_of(whole: &[u8], behind: &[u8]) -> Option<u128>
     requires { length behind.now ≤ 4 }
-    ensures { let digits = decimal.value whole.now * 10 ^ length behind.now + decimal.value behind.now in
+    ensures { let digits = number_of whole.now * 10 ^ length behind.now + number_of behind.now in
         let units = digits * 10 ^ (4 - length behind.now) in
         SomeIff result (units < 2 ^ 128) units }
 {

@@ -153,7 +153,8 @@ fn a_thousand_frames_in_pieces(rt: HostRuntime) -> Result<(), Fail> {
     Ok(())
 }
 
-/// The check sum counts each byte before it, and is itself compared byte by byte: no other byte in any place is a frame.
+/// The check sum counts each byte before it, and is itself compared byte by byte: no other byte in any place is a
+/// frame.
 #[test]
 fn no_byte_may_be_another(rt: HostRuntime) -> Result<(), Fail> {
     for i in 0..HEARTBEAT.len() {

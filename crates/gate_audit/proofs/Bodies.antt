@@ -2,10 +2,10 @@
 use Rattle.std.proofs.Common.{◌≡◌, ℕ, Bool, true, false, List, [], ◌∷◌, map, refl, sym, ap, ◌∙◌}
 use Rattle.std.specs.Prelude.{◌==◌}
 use Rattle.std.proofs.Common.{eqb-true}
-use Rattle.fix_fields.specs.Field.{first_value}
-use Rattle.order_law.specs.Messages.{Message, body_of, is_header}
+use Rattle.fix_fields.specs.Field.{first_value, Message}
+use Rattle.order_law.specs.Messages.{body_of, is_header}
 use Rattle.order_law.specs.Reading.{Reading, is_report_on, reading, with_report}
-use Rattle.gate_audit.specs.Read.{opened, opened_by, opens}
+use Rattle.gate_audit.specs.Read.{opened_in, opened_by, opens_new_order}
 
 pub same-first : (tag : ℕ) → is_header tag ≡ false → (m : Message) → first_value tag (body_of m) ≡ first_value tag m
 same-first tag apart [] = refl
@@ -28,16 +28,16 @@ pub same-reading : (order : List ℕ) (rs : List Message) → reading order (map
 same-reading order [] = refl
 same-reading order (r ∷ rs) = rw (same-report order r, same-reading order rs, same-with (reading order rs) r) refl
 
-pub same-opens : (r : Message) → opens (body_of r) ≡ opens r
+pub same-opens : (r : Message) → opens_new_order (body_of r) ≡ opens_new_order r
 same-opens r = rw (same-first 35 refl r, same-first 150 refl r) refl
 
 same-opened_by : (r : Message) → opened_by (body_of r) ≡ opened_by r
 same-opened_by r = rw (same-first 37 refl r, same-first 11 refl r) refl
 
-pub same-opened : (rs : List Message) → opened (map body_of rs) ≡ opened rs
+pub same-opened : (rs : List Message) → opened_in (map body_of rs) ≡ opened_in rs
 same-opened [] = refl
-same-opened (r ∷ rs) = by_opens (opens r) refl (same-opened rs)
+same-opened (r ∷ rs) = by_opens (opens_new_order r) refl (same-opened rs)
   where
-    by_opens : (b : Bool) → opens r ≡ b → opened (map body_of rs) ≡ opened rs → opened (map body_of (r ∷ rs)) ≡ opened (r ∷ rs)
+    by_opens : (b : Bool) → opens_new_order r ≡ b → opened_in (map body_of rs) ≡ opened_in rs → opened_in (map body_of (r ∷ rs)) ≡ opened_in (r ∷ rs)
     by_opens true is rest = rw (same-opens r, is, same-opened_by r, rest) refl
     by_opens false is rest = rw (same-opens r, is, rest) refl

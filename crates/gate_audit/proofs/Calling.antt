@@ -3,16 +3,16 @@ use Rattle.std.proofs.Common.{◌≡◌, ◌<◌, ◌≤◌, ◌+◌, ◌^◌, �
 use Rattle.std.specs.Prelude.{if◌then◌else◌, ◌&&◌, nat_le, nat_lt}
 use Rattle.std.proofs.lemmas.List.{take_more}
 use Rattle.std.proofs.lemmas.Bool.Decides.{nat_tests}
-use Rattle.soup_session.specs.Table.{Terms}
-use Rattle.core_law.specs.Events.{History}
-use Rattle.core_law.specs.After.{is_within, most_events}
-use Rattle.core_batches.specs.declared.event.Event.{Event}
-use Rattle.core_batches.specs.declared.batch.Batch.{Batch}
+use Rattle.soup_session.specs.Table.{LoginTerms}
+use Rattle.gate_law.specs.Events.{History}
+use Rattle.gate_law.specs.After.{is_within_day, most_events}
+use Rattle.gate_events.specs.declared.event.Event.{Event}
+use Rattle.gate_events.specs.declared.batch.Batch.{Batch}
 use Rattle.gate_core.specs.Core.{history, onto, turn_of}
-use Rattle.core_batches.specs.Seen.{batch_seen, event_seen}
+use Rattle.gate_events.specs.Seen.{batch_seen, event_seen}
 use Rattle.gate_core.proofs.Histories.{onto-push}
 use Rattle.gate_audit.specs.Again as read
-use Rattle.gate_audit.specs.Again.{again}
+use Rattle.gate_audit.specs.Again.{called_again}
 
 onto-length : (events : List Event) (batches : List Batch) (before : History) → length batches ≡ length events → length (onto events batches before) ≡ length events + length before
 onto-length [] [] before same = omega arith
@@ -40,18 +40,18 @@ is-past : (n i : ℕ) → nat_lt i n ≡ false → n ≤ i
 is-past n i e = grind (arith, nat_tests)
 
 -- one event more, where so many may still be stepped, and where not
-pub again-more : (terms : Terms) (p : ℕ) (e : Event) (b : Batch) (before : History) → length before < 2 ^ 48
-    → again terms p (turn_of e b ∷ before) ≡ read.unless_lost p (batch_seen b) (read.by_event terms p (event_seen e) (batch_seen b) (again terms p before))
-again-more terms p e b before few = by_limit (is_within before) refl
+pub again-more : (terms : LoginTerms) (p : ℕ) (e : Event) (b : Batch) (before : History) → length before < 2 ^ 48
+    → called_again terms p (turn_of e b ∷ before) ≡ read.unless_lost p (batch_seen b) (read.called_by_event terms p (event_seen e) (batch_seen b) (called_again terms p before))
+again-more terms p e b before few = by_limit (is_within_day before) refl
   where
-    by_limit : (w : Bool) → is_within before ≡ w → (if w then read.unless_lost p (batch_seen b) (read.by_event terms p (event_seen e) (batch_seen b) (again terms p before)) else again terms p before) ≡ read.unless_lost p (batch_seen b) (read.by_event terms p (event_seen e) (batch_seen b) (again terms p before))
+    by_limit : (w : Bool) → is_within_day before ≡ w → (if w then read.unless_lost p (batch_seen b) (read.called_by_event terms p (event_seen e) (batch_seen b) (called_again terms p before)) else called_again terms p before) ≡ read.unless_lost p (batch_seen b) (read.called_by_event terms p (event_seen e) (batch_seen b) (called_again terms p before))
     by_limit true is = refl
     by_limit false is = (let past = is-past most_events (length before) is in absurd (omega (arith, past, few)))
 
-pub again-past : (terms : Terms) (p : ℕ) (e : Event) (b : Batch) (before : History) → 2 ^ 48 ≤ length before → again terms p (turn_of e b ∷ before) ≡ again terms p before
-again-past terms p e b before many = by_limit (is_within before) refl
+pub again-past : (terms : LoginTerms) (p : ℕ) (e : Event) (b : Batch) (before : History) → 2 ^ 48 ≤ length before → called_again terms p (turn_of e b ∷ before) ≡ called_again terms p before
+again-past terms p e b before many = by_limit (is_within_day before) refl
   where
-    by_limit : (w : Bool) → is_within before ≡ w → (if w then read.unless_lost p (batch_seen b) (read.by_event terms p (event_seen e) (batch_seen b) (again terms p before)) else again terms p before) ≡ again terms p before
+    by_limit : (w : Bool) → is_within_day before ≡ w → (if w then read.unless_lost p (batch_seen b) (read.called_by_event terms p (event_seen e) (batch_seen b) (called_again terms p before)) else called_again terms p before) ≡ called_again terms p before
     by_limit true is = (let near = is-near most_events (length before) is in absurd (omega (arith, near, many)))
     by_limit false is = refl
 

@@ -3,16 +3,16 @@ use Rattle.std.proofs.Common.{◌≡◌, ℕ, ◌+◌, Bool, true, false, List, 
 use Rattle.std.specs.Prelude.{Result, Ok, Err, if◌then◌else◌, is_some}
 use Rattle.ouch_codec.specs.declared.outbound.Outbound.{Outbound}
 use Rattle.ouch_codec.specs.declared.refusal.DecodeRefusal.{DecodeRefusal}
-use Rattle.order_law.specs.Messages.{Message, text}
+use Rattle.fix_fields.specs.Field.{Message, text}
 use Rattle.order_law.specs.Verdicts.{Port, Refused}
 use Rattle.order_law.specs.Chain.{named}
 use Rattle.order_law.specs.Reading.{reading}
-use Rattle.order_law.specs.History.{Entry, History, Terms, accepted, handled, is_new_order, issued, life_of, numbered, outstanding}
+use Rattle.order_law.specs.History.{Entry, OrderHistory, Terms, accepted, handled, is_new_order, issued, life_of, orders_numbered, outstanding}
 use Rattle.order_law.specs.Lawful.{judgement, order_token}
 use Rattle.order_law.specs.Headline.{Each}
 use Rattle.order_law.specs.Told as told
 use Rattle.order_law.specs.Told.{Shown, on_token, reports_in, shown, shown_in, told_by, told_by_market, told_on}
-use Rattle.order_histories.proofs.Addressed.{IsOn, told-on}
+use Rattle.order_machine.proofs.Addressed.{IsOn, told-on}
 use Rattle.gate_audit.specs.Pairs.{gives_token}
 
 abbrev pub GivesNone : Message → Type 0
@@ -24,11 +24,11 @@ on-none : (order : List ℕ) (rs : List Message) → Each (IsOn order) rs → Ea
 on-none order [] on = tt
 on-none order (r ∷ rs) on = (on.0.gives_none, on-none order rs on.1)
 
-pub market-none : (terms : List Terms) (p : ℕ) (heard : Result Outbound DecodeRefusal) (before : History) → Each GivesNone (told_by_market terms p heard before).bodies
+pub market-none : (terms : List Terms) (p : ℕ) (heard : Result Outbound DecodeRefusal) (before : OrderHistory) → Each GivesNone (told_by_market terms p heard before).bodies
 market-none terms p (Err refusal) before = tt
 market-none terms p (Ok m) before = by_fault (is_some (judgement terms p (Ok m) before))
   where
-    of_bodies : (new : Entry) (rs : List Message) → Each GivesNone rs → Each GivesNone (told.to_client_of new rs).bodies
+    of_bodies : (new : Entry) (rs : List Message) → Each GivesNone rs → Each GivesNone (told.told_of_entry new rs).bodies
     of_bodies new [] none = tt
     of_bodies new (r ∷ rs) none = none
 
@@ -48,13 +48,13 @@ market-none terms p (Ok m) before = by_fault (is_some (judgement terms p (Ok m) 
 
 -- ---- a message that is refused
 
-pub refused-none : (terms : List Terms) (client : ℕ) (m : Message) (port : Port) (before : History) (code : ℕ) (why : List ℕ) → Each GivesNone (told.told_by_verdict terms client m port before (Refused code why))
+pub refused-none : (terms : List Terms) (client : ℕ) (m : Message) (port : Port) (before : OrderHistory) (code : ℕ) (why : List ℕ) → Each GivesNone (told.told_by_verdict terms client m port before (Refused code why))
 refused-none terms client m port before code why = by_new (is_new_order m)
   where
     by_shown : (x : Option Shown) → Each GivesNone (told.refused_request m x code why)
     by_shown None = (refl, tt)
     by_shown (Some s) = (refl, tt)
 
-    by_new : (b : Bool) → Each GivesNone (if b then told.refusal (reports_in before + 1) (numbered before + 1) m code why ∷ [] else told.refused_request m (shown_in terms before (named (text 41 m) (issued client before))) code why)
+    by_new : (b : Bool) → Each GivesNone (if b then told.refusing_report (reports_in before + 1) (orders_numbered before + 1) m code why ∷ [] else told.refused_request m (shown_in terms before (named (text 41 m) (issued client before))) code why)
     by_new true = (refl, tt)
     by_new false = by_shown (shown_in terms before (named (text 41 m) (issued client before)))

@@ -6,21 +6,21 @@ use Rattle.std.proofs.lemmas.List.Elements.{All-get_or}
 use Rattle.std.proofs.lemmas.List.Sums.{count_by-le-length}
 use Rattle.std.proofs.lemmas.Bool.Decides.{nat_tests}
 use Rattle.ouch_codec.specs.declared.outbound.Outbound.{Outbound}
-use Rattle.order_law.specs.Messages.{Message, character, text}
+use Rattle.fix_fields.specs.Field.{Message, character, text}
 use Rattle.order_law.specs.Life.{Life, account_of, is_closed, life}
 use Rattle.order_law.specs.Reading.{Reading, account_read, reading}
 use Rattle.order_law.specs.History as orders
-use Rattle.order_law.specs.History.{Entry, Terms, accepted, life_of, new_of, numbered, terms_of, token_of}
+use Rattle.order_law.specs.History.{Entry, Terms, accepted, life_of, new_of, orders_numbered, terms_of, token_of}
 use Rattle.order_law.specs.Headline.{Agree, Each, life_in}
-use Rattle.core_law.specs.Settings.{ClientSettings, Settings, port_of, terms}
-use Rattle.core_law.specs.Events.{History}
-use Rattle.core_law.specs.After.{after, is_within, lists, most_events, order_turns}
-use Rattle.core_law.specs.Holds.{Holds, issued}
-use Rattle.core_law.proofs.Counted.{turns-few}
-use Rattle.core_law.proofs.Links.{EndsAll}
-use Rattle.core_settings.specs.Kept.{IsOnPort}
-use Rattle.gate_audit.specs.Read.{AgreesIn, for_clients, new_orders}
-use Rattle.gate_audit.specs.Pairs.{AreByOrder, OpenedOrder, Pair, accepted_pair, accepted_pairs, accepted_pairs_of, handled_for, opened_orders, orders_of, pair_in, paired, pairs, pairs_of, said, same_account}
+use Rattle.gate_law.specs.Settings.{ClientSettings, Settings, port_of, terms}
+use Rattle.gate_law.specs.Events.{History}
+use Rattle.gate_law.specs.After.{lists_after, is_within_day, lists, most_events, order_turns}
+use Rattle.gate_law.specs.Holds.{Holds, told_by_batches}
+use Rattle.gate_law.proofs.Counted.{turns-few}
+use Rattle.gate_law.proofs.Links.{EndsAll}
+use Rattle.gate_settings.specs.Kept.{IsOnPort}
+use Rattle.gate_audit.specs.Read.{AgreesIn, for_clients, accepted_new_orders}
+use Rattle.gate_audit.specs.Pairs.{AreByOrder, OpenedOrder, Pair, accepted_pair, accepted_pairs, accepted_pairs_of, handled_for, opened_orders, orders_of, pair_in, paired, pairs, pairs_of, said_to_clients, same_account}
 use Rattle.gate_audit.proofs.Agreeing.{run-agrees}
 use Rattle.gate_audit.proofs.Calling.{has-of, is-near}
 use Rattle.gate_audit.proofs.Entries.{IsFound, all-by-order, all-found}
@@ -34,16 +34,16 @@ use Rattle.gate_audit.proofs.Said.{said-same}
 
 turns-most : (s : Settings) (h : History) → length (order_turns s h) ≤ 2 ^ 48
 turns-most s [] = omega arith
-turns-most s (t ∷ before) = by_limit (is_within before) refl (turns-few s (t ∷ before)) (turns-most s before)
+turns-most s (t ∷ before) = by_limit (is_within_day before) refl (turns-few s (t ∷ before)) (turns-most s before)
   where
-    by_limit : (w : Bool) → is_within before ≡ w → length (if w then after s t.event t.batch (lists s before) else lists s before).turns ≤ suc (length before) → length (order_turns s before) ≤ 2 ^ 48
-        → length (if w then after s t.event t.batch (lists s before) else lists s before).turns ≤ 2 ^ 48
+    by_limit : (w : Bool) → is_within_day before ≡ w → length (if w then lists_after s t.event t.batch (lists s before) else lists s before).turns ≤ suc (length before) → length (order_turns s before) ≤ 2 ^ 48
+        → length (if w then lists_after s t.event t.batch (lists s before) else lists s before).turns ≤ 2 ^ 48
     by_limit true within few earlier = (let near = is-near most_events (length before) within in omega (arith, near, few))
     by_limit false past few earlier = earlier
 
-few-numbered : (s : Settings) (h : History) → numbered (order_turns s h) < 10 ^ 64
+few-numbered : (s : Settings) (h : History) → orders_numbered (order_turns s h) < 10 ^ 64
 few-numbered s h =
-    let few : numbered (order_turns s h) ≤ length (order_turns s h) = count_by-le-length _ (order_turns s h) in
+    let few : orders_numbered (order_turns s h) ≤ length (order_turns s h) = count_by-le-length _ (order_turns s h) in
     let most = turns-most s h in
     let big : 2 ^ 48 < 10 ^ 64 = omega arith in omega (arith, few, most, big)
 
@@ -80,22 +80,22 @@ same-accounts x l a =
     (own-answer (is_closed l.stage))
 
 module _ (s : Settings) (h : History) (c : ℕ) where
-  abbrev T : orders.History
+  abbrev T : orders.OrderHistory
   T = order_turns s h
 
   abbrev A : List Entry
   A = accepted (terms s) T
 
   abbrev f : OpenedOrder → Pair
-  f = pair_in (issued c h) (handled_for s h c)
+  f = pair_in (told_by_batches c h) (handled_for s h c)
 
   -- from its first token on its life is the law's
   first-life : (e : Entry) (ms : List Outbound) → new_of e.order A ≡ Some e → life (token_of e) (character 54 e.message) ms ≡ life_of e.order A ms
   first-life e ms found =
       ap (λ (x : Option Entry). life (unwrap_or (option_map token_of x) []) (unwrap_or (option_map (λ (new : Entry). character 54 new.message) x) 0) ms) (sym found)
 
-  one-pair : (e : Entry) → issued c h ≡ orders.issued c T → handled_for s h c ≡ orders.handled (port_of s c) T
-      → (e.client == c) ≡ true → IsFound A (numbered T) e → AgreesIn s h e → f (started e) ≡ accepted_pair s h e
+  one-pair : (e : Entry) → told_by_batches c h ≡ orders.issued c T → handled_for s h c ≡ orders.handled (port_of s c) T
+      → (e.client == c) ≡ true → IsFound A (orders_numbered T) e → AgreesIn s h e → f (started e) ≡ accepted_pair s h e
   one-pair e told handled is_c found agrees =
       let sent : List Message = orders.issued e.client T in
       let ms : List Outbound = orders.handled (port_of s e.client) T in
@@ -112,7 +112,7 @@ module _ (s : Settings) (h : History) (c : ℕ) where
         agree = b;
       }) (same-accounts (reading e.order sent) (life_in (terms s) T e) agrees)
 
-  own-pairs : issued c h ≡ orders.issued c T → handled_for s h c ≡ orders.handled (port_of s c) T → (es : List Entry) → Each (IsFound A (numbered T)) es → Each (AgreesIn s h) es
+  own-pairs : told_by_batches c h ≡ orders.issued c T → handled_for s h c ≡ orders.handled (port_of s c) T → (es : List Entry) → Each (IsFound A (orders_numbered T)) es → Each (AgreesIn s h) es
       → Each (λ (e : Entry). f (started e) ≡ accepted_pair s h e) (filter (λ (e : Entry). e.client == c) es)
   own-pairs told handled [] found agrees = tt
   own-pairs told handled (e ∷ es) found agrees = by_client (e.client == c) refl (own-pairs told handled es found.1 agrees.1)
@@ -129,11 +129,11 @@ client-pairs ends s h holds all c some known =
     let turns = order_turns s h in
     let on = on-port s all c some known in
     let handled : handled_for s h c ≡ orders.handled (port_of s c) turns = sym (handled-again ends s (port_of s c) (has-of (port_of s c) (length s.ports) on.0 on.1) h holds.run) in
-    let own : List Entry = filter (λ (e : Entry). e.client == c) (new_orders s h) in
-    let opens : orders_of c (opened_orders (said h)) ≡ map started own =
-    ap (λ all_said. orders_of c (opened_orders all_said)) (said-same s h holds.run) ∙ ap (orders_of c) (headline-told (terms s) turns holds.orders).same ∙ orders-started c (new_orders s h) in
-    let each = own-pairs s h c (holds.reads c) handled (new_orders s h) (all-found (terms s) turns (few-numbered s h)) (run-agrees s h holds) in
-    let pair : OpenedOrder → Pair = pair_in (issued c h) (handled_for s h c) in
+    let own : List Entry = filter (λ (e : Entry). e.client == c) (accepted_new_orders s h) in
+    let opens : orders_of c (opened_orders (said_to_clients h)) ≡ map started own =
+    ap (λ all_said. orders_of c (opened_orders all_said)) (said-same s h holds.run) ∙ ap (orders_of c) (headline-told (terms s) turns holds.orders).same ∙ orders-started c (accepted_new_orders s h) in
+    let each = own-pairs s h c (holds.reads c) handled (accepted_new_orders s h) (all-found (terms s) turns (few-numbered s h)) (run-agrees s h holds) in
+    let pair : OpenedOrder → Pair = pair_in (told_by_batches c h) (handled_for s h c) in
     ap (λ os. map pair (reverse os)) opens
     ∙ ap (map pair) (sym (map-reverse started own))
     ∙ map-map pair started (reverse own)
@@ -148,5 +148,5 @@ for-known f g (suc n) same = rw (for-known f g n (λ c some known. same c some (
 pub pairs-same : EndsAll → (s : Settings) (h : History) → All (IsOnPort (length s.ports)) s.clients → Holds s h → pairs s h ≡ accepted_pairs s h
 pairs-same ends s h all holds = for-known (pairs_of s h) (accepted_pairs_of s h) (length s.clients) (client-pairs ends s h holds all)
 
-pub orders-ascend : (s : Settings) (h : History) → AreByOrder (new_orders s h)
+pub orders-ascend : (s : Settings) (h : History) → AreByOrder (accepted_new_orders s h)
 orders-ascend s h = all-by-order (terms s) (order_turns s h) (few-numbered s h)

@@ -3,20 +3,20 @@
 use Rattle.std.proofs.Common.{◌≡◌, ◌==◌, ℕ, Bool, true, false, List, [], ◌∷◌, ◌++◌, Option, Some, None, refl, ap, sym, ◌∙◌, map, reverse, eqb-true, eq-eqb}
 use Rattle.std.specs.Prelude.{if◌then◌else◌}
 use Rattle.std.proofs.lemmas.List.{append_cancel_right, reverse-reverse}
-use Rattle.order_law.specs.Messages.{Message}
+use Rattle.fix_fields.specs.Field.{Message}
 use Rattle.order_law.specs.History as orders
-use Rattle.core_law.specs.Settings.{Settings}
-use Rattle.core_law.specs.Events.{Batch, History, is_number}
-use Rattle.core_law.specs.Lists.{Lists, turned}
-use Rattle.core_law.specs.Outcome.{Outcome, bodies, outcome}
-use Rattle.core_law.specs.After.{after, is_within, lists, order_turns}
-use Rattle.core_law.specs.Due.{Gives}
-use Rattle.core_law.specs.Holds.{IsRun, OfTurn, issued}
-use Rattle.core_law.proofs.Telling.{runs-tell, turns-after}
-use Rattle.gate_audit.specs.Pairs.{Said, said, said_to, told_anyone}
+use Rattle.gate_law.specs.Settings.{Settings}
+use Rattle.gate_law.specs.Events.{Batch, History, is_the_number}
+use Rattle.gate_law.specs.Lists.{Lists, turned}
+use Rattle.gate_law.specs.Outcome.{Outcome, bodies, outcome}
+use Rattle.gate_law.specs.After.{lists_after, is_within_day, lists, order_turns}
+use Rattle.gate_law.specs.Due.{Gives}
+use Rattle.gate_law.specs.Holds.{IsRun, OfTurn, told_by_batches}
+use Rattle.gate_law.proofs.Telling.{runs-tell, turns-after}
+use Rattle.gate_audit.specs.Pairs.{SaidToClient, said_to_clients, said_to, told_anyone}
 
 -- what turns told, the newest first
-abbrev pub said_turns : orders.History → List Said
+abbrev pub said_turns : orders.OrderHistory → List SaidToClient
 said_turns [] = []
 said_turns (t ∷ before) = reverse (map (said_to t.client) t.bodies) ++ said_turns before
 
@@ -35,29 +35,29 @@ same-added xs ys zs e = sym (reverse-reverse xs) ∙ ap reverse (append_cancel_r
 
 -- A turn that tells each client what a batch of one client told it has that client and these bodies, or both tell nobody anything.
 module _ (bs : List Message) (v : Lists) where
-  abbrev Told : Option ℕ → Option orders.Turn → Type 0
-  Told client turn = (c : ℕ) → told_more (is_number c client) bs (orders.issued c v.turns) ≡ orders.issued c (turned turn v).turns
+  abbrev Told : Option ℕ → Option orders.OrderTurn → Type 0
+  Told client turn = (c : ℕ) → told_more (is_the_number c client) bs (orders.issued c v.turns) ≡ orders.issued c (turned turn v).turns
 
-  abbrev Same : Option ℕ → Option orders.Turn → Type 0
+  abbrev Same : Option ℕ → Option orders.OrderTurn → Type 0
   Same client turn = reverse (told_anyone client bs) ++ said_turns v.turns ≡ said_turns (turned turn v).turns
 
   said-nothing : (n : ℕ) → bs ≡ [] → reverse (map (said_to n) bs) ++ said_turns v.turns ≡ said_turns v.turns
   said-nothing n none = ap (λ (ms : List Message). reverse (map (said_to n) ms) ++ said_turns v.turns) none
 
-  turn-nothing : (t : orders.Turn) → t.bodies ≡ [] → said_turns v.turns ≡ said_turns (t ∷ v.turns)
+  turn-nothing : (t : orders.OrderTurn) → t.bodies ≡ [] → said_turns v.turns ≡ said_turns (t ∷ v.turns)
   turn-nothing t none = ap (λ (ms : List Message). reverse (map (said_to t.client) ms) ++ said_turns v.turns) (sym none)
 
   -- what each client was told, by its own number
-  own-batch : (n : ℕ) (turn : Option orders.Turn) → Told (Some n) turn → reverse bs ++ orders.issued n v.turns ≡ orders.issued n (turned turn v).turns
+  own-batch : (n : ℕ) (turn : Option orders.OrderTurn) → Told (Some n) turn → reverse bs ++ orders.issued n v.turns ≡ orders.issued n (turned turn v).turns
   own-batch n turn told = ap (λ (b : Bool). told_more b bs (orders.issued n v.turns)) (sym (eq-eqb n n refl)) ∙ told n
 
-  own-turn : (t : orders.Turn) → orders.issued t.client (t ∷ v.turns) ≡ reverse t.bodies ++ orders.issued t.client v.turns
+  own-turn : (t : orders.OrderTurn) → orders.issued t.client (t ∷ v.turns) ≡ reverse t.bodies ++ orders.issued t.client v.turns
   own-turn t = ap (λ (b : Bool). told_more b t.bodies (orders.issued t.client v.turns)) (eq-eqb t.client t.client refl)
 
-  other-turn : (t : orders.Turn) (n : ℕ) → (t.client == n) ≡ false → orders.issued n (t ∷ v.turns) ≡ orders.issued n v.turns
+  other-turn : (t : orders.OrderTurn) (n : ℕ) → (t.client == n) ≡ false → orders.issued n (t ∷ v.turns) ≡ orders.issued n v.turns
   other-turn t n other = ap (λ (b : Bool). told_more b t.bodies (orders.issued n v.turns)) other
 
-  one-told : (client : Option ℕ) (turn : Option orders.Turn) → Told client turn → Same client turn
+  one-told : (client : Option ℕ) (turn : Option orders.OrderTurn) → Told client turn → Same client turn
   one-told None None told = refl
   one-told (Some n) None told = said-nothing n (none-added bs (orders.issued n v.turns) (own-batch n None told))
   one-told None (Some t) told = turn-nothing t (none-added t.bodies (orders.issued t.client v.turns) (sym (told t.client ∙ own-turn t)))
@@ -83,9 +83,9 @@ module _ (bs : List Message) (v : Lists) where
               by_test true is = (let back : true ≡ false = sym (eq-eqb b a (sym (eqb-true a b is))) ∙ e in cc)
               by_test false is = is
 
-pub said-same : (s : Settings) (h : History) → IsRun s h → said h ≡ said_turns (order_turns s h)
+pub said-same : (s : Settings) (h : History) → IsRun s h → said_to_clients h ≡ said_turns (order_turns s h)
 said-same s [] run = refl
-said-same s (t ∷ before) run = by_limit (is_within before) run.0 (runs-tell s (t ∷ before) run) (runs-tell s before run.1) (said-same s before run.1)
+said-same s (t ∷ before) run = by_limit (is_within_day before) run.0 (runs-tell s (t ∷ before) run) (runs-tell s before run.1) (said-same s before run.1)
   where
     v : Lists
     v = lists s before
@@ -94,14 +94,14 @@ said-same s (t ∷ before) run = by_limit (is_within before) run.0 (runs-tell s 
     o = outcome s t.event t.batch v
 
     by_limit : (w : Bool) → OfTurn w (Gives s t.event t.batch v) t.batch
-        → ((c : ℕ) → issued c (t ∷ before) ≡ orders.issued c (if w then after s t.event t.batch v else v).turns)
-        → ((c : ℕ) → issued c before ≡ orders.issued c v.turns)
-        → said before ≡ said_turns v.turns
-        → said (t ∷ before) ≡ said_turns (if w then after s t.event t.batch v else v).turns
+        → ((c : ℕ) → told_by_batches c (t ∷ before) ≡ orders.issued c (if w then lists_after s t.event t.batch v else v).turns)
+        → ((c : ℕ) → told_by_batches c before ≡ orders.issued c v.turns)
+        → said_to_clients before ≡ said_turns v.turns
+        → said_to_clients (t ∷ before) ≡ said_turns (if w then lists_after s t.event t.batch v else v).turns
     by_limit true g now earlier is =
         let told : Told (bodies t.batch) v t.batch.client o.turn =
-        λ c. ap (λ (ms : List Message). told_more (is_number c t.batch.client) (bodies t.batch) ms) (sym (earlier c)) ∙ now c ∙ ap (orders.issued c) (turns-after o t.batch v) in
-        ap (λ (all : List Said). reverse (told_anyone t.batch.client (bodies t.batch)) ++ all) is
+        λ c. ap (λ (ms : List Message). told_more (is_the_number c t.batch.client) (bodies t.batch) ms) (sym (earlier c)) ∙ now c ∙ ap (orders.issued c) (turns-after o t.batch v) in
+        ap (λ (all : List SaidToClient). reverse (told_anyone t.batch.client (bodies t.batch)) ++ all) is
         ∙ one-told (bodies t.batch) v t.batch.client o.turn told
         ∙ ap said_turns (sym (turns-after o t.batch v))
-    by_limit false none now earlier is = ap (λ (b : Batch). reverse (told_anyone b.client (bodies b)) ++ said before) none ∙ is
+    by_limit false none now earlier is = ap (λ (b : Batch). reverse (told_anyone b.client (bodies b)) ++ said_to_clients before) none ∙ is

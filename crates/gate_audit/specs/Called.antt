@@ -1,11 +1,11 @@
 -- A session that the code calls once more is the one that is read.
 use Rattle.std.specs.Prelude.{◌≡◌, reverse}
-use Rattle.soup_session.specs.Table.{Terms}
-use Rattle.soup_session.specs.Calls.{Leaves}
+use Rattle.soup_session.specs.Table.{LoginTerms}
+use Rattle.soup_session.specs.Calls.{CallsLeave}
 use Rattle.gate_audit.specs.declared.port_again.PortAgain.{PortAgain}
 use Rattle.gate_audit.specs.Again.{Again}
 
-pub record IsAgain (terms : Terms) (r : Again) (x : PortAgain) : Type 0 where
+pub record IsAgain (terms : LoginTerms) (r : Again) (x : PortAgain) : Type 0 where
   pub link : x.link ≡ r.link
-  pub session : Leaves terms r.calls x.session
+  pub session : CallsLeave terms r.calls x.session
   pub handled : x.handled.items ≡ reverse r.handled

@@ -3,3 +3,14 @@ pub mod Again
 pub mod Called
 pub mod Pairs
 pub mod Counted
+pub use Rattle.fix_fields.specs.Field
+pub use Rattle.gate_events.specs.Seen
+pub use Rattle.gate_law.specs.After
+pub use Rattle.gate_law.specs.Holds
+pub use Rattle.gate_law.specs.Settings
+pub use Rattle.order_accounts.specs.Held
+pub use Rattle.order_law.specs.Headline
+pub use Rattle.order_law.specs.Verdicts
+pub use Rattle.soup_session.specs.Calls
+pub use Rattle.soup_session.specs.Table
+pub use Rattle.tokens.specs.TokenText

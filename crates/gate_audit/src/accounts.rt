@@ -3,24 +3,24 @@
 ghost use Rattle.std.specs.Prelude.{◌≡◌, ◌++◌, IfOk, OnOk, IsErrOf, length, map, reverse};
 ghost use Rattle.order_law.specs.Headline.{Each};
 ghost use Rattle.order_accounts.specs.Held.{StaysHeld};
-ghost use Rattle.core_law.specs.Holds.{Holds};
+ghost use Rattle.gate_law.specs.Holds.{Holds};
 ghost use Rattle.gate_journal.specs.Kept.{turns};
 ghost use Rattle.gate_audit.specs.Read as read;
 
 use crate::order_reading::OrderReading;
 use crate::reports::{opens_order, reports_of, text};
-use core_settings::Settings;
 use fix_fields::{Fields, Text};
+use gate_core::{ClientNumber, Settings};
 use gate_journal::History;
 use order_accounts::{ReadingFault, reading_of};
 use std::alloc::Global;
 
-/// What each client has read of each of its orders that were accepted, by client and then in the order in which they were accepted,
-/// from the reports of the batches alone.
+/// What each client has read of each of its orders that were accepted, by client and then in the order in which they
+/// were accepted, from the reports of the batches alone.
 ///
-/// Of the history of a run these are the accepted new orders, and what is read of each is what the market said of it. `TooLarge` just
-/// where, after one of its client's reports, what was read of an order has a number that is larger than its integer holds; or else
-/// `NoMemory`.
+/// Of the history of a run these are the accepted new orders, and what is read of each is what the market said of it.
+/// `TooLarge` just where, after one of its client's reports, what was read of an order has a number that is larger
+/// than its integer holds; or else `NoMemory`.
 ///
 /// Source: FIX 4.4 Volume 4, "Execution Report".
 pub fn readings(
@@ -29,16 +29,19 @@ pub fn readings(
     settings: &Settings,
 ) -> Result<Vec<OrderReading>, ReadingFault>
     ensures read { IfOk result (λ list. list.items ≡ read.readings (length settings.now.clients) (turns history.now)) }
-    ensures accepted { IfOk result (λ list. Holds settings.now (turns history.now) → list.items ≡ read.accepted_readings settings.now (turns history.now)) }
+    ensures accepted { IfOk result (λ list. Holds settings.now (turns history.now)
+        → list.items ≡ read.accepted_readings settings.now (turns history.now)) }
     ensures agree { IfOk result (λ list. Holds settings.now (turns history.now)
-        → Each (read.AgreesIn settings.now (turns history.now)) (read.new_orders settings.now (turns history.now))) }
-    ensures held { OnOk result (read.AllHeld (length settings.now.clients) (turns history.now)) }
-    ensures large { IsErrOf result ReadingFault.TooLarge → read.AllHeld (length settings.now.clients) (turns history.now) → ⊥ }
+        → Each (read.AgreesIn settings.now (turns history.now))
+        (read.accepted_new_orders settings.now (turns history.now))) }
+    ensures held { OnOk result (read.AllReadHeld (length settings.now.clients) (turns history.now)) }
+    ensures large { IsErrOf result ReadingFault.TooLarge
+        → read.AllReadHeld (length settings.now.clients) (turns history.now) → ⊥ }
 {
     let mut readings = Vec::new(alloc);
     for place in 0..settings.clients().len() {
         let client = (place + 1) as u16;
-        let reports = reports_of(alloc, client, history.batches())?;
+        let reports = reports_of(alloc, ClientNumber::at_place(place), history.batches())?;
         read_client(alloc, client, &reports, &mut readings)?;
     }
     Ok(readings)
@@ -51,9 +54,11 @@ fn read_client(
     reports: &[Fields],
     readings: &mut Vec<OrderReading>,
 ) -> Result<(), ReadingFault>
-    ensures read { IfOk result (λ u. readings.new.items ≡ readings.old.items ++ map (read.read_in client (reverse reports.now)) (read.opened reports.now)) }
-    ensures held { OnOk result (read.AreHeld (reverse reports.now) (read.opened reports.now)) }
-    ensures large { IsErrOf result ReadingFault.TooLarge → read.AreHeld (reverse reports.now) (read.opened reports.now) → ⊥ }
+    ensures read { IfOk result (λ u. readings.new.items
+        ≡ readings.old.items ++ map (read.read_in client (reverse reports.now)) (read.opened_in reports.now)) }
+    ensures held { OnOk result (read.AreReadHeld (reverse reports.now) (read.opened_in reports.now)) }
+    ensures large { IsErrOf result ReadingFault.TooLarge
+        → read.AreReadHeld (reverse reports.now) (read.opened_in reports.now) → ⊥ }
 {
     for report in reports {
         if opens_order(report) {
@@ -70,9 +75,11 @@ fn read_order(
     report: &Fields,
     reports: &[Fields],
 ) -> Result<OrderReading, ReadingFault>
-    ensures read { IfOk result (λ order. order ≡ read.read_in client (reverse reports.now) (read.opened_by report.now)) }
+    ensures read { IfOk result (λ order. order ≡ read.read_in client (reverse reports.now)
+        (read.opened_by report.now)) }
     ensures held { OnOk result (StaysHeld (read.opened_by report.now).order (reverse reports.now)) }
-    ensures large { IsErrOf result ReadingFault.TooLarge → StaysHeld (read.opened_by report.now).order (reverse reports.now) → ⊥ }
+    ensures large { IsErrOf result ReadingFault.TooLarge
+        → StaysHeld (read.opened_by report.now).order (reverse reports.now) → ⊥ }
 {
     let order = text(report, 37);
     Ok(OrderReading {

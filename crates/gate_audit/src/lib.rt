@@ -1,7 +1,8 @@
-//! The audit of a history: what each accepted order's client has read of it, from the reports of the batches alone; and which messages
-//! of a port were handled, from its links and packets.
+//! The audit of a history: what each accepted order's client has read of it, from the reports of the batches alone;
+//! and which messages of a port were handled, from its links and packets.
 //!
-//! It reads events and batches after they were given, for programs that print an audit and for tests; it judges nothing.
+//! It reads events and batches after they were given, for programs that print an audit and for tests; it judges
+//! nothing.
 //!
 //! Source: FIX 4.4 Volume 4, "Execution Report"; SoupBinTCP 3.00, "Sequenced Data Packet".
 #![tactic(auto)]

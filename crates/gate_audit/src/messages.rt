@@ -2,44 +2,42 @@
 
 ghost use Rattle.std.specs.Prelude.{◌≡◌, ◌≤◌, IfOk, length, reverse};
 ghost use Rattle.order_law.specs.History as orders;
-ghost use Rattle.core_law.specs.Settings.{port_terms};
-ghost use Rattle.core_law.specs.After.{order_turns};
-ghost use Rattle.core_law.specs.Holds.{Holds};
+ghost use Rattle.gate_law.specs.Settings.{port_terms};
+ghost use Rattle.gate_law.specs.After.{order_turns};
+ghost use Rattle.gate_law.specs.Holds.{Holds};
 ghost use Rattle.gate_journal.specs.Kept.{turns};
-ghost use Rattle.gate_audit.specs.Again.{again};
+ghost use Rattle.gate_audit.specs.Again.{called_again};
 
 use crate::port_again::PortAgain;
-use core_settings::Settings;
+use gate_core::{PortNumber, Settings};
 use gate_journal::History;
 use ouch_codec::Outbound;
-use soup_session::links_end_by_a_close;
 use std::alloc::{AllocError, Global};
 
 /// So many events of a history were stepped: any that came later changed nothing.
 const MOST_EVENTS: u64 = 1 << 48;
 
-/// The messages of a port that the order level handled: what the payloads that the port's session gave up are decoded as, where that
-/// is a message and was no fault, the oldest first.
+/// The messages of a port that the order level handled: what the payloads that the port's session delivered are
+/// decoded as, where that is a message and was no fault, the oldest first.
 ///
-/// The session is called once more with the links and packets of the history; that it was silent or refused shows in the links that
-/// batches close. `port` is one of the settings', from 1.
+/// The session is called once more with the links and packets of the history; that it was silent or refused shows in
+/// the links that batches close. `port` is one of the settings', from 1.
 ///
 /// Source: SoupBinTCP 3.00, "Sequenced Data Packet".
 pub fn handled_messages(
     alloc: Global,
     history: &History,
     settings: &Settings,
-    port: u16,
+    port: PortNumber,
 ) -> Result<Vec<Outbound>, AllocError>
-    requires some { 1 ≤ port }
     requires known { port ≤ length settings.now.ports }
-    ensures read { IfOk result (λ handled. handled.items ≡ reverse (again (port_terms settings.now port) port (turns history.now)).handled) }
+    ensures read { IfOk result (λ handled. handled.items
+        ≡ reverse (called_again (port_terms settings.now port) port (turns history.now)).handled) }
     ensures run { IfOk result (λ handled. Holds settings.now (turns history.now)
         → handled.items ≡ reverse (orders.handled port (order_turns settings.now (turns history.now)))) }
 {
-    links_end_by_a_close();
     let (events, batches) = (history.events(), history.batches());
-    let mut again = PortAgain::new(alloc, &settings.ports()[usize::from(port) - 1]);
+    let mut again = PortAgain::new(alloc, &settings.ports()[usize::from(port.number()) - 1]);
     for i in 0..events.len() {
         let (event, batch) = (&events[i], &batches[i]);
         if (i as u64) < MOST_EVENTS {

@@ -6,7 +6,7 @@ ghost use Rattle.tokens.specs.TokenText.{HasToken};
 ghost use Rattle.order_law.specs.Verdicts.{last_token};
 ghost use Rattle.gate_audit.specs.Counted.{IsOf};
 ghost use Rattle.gate_audit.specs.Pairs as read;
-ghost use Rattle.gate_audit.specs.Pairs.{Said, said_to};
+ghost use Rattle.gate_audit.specs.Pairs.{SaidToClient, said_to};
 
 use crate::opening::Opening;
 use crate::reports::{first_byte, gives_token, opens_order, text};
@@ -42,8 +42,10 @@ impl Openings {
         client: u16,
         reports: &[IssuedReport],
     ) -> Result<(), ReadingFault>
-        ensures all { IfOk result (λ u. (all : List Said) → IsOf all self.old → IsOf (reverse (map (said_to client) reports.now) ++ all) self.new) }
-        ensures large { (all : List Said) → IsOf all self.old → IsErrOf result ReadingFault.TooLarge → read.HasTokens (reverse (map (said_to client) reports.now) ++ all) → ⊥ }
+        ensures all { IfOk result (λ u. (all : List SaidToClient) → IsOf all self.old
+            → IsOf (reverse (map (said_to client) reports.now) ++ all) self.new) }
+        ensures large { (all : List SaidToClient) → IsOf all self.old → IsErrOf result ReadingFault.TooLarge
+            → read.HasTokenNumbers (reverse (map (said_to client) reports.now) ++ all) → ⊥ }
     {
         for report in reports {
             self.hear(alloc, client, report.fields())?;
@@ -53,8 +55,10 @@ impl Openings {
 
     /// One report or reject more.
     fn hear(&mut self, alloc: Global, client: u16, report: &Fields) -> Result<(), ReadingFault>
-        ensures all { IfOk result (λ u. (all : List Said) → IsOf all self.old → IsOf (said_to client report.now ∷ all) self.new) }
-        ensures large { (all : List Said) → IsOf all self.old → IsErrOf result ReadingFault.TooLarge → read.HasTokens (said_to client report.now ∷ all) → ⊥ }
+        ensures all { IfOk result (λ u. (all : List SaidToClient) → IsOf all self.old
+            → IsOf (said_to client report.now ∷ all) self.new) }
+        ensures large { (all : List SaidToClient) → IsOf all self.old → IsErrOf result ReadingFault.TooLarge
+            → read.HasTokenNumbers (said_to client report.now ∷ all) → ⊥ }
     {
         if gives_token(report) {
             self.given = next_token(self.given)?;
@@ -69,14 +73,16 @@ impl Openings {
 
 /// The orders that the reports of these batches opened, the oldest first.
 ///
-/// A token is given with each new order and each replace that is accepted, of whichever client. `TooLarge` where more were given
-/// than there are, or else `NoMemory`.
+/// A token is given with each new order and each replace that is accepted, of whichever client. `TooLarge` where more
+/// were given than there are, or else `NoMemory`.
 ///
 /// Source: FIX 4.4 Volume 6, "ExecType"; OUCH 4.2, "Enter Order Message".
 pub fn openings_of(alloc: Global, batches: &[Batch]) -> Result<Vec<Opening>, ReadingFault>
-    ensures opened { IfOk result (λ orders. orders.items ≡ reverse (read.opened_orders (reverse (read.said_by batches.now)))) }
-    ensures tokens { OnOk result (read.HasTokens (reverse (read.said_by batches.now))) }
-    ensures large { IsErrOf result ReadingFault.TooLarge → read.HasTokens (reverse (read.said_by batches.now)) → ⊥ }
+    ensures opened { IfOk result (λ orders. orders.items
+        ≡ reverse (read.opened_orders (reverse (read.said_by_batches batches.now)))) }
+    ensures tokens { OnOk result (read.HasTokenNumbers (reverse (read.said_by_batches batches.now))) }
+    ensures large { IsErrOf result ReadingFault.TooLarge
+        → read.HasTokenNumbers (reverse (read.said_by_batches batches.now)) → ⊥ }
 {
     let mut openings = Openings::new(alloc);
     for batch in batches {
@@ -99,7 +105,7 @@ fn next_token(given: u64) -> Result<u64, ReadingFault>
 
 /// The order that this report to a client opens, with the token of this number. `TooLarge` where it has none.
 fn opened(alloc: Global, number: u64, client: u16, report: &Fields) -> Result<Opening, ReadingFault>
-    ensures opened { IfOk result (λ opening. opening ≡ read.opened_at number (said_to client report.now)) }
+    ensures opened { IfOk result (λ opening. opening ≡ read.opened_order_at number (said_to client report.now)) }
     ensures large { IsErrOf result ReadingFault.TooLarge → HasToken number → ⊥ }
 {
     let Ok(root) = Token::of(number) else {

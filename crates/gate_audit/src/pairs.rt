@@ -1,35 +1,34 @@
 //! The audit: each accepted order by both of its accounts.
 
 ghost use Rattle.std.specs.Prelude.{◌≡◌, ◌≤◌, ◌++◌, IfOk, OnOk, IsErrOf, length, map, reverse};
-ghost use Rattle.core_law.specs.Holds.{Holds};
-ghost use Rattle.core_law.specs.Settings.{port_of, port_terms};
+ghost use Rattle.gate_law.specs.Holds.{Holds};
+ghost use Rattle.gate_law.specs.Settings.{port_of, port_terms};
 ghost use Rattle.order_accounts.specs.Held.{StaysHeld};
 ghost use Rattle.gate_journal.specs.Kept.{turns};
-ghost use Rattle.gate_audit.specs.Again.{again};
+ghost use Rattle.gate_audit.specs.Again.{called_again};
 ghost use Rattle.gate_audit.specs.Pairs as read;
-ghost use Rattle.gate_audit.specs.Read.{new_orders};
+ghost use Rattle.gate_audit.specs.Read.{accepted_new_orders};
 
 use crate::messages::handled_messages;
 use crate::opening::Opening;
 use crate::openings::openings_of;
 use crate::order_pair::OrderPair;
 use crate::reports::reports_of;
-use core_settings::Settings;
 use fix_fields::Fields;
+use gate_core::{ClientNumber, PortNumber, Settings};
 use gate_journal::History;
 use order_accounts::{ReadingFault, life_of, reading_of};
 use order_law::Account;
 use ouch_codec::Outbound;
-use soup_session::links_end_by_a_close;
 use std::alloc::Global;
 
-/// Each order that was accepted by both of its accounts, by client and then in the order of acceptance, which is that of OrderIDs: what
-/// its client read of it, from the reports of the batches alone, and what the market said of it, from its first token on, in the
-/// messages of its client's port that were handled.
+/// Each order that was accepted by both of its accounts, by client and then in the order of acceptance, which is that
+/// of OrderIDs: what its client read of it, from the reports of the batches alone, and what the market said of it,
+/// from its first token on, in the messages of its client's port that were handled.
 ///
-/// Of the history of a run these are the accepted new orders, and both accounts of each agree. `TooLarge` just where, after one of its
-/// client's reports, what was read of an order has a number that is larger than its integer holds, or more tokens were given than there
-/// are; or else `NoMemory`.
+/// Of the history of a run these are the accepted new orders, and both accounts of each agree. `TooLarge` just where,
+/// after one of its client's reports, what was read of an order has a number that is larger than its integer holds,
+/// or more tokens were given than there are; or else `NoMemory`.
 ///
 /// Source: FIX 4.4 Volume 4, "Execution Report"; OUCH 4.2, "Outbound Messages".
 pub fn audit(
@@ -38,19 +37,22 @@ pub fn audit(
     settings: &Settings,
 ) -> Result<Vec<OrderPair>, ReadingFault>
     ensures read { IfOk result (λ list. list.items ≡ read.pairs settings.now (turns history.now)) }
-    ensures run { IfOk result (λ list. Holds settings.now (turns history.now) → list.items ≡ read.accepted_pairs settings.now (turns history.now)) }
-    ensures held { OnOk result (read.AllHeld settings.now (turns history.now) × read.HasTokens (read.said (turns history.now))) }
-    ensures large { IsErrOf result ReadingFault.TooLarge → read.AllHeld settings.now (turns history.now) → read.HasTokens (read.said (turns history.now)) → ⊥ }
-    ensures ascending { IfOk result (λ list. read.AreByOrder (new_orders settings.now (turns history.now))) }
+    ensures run { IfOk result (λ list. Holds settings.now (turns history.now)
+        → list.items ≡ read.accepted_pairs settings.now (turns history.now)) }
+    ensures held { OnOk result (read.AllHeld settings.now (turns history.now)
+        × read.HasTokenNumbers (read.said_to_clients (turns history.now))) }
+    ensures large { IsErrOf result ReadingFault.TooLarge → read.AllHeld settings.now (turns history.now)
+        → read.HasTokenNumbers (read.said_to_clients (turns history.now)) → ⊥ }
+    ensures ascending { IfOk result (λ list. read.AreByOrder (accepted_new_orders settings.now (turns history.now))) }
 {
-    links_end_by_a_close();
     let openings = openings_of(alloc, history.batches())?;
     let mut pairs = Vec::new(alloc);
     for place in 0..settings.clients().len() {
         let client = (place + 1) as u16;
-        let reports = reports_of(alloc, client, history.batches())?;
+        let reports = reports_of(alloc, ClientNumber::at_place(place), history.batches())?;
         let own = &settings.clients()[place];
-        let handled = handled_messages(alloc, history, settings, own.terms.port)?;
+        let port = PortNumber::new(own.terms.port);
+        let handled = handled_messages(alloc, history, settings, port)?;
         pair_all(alloc, client, &openings, &reports, &handled, &mut pairs)?;
     }
     Ok(pairs)
@@ -66,9 +68,11 @@ fn pair_all(
     pairs: &mut Vec<OrderPair>,
 ) -> Result<(), ReadingFault>
     ensures paired { IfOk result (λ u. pairs.new.items
-        ≡ pairs.old.items ++ map (read.pair_in (reverse reports.now) (reverse handled.now)) (read.orders_of client openings.now)) }
+        ≡ pairs.old.items ++ map (read.pair_in (reverse reports.now) (reverse handled.now))
+        (read.orders_of client openings.now)) }
     ensures held { OnOk result (read.AreHeld (reverse reports.now) (read.orders_of client openings.now)) }
-    ensures large { IsErrOf result ReadingFault.TooLarge → read.AreHeld (reverse reports.now) (read.orders_of client openings.now) → ⊥ }
+    ensures large { IsErrOf result ReadingFault.TooLarge
+        → read.AreHeld (reverse reports.now) (read.orders_of client openings.now) → ⊥ }
 {
     for opening in openings {
         if opening.client == client {

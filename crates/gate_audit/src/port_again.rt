@@ -1,29 +1,28 @@
 //! A port's session, called once more with what a history brought it.
 
 ghost use Rattle.std.specs.Prelude.{◌≡◌, ◌<◌, ◌≤◌, ◌+◌, ◌^◌, IfOk, Some, None, is_some, if◌then◌else◌};
-ghost use Rattle.soup_session.specs.Table.{Terms};
+ghost use Rattle.soup_session.specs.Table.{LoginTerms};
 ghost use Rattle.soup_session.specs.Calls.{next_of};
-ghost use Rattle.core_settings.specs.Kept.{CanLogIn};
-ghost use Rattle.core_batches.specs.Seen.{batch_seen, event_seen};
+ghost use Rattle.gate_settings.specs.Kept.{CanLogIn};
+ghost use Rattle.gate_events.specs.Seen.{batch_seen, event_seen};
 ghost use Rattle.gate_audit.specs.Again as read;
 ghost use Rattle.gate_audit.specs.Again.{Again};
 ghost use Rattle.gate_audit.specs.Called.{IsAgain};
 
-use core_batches::closes_link;
-use core_settings::PortSettings;
-use gate_core::{Batch, Event, PortFault};
+use gate_core::{Batch, Event, PortFault, PortNumber, PortSettings};
+use gate_events::closes_link;
 use ouch_codec::{Outbound, decode};
 use soup_packets::{Packet, Payload};
 use soup_session::PortSession;
 use std::alloc::{AllocError, Global};
 
-/// A port's session over its links so far, and what it gave up.
+/// A port's session over its links so far, and what it delivered.
 #[derive(Debug, Drop)]
 pub struct PortAgain {
     /// Its current link.
     pub link: Option<u64>,
     pub session: PortSession,
-    /// The messages that it gave up and that were no fault, the oldest first.
+    /// The messages that it delivered and that were no fault, the oldest first.
     pub handled: Vec<Outbound>,
 }
 
@@ -31,7 +30,7 @@ impl PortAgain {
     /// A port that no link came on yet.
     pub fn new(alloc: Global, settings: &PortSettings) -> PortAgain
         requires { CanLogIn settings.now }
-        ensures again { IsAgain settings.now read.at_first result }
+        ensures again { IsAgain settings.now read.called_at_first result }
         ensures next { next_of result.session ≡ 1 }
     {
         PortAgain {
@@ -45,14 +44,14 @@ impl PortAgain {
     pub fn step(
         &mut self,
         alloc: Global,
-        port: u16,
+        port: PortNumber,
         event: &Event,
         batch: &Batch,
     ) -> Result<(), AllocError>
         requires room { next_of self.old.session < 2 ^ 60 }
-        ensures again { IfOk result (λ u. (terms : Terms) (r : Again) → IsAgain terms r self.old
+        ensures again { IfOk result (λ u. (terms : LoginTerms) (r : Again) → IsAgain terms r self.old
             → IsAgain terms (read.unless_lost port (batch_seen batch.now)
-            (read.by_event terms port (event_seen event.now) (batch_seen batch.now) r)) self.new) }
+            (read.called_by_event terms port (event_seen event.now) (batch_seen batch.now) r)) self.new) }
         ensures next { next_of self.new.session ≤ next_of self.old.session + 1 }
     {
         self.hear(alloc, port, event, batch)?;
@@ -64,13 +63,14 @@ impl PortAgain {
     fn hear(
         &mut self,
         alloc: Global,
-        port: u16,
+        port: PortNumber,
         event: &Event,
         batch: &Batch,
     ) -> Result<(), AllocError>
         requires room { next_of self.old.session < 2 ^ 60 }
-        ensures again { IfOk result (λ u. (terms : Terms) (r : Again) → IsAgain terms r self.old
-            → IsAgain terms (read.by_event terms port (event_seen event.now) (batch_seen batch.now) r) self.new) }
+        ensures again { IfOk result (λ u. (terms : LoginTerms) (r : Again) → IsAgain terms r self.old
+            → IsAgain terms (read.called_by_event terms port (event_seen event.now)
+            (batch_seen batch.now) r) self.new) }
         ensures next { next_of self.new.session ≤ next_of self.old.session + 1 }
     {
         match event {
@@ -79,8 +79,8 @@ impl PortAgain {
                 link,
                 ..
             } => {
-                if own.number() == port {
-                    self.comes(alloc, *link)?;
+                if *own == port {
+                    self.on_up(alloc, *link)?;
                 }
             }
             Event::PortPacket {
@@ -89,8 +89,8 @@ impl PortAgain {
                 packet,
                 ..
             } => {
-                if own.number() == port && self.link == Some(*link) {
-                    self.hears(alloc, packet, batch)?;
+                if *own == port && self.link == Some(*link) {
+                    self.on_packet(alloc, packet, batch)?;
                 }
             }
             Event::PortGone {
@@ -98,8 +98,8 @@ impl PortAgain {
                 link,
                 ..
             } => {
-                if own.number() == port && self.link == Some(*link) {
-                    self.goes();
+                if *own == port && self.link == Some(*link) {
+                    self.on_gone();
                 }
             }
             Event::ClientUp { .. }
@@ -112,8 +112,9 @@ impl PortAgain {
     }
 
     /// A link comes; beside a current one it is nothing.
-    fn comes(&mut self, alloc: Global, link: u64) -> Result<(), AllocError>
-        ensures again { IfOk result (λ u. (terms : Terms) (r : Again) → IsAgain terms r self.old → IsAgain terms (read.comes link r.link r) self.new) }
+    fn on_up(&mut self, alloc: Global, link: u64) -> Result<(), AllocError>
+        ensures again { IfOk result (λ u. (terms : LoginTerms) (r : Again) → IsAgain terms r self.old
+            → IsAgain terms (read.called_up link r.link r) self.new) }
         ensures next { next_of self.new.session ≡ next_of self.old.session }
     {
         if self.link.is_none() {
@@ -124,8 +125,9 @@ impl PortAgain {
     }
 
     /// The current link is gone.
-    fn goes(&mut self)
-        ensures again { (terms : Terms) (r : Again) → IsAgain terms r self.old → IsAgain terms (read.goes r) self.new }
+    fn on_gone(&mut self)
+        ensures again { (terms : LoginTerms) (r : Again) → IsAgain terms r self.old
+            → IsAgain terms (read.called_gone r) self.new }
         ensures next { next_of self.new.session ≡ next_of self.old.session }
     {
         self.session.on_gone();
@@ -133,10 +135,10 @@ impl PortAgain {
     }
 
     /// A packet on the current link.
-    fn hears(&mut self, alloc: Global, packet: &Packet, batch: &Batch) -> Result<(), AllocError>
+    fn on_packet(&mut self, alloc: Global, packet: &Packet, batch: &Batch) -> Result<(), AllocError>
         requires room { next_of self.old.session < 2 ^ 60 }
-        ensures again { IfOk result (λ u. (terms : Terms) (r : Again) → IsAgain terms r self.old
-            → IsAgain terms (read.hears terms packet.now (batch_seen batch.now) r) self.new) }
+        ensures again { IfOk result (λ u. (terms : LoginTerms) (r : Again) → IsAgain terms r self.old
+            → IsAgain terms (read.called_packet terms packet.now (batch_seen batch.now) r) self.new) }
         ensures next { next_of self.new.session ≤ next_of self.old.session + 1 }
     {
         let turn = self.session.on_packet(alloc, packet, 0)?;
@@ -147,17 +149,18 @@ impl PortAgain {
     }
 
     /// A link that the batch closes is gone.
-    fn lose(&mut self, port: u16, batch: &Batch)
-        ensures again { (terms : Terms) (r : Again) → IsAgain terms r self.old → IsAgain terms (read.unless_lost port (batch_seen batch.now) r) self.new }
+    fn lose(&mut self, port: PortNumber, batch: &Batch)
+        ensures again { (terms : LoginTerms) (r : Again) → IsAgain terms r self.old
+            → IsAgain terms (read.unless_lost port (batch_seen batch.now) r) self.new }
         ensures next { next_of self.new.session ≡ next_of self.old.session }
     {
         if batch.names_port(port) && closes_link(self.link, &batch.port_out) {
-            self.goes();
+            self.on_gone();
         }
     }
 }
 
-/// What a payload that was given up is decoded as, where that is a message and was no fault.
+/// What a payload that was delivered is decoded as, where that is a message and was no fault.
 fn message_of(payload: &Option<Payload>, fault: Option<PortFault>) -> Option<Outbound>
     ensures { result ≡ read.message_of payload.now fault }
 {

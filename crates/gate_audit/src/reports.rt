@@ -2,17 +2,21 @@
 
 ghost use Rattle.std.specs.Prelude.{◌≡◌, ◌++◌, IfOk, map, slice_index};
 ghost use Rattle.fix_fields.specs.Field.{IsValue};
-ghost use Rattle.order_law.specs.Messages as messages;
-ghost use Rattle.core_batches.specs.Seen.{batch_seen};
+ghost use Rattle.fix_fields.specs.Field as tags;
+ghost use Rattle.gate_events.specs.Seen.{batch_seen};
 ghost use Rattle.gate_audit.specs.Pairs as pairs;
-ghost use Rattle.gate_audit.specs.Read.{opens, reports_to};
+ghost use Rattle.gate_audit.specs.Read.{opens_new_order, reports_to};
 
 use fix_fields::Fields;
-use gate_core::{Batch, IssuedReport};
+use gate_core::{Batch, ClientNumber, IssuedReport};
 use std::alloc::{AllocError, Global};
 
 /// The reports and rejects that a client was told by these batches, copied, in order.
-pub fn reports_of(alloc: Global, client: u16, batches: &[Batch]) -> Result<Vec<Fields>, AllocError>
+pub fn reports_of(
+    alloc: Global,
+    client: ClientNumber,
+    batches: &[Batch],
+) -> Result<Vec<Fields>, AllocError>
     ensures { IfOk result (λ reports. reports.items ≡ reports_to client batches.now) }
 {
     let mut reports = Vec::new(alloc);
@@ -40,7 +44,7 @@ fn copy_reports(
 
 /// The value of a tag, or no bytes where there is none.
 pub fn text(report: &Fields, tag: u32) -> &[u8]
-    ensures text { result.now ≡ messages.text tag report.now }
+    ensures text { result.now ≡ tags.text tag report.now }
     ensures value { IsValue result.now }
 {
     match report.first(tag) {
@@ -53,12 +57,13 @@ pub fn text(report: &Fields, tag: u32) -> &[u8]
 ///
 /// Source: FIX 4.4 Volume 6, "ExecType".
 pub fn opens_order(report: &Fields) -> bool
-    ensures { result ≡ opens report.now }
+    ensures { result ≡ opens_new_order report.now }
 {
     text(report, 35) == b"8".as_slice() && text(report, 150) == b"A".as_slice()
 }
 
-/// Whether this report tells that a token was given: an execution report with ExecType (150) A, pending new, or E, pending replace.
+/// Whether this report tells that a token was given: an execution report with ExecType (150) A, pending new, or E,
+/// pending replace.
 ///
 /// Source: FIX 4.4 Volume 6, "ExecType".
 pub fn gives_token(report: &Fields) -> bool

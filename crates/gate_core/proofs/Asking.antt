@@ -1,43 +1,43 @@
--- A message that a client's session gave up: the turn, the issues and the sends, one after another.
+-- A message that a client's session delivered: the turn, the issues and the sends, one after another.
 use Rattle.std.proofs.Common.{◌≡◌, ◌+◌, ℕ, List, map, Some, sym, ap, ◌∙◌, subst}
 use Rattle.fix_types.specs.declared.application.AppBody.{AppBody}
 use Rattle.fix_types.specs.declared.application.AppMsg.{AppMsg}
 use Rattle.fix_types.specs.Application.{body_fields}
 use Rattle.ouch_codec.specs.declared.inbound.Inbound.{Inbound}
 use Rattle.ouch_codec.specs.Inbound.{inbound_bytes}
-use Rattle.session_law.specs.Frames.{told_of}
-use Rattle.session_frames.specs.Written.{told}
+use Rattle.session_law.specs.Frames.{told_of_out}
+use Rattle.session_writing.specs.Written.{told_bytes}
 use Rattle.soup_session.specs.States.{is_up}
 use Rattle.soup_session.specs.Table as table
-use Rattle.order_law.specs.Messages.{Message}
+use Rattle.fix_fields.specs.Field.{Message}
 use Rattle.order_core.specs.declared.outcome.CoreOut.{CoreOut}
-use Rattle.core_law.specs.Settings.{Settings, port_of, client_name}
-use Rattle.core_law.specs.Lists.{Lists, turned, client_called_all, port_called_all}
-use Rattle.core_law.specs.Sessions.{issues, sends, port_state, port_outs, client_outs, client_reports}
-use Rattle.gate_core.specs.declared.gate.Gate.{Gate}
-use Rattle.gate_core.specs.declared.gate.messages.Asked.{Asked}
-use Rattle.gate_core.specs.State.{Parts}
-use Rattle.gate_core.specs.Steps.{IsAsked, IsIssued, IsSent, IsTurn, OnlyWhileUp, turn_of}
+use Rattle.gate_law.specs.Settings.{Settings, port_of, client_name}
+use Rattle.gate_law.specs.Lists.{Lists, turned, client_called_all, port_called_all}
+use Rattle.gate_law.specs.Sessions.{issues, sends, port_state, port_outs, client_outs, client_reports}
+use Rattle.gate_core.specs.declared.parts.Parts.{Parts}
+use Rattle.gate_core.specs.declared.parts.client_messages.Asked.{Asked}
+use Rattle.gate_core.specs.State.{ArePartsOf}
+use Rattle.gate_core.specs.Steps.{IsAsked, IsIssued, IsSent, IsTurn, OnlyWhileUp, orders_turn_of}
 use Rattle.gate_core.proofs.ClientEvents.{client-called-is}
 
 -- issues leave the calls of every port
 ports-as-they-were : (c : ℕ) (at : ℕ) (bodies : List Message) (v : Lists) → (client_called_all c (issues at bodies) v).port_calls ≡ v.port_calls
 ports-as-they-were c at bodies v = ap (λ (w : Lists). w.port_calls) (client-called-is c (issues at bodies) v)
 
-pub is-asked : (s : Settings) (n at port : ℕ) (message : AppMsg) (core : CoreOut) (bodies : List AppBody) (messages : List Inbound) (out : Asked) (v : Lists) (first second new : Gate)
+pub is-asked : (s : Settings) (n at port : ℕ) (message : AppMsg) (core : CoreOut) (bodies : List AppBody) (messages : List Inbound) (out : Asked) (v : Lists) (first second new : Parts)
     → port + 1 ≡ port_of s n → bodies ≡ core.bodies.items → messages ≡ core.sends.items
     → IsTurn s n message core v first
-    → IsIssued s n at (map body_fields bodies) out.issues (turned (Some (turn_of s n message core v)) v) second
-    → (let w : Lists = client_called_all n (issues at (map body_fields bodies)) (turned (Some (turn_of s n message core v)) v) in
+    → IsIssued s n at (map body_fields bodies) out.issues (turned (Some (orders_turn_of s n message core v)) v) second
+    → (let w : Lists = client_called_all n (issues at (map body_fields bodies)) (turned (Some (orders_turn_of s n message core v)) v) in
     OnlyWhileUp s (port + 1) w (map inbound_bytes messages) → IsSent s (port + 1) at (map inbound_bytes messages) out.port_outs.items w new)
     → IsAsked s n at message out v new
 is-asked s n at port message core bodies messages out v first second new is same_bodies same_messages turn issued sent =
-    let t = turn_of s n message core v in
+    let t = orders_turn_of s n message core v in
     let w : Lists = client_called_all n (issues at (map body_fields bodies)) (turned (Some t) v) in
     let calls : w.port_calls ≡ v.port_calls = ports-as-they-were n at (map body_fields bodies) (turned (Some t) v) in
     let only : OnlyWhileUp s (port + 1) w (map inbound_bytes messages) =
     subst (λ (p : ℕ). OnlyWhileUp s p w (map inbound_bytes messages)) (sym is) (λ down. ap (map inbound_bytes) same_messages
-    ∙ turn.sends (ap (λ (f : ℕ → List table.Call). is_up (port_state s (port_of s n) (f (port_of s n)))) (sym calls) ∙ down)) in
+    ∙ turn.sends (ap (λ (f : ℕ → List table.PortCall). is_up (port_state s (port_of s n) (f (port_of s n)))) (sym calls) ∙ down)) in
     let all = sent only in
     let bodies_are : map body_fields bodies ≡ t.bodies = ap (map body_fields) same_bodies in
     let sends_are : map inbound_bytes messages ≡ t.sends = ap (map inbound_bytes) same_messages in
@@ -45,14 +45,14 @@ is-asked s n at port message core bodies messages out v first second new is same
       core = core;
       headline = turn.headline;
       only = turn.sends;
-      outs = subst (λ (bs : List Message). map told out.issues.outs.items ≡ map (told_of s.comp (client_name s n)) (client_outs s n (v.client_calls n) (issues at bs))) bodies_are issued.outs;
+      outs = subst (λ (bs : List Message). map told_bytes out.issues.outs.items ≡ map (told_of_out s.comp (client_name s n)) (client_outs s n (v.client_calls n) (issues at bs))) bodies_are issued.outs;
       reports = subst (λ (bs : List Message). out.issues.reports.items ≡ client_reports s n (v.client_calls n) (issues at bs)) bodies_are issued.reports;
       bodies_are = issued.bodies_are ∙ bodies_are;
       port_outs_are = all.outs_are
-          ∙ ap (λ (f : ℕ → List table.Call). port_outs s (port + 1) (f (port + 1)) (sends at (map inbound_bytes messages))) calls
+          ∙ ap (λ (f : ℕ → List table.PortCall). port_outs s (port + 1) (f (port + 1)) (sends at (map inbound_bytes messages))) calls
           ∙ ap (λ (p : ℕ). port_outs s p (v.port_calls p) (sends at (map inbound_bytes messages))) is
           ∙ ap (λ (ms : List (List ℕ)). port_outs s (port_of s n) (v.port_calls (port_of s n)) (sends at ms)) sends_are;
-      parts = subst (λ (bs : List Message). Parts s (port_called_all (port_of s n) (sends at t.sends) (client_called_all n (issues at bs) (turned (Some t) v))) new) bodies_are
-          (subst (λ (ms : List (List ℕ)). Parts s (port_called_all (port_of s n) (sends at ms) w) new) sends_are
-          (subst (λ (p : ℕ). Parts s (port_called_all p (sends at (map inbound_bytes messages)) w) new) is all.parts));
+      parts = subst (λ (bs : List Message). ArePartsOf s (port_called_all (port_of s n) (sends at t.sends) (client_called_all n (issues at bs) (turned (Some t) v))) new) bodies_are
+          (subst (λ (ms : List (List ℕ)). ArePartsOf s (port_called_all (port_of s n) (sends at ms) w) new) sends_are
+          (subst (λ (p : ℕ). ArePartsOf s (port_called_all p (sends at (map inbound_bytes messages)) w) new) is all.parts));
     }

@@ -3,28 +3,28 @@ use Rattle.std.proofs.Common.{◌≡◌, ◌+◌, ℕ, Bool, true, false, List, 
 use Rattle.std.specs.Prelude.{◌&&◌, if◌then◌else◌}
 use Rattle.session_law.specs.Runs.{Timed}
 use Rattle.order_law.specs.Headline.{Headline}
-use Rattle.core_law.specs.Settings.{Settings, terms}
-use Rattle.core_law.specs.Events.{Event, LinkOut, Batch, empty, is_for_client}
-use Rattle.core_law.specs.Lists.{Lists, client_called_all, client_called}
-use Rattle.core_law.specs.Sessions.{to_client, to_port}
-use Rattle.core_law.specs.Outcome.{LinkMove, Stays, Comes, Goes, Refused, Outcome, nothing, outcome, of_client, is_stepped, messages}
-use Rattle.core_law.specs.After.{after, closed, with_outcome, client_moved}
-use Rattle.core_law.specs.Due.{to_client_of, to_port_of, reports_of, client_named}
-use Rattle.core_law.specs.Promises.{Asks, AsksAgain, AsksOnlyThen, comes_up, is_given_up, port_in}
-use Rattle.core_lines.specs.Lines.{ClientsLeave, ClientLinks, called_all, linked}
-use Rattle.gate_core.specs.declared.gate.Gate.{Gate}
-use Rattle.core_batches.specs.Links.{unlinked}
-use Rattle.gate_core.specs.State.{Parts}
+use Rattle.gate_law.specs.Settings.{Settings, terms}
+use Rattle.gate_law.specs.Events.{Event, LinkOut, Batch, empty, is_for_client}
+use Rattle.gate_law.specs.Lists.{Lists, client_called_all, client_called}
+use Rattle.gate_law.specs.Sessions.{to_client, to_port}
+use Rattle.gate_law.specs.Outcome.{LinkMove, Stays, Comes, Goes, Refused, Outcome, nothing, outcome, of_client, is_stepped, messages}
+use Rattle.gate_law.specs.After.{lists_after, links_closed, with_outcome, client_moved}
+use Rattle.gate_law.specs.Due.{to_client_of, to_port_of, reports_of, client_named}
+use Rattle.gate_law.specs.Promises.{Asks, AsksAgain, AsksOnlyThen, comes_up, delivers_message, port_in}
+use Rattle.gate_sessions.specs.Lines.{ClientsLeave, ClientLinks, called_all, link_set}
+use Rattle.gate_core.specs.declared.parts.Parts.{Parts}
+use Rattle.gate_events.specs.Links.{unlinked}
+use Rattle.gate_core.specs.State.{ArePartsOf}
 use Rattle.gate_core.specs.Steps.{Ready, Stepped}
-use Rattle.core_batches.specs.Batches.{batch_of}
+use Rattle.gate_events.specs.Batches.{batch_of}
 use Rattle.gate_core.proofs.Told.{named-client}
 
 -- ---- the lists after it
 
 abbrev pub moved_link : ℕ → LinkMove → (ℕ → Option ℕ) → ℕ → Option ℕ
 moved_link n Stays links = links
-moved_link n (Comes link) links = linked n (Some link) links
-moved_link n Goes links = linked n None links
+moved_link n (Comes link) links = link_set n (Some link) links
+moved_link n Goes links = link_set n None links
 moved_link n (Refused link) links = links
 
 client-moved-is : (c : ℕ) (move : LinkMove) (v : Lists) → client_moved c move v ≡ record v { client_link = moved_link c move v.client_link }
@@ -56,8 +56,8 @@ asks-nothing s e b v quiet none = by_stepped (is_stepped s e v) (comes_up s e v)
     only true = tt
     only false = none
 
-    by_stepped : (w up : Bool) → up ≡ false → AsksAgain (w && up) s (port_in e) (w && is_given_up s e v) b v
-    by_stepped true false down = only (is_given_up s e v)
+    by_stepped : (w up : Bool) → up ≡ false → AsksAgain (w && up) s (port_in e) (w && delivers_message s e v) b v
+    by_stepped true false down = only (delivers_message s e v)
     by_stepped true true down = absurd (cc)
     by_stepped false up down = only false
 
@@ -67,13 +67,13 @@ pub no-port-lines : (link : Option ℕ) → [] ≡ to_port link []
 no-port-lines None = refl
 no-port-lines (Some link) = refl
 
-pub client-event : (s : Settings) (e : Event) (v : Lists) (g new : Gate) (c : ℕ) (move : LinkMove) (calls : List Timed) (outs : List LinkOut)
+pub client-event : (s : Settings) (e : Event) (v : Lists) (g new : Parts) (c : ℕ) (move : LinkMove) (calls : List Timed) (outs : List LinkOut)
     → outcome s e (batch_of c [] outs 0 [] None) v ≡ of_client c move calls
     → outs ≡ to_client_of s (of_client c move calls) v
     → [] ≡ reports_of s (of_client c move calls) v
     → comes_up s e v ≡ false
     → client_named e (batch_of c [] outs 0 [] None) ≡ c
-    → (calls_were : ℕ → List Timed) (links_were : ℕ → Option ℕ) → Parts s (record v { client_link = links_were; client_calls = calls_were }) g
+    → (calls_were : ℕ → List Timed) (links_were : ℕ → Option ℕ) → ArePartsOf s (record v { client_link = links_were; client_calls = calls_were }) g
     → ClientsLeave s (called_all c calls v.client_calls) new.clients.items
     → ClientLinks (unlinked c outs (moved_link c move v.client_link)) new.clients.items
     → length new.clients.items ≡ length g.clients.items
@@ -81,8 +81,8 @@ pub client-event : (s : Settings) (e : Event) (v : Lists) (g new : Gate) (c : �
     → Stepped s e (batch_of c [] outs 0 [] None) v new
 client-event s e v g new c move calls outs is lines reports quiet named calls_were links_were parts leave links count same_ports same_client_ports same_orders =
     let b : Batch = batch_of c [] outs 0 [] None in
-    let left : after s e b v ≡ closed b (with_client c move calls v) =
-    ap (λ (o : Outcome). closed b (with_outcome o v)) is ∙ ap (closed b) (with-client c move calls v) in
+    let left : lists_after s e b v ≡ links_closed b (with_client c move calls v) =
+    ap (λ (o : Outcome). links_closed b (with_outcome o v)) is ∙ ap (links_closed b) (with-client c move calls v) in
     record {
       gives = record {
         client_out = lines ∙ ap (λ (o : Outcome). to_client_of s o v) (sym is);
@@ -94,7 +94,7 @@ client-event s e v g new c move calls outs is lines reports quiet named calls_we
       };
       asks = asks-nothing s e b v quiet refl;
       orders = λ holds. subst (λ (w : Lists). Headline (terms s) w.turns) (sym left) holds;
-      parts = subst (λ (w : Lists). Parts s w new) (sym left) (record {
+      parts = subst (λ (w : Lists). ArePartsOf s w new) (sym left) (record {
         clients = leave;
         client_links = λ i line at. links i line at ∙ sym (named-client c (i + 1) [] outs (moved_link c move v.client_link));
         ports = rw same_ports parts.ports;
@@ -117,9 +117,9 @@ no-client-lines s None = refl
 no-client-lines s (Some link) = refl
 
 -- nothing is given, and nothing changes, where the outcome is nothing
-pub nothing-done : (s : Settings) (e : Event) (v : Lists) (g : Gate) → outcome s e empty v ≡ nothing → Asks s e empty v → Ready s v g → Stepped s e empty v g
+pub nothing-done : (s : Settings) (e : Event) (v : Lists) (g : Parts) → outcome s e empty v ≡ nothing → Asks s e empty v → Ready s v g → Stepped s e empty v g
 nothing-done s e v g is asks ready =
-    let left : after s e empty v ≡ v = ap (λ (o : Outcome). closed empty (with_outcome o v)) is in
+    let left : lists_after s e empty v ≡ v = ap (λ (o : Outcome). links_closed empty (with_outcome o v)) is in
     record {
       gives = record {
         client_out = no-client-lines s (v.client_link 0) ∙ ap (λ (o : Outcome). to_client_of s o v) (sym is);
@@ -131,13 +131,13 @@ nothing-done s e v g is asks ready =
       };
       asks = asks;
       orders = λ holds. subst (λ (w : Lists). Headline (terms s) w.turns) (sym left) holds;
-      parts = subst (λ (w : Lists). Parts s w g) (sym left) ready.parts;
+      parts = subst (λ (w : Lists). ArePartsOf s w g) (sym left) ready.parts;
     }
 
 -- an event that isn't stepped
-pub not-stepped : (s : Settings) (e : Event) (v : Lists) (g : Gate) → is_stepped s e v ≡ false → Ready s v g → Stepped s e empty v g
+pub not-stepped : (s : Settings) (e : Event) (v : Lists) (g : Parts) → is_stepped s e v ≡ false → Ready s v g → Stepped s e empty v g
 not-stepped s e v g none ready = nothing-done s e v g (not-stepped-outcome s e empty v none) (by_stepped (is_stepped s e v) none) ready
   where
-    by_stepped : (w : Bool) → w ≡ false → AsksAgain (w && comes_up s e v) s (port_in e) (w && is_given_up s e v) empty v
+    by_stepped : (w : Bool) → w ≡ false → AsksAgain (w && comes_up s e v) s (port_in e) (w && delivers_message s e v) empty v
     by_stepped true is = absurd (cc)
     by_stepped false is = refl

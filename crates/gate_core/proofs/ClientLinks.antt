@@ -1,22 +1,22 @@
 -- Links of clients that come and go, and ticks.
 use Rattle.std.proofs.Common.{◌≡◌, ◌+◌, ◌==◌, ℕ, Bool, true, false, List, [], ◌∷◌, ◌++◌, length, Option, Some, None, refl, sym, ap, ◌∙◌, subst, eqb-true, eq-eqb}
 use Rattle.std.specs.Prelude.{◌&&◌, if◌then◌else◌}
-use Rattle.session_law.specs.Runs.{Timed, Came, Linked, Ticked}
+use Rattle.session_law.specs.Runs.{Timed, OnMessage, OnLink, OnTick}
 use Rattle.session_law.specs.declared.frame.Out.{Out}
-use Rattle.core_law.specs.Settings.{Settings, has_client}
-use Rattle.core_law.specs.Events.{ClientUp, ClientMessage, ClientGone, ClientTick, LinkOut, Close, empty, is_number}
-use Rattle.core_law.specs.Lists.{Lists}
-use Rattle.core_law.specs.Sessions.{client_answer, report_of, to_client}
-use Rattle.core_law.specs.Outcome.{Stays, Comes, Goes, Refused}
-use Rattle.core_law.specs.After.{unless_closed}
-use Rattle.core_lines.specs.declared.client_line.ClientLine.{ClientLine}
-use Rattle.core_lines.specs.Lines.{ClientsLeave, ClientLinks, called, linked}
-use Rattle.gate_core.specs.declared.gate.Gate.{Gate}
-use Rattle.core_batches.specs.Links.{unlinked}
-use Rattle.session_frames.specs.declared.output.SessionOut.{SessionOut}
-use Rattle.order_law.specs.Messages.{Message}
-use Rattle.gate_core.specs.Steps.{IsHeard, Ready, Stepped}
-use Rattle.core_batches.specs.Batches.{batch_of}
+use Rattle.gate_law.specs.Settings.{Settings, has_client}
+use Rattle.gate_law.specs.Events.{ClientUp, ClientMessage, ClientGone, ClientTick, LinkOut, Close, empty, is_the_number}
+use Rattle.gate_law.specs.Lists.{Lists}
+use Rattle.gate_law.specs.Sessions.{client_answer, report_issued, to_client}
+use Rattle.gate_law.specs.Outcome.{Stays, Comes, Goes, Refused}
+use Rattle.gate_law.specs.After.{unless_closed}
+use Rattle.gate_sessions.specs.declared.client_line.ClientLine.{ClientLine}
+use Rattle.gate_sessions.specs.Lines.{ClientsLeave, ClientLinks, called, link_set}
+use Rattle.gate_core.specs.declared.parts.Parts.{Parts}
+use Rattle.gate_events.specs.Links.{unlinked}
+use Rattle.session_writing.specs.declared.output.SessionOut.{SessionOut}
+use Rattle.fix_fields.specs.Field.{Message}
+use Rattle.gate_core.specs.Steps.{AfterFrame, Ready, Stepped}
+use Rattle.gate_events.specs.Batches.{batch_of}
 use Rattle.gate_core.proofs.Told.{same}
 use Rattle.gate_core.proofs.ClientEvents.{client-event, nothing-done, asks-nothing}
 
@@ -28,16 +28,16 @@ no-lines : (s : Settings) (c : ℕ) (link : Option ℕ) → [] ≡ to_client s c
 no-lines s c None = refl
 no-lines s c (Some link) = refl
 
-quiet-call : (s : Settings) (c at : ℕ) (is_up : Bool) (before : List Timed) → (client_answer s c before (at, Linked is_up)).outs ≡ []
+quiet-call : (s : Settings) (c at : ℕ) (is_up : Bool) (before : List Timed) → (client_answer s c before (at, OnLink is_up)).outs ≡ []
 unfolding client_answer
 quiet-call s c at is_up before = refl
 
-no-report : (s : Settings) (c at : ℕ) (is_up : Bool) (before : List Timed) → [] ≡ report_of s c before (at, Linked is_up)
-unfolding report_of
+no-report : (s : Settings) (c at : ℕ) (is_up : Bool) (before : List Timed) → [] ≡ report_issued s c before (at, OnLink is_up)
+unfolding report_issued
 no-report s c at is_up before = refl
 
-no-tick-report : (s : Settings) (c at : ℕ) (before : List Timed) → [] ≡ report_of s c before (at, Ticked)
-unfolding report_of
+no-tick-report : (s : Settings) (c at : ℕ) (before : List Timed) → [] ≡ report_issued s c before (at, OnTick)
+unfolding report_issued
 no-tick-report s c at before = refl
 
 append-none : {X : Type 0} (xs : List X) → [] ≡ xs → [] ≡ xs ++ []
@@ -60,44 +60,44 @@ not-equal m n other = by_test (m == n) refl
 
 -- ---- a client's link is gone
 
-pub client-gone : (s : Settings) (v : Lists) (g new : Gate) (c link at : ℕ) → (has_client s c && is_number link (v.client_link c)) ≡ true → Ready s v g
-    → ClientsLeave s (called c (at, Linked false) v.client_calls) new.clients.items
-    → ClientLinks (linked c None v.client_link) new.clients.items
+pub client-gone : (s : Settings) (v : Lists) (g new : Parts) (c link at : ℕ) → (has_client s c && is_the_number link (v.client_link c)) ≡ true → Ready s v g
+    → ClientsLeave s (called c (at, OnLink false) v.client_calls) new.clients.items
+    → ClientLinks (link_set c None v.client_link) new.clients.items
     → length new.clients.items ≡ length g.clients.items
     → new.ports ≡ g.ports → new.client_ports ≡ g.client_ports → new.orders ≡ g.orders
     → Stepped s (ClientGone c link at) empty v new
 client-gone s v g new c link at on ready leave links count same_ports same_client_ports same_orders =
-    let calls : List Timed = (at, Linked false) ∷ [] in
+    let calls : List Timed = (at, OnLink false) ∷ [] in
     client-event s (ClientGone c link at) v g new c Goes calls [] (rw on refl)
-    (no-lines s c (linked c None v.client_link c)
-    ∙ ap (λ (outs : List Out). to_client s c (linked c None v.client_link c) (outs ++ [])) (sym (quiet-call s c at false (v.client_calls c))))
-    (append-none (report_of s c (v.client_calls c) (at, Linked false)) (no-report s c at false (v.client_calls c)))
-    refl refl v.client_calls v.client_link ready.parts leave (untold c (linked c None v.client_link) new.clients.items links) count same_ports same_client_ports same_orders
+    (no-lines s c (link_set c None v.client_link c)
+    ∙ ap (λ (outs : List Out). to_client s c (link_set c None v.client_link c) (outs ++ [])) (sym (quiet-call s c at false (v.client_calls c))))
+    (append-none (report_issued s c (v.client_calls c) (at, OnLink false)) (no-report s c at false (v.client_calls c)))
+    refl refl v.client_calls v.client_link ready.parts leave (untold c (link_set c None v.client_link) new.clients.items links) count same_ports same_client_ports same_orders
 
 -- ---- a client's link is up
 
-pub client-comes : (s : Settings) (v : Lists) (g new : Gate) (c link at : ℕ) → has_client s c ≡ true → v.client_link c ≡ None → Ready s v g
-    → ClientsLeave s (called c (at, Linked true) v.client_calls) new.clients.items
-    → ClientLinks (linked c (Some link) v.client_link) new.clients.items
+pub client-comes : (s : Settings) (v : Lists) (g new : Parts) (c link at : ℕ) → has_client s c ≡ true → v.client_link c ≡ None → Ready s v g
+    → ClientsLeave s (called c (at, OnLink true) v.client_calls) new.clients.items
+    → ClientLinks (link_set c (Some link) v.client_link) new.clients.items
     → length new.clients.items ≡ length g.clients.items
     → new.ports ≡ g.ports → new.client_ports ≡ g.client_ports → new.orders ≡ g.orders
     → Stepped s (ClientUp c link at) empty v new
 client-comes s v g new c link at has none ready leave links count same_ports same_client_ports same_orders =
-    let calls : List Timed = (at, Linked true) ∷ [] in
+    let calls : List Timed = (at, OnLink true) ∷ [] in
     client-event s (ClientUp c link at) v g new c (Comes link) calls [] (rw (has, none) refl)
-    (no-lines s c (linked c (Some link) v.client_link c)
-    ∙ ap (λ (outs : List Out). to_client s c (linked c (Some link) v.client_link c) (outs ++ [])) (sym (quiet-call s c at true (v.client_calls c))))
-    (append-none (report_of s c (v.client_calls c) (at, Linked true)) (no-report s c at true (v.client_calls c)))
-    refl refl v.client_calls v.client_link ready.parts leave (untold c (linked c (Some link) v.client_link) new.clients.items links) count same_ports same_client_ports same_orders
+    (no-lines s c (link_set c (Some link) v.client_link c)
+    ∙ ap (λ (outs : List Out). to_client s c (link_set c (Some link) v.client_link c) (outs ++ [])) (sym (quiet-call s c at true (v.client_calls c))))
+    (append-none (report_issued s c (v.client_calls c) (at, OnLink true)) (no-report s c at true (v.client_calls c)))
+    refl refl v.client_calls v.client_link ready.parts leave (untold c (link_set c (Some link) v.client_link) new.clients.items links) count same_ports same_client_ports same_orders
 
 -- the current link's own number again
-pub client-again : (s : Settings) (v : Lists) (g : Gate) (c link at current : ℕ) → has_client s c ≡ true → v.client_link c ≡ Some current → current ≡ link → Ready s v g
+pub client-again : (s : Settings) (v : Lists) (g : Parts) (c link at current : ℕ) → has_client s c ≡ true → v.client_link c ≡ Some current → current ≡ link → Ready s v g
     → Stepped s (ClientUp c link at) empty v g
 client-again s v g c link at current has is alike ready =
     nothing-done s (ClientUp c link at) v g (rw (has, is, eq-eqb current link alike) refl) (asks-nothing s (ClientUp c link at) empty v refl refl) ready
 
 -- another link
-pub client-refused : (s : Settings) (v : Lists) (g : Gate) (c link at current : ℕ) → has_client s c ≡ true → v.client_link c ≡ Some current → (current ≡ link → ⊥) → Ready s v g
+pub client-refused : (s : Settings) (v : Lists) (g : Parts) (c link at current : ℕ) → has_client s c ≡ true → v.client_link c ≡ Some current → (current ≡ link → ⊥) → Ready s v g
     → Stepped s (ClientUp c link at) (batch_of c [] (Close link ∷ []) 0 [] None) v g
 client-refused s v g c link at current has is other ready =
     client-event s (ClientUp c link at) v g g c (Refused link) [] (Close link ∷ []) (rw (has, is, not-equal current link other) refl)
@@ -113,32 +113,32 @@ client-refused s v g c link at current has is other ready =
 
 -- ---- time passes
 
-pub client-tick : (s : Settings) (v : Lists) (g new : Gate) (c at : ℕ) (outs : List LinkOut) → has_client s c ≡ true → Ready s v g
-    → outs ≡ to_client s c (v.client_link c) ((client_answer s c (v.client_calls c) (at, Ticked)).outs ++ [])
-    → ClientsLeave s (called c (at, Ticked) v.client_calls) new.clients.items
+pub client-tick : (s : Settings) (v : Lists) (g new : Parts) (c at : ℕ) (outs : List LinkOut) → has_client s c ≡ true → Ready s v g
+    → outs ≡ to_client s c (v.client_link c) ((client_answer s c (v.client_calls c) (at, OnTick)).outs ++ [])
+    → ClientsLeave s (called c (at, OnTick) v.client_calls) new.clients.items
     → ClientLinks (unlinked c outs v.client_link) new.clients.items
     → length new.clients.items ≡ length g.clients.items
     → new.ports ≡ g.ports → new.client_ports ≡ g.client_ports → new.orders ≡ g.orders
     → Stepped s (ClientTick c at) (batch_of c [] outs 0 [] None) v new
 client-tick s v g new c at outs has ready lines leave links count same_ports same_client_ports same_orders =
-    client-event s (ClientTick c at) v g new c Stays ((at, Ticked) ∷ []) outs (rw has refl) lines
-    (append-none (report_of s c (v.client_calls c) (at, Ticked)) (no-tick-report s c at (v.client_calls c)))
+    client-event s (ClientTick c at) v g new c Stays ((at, OnTick) ∷ []) outs (rw has refl) lines
+    (append-none (report_issued s c (v.client_calls c) (at, OnTick)) (no-tick-report s c at (v.client_calls c)))
     refl refl v.client_calls v.client_link ready.parts leave links count same_ports same_client_ports same_orders
 
--- ---- a frame of which nothing is given up
+-- ---- a frame of which nothing is delivered
 
-no-frame-report : (s : Settings) (c at : ℕ) (frame : Message) (before : List Timed) → [] ≡ report_of s c before (at, Came frame)
-unfolding report_of
+no-frame-report : (s : Settings) (c at : ℕ) (frame : Message) (before : List Timed) → [] ≡ report_issued s c before (at, OnMessage frame)
+unfolding report_issued
 no-frame-report s c at frame before = refl
 
-pub client-frame : (s : Settings) (v : Lists) (g new : Gate) (c link at : ℕ) (frame : Message) (said : List SessionOut) (outs : List LinkOut)
-    → IsHeard s c link at frame None said v g
-    → outs ≡ to_client s c (v.client_link c) ((client_answer s c (v.client_calls c) (at, Came frame)).outs ++ [])
-    → ClientsLeave s (called c (at, Came frame) v.client_calls) new.clients.items
+pub client-frame : (s : Settings) (v : Lists) (g new : Parts) (c link at : ℕ) (frame : Message) (said : List SessionOut) (outs : List LinkOut)
+    → AfterFrame s c link at frame None said v g
+    → outs ≡ to_client s c (v.client_link c) ((client_answer s c (v.client_calls c) (at, OnMessage frame)).outs ++ [])
+    → ClientsLeave s (called c (at, OnMessage frame) v.client_calls) new.clients.items
     → ClientLinks (unlinked c outs v.client_link) new.clients.items
     → length new.clients.items ≡ length g.clients.items
     → Stepped s (ClientMessage c link at frame) (batch_of c [] outs 0 [] None) v (record { clients = new.clients; ports = g.ports; client_ports = g.client_ports; orders = g.orders })
 client-frame s v g new c link at frame said outs heard lines leave links count =
-    client-event s (ClientMessage c link at frame) v g _ c Stays ((at, Came frame) ∷ []) outs (rw (heard.on, heard.app_is) refl) lines
-    (append-none (report_of s c (v.client_calls c) (at, Came frame)) (no-frame-report s c at frame (v.client_calls c)))
-    refl refl (called c (at, Came frame) v.client_calls) v.client_link heard.parts leave links count refl refl refl
+    client-event s (ClientMessage c link at frame) v g _ c Stays ((at, OnMessage frame) ∷ []) outs (rw (heard.on, heard.app_is) refl) lines
+    (append-none (report_issued s c (v.client_calls c) (at, OnMessage frame)) (no-frame-report s c at frame (v.client_calls c)))
+    refl refl (called c (at, OnMessage frame) v.client_calls) v.client_link heard.parts leave links count refl refl refl

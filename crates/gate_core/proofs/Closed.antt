@@ -1,24 +1,25 @@
 -- The parts once what a batch tells links has closed them.
 use Rattle.std.proofs.Common.{◌≡◌, ◌+◌, ℕ, List, length, Option, sym, ◌∙◌}
-use Rattle.order_law.specs.Messages.{Message}
-use Rattle.core_law.specs.Settings.{Settings}
-use Rattle.core_law.specs.Events.{LinkOut}
-use Rattle.core_law.specs.Lists.{Lists}
-use Rattle.core_law.specs.After.{closed}
-use Rattle.core_lines.specs.Lines.{ClientsLeave, ClientLinks, PortsLeave, PortLinks}
+use Rattle.soup_session.specs.declared.port_fault.PortFault.{PortFault}
+use Rattle.fix_fields.specs.Field.{Message}
+use Rattle.gate_law.specs.Settings.{Settings}
+use Rattle.gate_law.specs.Events.{LinkOut}
+use Rattle.gate_law.specs.Lists.{Lists}
+use Rattle.gate_law.specs.After.{links_closed}
+use Rattle.gate_sessions.specs.Lines.{ClientsLeave, ClientLinks, PortsLeave, PortLinks}
 use Rattle.std.specs.Prelude.{is_some, not}
-use Rattle.gate_core.specs.declared.gate.Gate.{Gate}
-use Rattle.core_batches.specs.Links.{unlinked}
-use Rattle.gate_core.specs.State.{Parts}
-use Rattle.core_batches.specs.Batches.{batch_of}
+use Rattle.gate_core.specs.declared.parts.Parts.{Parts}
+use Rattle.gate_events.specs.Links.{unlinked}
+use Rattle.gate_core.specs.State.{ArePartsOf}
+use Rattle.gate_events.specs.Batches.{batch_of}
 use Rattle.gate_core.proofs.Told.{named-client, named-port}
 
-pub closed-parts : (s : Settings) (n p : ℕ) (reports : List Message) (client_out port_out : List LinkOut) (fault : Option ℕ) (x : Lists) (mid new : Gate)
-    → Parts s x mid
+pub closed-parts : (s : Settings) (n p : ℕ) (reports : List Message) (client_out port_out : List LinkOut) (fault : Option PortFault) (x : Lists) (mid new : Parts)
+    → ArePartsOf s x mid
     → ClientsLeave s x.client_calls new.clients.items → ClientLinks (unlinked n client_out x.client_link) new.clients.items → length new.clients.items ≡ length mid.clients.items
     → PortsLeave s x.port_calls new.ports.items → PortLinks (unlinked p port_out x.port_link) new.ports.items → length new.ports.items ≡ length mid.ports.items
     → new.client_ports ≡ mid.client_ports → new.orders ≡ mid.orders
-    → Parts s (closed (batch_of n reports client_out p port_out fault) x) new
+    → ArePartsOf s (links_closed (batch_of n reports client_out p port_out fault) x) new
 closed-parts s n p reports client_out port_out fault x mid new parts clients client_links client_count ports port_links port_count same_client_ports same_orders = record {
   clients = clients;
   client_links = λ i line at. client_links i line at ∙ sym (named-client n (i + 1) reports client_out x.client_link);

@@ -1,10 +1,10 @@
 -- A step that changes the lines of ports alone, and leaves the next numbers.
 use Rattle.std.proofs.Common.{◌≡◌, ◌+◌, ◌≤◌, ℕ, length, refl, sym, ◌∙◌, subst, arith}
-use Rattle.core_lines.specs.Lines.{NextWithin}
-use Rattle.gate_core.specs.declared.gate.Gate.{Gate}
+use Rattle.gate_sessions.specs.Lines.{NextWithin}
+use Rattle.gate_core.specs.declared.parts.Parts.{Parts}
 use Rattle.gate_core.specs.Steps.{Grows}
 
-pub ports-grow : (old new : Gate) → length new.ports.items ≡ length old.ports.items → ((n : ℕ) → NextWithin n old.ports.items → NextWithin n new.ports.items)
+pub ports-grow : (old new : Parts) → length new.ports.items ≡ length old.ports.items → ((n : ℕ) → NextWithin n old.ports.items → NextWithin n new.ports.items)
     → new.clients ≡ old.clients → new.client_ports ≡ old.client_ports → new.orders ≡ old.orders → Grows 0 0 old new
 ports-grow old new count next same_clients same_client_ports same_orders = record {
   clients = rw same_clients refl;
@@ -16,7 +16,7 @@ ports-grow old new count next same_clients same_client_ports same_orders = recor
 }
 
 -- one step and then another
-pub grows-then : (a b c d : ℕ) (x y z : Gate) → Grows a b x y → Grows c d y z → Grows (a + c) (b + d) x z
+pub grows-then : (a b c d : ℕ) (x y z : Parts) → Grows a b x y → Grows c d y z → Grows (a + c) (b + d) x z
 grows-then a b c d x y z first second = record {
   clients = second.clients ∙ first.clients;
   ports = second.ports ∙ first.ports;
@@ -27,7 +27,7 @@ grows-then a b c d x y z first second = record {
 }
 
 -- lines of both sides that keep the next numbers
-pub lines-grow : (old new : Gate) → length new.clients.items ≡ length old.clients.items → length new.ports.items ≡ length old.ports.items
+pub lines-grow : (old new : Parts) → length new.clients.items ≡ length old.clients.items → length new.ports.items ≡ length old.ports.items
     → ((n : ℕ) → NextWithin n old.ports.items → NextWithin n new.ports.items)
     → new.client_ports ≡ old.client_ports → new.orders ≡ old.orders → Grows 0 0 old new
 lines-grow old new clients ports next same_client_ports same_orders = record {
@@ -40,7 +40,7 @@ lines-grow old new clients ports next same_client_ports same_orders = record {
 }
 
 -- what gives few numbers gives no more than many
-pub grows-within : (few many packets : ℕ) (old new : Gate) → few ≤ many → Grows few packets old new → Grows many packets old new
+pub grows-within : (few many packets : ℕ) (old new : Parts) → few ≤ many → Grows few packets old new → Grows many packets old new
 grows-within few many packets old new most grows = record {
   clients = grows.clients;
   ports = grows.ports;
@@ -51,7 +51,7 @@ grows-within few many packets old new most grows = record {
 }
 
 -- no event gives more numbers than three, or brings more than one packet
-pub grows-most : (numbers packets : ℕ) (old new : Gate) → numbers ≤ 3 → packets ≤ 1 → Grows numbers packets old new → Grows 3 1 old new
+pub grows-most : (numbers packets : ℕ) (old new : Parts) → numbers ≤ 3 → packets ≤ 1 → Grows numbers packets old new → Grows 3 1 old new
 grows-most numbers packets old new few one grows = record {
   clients = grows.clients;
   ports = grows.ports;

@@ -1,9 +1,9 @@
 -- One more event of a run.
 use Rattle.std.proofs.Common.{◌≡◌, ◌+◌, ◌<◌, ℕ, List, [], ◌∷◌, ◌++◌, length, take, get_or, refl, sym, ap, ◌∙◌, arith, length-take-le}
 use Rattle.std.proofs.lemmas.List.{take_more}
-use Rattle.core_law.specs.Events.{History}
-use Rattle.core_batches.specs.declared.event.Event.{Event}
-use Rattle.core_batches.specs.declared.batch.Batch.{Batch}
+use Rattle.gate_law.specs.Events.{History}
+use Rattle.gate_events.specs.declared.event.Event.{Event}
+use Rattle.gate_events.specs.declared.batch.Batch.{Batch}
 use Rattle.gate_core.specs.Core.{history, onto, turn_of}
 
 pub onto-push : (events : List Event) (batches : List Batch) (e : Event) (b : Batch) (before : History) → length events ≡ length batches

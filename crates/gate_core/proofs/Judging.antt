@@ -6,32 +6,32 @@ use Rattle.ouch_codec.specs.declared.refusal.DecodeRefusal.{DecodeRefusal}
 use Rattle.ouch_codec.specs.Values.{decoded}
 use Rattle.order_law.specs.Headline.{Headline, said_in}
 use Rattle.order_law.specs.History as orders
-use Rattle.order_law.specs.History.{Heard, Turn}
-use Rattle.order_law.specs.Messages.{Message}
+use Rattle.order_law.specs.History.{Heard, OrderTurn}
+use Rattle.fix_fields.specs.Field.{Message}
 use Rattle.order_law.specs.Told.{told}
-use Rattle.order_core.specs.State.{IsAfter}
-use Rattle.core_law.specs.Clients.{AreFrom}
-use Rattle.core_law.specs.Settings.{Settings, has_client, terms}
-use Rattle.core_law.specs.Lists.{Lists, turned}
-use Rattle.gate_core.specs.declared.gate.Gate.{Gate}
-use Rattle.gate_core.specs.State.{Parts}
-use Rattle.gate_core.specs.Steps.{IsTold, heard_turn}
+use Rattle.order_core.specs.State.{IsAfterTurns}
+use Rattle.gate_law.specs.Clients.{AreFrom}
+use Rattle.gate_law.specs.Settings.{Settings, has_client, terms}
+use Rattle.gate_law.specs.Lists.{Lists, turned}
+use Rattle.gate_core.specs.declared.parts.Parts.{Parts}
+use Rattle.gate_core.specs.State.{ArePartsOf}
+use Rattle.gate_core.specs.Steps.{PayloadIsTold, heard_turn}
 
--- the laws of core_law on whom a payload is told to, as they are cited
+-- the laws of gate_law on whom a payload is told to, as they are cited
 abbrev pub ToldNone : Type 0
-ToldNone = (ts : List orders.Terms) (before : orders.History) (p : ℕ) (m : Result Outbound DecodeRefusal) (t : Turn) → told ts (Heard p m) before ≡ said_in t → t.bodies ≡ [] → t.client ≡ 0
+ToldNone = (ts : List orders.Terms) (before : orders.OrderHistory) (p : ℕ) (m : Result Outbound DecodeRefusal) (t : OrderTurn) → told ts (Heard p m) before ≡ said_in t → t.bodies ≡ [] → t.client ≡ 0
 
 abbrev pub ToldSome : Type 0
-ToldSome = (ts : List orders.Terms) (is_ours : ℕ → Bool) (before : orders.History) (p : ℕ) (m : Result Outbound DecodeRefusal) (t : Turn)
+ToldSome = (ts : List orders.Terms) (is_ours : ℕ → Bool) (before : orders.OrderHistory) (p : ℕ) (m : Result Outbound DecodeRefusal) (t : OrderTurn)
     → AreFrom (λ (client : ℕ). is_ours client ≡ true) before → told ts (Heard p m) before ≡ said_in t → (t.bodies ≡ [] → ⊥) → is_ours t.client ≡ true
 
 -- a turn of which it is known how it came about
-module _ (s : Settings) (p n : ℕ) (payload : List ℕ) (bodies : List Message) (v : Lists) (g new : Gate)
-    (none : ToldNone) (some : ToldSome) (parts : Parts s v g)
-    (after : IsAfter (terms s) (heard_turn p payload n bodies None ∷ v.turns) new.orders)
+module _ (s : Settings) (p n : ℕ) (payload : List ℕ) (bodies : List Message) (v : Lists) (g new : Parts)
+    (none : ToldNone) (some : ToldSome) (parts : ArePartsOf s v g)
+    (after : IsAfterTurns (terms s) (heard_turn p payload n bodies None ∷ v.turns) new.orders)
     (headline : Headline (terms s) (heard_turn p payload n bodies None ∷ v.turns))
     (same_clients : new.clients ≡ g.clients) (same_ports : new.ports ≡ g.ports) (same_client_ports : new.client_ports ≡ g.client_ports) where
-  abbrev t : Turn
+  abbrev t : OrderTurn
   t = heard_turn p payload n bodies None
 
   no-client : bodies ≡ [] → n ≡ 0
@@ -51,20 +51,20 @@ module _ (s : Settings) (p n : ℕ) (payload : List ℕ) (bodies : List Message)
           let hasnt : has_client s n ≡ false = ap (λ (k : ℕ). nat_le 1 n && nat_le n k) (sym parts.client_count) ∙ unknown in
           absurd (let clash : true ≡ false = sym has ∙ hasnt in cc)
 
-  told-parts : (m : ℕ) → n ≡ m → Parts s (turned (Some (heard_turn p payload m bodies None)) v) new
+  told-parts : (m : ℕ) → n ≡ m → ArePartsOf s (turned (Some (heard_turn p payload m bodies None)) v) new
   told-parts m is = record {
     clients = rw same_clients parts.clients;
     client_links = rw same_clients parts.client_links;
     ports = rw same_ports parts.ports;
     port_links = rw same_ports parts.port_links;
-    orders = subst (λ (k : ℕ). IsAfter (terms s) (heard_turn p payload k bodies None ∷ v.turns) new.orders) is after;
+    orders = subst (λ (k : ℕ). IsAfterTurns (terms s) (heard_turn p payload k bodies None ∷ v.turns) new.orders) is after;
     client_ports = rw same_client_ports parts.client_ports;
     client_count = rw same_clients parts.client_count;
     port_count = rw same_ports parts.port_count;
     known = (tt, parts.known);
   }
 
-  pub judged : (place : Option ℕ) → is_some place ≡ (nat_le 1 n && nat_le n (length g.clients.items)) → IfSome place (λ (q : ℕ). (n ≡ q + 1) × (q < length g.clients.items)) → IsTold s p payload place bodies v new
+  pub judged : (place : Option ℕ) → is_some place ≡ (nat_le 1 n && nat_le n (length g.clients.items)) → IfSome place (λ (q : ℕ). (n ≡ q + 1) × (q < length g.clients.items)) → PayloadIsTold s p payload place bodies v new
   judged None known at_place =
       let is : bodies ≡ [] = none-told (sym known) in
       record {

@@ -9,10 +9,9 @@ mod Asking
 mod Messages
 mod PortEvents
 mod PortLinks
-mod Given
+mod Delivered
 mod Payloads
 mod Judging
-mod PortFaults
 mod PortPackets
 mod Stepping
 mod Settled

@@ -1,33 +1,33 @@
--- A frame whose message is given up: the batch, and the parts after it.
+-- A frame whose message is delivered: the batch, and the parts after it.
 use Rattle.std.proofs.Common.{◌≡◌, ℕ, true, false, List, [], ◌∷◌, ◌++◌, map, length, Option, Some, None, refl, sym, ap, ◌∙◌, subst, append-nil, eq-eqb}
 use Rattle.std.specs.Prelude.{◌&&◌, is_some}
 use Rattle.std.specs.List.{flat_map}
 use Rattle.fix_types.specs.declared.application.AppMsg.{AppMsg}
 use Rattle.fix_types.specs.Application.{message_fields}
-use Rattle.session_law.specs.Frames.{Told, told_of}
-use Rattle.session_law.specs.Runs.{Timed, Came}
-use Rattle.session_frames.specs.Written.{told}
+use Rattle.session_law.specs.Frames.{ToldLink, told_of_out}
+use Rattle.session_law.specs.Runs.{Timed, OnMessage}
+use Rattle.session_writing.specs.Written.{told_bytes}
 use Rattle.soup_session.specs.declared.port_state.PortState.{PortState}
 use Rattle.soup_session.specs.declared.port_state.PortState.TheVariants.{Down, LoggingIn, Up, Ended, Faulted}
 use Rattle.soup_session.specs.States.{is_open, is_up}
 use Rattle.soup_session.specs.Table as table
 use Rattle.order_law.specs.Headline.{Headline}
 use Rattle.order_law.specs.History as orders
-use Rattle.order_law.specs.Messages.{Message}
-use Rattle.core_law.specs.Settings.{Settings, client_name, has_client, port_of, terms}
-use Rattle.core_law.specs.Events.{ClientMessage, LinkOut, Batch, is_number}
-use Rattle.core_law.specs.Lists.{Lists, turned, client_called, client_called_all}
-use Rattle.core_law.specs.Sessions.{client_answer, client_outs, client_reports, issues, port_outs, port_state, report_of, sends, stands_of, to_port}
-use Rattle.core_law.specs.Outcome.{Outcome, Stays, asked, message_in, messages, outcome}
-use Rattle.core_law.specs.After.{after, closed, with_outcome}
-use Rattle.core_law.specs.Due.{to_client_of, to_port_of, reports_of}
-use Rattle.core_lines.specs.Lines.{ClientsLeave, ClientLinks, PortsLeave, PortLinks}
-use Rattle.gate_core.specs.declared.gate.Gate.{Gate}
-use Rattle.gate_core.specs.declared.gate.messages.Asked.{Asked}
-use Rattle.core_batches.specs.Links.{told_on, unlinked}
-use Rattle.gate_core.specs.State.{AreOpenOnLinks, Parts}
-use Rattle.gate_core.specs.Steps.{IsAsked, OnlyWhileUp, Stepped, after_turn, turn_of}
-use Rattle.core_batches.specs.Batches.{batch_of}
+use Rattle.fix_fields.specs.Field.{Message}
+use Rattle.gate_law.specs.Settings.{Settings, client_name, has_client, port_of, terms}
+use Rattle.gate_law.specs.Events.{ClientMessage, LinkOut, Batch, is_the_number}
+use Rattle.gate_law.specs.Lists.{Lists, turned, client_called, client_called_all}
+use Rattle.gate_law.specs.Sessions.{client_answer, client_outs, client_reports, issues, port_outs, port_state, report_issued, sends, stands_of, to_port}
+use Rattle.gate_law.specs.Outcome.{Outcome, Stays, asked, message_in, messages, outcome}
+use Rattle.gate_law.specs.After.{lists_after, links_closed, with_outcome}
+use Rattle.gate_law.specs.Due.{to_client_of, to_port_of, reports_of}
+use Rattle.gate_sessions.specs.Lines.{ClientsLeave, ClientLinks, PortsLeave, PortLinks}
+use Rattle.gate_core.specs.declared.parts.Parts.{Parts}
+use Rattle.gate_core.specs.declared.parts.client_messages.Asked.{Asked}
+use Rattle.gate_events.specs.Links.{outs_told_on, unlinked}
+use Rattle.gate_core.specs.State.{AreOpenOnLinks, ArePartsOf}
+use Rattle.gate_core.specs.Steps.{IsAsked, OnlyWhileUp, Stepped, after_turn, orders_turn_of}
+use Rattle.gate_events.specs.Batches.{batch_of}
 use Rattle.gate_core.proofs.ClientEvents.{client-called-is}
 use Rattle.gate_core.proofs.Closed.{closed-parts}
 use Rattle.gate_core.proofs.Parted.{port-called-is}
@@ -35,7 +35,7 @@ use Rattle.gate_core.proofs.Told.{client-told, port-told}
 
 -- ---- lists after a turn
 
-after-is : (s : Settings) (n at : ℕ) (t : orders.Turn) (v : Lists) → (w : Lists) × (after_turn s n at t v ≡ w) × (w.client_link ≡ v.client_link) × (w.port_link ≡ v.port_link) × (w.turns ≡ t ∷ v.turns)
+after-is : (s : Settings) (n at : ℕ) (t : orders.OrderTurn) (v : Lists) → (w : Lists) × (after_turn s n at t v ≡ w) × (w.client_link ≡ v.client_link) × (w.port_link ≡ v.port_link) × (w.turns ≡ t ∷ v.turns)
 after-is s n at t v = (
   _,
   port-called-is (port_of s n) (sends at t.sends) (client_called_all n (issues at t.bodies) (turned (Some t) v)),
@@ -44,21 +44,21 @@ after-is s n at t v = (
   ap (λ (w : Lists). w.turns) (client-called-is n (issues at t.bodies) (turned (Some t) v)),
 )
 
-client-links-stay : (s : Settings) (n at : ℕ) (t : orders.Turn) (v : Lists) → (after_turn s n at t v).client_link ≡ v.client_link
+client-links-stay : (s : Settings) (n at : ℕ) (t : orders.OrderTurn) (v : Lists) → (after_turn s n at t v).client_link ≡ v.client_link
 client-links-stay s n at t v = let is = after-is s n at t v in ap (λ (w : Lists). w.client_link) is.1 ∙ is.2
 
-port-links-stay : (s : Settings) (n at : ℕ) (t : orders.Turn) (v : Lists) → (after_turn s n at t v).port_link ≡ v.port_link
+port-links-stay : (s : Settings) (n at : ℕ) (t : orders.OrderTurn) (v : Lists) → (after_turn s n at t v).port_link ≡ v.port_link
 port-links-stay s n at t v = let is = after-is s n at t v in ap (λ (w : Lists). w.port_link) is.1 ∙ is.3
 
-one-turn-more : (s : Settings) (n at : ℕ) (t : orders.Turn) (v : Lists) → (after_turn s n at t v).turns ≡ t ∷ v.turns
+one-turn-more : (s : Settings) (n at : ℕ) (t : orders.OrderTurn) (v : Lists) → (after_turn s n at t v).turns ≡ t ∷ v.turns
 one-turn-more s n at t v = let is = after-is s n at t v in ap (λ (w : Lists). w.turns) is.1 ∙ is.4
 
 -- a call of one's own is the newest
 own-call : (n : ℕ) (call : Timed) (v : Lists) → (client_called n call v).client_calls n ≡ call ∷ v.client_calls n
 own-call n call v = rw (eq-eqb n n refl) refl
 
-no-frame-report : (s : Settings) (n at : ℕ) (frame : Message) (before : List Timed) → report_of s n before (at, Came frame) ≡ []
-unfolding report_of
+no-frame-report : (s : Settings) (n at : ℕ) (frame : Message) (before : List Timed) → report_issued s n before (at, OnMessage frame) ≡ []
+unfolding report_issued
 no-frame-report s n at frame before = refl
 
 -- ---- the messages that are read off the batch
@@ -72,7 +72,7 @@ closed-not-up (Faulted n) e = refl
 
 -- The law that packets have the messages sent, as it is cited
 abbrev pub HaveMessages : Type 0
-HaveMessages = (s : Settings) (p link at : ℕ) (before : List table.Call) (ms : List (List ℕ)) → flat_map message_in (to_port (Some link) (port_outs s p before (sends at ms))) ≡ ms
+HaveMessages = (s : Settings) (p link at : ℕ) (before : List table.PortCall) (ms : List (List ℕ)) → flat_map message_in (to_port (Some link) (port_outs s p before (sends at ms))) ≡ ms
 
 pub messages-read : (s : Settings) (p at : ℕ) (v : Lists) (ms : List (List ℕ)) (outs : List LinkOut) → HaveMessages → AreOpenOnLinks s v → OnlyWhileUp s p v ms
     → outs ≡ to_port (v.port_link p) (port_outs s p (v.port_calls p) (sends at ms)) → flat_map message_in outs ≡ ms
@@ -92,7 +92,7 @@ abbrev asked_with : Settings → ℕ → ℕ → Message → Lists → AppMsg �
 asked_with s client at frame v app bs ms = record {
   client = client;
   client_link = Stays;
-  client_calls = (at, Came frame) ∷ issues at bs;
+  client_calls = (at, OnMessage frame) ∷ issues at bs;
   turn = Some (record {
     event = orders.Came client (message_fields app) (stands_of (port_state s (port_of s client) (v.port_calls (port_of s client))));
     client = client;
@@ -108,14 +108,14 @@ asked_with s client at frame v app bs ms = record {
 
 -- ---- the step
 
-pub asked-step : (s : Settings) (v : Lists) (mid new : Gate) (n link at : ℕ) (frame : Message) (message : AppMsg) (out : Asked) (first : List Told) (client_out port_out : List LinkOut)
-    → HaveMessages → (has_client s n && is_number link (v.client_link n)) ≡ true
-    → (client_answer s n (v.client_calls n) (at, Came frame)).app ≡ Some message
-    → first ≡ map (told_of s.comp (client_name s n)) (client_answer s n (v.client_calls n) (at, Came frame)).outs
+pub asked-step : (s : Settings) (v : Lists) (mid new : Parts) (n link at : ℕ) (frame : Message) (message : AppMsg) (out : Asked) (first : List ToldLink) (client_out port_out : List LinkOut)
+    → HaveMessages → (has_client s n && is_the_number link (v.client_link n)) ≡ true
+    → (client_answer s n (v.client_calls n) (at, OnMessage frame)).app ≡ Some message
+    → first ≡ map (told_of_out s.comp (client_name s n)) (client_answer s n (v.client_calls n) (at, OnMessage frame)).outs
     → AreOpenOnLinks s v
-    → (asked : IsAsked s n at message out (client_called n (at, Came frame) v) mid)
-    → (let x = after_turn s n at (turn_of s n message asked.core v) (client_called n (at, Came frame) v) in
-    client_out ≡ told_on (x.client_link n) first ++ told_on (x.client_link n) (map told out.issues.outs.items)
+    → (asked : IsAsked s n at message out (client_called n (at, OnMessage frame) v) mid)
+    → (let x = after_turn s n at (orders_turn_of s n message asked.core v) (client_called n (at, OnMessage frame) v) in
+    client_out ≡ outs_told_on (x.client_link n) first ++ outs_told_on (x.client_link n) (map told_bytes out.issues.outs.items)
     → port_out ≡ to_port (x.port_link (port_of s n)) out.port_outs.items ++ to_port (x.port_link (port_of s n)) []
     → ClientsLeave s x.client_calls new.clients.items → ClientLinks (unlinked n client_out x.client_link) new.clients.items → length new.clients.items ≡ length mid.clients.items
     → PortsLeave s x.port_calls new.ports.items → PortLinks (unlinked (port_of s n) port_out x.port_link) new.ports.items → length new.ports.items ≡ length mid.ports.items
@@ -123,9 +123,9 @@ pub asked-step : (s : Settings) (v : Lists) (mid new : Gate) (n link at : ℕ) (
     → Stepped s (ClientMessage n link at frame) (batch_of n out.issues.reports.items client_out (port_of s n) port_out None) v new)
 asked-step s v mid new n link at frame message out first client_out port_out have on app said linked asked told_lines told_packets leave links count ports_leave port_links port_count same_client_ports same_orders =
     let p = port_of s n in
-    let call : Timed = (at, Came frame) in
+    let call : Timed = (at, OnMessage frame) in
     let w : Lists = client_called n call v in
-    let t = turn_of s n message asked.core v in
+    let t = orders_turn_of s n message asked.core v in
     let x : Lists = after_turn s n at t w in
     let reports = out.issues.reports.items in
     let b : Batch = batch_of n reports client_out p port_out None in
@@ -140,14 +140,14 @@ asked-step s v mid new n link at frame message out first client_out port_out hav
     rw (on, app) refl
     ∙ ap (λ (bs : List Message). asked_with s n at frame v message bs (messages b)) asked.bodies_are
     ∙ ap (λ (ms : List (List ℕ)). asked_with s n at frame v message t.bodies ms) sent in
-    let left : after s (ClientMessage n link at frame) b v ≡ closed b x = ap (λ (y : Outcome). closed b (with_outcome y v)) is in
+    let left : lists_after s (ClientMessage n link at frame) b v ≡ links_closed b x = ap (λ (y : Outcome). links_closed b (with_outcome y v)) is in
     record {
       gives = record {
         client_out = told_lines
-            ∙ ap (λ (l : ℕ → Option ℕ). told_on (l n) first ++ told_on (l n) (map told out.issues.outs.items)) (client-links-stay s n at t w)
-            ∙ client-told s n (v.client_link n) _ first (map told out.issues.outs.items) (client_answer s n (v.client_calls n) call).outs
+            ∙ ap (λ (l : ℕ → Option ℕ). outs_told_on (l n) first ++ outs_told_on (l n) (map told_bytes out.issues.outs.items)) (client-links-stay s n at t w)
+            ∙ client-told s n (v.client_link n) _ first (map told_bytes out.issues.outs.items) (client_answer s n (v.client_calls n) call).outs
             (client_outs s n (call ∷ v.client_calls n) (issues at t.bodies)) refl said
-            (asked.outs ∙ ap (λ (calls : List Timed). map (told_of s.comp (client_name s n)) (client_outs s n calls (issues at t.bodies))) (own-call n call v))
+            (asked.outs ∙ ap (λ (calls : List Timed). map (told_of_out s.comp (client_name s n)) (client_outs s n calls (issues at t.bodies))) (own-call n call v))
             ∙ ap (λ (y : Outcome). to_client_of s y v) (sym is);
         reports = asked.reports
             ∙ ap (λ (calls : List Timed). client_reports s n calls (issues at t.bodies)) (own-call n call v)
@@ -159,7 +159,7 @@ asked-step s v mid new n link at frame message out first client_out port_out hav
         port = refl;
       };
       asks = rw (on, app) tt;
-      orders = λ holds. subst (λ (y : Lists). Headline (terms s) y.turns) (sym left) (subst (λ (h : orders.History). Headline (terms s) h) (sym (one-turn-more s n at t w)) asked.headline);
-      parts = subst (λ (y : Lists). Parts s y new) (sym left)
+      orders = λ holds. subst (λ (y : Lists). Headline (terms s) y.turns) (sym left) (subst (λ (h : orders.OrderHistory). Headline (terms s) h) (sym (one-turn-more s n at t w)) asked.headline);
+      parts = subst (λ (y : Lists). ArePartsOf s y new) (sym left)
           (closed-parts s n p reports client_out port_out None x mid new asked.parts leave links count ports_leave port_links port_count same_client_ports same_orders);
     }

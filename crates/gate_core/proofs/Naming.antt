@@ -3,59 +3,60 @@ use Rattle.std.proofs.Common.{◌≡◌, ◌==◌, ℕ, ◌<◌, ◌≤◌, Bool
 use Rattle.std.specs.Prelude.{if◌then◌else◌}
 use Rattle.std.proofs.lemmas.Bool.Decides.{nat_tests}
 use Rattle.soup_packets.specs.declared.packet.Packet.{Packet}
+use Rattle.soup_session.specs.declared.port_fault.PortFault.TheVariants.{StrangePacket}
 use Rattle.soup_session.specs.declared.said.Said.{Said}
 use Rattle.soup_session.specs.declared.said.Said.TheVariants as said
 use Rattle.soup_session.specs.Reading.{said_of}
 use Rattle.soup_session.specs.States.{is_logging_in, is_open, is_up}
-use Rattle.soup_session.specs.Table.{Answer, Call, Hears, Standing, Terms, answer_in, arrives, faults, heard_now, hears, passed, quiet, standing, wanted}
-use Rattle.core_law.specs.Settings.{Settings, has_client, has_port, port_of, port_terms}
-use Rattle.core_law.specs.Events.{Batch, ClientGone, ClientMessage, ClientTick, ClientUp, Event, History, PortGone, PortPacket, PortTick, PortUp, is_for_client, is_for_port}
-use Rattle.core_law.specs.Lists.{Lists}
-use Rattle.core_law.specs.Sessions.{port_answer}
-use Rattle.core_law.specs.Outcome.{Outcome, is_known, is_stepped, nothing, outcome}
-use Rattle.core_law.specs.After.{after, is_within, lists, most_events, order_turns}
-use Rattle.core_law.specs.Due.{Gives, client_named, port_named, reports_of, to_client_of, to_port_of}
-use Rattle.core_law.specs.Promises.{IsAmong, Targets, by_token, client_target, port_target}
-use Rattle.core_law.specs.Holds.{Holds, OfTurn}
+use Rattle.soup_session.specs.Table.{PortAnswer, PortCall, OnPacket, PortStanding, LoginTerms, answer_in, arrives, faults, heard_now, on_said, passed, quiet_answer, standing, wanted}
+use Rattle.gate_law.specs.Settings.{Settings, has_client, has_port, port_of, port_terms}
+use Rattle.gate_law.specs.Events.{Batch, ClientGone, ClientMessage, ClientTick, ClientUp, Event, History, PortGone, PortPacket, PortTick, PortUp, is_for_client, is_for_port}
+use Rattle.gate_law.specs.Lists.{Lists}
+use Rattle.gate_law.specs.Sessions.{port_answer}
+use Rattle.gate_law.specs.Outcome.{Outcome, is_known, is_stepped, nothing, outcome}
+use Rattle.gate_law.specs.After.{lists_after, is_within_day, lists, most_events, order_turns}
+use Rattle.gate_law.specs.Due.{Gives, client_named, port_named, reports_of, to_client_of, to_port_of}
+use Rattle.gate_law.specs.Promises.{IsAmong, Targets, by_token, client_target, port_target}
+use Rattle.gate_law.specs.Holds.{Holds, OfTurn}
 use Rattle.gate_core.specs.Core.{CoreState, IsAfter}
-use Rattle.gate_core.specs.State.{Parts}
+use Rattle.gate_core.specs.State.{ArePartsOf}
 use Rattle.gate_core.specs.Targets.{client_for, payloads_client, port_for}
 use Rattle.gate_core.proofs.ClientEvents.{no-client-lines, no-port-lines, not-stepped-outcome}
-use Rattle.gate_core.proofs.Given.{logs-none, none-if}
+use Rattle.gate_core.proofs.Delivered.{logs-none, none-if}
 use Rattle.gate_core.proofs.Stepping.{AreFewTurns}
 
 -- ---- a payload that is given is the packet's own
 
-abbrev IsOwn : List ℕ → Answer → Type 0
+abbrev IsOwn : List ℕ → PortAnswer → Type 0
 IsOwn p a = (m : List ℕ) → a.payload ≡ Some m → m ≡ p
 
-none-own : (p : List ℕ) (a : Answer) → a.payload ≡ None → IsOwn p a
+none-own : (p : List ℕ) (a : PortAnswer) → a.payload ≡ None → IsOwn p a
 none-own p a none m some = absurd (cc)
 
-own-if : (p : List ℕ) (b : Bool) (x y : Answer) → IsOwn p x → IsOwn p y → IsOwn p (if b then x else y)
+own-if : (p : List ℕ) (b : Bool) (x y : PortAnswer) → IsOwn p x → IsOwn p y → IsOwn p (if b then x else y)
 own-if p true x y f g = f
 own-if p false x y f g = g
 
-arrives-own : (s : Standing) (p : List ℕ) → IsOwn p (arrives s p)
+arrives-own : (s : PortStanding) (p : List ℕ) → IsOwn p (arrives s p)
 arrives-own s p m some = by_number (s.number == wanted s) some
   where
     by_number : (b : Bool) → (if b then Some p else None) ≡ Some m → m ≡ p
     by_number true e = cc
     by_number false e = absurd (cc)
 
-hears-own : (s : Standing) (p : List ℕ) (x : Said) → IsOwn p (hears s p x)
-hears-own s p (said.Accepted session number) = none-own p (hears s p (said.Accepted session number)) (none-if (is_logging_in s.state) _ _ (logs-none s session number) refl)
-hears-own s p said.Rejected = none-own p (hears s p said.Rejected) (none-if (is_logging_in s.state) _ _ refl refl)
-hears-own s p said.Sequenced = own-if p (is_up s.state) _ _ (arrives-own s p) (none-own p (faults 1 s) refl)
-hears-own s p said.Nothing = none-own p (hears s p said.Nothing) refl
-hears-own s p said.End = none-own p (hears s p said.End) refl
-hears-own s p said.Strange = none-own p (hears s p said.Strange) refl
+hears-own : (s : PortStanding) (p : List ℕ) (x : Said) → IsOwn p (on_said s p x)
+hears-own s p (said.Accepted session number) = none-own p (on_said s p (said.Accepted session number)) (none-if (is_logging_in s.state) _ _ (logs-none s session number) refl)
+hears-own s p said.Rejected = none-own p (on_said s p said.Rejected) (none-if (is_logging_in s.state) _ _ refl refl)
+hears-own s p said.Sequenced = own-if p (is_up s.state) _ _ (arrives-own s p) (none-own p (faults StrangePacket s) refl)
+hears-own s p said.Nothing = none-own p (on_said s p said.Nothing) refl
+hears-own s p said.End = none-own p (on_said s p said.End) refl
+hears-own s p said.Strange = none-own p (on_said s p said.Strange) refl
 
-packet-own : (terms : Terms) (s : Standing) (packet : Packet) (at : ℕ) → IsOwn packet.payload (answer_in terms s (Hears packet at))
+packet-own : (terms : LoginTerms) (s : PortStanding) (packet : Packet) (at : ℕ) → IsOwn packet.payload (answer_in terms s (OnPacket packet at))
 packet-own terms s packet at =
-    own-if packet.payload (is_open s.state) _ _ (hears-own (heard_now (passed at s)) packet.payload (said_of packet)) (none-own packet.payload (quiet (passed at s)) refl)
+    own-if packet.payload (is_open s.state) _ _ (hears-own (heard_now (passed at s)) packet.payload (said_of packet)) (none-own packet.payload (quiet_answer (passed at s)) refl)
 
-given-own : (s : Settings) (p : ℕ) (before : List Call) (packet : Packet) (at : ℕ) → IsOwn packet.payload (port_answer s p before (Hears packet at))
+given-own : (s : Settings) (p : ℕ) (before : List PortCall) (packet : Packet) (at : ℕ) → IsOwn packet.payload (port_answer s p before (OnPacket packet at))
 unfolding port_answer
 given-own s p before packet at = packet-own (port_terms s p) (standing (port_terms s p) before) packet at
 
@@ -99,7 +100,7 @@ client-among s (ClientGone client link at) b v gives is = among-known (has_clien
 client-among s (ClientTick client at) b v gives is = among-known (has_client s client) b.client client (λ no. (none-named s (ClientTick client at) b v no gives).0) is
 client-among s (PortUp p link at) b v gives is = is
 client-among s (PortPacket p link at packet) b v gives is =
-    by-payload s p packet v b.client _ (port_answer s p (v.port_calls p) (Hears packet at)).payload (given-own s p (v.port_calls p) packet at) refl is
+    by-payload s p packet v b.client _ (port_answer s p (v.port_calls p) (OnPacket packet at)).payload (given-own s p (v.port_calls p) packet at) refl is
 client-among s (PortGone p link at) b v gives is = is
 client-among s (PortTick p at) b v gives is = is
 
@@ -117,7 +118,7 @@ port-among s (PortTick p at) b v gives is = among-known (has_port s p) b.port p 
 -- of every history that has its promises
 pub names-targets : (s : Settings) (before : History) (e : Event) (b : Batch) → Holds s (record { event = e; batch = b } ∷ before)
     → IsAmong b.client (client_for s e (lists s before)) × IsAmong b.port (port_for s e)
-names-targets s before e b holds = by_limit (is_within before) holds.run.0 holds.targets.0
+names-targets s before e b holds = by_limit (is_within_day before) holds.run.0 holds.targets.0
   where
     v : Lists
     v = lists s before
@@ -130,15 +131,15 @@ names-targets s before e b holds = by_limit (is_within before) holds.run.0 holds
 
 pub turns-few : AreFewTurns → (s : Settings) (h : History) → length (order_turns s h) ≤ most_events
 turns-few few s [] = omega (arith)
-turns-few few s (t ∷ before) = by_limit (is_within before) refl (turns-few few s before)
+turns-few few s (t ∷ before) = by_limit (is_within_day before) refl (turns-few few s before)
   where
-    by_limit : (w : Bool) → is_within before ≡ w → length (order_turns s before) ≤ most_events → length (order_turns s (t ∷ before)) ≤ most_events
+    by_limit : (w : Bool) → is_within_day before ≡ w → length (order_turns s before) ≤ most_events → length (order_turns s (t ∷ before)) ≤ most_events
     by_limit true e rest =
         let at_most : length (order_turns s (t ∷ before)) ≤ length (t ∷ before) = few s (t ∷ before) in
         let count : length before < most_events = grind (arith, nat_tests, e) in
         omega (arith, at_most, count)
-    by_limit false e rest = subst (λ (w : Bool). length (if w then after s t.event t.batch (lists s before) else lists s before).turns ≤ most_events) (sym e) rest
+    by_limit false e rest = subst (λ (w : Bool). length (if w then lists_after s t.event t.batch (lists s before) else lists s before).turns ≤ most_events) (sym e) rest
 
-pub parts-of : (s : Settings) (h : History) (c : CoreState) → IsAfter s h c → Parts s (lists s h) c.gate
+pub parts-of : (s : Settings) (h : History) (c : CoreState) → IsAfter s h c → ArePartsOf s (lists s h) c.parts
 unfolding IsAfter
 parts-of s h c is = is.parts

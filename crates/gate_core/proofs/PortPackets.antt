@@ -1,73 +1,66 @@
--- A port's packet of which the session gives no payload up.
-use Rattle.std.proofs.Common.{◌≡◌, ℕ, Bool, true, false, List, [], ◌∷◌, ◌++◌, length, Option, Some, None, is_some, refl, sym, ap, ◌∙◌, eqb-true, eq-eqb, subst}
+-- A port's packet of which the session delivers no payload.
+use Rattle.std.proofs.Common.{◌≡◌, ℕ, Bool, true, false, List, [], ◌∷◌, ◌++◌, length, Option, Some, None, refl, sym, ap, ◌∙◌, eqb-true, eq-eqb, subst}
 use Rattle.std.specs.Prelude.{◌&&◌, if◌then◌else◌}
 use Rattle.std.specs.List.{flat_map}
 use Rattle.soup_packets.specs.declared.packet.Packet.{Packet}
+use Rattle.soup_session.specs.declared.port_fault.PortFault.{PortFault}
 use Rattle.soup_session.specs.declared.port_state.PortState.{PortState}
 use Rattle.soup_session.specs.declared.port_turn.PortOut.{PortOut}
 use Rattle.soup_session.specs.declared.port_turn.PortTurn.{PortTurn}
 use Rattle.soup_session.specs.States.{is_up}
-use Rattle.soup_session.specs.Table.{Call, Hears, Answer}
+use Rattle.soup_session.specs.Table.{PortCall, OnPacket, PortAnswer}
 use Rattle.soup_session.specs.Calls.{IsAnswer}
-use Rattle.core_law.specs.Settings.{Settings, has_port}
-use Rattle.core_law.specs.Events.{Event, PortPacket, LinkOut, Batch, is_number}
-use Rattle.core_law.specs.Lists.{Lists, port_called}
-use Rattle.core_law.specs.Sessions.{port_answer, port_outs, port_state, sends, to_port, fault_in}
-use Rattle.core_law.specs.Outcome.{Stays, message_in, messages, by_event, by_payload, nothing}
-use Rattle.core_law.specs.Promises.{AsksAgain, comes_up, is_given_up}
-use Rattle.core_lines.specs.Lines.{PortsLeave, PortLinks, called, called_all}
-use Rattle.gate_core.specs.declared.gate.Gate.{Gate}
-use Rattle.core_batches.specs.Links.{unlinked}
-use Rattle.gate_core.specs.Steps.{IsGiven, Ready, Stepped}
-use Rattle.core_batches.specs.Batches.{batch_of}
+use Rattle.gate_law.specs.Settings.{Settings, has_port}
+use Rattle.gate_law.specs.Events.{Event, PortPacket, LinkOut, Batch, is_the_number}
+use Rattle.gate_law.specs.Lists.{Lists, port_called}
+use Rattle.gate_law.specs.Sessions.{port_answer, port_outs, port_state, sends, to_port, fault_in}
+use Rattle.gate_law.specs.Outcome.{Stays, message_in, messages, by_event, by_payload, nothing}
+use Rattle.gate_law.specs.Promises.{AsksAgain, comes_up, delivers_message}
+use Rattle.gate_sessions.specs.Lines.{PortsLeave, PortLinks, called, called_all}
+use Rattle.gate_core.specs.declared.parts.Parts.{Parts}
+use Rattle.gate_events.specs.Links.{unlinked}
+use Rattle.gate_core.specs.Steps.{AfterPacket, Ready, Stepped}
+use Rattle.gate_events.specs.Batches.{batch_of}
 use Rattle.gate_core.specs.Hearing.{IsSentAgain, AreDue, came_up}
 use Rattle.gate_core.proofs.Told.{port-told}
 use Rattle.gate_core.proofs.Parted.{ports-parts}
 use Rattle.gate_core.proofs.PortEvents.{port-event, by_port}
 use Rattle.gate_core.proofs.PortLinks.{ReadsSent}
-use Rattle.gate_core.proofs.PortFaults.{HasFaultWithin, packet-within}
 
 pub comes-up : (stood stands : PortState) → is_up stood ≡ false → is_up stands ≡ true → came_up stood stands ≡ true
 comes-up stood stands before now = rw (before, now) refl
 
 -- ---- the step
 
-state-after : (s : Settings) (p : ℕ) (before : List Call) (c : Call) → port_state s p (c ∷ before) ≡ (port_answer s p before c).after.state
+state-after : (s : Settings) (p : ℕ) (before : List PortCall) (c : PortCall) → port_state s p (c ∷ before) ≡ (port_answer s p before c).after.state
 unfolding port_state port_answer
 state-after s p before c = refl
 
-called-here : (p : ℕ) (c : Call) (v : Lists) → (port_called p c v).port_calls p ≡ c ∷ v.port_calls p
+called-here : (p : ℕ) (c : PortCall) (v : Lists) → (port_called p c v).port_calls p ≡ c ∷ v.port_calls p
 called-here p c v = ap (λ (w : Bool). if w then c ∷ v.port_calls p else v.port_calls p) (eq-eqb p p refl)
 
 -- how the port stands after the call
-stands-after : (s : Settings) (p : ℕ) (c : Call) (v : Lists) → port_state s p ((port_called p c v).port_calls p) ≡ (port_answer s p (v.port_calls p) c).after.state
+stands-after : (s : Settings) (p : ℕ) (c : PortCall) (v : Lists) → port_state s p ((port_called p c v).port_calls p) ≡ (port_answer s p (v.port_calls p) c).after.state
 stands-after s p c v = ap (port_state s p) (called-here p c v) ∙ state-after s p (v.port_calls p) c
 
 -- what is due after the call is what the event asks
-asks-due : (up : Bool) (s : Settings) (p : ℕ) (c : Call) (v : Lists) (ms : List (List ℕ)) (b : Batch) → messages b ≡ ms → AreDue up s p (port_called p c v) ms → AsksAgain up s p false b v
+asks-due : (up : Bool) (s : Settings) (p : ℕ) (c : PortCall) (v : Lists) (ms : List (List ℕ)) (b : Batch) → messages b ≡ ms → AreDue up s p (port_called p c v) ms → AsksAgain up s p false b v
 asks-due true s p c v ms b is due = subst (λ (m : List (List ℕ)). AreDue true s p v m) (sym is) due
 asks-due false s p c v ms b is due = is ∙ due
 
 -- a link that is the current one
-current-is : (has : Bool) (link : ℕ) (current : Option ℕ) → (has && is_number link current) ≡ true → current ≡ Some link
+current-is : (has : Bool) (link : ℕ) (current : Option ℕ) → (has && is_the_number link current) ≡ true → current ≡ Some link
 current-is true link (Some current) on = ap Some (eqb-true current link on)
 current-is true link None on = absurd (cc)
 current-is false link current on = absurd (cc)
 
--- a port that heard a packet on its current link has no fault, or one from 1 to 6
-pub heard-fault : (s : Settings) (v : Lists) (p link at : ℕ) (packet : Packet) (payload : Option (List ℕ)) (said : List PortOut) (g : Gate) → IsGiven s p link at packet payload said v g
-    → HasFaultWithin (port_state s p ((port_called p (Hears packet at) v).port_calls p))
-heard-fault s v p link at packet payload said g given =
-    subst HasFaultWithin (sym (stands-after s p (Hears packet at) v))
-    (packet-within s p (v.port_calls p) packet at (given.linked p ∙ ap is_some (current-is (has_port s p) link (v.port_link p) given.on)))
-
-pub port-heard : ReadsSent → (s : Settings) (v : Lists) (p link at : ℕ) (packet : Packet) (stood : PortState) (said more : List PortOut) (fault : Option ℕ) (outs : List LinkOut) (heard g new : Gate)
-    → IsGiven s p link at packet None said v heard
+pub port-heard : ReadsSent → (s : Settings) (v : Lists) (p link at : ℕ) (packet : Packet) (stood : PortState) (said more : List PortOut) (fault : Option PortFault) (outs : List LinkOut) (heard g new : Parts)
+    → AfterPacket s p link at packet None said v heard
     → stood ≡ port_state s p (v.port_calls p)
-    → (again : IsSentAgain s p at stood more (port_called p (Hears packet at) v) g)
-    → fault ≡ fault_in (port_state s p ((port_called p (Hears packet at) v).port_calls p))
+    → (again : IsSentAgain s p at stood more (port_called p (OnPacket packet at) v) g)
+    → fault ≡ fault_in (port_state s p ((port_called p (OnPacket packet at) v).port_calls p))
     → outs ≡ to_port (v.port_link p) said ++ to_port (v.port_link p) more
-    → PortsLeave s (called_all p (Hears packet at ∷ sends at again.messages) v.port_calls) new.ports.items
+    → PortsLeave s (called_all p (OnPacket packet at ∷ sends at again.messages) v.port_calls) new.ports.items
     → PortLinks (unlinked p outs v.port_link) new.ports.items
     → length new.ports.items ≡ length g.ports.items
     → new.clients ≡ g.clients → new.client_ports ≡ g.client_ports → new.orders ≡ g.orders
@@ -75,12 +68,12 @@ pub port-heard : ReadsSent → (s : Settings) (v : Lists) (p link at : ℕ) (pac
 port-heard reads s v p link at packet stood said more fault outs heard g new given before again fault_is told leave links count same_clients same_client_ports same_orders =
     let e : Event = PortPacket p link at packet in
     let b : Batch = batch_of 0 [] [] p outs fault in
-    let c : Call = Hears packet at in
+    let c : PortCall = OnPacket packet at in
     let ms = again.messages in
-    let a : Answer = port_answer s p (v.port_calls p) c in
+    let a : PortAnswer = port_answer s p (v.port_calls p) c in
     let lines : outs ≡ to_port (v.port_link p) (port_outs s p (v.port_calls p) (c ∷ sends at ms)) =
     port-told (v.port_link p) outs said more a.outs (port_outs s p (c ∷ v.port_calls p) (sends at ms)) told given.said_is
-    (again.sent.outs_are ∙ ap (λ (calls : List Call). port_outs s p calls (sends at ms)) (called-here p c v)) in
+    (again.sent.outs_are ∙ ap (λ (calls : List PortCall). port_outs s p calls (sends at ms)) (called-here p c v)) in
     let asked : messages b ≡ ms =
     ap (flat_map message_in) (lines ∙ ap (λ (l : Option ℕ). to_port l (port_outs s p (v.port_calls p) (c ∷ sends at ms))) (current-is (has_port s p) link (v.port_link p) given.on))
     ∙ reads s p link at (v.port_calls p) c ms refl in
@@ -93,27 +86,27 @@ port-heard reads s v p link at packet stood said more fault outs heard g new giv
     ∙ ap (λ (m : List (List ℕ)). by_port p Stays (c ∷ sends at m) (fault_in a.after.state)) asked
     ∙ ap (by_port p Stays (c ∷ sends at ms)) (sym (fault_is ∙ ap fault_in (stands-after s p c v))))
     lines
-    (subst (λ (w : Bool). AsksAgain (w && comes_up s e v) s p (w && is_given_up s e v) b v) (sym given.on)
+    (subst (λ (w : Bool). AsksAgain (w && comes_up s e v) s p (w && delivers_message s e v) b v) (sym given.on)
     (subst (λ (up : Bool). AsksAgain up s p false b v) came
     (asks-due (came_up stood (port_state s p ((port_called p c v).port_calls p))) s p c v ms b asked again.due)))
     refl (c ∷ sends at ms) again.sent.parts leave links count same_clients same_client_ports same_orders
 
 -- ---- what is known once the session heard a packet
 
-pub is-given : (s : Settings) (v : Lists) (p link at : ℕ) (packet : Packet) (turn : PortTurn) (g new : Gate)
-    → (has_port s p && is_number link (v.port_link p)) ≡ true
-    → IsAnswer (port_answer s p (v.port_calls p) (Hears packet at)) turn
+pub after-packet : (s : Settings) (v : Lists) (p link at : ℕ) (packet : Packet) (turn : PortTurn) (g new : Parts)
+    → (has_port s p && is_the_number link (v.port_link p)) ≡ true
+    → IsAnswer (port_answer s p (v.port_calls p) (OnPacket packet at)) turn
     → Ready s v g
-    → PortsLeave s (called p (Hears packet at) v.port_calls) new.ports.items
+    → PortsLeave s (called p (OnPacket packet at) v.port_calls) new.ports.items
     → PortLinks v.port_link new.ports.items
     → length new.ports.items ≡ length g.ports.items
     → new.clients ≡ g.clients → new.client_ports ≡ g.client_ports → new.orders ≡ g.orders
-    → IsGiven s p link at packet turn.payload turn.outs.items v new
-is-given s v p link at packet turn g new on answer ready leave links count same_clients same_client_ports same_orders = record {
+    → AfterPacket s p link at packet turn.payload turn.outs.items v new
+after-packet s v p link at packet turn g new on answer ready leave links count same_clients same_client_ports same_orders = record {
   on = on;
   payload_is = sym answer.payload;
   said_is = answer.outs;
   linked = ready.linked;
   few = ready.few;
-  parts = ports-parts s p (Hears packet at ∷ []) v g new ready.parts leave links count same_clients same_client_ports same_orders;
+  parts = ports-parts s p (OnPacket packet at ∷ []) v g new ready.parts leave links count same_clients same_client_ports same_orders;
 }

@@ -5,11 +5,11 @@ use Rattle.std.proofs.lemmas.List.{length_push}
 use Rattle.std.proofs.lemmas.Option.{none-some, same_Some, slice_get-map, slice_get_read, get_or_from_slice_get}
 use Rattle.std.specs.Prelude.{Option, slice_get, option_map, unwrap_or, ◌==◌}
 use Rattle.order_law.specs.History.{Terms, terms_of}
-use Rattle.core_law.specs.Settings.{ClientSettings, Settings, client_name, port_of}
-use Rattle.core_settings.specs.Kept.{IsOnPort}
-use Rattle.core_lines.specs.declared.client_line.ClientLine.{ClientLine}
-use Rattle.core_lines.specs.Leaving.{ClientLeaves}
-use Rattle.core_lines.specs.Lines.{ClientsLeave, ClientLinks}
+use Rattle.gate_law.specs.Settings.{ClientSettings, Settings, client_name, port_of}
+use Rattle.gate_settings.specs.Kept.{IsOnPort}
+use Rattle.gate_sessions.specs.declared.client_line.ClientLine.{ClientLine}
+use Rattle.gate_sessions.specs.Leaving.{ClientLeaves}
+use Rattle.gate_sessions.specs.Lines.{ClientsLeave, ClientLinks}
 use Rattle.gate_core.specs.State.{ArePortsOf, AreAmong}
 
 -- what holds of each element and its place holds with one element more

@@ -4,22 +4,22 @@ use Rattle.std.specs.Prelude.{if◌then◌else◌, nat_lt}
 use Rattle.std.proofs.lemmas.Bool.Decides.{nat_tests}
 use Rattle.soup_session.specs.States.{is_open}
 use Rattle.order_law.specs.Headline.{Headline}
-use Rattle.core_law.specs.Settings.{Settings, terms}
-use Rattle.core_law.specs.Events.{Event, Batch, History, Turn, empty}
-use Rattle.core_law.specs.Lists.{Lists}
-use Rattle.core_law.specs.Sessions.{port_state}
-use Rattle.core_law.specs.After.{after, is_within, lists, most_events, order_turns}
-use Rattle.core_law.specs.Due.{Gives}
-use Rattle.core_law.specs.Promises.{Asks}
-use Rattle.core_law.specs.Holds.{Holds, IsRun}
-use Rattle.gate_core.specs.declared.gate.Gate.{Gate}
+use Rattle.gate_law.specs.Settings.{Settings, terms}
+use Rattle.gate_law.specs.Events.{Event, Batch, History, Turn, empty}
+use Rattle.gate_law.specs.Lists.{Lists}
+use Rattle.gate_law.specs.Sessions.{port_state}
+use Rattle.gate_law.specs.After.{lists_after, is_within_day, lists, most_events, order_turns}
+use Rattle.gate_law.specs.Due.{Gives}
+use Rattle.gate_law.specs.Promises.{Asks}
+use Rattle.gate_law.specs.Holds.{Holds, IsRun}
+use Rattle.gate_core.specs.declared.parts.Parts.{Parts}
 use Rattle.gate_core.specs.Core.{CoreState, IsAfter, stepped}
-use Rattle.gate_core.specs.State.{AreAmong, HasNumbers, IsShaped, Parts}
+use Rattle.gate_core.specs.State.{AreAmong, HasNumbers, IsShaped, ArePartsOf}
 use Rattle.gate_core.specs.Steps.{Grows, Ready, Stepped}
 
 -- ---- what every step keeps
 
-pub shaped-still : (numbers packets : ℕ) (old new : Gate) → Grows numbers packets old new → IsShaped old → IsShaped new
+pub shaped-still : (numbers packets : ℕ) (old new : Parts) → Grows numbers packets old new → IsShaped old → IsShaped new
 shaped-still numbers packets old new grows shaped = record {
   client_ports = ap (λ (ports : List ℕ). length ports) same ∙ shaped.client_ports ∙ sym grows.clients;
   among = subst (λ (count : ℕ). AreAmong count new.client_ports.items) (sym grows.ports) (subst (λ (ports : List ℕ). AreAmong (length old.ports.items) ports) (sym same) shaped.among);
@@ -31,7 +31,7 @@ shaped-still numbers packets old new grows shaped = record {
     same : new.client_ports.items ≡ old.client_ports.items
     same = rw grows.client_ports refl
 
-pub numbers-still : (events : ℕ) (old new : Gate) → Grows 3 1 old new → HasNumbers events old → HasNumbers (events + 1) new
+pub numbers-still : (events : ℕ) (old new : Parts) → Grows 3 1 old new → HasNumbers events old → HasNumbers (events + 1) new
 numbers-still events old new grows has = record {
   issued = omega (arith, grows.issued, has.issued);
   next = grows.next (events + 1) has.next;
@@ -47,46 +47,46 @@ still-few events few other = by_test (nat_lt events most_events) refl
 
 -- ---- how many events were stepped
 
-within-of : (h : History) (w : Bool) → is_within h ≡ w → (if w then length h else most_events) ≡ stepped h
+within-of : (h : History) (w : Bool) → is_within_day h ≡ w → (if w then length h else most_events) ≡ stepped h
 within-of h w is = ap (λ (x : Bool). if x then length h else most_events) (sym is)
 
 -- at the limit nothing more is stepped
-at-limit : (h : History) → most_events ≡ stepped h → is_within h ≡ false
-at-limit h is = by_test (is_within h) refl
+at-limit : (h : History) → most_events ≡ stepped h → is_within_day h ≡ false
+at-limit h is = by_test (is_within_day h) refl
   where
-    by_test : (w : Bool) → is_within h ≡ w → w ≡ false
+    by_test : (w : Bool) → is_within_day h ≡ w → w ≡ false
     by_test false e = refl
     by_test true e =
         let count : most_events ≡ length h = is ∙ sym (within-of h true e) in
         absurd (grind (arith, nat_tests, count, e))
 
 -- and below it every event is
-below-limit : (h : History) (events : ℕ) → events ≡ stepped h → (events ≡ most_events → ⊥) → is_within h ≡ true
-below-limit h events is other = by_test (is_within h) refl
+below-limit : (h : History) (events : ℕ) → events ≡ stepped h → (events ≡ most_events → ⊥) → is_within_day h ≡ true
+below-limit h events is other = by_test (is_within_day h) refl
   where
-    by_test : (w : Bool) → is_within h ≡ w → w ≡ true
+    by_test : (w : Bool) → is_within_day h ≡ w → w ≡ true
     by_test true e = refl
     by_test false e = absurd (other (is ∙ sym (within-of h false e)))
 
-past-count : (h : History) (t : Turn) → is_within h ≡ false → most_events ≡ stepped (t ∷ h)
+past-count : (h : History) (t : Turn) → is_within_day h ≡ false → most_events ≡ stepped (t ∷ h)
 past-count h t e =
-    let past : is_within (t ∷ h) ≡ false = grind (arith, nat_tests, e) in
+    let past : is_within_day (t ∷ h) ≡ false = grind (arith, nat_tests, e) in
     within-of (t ∷ h) false past
 
-more-count : (h : History) (t : Turn) (events : ℕ) → is_within h ≡ true → events ≡ stepped h → events + 1 ≡ stepped (t ∷ h)
-more-count h t events e is = by_test (is_within (t ∷ h)) refl
+more-count : (h : History) (t : Turn) (events : ℕ) → is_within_day h ≡ true → events ≡ stepped h → events + 1 ≡ stepped (t ∷ h)
+more-count h t events e is = by_test (is_within_day (t ∷ h)) refl
   where
     count : events ≡ length h
     count = is ∙ sym (within-of h true e)
 
-    by_test : (w : Bool) → is_within (t ∷ h) ≡ w → events + 1 ≡ stepped (t ∷ h)
+    by_test : (w : Bool) → is_within_day (t ∷ h) ≡ w → events + 1 ≡ stepped (t ∷ h)
     by_test true more = omega (arith, count) ∙ within-of (t ∷ h) true more
     by_test false more = (let last : events + 1 ≡ most_events = grind (arith, nat_tests, count, e, more) in last) ∙ within-of (t ∷ h) false more
 
 -- ---- an event past the limit
 
 abbrev pub PastKeeps : Type 0
-PastKeeps = (s : Settings) (h : History) (e : Event) → is_within h ≡ false → Holds s h → Holds s (record { event = e; batch = empty } ∷ h)
+PastKeeps = (s : Settings) (h : History) (e : Event) → is_within_day h ≡ false → Holds s h → Holds s (record { event = e; batch = empty } ∷ h)
 
 pub past-step : (s : Settings) (h : History) (c : CoreState) (e : Event) (b : Batch) → PastKeeps → c.events ≡ most_events → b ≡ empty → IsAfter s h c
     → (let t : Turn = record { event = e; batch = b } in IsAfter s (t ∷ h) c × Holds s (t ∷ h))
@@ -97,7 +97,7 @@ past-step s h c e b keeps limit none is =
     let holds : Holds s (t ∷ h) = subst (λ (x : Batch). Holds s (record { event = e; batch = x } ∷ h)) (sym none) (keeps s h e past is.holds) in (
       record {
         holds = holds;
-        parts = subst (λ (w : Bool). Parts s (if w then after s e b (lists s h) else lists s h) c.gate) (sym past) is.parts;
+        parts = subst (λ (w : Bool). ArePartsOf s (if w then lists_after s e b (lists s h) else lists s h) c.parts) (sym past) is.parts;
         count = limit ∙ past-count h t past;
       },
       holds,
@@ -106,7 +106,7 @@ past-step s h c e b keeps limit none is =
 -- ---- an event that is stepped
 
 abbrev pub StepKeeps : Type 0
-StepKeeps = (s : Settings) (h : History) (e : Event) (b : Batch) → is_within h ≡ true → Holds s h → Gives s e b (lists s h) → Asks s e b (lists s h)
+StepKeeps = (s : Settings) (h : History) (e : Event) (b : Batch) → is_within_day h ≡ true → Holds s h → Gives s e b (lists s h) → Asks s e b (lists s h)
     → Headline (terms s) (order_turns s (record { event = e; batch = b } ∷ h)) → Holds s (record { event = e; batch = b } ∷ h)
 
 abbrev pub AreLinked : Type 0
@@ -116,7 +116,7 @@ abbrev pub AreFewTurns : Type 0
 AreFewTurns = (s : Settings) (h : History) → length (order_turns s h) ≤ length h
 
 pub next-step : (s : Settings) (h : History) (c new : CoreState) (e : Event) (b : Batch) → StepKeeps → AreLinked → AreFewTurns → (c.events ≡ most_events → ⊥) → IsAfter s h c
-    → ((v : Lists) → Ready s v c.gate → Stepped s e b v new.gate) → new.events ≡ c.events + 1
+    → ((v : Lists) → Ready s v c.parts → Stepped s e b v new.parts) → new.events ≡ c.events + 1
     → (let t : Turn = record { event = e; batch = b } in IsAfter s (t ∷ h) new × Holds s (t ∷ h))
 unfolding IsAfter
 next-step s h c new e b keeps linked few other is steps one_more =
@@ -124,13 +124,13 @@ next-step s h c new e b keeps linked few other is steps one_more =
     let within = below-limit h c.events is.count other in
     let count : length h < most_events = grind (arith, nat_tests, within) in
     let turns : length (lists s h).turns < 2 ^ 58 = omega (arith, count, few s h) in
-    let ready : Ready s (lists s h) c.gate = record { parts = is.parts; linked = linked s h is.holds.run; few = turns } in
+    let ready : Ready s (lists s h) c.parts = record { parts = is.parts; linked = linked s h is.holds.run; few = turns } in
     let step = steps (lists s h) ready in
-    let headline = subst (λ (w : Bool). Headline (terms s) (if w then after s e b (lists s h) else lists s h).turns) (sym within) (step.orders is.holds.orders) in
+    let headline = subst (λ (w : Bool). Headline (terms s) (if w then lists_after s e b (lists s h) else lists s h).turns) (sym within) (step.orders is.holds.orders) in
     let holds : Holds s (t ∷ h) = keeps s h e b within is.holds step.gives step.asks headline in (
       record {
         holds = holds;
-        parts = subst (λ (w : Bool). Parts s (if w then after s e b (lists s h) else lists s h) new.gate) (sym within) step.parts;
+        parts = subst (λ (w : Bool). ArePartsOf s (if w then lists_after s e b (lists s h) else lists s h) new.parts) (sym within) step.parts;
         count = one_more ∙ more-count h t c.events within is.count;
       },
       holds,
@@ -138,7 +138,7 @@ next-step s h c new e b keeps linked few other is steps one_more =
 
 -- ---- the first state, and what is known of every one
 
-pub first-state : (s : Settings) (c : CoreState) → ((t : Settings) → Headline (terms t) [] → Holds t []) → Parts s (lists s []) c.gate → c.events ≡ 0 → IsAfter s [] c
+pub first-state : (s : Settings) (c : CoreState) → ((t : Settings) → Headline (terms t) [] → Holds t []) → ArePartsOf s (lists s []) c.parts → c.events ≡ 0 → IsAfter s [] c
 unfolding IsAfter
 first-state s c first parts none = record { holds = first s tt; parts = parts; count = none }
 

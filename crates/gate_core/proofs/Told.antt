@@ -5,34 +5,34 @@ use Rattle.std.proofs.lemmas.Simd.{map-map}
 use Rattle.std.proofs.Math.Dec.{eqb-suc-zero}
 use Rattle.std.specs.Prelude.{◌&&◌, if◌then◌else◌}
 use Rattle.session_law.specs.declared.frame.Out.{Out}
-use Rattle.session_law.specs.Frames.{Told, told_of}
+use Rattle.session_law.specs.Frames.{ToldLink, told_of_out}
 use Rattle.soup_session.specs.declared.port_turn.PortOut.{PortOut}
-use Rattle.order_law.specs.Messages.{Message}
-use Rattle.core_law.specs.Settings.{Settings, client_name}
-use Rattle.core_law.specs.Events.{LinkOut, is_number}
-use Rattle.core_law.specs.Sessions.{to_client, to_port, to_link, port_line}
-use Rattle.core_law.specs.After.{unless_closed}
-use Rattle.core_batches.specs.Links.{told_on, unlinked}
+use Rattle.fix_fields.specs.Field.{Message}
+use Rattle.gate_law.specs.Settings.{Settings, client_name}
+use Rattle.gate_law.specs.Events.{LinkOut, is_the_number}
+use Rattle.gate_law.specs.Sessions.{to_client, to_port, to_link, port_line}
+use Rattle.gate_law.specs.After.{unless_closed}
+use Rattle.gate_events.specs.Links.{outs_told_on, unlinked}
 
 -- ---- what goes to a link
 
-pub told-to-client : (s : Settings) (c : ℕ) (link : Option ℕ) (outs : List Out) → told_on link (map (told_of s.comp (client_name s c)) outs) ≡ to_client s c link outs
+pub told-to-client : (s : Settings) (c : ℕ) (link : Option ℕ) (outs : List Out) → outs_told_on link (map (told_of_out s.comp (client_name s c)) outs) ≡ to_client s c link outs
 told-to-client s c None outs = refl
-told-to-client s c (Some link) outs = map-map (to_link link) (told_of s.comp (client_name s c)) outs
+told-to-client s c (Some link) outs = map-map (to_link link) (told_of_out s.comp (client_name s c)) outs
 
 to-client-append : (s : Settings) (c : ℕ) (link : Option ℕ) (xs ys : List Out) → to_client s c link (xs ++ ys) ≡ to_client s c link xs ++ to_client s c link ys
 to-client-append s c None xs ys = refl
-to-client-append s c (Some link) xs ys = map-append (λ (out : Out). to_link link (told_of s.comp (client_name s c) out)) xs ys
+to-client-append s c (Some link) xs ys = map-append (λ (out : Out). to_link link (told_of_out s.comp (client_name s c) out)) xs ys
 
 -- a client's link is told what its session said in one call and in others
-pub client-told : (s : Settings) (c : ℕ) (link : Option ℕ) (outs : List LinkOut) (first rest : List Told) (xs ys : List Out)
-    → outs ≡ told_on link first ++ told_on link rest → first ≡ map (told_of s.comp (client_name s c)) xs → rest ≡ map (told_of s.comp (client_name s c)) ys
+pub client-told : (s : Settings) (c : ℕ) (link : Option ℕ) (outs : List LinkOut) (first rest : List ToldLink) (xs ys : List Out)
+    → outs ≡ outs_told_on link first ++ outs_told_on link rest → first ≡ map (told_of_out s.comp (client_name s c)) xs → rest ≡ map (told_of_out s.comp (client_name s c)) ys
     → outs ≡ to_client s c link (xs ++ ys)
 client-told s c link outs first rest xs ys are is_first is_rest =
     are
-    ∙ ap (λ (x : List Told). told_on link x ++ told_on link rest) is_first
-    ∙ ap (λ (y : List Told). told_on link (map (told_of s.comp (client_name s c)) xs) ++ told_on link y) is_rest
-    ∙ ap (λ (x : List LinkOut). x ++ told_on link (map (told_of s.comp (client_name s c)) ys)) (told-to-client s c link xs)
+    ∙ ap (λ (x : List ToldLink). outs_told_on link x ++ outs_told_on link rest) is_first
+    ∙ ap (λ (y : List ToldLink). outs_told_on link (map (told_of_out s.comp (client_name s c)) xs) ++ outs_told_on link y) is_rest
+    ∙ ap (λ (x : List LinkOut). x ++ outs_told_on link (map (told_of_out s.comp (client_name s c)) ys)) (told-to-client s c link xs)
     ∙ ap (λ (y : List LinkOut). to_client s c link xs ++ y) (told-to-client s c link ys)
     ∙ sym (to-client-append s c link xs ys)
 
@@ -73,19 +73,19 @@ is_named a b n = if not (a && b) then Some n else None
 
 -- a link that is closed is that of the one whom the batch names
 pub named-client : (n m : ℕ) (reports : List Message) (outs : List LinkOut) (links : ℕ → Option ℕ)
-    → (if is_number m (is_named (length reports == 0) (length outs == 0) n) then unless_closed outs (links m) else links m) ≡ unlinked n outs links m
+    → (if is_the_number m (is_named (length reports == 0) (length outs == 0) n) then unless_closed outs (links m) else links m) ≡ unlinked n outs links m
 named-client n m reports [] links =
-    same (is_number m (is_named (length reports == 0) true n)) (links m) ∙ sym (same (m == n) (links m))
+    same (is_the_number m (is_named (length reports == 0) true n)) (links m) ∙ sym (same (m == n) (links m))
 named-client n m reports (o ∷ os) links =
-    ap (λ (w : Bool). if is_number m (is_named (length reports == 0) w n) then unless_closed (o ∷ os) (links m) else links m) (eqb-suc-zero (length os))
-    ∙ ap (λ (w : Bool). if is_number m (if not w then Some n else None) then unless_closed (o ∷ os) (links m) else links m) (and-false (length reports == 0))
+    ap (λ (w : Bool). if is_the_number m (is_named (length reports == 0) w n) then unless_closed (o ∷ os) (links m) else links m) (eqb-suc-zero (length os))
+    ∙ ap (λ (w : Bool). if is_the_number m (if not w then Some n else None) then unless_closed (o ∷ os) (links m) else links m) (and-false (length reports == 0))
     ∙ ap (λ (w : Bool). if w then unless_closed (o ∷ os) (links m) else links m) (numbers m n)
 
 -- and of a port
 pub named-port : (n m : ℕ) (is_no_fault : Bool) (outs : List LinkOut) (links : ℕ → Option ℕ)
-    → (if is_number m (is_named (length outs == 0) is_no_fault n) then unless_closed outs (links m) else links m) ≡ unlinked n outs links m
+    → (if is_the_number m (is_named (length outs == 0) is_no_fault n) then unless_closed outs (links m) else links m) ≡ unlinked n outs links m
 named-port n m is_no_fault [] links =
-    same (is_number m (is_named true is_no_fault n)) (links m) ∙ sym (same (m == n) (links m))
+    same (is_the_number m (is_named true is_no_fault n)) (links m) ∙ sym (same (m == n) (links m))
 named-port n m is_no_fault (o ∷ os) links =
-    ap (λ (w : Bool). if is_number m (is_named w is_no_fault n) then unless_closed (o ∷ os) (links m) else links m) (eqb-suc-zero (length os))
+    ap (λ (w : Bool). if is_the_number m (is_named w is_no_fault n) then unless_closed (o ∷ os) (links m) else links m) (eqb-suc-zero (length os))
     ∙ ap (λ (w : Bool). if w then unless_closed (o ∷ os) (links m) else links m) (numbers m n)

@@ -1,36 +1,36 @@
 -- What callers see of the core.
 use Rattle.std.specs.Prelude.{◌≡◌, ℕ, ◌≤◌, List, [], ◌∷◌, length, if◌then◌else◌}
-use Rattle.core_law.specs.Settings.{Settings}
-use Rattle.core_law.specs.Events as law
-use Rattle.core_law.specs.Events.{History}
-use Rattle.core_law.specs.After.{is_within, lists, most_events}
-use Rattle.core_law.specs.Holds.{Holds}
-use Rattle.core_batches.specs.declared.event.Event.{Event}
-use Rattle.core_batches.specs.declared.batch.Batch.{Batch}
-use Rattle.gate_core.specs.declared.gate.Gate.{Gate}
-use Rattle.core_batches.specs.Seen.{batch_seen, event_seen}
-use Rattle.gate_core.specs.State.{HasNumbers, IsShaped, Parts}
+use Rattle.gate_law.specs.Settings.{Settings}
+use Rattle.gate_law.specs.Events as law
+use Rattle.gate_law.specs.Events.{History}
+use Rattle.gate_law.specs.After.{is_within_day, lists, most_events}
+use Rattle.gate_law.specs.Holds.{Holds}
+use Rattle.gate_events.specs.declared.event.Event.{Event}
+use Rattle.gate_events.specs.declared.batch.Batch.{Batch}
+use Rattle.gate_core.specs.declared.parts.Parts.{Parts}
+use Rattle.gate_events.specs.Seen.{batch_seen, event_seen}
+use Rattle.gate_core.specs.State.{HasNumbers, IsShaped, ArePartsOf}
 
 -- its parts, and how many events were stepped
 pub record CoreState : Type 0 where
-  pub gate : Gate
+  pub parts : Parts
   pub events : ℕ
 
 -- it has what every step needs, whatever came before
 pub record IsSound (c : CoreState) : Type 0 where
   pub few : c.events ≤ most_events
-  pub shaped : IsShaped c.gate
-  pub numbers : HasNumbers c.events c.gate
+  pub shaped : IsShaped c.parts
+  pub numbers : HasNumbers c.events c.parts
 
 -- so many events of a history are stepped
 abbrev pub stepped : History → ℕ
-stepped h = if is_within h then length h else most_events
+stepped h = if is_within_day h then length h else most_events
 
--- The core is as these turns, the newest first, leave it: all that is promised holds of them, its parts are what they leave, and it has
--- counted the events that were stepped.
+-- The core is as these turns, the newest first, leave it: all that is promised holds of them, its parts are what they
+-- leave, and it has counted the events that were stepped.
 pub record After (s : Settings) (h : History) (c : CoreState) : Type 0 where
   pub holds : Holds s h
-  pub parts : Parts s (lists s h) c.gate
+  pub parts : ArePartsOf s (lists s h) c.parts
   pub count : c.events ≡ stepped h
 
 unfoldable pub IsAfter : Settings → History → CoreState → Type 0

@@ -5,10 +5,10 @@ use Rattle.soup_session.specs.declared.port_turn.PortOut.{PortOut}
 use Rattle.soup_session.specs.States.{is_up}
 use Rattle.order_law.specs.History.{outstanding}
 use Rattle.order_law.specs.Headline.{EachWith, SaysIn}
-use Rattle.core_law.specs.Settings.{Settings, terms}
-use Rattle.core_law.specs.Lists.{Lists}
-use Rattle.core_law.specs.Sessions.{port_state}
-use Rattle.gate_core.specs.declared.gate.Gate.{Gate}
+use Rattle.gate_law.specs.Settings.{Settings, terms}
+use Rattle.gate_law.specs.Lists.{Lists}
+use Rattle.gate_law.specs.Sessions.{port_state}
+use Rattle.gate_core.specs.declared.parts.Parts.{Parts}
 use Rattle.gate_core.specs.Steps.{IsSent}
 
 -- a port that stood so and stands so now came up
@@ -21,7 +21,8 @@ AreDue true s p v messages = EachWith (SaysIn (terms s) v.turns p) (outstanding 
 AreDue false s p v messages = messages ≡ []
 
 -- The port, which stood so before, is sent what is due.
-pub record IsSentAgain (s : Settings) (p at : ℕ) (stood : PortState) (outs : List PortOut) (v : Lists) (new : Gate) : Type 0 where
+pub record IsSentAgain (s : Settings) (p at : ℕ) (stood : PortState) (outs : List PortOut) (v : Lists)
+    (new : Parts) : Type 0 where
   pub messages : List (List ℕ)
   pub due : AreDue (came_up stood (port_state s p (v.port_calls p))) s p v messages
   pub sent : IsSent s p at messages outs v new

@@ -4,3 +4,8 @@ pub mod Hearing
 pub mod Targets
 pub mod Expected
 pub mod Core
+pub use Rattle.gate_events.specs.Seen
+pub use Rattle.gate_law.specs.After
+pub use Rattle.gate_law.specs.Events
+pub use Rattle.gate_law.specs.Holds
+pub use Rattle.gate_law.specs.Promises

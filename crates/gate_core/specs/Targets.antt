@@ -1,10 +1,11 @@
 -- Whom the batch of an event may name, by the event and the orders alone.
 use Rattle.std.specs.Prelude.{ℕ, Option, Some, None, if◌then◌else◌}
 use Rattle.soup_packets.specs.declared.packet.Packet.{Packet}
-use Rattle.core_law.specs.Settings.{Settings, has_client, has_port, port_of}
-use Rattle.core_law.specs.Events.{Event, ClientUp, ClientMessage, ClientGone, ClientTick, PortUp, PortPacket, PortGone, PortTick}
-use Rattle.core_law.specs.Lists.{Lists}
-use Rattle.core_law.specs.Promises.{by_token}
+use Rattle.gate_law.specs.Settings.{Settings, has_client, has_port, port_of}
+use Rattle.gate_law.specs.Events.{Event, ClientUp, ClientMessage, ClientGone, ClientTick, PortUp, PortPacket, PortGone}
+use Rattle.gate_law.specs.Events.{PortTick}
+use Rattle.gate_law.specs.Lists.{Lists}
+use Rattle.gate_law.specs.Promises.{by_token}
 
 -- a number that the settings have; nobody else is ever named
 abbrev pub known_client : Settings → ℕ → Option ℕ
@@ -17,7 +18,8 @@ known_port s p = if has_port s p then Some p else None
 abbrev pub clients_port : Settings → ℕ → Option ℕ
 clients_port s client = if has_client s client then Some (port_of s client) else None
 
--- the client whose order the token of a packet's message leads to, whatever the packet is and whether or not it is handled
+-- the client whose order the token of a packet's message leads to, whatever the packet is and whether or not it is
+-- handled
 abbrev pub payloads_client : Settings → ℕ → Packet → Lists → Option ℕ
 payloads_client s p packet v = by_token s p (Some packet.payload) v
 

@@ -1,15 +1,18 @@
-//! The gateway's core on one thread: sessions of clients, the order level and sessions of ports as one value that is stepped by
-//! events, each of which gives a batch.
+//! The gateway's core on one thread: sessions of clients, the order level and sessions of ports as one value that is
+//! stepped by events, each of which gives a batch.
 //!
 //! Source: FIX 4.4 Volumes 2 and 4; OUCH 4.2; SoupBinTCP 3.00.
 #![tactic(auto)]
 
-mod gate;
+mod parts;
 mod runs;
 mod targets;
 mod whole;
 
-pub use core_batches::{Batch, ClientFrame, Event, IssuedReport, LineNumber, LinkOut, PortFault};
+pub use gate_events::{
+    Batch, ClientFrame, ClientNumber, Event, IssuedReport, LinkOut, PortFault, PortNumber,
+};
+pub use gate_settings::{ClientSettings, ClientTerms, PortSettings, Settings};
 pub use runs::run_all;
 pub use targets::Targets;
 pub use whole::Core;

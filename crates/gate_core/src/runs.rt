@@ -1,12 +1,12 @@
 //! Whole runs: what comes of a list of events.
 
 ghost use Rattle.std.specs.Prelude.{◌≡◌, length, IfOk};
-ghost use Rattle.core_law.specs.Holds.{Holds};
+ghost use Rattle.gate_law.specs.Holds.{Holds};
 ghost use Rattle.gate_core.specs.Core.{history};
 
 use crate::whole::Core;
-use core_batches::{Batch, Event};
-use core_settings::Settings;
+use gate_events::{Batch, Event};
+use gate_settings::Settings;
 use std::alloc::{AllocError, Global};
 
 /// What comes of these events, one after another, from no call on: a batch for each.

@@ -1,8 +1,8 @@
 -- What a history keeps.
 use Rattle.std.specs.Prelude.{List, []}
-use Rattle.core_law.specs.Events as law
-use Rattle.core_batches.specs.declared.event.Event.{Event}
-use Rattle.core_batches.specs.declared.batch.Batch.{Batch}
+use Rattle.gate_law.specs.Events as law
+use Rattle.gate_events.specs.declared.event.Event.{Event}
+use Rattle.gate_events.specs.declared.batch.Batch.{Batch}
 use Rattle.gate_core.specs.Core.{history}
 
 -- events and the batches that they gave, the oldest first

@@ -3,7 +3,7 @@
 ghost use Rattle.std.specs.Prelude.{◌≤◌};
 
 use fix_fields::split;
-use gate_core::{ClientFrame, Event, LineNumber};
+use gate_core::{ClientFrame, ClientNumber, Event, PortNumber};
 use soup_packets::{Packet, Payload};
 use std::alloc::Global;
 use std::test::Fail;
@@ -13,7 +13,7 @@ pub fn client_up(client: u16, link: u64) -> Event
     requires { 1 ≤ client }
 {
     Event::ClientUp {
-        client: LineNumber::new(client),
+        client: ClientNumber::new(client),
         link,
         at: 0,
     }
@@ -32,7 +32,7 @@ pub fn message(alloc: Global, client: u16, link: u64, text: &[u8]) -> Result<Eve
     };
     match ClientFrame::of(fields) {
         Some(frame) => Ok(Event::ClientMessage {
-            client: LineNumber::new(client),
+            client: ClientNumber::new(client),
             link,
             at: 0,
             frame,
@@ -46,7 +46,7 @@ pub fn port_up(port: u16, link: u64) -> Event
     requires { 1 ≤ port }
 {
     Event::PortUp {
-        port: LineNumber::new(port),
+        port: PortNumber::new(port),
         link,
         at: 0,
     }
@@ -60,7 +60,7 @@ pub fn packet(alloc: Global, port: u16, link: u64, kind: u8, payload: &[u8]) -> 
         return Err(Fail::new("too long for a packet"));
     }
     Ok(Event::PortPacket {
-        port: LineNumber::new(port),
+        port: PortNumber::new(port),
         link,
         at: 0,
         packet: Packet {

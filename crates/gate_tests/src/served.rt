@@ -1,10 +1,9 @@
 //! The settings of all tests.
 
-use core_settings::{ClientSettings, PortSettings, Settings};
 use fix_fields::Text;
+use gate_core::{ClientSettings, ClientTerms, PortSettings, Settings};
 use std::alloc::{AllocError, Global};
 use std::test::Fail;
-use to_market::ClientTerms;
 
 /// The gateway GATE with two ports and three clients: C1 and C2 on port 1, C3 on port 2.
 pub fn settings(alloc: Global) -> Result<Settings, Fail> {

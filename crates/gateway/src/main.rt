@@ -1,7 +1,8 @@
 //! The order gateway's program: audits scripts.
 #![tactic(auto)]
 
-use gateway_command::{audit_path, audit_script};
+use gate_lines::audit_script;
+use gateway_command::audit_path;
 use script_command::tell_refusal;
 use std::io::{self, BufWriter, ErrorKind};
 use std::process::ExitCode;

@@ -5,7 +5,7 @@ use Rattle.clap.specs.Words.{App, FailsBy, HasMatchesOf, Row, Text, fault_of, fi
 use Rattle.clap.specs.declared.error.Error.{Error}
 use Rattle.clap.specs.declared.parser.matches.ArgMatches.{ArgMatches}
 use Rattle.clap.proofs.OnLiterals.{clap_on_literals}
-use Rattle.gateway_command.specs.Command.{gateway, found, faults, script_in}
+use Rattle.gateway_command.specs.Command.{gateway, gateway_found, gateway_faults, script_in}
 
 simple : is_simple gateway ≡ true
 unfolding clap_on_literals
@@ -15,12 +15,12 @@ free : is_simple_and_free gateway ≡ true
 unfolding clap_on_literals
 free = refl
 
-pub found-by : (a : App) (words : List Text) (r : Result ArgMatches Error) → a ≡ gateway → IfOk r (HasMatchesOf a words) → IfOk r (λ m. subcommand_rows_of m ≡ found words)
-unfolding found
+pub found-by : (a : App) (words : List Text) (r : Result ArgMatches Error) → a ≡ gateway → IfOk r (HasMatchesOf a words) → IfOk r (λ m. subcommand_rows_of m ≡ gateway_found words)
+unfolding gateway_found
 found-by a words r is ok = IfOk-weaker r _ _ (λ m h. (h (ap is_simple is ∙ simple)).1 ∙ ap (λ (x : App). subcommand_of x words) is) ok
 
-pub refused-by : (a : App) (words : List Text) (r : Result ArgMatches Error) → a ≡ gateway → (is_simple_and_free a ≡ true → FailsBy (fault_of a words) r) → FailsBy (faults words) r
-unfolding faults
+pub refused-by : (a : App) (words : List Text) (r : Result ArgMatches Error) → a ≡ gateway → (is_simple_and_free a ≡ true → FailsBy (fault_of a words) r) → FailsBy (gateway_faults words) r
+unfolding gateway_faults
 refused-by a words r is fails = subst (λ (x : App). FailsBy (fault_of x words) r) is (fails (ap is_simple_and_free is ∙ free))
 
 -- the file is among the arguments of the subcommand that has the name

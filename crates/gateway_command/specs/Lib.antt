@@ -1,2 +1,1 @@
-pub mod Audits
 pub mod Command

@@ -24,14 +24,14 @@ is one line of the audit, with what its client read of it in the FIX reports, an
 Values are in 1/10,000. The status is 0 where all orders agree, 1 where one doesn't, where memory runs out or a
 read or write fails, 2 at a line that isn't understood or a file that can't be read.";
 
-/// The file of the script that a command line asks to be audited, `gateway audit --script FILE`; its first word is the program's
-/// name.
+/// The file of the script that a command line asks to be audited, `gateway audit --script FILE`; its first word is
+/// the program's name.
 ///
-/// An error tells why the command line is refused, or is the help that it asks for, or says that memory ran out. `None` isn't
-/// answered: the subcommand and its file are required.
+/// An error tells why the command line is refused, or is the help that it asks for, or says that memory ran out.
+/// `None` isn't answered: the subcommand and its file are required.
 pub fn audit_path<'a, S: AsStr>(alloc: Global, words: &'a [S]) -> Result<Option<&'a str>, Error>
     ensures script { IfOk result (λ path. option_map (λ text. text.now) path ≡ spec.script_of (map S.text words.now)) }
-    ensures refused { FailsBy (spec.faults (map S.text words.now)) result }
+    ensures refused { FailsBy (spec.gateway_faults (map S.text words.now)) result }
 {
     let matches = matches_of(alloc, words)?;
     Ok(script_in(&matches))
@@ -39,8 +39,8 @@ pub fn audit_path<'a, S: AsStr>(alloc: Global, words: &'a [S]) -> Result<Option<
 
 /// What `clap` finds in the words.
 fn matches_of<'a, S: AsStr>(alloc: Global, words: &'a [S]) -> Result<ArgMatches<'a>, Error>
-    ensures found { IfOk result (λ matches. subcommand_rows_of matches ≡ spec.found (map S.text words.now)) }
-    ensures refused { FailsBy (spec.faults (map S.text words.now)) result }
+    ensures found { IfOk result (λ matches. subcommand_rows_of matches ≡ spec.gateway_found (map S.text words.now)) }
+    ensures refused { FailsBy (spec.gateway_faults (map S.text words.now)) result }
 {
     let command = gateway(alloc)?;
     command.try_get_matches_from(words)

@@ -2,7 +2,7 @@
 use Rattle.std.proofs.Common.{◌≡◌, ℕ, suc, ◌<◌, true, List, [], ◌∷◌, ◌++◌, length, get_or, take, drop, reverse, sym, ap, ◌∙◌, subst, append_assoc}
 use Rattle.std.proofs.Math.Seq.{split_at}
 use Rattle.std.proofs.lemmas.List.{reverse-append}
-use Rattle.order_law.specs.Messages.{Message}
+use Rattle.fix_fields.specs.Field.{Message}
 use Rattle.order_law.specs.Reading.{is_report_on, reading, with_report}
 use Rattle.order_accounts.specs.Held.{IsHeld, StaysHeld}
 

@@ -2,7 +2,7 @@
 use Rattle.std.specs.Prelude.{◌≤◌, ◌+◌, ◌^◌}
 use Rattle.order_law.specs.Life.{Life}
 
-pub record Grows (old new : Life) : Type 0 where
+pub record LifeGrows (old new : Life) : Type 0 where
   pub executed : new.executed ≤ old.executed + 2 ^ 32
   pub cancelled : new.cancelled ≤ old.cancelled + 2 ^ 32
   pub value : new.value ≤ old.value + 2 ^ 64

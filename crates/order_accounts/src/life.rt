@@ -6,7 +6,7 @@ ghost use Rattle.std.specs.Prelude.{◌≡◌, ◌≤◌, ◌<◌, ◌+◌, ◌^
 ghost use Rattle.std.specs.List.{find, list_any};
 ghost use Rattle.ouch_codec.specs.declared.outbound.Outbound.TheVariants as market;
 ghost use Rattle.order_law.specs.Life as spec;
-ghost use Rattle.order_accounts.specs.Growth.{Grows};
+ghost use Rattle.order_accounts.specs.Growth.{LifeGrows};
 
 use order_law::{Account, Stage, Trade};
 use ouch_codec::{Accepted, Broken, Canceled, Executed, OrderState, Outbound, Rejected, Replaced};
@@ -86,7 +86,7 @@ impl Life {
         requires cancelled { self.old.cancelled < 2 ^ 100 }
         requires value { self.old.value ≤ 2 ^ 127 }
         ensures life { OnOk result (self.new ≡ spec.after self.old message.now) }
-        ensures grows { OnOk result (Grows self.old self.new) }
+        ensures grows { OnOk result (LifeGrows self.old self.new) }
     {
         match message {
             Outbound::Accepted(message) => self.hear_accepted(message),
@@ -104,7 +104,7 @@ impl Life {
     fn hear_accepted(&mut self, message: &Accepted)
         requires { self.old.cancelled < 2 ^ 100 }
         ensures life { self.new ≡ spec.after self.old (market.Accepted message.now) }
-        ensures grows { Grows self.old self.new }
+        ensures grows { LifeGrows self.old self.new }
     {
         if self.is_live(&message.token) && self.stage == Stage::Waiting {
             self.enter(message.shares, is_dead(message.order_state));
@@ -115,7 +115,7 @@ impl Life {
     fn hear_canceled(&mut self, message: &Canceled)
         requires { self.old.cancelled < 2 ^ 100 }
         ensures life { self.new ≡ spec.after self.old (market.Canceled message.now) }
-        ensures grows { Grows self.old self.new }
+        ensures grows { LifeGrows self.old self.new }
     {
         if self.is_live(&message.token) {
             self.decrease(message.decrement);
@@ -125,7 +125,7 @@ impl Life {
     /// A Broken Trade of a token of the chain.
     fn hear_broken(&mut self, message: &Broken)
         ensures life { self.new ≡ spec.after self.old (market.Broken message.now) }
-        ensures grows { Grows self.old self.new }
+        ensures grows { LifeGrows self.old self.new }
     {
         if self.is_of(&message.token) {
             self.take_back(message.match_number);
@@ -135,7 +135,7 @@ impl Life {
     /// A Rejected of an order that waits.
     fn hear_rejected(&mut self, message: &Rejected)
         ensures life { self.new ≡ spec.after self.old (market.Rejected message.now) }
-        ensures grows { Grows self.old self.new }
+        ensures grows { LifeGrows self.old self.new }
     {
         if self.is_live(&message.token) && self.stage == Stage::Waiting {
             self.stage = Stage::Closed;
@@ -147,7 +147,7 @@ impl Life {
         requires executed { self.old.executed < 2 ^ 100 }
         requires value { self.old.value ≤ 2 ^ 127 }
         ensures life { OnOk result (self.new ≡ spec.after self.old (market.Executed message.now)) }
-        ensures grows { OnOk result (Grows self.old self.new) }
+        ensures grows { OnOk result (LifeGrows self.old self.new) }
     {
         if self.is_live(&message.token) {
             self.trade(message.match_number, message.shares, message.price)?;
@@ -159,7 +159,7 @@ impl Life {
     fn hear_replaced(&mut self, alloc: Global, message: &Replaced) -> Result<(), AllocError>
         requires { self.old.cancelled < 2 ^ 100 }
         ensures life { OnOk result (self.new ≡ spec.after self.old (market.Replaced message.now)) }
-        ensures grows { OnOk result (Grows self.old self.new) }
+        ensures grows { OnOk result (LifeGrows self.old self.new) }
     {
         if self.is_live(&message.previous_token) {
             let token = Vec::from_slice(alloc, &message.token)?;
@@ -172,7 +172,7 @@ impl Life {
     /// Over where nothing is open.
     fn settle(&mut self)
         ensures life { self.new ≡ spec.settled self.old }
-        ensures grows { Grows self.old self.new }
+        ensures grows { LifeGrows self.old self.new }
     {
         if self.unfilled == 0 {
             self.stage = Stage::Closed;
@@ -183,7 +183,7 @@ impl Life {
     fn die(&mut self)
         requires { self.old.cancelled < 2 ^ 100 }
         ensures life { self.new ≡ spec.dead self.old }
-        ensures grows { Grows self.old self.new }
+        ensures grows { LifeGrows self.old self.new }
     {
         self.stage = Stage::Closed;
         self.cancelled += u128::from(self.unfilled);
@@ -194,7 +194,7 @@ impl Life {
     fn decrease(&mut self, shares: u32)
         requires { self.old.cancelled < 2 ^ 100 }
         ensures life { self.new ≡ spec.decreased shares self.old }
-        ensures grows { Grows self.old self.new }
+        ensures grows { LifeGrows self.old self.new }
     {
         self.unfilled = self.unfilled.saturating_sub(shares);
         self.cancelled += u128::from(shares);
@@ -205,7 +205,7 @@ impl Life {
     fn enter(&mut self, shares: u32, is_dead: bool)
         requires { self.old.cancelled < 2 ^ 100 }
         ensures life { self.new ≡ spec.opened shares is_dead self.old }
-        ensures grows { Grows self.old self.new }
+        ensures grows { LifeGrows self.old self.new }
     {
         self.stage = Stage::Working;
         self.unfilled = shares;
@@ -219,7 +219,7 @@ impl Life {
         requires executed { self.old.executed < 2 ^ 100 }
         requires value { self.old.value ≤ 2 ^ 127 }
         ensures life { OnOk result (self.new ≡ spec.traded match_number shares price self.old) }
-        ensures grows { OnOk result (Grows self.old self.new) }
+        ensures grows { OnOk result (LifeGrows self.old self.new) }
     {
         self.trades.insert(
             0,
@@ -240,7 +240,7 @@ impl Life {
     /// The trade with this number that stands is taken back.
     fn take_back(&mut self, match_number: u64)
         ensures life { self.new ≡ spec.broken match_number self.old }
-        ensures grows { Grows self.old self.new }
+        ensures grows { LifeGrows self.old self.new }
     {
         let Some(trade) = standing(self.trades.as_slice(), match_number) else {
             return;
@@ -269,8 +269,9 @@ impl Life {
     }
 }
 
-/// The life of the order whose first token is `root`, after these messages, the oldest first. `side` is the byte that FIX
-/// writes. A message that isn't the order's changes nothing, and no message is judged: what isn't lawful is taken as it is.
+/// The life of the order whose first token is `root`, after these messages, the oldest first. `side` is the byte that
+/// FIX writes. A message that isn't the order's changes nothing, and no message is judged: what isn't lawful is taken
+/// as it is.
 ///
 /// Source: OUCH 4.2, "Outbound Messages".
 pub fn life_of(

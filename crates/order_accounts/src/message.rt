@@ -1,10 +1,11 @@
-//! What is read from a FIX message, whatever its fields are. Nothing is judged: a text that isn't digits has a number too,
-//! the one that the definition gives it.
+//! What is read from a FIX message, whatever its fields are. Nothing is judged: a text that isn't digits has a number
+//! too, the one that the definition gives it.
 
 ghost use Rattle.std.specs.Prelude.{◌≡◌, ◌<◌, ◌+◌, ◌*◌, ◌^◌, ◌&&◌};
 ghost use Rattle.std.specs.Result.{OkIff};
 ghost use Rattle.std.specs.Char.{digit_value};
 ghost use Rattle.std.specs.Str.Parse.{digits_value};
+ghost use Rattle.fix_fields.specs.Field as tags;
 ghost use Rattle.order_law.specs.Messages as messages;
 ghost use Rattle.order_law.specs.Reading as spec;
 
@@ -14,7 +15,7 @@ use fixed_point::{WorthRefusal, parse_worth};
 
 /// The value of a tag, or no bytes where there is none.
 pub fn text(message: &Fields, tag: u32) -> &[u8]
-    ensures { result.now ≡ messages.text tag message.now }
+    ensures { result.now ≡ tags.text tag message.now }
 {
     match message.first(tag) {
         Some(value) => value,
@@ -24,7 +25,7 @@ pub fn text(message: &Fields, tag: u32) -> &[u8]
 
 /// The value of a tag is this text.
 pub fn is(message: &Fields, tag: u32, wanted: &[u8]) -> bool
-    ensures { result ≡ messages.is tag wanted.now message.now }
+    ensures { result ≡ tags.is tag wanted.now message.now }
 {
     text(message, tag) == wanted
 }
@@ -38,7 +39,7 @@ pub fn is_report_on(message: &Fields, order: &[u8]) -> bool
 
 /// The first byte of a value, 0 where there is none.
 pub fn character(message: &Fields, tag: u32) -> u8
-    ensures { result ≡ messages.character tag message.now }
+    ensures { result ≡ tags.character tag message.now }
 {
     match text(message, tag).first() {
         Some(byte) => *byte,

@@ -2,10 +2,12 @@
 //!
 //! It keeps all that the reports said, knows no other order, and looks nothing up: the definition, run.
 
-ghost use Rattle.std.specs.Prelude.{◌≡◌, ◌<◌, ◌+◌, ◌-◌, ◌*◌, ◌^◌, ◌==◌, ◌||◌, ◌∷◌, [], true, false, if◌then◌else◌, IfOk, OnOk, IsErrOf, reverse, codes, bytes_eq, Some, None};
+ghost use Rattle.std.specs.Prelude.{◌≡◌, ◌<◌, ◌+◌, ◌-◌, ◌*◌, ◌^◌, ◌==◌, ◌||◌, ◌∷◌, [], true, false, if◌then◌else◌};
+ghost use Rattle.std.specs.Prelude.{IfOk, OnOk, IsErrOf, reverse, codes, bytes_eq, Some, None};
 ghost use Rattle.std.specs.List.{find};
 ghost use Rattle.std.specs.Option.{option_copied};
 ghost use Rattle.order_accounts.specs.Held.{IsHeld, StaysHeld};
+ghost use Rattle.fix_fields.specs.Field as tags;
 ghost use Rattle.order_law.specs.Messages as messages;
 ghost use Rattle.order_law.specs.Reading as spec;
 
@@ -151,7 +153,7 @@ impl Reading {
           value = self.old.value + messages.number 32 report.now * spec.price_in 31 report.now;
           unfilled = self.old.unfilled - messages.number 32 report.now;
           fills = record {
-            exec_id = messages.text 17 report.now;
+            exec_id = tags.text 17 report.now;
             shares = messages.number 32 report.now;
             price = spec.price_in 31 report.now;
           } ∷ self.old.fills;
@@ -184,9 +186,14 @@ impl Reading {
 
     /// Trade Cancel: the fill whose ExecID is ExecRefID (19) is taken back.
     fn take_back(&mut self, report: &Fields)
-        ensures known { (f : spec.Fill) → find (λ f. bytes_eq f.exec_id (messages.text 19 report.now)) self.old.fills ≡ Some f
-            → self.new ≡ record self.old { executed = self.old.executed - f.shares; value = self.old.value - f.shares * f.price } }
-        ensures unknown { find (λ f. bytes_eq f.exec_id (messages.text 19 report.now)) self.old.fills ≡ None → self.new ≡ self.old }
+        ensures known { (f : spec.Fill) → find (λ f. bytes_eq f.exec_id (tags.text 19 report.now)) self.old.fills
+            ≡ Some f
+            → self.new ≡ record self.old {
+              executed = self.old.executed - f.shares;
+              value = self.old.value - f.shares * f.price;
+            } }
+        ensures unknown { find (λ f. bytes_eq f.exec_id (tags.text 19 report.now)) self.old.fills ≡ None
+            → self.new ≡ self.old }
     {
         let Some(fill) = fill_of(self.fills.as_slice(), text(report, 19)) else {
             return;
@@ -199,7 +206,7 @@ impl Reading {
     /// Side and total as the report has them; the total stays once the order is closed.
     fn restate(&mut self, report: &Fields) -> Result<(), ReadingFault>
         ensures told { OnOk result (self.new ≡ record self.old {
-          side = messages.character 54 report.now;
+          side = tags.character 54 report.now;
           total = if self.old.is_closed then self.old.total else messages.number 38 report.now;
         }) }
         ensures large { IsErrOf result ReadingFault.TooLarge
@@ -237,11 +244,12 @@ impl Reading {
     }
 }
 
-/// What a client has read of the order with this OrderID after these reports, the oldest first. A message that isn't a
-/// report on the order changes nothing, and no report is judged: what doesn't read well is taken as it is.
+/// What a client has read of the order with this OrderID after these reports, the oldest first. A message that isn't
+/// a report on the order changes nothing, and no report is judged: what doesn't read well is taken as it is.
 ///
-/// Quantities are in shares, prices in 1/10,000. `TooLarge` just where, after one of the reports, what was read has a number
-/// that is larger than its integer holds, 32 bits for what is open and 128 bits for every other; or else `NoMemory`.
+/// Quantities are in shares, prices in 1/10,000. `TooLarge` just where, after one of the reports, what was read has a
+/// number that is larger than its integer holds, 32 bits for what is open and 128 bits for every other; or else
+/// `NoMemory`.
 ///
 /// Source: FIX 4.4 Volume 4, "Execution Report".
 pub fn reading_of(alloc: Global, order: &[u8], reports: &[Fields]) -> Result<Reading, ReadingFault>

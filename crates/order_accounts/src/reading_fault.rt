@@ -11,8 +11,8 @@ use thiserror::Error;
 pub enum ReadingFault {
     #[error("out of memory")]
     NoMemory,
-    /// A number of the reports, or a sum of them, is larger than its integer holds: 32 bits for what is open, 128 bits for
-    /// every other.
+    /// A number of the reports, or a sum of them, is larger than its integer holds: 32 bits for what is open, 128
+    /// bits for every other.
     #[error("a number is too large")]
     TooLarge,
 }

@@ -6,18 +6,18 @@ use Rattle.fix_types.specs.Application.{body_fields, message_fields}
 use Rattle.ouch_codec.specs.declared.inbound.Inbound.{Inbound}
 use Rattle.ouch_codec.specs.Inbound.{inbound_bytes}
 use Rattle.order_law.specs.Headline.{Each, EachWith, Says, Sends}
-use Rattle.order_law.specs.History.{Asked, Heard, History, Terms, Turn, terms_of}
+use Rattle.order_law.specs.History.{Asked, Heard, OrderHistory, Terms, OrderTurn, terms_of}
 use Rattle.order_law.specs.Lawful.{order_token}
 use Rattle.ouch_codec.specs.declared.outbound.Outbound.{Outbound}
 use Rattle.ouch_codec.specs.declared.refusal.DecodeRefusal.{DecodeRefusal}
 use Rattle.order_law.specs.Verdicts.{Port, Down, Up, Ended, Faulted}
-use Rattle.order_histories.specs.Table.{State, by_token, empty}
-use Rattle.order_histories.specs.Machine.{Given, client_step, faulty, market_step}
-use Rattle.order_histories.specs.Runs.{Finds, Leads, LeadsTo, Leaves}
-use Rattle.asked_messages.specs.Kept.{KeptMessage, kept_from, left_by}
-use Rattle.asked_messages.specs.KeptInTurns.{ClientTurnsKeep, KeepsOutstanding, MarketTurnsKeep, NothingIsKept, QuietTurnsKeep, SaidOfOrder}
-use Rattle.market_turns.specs.Turns.{number_of}
-use Rattle.market_turns.specs.declared.market_fault.MarketFault.{MarketFault}
+use Rattle.order_machine.specs.Table.{TableState, record_by_token, table_without_orders}
+use Rattle.order_machine.specs.Machine.{GivenByEvent, client_step, faulty, market_step}
+use Rattle.order_machine.specs.Runs.{Finds, Leads, LeadsTo, TurnsLeave}
+use Rattle.outstanding.specs.Kept.{KeptMessage, kept_from, left_by}
+use Rattle.outstanding.specs.KeptInTurns.{ClientTurnsKeep, KeepsOutstanding, MarketTurnsKeep, NothingIsKept, QuietTurnsKeep, SaidOfOrder}
+use Rattle.market_messages.specs.Turns.{market_fault_number}
+use Rattle.market_messages.specs.declared.market_fault.MarketFault.{MarketFault}
 use Rattle.to_market.specs.declared.port_state.PortState.{PortState}
 use Rattle.to_market.specs.PortsSeen.{port_seen}
 use Rattle.order_ledger.specs.declared.market_error.MarketError.{MarketError}
@@ -29,8 +29,8 @@ use Rattle.order_ledger.specs.Seen.{client_seen}
 use Rattle.order_core.specs.declared.outcome.CoreOut.{CoreOut}
 use Rattle.order_core.specs.declared.outcome.MarketOut.{MarketOut}
 use Rattle.order_core.specs.Meets.{MeetsClient, MeetsHandled, MeetsPayload, left_after, sent_of}
-use Rattle.order_core.specs.State.{CoreState, IsAfter}
-use Rattle.order_core.specs.Turns.{OfTurn, client_turn, fault_turn, told_turn}
+use Rattle.order_core.specs.State.{OrderCoreState, IsAfterTurns}
+use Rattle.order_core.specs.Turns.{OfCall, client_turn, fault_turn, told_turn}
 
 -- where the port is up, what goes out is all that is asked
 sends-as : (port : Port) (P : Asked → List ℕ → Type 0) (asked : List Asked) (asks : List Inbound) → EachWith P asked (map inbound_bytes asks) → Sends port P asked (map inbound_bytes (sent_of port asks))
@@ -40,23 +40,23 @@ sends-as Ended P asked asks says = refl
 sends-as (Faulted n) P asked asks says = refl
 
 -- one turn more
-more : (terms : List Terms) (before : History) (old : CoreState) (t : Turn) (new : CoreState) → Leaves terms before old.table → Leads old.table t new.table → KeepsOutstanding terms (t ∷ before) new.kept → IsAfter terms (t ∷ before) new
-unfolding IsAfter Leaves
+more : (terms : List Terms) (before : OrderHistory) (old : OrderCoreState) (t : OrderTurn) (new : OrderCoreState) → TurnsLeave terms before old.table → Leads old.table t new.table → KeepsOutstanding terms (t ∷ before) new.kept → IsAfterTurns terms (t ∷ before) new
+unfolding IsAfterTurns TurnsLeave
 more terms before old t new leaves leads keeps = ((old.table, leaves, leads), keeps)
 
 -- the parts of what is known of a core
-pub parts-of : (terms : List Terms) (h : History) (c : CoreState) → IsAfter terms h c → Leaves terms h c.table × KeepsOutstanding terms h c.kept
-unfolding IsAfter
+pub parts-of : (terms : List Terms) (h : OrderHistory) (c : OrderCoreState) → IsAfterTurns terms h c → TurnsLeave terms h c.table × KeepsOutstanding terms h c.kept
+unfolding IsAfterTurns
 parts-of terms h c after = after
 
 -- from its parts
-pub from-parts : (terms : List Terms) (h : History) (c : CoreState) → Leaves terms h c.table → KeepsOutstanding terms h c.kept → IsAfter terms h c
-unfolding IsAfter
+pub from-parts : (terms : List Terms) (h : OrderHistory) (c : OrderCoreState) → TurnsLeave terms h c.table → KeepsOutstanding terms h c.kept → IsAfterTurns terms h c
+unfolding IsAfterTurns
 from-parts terms h c leaves keeps = (leaves, keeps)
 
 -- ---- a client's call
 
-module _ (terms : List Terms) (before : History) (old : CoreState) (client : ℕ) (message : AppMsg) (port : PortState) (out : CoreOut) (new : CoreState) where
+module _ (terms : List Terms) (before : OrderHistory) (old : OrderCoreState) (client : ℕ) (message : AppMsg) (port : PortState) (out : CoreOut) (new : OrderCoreState) where
   -- in a table whose orders go by their numbers, and where each token that is asked about leads to its order
   pub client-leads : GoByNumbers old.table
       → ((order_of : List ℕ → Option ℕ) → LeadsTo (client_step old.table client (message_fields message) (port_seen port)).state (terms_of old.table.terms client).port order_of
@@ -81,7 +81,7 @@ module _ (terms : List Terms) (before : History) (old : CoreState) (client : ℕ
   pub client-after : length before < 2 ^ 58 → ClientTurnsKeep → SaidOfOrder → GoByNumbers old.table
       → ((order_of : List ℕ → Option ℕ) → LeadsTo (client_step old.table client (message_fields message) (port_seen port)).state (terms_of old.table.terms client).port order_of
       → Each (Finds order_of) (client_step old.table client (message_fields message) (port_seen port)).asks)
-      → MeetsClient old client message (port_seen port) out new → IsAfter terms before old → IsAfter terms (client_turn client message port out ∷ before) new
+      → MeetsClient old client message (port_seen port) out new → IsAfterTurns terms before old → IsAfterTurns terms (client_turn client message port out ∷ before) new
   client-after short keep said numbered known meets after =
       let parts = parts-of terms before old after in
       let gives = meets.gives numbered in
@@ -95,15 +95,15 @@ module _ (terms : List Terms) (before : History) (old : CoreState) (client : ℕ
 
 -- ---- a payload
 
-module _ (terms : List Terms) (before : History) (old : CoreState) (port : ℕ) (short : length before < 2 ^ 58) (market : MarketTurnsKeep) (quiet : QuietTurnsKeep) (leaves : Leaves terms before old.table) (keeps : KeepsOutstanding terms before old.kept) (t : Turn) (new : State) (leads : Leads old.table t new) where
+module _ (terms : List Terms) (before : OrderHistory) (old : OrderCoreState) (port : ℕ) (short : length before < 2 ^ 58) (market : MarketTurnsKeep) (quiet : QuietTurnsKeep) (leaves : TurnsLeave terms before old.table) (keeps : KeepsOutstanding terms before old.kept) (t : OrderTurn) (new : TableState) (leads : Leads old.table t new) where
   -- a message leaves what is outstanding of what is kept
   kept-by_token : (m : Outbound) → t.event ≡ Heard port (Ok m) → (market_step old.table port (Ok m)).fault ≡ None → (c : ChangedOrder) (is : ChangesOrder old.table port (Ok m) c)
       → (x : Option (List ℕ)) → order_token m ≡ x → KeepsOutstanding terms (t ∷ before) (left_by port m (decimal c.order_id) c.is_closed old.kept)
   kept-by_token m is_event no_fault c is None has =
-      let found : option_and_then (by_token old.table port) None ≡ Some is.order = ap (option_and_then (by_token old.table port)) (sym has) ∙ is.found in cc
+      let found : option_and_then (record_by_token old.table port) None ≡ Some is.order = ap (option_and_then (record_by_token old.table port)) (sym has) ∙ is.found in cc
   kept-by_token m is_event no_fault c is (Some token) has =
       subst₂ (λ (order : List ℕ) (closed : Bool). KeepsOutstanding terms (t ∷ before) (left_by port m order closed old.kept)) is.of_order is.closed
-      (market terms before old.table short leaves old.kept keeps t new port m is_event leads token is.order is.now (ap (option_and_then (by_token old.table port)) (sym has) ∙ is.found) is.same no_fault is.orders)
+      (market terms before old.table short leaves old.kept keeps t new port m is_event leads token is.order is.now (ap (option_and_then (record_by_token old.table port)) (sym has) ∙ is.found) is.same no_fault is.orders)
 
   -- and any payload does
   pub kept-after : (heard : Result Outbound DecodeRefusal) → t.event ≡ Heard port heard → (market_step old.table port heard).fault ≡ None → (changed : Option ChangedOrder) → ChangesAny old.table port heard changed
@@ -112,7 +112,7 @@ module _ (terms : List Terms) (before : History) (old : CoreState) (port : ℕ) 
   kept-after (Err refusal) is_event no_fault (Some c) is = absurd (let found : None ≡ Some is.order = is.found in cc)
   kept-after (Ok m) is_event no_fault (Some c) is = kept-by_token m is_event no_fault c is (order_token m) refl
 
-module _ (terms : List Terms) (before : History) (old : CoreState) (port : ℕ) (heard : Result Outbound DecodeRefusal) (new : CoreState) where
+module _ (terms : List Terms) (before : OrderHistory) (old : OrderCoreState) (port : ℕ) (heard : Result Outbound DecodeRefusal) (new : OrderCoreState) where
   -- one that was handled
   told-leads : (out : MarketOut) → MeetsHandled old port heard out new → Leads old.table (told_turn port heard out) new.table
   told-leads out meets = record {
@@ -126,7 +126,7 @@ module _ (terms : List Terms) (before : History) (old : CoreState) (port : ℕ) 
   }
 
   pub told-after : length before < 2 ^ 58 → MarketTurnsKeep → QuietTurnsKeep → (out : MarketOut) → MeetsHandled old port heard out new
-      → IsAfter terms before old → IsAfter terms (told_turn port heard out ∷ before) new
+      → IsAfterTurns terms before old → IsAfterTurns terms (told_turn port heard out ∷ before) new
   told-after short market quiet out meets after =
       let parts = parts-of terms before old after in
       let leads = told-leads out meets in
@@ -135,35 +135,35 @@ module _ (terms : List Terms) (before : History) (old : CoreState) (port : ℕ) 
       (kept-after terms before old port short market quiet parts.0 parts.1 (told_turn port heard out) new.table leads heard refl meets.gives.fault meets.turn.changed meets.changes))
 
   -- and one that is a fault
-  fault-leads : (fault : MarketFault) → market_step old.table port heard ≡ faulty old.table (number_of fault) → new ≡ old → Leads old.table (fault_turn port heard fault) new.table
+  fault-leads : (fault : MarketFault) → market_step old.table port heard ≡ faulty old.table (market_fault_number fault) → new ≡ old → Leads old.table (fault_turn port heard fault) new.table
   fault-leads fault is same = record {
     meets = record {
-      state = ap (λ (c : CoreState). c.table) same ∙ ap (λ (g : Given). g.state) (sym is);
-      client = ap (λ (g : Given). g.client) (sym is);
-      bodies = ap (λ (g : Given). g.bodies) (sym is);
-      fault = ap (λ (g : Given). g.fault) (sym is);
+      state = ap (λ (c : OrderCoreState). c.table) same ∙ ap (λ (g : GivenByEvent). g.state) (sym is);
+      client = ap (λ (g : GivenByEvent). g.client) (sym is);
+      bodies = ap (λ (g : GivenByEvent). g.bodies) (sym is);
+      fault = ap (λ (g : GivenByEvent). g.fault) (sym is);
       sends = refl;
     };
   }
 
-  pub fault-after : length before < 2 ^ 58 → QuietTurnsKeep → (fault : MarketFault) → market_step old.table port heard ≡ faulty old.table (number_of fault) → new ≡ old
-      → IsAfter terms before old → IsAfter terms (fault_turn port heard fault ∷ before) new
+  pub fault-after : length before < 2 ^ 58 → QuietTurnsKeep → (fault : MarketFault) → market_step old.table port heard ≡ faulty old.table (market_fault_number fault) → new ≡ old
+      → IsAfterTurns terms before old → IsAfterTurns terms (fault_turn port heard fault ∷ before) new
   fault-after short quiet fault is same after =
       let parts = parts-of terms before old after in
       let leads = fault-leads fault is same in
       more terms before old (fault_turn port heard fault) new parts.0 leads
-      (subst (KeepsOutstanding terms (fault_turn port heard fault ∷ before)) (ap (λ (c : CoreState). c.kept) (sym same))
-      (quiet terms before old.table short parts.0 old.kept parts.1 (fault_turn port heard fault) new.table port heard refl leads (ap (λ (g : Given). g.state) is)))
+      (subst (KeepsOutstanding terms (fault_turn port heard fault ∷ before)) (ap (λ (c : OrderCoreState). c.kept) (sym same))
+      (quiet terms before old.table short parts.0 old.kept parts.1 (fault_turn port heard fault) new.table port heard refl leads (ap (λ (g : GivenByEvent). g.state) is)))
 
 -- what holds of every turn that may come of it
-pub OfTurn-weaker : (port : ℕ) (heard : Result Outbound DecodeRefusal) (result : Result MarketOut MarketError) (P Q : Turn → Type 0) → ((t : Turn) → P t → Q t) → OfTurn port heard result P → OfTurn port heard result Q
+pub OfTurn-weaker : (port : ℕ) (heard : Result Outbound DecodeRefusal) (result : Result MarketOut MarketError) (P Q : OrderTurn → Type 0) → ((t : OrderTurn) → P t → Q t) → OfCall port heard result P → OfCall port heard result Q
 OfTurn-weaker port heard (Ok out) P Q weaker p = weaker (told_turn port heard out) p
 OfTurn-weaker port heard (Err errors.NoMemory) P Q weaker p = tt
 OfTurn-weaker port heard (Err (errors.Faulty fault)) P Q weaker p = weaker (fault_turn port heard fault) p
 
-pub market-after : (old : CoreState) (port : ℕ) (heard : Result Outbound DecodeRefusal) (result : Result MarketOut MarketError) (new : CoreState)
+pub market-after : (old : OrderCoreState) (port : ℕ) (heard : Result Outbound DecodeRefusal) (result : Result MarketOut MarketError) (new : OrderCoreState)
     → MarketTurnsKeep → QuietTurnsKeep → MeetsPayload old port heard result new → OnErr result (new ≡ old)
-    → OfTurn port heard result (λ turn. (terms : List Terms) (before : History) → length before < 2 ^ 58 → IsAfter terms before old → IsAfter terms (turn ∷ before) new)
+    → OfCall port heard result (λ turn. (terms : List Terms) (before : OrderHistory) → length before < 2 ^ 58 → IsAfterTurns terms before old → IsAfterTurns terms (turn ∷ before) new)
 market-after old port heard (Ok out) new market quiet meets same =
     λ terms before short after. told-after terms before old port heard new short market quiet out meets after
 market-after old port heard (Err errors.NoMemory) new market quiet meets same = tt
@@ -175,19 +175,19 @@ market-after old port heard (Err (errors.Faulty fault)) new market quiet meets s
 pub kept-as : (a b : List KeptMessage) (p q : ℕ) (order : List ℕ) (xs ys : List Inbound) → a ≡ b → p ≡ q → xs ≡ ys → a ++ kept_from p order xs ≡ b ++ kept_from q order ys
 kept-as a b p q order xs ys same_kept same_port same = rw (same_kept, same_port, same) refl
 
-pub handled-as : (old new : CoreState) (port : ℕ) (heard : Result Outbound DecodeRefusal) (turn : MarketTurn) (out : MarketOut) (table : State) (kept : List KeptMessage)
+pub handled-as : (old new : OrderCoreState) (port : ℕ) (heard : Result Outbound DecodeRefusal) (turn : MarketTurn) (out : MarketOut) (table : TableState) (kept : List KeptMessage)
     → GivesMarket (market_step old.table port heard) turn table → ChangesAny old.table port heard turn.changed → out.client ≡ turn.client → out.bodies.items ≡ turn.bodies.items
     → new ≡ record { table = table; kept = kept } → kept ≡ left_after port heard turn.changed old.kept → MeetsHandled old port heard out new
 handled-as old new port heard turn out table kept gives changes client bodies is leaves = record {
   turn = turn;
-  gives = subst (λ (c : CoreState). GivesMarket (market_step old.table port heard) turn c.table) (sym is) gives;
+  gives = subst (λ (c : OrderCoreState). GivesMarket (market_step old.table port heard) turn c.table) (sym is) gives;
   changes = changes;
   client = client;
   bodies = bodies;
-  kept = ap (λ (c : CoreState). c.kept) is ∙ leaves;
+  kept = ap (λ (c : OrderCoreState). c.kept) is ∙ leaves;
 }
 
 -- before the first turn
-pub empty-after : (terms : List Terms) (c : CoreState) → c.table ≡ empty terms → c.kept ≡ [] → NothingIsKept → IsAfter terms [] c
-unfolding IsAfter Leaves
+pub empty-after : (terms : List Terms) (c : OrderCoreState) → c.table ≡ table_without_orders terms → c.kept ≡ [] → NothingIsKept → IsAfterTurns terms [] c
+unfolding IsAfterTurns TurnsLeave
 empty-after terms c no_orders nothing first = (no_orders, subst (KeepsOutstanding terms []) (sym nothing) (first terms))

@@ -2,3 +2,11 @@ pub mod State
 pub mod Meets
 pub mod Turns
 pub mod Runs
+pub use Rattle.fix_types.specs.Application
+pub use Rattle.order_law.specs.Headline
+pub use Rattle.order_law.specs.History
+pub use Rattle.order_law.specs.Lawful
+pub use Rattle.ouch_codec.specs.Inbound
+pub use Rattle.ouch_codec.specs.Values
+pub use Rattle.to_market.specs.PortsSeen
+pub use Rattle.to_market.specs.TermsSeen

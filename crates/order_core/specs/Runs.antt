@@ -11,12 +11,12 @@ use Rattle.order_core.specs.declared.runs.Outcome.{Outcome}
 use Rattle.to_market.specs.PortsSeen.{port_seen}
 use Rattle.order_ledger.specs.Seen.{client_seen}
 
-abbrev pub event_of : Event → law.Event
+abbrev pub event_of : Event → law.OrderEvent
 event_of (Came client message port) = law.Came client (message_fields message) (port_seen port)
 event_of (Heard port payload) = law.Heard port (decoded payload.items)
 
 -- an event with what came of it
-abbrev pub outcome_turn : law.Event → Outcome → law.Turn
+abbrev pub outcome_turn : law.OrderEvent → Outcome → law.OrderTurn
 outcome_turn event outcome = record {
   event = event;
   client = client_seen outcome.client;
@@ -25,22 +25,22 @@ outcome_turn event outcome = record {
   fault = outcome.fault;
 }
 
-abbrev pub turn_of : Event → Outcome → law.Turn
-turn_of event outcome = outcome_turn (event_of event) outcome
+abbrev pub turn_of_outcome : Event → Outcome → law.OrderTurn
+turn_of_outcome event outcome = outcome_turn (event_of event) outcome
 
 -- the turns of these events and outcomes, the newest first, after those before
-abbrev pub onto : List Event → List Outcome → law.History → law.History
-onto [] outcomes before = before
-onto (e ∷ events) [] before = before
-onto (e ∷ events) (o ∷ outcomes) before = onto events outcomes (turn_of e o ∷ before)
+abbrev pub outcomes_onto : List Event → List Outcome → law.OrderHistory → law.OrderHistory
+outcomes_onto [] outcomes before = before
+outcomes_onto (e ∷ events) [] before = before
+outcomes_onto (e ∷ events) (o ∷ outcomes) before = outcomes_onto events outcomes (turn_of_outcome e o ∷ before)
 
-abbrev pub history : List Event → List Outcome → law.History
-history events outcomes = onto events outcomes []
+abbrev pub run_history : List Event → List Outcome → law.OrderHistory
+run_history events outcomes = outcomes_onto events outcomes []
 
 -- its client is one of so many
-abbrev pub is_known : ℕ → Event → Bool
-is_known clients (Came client message port) = nat_le 1 client && nat_le client clients
-is_known clients (Heard port payload) = true
+abbrev pub is_known_client : ℕ → Event → Bool
+is_known_client clients (Came client message port) = nat_le 1 client && nat_le client clients
+is_known_client clients (Heard port payload) = true
 
 abbrev pub AreKnown : ℕ → List Event → Type 0
-AreKnown clients events = list_all (is_known clients) events ≡ true
+AreKnown clients events = list_all (is_known_client clients) events ≡ true

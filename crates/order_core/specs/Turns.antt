@@ -5,9 +5,9 @@ use Rattle.fix_types.specs.Application.{body_fields, message_fields}
 use Rattle.ouch_codec.specs.Inbound.{inbound_bytes}
 use Rattle.ouch_codec.specs.declared.outbound.Outbound.{Outbound}
 use Rattle.ouch_codec.specs.declared.refusal.DecodeRefusal.{DecodeRefusal}
-use Rattle.order_law.specs.History.{Came, Heard, Turn}
-use Rattle.market_turns.specs.Turns.{number_of}
-use Rattle.market_turns.specs.declared.market_fault.MarketFault.{MarketFault}
+use Rattle.order_law.specs.History.{Came, Heard, OrderTurn}
+use Rattle.market_messages.specs.Turns.{market_fault_number}
+use Rattle.market_messages.specs.declared.market_fault.MarketFault.{MarketFault}
 use Rattle.order_ledger.specs.declared.market_error.MarketError.{MarketError}
 use Rattle.order_ledger.specs.declared.market_error.MarketError.TheVariants as errors
 use Rattle.order_core.specs.declared.outcome.CoreOut.{CoreOut}
@@ -17,7 +17,7 @@ use Rattle.to_market.specs.PortsSeen.{port_seen}
 use Rattle.order_ledger.specs.Seen.{client_seen}
 
 -- a client's turn
-abbrev pub client_turn : ℕ → AppMsg → PortState → CoreOut → Turn
+abbrev pub client_turn : ℕ → AppMsg → PortState → CoreOut → OrderTurn
 client_turn client message port out = record {
   event = Came client (message_fields message) (port_seen port);
   client = client;
@@ -27,7 +27,7 @@ client_turn client message port out = record {
 }
 
 -- a port's turn: it was handled, or it is a fault
-abbrev pub told_turn : ℕ → Result Outbound DecodeRefusal → MarketOut → Turn
+abbrev pub told_turn : ℕ → Result Outbound DecodeRefusal → MarketOut → OrderTurn
 told_turn port heard out = record {
   event = Heard port heard;
   client = client_seen out.client;
@@ -36,11 +36,17 @@ told_turn port heard out = record {
   fault = None;
 }
 
-abbrev pub fault_turn : ℕ → Result Outbound DecodeRefusal → MarketFault → Turn
-fault_turn port heard fault = record { event = Heard port heard; client = 0; bodies = []; sends = []; fault = Some (number_of fault) }
+abbrev pub fault_turn : ℕ → Result Outbound DecodeRefusal → MarketFault → OrderTurn
+fault_turn port heard fault = record {
+  event = Heard port heard;
+  client = 0;
+  bodies = [];
+  sends = [];
+  fault = Some (market_fault_number fault);
+}
 
 -- a call that ran out of memory is no turn
-abbrev pub OfTurn : ℕ → Result Outbound DecodeRefusal → Result MarketOut MarketError → (Turn → Type 0) → Type 0
-OfTurn port heard (Ok out) P = P (told_turn port heard out)
-OfTurn port heard (Err errors.NoMemory) P = Unit {0}
-OfTurn port heard (Err (errors.Faulty fault)) P = P (fault_turn port heard fault)
+abbrev pub OfCall : ℕ → Result Outbound DecodeRefusal → Result MarketOut MarketError → (OrderTurn → Type 0) → Type 0
+OfCall port heard (Ok out) P = P (told_turn port heard out)
+OfCall port heard (Err errors.NoMemory) P = Unit {0}
+OfCall port heard (Err (errors.Faulty fault)) P = P (fault_turn port heard fault)

@@ -1,8 +1,9 @@
-//! The order level as one value: what clients ask goes in, and what the market is asked and clients are told comes out.
+//! The order level as one value: what clients ask goes in, and what the market is asked and clients are told comes
+//! out.
 //!
-//! It is stepped by an application message of a client, or by a payload of a market port. It knows nothing of links, sequence
-//! numbers and time. Each call gives all that it causes, or changes nothing. What a port was asked and hasn't answered is
-//! kept, so that it can be sent once more when the port comes up again.
+//! It is stepped by an application message of a client, or by a payload of a market port. It knows nothing of links,
+//! sequence numbers and time. Each call gives all that it causes, or changes nothing. What a port was asked and
+//! hasn't answered is kept, so that it can be sent once more when the port comes up again.
 //!
 //! Source: FIX 4.4 Volume 4, "Order State Change Matrices"; OUCH 4.2, order messages; SoupBinTCP 3.00, "Login Request
 //! Packet".

@@ -1,6 +1,6 @@
 //! The value, and the calls that step it.
 
-ghost use Rattle.std.specs.Prelude.{◌≡◌, length, map, IfOk, MatchOption, OnErr, ◌<◌, ◌^◌, ◌∷◌, [], List};
+ghost use Rattle.std.specs.Prelude.{◌≡◌, length, map, IfOk, MatchOption, None, OnErr, ◌<◌, ◌^◌, ◌∷◌, [], List};
 ghost use Rattle.ouch_codec.specs.Values.{decoded};
 ghost use Rattle.order_law.specs.Lawful.{token_of_heard};
 ghost use Rattle.ouch_codec.specs.Inbound.{inbound_bytes};
@@ -8,16 +8,10 @@ ghost use Rattle.to_market.specs.PortsSeen.{port_seen};
 ghost use Rattle.order_core.specs.Meets.{left_after, sent_of};
 
 use crate::outcome::{CoreOut, MarketOut};
-use asked_messages::{
-    AskedMessages, kept_messages_say_what_is_outstanding, messages_say_it_of_their_order,
-};
 use fix_types::AppMsg;
-use order_histories::{
-    asked_tokens_lead_to_their_orders, orders_go_by_their_numbers, tables_have_the_headline,
-    tokens_lead_to_accepted_orders,
-};
 use order_ledger::{ChangedOrder, ClientTerms, MarketError, OrderLedger, PortState};
 use ouch_codec::{DecodeRefusal, Inbound, Outbound, decode};
+use outstanding::AskedMessages;
 use std::alloc::{AllocError, Global};
 use std::marker::Model;
 
@@ -33,7 +27,7 @@ pub struct OrderCore {
 impl Model for OrderCore {
     ghost use Rattle.order_core.specs.State as state;
 
-    ghost Value = { state.CoreState };
+    ghost Value = { state.OrderCoreState };
 
     ghost view = { λ c. record { table = c.ledger; kept = c.asked.messages } };
 }
@@ -41,20 +35,20 @@ impl Model for OrderCore {
 impl OrderCore {
     ghost use Rattle.order_law.specs.Headline.{EachWith, Headline, SaysIn};
     ghost use Rattle.std.specs.Prelude.{option_map, option_and_then};
-    ghost use Rattle.order_law.specs.History.{Entry, History, Terms, accepted, outstanding};
+    ghost use Rattle.order_law.specs.History.{Entry, OrderHistory, Terms, accepted, outstanding};
     ghost use Rattle.order_law.specs.Lawful.{order_of_token};
     ghost use Rattle.to_market.specs.TermsSeen.{terms_seen};
     ghost use Rattle.order_core.specs.Meets.{MeetsClient, MeetsPayload};
-    ghost use Rattle.order_core.specs.State.{IsAfter, clients, IsClient, issued, HasRoom, Keeps};
-    ghost use Rattle.order_core.specs.Turns.{OfTurn, client_turn};
+    ghost use Rattle.order_core.specs.State.{IsAfterTurns, core_clients, IsCoreClient, core_numbers, CoreHasRoom};
+    ghost use Rattle.order_core.specs.State.{CoreKeeps};
+    ghost use Rattle.order_core.specs.Turns.{OfCall, client_turn};
 
     /// The order level of these clients, with no orders.
     pub fn new(alloc: Global, terms: &[ClientTerms]) -> Result<OrderCore, AllocError>
-        ensures clients { IfOk result (λ core. clients core ≡ length terms.now) }
-        ensures issued { IfOk result (λ core. issued core ≡ 0) }
-        ensures after { IfOk result (λ core. IsAfter (map terms_seen terms.now) [] core) }
+        ensures clients { IfOk result (λ core. core_clients core ≡ length terms.now) }
+        ensures issued { IfOk result (λ core. core_numbers core ≡ 0) }
+        ensures after { IfOk result (λ core. IsAfterTurns (map terms_seen terms.now) [] core) }
     {
-        kept_messages_say_what_is_outstanding();
         Ok(OrderCore {
             ledger: OrderLedger::new(alloc, terms)?,
             asked: AskedMessages::new(alloc),
@@ -63,9 +57,10 @@ impl OrderCore {
 
     /// Steps an application message of a client, whose port stands as given. The client is one of the terms'.
     ///
-    /// A new order, a cancel or a replace is accepted, with a report and, where the port is up, the messages that ask it of
-    /// the market; or it is refused by the first row of its table that holds, in one report or reject. Where the port waits,
-    /// what is asked is kept until it is up: `outstanding` has it. `AllocError` leaves the core as it was.
+    /// A new order, a cancel or a replace is accepted, with a report and, where the port is up, the messages that ask
+    /// it of the market; or it is refused by the first row of its table that holds, in one report or reject. Where
+    /// the port waits, what is asked is kept until it is up: `outstanding` has it. `AllocError` leaves the core as it
+    /// was.
     ///
     /// Source: FIX 4.4 Volume 4, "New Order - Single", "Order Cancel Request", "Order Cancel/Replace Request".
     pub fn client(
@@ -75,29 +70,26 @@ impl OrderCore {
         message: &AppMsg,
         port: PortState,
     ) -> Result<CoreOut, AllocError>
-        requires client { IsClient self.old client }
-        requires room { HasRoom self.old }
-        ensures after { IfOk result (λ out. (terms : List Terms) (before : History)
-            → length before < 2 ^ 58 → IsAfter terms before self.old → IsAfter terms (client_turn client message.now port out ∷ before) self.new) }
-        ensures headline { IfOk result (λ out. (terms : List Terms) (before : History)
-            → length before < 2 ^ 58 → IsAfter terms before self.old → Headline terms (client_turn client message.now port out ∷ before)) }
-        ensures keeps { Keeps self.old self.new }
+        requires client { IsCoreClient self.old client }
+        requires room { CoreHasRoom self.old }
+        ensures after { IfOk result (λ out. (terms : List Terms) (before : OrderHistory)
+            → length before < 2 ^ 58 → IsAfterTurns terms before self.old
+            → IsAfterTurns terms (client_turn client message.now port out ∷ before) self.new) }
+        ensures headline { IfOk result (λ out. (terms : List Terms) (before : OrderHistory)
+            → length before < 2 ^ 58 → IsAfterTurns terms before self.old
+            → Headline terms (client_turn client message.now port out ∷ before)) }
+        ensures keeps { CoreKeeps self.old self.new }
         ensures err { OnErr result (self.new ≡ self.old) }
     {
-        tables_have_the_headline();
-        asked_tokens_lead_to_their_orders();
-        orders_go_by_their_numbers();
-        kept_messages_say_what_is_outstanding();
-        messages_say_it_of_their_order();
         self.client_step(alloc, client, message, port)
     }
 
     /// Steps a payload that a market port's session gave.
     ///
-    /// What the market says of an order changes it and is told to its client, in order; what it answers isn't outstanding
-    /// any more. Any fault leaves the core as it was. The faults, the first that holds: `OutsideProfile` (a type that isn't
-    /// known), `Undecodable` (another length than its type's, a field outside its set, or no byte at all), `UnknownToken`
-    /// (no order of this port has it), `NotLawful` (it doesn't fit how the order stands).
+    /// What the market says of an order changes it and is told to its client, in order; what it answers isn't
+    /// outstanding any more. Any fault leaves the core as it was. The faults, the first that holds: `OutsideProfile`
+    /// (a type that isn't known), `Undecodable` (another length than its type's, a field outside its set, or no byte
+    /// at all), `UnknownToken` (no order of this port has it), `NotLawful` (it doesn't fit how the order stands).
     ///
     /// Source: OUCH 4.2, "Outbound Messages".
     pub fn market(
@@ -106,40 +98,43 @@ impl OrderCore {
         port: u16,
         payload: &[u8],
     ) -> Result<MarketOut, MarketError>
-        requires room { HasRoom self.old }
-        ensures after { OfTurn port (decoded payload.now) result (λ turn. (terms : List Terms) (before : History)
-            → length before < 2 ^ 58 → IsAfter terms before self.old → IsAfter terms (turn ∷ before) self.new) }
-        ensures headline { OfTurn port (decoded payload.now) result (λ turn. (terms : List Terms) (before : History)
-            → length before < 2 ^ 58 → IsAfter terms before self.old → Headline terms (turn ∷ before)) }
-        ensures keeps { Keeps self.old self.new }
+        requires room { CoreHasRoom self.old }
+        ensures after { OfCall port (decoded payload.now) result (λ turn. (terms : List Terms) (before : OrderHistory)
+            → length before < 2 ^ 58 → IsAfterTurns terms before self.old
+            → IsAfterTurns terms (turn ∷ before) self.new) }
+        ensures headline { OfCall port (decoded payload.now) result
+            (λ turn. (terms : List Terms) (before : OrderHistory)
+            → length before < 2 ^ 58 → IsAfterTurns terms before self.old → Headline terms (turn ∷ before)) }
+        ensures nobody { IfOk result (λ out. out.bodies.items ≡ [] → out.client ≡ None) }
+        ensures keeps { CoreKeeps self.old self.new }
         ensures err { OnErr result (self.new ≡ self.old) }
     {
-        tables_have_the_headline();
-        kept_messages_say_what_is_outstanding();
         self.market_step(alloc, port, &decode(payload))
     }
 
-    /// What a port was asked and no message that was handled has answered, in the order in which it was asked: to be sent
-    /// once more when the port comes up. A message of an order that is closed isn't among them.
+    /// What a port was asked and no message that was handled has answered, in the order in which it was asked: to be
+    /// sent once more when the port comes up. A message of an order that is closed isn't among them.
     ///
     /// Source: SoupBinTCP 3.00, "Login Request Packet"; OUCH 4.2, "Enter Order Message" (a token is taken once).
     pub fn outstanding(&self, alloc: Global, port: u16) -> Result<Vec<Inbound>, AllocError>
-        ensures { IfOk result (λ messages. (terms : List Terms) (before : History) → length before < 2 ^ 59 → IsAfter terms before self.now
+        ensures { IfOk result (λ messages. (terms : List Terms) (before : OrderHistory) → length before < 2 ^ 59
+            → IsAfterTurns terms before self.now
             → EachWith (SaysIn terms before port) (outstanding terms port before) (map inbound_bytes messages.items)) }
     {
-        kept_messages_say_what_is_outstanding();
         self.asked.on_port(alloc, port)
     }
 
-    /// The number of the client whose order a payload of a market port is on, from 1: that of the token that the message goes by,
-    /// be it lawful or not.
+    /// The number of the client whose order a payload of a market port is on, from 1: that of the token that the
+    /// message goes by, be it lawful or not.
     ///
     /// Source: OUCH 4.2, "Outbound Messages" (Order Token).
     pub fn client_of(&self, port: u16, payload: &[u8]) -> Option<u16>
-        ensures { (terms : List Terms) (before : History) → length before < 2 ^ 58 → IsAfter terms before self.now
-            → result ≡ option_map (λ (new : Entry). new.client) (option_and_then (order_of_token terms port (accepted terms before)) (token_of_heard (decoded payload.now))) }
+        ensures { (terms : List Terms) (before : OrderHistory) → length before < 2 ^ 58
+            → IsAfterTurns terms before self.now
+            → result ≡ option_map (λ (new : Entry). new.client)
+            (option_and_then (order_of_token terms port (accepted terms before))
+            (token_of_heard (decoded payload.now))) }
     {
-        tokens_lead_to_accepted_orders();
         let heard = decode(payload);
         match token_of(&heard) {
             Some(token) => self.ledger.client_of_token(port, token),
@@ -155,10 +150,10 @@ impl OrderCore {
         message: &AppMsg,
         port: PortState,
     ) -> Result<CoreOut, AllocError>
-        requires client { IsClient self.old client }
-        requires room { HasRoom self.old }
+        requires client { IsCoreClient self.old client }
+        requires room { CoreHasRoom self.old }
         ensures meets { IfOk result (λ out. MeetsClient self.old client message.now (port_seen port) out self.new) }
-        ensures keeps { Keeps self.old self.new }
+        ensures keeps { CoreKeeps self.old self.new }
         ensures err { OnErr result (self.new ≡ self.old) }
     {
         self.asked.reserve(2)?;
@@ -179,9 +174,10 @@ impl OrderCore {
         port: u16,
         heard: &Result<Outbound, DecodeRefusal>,
     ) -> Result<MarketOut, MarketError>
-        requires room { HasRoom self.old }
+        requires room { CoreHasRoom self.old }
         ensures meets { MeetsPayload self.old port heard.now result self.new }
-        ensures keeps { Keeps self.old self.new }
+        ensures nobody { IfOk result (λ out. out.bodies.items ≡ [] → out.client ≡ None) }
+        ensures keeps { CoreKeeps self.old self.new }
         ensures err { OnErr result (self.new ≡ self.old) }
     {
         let turn = self.ledger.market(alloc, port, heard)?;
@@ -223,7 +219,8 @@ fn drop_answered(
 ///
 /// Source: OUCH 4.2, "Outbound Messages" (Order Token, Previous Order Token).
 fn token_of(heard: &Result<Outbound, DecodeRefusal>) -> Option<&[u8; 14]>
-    ensures { MatchOption result (token_of_heard heard.now ≡ None) (λ token. token_of_heard heard.now ≡ Some token.now) }
+    ensures { MatchOption result (token_of_heard heard.now ≡ None)
+        (λ token. token_of_heard heard.now ≡ Some token.now) }
 {
     match heard {
         Ok(message) => message.order_token(),

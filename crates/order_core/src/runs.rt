@@ -4,16 +4,15 @@ ghost use Rattle.std.specs.Prelude.{◌≡◌, ◌<◌, ◌^◌, ◌∷◌, true
 ghost use Rattle.fix_types.specs.Application.{message_fields};
 ghost use Rattle.ouch_codec.specs.Values.{decoded};
 ghost use Rattle.order_law.specs.Headline.{Headline};
-ghost use Rattle.order_law.specs.History.{Came, Heard, History, Terms};
-ghost use Rattle.order_histories.specs.Runs.{IsRun};
-ghost use Rattle.order_core.specs.Runs.{AreKnown, history, is_known, outcome_turn, turn_of};
+ghost use Rattle.order_law.specs.History.{Came, Heard, OrderHistory, Terms};
+ghost use Rattle.order_machine.specs.Runs.{IsTableRun};
+ghost use Rattle.order_core.specs.Runs.{AreKnown, run_history, is_known_client, outcome_turn, turn_of_outcome};
 ghost use Rattle.to_market.specs.PortsSeen.{port_seen};
 ghost use Rattle.to_market.specs.TermsSeen.{terms_seen};
-ghost use Rattle.order_core.specs.State.{IsAfter, clients, HasRoom, IsClient, Keeps};
+ghost use Rattle.order_core.specs.State.{IsAfterTurns, core_clients, CoreHasRoom, IsCoreClient, CoreKeeps};
 
 use crate::order_core::OrderCore;
 use fix_types::{AppBody, AppMsg};
-use order_histories::tables_have_the_headline;
 use order_ledger::{ClientTerms, MarketError, PortState};
 use ouch_codec::Inbound;
 use std::alloc::{AllocError, Global};
@@ -49,13 +48,15 @@ pub struct Outcome {
 
 /// Steps an event. `AllocError` leaves the machine as it was.
 pub fn step(core: &mut OrderCore, alloc: Global, event: &Event) -> Result<Outcome, AllocError>
-    requires client { is_known (clients core.old) event.now ≡ true }
-    requires room { HasRoom core.old }
-    ensures after { IfOk result (λ outcome. (terms : List Terms) (before : History)
-        → length before < 2 ^ 58 → IsAfter terms before core.old → IsAfter terms (turn_of event.now outcome ∷ before) core.new) }
-    ensures headline { IfOk result (λ outcome. (terms : List Terms) (before : History)
-        → length before < 2 ^ 58 → IsAfter terms before core.old → Headline terms (turn_of event.now outcome ∷ before)) }
-    ensures keeps { Keeps core.old core.new }
+    requires client { is_known_client (core_clients core.old) event.now ≡ true }
+    requires room { CoreHasRoom core.old }
+    ensures after { IfOk result (λ outcome. (terms : List Terms) (before : OrderHistory)
+        → length before < 2 ^ 58 → IsAfterTurns terms before core.old
+        → IsAfterTurns terms (turn_of_outcome event.now outcome ∷ before) core.new) }
+    ensures headline { IfOk result (λ outcome. (terms : List Terms) (before : OrderHistory)
+        → length before < 2 ^ 58 → IsAfterTurns terms before core.old
+        → Headline terms (turn_of_outcome event.now outcome ∷ before)) }
+    ensures keeps { CoreKeeps core.old core.new }
     ensures err { OnErr result (core.new ≡ core.old) }
 {
     match event {
@@ -76,14 +77,16 @@ fn client_outcome(
     message: &AppMsg,
     port: PortState,
 ) -> Result<Outcome, AllocError>
-    requires client { IsClient core.old client }
-    requires room { HasRoom core.old }
-    ensures after { IfOk result (λ outcome. (terms : List Terms) (before : History)
-        → length before < 2 ^ 58 → IsAfter terms before core.old → IsAfter terms (outcome_turn (Came client (message_fields message.now) (port_seen port)) outcome ∷ before) core.new) }
-    ensures headline { IfOk result (λ outcome. (terms : List Terms) (before : History)
-        → length before < 2 ^ 58 → IsAfter terms before core.old
+    requires client { IsCoreClient core.old client }
+    requires room { CoreHasRoom core.old }
+    ensures after { IfOk result (λ outcome. (terms : List Terms) (before : OrderHistory)
+        → length before < 2 ^ 58 → IsAfterTurns terms before core.old
+        → IsAfterTurns terms (outcome_turn (Came client (message_fields message.now) (port_seen port)) outcome
+        ∷ before) core.new) }
+    ensures headline { IfOk result (λ outcome. (terms : List Terms) (before : OrderHistory)
+        → length before < 2 ^ 58 → IsAfterTurns terms before core.old
         → Headline terms (outcome_turn (Came client (message_fields message.now) (port_seen port)) outcome ∷ before)) }
-    ensures keeps { Keeps core.old core.new }
+    ensures keeps { CoreKeeps core.old core.new }
     ensures err { OnErr result (core.new ≡ core.old) }
 {
     let out = core.client(alloc, client, message, port)?;
@@ -102,14 +105,14 @@ fn market_outcome(
     port: u16,
     payload: &[u8],
 ) -> Result<Outcome, AllocError>
-    requires room { HasRoom core.old }
-    ensures after { IfOk result (λ outcome. (terms : List Terms) (before : History)
-        → length before < 2 ^ 58 → IsAfter terms before core.old
-        → IsAfter terms (outcome_turn (Heard port (decoded payload.now)) outcome ∷ before) core.new) }
-    ensures headline { IfOk result (λ outcome. (terms : List Terms) (before : History)
-        → length before < 2 ^ 58 → IsAfter terms before core.old
+    requires room { CoreHasRoom core.old }
+    ensures after { IfOk result (λ outcome. (terms : List Terms) (before : OrderHistory)
+        → length before < 2 ^ 58 → IsAfterTurns terms before core.old
+        → IsAfterTurns terms (outcome_turn (Heard port (decoded payload.now)) outcome ∷ before) core.new) }
+    ensures headline { IfOk result (λ outcome. (terms : List Terms) (before : OrderHistory)
+        → length before < 2 ^ 58 → IsAfterTurns terms before core.old
         → Headline terms (outcome_turn (Heard port (decoded payload.now)) outcome ∷ before)) }
-    ensures keeps { Keeps core.old core.new }
+    ensures keeps { CoreKeeps core.old core.new }
     ensures err { OnErr result (core.new ≡ core.old) }
 {
     match core.market(alloc, port, payload) {
@@ -141,10 +144,11 @@ pub fn run(
     requires clients { AreKnown (length terms.now) events.now }
     requires short { length events.now < 2 ^ 57 }
     ensures count { IfOk result (λ outcomes. length outcomes.items ≡ length events.now) }
-    ensures exact { IfOk result (λ outcomes. IsRun (map terms_seen terms.now) (history events.now outcomes.items)) }
-    ensures headline { IfOk result (λ outcomes. Headline (map terms_seen terms.now) (history events.now outcomes.items)) }
+    ensures exact { IfOk result (λ outcomes. IsTableRun (map terms_seen terms.now)
+        (run_history events.now outcomes.items)) }
+    ensures headline { IfOk result (λ outcomes. Headline (map terms_seen terms.now)
+        (run_history events.now outcomes.items)) }
 {
-    tables_have_the_headline();
     let mut core = OrderCore::new(alloc, terms)?;
     let mut outcomes = Vec::new(alloc);
     for event in events {

@@ -19,7 +19,7 @@ replace_pending : IsLawful exchanges.replace_pending
 unfolding digits price quantity amount amount_of within scaled fraction worth worth_of last_digits price_text
 replace_pending = record { tells = refl; faults = refl; asks = refl; tokens = refl }
 
-filled : IsLawful exchanges.filled
+filled : IsLawful exchanges.order_is_filled
 unfolding digits price quantity amount amount_of within scaled fraction worth worth_of last_digits price_text
 filled = record { tells = refl; faults = refl; asks = refl; tokens = refl }
 
@@ -79,7 +79,7 @@ executed_too_much : IsLawful exchanges.executed_too_much
 unfolding digits price quantity amount amount_of within scaled fraction worth worth_of last_digits price_text
 executed_too_much = record { tells = refl; faults = refl; asks = refl; tokens = refl }
 
-cancel_rejected : IsLawful exchanges.cancel_rejected
+cancel_rejected : IsLawful exchanges.cancel_is_rejected
 unfolding digits price quantity amount amount_of within scaled fraction worth worth_of last_digits price_text
 cancel_rejected = record { tells = refl; faults = refl; asks = refl; tokens = refl }
 
@@ -179,7 +179,7 @@ cancel_at_the_market : IsLawful exchanges.cancel_at_the_market
 unfolding digits price quantity amount amount_of within scaled fraction worth worth_of last_digits price_text
 cancel_at_the_market = record { tells = refl; faults = refl; asks = refl; tokens = refl }
 
-cancelled : IsLawful exchanges.cancelled
+cancelled : IsLawful exchanges.order_is_cancelled
 unfolding digits price quantity amount amount_of within scaled fraction worth worth_of last_digits price_text
 cancelled = record { tells = refl; faults = refl; asks = refl; tokens = refl }
 

@@ -9,3 +9,6 @@ pub mod Misstated
 pub mod AskRows
 pub mod VerdictRows
 pub mod MarketRows
+pub use Rattle.order_law.specs.Headline
+pub use Rattle.order_law.specs.History
+pub use Rattle.order_law.specs.Told

@@ -1,11 +1,12 @@
 -- What a FIX message asks, and what an OUCH message asks. The first never looks at bytes, the second never at tags.
 use Rattle.std.specs.Result.{result_unwrap_or}
-use Rattle.std.specs.Prelude.{ℕ, Bool, List, Option, Some, None, option_map, if◌then◌else◌, ◌==◌, ◌&&◌, bytes_eq, codes, slice_index}
+use Rattle.std.specs.Prelude.{ℕ, Bool, List, Option, Some, None, option_map, if◌then◌else◌, ◌==◌, ◌&&◌, bytes_eq, codes}
+use Rattle.std.specs.Prelude.{slice_index}
 use Rattle.fixed_point.specs.Decimal.{price, quantity}
 use Rattle.ouch_codec.specs.Layout.{is_message}
-use Rattle.ouch_codec.specs.Layouts.{enter_order, replace, cancel}
+use Rattle.ouch_codec.specs.Layouts.{enter_order_layout, replace_layout, cancel_layout}
 use Rattle.ouch_codec.specs.ToMarket as said
-use Rattle.order_law.specs.Messages.{Message, has, text, is, character}
+use Rattle.fix_fields.specs.Field.{Message, has, text, is, character}
 
 -- FIX 4.4 Volume 6, TimeInForce (59): 0 for the day, 3 immediate or cancel
 pub data LifeTime : Type 0 where
@@ -70,7 +71,7 @@ asked_by_new own message = New (character 54 message) (text 55 message) (limits_
 abbrev pub asked_by_request : ℕ → Message → Option Ask
 asked_by_request order message =
     if is 35 (codes "G") message then Some (Change order (limits_of message))
-    else (if is 35 (codes "F") message then Some (Stop order) else None)
+    else if is 35 (codes "F") message then Some (Stop order) else None
 
 -- ---- OUCH
 
@@ -78,13 +79,13 @@ asked_by_request order message =
 abbrev pub side_of_letter : ℕ → Option ℕ
 side_of_letter byte =
     if byte == letter (codes "B") then Some (letter (codes "1"))
-    else (if byte == letter (codes "S") then Some (letter (codes "2"))
-    else (if byte == letter (codes "T") then Some (letter (codes "5"))
-    else (if byte == letter (codes "E") then Some (letter (codes "6")) else None)))
+    else if byte == letter (codes "S") then Some (letter (codes "2"))
+    else if byte == letter (codes "T") then Some (letter (codes "5"))
+    else if byte == letter (codes "E") then Some (letter (codes "6")) else None
 
 -- 99998 is for the day, 0 immediate or cancel. (OUCH 4.2, "Time in Force".)
 abbrev pub life_time_of_seconds : ℕ → Option LifeTime
-life_time_of_seconds seconds = if seconds == 99998 then Some Day else (if seconds == 0 then Some Immediate else None)
+life_time_of_seconds seconds = if seconds == 99998 then Some Day else if seconds == 0 then Some Immediate else None
 
 -- what never varies between the orders of a client: its firm, and its customer type
 pub record Standing : Type 0 where
@@ -93,7 +94,8 @@ pub record Standing : Type 0 where
 
 -- an Enter Order asks for a new order, if firm, sweep, cross and customer are those that never vary
 abbrev pub ask_of_enter : Standing → List ℕ → Option Ask
-ask_of_enter standing m = with_side (side_of_letter (said.enter_side m)) (life_time_of_seconds (said.enter_time_in_force m))
+ask_of_enter standing m = with_side (side_of_letter (said.enter_side m))
+    (life_time_of_seconds (said.enter_time_in_force m))
   where
     is_standing : Bool
     is_standing =
@@ -144,6 +146,6 @@ ask_of_cancel order_of m =
 -- (OUCH 4.2, "Inbound Messages".)
 abbrev pub ask_of_bytes : Standing → (List ℕ → Option ℕ) → List ℕ → Option Ask
 ask_of_bytes standing order_of m =
-    if is_message enter_order m then ask_of_enter standing m
-    else (if is_message replace m then ask_of_replace order_of m
-    else (if is_message cancel m then ask_of_cancel order_of m else None))
+    if is_message enter_order_layout m then ask_of_enter standing m
+    else if is_message replace_layout m then ask_of_replace order_of m
+    else if is_message cancel_layout m then ask_of_cancel order_of m else None

@@ -1,8 +1,9 @@
 -- The ClOrdID chain of an order, from the reports and rejects of its client. (FIX 4.4 Volume 1, "Order Cancel/Replace
 -- Request", ClOrdID chaining.)
-use Rattle.std.specs.Prelude.{ℕ, Bool, true, false, not, ◌&&◌, ◌||◌, List, [], ◌∷◌, ◌++◌, map, Option, if◌then◌else◌, bytes_eq, codes, filter}
+use Rattle.std.specs.Prelude.{ℕ, Bool, true, false, not, ◌&&◌, ◌||◌, List, [], ◌∷◌, ◌++◌, map, Option, if◌then◌else◌}
+use Rattle.std.specs.Prelude.{bytes_eq, codes, filter}
 use Rattle.std.specs.List.{find, list_any}
-use Rattle.order_law.specs.Messages.{Message, text, is}
+use Rattle.fix_fields.specs.Field.{Message, text, is}
 use Rattle.order_law.specs.Reading.{is_report}
 
 -- an accepted request that isn't answered: its ClOrdID, and whether it is a replace
@@ -33,18 +34,19 @@ answered r x = record x { pending = without_request (text 11 r) x.pending }
 abbrev requested : Message → Bool → Chain → Chain
 requested r is_replace x = record x { pending = x.pending ++ record { id = text 11 r; is_replace = is_replace } ∷ [] }
 
--- A: the order's first id; 5: a replace is answered, and its id is the current one; 4 answers a cancel; E and 6 accept one
+-- A: the order's first id; 5: a replace is answered, and its id is the current one; 4 answers a cancel; E and 6
+-- accept one
 abbrev by_report : Chain → Message → Chain
 by_report x r =
     if is 150 (codes "A") r then record x { current = text 11 r }
-    else (if is 150 (codes "5") r then answered r (record x { current = text 11 r })
-    else (if is 150 (codes "4") r then answered r x
-    else (if is 150 (codes "E") r then requested r true x
-    else (if is 150 (codes "6") r then requested r false x else x))))
+    else if is 150 (codes "5") r then answered r (record x { current = text 11 r })
+    else if is 150 (codes "4") r then answered r x
+    else if is 150 (codes "E") r then requested r true x
+    else if is 150 (codes "6") r then requested r false x else x
 
 -- what a report, or a reject of a request, makes of the chain. A reject for a used id (102=6) answers nothing.
 abbrev pub linked : Chain → Message → Chain
-linked x r = if is_report r then by_report x r else (if is 102 (codes "6") r then x else answered r x)
+linked x r = if is_report r then by_report x r else if is 102 (codes "6") r then x else answered r x
 
 -- the chain of an order after these, the newest first
 abbrev pub chain : List ℕ → List Message → Chain

@@ -1,17 +1,20 @@
 -- What came of a list of events of the order level: what was accepted, is asked of the market and is outstanding.
-use Rattle.std.specs.Prelude.{ℕ, ◌+◌, ◌-◌, ◌==◌, Bool, true, false, not, ◌&&◌, ◌||◌, List, [], ◌∷◌, ◌++◌, reverse, map, filter, Option, Some, None, if◌then◌else◌, bytes_eq, codes, decimal, option_map, option_and_then, unwrap_or, is_some, option_to_list, Result, Ok, Err}
+use Rattle.std.specs.Prelude.{ℕ, ◌+◌, ◌-◌, ◌==◌, Bool, true, false, not, ◌&&◌, ◌||◌, List, [], ◌∷◌, ◌++◌, reverse, map}
+use Rattle.std.specs.Prelude.{filter, Option, Some, None, if◌then◌else◌, bytes_eq, codes, decimal, option_map}
+use Rattle.std.specs.Prelude.{option_and_then, unwrap_or, is_some, option_to_list, Result, Ok, Err}
 use Rattle.std.specs.List.{find, filter_map, count_by}
 use Rattle.std.specs.Str.Parse.{digits_value}
 use Rattle.tokens.specs.TokenText.{token_text}
 use Rattle.ouch_codec.specs.declared.outbound.Outbound.{Outbound}
 use Rattle.ouch_codec.specs.declared.outbound.Outbound.TheVariants as market
 use Rattle.ouch_codec.specs.declared.refusal.DecodeRefusal.{DecodeRefusal}
-use Rattle.order_law.specs.Messages.{Message, text, is, character}
+use Rattle.fix_fields.specs.Field.{Message, text, is, character}
 use Rattle.order_law.specs.Asks.{Ask, Standing, asked_by_new, asked_by_request, capacity_of}
 use Rattle.order_law.specs.Life.{Life, life, live, is_closed}
 use Rattle.order_law.specs.Reading.{reading}
 use Rattle.order_law.specs.Chain.{Chain, chain, named}
-use Rattle.order_law.specs.Verdicts.{Port, Verdict, Accepted, Refused, verdict_of_new, verdict_of_request, Named, is_replace}
+use Rattle.order_law.specs.Verdicts.{Port, Verdict, Accepted, Refused, verdict_of_new, verdict_of_request, Named}
+use Rattle.order_law.specs.Verdicts.{is_replace}
 
 -- what the settings say of a client
 pub record Terms : Type 0 where
@@ -28,15 +31,15 @@ abbrev pub terms_of : List Terms → ℕ → Terms
 terms_of [] client = no_terms
 terms_of (t ∷ ts) client = if client == 1 then t else terms_of ts (client - 1)
 
-pub data Event : Type 0 where
+pub data OrderEvent : Type 0 where
   -- a new order, cancel or replace that the client's session gave up, and how its port stood
-  Came : (client : ℕ) (message : Message) (port : Port) → Event
+  Came : (client : ℕ) (message : Message) (port : Port) → OrderEvent
   -- what a payload that the port's session gave up is decoded as
-  Heard : (port : ℕ) (heard : Result Outbound DecodeRefusal) → Event
+  Heard : (port : ℕ) (heard : Result Outbound DecodeRefusal) → OrderEvent
 
 -- An event with what came of it. Bodies are the reports and rejects, without what a session writes round them.
-pub record Turn : Type 0 where
-  pub event : Event
+pub record OrderTurn : Type 0 where
+  pub event : OrderEvent
   -- whom the bodies are for
   pub client : ℕ
   pub bodies : List Message
@@ -44,34 +47,35 @@ pub record Turn : Type 0 where
   pub fault : Option ℕ
 
 -- all turns so far, the newest first
-abbrev pub History : Type 0
-History = List Turn
+abbrev pub OrderHistory : Type 0
+OrderHistory = List OrderTurn
 
 -- what a client was sent, the newest first
-abbrev pub issued : ℕ → History → List Message
+abbrev pub issued : ℕ → OrderHistory → List Message
 issued client [] = []
-issued client (t ∷ before) = if t.client == client then reverse t.bodies ++ issued client before else issued client before
+issued client (t ∷ before) = if t.client == client then reverse t.bodies ++ issued client before
+    else issued client before
 
-abbrev and_heard : ℕ → Event → Option ℕ → List Outbound → List Outbound
+abbrev and_heard : ℕ → OrderEvent → Option ℕ → List Outbound → List Outbound
 and_heard port (Came client m s) fault earlier = earlier
 and_heard port (Heard p (Err refusal)) fault earlier = earlier
 and_heard port (Heard p (Ok m)) fault earlier = if p == port && not (is_some fault) then m ∷ earlier else earlier
 
 -- the messages of a port that were no fault, the newest first
-abbrev pub handled : ℕ → History → List Outbound
+abbrev pub handled : ℕ → OrderHistory → List Outbound
 handled port [] = []
 handled port (t ∷ before) = and_heard port t.event t.fault (handled port before)
 
 abbrev pub is_new_order : Message → Bool
 is_new_order m = is 35 (codes "D") m
 
-abbrev is_numbered : Event → Bool
+abbrev is_numbered : OrderEvent → Bool
 is_numbered (Came client m port) = is_new_order m
 is_numbered (Heard port heard) = false
 
 -- the new orders that came, accepted or refused: each has the next OrderID
-abbrev pub numbered : History → ℕ
-numbered h = count_by (λ t. is_numbered t.event) h
+abbrev pub orders_numbered : OrderHistory → ℕ
+orders_numbered h = count_by (λ t. is_numbered t.event) h
 
 -- ---- accepted
 
@@ -83,8 +87,8 @@ pub record Entry : Type 0 where
   pub token : Option ℕ
 
 -- how many tokens are given
-abbrev pub given : List Entry → ℕ
-given entries = count_by (λ e. is_some e.token) entries
+abbrev pub given_tokens : List Entry → ℕ
+given_tokens entries = count_by (λ e. is_some e.token) entries
 
 -- the new order of an OrderID
 abbrev pub new_of : List ℕ → List Entry → Option Entry
@@ -107,8 +111,9 @@ standing_of terms sent entries order = option_map (λ (e : Entry). record {
 -- The verdict of a message. `sent` is what its client was sent, `entries` what was accepted of all clients.
 abbrev pub verdict : List Terms → List Message → List Entry → Port → Message → Verdict
 verdict terms sent entries port m =
-    if is_new_order m then verdict_of_new sent port (given entries) m
-    else verdict_of_request sent (option_and_then (standing_of terms sent entries) (named (text 41 m) sent)) port (given entries) m
+    if is_new_order m then verdict_of_new sent port (given_tokens entries) m
+    else verdict_of_request sent (option_and_then (standing_of terms sent entries) (named (text 41 m) sent)) port
+    (given_tokens entries) m
 
 -- what a message is where it is accepted: a new order has OrderID `number`, a new order or replace the next token
 abbrev entry_of : ℕ → List Message → ℕ → List Entry → Message → Verdict → Option Entry
@@ -117,7 +122,7 @@ entry_of client sent number entries m Accepted =
     Some (if is_new_order m then new_entry else request_entry)
   where
     next_token : ℕ
-    next_token = given entries + 1
+    next_token = given_tokens entries + 1
 
     new_entry : Entry
     new_entry = record { client = client; message = m; order = decimal number; token = Some next_token }
@@ -130,21 +135,23 @@ entry_of client sent number entries m Accepted =
       token = if is_replace m then Some next_token else None;
     }
 
-abbrev entry_by : List Terms → Event → (ℕ → List Message) → ℕ → List Entry → Option Entry
+abbrev entry_by : List Terms → OrderEvent → (ℕ → List Message) → ℕ → List Entry → Option Entry
 entry_by terms (Came client m port) sent number entries =
     entry_of client (sent client) number entries m (verdict terms (sent client) entries port m)
 entry_by terms (Heard port heard) sent number entries = None
 
 -- what was accepted, of all clients, the newest first
-abbrev pub accepted : List Terms → History → List Entry
+abbrev pub accepted : List Terms → OrderHistory → List Entry
 accepted terms [] = []
 accepted terms (t ∷ before) =
-    option_to_list (entry_by terms t.event (λ client. issued client before) (numbered before + 1) (accepted terms before))
+    option_to_list (entry_by terms t.event (λ client. issued client before) (orders_numbered before + 1)
+    (accepted terms before))
     ++ accepted terms before
 
 -- what an event would be accepted as, after these turns
-abbrev pub entry_at : List Terms → Event → History → Option Entry
-entry_at terms e before = entry_by terms e (λ client. issued client before) (numbered before + 1) (accepted terms before)
+abbrev pub entry_at : List Terms → OrderEvent → OrderHistory → Option Entry
+entry_at terms e before = entry_by terms e (λ client. issued client before) (orders_numbered before + 1)
+    (accepted terms before)
 
 -- ---- tokens and lives
 
@@ -197,13 +204,15 @@ pub record Asked : Type 0 where
   pub said : Said
   pub ask : Option Ask
 
--- What an accepted message asks, one after another: a new order its own token; a replace of the live token by its own; a
--- cancel of the live token and of each pending replacement. The lists are those before it.
+-- What an accepted message asks, one after another: a new order its own token; a replace of the live token by its
+-- own; a cancel of the live token and of each pending replacement. The lists are those before it.
 abbrev pub asks : List Terms → Entry → List Entry → List Message → List Outbound → List Asked
 asks terms e entries sent messages =
-    if is_new_order e.message then asked (SaysNew (token_of e)) (Some (asked_by_new (terms_of terms e.client).capacity e.message)) ∷ []
+    if is_new_order e.message then asked (SaysNew (token_of e))
+    (Some (asked_by_new (terms_of terms e.client).capacity e.message)) ∷ []
     else (if is_replace e.message then asked (SaysReplace live_token (token_of e)) request ∷ []
-    else map (λ token. asked (SaysCancel token) request) (live_token ∷ pending_tokens e.client (chain e.order sent) entries))
+    else map (λ token. asked (SaysCancel token) request)
+    (live_token ∷ pending_tokens e.client (chain e.order sent) entries))
   where
     live_token : List ℕ
     live_token = live (life_of e.order entries messages)
@@ -235,20 +244,21 @@ answers (market.CancelReject m) (SaysCancel token) = bytes_eq m.token token
 answers other said = false
 
 -- what no message of this event answers; the closing of its order answers all that is asked of it
-abbrev still_asked : List Entry → List Outbound → Event → Option ℕ → List Asked → List Asked
+abbrev still_asked : List Entry → List Outbound → OrderEvent → Option ℕ → List Asked → List Asked
 still_asked entries messages (Came client m port) fault earlier = earlier
 still_asked entries messages (Heard port (Err refusal)) fault earlier = earlier
 still_asked entries messages (Heard port (Ok m)) fault earlier =
     if is_some fault then earlier
     else filter (λ a. not (answers m a.said || is_closed (life_of a.order entries messages).stage)) earlier
 
-abbrev client_of : Event → ℕ
+abbrev client_of : OrderEvent → ℕ
 client_of (Came client m port) = client
 client_of (Heard port heard) = 0
 
 -- what a port was asked and no later message has answered, in the order in which it was asked
-abbrev pub outstanding : List Terms → ℕ → History → List Asked
+abbrev pub outstanding : List Terms → ℕ → OrderHistory → List Asked
 outstanding terms port [] = []
 outstanding terms port (t ∷ before) =
     still_asked (accepted terms before) (handled port (t ∷ before)) t.event t.fault (outstanding terms port before)
-    ++ asks_of terms port (entry_at terms t.event before) (accepted terms before) (issued (client_of t.event) before) (handled port before)
+    ++ asks_of terms port (entry_at terms t.event before) (accepted terms before) (issued (client_of t.event) before)
+    (handled port before)

@@ -1,6 +1,7 @@
 -- When a market message is lawful, and which fault it is if not: read from the lists so far. (OUCH 4.2, "Outbound
 -- Messages".)
-use Rattle.std.specs.Prelude.{ℕ, ◌==◌, Bool, true, false, not, ◌&&◌, ◌||◌, nat_le, List, [], ◌∷◌, Option, Some, None, Result, Ok, Err, if◌then◌else◌, bytes_eq, is_some, option_map}
+use Rattle.std.specs.Prelude.{ℕ, ◌==◌, Bool, true, false, not, ◌&&◌, ◌||◌, nat_le, List, [], ◌∷◌, Option, Some, None}
+use Rattle.std.specs.Prelude.{Result, Ok, Err, if◌then◌else◌, bytes_eq, is_some, option_map}
 use Rattle.std.specs.List.{find, list_any}
 use Rattle.ouch_codec.specs.declared.outbound.Outbound.{Outbound}
 use Rattle.ouch_codec.specs.declared.outbound.Outbound.TheVariants as market
@@ -10,12 +11,13 @@ use Rattle.ouch_codec.specs.declared.side.Side.{Side}
 use Rattle.ouch_codec.specs.Letters.{side_letter}
 use Rattle.ouch_codec.specs.Parts.{unpadded}
 pub use Rattle.ouch_codec.specs.Tokens.{order_token}
-use Rattle.order_law.specs.Messages.{text, character}
+use Rattle.fix_fields.specs.Field.{text, character}
 use Rattle.order_law.specs.Asks.{side_of_letter}
 use Rattle.order_law.specs.Life.{Life, is_of, is_live, is_closed, is_waiting, is_working, stands_as}
 use Rattle.order_law.specs.declared.trade.Trade.{Trade}
 use Rattle.order_law.specs.Chain.{chain}
-use Rattle.order_law.specs.History.{Terms, terms_of, History, Entry, issued, handled, accepted, life_of, new_of, pending_tokens, token_of}
+use Rattle.order_law.specs.History.{Terms, terms_of, OrderHistory, Entry, issued, handled, accepted, life_of, new_of}
+use Rattle.order_law.specs.History.{pending_tokens, token_of}
 
 -- the faults: the bytes are no message of their type; no order of this port has the token; the message isn't lawful of
 -- the order; the type is outside the profile
@@ -46,7 +48,8 @@ order_of_token terms port entries token = new_by (find (has_token terms port tok
 
 -- side and stock as the new order has them
 abbrev pub same_terms : Side → List ℕ → Entry → Bool
-same_terms side stock new = bytes_eq (unpadded stock) (text 55 new.message) && is_side (side_of_letter (side_letter side))
+same_terms side stock new = bytes_eq (unpadded stock) (text 55 new.message)
+    && is_side (side_of_letter (side_letter side))
   where
     is_side : Option ℕ → Bool
     is_side None = false
@@ -60,15 +63,19 @@ may_leave shares l = nat_le 1 shares && nat_le shares l.unfilled
 abbrev pub works_as : Life → List ℕ → Bool
 works_as l token = is_live l token && is_working l.stage
 
--- What each message may be said of, an order with this life and these tokens of its pending replaces: a line for each row. A
--- Rejected is of the new order while it waits, or of a pending replace; any other one may be said of any order.
+-- What each message may be said of, an order with this life and these tokens of its pending replaces: a line for each
+-- row. A Rejected is of the new order while it waits, or of a pending replace; any other one may be said of any
+-- order.
 abbrev pub row_holds : Outbound → Life → Entry → List (List ℕ) → Bool
 row_holds (market.Accepted m) l new pending = is_live l m.token && (is_waiting l.stage && same_terms m.side m.stock new)
-row_holds (market.Replaced m) l new pending = works_as l m.previous_token && (list_any (bytes_eq m.token) pending && same_terms m.side m.stock new)
+row_holds (market.Replaced m) l new pending = works_as l m.previous_token
+    && (list_any (bytes_eq m.token) pending && same_terms m.side m.stock new)
 row_holds (market.Canceled m) l new pending = works_as l m.token && may_leave m.decrement l
-row_holds (market.Executed m) l new pending = works_as l m.token && (may_leave m.shares l && not (list_any (λ (t : Trade). t.match_number == m.match_number) l.trades))
+row_holds (market.Executed m) l new pending = works_as l m.token
+    && (may_leave m.shares l && not (list_any (λ (t : Trade). t.match_number == m.match_number) l.trades))
 row_holds (market.Broken m) l new pending = is_of l m.token && list_any (stands_as m.match_number) l.trades
-row_holds (market.Rejected m) l new pending = (is_live l m.token && is_waiting l.stage) || (list_any (bytes_eq m.token) pending && not (is_closed l.stage))
+row_holds (market.Rejected m) l new pending = (is_live l m.token && is_waiting l.stage)
+    || (list_any (bytes_eq m.token) pending && not (is_closed l.stage))
 row_holds (market.CancelReject m) l new pending = works_as l m.token
 row_holds other l new pending = true
 
@@ -88,7 +95,8 @@ judged_token row_on (Some token) = judged_on (row_on token)
 
 -- its tokens are known, and it is lawful of its order
 abbrev pub judged : (List ℕ → Option Bool) → Outbound → Option ℕ
-judged row_on (market.Replaced m) = if is_some (row_on m.token) then judged_on (row_on m.previous_token) else Some token_fault
+judged row_on (market.Replaced m) = if is_some (row_on m.token) then judged_on (row_on m.previous_token)
+    else Some token_fault
 judged row_on other = judged_token row_on (order_token other)
 
 abbrev pub refusal_fault : DecodeRefusal → ℕ
@@ -96,13 +104,14 @@ refusal_fault refusals.Length = bytes_fault
 refusal_fault refusals.Type = type_fault
 refusal_fault refusals.Field = bytes_fault
 
--- The fault of a payload, if it is one; `row_on` says of a token whether the message is lawful of the order that it leads to.
+-- The fault of a payload, if it is one; `row_on` says of a token whether the message is lawful of the order that it
+-- leads to.
 abbrev pub judged_by : (Outbound → List ℕ → Option Bool) → Result Outbound DecodeRefusal → Option ℕ
 judged_by row_on (Err refusal) = Some (refusal_fault refusal)
 judged_by row_on (Ok m) = judged (row_on m) m
 
 -- lawful of the order that a token leads to, as the lists have it
-abbrev pub is_lawful_on : List Terms → ℕ → History → Outbound → List ℕ → Option Bool
+abbrev pub is_lawful_on : List Terms → ℕ → OrderHistory → Outbound → List ℕ → Option Bool
 is_lawful_on terms port before m token = option_map row_of (order_of_token terms port (accepted terms before) token)
   where
     row_of : Entry → Bool
@@ -110,5 +119,5 @@ is_lawful_on terms port before m token = option_map row_of (order_of_token terms
         row_holds m (life_of new.order (accepted terms before) (handled port before)) new
         (pending_tokens new.client (chain new.order (issued new.client before)) (accepted terms before))
 
-abbrev pub judgement : List Terms → ℕ → Result Outbound DecodeRefusal → History → Option ℕ
+abbrev pub judgement : List Terms → ℕ → Result Outbound DecodeRefusal → OrderHistory → Option ℕ
 judgement terms port heard before = judged_by (is_lawful_on terms port before) heard

@@ -1,5 +1,6 @@
 -- What the market's messages say of one order: a fold along its chain of tokens. (OUCH 4.2, "Outbound Messages".)
-use Rattle.std.specs.Prelude.{map, ℕ, Bool, true, false, not, ◌&&◌, ◌+◌, ◌-◌, ◌*◌, ◌==◌, List, [], ◌∷◌, Option, Some, None, if◌then◌else◌, bytes_eq}
+use Rattle.std.specs.Prelude.{map, ℕ, Bool, true, false, not, ◌&&◌, ◌+◌, ◌-◌, ◌*◌, ◌==◌, List, [], ◌∷◌, Option, Some}
+use Rattle.std.specs.Prelude.{None, if◌then◌else◌, bytes_eq}
 use Rattle.std.specs.List.{list_any, find}
 use Rattle.ouch_codec.specs.declared.outbound.Outbound.{Outbound}
 use Rattle.ouch_codec.specs.declared.outbound.Outbound.TheVariants as market
@@ -48,7 +49,17 @@ live l = first_token l.tokens
 
 -- before any message
 abbrev pub born : List ℕ → ℕ → Life
-born root side = record { side = side; tokens = root ∷ []; stage = Waiting; unfilled = 0; executed = 0; cancelled = 0; value = 0; trades = [] }
+born root side = record {
+  side = side;
+  tokens = root
+      ∷ [];
+  stage = Waiting;
+  unfilled = 0;
+  executed = 0;
+  cancelled = 0;
+  value = 0;
+  trades = [];
+}
 
 -- all that is open is cancelled
 abbrev pub dead : Life → Life
@@ -89,7 +100,11 @@ broken match_number l = without (find (stands_as match_number) l.trades)
   where
     without : Option Trade → Life
     without None = l
-    without (Some t) = record l { executed = l.executed - t.shares; value = l.value - t.shares * t.price; trades = map (marked match_number) l.trades }
+    without (Some t) = record l {
+      executed = l.executed - t.shares;
+      value = l.value - t.shares * t.price;
+      trades = map (marked match_number) l.trades;
+    }
 
 -- the token is or was the live one of the chain
 abbrev pub is_of : Life → List ℕ → Bool
@@ -103,10 +118,13 @@ abbrev pub is_dead : OrderState → Bool
 is_dead Live = false
 is_dead Dead = true
 
--- What a message makes of an order: a line for each. Rejected of a replacement, and every other one, make nothing of it.
+-- What a message makes of an order: a line for each. Rejected of a replacement, and every other one, make nothing of
+-- it.
 abbrev pub after : Life → Outbound → Life
-after l (market.Accepted m) = if is_live l m.token && is_waiting l.stage then opened m.shares (is_dead m.order_state) l else l
-after l (market.Replaced m) = if is_live l m.previous_token then opened m.shares (is_dead m.order_state) (record l { tokens = m.token ∷ l.tokens }) else l
+after l (market.Accepted m) = if is_live l m.token && is_waiting l.stage
+    then opened m.shares (is_dead m.order_state) l else l
+after l (market.Replaced m) = if is_live l m.previous_token
+    then opened m.shares (is_dead m.order_state) (record l { tokens = m.token ∷ l.tokens }) else l
 after l (market.Executed m) = if is_live l m.token then traded m.match_number m.shares m.price l else l
 after l (market.Canceled m) = if is_live l m.token then decreased m.decrement l else l
 after l (market.Broken m) = if is_of l m.token then broken m.match_number l else l
@@ -120,4 +138,11 @@ life root side (m ∷ earlier) = after (life root side earlier) m
 
 -- its side and its quantities
 abbrev pub account_of : Life → Account
-account_of l = record { side = l.side; unfilled = l.unfilled; executed = l.executed; cancelled = l.cancelled; value = l.value; is_closed = is_closed l.stage }
+account_of l = record {
+  side = l.side;
+  unfilled = l.unfilled;
+  executed = l.executed;
+  cancelled = l.cancelled;
+  value = l.value;
+  is_closed = is_closed l.stage;
+}

@@ -1,10 +1,12 @@
 -- What a client reads in the reports of one order, FIX alone. (FIX 4.4 Volume 4, "Execution Report"; Appendix D,
 -- "Order State Change Matrices".)
-use Rattle.std.specs.Prelude.{ℕ, Bool, true, false, ◌&&◌, ◌||◌, ◌+◌, ◌-◌, ◌*◌, ◌/◌, ◌==◌, List, [], ◌∷◌, Option, Some, None, if◌then◌else◌, bytes_eq, codes, unwrap_or}
+use Rattle.std.specs.Prelude.{ℕ, Bool, true, false, ◌&&◌, ◌||◌, ◌+◌, ◌-◌, ◌*◌, ◌/◌, ◌==◌, List, [], ◌∷◌, Option, Some}
+use Rattle.std.specs.Prelude.{None, if◌then◌else◌, bytes_eq, codes, unwrap_or}
 use Rattle.std.specs.List.{find, list_any}
 use Rattle.fixed_point.specs.Decimal.{worth}
 use Rattle.order_law.specs.declared.account.Account.{Account}
-use Rattle.order_law.specs.Messages.{Message, text, number, is, is_one_of, character}
+use Rattle.fix_fields.specs.Field.{Message, text, is, is_one_of, character}
+use Rattle.order_law.specs.Messages.{number}
 
 -- a fill by its ExecID (17), in shares and 1/10,000
 pub record Fill : Type 0 where
@@ -26,7 +28,17 @@ pub record Reading : Type 0 where
   pub is_closed : Bool
 
 abbrev pub unread : Reading
-unread = record { side = 0; total = 0; unfilled = 0; executed = 0; cancelled = 0; value = 0; fills = []; is_accepted = false; is_closed = false }
+unread = record {
+  side = 0;
+  total = 0;
+  unfilled = 0;
+  executed = 0;
+  cancelled = 0;
+  value = 0;
+  fills = [];
+  is_accepted = false;
+  is_closed = false;
+}
 
 -- the 1/10,000 that a price in a report says. It has no range: a trade or an average may have any price.
 abbrev pub price_in : ℕ → Message → ℕ
@@ -65,11 +77,11 @@ taken_back r x = without (find (λ f. bytes_eq f.exec_id (text 19 r)) x.fills)
 abbrev by_exec_type : Message → Reading → Reading
 by_exec_type r x =
     if is_one_of 150 (codes "0" ∷ codes "5" ∷ []) r then opened r x
-    else (if is 150 (codes "F") r then filled r x
-    else (if is 150 (codes "D") r then cancelled_to r x
-    else (if is 150 (codes "4") r then closed (cancelled_to r x)
-    else (if is 150 (codes "H") r then taken_back r x
-    else (if is 150 (codes "8") r then closed x else x)))))
+    else if is 150 (codes "F") r then filled r x
+    else if is 150 (codes "D") r then cancelled_to r x
+    else if is 150 (codes "4") r then closed (cancelled_to r x)
+    else if is 150 (codes "H") r then taken_back r x
+    else if is 150 (codes "8") r then closed x else x
 
 -- side and total as the report has them; the total stays once the order is closed
 abbrev restated : Message → Reading → Reading
@@ -89,7 +101,8 @@ is_report_on order r = is_report r && is 37 order r
 -- what the client has read of an order, by its OrderID (37), in these reports, the newest first
 abbrev pub reading : List ℕ → List Message → Reading
 reading order [] = unread
-reading order (r ∷ earlier) = if is_report_on order r then with_report (reading order earlier) r else reading order earlier
+reading order (r ∷ earlier) = if is_report_on order r then with_report (reading order earlier) r
+    else reading order earlier
 
 -- the market rejected the order: a report on it has 150=8
 abbrev pub is_refused_order : List ℕ → List Message → Bool
@@ -101,4 +114,11 @@ average_of value executed = if executed == 0 then 0 else value / executed
 
 -- its side and its quantities
 abbrev pub account_read : Reading → Account
-account_read x = record { side = x.side; unfilled = x.unfilled; executed = x.executed; cancelled = x.cancelled; value = x.value; is_closed = x.is_closed }
+account_read x = record {
+  side = x.side;
+  unfilled = x.unfilled;
+  executed = x.executed;
+  cancelled = x.cancelled;
+  value = x.value;
+  is_closed = x.is_closed;
+}

@@ -1,11 +1,13 @@
--- What an event tells, read from the turns before it: whom, and each body, field by field, in the order of the standard.
--- (FIX 4.4 Volume 4, "Execution Report" and "Order Cancel Reject"; OUCH 4.2, "Outbound Messages".)
+-- What an event tells, read from the turns before it: whom, and each body, field by field, in the order of the
+-- standard. (FIX 4.4 Volume 4, "Execution Report" and "Order Cancel Reject"; OUCH 4.2, "Outbound Messages".)
 --
--- Nothing here is a table or a counter: an order is shown as the lists of turns have it, and a row says which bodies a
--- message of its type leads to.
-use Rattle.std.specs.Prelude.{ℕ, Bool, true, false, not, ◌&&◌, ◌||◌, ◌+◌, ◌/◌, ◌==◌, List, [], ◌∷◌, ◌++◌, map, filter, Option, Some, None, option_map, unwrap_or, if◌then◌else◌, bytes_eq, codes, decimal, is_some, option_and_then, Result, Ok, Err}
+-- Nothing here is a table or a counter: an order is shown as the lists of turns have it, and a row says which bodies
+-- a message of its type leads to.
+use Rattle.std.specs.Prelude.{ℕ, Bool, true, false, not, ◌&&◌, ◌||◌, ◌+◌, ◌/◌, ◌==◌, List, [], ◌∷◌, ◌++◌, map, filter}
+use Rattle.std.specs.Prelude.{Option, Some, None, option_map, unwrap_or, if◌then◌else◌, bytes_eq, codes, decimal}
+use Rattle.std.specs.Prelude.{is_some, option_and_then, Result, Ok, Err}
 use Rattle.std.specs.List.{find, filter_map, count_by, list_any}
-use Rattle.fix_fields.specs.Field.{first_value}
+use Rattle.fix_fields.specs.Field.{first_value, Message, text}
 use Rattle.fixed_point.specs.Price.{price_text}
 use Rattle.ouch_codec.specs.declared.outbound.Outbound.{Outbound}
 use Rattle.ouch_codec.specs.declared.outbound.Outbound.TheVariants as market
@@ -18,13 +20,14 @@ use Rattle.ouch_codec.specs.declared.refusal.DecodeRefusal.{DecodeRefusal}
 use Rattle.order_law.specs.declared.stage.Stage.{Stage}
 use Rattle.order_law.specs.declared.stage.Stage.TheVariants.{Waiting, Working, Closed}
 use Rattle.order_law.specs.declared.trade.Trade.{Trade}
-use Rattle.order_law.specs.Messages.{Message, text}
 use Rattle.order_law.specs.Asks.{total_of, limit_of}
 use Rattle.order_law.specs.Life.{Life, after, is_dead, is_live, is_waiting, is_closed, stands_as}
 use Rattle.order_law.specs.Reading.{reading, Fill, is_report, is_refused_order, average_of}
 use Rattle.order_law.specs.Chain.{Request, chain, named}
 use Rattle.order_law.specs.Verdicts.{Port, Verdict, Accepted, Refused, is_replace}
-use Rattle.order_law.specs.History.{Terms, terms_of, Event, Came, Heard, History, issued, handled, accepted, numbered, Entry, entry_at, new_of, by_id, token_of, life_of, verdict, is_new_order, Asked, is_cancel_said, outstanding, answers}
+use Rattle.order_law.specs.History.{Terms, terms_of, OrderEvent, Came, Heard, OrderHistory, issued, handled, accepted}
+use Rattle.order_law.specs.History.{orders_numbered, Entry, entry_at, new_of, by_id, token_of, life_of, verdict}
+use Rattle.order_law.specs.History.{is_new_order, Asked, is_cancel_said, outstanding, answers}
 use Rattle.order_law.specs.Lawful.{judgement, order_of_token, order_token}
 
 -- what one event tells
@@ -92,7 +95,7 @@ leaves_at Working asked unfilled = unfilled
 leaves_at Closed asked unfilled = 0
 
 -- an accepted new order after these turns. Once it is closed, 38 stays as it was told last.
-abbrev pub shown : List Terms → History → Entry → Shown
+abbrev pub shown : List Terms → OrderHistory → Entry → Shown
 shown terms before new = record {
   order = new.order;
   id = (chain new.order sent).current;
@@ -123,8 +126,8 @@ shown terms before new = record {
 -- ---- what changes it
 
 -- in the book as an Accepted or Replaced says, be it dead at once or not
-abbrev pub opened : ℕ → ℕ → Shown → Shown
-opened shares price s = record s { stage = Working; leaves = shares; total = s.executed + shares; price = price }
+abbrev pub shown_opened : ℕ → ℕ → Shown → Shown
+shown_opened shares price s = record s { stage = Working; leaves = shares; total = s.executed + shares; price = price }
 
 abbrev pub closed : Shown → Shown
 closed s = record s { stage = Closed; leaves = 0 }
@@ -143,28 +146,28 @@ abbrev pub is_cancel : Entry → Bool
 is_cancel q = not (is_replace q.message)
 
 -- the replace that asked for this token
-abbrev pub has_token : List ℕ → Entry → Bool
-has_token token q = is_replace q.message && bytes_eq (token_of q) token
+abbrev pub asked_token : List ℕ → Entry → Bool
+asked_token token q = is_replace q.message && bytes_eq (token_of q) token
 
 -- a cancel is answered; the replace of a token is answered; an accepted request is pending
 abbrev pub without_cancel : Shown → Shown
 without_cancel s = record s { pending = filter (λ (q : Entry). is_replace q.message) s.pending }
 
 abbrev pub without_replace : List ℕ → Shown → Shown
-without_replace token s = record s { pending = filter (λ (q : Entry). not (has_token token q)) s.pending }
+without_replace token s = record s { pending = filter (λ (q : Entry). not (asked_token token q)) s.pending }
 
 abbrev pub with_request : Entry → Shown → Shown
 with_request q s = record s { pending = s.pending ++ q ∷ [] }
 
 -- ---- fields
 
-abbrev pub field : ℕ → List ℕ → Message
-field tag value = record { tag = tag; value = value } ∷ []
+abbrev pub told_field : ℕ → List ℕ → Message
+told_field tag value = record { tag = tag; value = value } ∷ []
 
 -- a field that stands where there is a value
 abbrev pub optional : ℕ → Option (List ℕ) → Message
 optional tag None = []
-optional tag (Some value) = field tag value
+optional tag (Some value) = told_field tag value
 
 -- a body of these fields, one after another
 abbrev pub in_order : List Message → Message
@@ -181,8 +184,8 @@ status_in s Working = if s.executed == 0 then codes "0" else codes "1"
 abbrev pub status_of : Shown → List ℕ
 status_of s =
     if s.is_refused then codes "8"
-    else (if list_any is_cancel s.pending then codes "6"
-    else (if list_any (λ (q : Entry). is_replace q.message) s.pending then codes "E" else status_in s s.stage))
+    else if list_any is_cancel s.pending then codes "6"
+    else if list_any (λ (q : Entry). is_replace q.message) s.pending then codes "E" else status_in s s.stage
 
 -- what a report says beside its order
 pub record Occasion : Type 0 where
@@ -204,7 +207,16 @@ pub record Occasion : Type 0 where
 
 -- nothing but its ExecType
 abbrev pub plain : List ℕ → Occasion
-plain exec_type = record { exec_type = exec_type; request = None; broken = None; code = None; restated = None; shares = None; at = None; why = None }
+plain exec_type = record {
+  exec_type = exec_type;
+  request = None;
+  broken = None;
+  code = None;
+  restated = None;
+  shares = None;
+  at = None;
+  why = None;
+}
 
 -- on a request
 abbrev pub on_request : List ℕ → Entry → Occasion
@@ -213,46 +225,46 @@ on_request exec_type q = record (plain exec_type) { request = Some q }
 -- a report on an order, with the ExecID (17) of this number
 abbrev pub report : ℕ → Occasion → Shown → Message
 report number o s = in_order (
-    field 35 (codes "8")
-    ∷ field 37 s.order
-    ∷ field 11 (unwrap_or (option_map (λ (q : Entry). text 11 q.message) o.request) s.id)
+    told_field 35 (codes "8")
+    ∷ told_field 37 s.order
+    ∷ told_field 11 (unwrap_or (option_map (λ (q : Entry). text 11 q.message) o.request) s.id)
     ∷ optional 41 (option_map (λ (q : Entry). text 41 q.message) o.request)
-    ∷ field 17 (decimal number)
+    ∷ told_field 17 (decimal number)
     ∷ optional 19 o.broken
-    ∷ field 150 o.exec_type
-    ∷ field 39 (status_of s)
+    ∷ told_field 150 o.exec_type
+    ∷ told_field 39 (status_of s)
     ∷ optional 103 o.code
     ∷ optional 378 o.restated
-    ∷ field 55 s.symbol
-    ∷ field 54 s.side
-    ∷ field 38 (decimal s.total)
-    ∷ field 44 (price_text s.price)
+    ∷ told_field 55 s.symbol
+    ∷ told_field 54 s.side
+    ∷ told_field 38 (decimal s.total)
+    ∷ told_field 44 (price_text s.price)
     ∷ optional 32 (option_map (λ n. decimal n) o.shares)
     ∷ optional 31 (option_map (λ n. price_text n) o.at)
-    ∷ field 151 (decimal s.leaves)
-    ∷ field 14 (decimal s.executed)
-    ∷ field 6 (price_text (average_of s.value s.executed))
+    ∷ told_field 151 (decimal s.leaves)
+    ∷ told_field 14 (decimal s.executed)
+    ∷ told_field 6 (price_text (average_of s.value s.executed))
     ∷ optional 58 o.why
     ∷ [])
 
 -- a report that refuses a new order, with the order's own texts: nothing of it is open or executed
-abbrev pub refusal : ℕ → ℕ → Message → ℕ → List ℕ → Message
-refusal number order m code why = in_order (
-    field 35 (codes "8")
-    ∷ field 37 (decimal order)
-    ∷ field 11 (text 11 m)
-    ∷ field 17 (decimal number)
-    ∷ field 150 (codes "8")
-    ∷ field 39 (codes "8")
-    ∷ field 103 (decimal code)
-    ∷ field 55 (text 55 m)
-    ∷ field 54 (text 54 m)
-    ∷ field 38 (text 38 m)
+abbrev pub refusing_report : ℕ → ℕ → Message → ℕ → List ℕ → Message
+refusing_report number order m code why = in_order (
+    told_field 35 (codes "8")
+    ∷ told_field 37 (decimal order)
+    ∷ told_field 11 (text 11 m)
+    ∷ told_field 17 (decimal number)
+    ∷ told_field 150 (codes "8")
+    ∷ told_field 39 (codes "8")
+    ∷ told_field 103 (decimal code)
+    ∷ told_field 55 (text 55 m)
+    ∷ told_field 54 (text 54 m)
+    ∷ told_field 38 (text 38 m)
     ∷ optional 44 (first_value 44 m)
-    ∷ field 151 (codes "0")
-    ∷ field 14 (codes "0")
-    ∷ field 6 (codes "0")
-    ∷ field 58 why
+    ∷ told_field 151 (codes "0")
+    ∷ told_field 14 (codes "0")
+    ∷ told_field 6 (codes "0")
+    ∷ told_field 58 why
     ∷ [])
 
 -- CxlRejResponseTo (434): 1 to a cancel, 2 to a replace
@@ -262,14 +274,14 @@ responds_to m = if is_replace m then codes "2" else codes "1"
 -- a reject of a request, with the OrderID and status of its order
 abbrev pub reject : List ℕ → List ℕ → Message → ℕ → List ℕ → Message
 reject order status m code why = in_order (
-    field 35 (codes "9")
-    ∷ field 37 order
-    ∷ field 11 (text 11 m)
-    ∷ field 41 (text 41 m)
-    ∷ field 39 status
-    ∷ field 434 (responds_to m)
-    ∷ field 102 (decimal code)
-    ∷ field 58 why
+    told_field 35 (codes "9")
+    ∷ told_field 37 order
+    ∷ told_field 11 (text 11 m)
+    ∷ told_field 41 (text 41 m)
+    ∷ told_field 39 status
+    ∷ told_field 434 (responds_to m)
+    ∷ told_field 102 (decimal code)
+    ∷ told_field 58 why
     ∷ [])
 
 -- of a pending request, which it answers: the order is shown without it
@@ -279,7 +291,7 @@ answered_no s q code why = reject s.order (status_of s) q.message code why
 -- ---- a client's message
 
 -- how many reports were issued, of all clients
-abbrev pub reports_in : History → ℕ
+abbrev pub reports_in : OrderHistory → ℕ
 reports_in [] = 0
 reports_in (t ∷ before) = count_by is_report t.bodies + reports_in before
 
@@ -294,7 +306,8 @@ accepted_cancel number q s = report number (on_request (codes "6") q) (with_requ
 
 abbrev pub accepted_request : ℕ → Entry → Option Shown → List Message
 accepted_request number q None = []
-accepted_request number q (Some s) = if is_replace q.message then accepted_replace number q s else accepted_cancel number q s
+accepted_request number q (Some s) = if is_replace q.message then accepted_replace number q s
+    else accepted_cancel number q s
 
 -- 37 and 39 are those of the order that 41 names, or `NONE` and 8
 abbrev pub refused_request : Message → Option Shown → ℕ → List ℕ → List Message
@@ -322,7 +335,8 @@ cancelled number why s = report number occasion (without_cancel s) ∷ too_late 
 abbrev pub cancel_rejected : Bool → Shown → List Message
 cancel_rejected is_last s =
     if is_last
-    then map (λ (q : Entry). answered_no (without_cancel s) q 2 (codes "cancel rejected by market")) (filter is_cancel s.pending)
+    then map (λ (q : Entry). answered_no (without_cancel s) q 2 (codes "cancel rejected by market"))
+    (filter is_cancel s.pending)
     else []
 
 -- dead at once, it is cancelled without a reason
@@ -334,18 +348,18 @@ abbrev pub told_opened : ℕ → OrderState → Shown → List Message
 told_opened reports state s = report (reports + 1) (plain (codes "0")) s ∷ where_dead (reports + 2) state s []
 
 -- in the book under the replace's token and its ClOrdID, and the replace is answered
-abbrev pub renamed : Replaced → Entry → Shown → Shown
-renamed m q s = opened m.shares m.price (record (without_replace m.token s) { id = text 11 q.message })
+abbrev pub shown_renamed : Replaced → Entry → Shown → Shown
+shown_renamed m q s = shown_opened m.shares m.price (record (without_replace m.token s) { id = text 11 q.message })
 
 -- Replaced: 150=5
 abbrev pub told_replaced : ℕ → Replaced → Bool → Shown → List Message
-told_replaced reports m is_last s = by_request (find (has_token m.token) s.pending)
+told_replaced reports m is_last s = by_request (find (asked_token m.token) s.pending)
   where
     by_request : Option Entry → List Message
     by_request None = []
     by_request (Some q) =
-        report (reports + 1) (on_request (codes "5") q) (renamed m q s)
-        ∷ where_dead (reports + 2) m.order_state (renamed m q s) (cancel_rejected is_last (renamed m q s))
+        report (reports + 1) (on_request (codes "5") q) (shown_renamed m q s)
+        ∷ where_dead (reports + 2) m.order_state (shown_renamed m q s) (cancel_rejected is_last (shown_renamed m q s))
 
 -- Canceled: 150=D, or 150=4 where nothing is left
 abbrev pub told_canceled : ℕ → Canceled → Life → Shown → List Message
@@ -368,8 +382,8 @@ told_executed reports m l s =
     trade : Occasion
     trade = record (plain (codes "F")) { shares = Some (m.shares); at = Some (m.price) }
 
--- The ExecID (17) under which a trade that stands was told: the trades of an order and the fills that its client read are
--- told one for one.
+-- The ExecID (17) under which a trade that stands was told: the trades of an order and the fills that its client read
+-- are told one for one.
 abbrev pub exec_id_of : ℕ → List Trade → List Fill → Option (List ℕ)
 exec_id_of match_number [] fills = None
 exec_id_of match_number (t ∷ trades) [] = None
@@ -396,7 +410,7 @@ told_refused reports reason s = report (reports + 1) occasion refused ∷ too_la
 -- Rejected of a replace: its 9
 abbrev pub told_not_replaced : List ℕ → ℕ → Bool → Shown → List Message
 told_not_replaced token reason is_last s =
-    map (λ (q : Entry). answered_no rest q 2 (reason ∷ [])) (filter (has_token token) s.pending)
+    map (λ (q : Entry). answered_no rest q 2 (reason ∷ [])) (filter (asked_token token) s.pending)
     ++ cancel_rejected is_last rest
   where
     rest : Shown
@@ -413,66 +427,73 @@ answers_last_cancel order m asked =
     list_any (is_cancel_of order) asked
     && not (list_any (λ (a : Asked). is_cancel_of order a && not (answers m a.said)) asked)
 
--- A lawful message on an order: a line for each row. `l` is the order's life before it, `is_last` whether it answers the last
--- message of a pending cancel.
+-- A lawful message on an order: a line for each row. `l` is the order's life before it, `is_last` whether it answers
+-- the last message of a pending cancel.
 abbrev pub told_by : ℕ → Outbound → Life → Bool → List Fill → Shown → List Message
-told_by reports (market.Accepted m) l is_last fills s = told_opened reports m.order_state (opened m.shares m.price s)
+told_by reports (market.Accepted m) l is_last fills s = told_opened reports m.order_state
+    (shown_opened m.shares m.price s)
 told_by reports (market.Replaced m) l is_last fills s = told_replaced reports m is_last s
 told_by reports (market.Canceled m) l is_last fills s = told_canceled reports m (after l (market.Canceled m)) s
 told_by reports (market.Executed m) l is_last fills s = told_executed reports m (after l (market.Executed m)) s
-told_by reports (market.Broken m) l is_last fills s = told_broken reports m (exec_id_of m.match_number l.trades fills) (after l (market.Broken m)) s
-told_by reports (market.Rejected m) l is_last fills s = if is_waiting l.stage && is_live l m.token then told_refused reports m.reason s else told_not_replaced m.token m.reason is_last s
+told_by reports (market.Broken m) l is_last fills s = told_broken reports m (exec_id_of m.match_number l.trades fills)
+    (after l (market.Broken m)) s
+told_by reports (market.Rejected m) l is_last fills s = if is_waiting l.stage && is_live l m.token
+    then told_refused reports m.reason s else told_not_replaced m.token m.reason is_last s
 told_by reports (market.CancelReject m) l is_last fills s = cancel_rejected is_last s
 told_by reports other l is_last fills s = []
 
 -- bodies are for the order's client, and where there are none nobody is told anything
-abbrev pub to_client_of : Entry → List Message → Told
-to_client_of new [] = nobody
-to_client_of new (r ∷ rs) = record { client = new.client; bodies = r ∷ rs }
+abbrev pub told_of_entry : Entry → List Message → Told
+told_of_entry new [] = nobody
+told_of_entry new (r ∷ rs) = record { client = new.client; bodies = r ∷ rs }
 
 -- a message on a new order's order
-abbrev pub told_on : List Terms → ℕ → Outbound → History → Option Entry → Told
+abbrev pub told_on : List Terms → ℕ → Outbound → OrderHistory → Option Entry → Told
 told_on terms port m before None = nobody
 told_on terms port m before (Some new) =
-    to_client_of new (told_by (reports_in before) m
+    told_of_entry new (told_by (reports_in before) m
     (life_of new.order (accepted terms before) (handled port before))
     (answers_last_cancel new.order m (outstanding terms port before))
     (reading new.order (issued new.client before)).fills
     (shown terms before new))
 
 -- the order that a message is on
-abbrev pub on_token : List Terms → ℕ → History → Option (List ℕ) → Option Entry
+abbrev pub on_token : List Terms → ℕ → OrderHistory → Option (List ℕ) → Option Entry
 on_token terms port before token = option_and_then (order_of_token terms port (accepted terms before)) token
 
 -- a payload that is a fault, and one without a token, tells nobody anything
-abbrev pub told_by_market : List Terms → ℕ → Result Outbound DecodeRefusal → History → Told
-told_by_market terms port (Err refusal) before = nobody
+abbrev pub told_by_market : List Terms → ℕ → Result Outbound DecodeRefusal → OrderHistory → Told
+told_by_market terms port (Err refusing_report) before = nobody
 told_by_market terms port (Ok m) before =
-    if is_some (judgement terms port (Ok m) before) then nobody else told_on terms port m before (on_token terms port before (order_token m))
+    if is_some (judgement terms port (Ok m) before) then nobody
+    else told_on terms port m before (on_token terms port before (order_token m))
 
 -- the order of an OrderID, if there is one
-abbrev pub shown_in : List Terms → History → Option (List ℕ) → Option Shown
+abbrev pub shown_in : List Terms → OrderHistory → Option (List ℕ) → Option Shown
 shown_in terms before None = None
-shown_in terms before (Some order) = option_map (λ (new : Entry). shown terms before new) (new_of order (accepted terms before))
+shown_in terms before (Some order) = option_map (λ (new : Entry). shown terms before new)
+    (new_of order (accepted terms before))
 
 -- what was accepted, as what
-abbrev pub told_accepted_as : List Terms → Message → History → Option Entry → List Message
+abbrev pub told_accepted_as : List Terms → Message → OrderHistory → Option Entry → List Message
 told_accepted_as terms m before None = []
 told_accepted_as terms m before (Some e) =
     if is_new_order m then accepted_new (reports_in before + 1) e
     else accepted_request (reports_in before + 1) e (shown_in terms before (Some e.order))
 
 -- a client's message, by its verdict
-abbrev pub told_by_verdict : List Terms → ℕ → Message → Port → History → Verdict → List Message
-told_by_verdict terms client m port before Accepted = told_accepted_as terms m before (entry_at terms (Came client m port) before)
+abbrev pub told_by_verdict : List Terms → ℕ → Message → Port → OrderHistory → Verdict → List Message
+told_by_verdict terms client m port before Accepted = told_accepted_as terms m before
+    (entry_at terms (Came client m port) before)
 told_by_verdict terms client m port before (Refused code why) =
-    if is_new_order m then refusal (reports_in before + 1) (numbered before + 1) m code why ∷ []
+    if is_new_order m then refusing_report (reports_in before + 1) (orders_numbered before + 1) m code why ∷ []
     else refused_request m (shown_in terms before (named (text 41 m) (issued client before))) code why
 
 -- what an event tells after these turns
-abbrev pub told : List Terms → Event → History → Told
+abbrev pub told : List Terms → OrderEvent → OrderHistory → Told
 told terms (Came client m port) before = record {
   client = client;
-  bodies = told_by_verdict terms client m port before (verdict terms (issued client before) (accepted terms before) port m);
+  bodies = told_by_verdict terms client m port before
+      (verdict terms (issued client before) (accepted terms before) port m);
 }
 told terms (Heard port heard) before = told_by_market terms port heard before

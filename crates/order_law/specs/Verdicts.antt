@@ -1,13 +1,14 @@
 -- The verdict of a new order, cancel or replace: the first row of its table that holds.
 -- (FIX 4.4 Volume 4, "New Order - Single", "Order Cancel Request", "Order Cancel/Replace Request"; codes are those of
 -- OrdRejReason (103) and CxlRejReason (102) in Volume 6.)
-use Rattle.std.specs.Prelude.{ℕ, Bool, true, false, not, ◌&&◌, ◌||◌, nat_le, List, [], ◌∷◌, ◌++◌, length, Option, Some, None, Result, Ok, Err, if◌then◌else◌, codes, filter, decimal, is_ok}
+use Rattle.std.specs.Prelude.{ℕ, Bool, true, false, not, ◌&&◌, ◌||◌, nat_le, List, [], ◌∷◌, ◌++◌, length, Option, Some}
+use Rattle.std.specs.Prelude.{None, Result, Ok, Err, if◌then◌else◌, codes, filter, decimal, is_ok}
 use Rattle.std.specs.List.{list_all}
 use Rattle.wire_law.specs.Printable.{is_visible}
 use Rattle.fixed_point.specs.Decimal.{price, quantity}
 use Rattle.fixed_point.specs.declared.refusal.DecimalRefusal.{DecimalRefusal}
 use Rattle.fixed_point.specs.declared.refusal.DecimalRefusal.TheVariants.{NotFloat, NotExact, OutOfRange}
-use Rattle.order_law.specs.Messages.{Message, text, is, is_one_of, has}
+use Rattle.fix_fields.specs.Field.{Message, text, is, is_one_of, has}
 use Rattle.order_law.specs.Asks.{total_of}
 use Rattle.order_law.specs.Reading.{reading, Reading}
 use Rattle.order_law.specs.Chain.{is_used, orders, Chain, has_pending_cancel, has_pending_replace}
@@ -134,7 +135,8 @@ quantity_rows code m =
 abbrev price_rows : Message → List Row
 price_rows m =
     row (not (has 44 m)) 99 (codes "price missing")
-    ∷ row (not (is_ok (price (text 44 m))) && not (is_out_of_range (price (text 44 m)))) 99 (codes "price not in 1/10000")
+    ∷ row (not (is_ok (price (text 44 m))) && not (is_out_of_range (price (text 44 m)))) 99
+    (codes "price not in 1/10000")
     ∷ row (is_out_of_range (price (text 44 m))) 99 (codes "price out of range")
     ∷ []
 
@@ -152,8 +154,8 @@ field_rows m =
     ∷ quantity_rows 13 m
     ++ price_rows m
 
--- The table of a new order: whether its id is used, how its port stands, how many orders of its client are open, and how
--- many tokens are given.
+-- The table of a new order: whether its id is used, how its port stands, how many orders of its client are open, and
+-- how many tokens are given.
 abbrev pub rows_of_new : Bool → Port → ℕ → ℕ → Message → List Row
 rows_of_new is_used_id port open_now given m =
     duplicate_row is_used_id
@@ -209,8 +211,8 @@ named_rows (Some n) port given m =
     ++ row (has_to_wait (is_replace m) n.chain) 3 (codes "already pending")
     ∷ (if is_replace m then replace_rows n given m else [])
 
--- The table of a cancel or replace: whether its id is used, the order that its 41 names, how the port stands, and how many
--- tokens are given.
+-- The table of a cancel or replace: whether its id is used, the order that its 41 names, how the port stands, and how
+-- many tokens are given.
 abbrev pub rows_of_request : Bool → Option Named → Port → ℕ → Message → List Row
 rows_of_request is_used_id named port given m = duplicate_row is_used_id ∷ named_rows named port given m
 

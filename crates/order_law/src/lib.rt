@@ -1,5 +1,5 @@
-//! What the order level promises, as definitions over lists: what a message asks, which verdict it gets, what the market's
-//! messages and the reports say of an order, and the headline that links them.
+//! What the order level promises, as definitions over lists: what a message asks, which verdict it gets, what the
+//! market's messages and the reports say of an order, and the headline that links them.
 //!
 //! Contracts of the crates above cite `specs/`. `order_examples` has exchanges that are written down, on which the
 //! definitions are computed with every check. In Rust there are only the types that definitions and code share;

@@ -9,48 +9,48 @@ use Rattle.ouch_codec.specs.declared.refusal.DecodeRefusal.{DecodeRefusal}
 use Rattle.order_law.specs.History.{Entry}
 use Rattle.order_law.specs.Life.{is_closed}
 use Rattle.order_law.specs.Reading.{is_report}
-use Rattle.order_law.specs.Told.{to_client_of}
-use Rattle.order_histories.specs.OrderRecord.{OrderRecord}
-use Rattle.order_histories.specs.Table.{State, by_number, has_number, put}
-use Rattle.order_histories.specs.Machine.{Given, market_step, silent}
-use Rattle.order_histories.proofs.Executed.{count-more}
-use Rattle.order_histories.proofs.Lists.{found-passes}
-use Rattle.order_histories.proofs.Placed.{number-put_own}
-use Rattle.order_histories.proofs.Texts.{eq-is}
+use Rattle.order_law.specs.Told.{told_of_entry}
+use Rattle.order_machine.specs.OrderRecord.{OrderRecord}
+use Rattle.order_machine.specs.Table.{TableState, by_number, has_number, put}
+use Rattle.order_machine.specs.Machine.{GivenByEvent, market_step, silent}
+use Rattle.order_machine.proofs.Executed.{count-more}
+use Rattle.order_machine.proofs.Lists.{found-passes}
+use Rattle.order_machine.proofs.Placed.{number-put_own}
+use Rattle.order_machine.proofs.Texts.{eq-is}
 use Rattle.orders.specs.Changes.{changed_by}
 use Rattle.order_table.specs.Held.{Held, with_number}
 use Rattle.order_table.proofs.Counted.{change-new}
-use Rattle.market_rows.specs.declared.heard.Heard.{Heard}
-use Rattle.market_turns.specs.Turns.{IsTold}
+use Rattle.market_messages.specs.declared.heard.Heard.{Heard}
+use Rattle.market_messages.specs.Turns.{OrderIsTold}
 use Rattle.order_ledger.specs.declared.turns.ChangedOrder.{ChangedOrder}
 use Rattle.order_ledger.specs.declared.turns.MarketTurn.{MarketTurn}
 use Rattle.order_ledger.specs.Meets.{ChangesAny, ChangesOrder, GivesMarket}
 use Rattle.order_ledger.specs.Seen.{client_seen, tells_report}
 
 -- where nothing comes of it
-pub silent-meets : (old : State) (port : ℕ) (m : Result Outbound DecodeRefusal) (turn : MarketTurn) → turn.client ≡ None → turn.bodies.items ≡ [] → market_step old port m ≡ silent old → GivesMarket (market_step old port m) turn old
+pub silent-meets : (old : TableState) (port : ℕ) (m : Result Outbound DecodeRefusal) (turn : MarketTurn) → turn.client ≡ None → turn.bodies.items ≡ [] → market_step old port m ≡ silent old → GivesMarket (market_step old port m) turn old
 silent-meets old port m turn nobody nothing is = record {
-  state = ap (λ (g : Given). g.state) (sym is);
-  client = ap client_seen nobody ∙ ap (λ (g : Given). g.client) (sym is);
-  bodies = ap (map body_fields) nothing ∙ ap (λ (g : Given). g.bodies) (sym is);
-  fault = ap (λ (g : Given). g.fault) is;
+  state = ap (λ (g : GivenByEvent). g.state) (sym is);
+  client = ap client_seen nobody ∙ ap (λ (g : GivenByEvent). g.client) (sym is);
+  bodies = ap (map body_fields) nothing ∙ ap (λ (g : GivenByEvent). g.bodies) (sym is);
+  fault = ap (λ (g : GivenByEvent). g.fault) is;
 }
 
-pub silent-changes : (old : State) (port : ℕ) (m : Result Outbound DecodeRefusal) (changed : Option ChangedOrder) → changed ≡ None → market_step old port m ≡ silent old → ChangesAny old port m changed
-silent-changes old port m changed nothing is = subst (λ (x : Option ChangedOrder). ChangesAny old port m x) (sym nothing) (ap (λ (g : Given). g.state) is)
+pub silent-changes : (old : TableState) (port : ℕ) (m : Result Outbound DecodeRefusal) (changed : Option ChangedOrder) → changed ≡ None → market_step old port m ≡ silent old → ChangesAny old port m changed
+silent-changes old port m changed nothing is = subst (λ (x : Option ChangedOrder). ChangesAny old port m x) (sym nothing) (ap (λ (g : GivenByEvent). g.state) is)
 
 -- where an order is changed, and its client told
-module _ (old : State) (port : ℕ) (m : Result Outbound DecodeRefusal) (order_id client : ℕ) (h : Heard) (turn : MarketTurn) (told : IsTold old port m order_id client h) (held : Held) where
+module _ (old : TableState) (port : ℕ) (m : Result Outbound DecodeRefusal) (order_id client : ℕ) (h : Heard) (turn : MarketTurn) (told : OrderIsTold old port m order_id client h) (held : Held) where
   pub told-meets : ((o : OrderRecord) → by_number old (decimal order_id) ≡ Some o → held ≡ record { orders = put (changed_by h.change o) old.orders; tokens = old.tokens })
-      → client_seen turn.client ≡ (to_client_of told.order.new (map body_fields h.bodies.items)).client → turn.bodies.items ≡ h.bodies.items
+      → client_seen turn.client ≡ (told_of_entry told.order.new (map body_fields h.bodies.items)).client → turn.bodies.items ≡ h.bodies.items
       → GivesMarket (market_step old port m) turn (record old { orders = held.orders; tokens = held.tokens; exec_ids = old.exec_ids + count_by is_report (map body_fields h.bodies.items) })
   told-meets changed of_client same = record {
     state =
         ap (λ (x : Held). record old { orders = x.orders; tokens = x.tokens; exec_ids = old.exec_ids + count_by is_report (map body_fields h.bodies.items) }) (changed told.order told.found)
-        ∙ ap (λ (g : Given). g.state) (sym told.gives);
-    client = of_client ∙ ap (λ (g : Given). g.client) (sym told.gives);
-    bodies = ap (map body_fields) same ∙ ap (λ (g : Given). g.bodies) (sym told.gives);
-    fault = ap (λ (g : Given). g.fault) told.gives;
+        ∙ ap (λ (g : GivenByEvent). g.state) (sym told.gives);
+    client = of_client ∙ ap (λ (g : GivenByEvent). g.client) (sym told.gives);
+    bodies = ap (map body_fields) same ∙ ap (λ (g : GivenByEvent). g.bodies) (sym told.gives);
+    fault = ap (λ (g : GivenByEvent). g.fault) told.gives;
   }
 
   -- and it is the one that is changed
@@ -75,7 +75,7 @@ module _ (old : State) (port : ℕ) (m : Result Outbound DecodeRefusal) (order_i
         same = same;
         of_order = number;
         closed = sym (closes now here);
-        orders = ap (λ (g : Given). g.state.orders) told.gives;
+        orders = ap (λ (g : GivenByEvent). g.state.orders) told.gives;
       }
 
 pub same_order : (o p : OrderRecord) → ◌≡◌ {A = Option OrderRecord} (Some o) (Some p) → o ≡ p

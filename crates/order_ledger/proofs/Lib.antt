@@ -1,7 +1,3 @@
 mod Terms
-mod Carried
-mod Entered
-mod Asked
-mod Requests
-mod NewVerdict
+mod Stepped
 mod Heard

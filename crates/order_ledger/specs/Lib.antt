@@ -2,3 +2,11 @@ pub mod Fingerprint
 pub mod State
 pub mod Seen
 pub mod Meets
+pub use Rattle.fix_types.specs.Application
+pub use Rattle.order_law.specs.History
+pub use Rattle.order_law.specs.Told
+pub use Rattle.order_machine.specs.Machine
+pub use Rattle.order_machine.specs.OrderRecord
+pub use Rattle.order_machine.specs.Table
+pub use Rattle.to_market.specs.PortsSeen
+pub use Rattle.to_market.specs.TermsSeen

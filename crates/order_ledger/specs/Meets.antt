@@ -1,40 +1,37 @@
 -- When what the code gives is what the table's step gives.
-use Rattle.std.specs.Prelude.{◌≡◌, ℕ, ◌+◌, List, Option, Some, None, Result, Ok, Err, map, decimal, length}
-use Rattle.tokens.specs.TokenText.{token_text}
+use Rattle.std.specs.Prelude.{◌≡◌, ℕ, List, Option, Some, None, Result, Ok, Err, map, decimal}
 use Rattle.fix_types.specs.declared.application.AppMsg.{AppMsg}
-use Rattle.fix_types.specs.declared.new_order.NewOrder.{NewOrder}
-use Rattle.fix_types.specs.NewOrder.{new_order_fields}
 use Rattle.fix_types.specs.Application.{body_fields, message_fields}
-use Rattle.ouch_codec.specs.declared.inbound.enter_order.EnterOrder.{EnterOrder}
 use Rattle.ouch_codec.specs.declared.outbound.Outbound.{Outbound}
 use Rattle.ouch_codec.specs.declared.refusal.DecodeRefusal.{DecodeRefusal}
 use Rattle.ouch_codec.specs.Inbound.{inbound_bytes}
-use Rattle.order_law.specs.Asks.{limit_of, total_of}
-use Rattle.order_law.specs.History.{Asked, Terms, terms_of}
+use Rattle.order_law.specs.History.{Terms, terms_of}
 use Rattle.order_law.specs.Headline.{Each, EachWith, Says}
 use Rattle.order_law.specs.Life.{is_closed}
-use Rattle.order_law.specs.Messages.{Message}
+use Rattle.fix_fields.specs.Field.{Message}
 use Rattle.order_law.specs.Verdicts.{Port}
-use Rattle.order_histories.specs.OrderRecord.{OrderRecord}
-use Rattle.order_histories.specs.Table.{State, by_id, by_number, put}
-use Rattle.order_histories.specs.Machine.{Given, client_step, faulty, market_step}
-use Rattle.order_histories.specs.Runs.{Finds}
-use Rattle.to_market.specs.NewAsks.{asked_with, enter_bytes}
-use Rattle.market_turns.specs.Turns.{number_of, order_heard}
+use Rattle.order_machine.specs.OrderRecord.{OrderRecord}
+use Rattle.order_machine.specs.Table.{TableState, record_by_id, by_number, put}
+use Rattle.order_machine.specs.Machine.{GivenByEvent, client_step, faulty, market_step}
+use Rattle.order_machine.specs.Runs.{Finds}
+use Rattle.market_messages.specs.Turns.{market_fault_number, order_heard}
 use Rattle.order_ledger.specs.declared.market_error.MarketError.{MarketError}
 use Rattle.order_ledger.specs.declared.market_error.MarketError.TheVariants.{NoMemory, Faulty}
-use Rattle.request_turns.specs.Turns.{AreOf}
+use Rattle.client_requests.specs.Turns.{AreOf}
 use Rattle.order_ledger.specs.declared.turns.ChangedOrder.{ChangedOrder}
 use Rattle.order_ledger.specs.declared.turns.ClientTurn.{ClientTurn}
 use Rattle.order_ledger.specs.declared.turns.MarketTurn.{MarketTurn}
 use Rattle.order_ledger.specs.Seen.{client_seen}
 
 -- the order that a ClOrdID leads to is the one that its OrderID leads to
-abbrev pub GoByNumbers : State → Type 0
-GoByNumbers s = (client : ℕ) (id : List ℕ) (o : OrderRecord) → by_id s client id ≡ Some o → by_number s o.new.order ≡ Some o
+abbrev pub GoByNumbers : TableState → Type 0
+GoByNumbers s = (client : ℕ) (id : List ℕ) (o : OrderRecord) → record_by_id s client id ≡ Some o
+    → by_number s o.new.order ≡ Some o
 
--- The client is told, and its port is to be asked, what is given, and the table is as given. All of it is asked of one order.
-pub record GivesClient (terms : Terms) (client : ℕ) (g : Given) (turn : ClientTurn) (new : State) : Type 0 where
+-- The client is told, and its port is to be asked, what is given, and the table is as given. All of it is asked of
+-- one order.
+pub record GivesClient (terms : Terms) (client : ℕ) (g : GivenByEvent) (turn : ClientTurn)
+    (new : TableState) : Type 0 where
   pub state : new ≡ g.state
   pub for_client : g.client ≡ client
   pub bodies : map body_fields turn.bodies.items ≡ g.bodies
@@ -44,28 +41,32 @@ pub record GivesClient (terms : Terms) (client : ℕ) (g : Given) (turn : Client
       → EachWith (Says terms.standing order_of) g.asks (map inbound_bytes turn.asks.items)
 
 -- a client's message, as fields
-abbrev pub MeetsFields : State → ℕ → Message → Port → ClientTurn → State → Type 0
-MeetsFields old client m port turn new = GivesClient (terms_of old.terms client) client (client_step old client m port) turn new
+abbrev pub MeetsFields : TableState → ℕ → Message → Port → ClientTurn → TableState → Type 0
+MeetsFields old client m port turn new = GivesClient (terms_of old.terms client) client
+    (client_step old client m port) turn new
 
 -- a client's message, in a table whose orders go by their numbers
-abbrev pub MeetsMessage : State → ℕ → AppMsg → Port → ClientTurn → State → Type 0
-MeetsMessage old client message port turn new = GoByNumbers old → MeetsFields old client (message_fields message) port turn new
+abbrev pub MeetsMessage : TableState → ℕ → AppMsg → Port → ClientTurn → TableState → Type 0
+MeetsMessage old client message port turn new = GoByNumbers old
+    → MeetsFields old client (message_fields message) port turn new
 
 -- a client is told what is given, and the table is as given
-pub record GivesMarket (g : Given) (turn : MarketTurn) (new : State) : Type 0 where
+pub record GivesMarket (g : GivenByEvent) (turn : MarketTurn) (new : TableState) : Type 0 where
   pub state : new ≡ g.state
   pub client : client_seen turn.client ≡ g.client
   pub bodies : map body_fields turn.bodies.items ≡ g.bodies
   pub fault : g.fault ≡ None
 
 -- A port's payload: what it gives, or the fault that it is, of which nothing else comes. Want of memory is no fault.
-abbrev pub MeetsMarket : State → Given → Result MarketTurn MarketError → State → Type 0
+abbrev pub MeetsMarket : TableState → GivenByEvent → Result MarketTurn MarketError → TableState → Type 0
 MeetsMarket old g (Ok turn) new = GivesMarket g turn new
 MeetsMarket old g (Err NoMemory) new = Unit {0}
-MeetsMarket old g (Err (Faulty fault)) new = g ≡ faulty old (number_of fault)
+MeetsMarket old g (Err (Faulty fault)) new = g ≡ faulty old (market_fault_number fault)
 
--- The order that the message is on is changed, and no other: it keeps its OrderID and its client, and is closed then or isn't.
-pub record ChangesOrder (s : State) (port : ℕ) (heard : Result Outbound DecodeRefusal) (c : ChangedOrder) : Type 0 where
+-- The order that the message is on is changed, and no other: it keeps its OrderID and its client, and is closed then
+-- or isn't.
+pub record ChangesOrder (s : TableState) (port : ℕ) (heard : Result Outbound DecodeRefusal)
+    (c : ChangedOrder) : Type 0 where
   pub order : OrderRecord
   pub now : OrderRecord
   pub found : order_heard s port heard ≡ Some order
@@ -75,18 +76,6 @@ pub record ChangesOrder (s : State) (port : ℕ) (heard : Result Outbound Decode
   pub orders : (market_step s port heard).state.orders ≡ put now s.orders
 
 -- a payload changes this order, or nothing
-abbrev pub ChangesAny : State → ℕ → Result Outbound DecodeRefusal → Option ChangedOrder → Type 0
+abbrev pub ChangesAny : TableState → ℕ → Result Outbound DecodeRefusal → Option ChangedOrder → Type 0
 ChangesAny s port heard None = (market_step s port heard).state ≡ s
 ChangesAny s port heard (Some c) = ChangesOrder s port heard c
-
--- what a new order asks under the next OrderID and the next token
-abbrev pub asked_next : State → ℕ → NewOrder → Asked
-asked_next s client d =
-    asked_with (decimal (s.order_ids + 1)) (token_text (length s.tokens + 1)) (terms_of s.terms client).capacity (new_order_fields d)
-
--- the message that asks it
-pub record AsksNext (s : State) (client : ℕ) (d : NewOrder) (enter : EnterOrder) : Type 0 where
-  pub token : enter.token ≡ token_text (length s.tokens + 1)
-  pub shares : enter.shares ≡ total_of (new_order_fields d)
-  pub price : enter.price ≡ limit_of (new_order_fields d)
-  pub says : (order_of : List ℕ → Option ℕ) → Says (terms_of s.terms client).standing order_of (asked_next s client d) (enter_bytes enter)

@@ -32,10 +32,10 @@ pub struct OrderLedger {
 
 impl Model for OrderLedger {
     ghost use Rattle.std.specs.Prelude.{map};
-    ghost use Rattle.order_histories.specs.Table as record_of;
+    ghost use Rattle.order_machine.specs.Table as record_of;
     ghost use Rattle.to_market.specs.TermsSeen.{terms_seen};
 
-    ghost Value = { record_of.State };
+    ghost Value = { record_of.TableState };
 
     ghost view = { λ c. record {
       terms = map terms_seen c.terms.items;
@@ -50,8 +50,8 @@ impl Model for OrderLedger {
 impl OrderLedger {
     ghost use Rattle.order_law.specs.History.{terms_of};
     ghost use Rattle.std.specs.Prelude.{option_map};
-    ghost use Rattle.order_histories.specs.OrderRecord.{OrderRecord};
-    ghost use Rattle.order_histories.specs.Table.{by_token, empty};
+    ghost use Rattle.order_machine.specs.OrderRecord.{OrderRecord};
+    ghost use Rattle.order_machine.specs.Table.{record_by_token, table_without_orders};
     ghost use Rattle.to_market.specs.PortsSeen.{port_seen};
     ghost use Rattle.to_market.specs.TermsSeen.{terms_seen};
     ghost use Rattle.order_ledger.specs.Meets.{MeetsMessage};
@@ -59,7 +59,7 @@ impl OrderLedger {
 
     /// The ledger of these clients, with no orders.
     pub fn new(alloc: Global, terms: &[ClientTerms]) -> Result<OrderLedger, AllocError>
-        ensures { IfOk result (λ ledger. ledger ≡ empty (map terms_seen terms.now)) }
+        ensures { IfOk result (λ ledger. ledger ≡ table_without_orders (map terms_seen terms.now)) }
     {
         Ok(OrderLedger {
             terms: Vec::from_slice(alloc, terms)?,
@@ -80,7 +80,7 @@ impl OrderLedger {
 
     /// The number of the client of the order that a token of a port leads to, from 1.
     pub fn client_of_token(&self, port: u16, token: &[u8]) -> Option<u16>
-        ensures { result ≡ option_map (λ (o : OrderRecord). o.new.client) (by_token self.now port token.now) }
+        ensures { result ≡ option_map (λ (o : OrderRecord). o.new.client) (record_by_token self.now port token.now) }
     {
         match self.table.by_token(port, token) {
             None => None,
@@ -90,9 +90,9 @@ impl OrderLedger {
 
     /// Steps an application message of a client, whose port stands as given. The client is one of the terms'.
     ///
-    /// A new order, a cancel or a replace is accepted, with a report and the messages that ask it of the market, be the port
-    /// up or not; or it is refused by the first row of its table that holds, in one report or reject. `AllocError` leaves
-    /// the ledger as it was.
+    /// A new order, a cancel or a replace is accepted, with a report and the messages that ask it of the market, be
+    /// the port up or not; or it is refused by the first row of its table that holds, in one report or reject.
+    /// `AllocError` leaves the ledger as it was.
     ///
     /// Source: FIX 4.4 Volume 4, "New Order - Single", "Order Cancel Request", "Order Cancel/Replace Request".
     pub fn client(

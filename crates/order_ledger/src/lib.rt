@@ -1,8 +1,8 @@
-//! The ledger of orders: the orders of all clients with their tokens, the ClOrdIDs that were used, and the numbers that were
-//! given.
+//! The ledger of orders: the orders of all clients with their tokens, the ClOrdIDs that were used, and the numbers
+//! that were given.
 //!
-//! It is a value that is stepped: by an application message of a client, or by a payload of a market port. It knows nothing
-//! of what a port was sent: each call gives all that the market is asked, whether its port is up or not.
+//! It is a value that is stepped: by an application message of a client, or by a payload of a market port. It knows
+//! nothing of what a port was sent: each call gives all that the market is asked, whether its port is up or not.
 //!
 //! Source: FIX 4.4 Volume 4, "Order State Change Matrices"; OUCH 4.2, order messages.
 #![tactic(auto)]
@@ -14,6 +14,6 @@ mod used_ids;
 
 pub use ledger::OrderLedger;
 pub use market_error::MarketError;
-pub use market_turns::MarketFault;
+pub use market_messages::MarketFault;
 pub use to_market::{ClientTerms, PortState};
 pub use turns::{ChangedOrder, ClientTurn, MarketTurn};

@@ -3,7 +3,7 @@
 ghost use Rattle.std.specs.Prelude.{◌≡◌};
 ghost use Rattle.order_ledger.specs.declared.market_error.MarketError.TheVariants.{NoMemory};
 
-use market_turns::MarketFault;
+use market_messages::MarketFault;
 use std::alloc::{AllocError, AllocFailed};
 use thiserror::Error;
 

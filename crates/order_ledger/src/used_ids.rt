@@ -1,7 +1,7 @@
 //! The ids that clients have used.
 
 ghost use Rattle.std.specs.Prelude.{◌≡◌, ◌<◌, ◌++◌, ◌∷◌, [], vec_len, vec_capacity};
-ghost use Rattle.order_histories.specs.Table as table;
+ghost use Rattle.order_machine.specs.Table as table;
 ghost use Rattle.order_ledger.specs.Fingerprint.{fingerprint_of, mixed};
 
 use fix_values::ClOrdId;
@@ -19,7 +19,7 @@ pub struct UsedId {
 }
 
 impl Model for UsedId {
-    ghost use Rattle.order_histories.specs.Table as table;
+    ghost use Rattle.order_machine.specs.Table as table;
 
     ghost Value = { table.UsedId };
 
@@ -71,7 +71,8 @@ pub fn is_used(used: &[UsedId], client: u16, cl_ord_id: &ClOrdId) -> bool
 
 /// Whether a used id is the client's and this one, whose fingerprint is given.
 fn is_same_id(fingerprint: u64, client: u16, cl_ord_id: &ClOrdId, used: &UsedId) -> bool
-    ensures { fingerprint ≡ fingerprint_of client cl_ord_id.now → result ≡ table.is_same_id client cl_ord_id.now used.now }
+    ensures { fingerprint ≡ fingerprint_of client cl_ord_id.now
+        → result ≡ table.is_same_id client cl_ord_id.now used.now }
 {
     used.fingerprint == fingerprint
         && (used.client == client && used.cl_ord_id.as_slice() == cl_ord_id.as_slice())

@@ -6,10 +6,10 @@ use Rattle.std.proofs.lemmas.Bool.{and_parts}
 use Rattle.std.proofs.lemmas.Bool.Decides.{nat_tests}
 use Rattle.std.proofs.lemmas.List.Folds.{list_all-append}
 use Rattle.order_law.specs.History.{Entry}
-use Rattle.order_histories.specs.OrderRecord.{OrderRecord, at, filled, gone, live_token, reduced, traded, unasked}
-use Rattle.order_histories.specs.Table.{GivenToken, has_number, is_replacement_of}
-use Rattle.order_histories.proofs.Lists.{count-push, found-passes}
-use Rattle.order_histories.proofs.Texts.{eq-is, eq-true}
+use Rattle.order_machine.specs.OrderRecord.{OrderRecord, at, filled, gone, live_token, reduced, with_trade, unasked}
+use Rattle.order_machine.specs.Table.{GivenToken, has_number, is_replacement_of}
+use Rattle.order_machine.proofs.Lists.{count-push, found-passes}
+use Rattle.order_machine.proofs.Texts.{eq-is, eq-true}
 use Rattle.orders.specs.Changes.{changed_by, opened_at, over_if, renamed, replaced_as, still_without}
 use Rattle.orders.specs.declared.change.Change.{Change}
 use Rattle.orders.specs.declared.change.Change.TheVariants as changes
@@ -120,7 +120,7 @@ change-few (changes.Canceled shares) o = by_rest (o.unfilled - shares == 0)
     by_rest false = omega arith
 change-few (changes.Traded t) o = by_rest (o.unfilled - t.trade.shares == 0)
   where
-    by_rest : (b : Bool) → had (if b then unasked (filled t.number t.trade o) else traded t.number t.trade o) ≤ had o
+    by_rest : (b : Bool) → had (if b then unasked (filled t.number t.trade o) else with_trade t.number t.trade o) ≤ had o
     by_rest true = omega arith
     by_rest false = omega arith
 change-few (changes.Broken t) o = omega arith
@@ -138,7 +138,7 @@ change-new (changes.Canceled shares) o = by_rest (o.unfilled - shares == 0)
     by_rest false = refl
 change-new (changes.Traded t) o = by_rest (o.unfilled - t.trade.shares == 0)
   where
-    by_rest : (b : Bool) → (if b then unasked (filled t.number t.trade o) else traded t.number t.trade o).new ≡ o.new
+    by_rest : (b : Bool) → (if b then unasked (filled t.number t.trade o) else with_trade t.number t.trade o).new ≡ o.new
     by_rest true = refl
     by_rest false = refl
 change-new (changes.Broken t) o = refl

@@ -7,13 +7,13 @@ use Rattle.std.proofs.lemmas.List.{get_or-reverse, map-append, reverse-append}
 use Rattle.std.proofs.lemmas.List.Folds.{find_at}
 use Rattle.std.proofs.lemmas.List.Recursion.{is_position_or_len}
 use Rattle.std.proofs.lemmas.Option.{slice_get-get_or, slice_get_past}
-use Rattle.order_histories.specs.OrderRecord.{OrderRecord}
-use Rattle.order_histories.specs.Table.{has_number, put}
+use Rattle.order_machine.specs.OrderRecord.{OrderRecord}
+use Rattle.order_machine.specs.Table.{has_number, put}
 use Rattle.order_table.specs.Held.{IsNewest}
 use Rattle.order_law.specs.History.{Entry}
-use Rattle.order_histories.proofs.Executed.{count-more}
-use Rattle.order_histories.proofs.Lists.{count-push, found-passes}
-use Rattle.order_histories.proofs.Texts.{decimal-same, eq-is, eq-other, eq-true}
+use Rattle.order_machine.proofs.Executed.{count-more}
+use Rattle.order_machine.proofs.Lists.{count-push, found-passes}
+use Rattle.order_machine.proofs.Texts.{decimal-same, eq-is, eq-other, eq-true}
 
 -- ---- numbers and their texts
 

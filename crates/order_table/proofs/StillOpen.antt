@@ -5,10 +5,10 @@ use Rattle.std.specs.List.{count_by}
 use Rattle.order_law.specs.Life.{is_closed}
 use Rattle.order_law.specs.declared.stage.Stage.{Stage}
 use Rattle.order_law.specs.History.{Entry}
-use Rattle.order_histories.specs.OrderRecord.{OrderRecord}
-use Rattle.order_histories.specs.Table.{is_open_of}
-use Rattle.order_histories.proofs.Executed.{count-more}
-use Rattle.order_histories.proofs.Lists.{count-push}
+use Rattle.order_machine.specs.OrderRecord.{OrderRecord}
+use Rattle.order_machine.specs.Table.{is_open_of}
+use Rattle.order_machine.proofs.Executed.{count-more}
+use Rattle.order_machine.proofs.Lists.{count-push}
 use Rattle.orders.specs.Changes.{Fits, changed_by}
 use Rattle.orders.specs.declared.change.Change.{Change}
 use Rattle.orders.specs.declared.change.Change.TheVariants as changes

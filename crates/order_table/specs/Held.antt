@@ -1,8 +1,9 @@
--- What the table holds, and what is found in it: `order_histories`' words over the two lists.
-use Rattle.std.specs.Prelude.{◌≡◌, ◌<◌, ℕ, ◌+◌, ◌-◌, nat_le, Bool, List, length, reverse, Option, option_and_then, option_to_list, decimal, slice_get, slice_index, if◌then◌else◌}
+-- What the table holds, and what is found in it: `order_machine`'s words over the two lists.
+use Rattle.std.specs.Prelude.{◌≡◌, ◌<◌, ℕ, ◌+◌, ◌-◌, nat_le, Bool, List, length, reverse, Option, option_and_then}
+use Rattle.std.specs.Prelude.{option_to_list, decimal, slice_get, slice_index, if◌then◌else◌}
 use Rattle.std.specs.List.{count_by, find, position_or_len}
-use Rattle.order_histories.specs.OrderRecord.{OrderRecord}
-use Rattle.order_histories.specs.Table.{GivenToken, has_number, is_named, is_replacement_of, is_token, open_count, put}
+use Rattle.order_machine.specs.OrderRecord.{OrderRecord}
+use Rattle.order_machine.specs.Table.{GivenToken, has_number, is_named, is_replacement_of, is_token, open_count, put}
 
 -- the newest first
 pub record Held : Type 0 where
@@ -13,19 +14,21 @@ abbrev pub with_number : Held → ℕ → Option OrderRecord
 with_number h order_id = find (has_number (decimal order_id)) h.orders
 
 abbrev pub found : Held → ℕ → List ℕ → Option OrderRecord
-found h port token = option_and_then (λ (g : GivenToken). find (has_number g.order) h.orders) (find (is_token port token) h.tokens)
+found h port token = option_and_then (λ (g : GivenToken). find (has_number g.order) h.orders)
+    (find (is_token port token) h.tokens)
 
 -- with this order in the place of the one with its OrderID
 abbrev pub changed : OrderRecord → Held → Held
 changed o h = record h { orders = put o h.orders }
 
 -- the order of a client that goes by this ClOrdID
-abbrev pub named : Held → ℕ → List ℕ → Option OrderRecord
-named h client id = find (is_named client id) h.orders
+abbrev pub found_by_id : Held → ℕ → List ℕ → Option OrderRecord
+found_by_id h client id = find (is_named client id) h.orders
 
 -- An order has had, or is to have, at most one token more than replaces of it were accepted.
 abbrev pub is_counted : List GivenToken → OrderRecord → Bool
-is_counted tokens o = nat_le (length o.tokens + length (option_to_list o.replace)) (1 + count_by (is_replacement_of o.new.order) tokens)
+is_counted tokens o = nat_le (length o.tokens + length (option_to_list o.replace))
+    (1 + count_by (is_replacement_of o.new.order) tokens)
 
 abbrev pub one_if : Bool → ℕ
 one_if b = if b then 1 else 0

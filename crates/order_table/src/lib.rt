@@ -1,6 +1,6 @@
 //! The table of orders: the accepted orders and the tokens that were given, and what is looked up in it.
 //!
-//! It knows nothing of messages from the market and of reports. Contracts see it as `order_histories`' table.
+//! It knows nothing of messages from the market and of reports. Contracts see it as `order_machine`'s table.
 #![tactic(auto)]
 
 mod open_counts;

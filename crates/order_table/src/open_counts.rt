@@ -49,7 +49,8 @@ impl OpenCounts {
     pub fn count_in(&mut self, client: u16, is_open: bool)
         requires inside { client < length self.old }
         requires fits { slice_index self.old client + 1 < 2 ^ 64 }
-        ensures { (other : ℕ) → slice_index self.new other ≡ slice_index self.old other + one_if (client == other && is_open) }
+        ensures { (other : ℕ) → slice_index self.new other
+            ≡ slice_index self.old other + one_if (client == other && is_open) }
     {
         if is_open {
             self.counts[client as usize] += 1;
@@ -59,7 +60,8 @@ impl OpenCounts {
     /// Counts an order of a client off, if it has closed. It was counted in.
     pub fn count_off(&mut self, client: u16, has_closed: bool)
         requires { has_closed ≡ true → 1 ≤ slice_index self.old client }
-        ensures { (other : ℕ) → slice_index self.new other + one_if (client == other && has_closed) ≡ slice_index self.old other }
+        ensures { (other : ℕ) → slice_index self.new other + one_if (client == other && has_closed)
+            ≡ slice_index self.old other }
     {
         if has_closed {
             self.counts[client as usize] -= 1;

@@ -1,11 +1,12 @@
 //! The newest of a list that passes a test, by its place.
 
-ghost use Rattle.std.specs.Prelude.{◌≡◌, ℕ, None, Some, decimal, option_map, length, reverse, slice_get, slice_set, MatchOption, ◌<◌, ◌++◌, ◌∷◌, [], vec_len, vec_capacity};
+ghost use Rattle.std.specs.Prelude.{◌≡◌, ℕ, None, Some, decimal, option_map, length, reverse, slice_get, slice_set};
+ghost use Rattle.std.specs.Prelude.{MatchOption, ◌<◌, ◌++◌, ◌∷◌, [], vec_len, vec_capacity};
 ghost use Rattle.std.specs.List.{find, position};
 ghost use Rattle.order_law.specs.Chain.{goes_by};
-ghost use Rattle.order_histories.specs.OrderRecord.{chained};
+ghost use Rattle.order_machine.specs.OrderRecord.{chained};
 ghost use Rattle.orders.specs.Seen.{cancel_seen, has_cancel_id, has_id, replace_seen};
-ghost use Rattle.order_histories.specs.Table as table;
+ghost use Rattle.order_machine.specs.Table as table;
 ghost use Rattle.order_table.specs.Held.{IsNewest};
 
 use crate::table::GivenToken;
@@ -118,7 +119,8 @@ fn is_of_replace(id: &[u8], replace: &Option<Replacing>) -> bool
 
 /// Whether a pending cancel has this ClOrdID.
 fn is_of_cancel(id: &[u8], cancel: &Option<Cancelling>) -> bool
-    ensures { (client order_id : ℕ) → result ≡ has_cancel_id id.now (option_map (cancel_seen client order_id) cancel.now) }
+    ensures { (client order_id : ℕ) → result ≡ has_cancel_id id.now
+        (option_map (cancel_seen client order_id) cancel.now) }
 {
     match cancel {
         None => false,

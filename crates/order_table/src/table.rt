@@ -1,9 +1,10 @@
 //! The list of orders, and the list of tokens that were given.
 
-ghost use Rattle.std.specs.Prelude.{◌≡◌, ◌<◌, ◌++◌, ◌∷◌, ◌&&◌, [], true, not, decimal, vec_len, vec_capacity, IfOk, OnErr};
+ghost use Rattle.std.specs.Prelude.{◌≡◌, ◌<◌, ◌++◌, ◌∷◌, ◌&&◌, [], true, not, decimal, vec_len, vec_capacity, IfOk};
+ghost use Rattle.std.specs.Prelude.{OnErr};
 ghost use Rattle.std.specs.List.{count_by, list_all};
 ghost use Rattle.order_law.specs.Life.{is_closed};
-ghost use Rattle.order_histories.specs.Table as table;
+ghost use Rattle.order_machine.specs.Table as table;
 ghost use Rattle.orders.specs.Changes.{Fits, changed_by};
 ghost use Rattle.order_table.specs.Held.{AreOpenCounts, is_counted};
 
@@ -29,11 +30,16 @@ pub struct GivenToken {
 
 impl Model for GivenToken {
     ghost use Rattle.std.specs.Prelude.{decimal};
-    ghost use Rattle.order_histories.specs.Table as table;
+    ghost use Rattle.order_machine.specs.Table as table;
 
     ghost Value = { table.GivenToken };
 
-    ghost view = { λ g. record { port = g.port; text = g.token; order = decimal g.order_id; is_replacement = g.is_replacement } };
+    ghost view = { λ g. record {
+      port = g.port;
+      text = g.token;
+      order = decimal g.order_id;
+      is_replacement = g.is_replacement;
+    } };
 }
 
 /// The accepted orders and the tokens that were given. Contracts see the newest first.
@@ -57,15 +63,16 @@ impl Model for Table {
 }
 
 impl Table {
-    ghost use Rattle.std.specs.Prelude.{◌≤◌, ◌+◌, [], ◌∷◌, IfOk, OnErr, MatchOption, Some, None, decimal, length, option_to_list};
+    ghost use Rattle.std.specs.Prelude.{◌≤◌, ◌+◌, [], ◌∷◌, IfOk, OnErr, MatchOption, Some, None, decimal, length};
+    ghost use Rattle.std.specs.Prelude.{option_to_list};
     ghost use Rattle.std.specs.List.{count_by};
     ghost use Rattle.std.specs.Prelude.{false};
     ghost use Rattle.order_law.specs.Life.{is_closed};
-    ghost use Rattle.order_histories.specs.OrderRecord as record_of;
-    ghost use Rattle.order_histories.specs.OrderRecord.{at};
-    ghost use Rattle.order_histories.specs.Table.{is_replacement_of, open_count, put};
+    ghost use Rattle.order_machine.specs.OrderRecord as record_of;
+    ghost use Rattle.order_machine.specs.OrderRecord.{at};
+    ghost use Rattle.order_machine.specs.Table.{is_replacement_of, open_count, put};
     ghost use Rattle.orders.specs.Changes.{Fits, changed_by};
-    ghost use Rattle.order_table.specs.Held.{changed, found, named, with_number};
+    ghost use Rattle.order_table.specs.Held.{changed, found, found_by_id, with_number};
     ghost use Rattle.orders.specs.Seen.{cancel_seen, replace_seen};
 
     /// No orders and no tokens. Takes no memory.
@@ -80,11 +87,12 @@ impl Table {
         }
     }
 
-    /// One order more, which has had one token and has no pending replace, and the token that it was given. `AllocError`
-    /// leaves the table as it was.
+    /// One order more, which has had one token and has no pending replace, and the token that it was given.
+    /// `AllocError` leaves the table as it was.
     pub fn add(&mut self, order: Order, given: GivenToken) -> Result<(), AllocError>
         requires { length order.tokens + length (option_to_list order.replace) ≤ 1 }
-        ensures added { IfOk result (λ nothing. self.new ≡ record { orders = order ∷ self.old.orders; tokens = given ∷ self.old.tokens }) }
+        ensures added { IfOk result (λ nothing. self.new
+            ≡ record { orders = order ∷ self.old.orders; tokens = given ∷ self.old.tokens }) }
         ensures err { OnErr result (self.new ≡ self.old) }
     {
         let client = client_of(&order);
@@ -113,7 +121,8 @@ impl Table {
 
     /// The order that a token of a port leads to.
     pub fn by_token(&self, port: u16, token: &[u8]) -> Option<&Order>
-        ensures { MatchOption result (found self.now port token.now ≡ None) (λ order. found self.now port token.now ≡ Some order.now) }
+        ensures { MatchOption result (found self.now port token.now ≡ None)
+            (λ order. found self.now port token.now ≡ Some order.now) }
     {
         match token_place(&self.tokens, port, token) {
             None => None,
@@ -123,7 +132,8 @@ impl Table {
 
     /// The order with an OrderID (37).
     pub fn by_number(&self, order_id: u64) -> Option<&Order>
-        ensures { MatchOption result (with_number self.now order_id ≡ None) (λ order. with_number self.now order_id ≡ Some order.now) }
+        ensures { MatchOption result (with_number self.now order_id ≡ None)
+            (λ order. with_number self.now order_id ≡ Some order.now) }
     {
         match place_of(&self.orders, order_id) {
             None => None,
@@ -134,7 +144,8 @@ impl Table {
     /// The order of a client that goes by this ClOrdID: its own, that of the last replace of it, or that of a pending
     /// request.
     pub fn by_id(&self, client: u16, id: &[u8]) -> Option<&Order>
-        ensures { MatchOption result (named self.now client id.now ≡ None) (λ order. named self.now client id.now ≡ Some order.now) }
+        ensures { MatchOption result (found_by_id self.now client id.now ≡ None)
+            (λ order. found_by_id self.now client id.now ≡ Some order.now) }
     {
         match named_place(&self.orders, client, id) {
             None => None,
@@ -168,7 +179,8 @@ impl Table {
 
     /// Whether the order with an OrderID is closed; `false` where no order has it.
     pub fn is_closed(&self, order_id: u64) -> bool
-        ensures known { (o : record_of.OrderRecord) → with_number self.now order_id ≡ Some o → result ≡ is_closed o.stage }
+        ensures known { (o : record_of.OrderRecord) → with_number self.now order_id ≡ Some o
+            → result ≡ is_closed o.stage }
         ensures unknown { with_number self.now order_id ≡ None → result ≡ false }
     {
         match self.by_number(order_id) {
@@ -177,8 +189,8 @@ impl Table {
         }
     }
 
-    /// A replace of the order with an OrderID is pending, which was given a token; it isn't the 65,536th. Where no order has
-    /// the OrderID, nothing changes. `AllocError` leaves the table as it was.
+    /// A replace of the order with an OrderID is pending, which was given a token; it isn't the 65,536th. Where no
+    /// order has the OrderID, nothing changes. `AllocError` leaves the table as it was.
     pub fn accept_replace(
         &mut self,
         order_id: u64,
@@ -189,7 +201,12 @@ impl Table {
         requires of_order { given.order ≡ decimal order_id }
         requires is_replacement { given.is_replacement ≡ true }
         ensures accepted { IfOk result (λ nothing. (o : record_of.OrderRecord) → with_number self.old order_id ≡ Some o
-            → self.new ≡ record { orders = put (at o (Some (replace_seen o.new.client order_id replacing)) o.cancel) self.old.orders; tokens = given ∷ self.old.tokens }) }
+            → self.new ≡ record {
+              orders = put (at o
+                  (Some (replace_seen o.new.client order_id replacing)) o.cancel) self.old.orders;
+              tokens = given
+                  ∷ self.old.tokens;
+            }) }
         ensures unknown { with_number self.old order_id ≡ None → self.new ≡ self.old }
         ensures err { OnErr result (self.new ≡ self.old) }
     {
@@ -239,7 +256,8 @@ fn is_open(order: &Order) -> bool
 fn apply_to(order: &mut Order, change: Change) -> Result<bool, AllocError>
     requires { Fits change order.old }
     ensures changed { IfOk result (λ has_closed. order.new ≡ changed_by change order.old) }
-    ensures closes { IfOk result (λ has_closed. has_closed ≡ (not (is_closed order.old.stage) && is_closed order.new.stage)) }
+    ensures closes { IfOk result (λ has_closed. has_closed
+        ≡ (not (is_closed order.old.stage) && is_closed order.new.stage)) }
     ensures err { OnErr result (order.new ≡ order.old) }
 {
     let was_open = is_open(order);

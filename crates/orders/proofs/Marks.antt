@@ -4,7 +4,7 @@ use Rattle.std.proofs.lemmas.List.{get_or_default, map-append, reverse-append}
 use Rattle.std.specs.Prelude.{◌||◌}
 use Rattle.std.specs.List.{list_any}
 use Rattle.std.proofs.lemmas.List.Edits.{map_over_more}
-use Rattle.order_histories.specs.OrderRecord.{mark}
+use Rattle.order_machine.specs.OrderRecord.{mark}
 use Rattle.orders.specs.declared.order.ToldTrade.{ToldTrade}
 use Rattle.orders.specs.Seen.{told_marked, told_seen}
 

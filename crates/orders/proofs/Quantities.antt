@@ -3,7 +3,7 @@ use Rattle.std.proofs.Common.{◌≡◌, ℕ, ◌+◌, Bool, true, false, List, 
 use Rattle.std.specs.Prelude.{Option, Some, None}
 use Rattle.order_law.specs.declared.stage.Stage.TheVariants.{Working}
 use Rattle.order_law.specs.History.{Entry}
-use Rattle.order_histories.specs.OrderRecord.{Cancelling, OrderRecord, at}
+use Rattle.order_machine.specs.OrderRecord.{Cancelling, OrderRecord, at}
 use Rattle.orders.specs.declared.progress.Progress.{Progress}
 use Rattle.orders.specs.Changes.{opened_at, over_if, renamed, with_quantities}
 use Rattle.orders.specs.Seen.{progressed}

@@ -1,12 +1,15 @@
--- What a change makes of an order: `order_histories`' words, with the fields of the message in place of its bytes.
-use Rattle.std.specs.Prelude.{◌≡◌, ◌≢◌, ◌≤◌, ℕ, Bool, false, not, ◌-◌, ◌+◌, ◌==◌, List, ◌∷◌, Option, Some, None, bytes_eq, filter, if◌then◌else◌}
+-- What a change makes of an order: `order_machine`'s words, with the fields of the message in place of its bytes.
+use Rattle.std.specs.Prelude.{◌≡◌, ◌≢◌, ◌≤◌, ℕ, Bool, false, not, ◌-◌, ◌+◌, ◌==◌, List, ◌∷◌, Option, Some, None}
+use Rattle.std.specs.Prelude.{bytes_eq, filter, if◌then◌else◌}
 use Rattle.fixed_point.specs.Decimal.{most_shares}
 use Rattle.order_law.specs.declared.stage.Stage.TheVariants.{Waiting, Working}
-use Rattle.order_law.specs.Messages.{text}
+use Rattle.fix_fields.specs.Field.{text}
 use Rattle.order_law.specs.History.{Entry, token_of}
-use Rattle.order_histories.specs.OrderRecord.{Cancelling, OrderRecord, at, broken, filled, gone, is_empty, live_token, reduced, refused, traded, unasked, with_tokens}
+use Rattle.order_machine.specs.OrderRecord.{Cancelling, OrderRecord, at, with_trade_broken, filled, gone, is_empty}
+use Rattle.order_machine.specs.OrderRecord.{live_token, reduced, market_refused, with_trade, unasked, with_tokens}
 use Rattle.orders.specs.declared.change.Change.{Change}
-use Rattle.orders.specs.declared.change.Change.TheVariants.{Opened, Replaced, Canceled, Traded, Broken, Refused, NotReplaced, NotCanceled}
+use Rattle.orders.specs.declared.change.Change.TheVariants.{Opened, Replaced, Canceled, Traded, Broken, Refused}
+use Rattle.orders.specs.declared.change.Change.TheVariants.{NotReplaced, NotCanceled}
 use Rattle.orders.specs.Seen.{told_seen}
 
 -- in the book with so many shares at this price
@@ -39,9 +42,9 @@ changed_by (Opened shares price is_dead) o = over_if is_dead (opened_at shares p
 changed_by (Replaced shares price is_dead) o = replaced_as shares price is_dead o o.replace
 changed_by (Canceled shares) o = after_canceled shares o
 changed_by (Traded t) o =
-    if o.unfilled - t.trade.shares == 0 then unasked (filled t.number t.trade o) else traded t.number t.trade o
-changed_by (Broken t) o = broken (told_seen t) o
-changed_by Refused o = unasked (refused o)
+    if o.unfilled - t.trade.shares == 0 then unasked (filled t.number t.trade o) else with_trade t.number t.trade o
+changed_by (Broken t) o = with_trade_broken (told_seen t) o
+changed_by Refused o = unasked (market_refused o)
 changed_by (NotReplaced token) o = at o None (still_without token o.cancel)
 changed_by (NotCanceled token) o = at o o.replace (still_without token o.cancel)
 

@@ -1,16 +1,17 @@
 -- How an order of the table is seen: as its record.
-use Rattle.std.specs.Prelude.{ℕ, Bool, false, List, ◌∷◌, Option, Some, None, bytes_eq, decimal, if◌then◌else◌, option_to_list}
+use Rattle.std.specs.Prelude.{ℕ, Bool, false, List, ◌∷◌, Option, Some, None, bytes_eq, decimal, if◌then◌else◌}
+use Rattle.std.specs.Prelude.{option_to_list}
 use Rattle.fix_types.specs.CancelRequest.{cancel_request_fields}
 use Rattle.fix_types.specs.ReplaceRequest.{replace_request_fields}
 use Rattle.order_law.specs.History.{Entry}
-use Rattle.order_law.specs.Messages.{text}
+use Rattle.fix_fields.specs.Field.{text}
 use Rattle.orders.specs.declared.requests.Cancelling.{Cancelling}
 use Rattle.orders.specs.declared.requests.Replacing.{Replacing}
 use Rattle.order_law.specs.Life.{marked}
 use Rattle.orders.specs.declared.order.ToldTrade.{ToldTrade}
 use Rattle.orders.specs.declared.progress.Progress.{Progress}
-use Rattle.order_histories.specs.OrderRecord.{OrderRecord}
-use Rattle.order_histories.specs.OrderRecord as record_of
+use Rattle.order_machine.specs.OrderRecord.{OrderRecord}
+use Rattle.order_machine.specs.OrderRecord as record_of
 
 abbrev pub told_seen : ToldTrade → record_of.ToldTrade
 told_seen t = record { trade = t.trade; number = t.number }
@@ -34,11 +35,21 @@ progressed p o = record o {
 
 -- the pending requests of an order of a client, with its OrderID
 abbrev pub replace_seen : ℕ → ℕ → Replacing → Entry
-replace_seen client order_id r = record { client = client; message = replace_request_fields r.message; order = decimal order_id; token = Some r.token_number }
+replace_seen client order_id r = record {
+  client = client;
+  message = replace_request_fields r.message;
+  order = decimal order_id;
+  token = Some r.token_number;
+}
 
 abbrev pub cancel_seen : ℕ → ℕ → Cancelling → record_of.Cancelling
 cancel_seen client order_id c = record {
-  request = record { client = client; message = cancel_request_fields c.message; order = decimal order_id; token = None };
+  request = record {
+    client = client;
+    message = cancel_request_fields c.message;
+    order = decimal order_id;
+    token = None;
+  };
   tokens = c.first ∷ option_to_list c.second;
 }
 

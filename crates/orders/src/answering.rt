@@ -16,7 +16,8 @@ impl Cancelling {
 
     /// The cancel once the Cancel Order of a token is answered; `None` where no other is left.
     pub fn without(self, token: [u8; 14]) -> Option<Cancelling>
-        ensures { (client order_id : ℕ) → option_map (cancel_seen client order_id) result ≡ still_without token (Some (cancel_seen client order_id self)) }
+        ensures { (client order_id : ℕ) → option_map (cancel_seen client order_id) result
+            ≡ still_without token (Some (cancel_seen client order_id self)) }
     {
         match (token == self.first, second_without(self.second, token)) {
             (true, None) => None,

@@ -1,7 +1,7 @@
-//! An accepted order: what its client asked, how far it has come, the tokens that it had, its trades, and the requests on it
-//! that aren't answered; and what a message of the market changes of it.
+//! An accepted order: what its client asked, how far it has come, the tokens that it had, its trades, and the
+//! requests on it that aren't answered; and what a message of the market changes of it.
 //!
-//! It knows nothing of a message's bytes and of reports. Contracts see an order as `order_histories`' record.
+//! It knows nothing of a message's bytes and of reports. Contracts see an order as `order_machine`'s record.
 #![tactic(auto)]
 
 mod answering;

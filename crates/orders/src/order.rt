@@ -4,7 +4,7 @@ ghost use Rattle.std.specs.Prelude.{◌≡◌, ◌≢◌, ◌≤◌, ◌<◌, �
 ghost use Rattle.order_law.specs.declared.stage.Stage.TheVariants.{Waiting, Working};
 ghost use Rattle.fix_types.specs.NewOrder.{new_order_fields};
 ghost use Rattle.order_law.specs.Asks.{total_of};
-ghost use Rattle.order_histories.specs.OrderRecord.{OrderRecord};
+ghost use Rattle.order_machine.specs.OrderRecord.{OrderRecord};
 ghost use Rattle.orders.specs.Changes.{over_if, with_quantities};
 ghost use Rattle.orders.specs.Seen.{progressed};
 ghost use Rattle.wire_law.specs.Printable.{ArePrintable};
@@ -27,7 +27,7 @@ pub struct ToldTrade {
     pub number: u64,
 }
 
-/// An accepted order. Contracts see it as `order_histories`' record.
+/// An accepted order. Contracts see it as `order_machine`'s record.
 #[derive(Debug, Drop)]
 pub struct Order {
     /// The number of its client, from 1.
@@ -60,13 +60,18 @@ pub struct Order {
 impl Model for Order {
     ghost use Rattle.std.specs.Prelude.{[], ◌∷◌, Some, None, decimal, map, option_map, reverse};
     ghost use Rattle.fix_types.specs.NewOrder.{new_order_fields};
-    ghost use Rattle.order_histories.specs.OrderRecord as record_of;
+    ghost use Rattle.order_machine.specs.OrderRecord as record_of;
     ghost use Rattle.orders.specs.Seen.{cancel_seen, replace_seen, told_seen};
 
     ghost Value = { record_of.OrderRecord };
 
     ghost view = { λ o. record {
-      new = record { client = o.client; message = new_order_fields o.message; order = decimal o.order_id; token = Some o.token_number };
+      new = record {
+        client = o.client;
+        message = new_order_fields o.message;
+        order = decimal o.order_id;
+        token = Some o.token_number;
+      };
       stage = o.progress.stage;
       is_refused = o.progress.is_refused;
       id = o.cl_ord_id;
@@ -89,7 +94,7 @@ impl Order {
     ghost use Rattle.tokens.specs.TokenText.{token_text};
     ghost use Rattle.fix_types.specs.NewOrder.{new_order_fields};
     ghost use Rattle.order_law.specs.Asks.{limit_of};
-    ghost use Rattle.order_histories.specs.OrderRecord.{at, entered, live_token, replacements, unasked};
+    ghost use Rattle.order_machine.specs.OrderRecord.{at, entered, live_token, replacements, unasked};
     ghost use Rattle.orders.specs.Changes.{Fits, changed_by, is_last_of, replaced_as, still_without, with_quantities};
     ghost use Rattle.orders.specs.Seen.{cancel_seen, progressed, replace_seen};
     ghost use Rattle.orders.specs.declared.change.Change.TheVariants as changes;
@@ -113,7 +118,12 @@ impl Order {
         requires executed { progress.executed ≡ 0 }
         requires value { progress.value ≡ 0 }
         requires tokens { progress.tokens ≡ 1 }
-        ensures { IfOk result (λ o. o ≡ entered (record { client = client; message = new_order_fields message; order = decimal order_id; token = Some token_number })) }
+        ensures { IfOk result (λ o. o ≡ entered (record {
+          client = client;
+          message = new_order_fields message;
+          order = decimal order_id;
+          token = Some token_number;
+        })) }
     {
         let cl_ord_id = ClOrdId::copied(alloc, message.cl_ord_id.as_slice())?;
         Ok(Order {
@@ -251,7 +261,8 @@ impl Order {
     /// It is in the book under its pending replace, or dead at once. `AllocError` leaves it as it was.
     fn replace_by(&mut self, shares: u32, price: u32, is_dead: bool) -> Result<(), AllocError>
         requires { Fits (changes.Replaced shares price is_dead) self.old }
-        ensures changed { IfOk result (λ nothing. self.new ≡ replaced_as shares price is_dead self.old self.old.replace) }
+        ensures changed { IfOk result (λ nothing. self.new
+            ≡ replaced_as shares price is_dead self.old self.old.replace) }
         ensures err { OnErr result (self.new ≡ self.old) }
     {
         self.earlier.reserve(1)?;
@@ -350,7 +361,8 @@ impl Order {
 /// The progress, over where the order is dead at once.
 fn over_if(is_dead: bool, progress: Progress) -> Progress
     ensures answered { progress.stage ≡ Working → result.stage ≢ Waiting }
-    ensures after { (o : OrderRecord) → progressed result o ≡ with_quantities (over_if is_dead (progressed progress o)) o }
+    ensures after { (o : OrderRecord) → progressed result o
+        ≡ with_quantities (over_if is_dead (progressed progress o)) o }
 {
     if is_dead { progress.gone() } else { progress }
 }

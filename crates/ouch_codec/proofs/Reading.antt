@@ -14,24 +14,24 @@ use Rattle.ouch_codec.specs.declared.layout.Kind.TheVariants.{Constant, SideLett
 use Rattle.ouch_codec.specs.declared.side.Side.{Side}
 use Rattle.ouch_codec.specs.declared.order_state.OrderState.{OrderState}
 use Rattle.ouch_codec.specs.Letters.{is_side, side_letter, is_order_state, order_state_letter}
-use Rattle.ouch_codec.specs.LetterLaws.{side_of, side_letter-of, side_of_letter, is_side-letter, order_state_of, order_state_letter-of, order_state_of_letter, is_order_state-letter}
-use Rattle.ouch_codec.specs.Layout.{width, total, is_in, IsMessage, Value, IsValue, field, Row, AreValues, spelled}
+use Rattle.ouch_codec.specs.LetterLaws.{side_of_byte, side_letter-of, side_from_letter, is_side-letter, order_state_of, order_state_letter-of, order_state_of_letter, is_order_state-letter}
+use Rattle.ouch_codec.specs.Layout.{width, total, is_in, IsMessage, Value, IsFieldValue, written_field, RowValues, AreValues, spelled}
 use Rattle.ouch_codec.specs.LayoutLaws.{same_pair}
 use Rattle.ouch_codec.specs.Reading.{field_bytes, value_at, Reads}
 pub use Rattle.ouch_codec.specs.RowReading.{AreBytes, row_at, AreValues-row_at, first_of-byte, spelled-row_at}
 use Rattle.ouch_codec.specs.RowReading.{further}
 
 -- each value of a row is what the field at its offset says
-abbrev pub AreRead : (kinds : List Kind) → Row kinds → ℕ → List ℕ → Type 0
+abbrev pub AreRead : (kinds : List Kind) → RowValues kinds → ℕ → List ℕ → Type 0
 AreRead [] row at bs = Unit {0}
 AreRead (kind ∷ kinds) row at bs = (row.0 ≡ value_at kind at bs) × AreRead kinds row.1 (at + width kind) bs
 
-read_row : (kinds : List Kind) (row : Row kinds) (at : ℕ) (bs : List ℕ) → AreRead kinds row at bs → row ≡ row_at kinds at bs
+read_row : (kinds : List Kind) (row : RowValues kinds) (at : ℕ) (bs : List ℕ) → AreRead kinds row at bs → row ≡ row_at kinds at bs
 read_row [] row at bs read = refl
 read_row (kind ∷ kinds) row at bs read = same_pair row.0 (value_at kind at bs) row.1 (row_at kinds (at + width kind) bs) read.0 (read_row kinds row.1 (at + width kind) bs read.1)
 
 -- a row of what a message says is written as the message
-pub spelled-read : (kinds : List Kind) (row : Row kinds) (bs : List ℕ) → AreBytes bs → IsMessage kinds bs → AreRead kinds row 0 bs → spelled kinds row ≡ bs
+pub spelled-read : (kinds : List Kind) (row : RowValues kinds) (bs : List ℕ) → AreBytes bs → IsMessage kinds bs → AreRead kinds row 0 bs → spelled kinds row ≡ bs
 spelled-read kinds row bs below message read = ap (spelled kinds) (read_row kinds row 0 bs read) ∙ spelled-row_at kinds 0 bs below message
 
 -- the fields from an offset on are in their sets
@@ -89,7 +89,7 @@ no_value result P none other = rw none (nothing P other)
 -- what is answered of a letter is what a reader of its field answers
 pub reads-side : (at : ℕ) (bs : List ℕ) (result : Option Side) → MatchOption result (is_side (slice_index bs at) ≡ false) (λ side. side_letter side ≡ slice_index bs at) → Reads SideLetter at bs result
 reads-side at bs None other = ap is_side (first_of-byte at bs) ∙ other
-reads-side at bs (Some side) e = (ap is_side (first_of-byte at bs ∙ sym e) ∙ is_side-letter side, side_of_letter side _ e)
+reads-side at bs (Some side) e = (ap is_side (first_of-byte at bs ∙ sym e) ∙ is_side-letter side, side_from_letter side _ e)
 
 pub reads-order_state : (at : ℕ) (bs : List ℕ) (result : Option OrderState) → MatchOption result (is_order_state (slice_index bs at) ≡ false) (λ state. order_state_letter state ≡ slice_index bs at) → Reads OrderStateLetter at bs result
 reads-order_state at bs None other = ap is_order_state (first_of-byte at bs) ∙ other

@@ -1,13 +1,13 @@
 -- An Accepted is its row.
 use Rattle.std.proofs.Common.{refl}
 use Rattle.ouch_codec.specs.declared.outbound.accepted.Accepted.{Accepted}
-use Rattle.ouch_codec.specs.Layout.{Row, AreValues, ◌⨾◌}
-use Rattle.ouch_codec.specs.Layouts.{accepted}
+use Rattle.ouch_codec.specs.Layout.{RowValues, AreValues, ◌⨾◌}
+use Rattle.ouch_codec.specs.Layouts.{accepted_layout}
 use Rattle.ouch_codec.specs.Rows.{accepted_row}
 use Rattle.ouch_codec.specs.LaidOut.{LaidOut}
 
 -- each value of its row is one that the field can say
-abbrev known : (m : Accepted) → AreValues accepted (accepted_row m)
+abbrev known : (m : Accepted) → AreValues accepted_layout (accepted_row m)
 known m =
     tt
     ⨾ m.timestamp_set
@@ -29,8 +29,83 @@ known m =
     ⨾ tt
 
 -- the message of a row
-abbrev pub accepted_of : (r : Row accepted) → AreValues accepted r → Accepted
-accepted_of (_, (timestamp, (token, (side, (shares, (stock, (price, (time_in_force, (firm, (display, (order_reference, (capacity, (intermarket_sweep, (minimum_quantity, (cross_type, (order_state, (bbo_weight, _))))))))))))))))) (_, (timestamp_set, (token_set, (_, (shares_set, (stock_set, (price_set, (time_in_force_set, (firm_set, (display_set, (order_reference_set, (capacity_set, (intermarket_sweep_set, (minimum_quantity_set, (cross_type_set, (_, (bbo_weight_set, _))))))))))))))))) = record {
+abbrev pub accepted_of : (r : RowValues accepted_layout) → AreValues accepted_layout r → Accepted
+accepted_of (
+  _,
+  (
+    timestamp,
+    (
+      token,
+      (
+        side,
+        (
+          shares,
+          (
+            stock,
+            (
+              price,
+              (
+                time_in_force,
+                (
+                  firm,
+                  (
+                    display,
+                    (
+                      order_reference,
+                      (
+                        capacity,
+                        (
+                          intermarket_sweep,
+                          (minimum_quantity, (cross_type, (order_state, (bbo_weight, _)))),
+                        ),
+                      ),
+                    ),
+                  ),
+                ),
+              ),
+            ),
+          ),
+        ),
+      ),
+    ),
+  ),
+) (
+  _,
+  (
+    timestamp_set,
+    (
+      token_set,
+      (
+        _,
+        (
+          shares_set,
+          (
+            stock_set,
+            (
+              price_set,
+              (
+                time_in_force_set,
+                (
+                  firm_set,
+                  (
+                    display_set,
+                    (
+                      order_reference_set,
+                      (
+                        capacity_set,
+                        (intermarket_sweep_set, (minimum_quantity_set, (cross_type_set, (_, (bbo_weight_set, _))))),
+                      ),
+                    ),
+                  ),
+                ),
+              ),
+            ),
+          ),
+        ),
+      ),
+    ),
+  ),
+) = record {
   timestamp = timestamp;
   token = token;
   side = side;
@@ -63,5 +138,11 @@ accepted_of (_, (timestamp, (token, (side, (shares, (stock, (price, (time_in_for
   bbo_weight_set = bbo_weight_set;
 }
 
-abbrev pub accepted_laid_out : LaidOut Accepted accepted
-accepted_laid_out = record { row = accepted_row; known = known; make = accepted_of; made = λ m. refl; remade = λ r k. refl }
+abbrev pub accepted_laid_out : LaidOut Accepted accepted_layout
+accepted_laid_out = record {
+  row = accepted_row;
+  known = known;
+  make = accepted_of;
+  made = λ m. refl;
+  remade = λ r k. refl;
+}

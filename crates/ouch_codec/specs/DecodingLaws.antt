@@ -1,5 +1,5 @@
--- Of any bytes `Decodes` lets one answer through: what a message is written as is decoded as this message, and bytes that
--- are none have one refusal.
+-- Of any bytes `Decodes` lets one answer through: what a message is written as is decoded as this message, and bytes
+-- that are none have one refusal.
 use Rattle.std.proofs.Common.{◌≡◌, ◌≢◌, ℕ, List, Result, Ok, Err, Option, None, Some, refl, sym, ap, subst, ◌∙◌}
 use Rattle.std.specs.Prelude.{◌==◌, if◌then◌else◌, MatchOption, codes, slice_get, slice_index}
 use Rattle.ouch_codec.specs.declared.layout.Kind.{Kind}
@@ -57,15 +57,15 @@ letter T = slice_index (codes "T") 0
 abbrev which_of : ℕ → Which
 which_of byte =
     if byte == 83 then S
-    else (if byte == 65 then A
-    else (if byte == 85 then U
-    else (if byte == 67 then C
-    else (if byte == 69 then E
-    else (if byte == 66 then B
-    else (if byte == 74 then J
-    else (if byte == 80 then P
-    else (if byte == 73 then I
-    else T))))))))
+    else if byte == 65 then A
+    else if byte == 85 then U
+    else if byte == 67 then C
+    else if byte == 69 then E
+    else if byte == 66 then B
+    else if byte == 74 then J
+    else if byte == 80 then P
+    else if byte == 73 then I
+    else T
 
 which_of-letter : (w : Which) → which_of (letter w) ≡ w
 which_of-letter S = refl
@@ -122,7 +122,8 @@ held_by (outbounds.CancelReject m) = record { which = I; held = m; is = refl }
 held_by outbounds.Skipped = record { which = T; held = tt; is = refl }
 
 -- what is decoded as a message begins with its letter
-first : (w : Which) (m : Held w) (payload : List ℕ) → Decodes payload (Ok (outbound w m)) → slice_get payload 0 ≡ Some (letter w)
+first : (w : Which) (m : Held w) (payload : List ℕ) → Decodes payload (Ok (outbound w m))
+    → slice_get payload 0 ≡ Some (letter w)
 first S m payload decodes = ap (λ (bs : List ℕ). slice_get bs 0) decodes
 first A m payload decodes = ap (λ (bs : List ℕ). slice_get bs 0) decodes
 first U m payload decodes = ap (λ (bs : List ℕ). slice_get bs 0) decodes
@@ -135,46 +136,71 @@ first I m payload decodes = ap (λ (bs : List ℕ). slice_get bs 0) decodes
 first T m payload decodes = decodes
 
 -- and as no other message of its type
-same : (w : Which) (m n : Held w) (payload : List ℕ) → Decodes payload (Ok (outbound w m)) → Decodes payload (Ok (outbound w n)) → outbound w m ≡ outbound w n
-same S m n payload m-decodes n-decodes = ap outbounds.SystemEvent (same_written system_event_laid_out m n (sym m-decodes ∙ n-decodes))
-same A m n payload m-decodes n-decodes = ap outbounds.Accepted (same_written accepted_laid_out m n (sym m-decodes ∙ n-decodes))
-same U m n payload m-decodes n-decodes = ap outbounds.Replaced (same_written replaced_laid_out m n (sym m-decodes ∙ n-decodes))
-same C m n payload m-decodes n-decodes = ap outbounds.Canceled (same_written canceled_laid_out m n (sym m-decodes ∙ n-decodes))
-same E m n payload m-decodes n-decodes = ap outbounds.Executed (same_written executed_laid_out m n (sym m-decodes ∙ n-decodes))
-same B m n payload m-decodes n-decodes = ap outbounds.Broken (same_written broken_laid_out m n (sym m-decodes ∙ n-decodes))
-same J m n payload m-decodes n-decodes = ap outbounds.Rejected (same_written rejected_laid_out m n (sym m-decodes ∙ n-decodes))
-same P m n payload m-decodes n-decodes = ap outbounds.CancelPending (same_written cancel_pending_laid_out m n (sym m-decodes ∙ n-decodes))
-same I m n payload m-decodes n-decodes = ap outbounds.CancelReject (same_written cancel_reject_laid_out m n (sym m-decodes ∙ n-decodes))
+same : (w : Which) (m n : Held w) (payload : List ℕ) → Decodes payload (Ok (outbound w m))
+    → Decodes payload (Ok (outbound w n)) → outbound w m ≡ outbound w n
+same S m n payload m-decodes n-decodes = ap outbounds.SystemEvent
+    (same_written system_event_laid_out m n (sym m-decodes ∙ n-decodes))
+same A m n payload m-decodes n-decodes = ap outbounds.Accepted
+    (same_written accepted_laid_out m n (sym m-decodes ∙ n-decodes))
+same U m n payload m-decodes n-decodes = ap outbounds.Replaced
+    (same_written replaced_laid_out m n (sym m-decodes ∙ n-decodes))
+same C m n payload m-decodes n-decodes = ap outbounds.Canceled
+    (same_written canceled_laid_out m n (sym m-decodes ∙ n-decodes))
+same E m n payload m-decodes n-decodes = ap outbounds.Executed
+    (same_written executed_laid_out m n (sym m-decodes ∙ n-decodes))
+same B m n payload m-decodes n-decodes = ap outbounds.Broken
+    (same_written broken_laid_out m n (sym m-decodes ∙ n-decodes))
+same J m n payload m-decodes n-decodes = ap outbounds.Rejected
+    (same_written rejected_laid_out m n (sym m-decodes ∙ n-decodes))
+same P m n payload m-decodes n-decodes = ap outbounds.CancelPending
+    (same_written cancel_pending_laid_out m n (sym m-decodes ∙ n-decodes))
+same I m n payload m-decodes n-decodes = ap outbounds.CancelReject
+    (same_written cancel_reject_laid_out m n (sym m-decodes ∙ n-decodes))
 same T m n payload m-decodes n-decodes = refl
 
-not_refused : {M : Type 0} {kinds : List Kind} (laid_out : LaidOut M kinds) (m : M) (refusal : DecodeRefusal) → RefusesAs (total kinds) (IsMessage kinds) (written laid_out m) refusal → ⊥
+not_refused : {M : Type 0} {kinds : List Kind} (laid_out : LaidOut M kinds) (m : M) (refusal : DecodeRefusal)
+    → RefusesAs (total kinds) (IsMessage kinds) (written laid_out m) refusal → ⊥
 not_refused laid_out m refusals.Length refuses = refuses (length-written laid_out m)
 not_refused laid_out m refusals.Field refuses = refuses.1 (IsMessage-written laid_out m)
 not_refused laid_out m refusals.Type refuses = refuses
 
 -- nor is it refused
-no_refusal : (w : Which) (m : Held w) (payload : List ℕ) (refusal : DecodeRefusal) → Decodes payload (Ok (outbound w m)) → Refuses payload refusal → ⊥
-no_refusal S m payload refusal decodes refuses = not_refused system_event_laid_out m refusal (subst (λ (bs : List ℕ). Refuses bs refusal) decodes refuses)
-no_refusal A m payload refusal decodes refuses = not_refused accepted_laid_out m refusal (subst (λ (bs : List ℕ). Refuses bs refusal) decodes refuses)
-no_refusal U m payload refusal decodes refuses = not_refused replaced_laid_out m refusal (subst (λ (bs : List ℕ). Refuses bs refusal) decodes refuses)
-no_refusal C m payload refusal decodes refuses = not_refused canceled_laid_out m refusal (subst (λ (bs : List ℕ). Refuses bs refusal) decodes refuses)
-no_refusal E m payload refusal decodes refuses = not_refused executed_laid_out m refusal (subst (λ (bs : List ℕ). Refuses bs refusal) decodes refuses)
-no_refusal B m payload refusal decodes refuses = not_refused broken_laid_out m refusal (subst (λ (bs : List ℕ). Refuses bs refusal) decodes refuses)
-no_refusal J m payload refusal decodes refuses = not_refused rejected_laid_out m refusal (subst (λ (bs : List ℕ). Refuses bs refusal) decodes refuses)
-no_refusal P m payload refusal decodes refuses = not_refused cancel_pending_laid_out m refusal (subst (λ (bs : List ℕ). Refuses bs refusal) decodes refuses)
-no_refusal I m payload refusal decodes refuses = not_refused cancel_reject_laid_out m refusal (subst (λ (bs : List ℕ). Refuses bs refusal) decodes refuses)
-no_refusal T m payload refusal decodes refuses = (subst (λ (x : Option ℕ). MatchOption x (refusal ≡ refusals.Length) (λ byte. RefusesByType byte payload refusal)) decodes refuses).0 refl
+no_refusal : (w : Which) (m : Held w) (payload : List ℕ) (refusal : DecodeRefusal)
+    → Decodes payload (Ok (outbound w m)) → Refuses payload refusal → ⊥
+no_refusal S m payload refusal decodes refuses = not_refused system_event_laid_out m refusal
+    (subst (λ (bs : List ℕ). Refuses bs refusal) decodes refuses)
+no_refusal A m payload refusal decodes refuses = not_refused accepted_laid_out m refusal
+    (subst (λ (bs : List ℕ). Refuses bs refusal) decodes refuses)
+no_refusal U m payload refusal decodes refuses = not_refused replaced_laid_out m refusal
+    (subst (λ (bs : List ℕ). Refuses bs refusal) decodes refuses)
+no_refusal C m payload refusal decodes refuses = not_refused canceled_laid_out m refusal
+    (subst (λ (bs : List ℕ). Refuses bs refusal) decodes refuses)
+no_refusal E m payload refusal decodes refuses = not_refused executed_laid_out m refusal
+    (subst (λ (bs : List ℕ). Refuses bs refusal) decodes refuses)
+no_refusal B m payload refusal decodes refuses = not_refused broken_laid_out m refusal
+    (subst (λ (bs : List ℕ). Refuses bs refusal) decodes refuses)
+no_refusal J m payload refusal decodes refuses = not_refused rejected_laid_out m refusal
+    (subst (λ (bs : List ℕ). Refuses bs refusal) decodes refuses)
+no_refusal P m payload refusal decodes refuses = not_refused cancel_pending_laid_out m refusal
+    (subst (λ (bs : List ℕ). Refuses bs refusal) decodes refuses)
+no_refusal I m payload refusal decodes refuses = not_refused cancel_reject_laid_out m refusal
+    (subst (λ (bs : List ℕ). Refuses bs refusal) decodes refuses)
+no_refusal T m payload refusal decodes refuses = (subst
+    (λ (x : Option ℕ). MatchOption x (refusal ≡ refusals.Length)
+    (λ byte. RefusesByType byte payload refusal)) decodes refuses).0 refl
 
 same_some : (m n : ℕ) → ◌≡◌ {A = Option ℕ} (Some m) (Some n) → m ≡ n
 same_some m n e = cc
 
-same_which : (v w : Which) (m : Held v) (n : Held w) (payload : List ℕ) → Decodes payload (Ok (outbound v m)) → Decodes payload (Ok (outbound w n)) → v ≡ w
+same_which : (v w : Which) (m : Held v) (n : Held w) (payload : List ℕ) → Decodes payload (Ok (outbound v m))
+    → Decodes payload (Ok (outbound w n)) → v ≡ w
 same_which v w m n payload m-decodes n-decodes =
     sym (which_of-letter v)
     ∙ ap which_of (same_some (letter v) (letter w) (sym (first v m payload m-decodes) ∙ first w n payload n-decodes))
     ∙ which_of-letter w
 
-one_held : (v w : Which) (m : Held v) (n : Held w) (payload : List ℕ) → Decodes payload (Ok (outbound v m)) → Decodes payload (Ok (outbound w n)) → outbound v m ≡ outbound w n
+one_held : (v w : Which) (m : Held v) (n : Held w) (payload : List ℕ) → Decodes payload (Ok (outbound v m))
+    → Decodes payload (Ok (outbound w n)) → outbound v m ≡ outbound w n
 one_held v w m n payload m-decodes n-decodes =
     subst
     (λ (u : Which). (k : Held u) → Decodes payload (Ok (outbound u k)) → outbound v m ≡ outbound u k)
@@ -193,16 +219,21 @@ one_message o p payload o-decodes p-decodes =
     (subst (λ (q : Outbound). Decodes payload (Ok q)) (sym b.is) p-decodes)
     ∙ b.is
 
-message_or_refusal : (o : Outbound) (refusal : DecodeRefusal) (payload : List ℕ) → Decodes payload (Ok o) → Refuses payload refusal → ⊥
+message_or_refusal : (o : Outbound) (refusal : DecodeRefusal) (payload : List ℕ) → Decodes payload (Ok o)
+    → Refuses payload refusal → ⊥
 message_or_refusal o refusal payload decodes refuses =
     let a = held_by o in
-    no_refusal a.which a.held payload refusal (subst (λ (q : Outbound). Decodes payload (Ok q)) (sym a.is) decodes) refuses
+    no_refusal a.which a.held payload refusal (subst (λ (q : Outbound). Decodes payload (Ok q))
+    (sym a.is) decodes) refuses
 
-refusal_of_type : (len : ℕ) (is_spelled : List ℕ → Type 0) (payload : List ℕ) (r s : DecodeRefusal) → RefusesAs len is_spelled payload r → RefusesAs len is_spelled payload s → r ≡ s
+refusal_of_type : (len : ℕ) (is_spelled : List ℕ → Type 0) (payload : List ℕ) (r s : DecodeRefusal)
+    → RefusesAs len is_spelled payload r → RefusesAs len is_spelled payload s → r ≡ s
 refusal_of_type len is_spelled payload refusals.Length refusals.Length r-refuses s-refuses = refl
-refusal_of_type len is_spelled payload refusals.Length refusals.Field r-refuses s-refuses = absurd (r-refuses s-refuses.0)
+refusal_of_type len is_spelled payload refusals.Length refusals.Field r-refuses s-refuses = absurd
+    (r-refuses s-refuses.0)
 refusal_of_type len is_spelled payload refusals.Length refusals.Type r-refuses s-refuses = absurd s-refuses
-refusal_of_type len is_spelled payload refusals.Field refusals.Length r-refuses s-refuses = absurd (s-refuses r-refuses.0)
+refusal_of_type len is_spelled payload refusals.Field refusals.Length r-refuses s-refuses = absurd
+    (s-refuses r-refuses.0)
 refusal_of_type len is_spelled payload refusals.Field refusals.Field r-refuses s-refuses = refl
 refusal_of_type len is_spelled payload refusals.Field refusals.Type r-refuses s-refuses = absurd s-refuses
 refusal_of_type len is_spelled payload refusals.Type s r-refuses s-refuses = absurd r-refuses
@@ -210,16 +241,23 @@ refusal_of_type len is_spelled payload refusals.Type s r-refuses s-refuses = abs
 one_refusal : (payload : List ℕ) (r s : DecodeRefusal) → Refuses payload r → Refuses payload s → r ≡ s
 one_refusal payload r s = by_first (slice_get payload 0)
   where
-    by_layout : (byte : ℕ) (x : Option (List Kind)) → MatchOption x ((byte ≢ 84) × (r ≡ refusals.Type)) (λ layout. RefusesAs (total layout) (IsMessage layout) payload r) → MatchOption x ((byte ≢ 84) × (s ≡ refusals.Type)) (λ layout. RefusesAs (total layout) (IsMessage layout) payload s) → r ≡ s
+    by_layout : (byte : ℕ) (x : Option (List Kind))
+        → MatchOption x ((byte ≢ 84) × (r ≡ refusals.Type))
+        (λ layout. RefusesAs (total layout) (IsMessage layout) payload r)
+        → MatchOption x ((byte ≢ 84) × (s ≡ refusals.Type))
+        (λ layout. RefusesAs (total layout) (IsMessage layout) payload s) → r ≡ s
     by_layout byte None r-refuses s-refuses = r-refuses.1 ∙ sym s-refuses.1
-    by_layout byte (Some layout) r-refuses s-refuses = refusal_of_type (total layout) (IsMessage layout) payload r s r-refuses s-refuses
+    by_layout byte (Some layout) r-refuses s-refuses = refusal_of_type (total layout)
+        (IsMessage layout) payload r s r-refuses s-refuses
 
-    by_first : (x : Option ℕ) → MatchOption x (r ≡ refusals.Length) (λ byte. RefusesByType byte payload r) → MatchOption x (s ≡ refusals.Length) (λ byte. RefusesByType byte payload s) → r ≡ s
+    by_first : (x : Option ℕ) → MatchOption x (r ≡ refusals.Length) (λ byte. RefusesByType byte payload r)
+        → MatchOption x (s ≡ refusals.Length) (λ byte. RefusesByType byte payload s) → r ≡ s
     by_first None r-refuses s-refuses = r-refuses ∙ sym s-refuses
     by_first (Some byte) r-refuses s-refuses = by_layout byte (outbound_layout byte) r-refuses s-refuses
 
 -- any two answers that are right of some bytes are one
-pub one_answer : (payload : List ℕ) (a b : Result Outbound DecodeRefusal) → Decodes payload a → Decodes payload b → a ≡ b
+pub one_answer : (payload : List ℕ) (a b : Result Outbound DecodeRefusal) → Decodes payload a → Decodes payload b
+    → a ≡ b
 one_answer payload (Ok o) (Ok p) o-decodes p-decodes = ap Ok (one_message o p payload o-decodes p-decodes)
 one_answer payload (Ok o) (Err s) o-decodes s-refuses = absurd (message_or_refusal o s payload o-decodes s-refuses)
 one_answer payload (Err r) (Ok p) r-refuses p-decodes = absurd (message_or_refusal p r payload p-decodes r-refuses)

@@ -1,13 +1,13 @@
 -- An Enter Order is its row.
 use Rattle.std.proofs.Common.{refl}
 use Rattle.ouch_codec.specs.declared.inbound.enter_order.EnterOrder.{EnterOrder}
-use Rattle.ouch_codec.specs.Layout.{Row, AreValues, ◌⨾◌}
-use Rattle.ouch_codec.specs.Layouts.{enter_order}
+use Rattle.ouch_codec.specs.Layout.{RowValues, AreValues, ◌⨾◌}
+use Rattle.ouch_codec.specs.Layouts.{enter_order_layout}
 use Rattle.ouch_codec.specs.Rows.{enter_order_row}
 use Rattle.ouch_codec.specs.LaidOut.{LaidOut}
 
 -- each value of its row is one that the field can say
-abbrev known : (m : EnterOrder) → AreValues enter_order (enter_order_row m)
+abbrev known : (m : EnterOrder) → AreValues enter_order_layout (enter_order_row m)
 known m =
     tt
     ⨾ m.token_set
@@ -26,8 +26,68 @@ known m =
     ⨾ tt
 
 -- the message of a row
-abbrev pub enter_order_of : (r : Row enter_order) → AreValues enter_order r → EnterOrder
-enter_order_of (_, (token, (side, (shares, (stock, (price, (time_in_force, (firm, (display, (capacity, (intermarket_sweep, (minimum_quantity, (cross_type, (customer_type, _)))))))))))))) (_, (token_set, (_, (shares_set, (stock_set, (price_set, (time_in_force_set, (firm_set, (display_set, (capacity_set, (intermarket_sweep_set, (minimum_quantity_set, (cross_type_set, (customer_type_set, _)))))))))))))) = record {
+abbrev pub enter_order_of : (r : RowValues enter_order_layout) → AreValues enter_order_layout r → EnterOrder
+enter_order_of (
+  _,
+  (
+    token,
+    (
+      side,
+      (
+        shares,
+        (
+          stock,
+          (
+            price,
+            (
+              time_in_force,
+              (
+                firm,
+                (
+                  display,
+                  (
+                    capacity,
+                    (intermarket_sweep, (minimum_quantity, (cross_type, (customer_type, _)))),
+                  ),
+                ),
+              ),
+            ),
+          ),
+        ),
+      ),
+    ),
+  ),
+) (
+  _,
+  (
+    token_set,
+    (
+      _,
+      (
+        shares_set,
+        (
+          stock_set,
+          (
+            price_set,
+            (
+              time_in_force_set,
+              (
+                firm_set,
+                (
+                  display_set,
+                  (
+                    capacity_set,
+                    (intermarket_sweep_set, (minimum_quantity_set, (cross_type_set, (customer_type_set, _)))),
+                  ),
+                ),
+              ),
+            ),
+          ),
+        ),
+      ),
+    ),
+  ),
+) = record {
   token = token;
   side = side;
   shares = shares;
@@ -55,5 +115,11 @@ enter_order_of (_, (token, (side, (shares, (stock, (price, (time_in_force, (firm
   customer_type_set = customer_type_set;
 }
 
-abbrev pub enter_order_laid_out : LaidOut EnterOrder enter_order
-enter_order_laid_out = record { row = enter_order_row; known = known; make = enter_order_of; made = λ m. refl; remade = λ r k. refl }
+abbrev pub enter_order_laid_out : LaidOut EnterOrder enter_order_layout
+enter_order_laid_out = record {
+  row = enter_order_row;
+  known = known;
+  make = enter_order_of;
+  made = λ m. refl;
+  remade = λ r k. refl;
+}

@@ -4,7 +4,7 @@ use Rattle.std.specs.Prelude.{codes, slice_index}
 use Rattle.ouch_codec.specs.declared.inbound.enter_order.EnterOrder.{EnterOrder}
 use Rattle.ouch_codec.specs.Letters.{side_letter}
 use Rattle.ouch_codec.specs.Layout.{is_message, spelled}
-use Rattle.ouch_codec.specs.Layouts.{enter_order}
+use Rattle.ouch_codec.specs.Layouts.{enter_order_layout}
 use Rattle.ouch_codec.specs.Rows.{enter_order_row}
 use Rattle.ouch_codec.specs.LaidOut.{written, is_message-written, at_place}
 use Rattle.ouch_codec.specs.EnterOrderLaws.{enter_order_laid_out}
@@ -14,7 +14,7 @@ use Rattle.ouch_codec.specs.ToMarket as said
 
 -- these bytes are an Enter Order that says the fields of this one
 pub record SaysEnterOrder (m : EnterOrder) (bytes : List ℕ) : Type 0 where
-  pub is_one : is_message enter_order bytes ≡ true
+  pub is_one : is_message enter_order_layout bytes ≡ true
   pub type : type_of bytes ≡ slice_index (codes "O") 0
   pub token : said.token bytes ≡ m.token
   pub side : said.enter_side bytes ≡ side_letter m.side
@@ -31,7 +31,7 @@ pub record SaysEnterOrder (m : EnterOrder) (bytes : List ℕ) : Type 0 where
   pub customer : said.enter_customer bytes ≡ m.customer_type
 
 -- an Enter Order is written as bytes that say it
-pub SaysEnterOrder-written : (m : EnterOrder) → SaysEnterOrder m (spelled enter_order (enter_order_row m))
+pub SaysEnterOrder-written : (m : EnterOrder) → SaysEnterOrder m (spelled enter_order_layout (enter_order_row m))
 SaysEnterOrder-written m =
     let bytes = written enter_order_laid_out m in
     let place = at_place enter_order_laid_out m in

@@ -1,5 +1,6 @@
 -- Messages as bytes, and what the layouts say of them, computed. The Enter Order is one that was written elsewhere.
-use Rattle.std.specs.Prelude.{◌≡◌, ℕ, ◌+◌, ◌-◌, ◌*◌, true, false, List, [], ◌∷◌, ◌++◌, take, nat_le, if◌then◌else◌, Option, Some, None, Result, Ok, codes, refl}
+use Rattle.std.specs.Prelude.{◌≡◌, ℕ, ◌+◌, ◌-◌, ◌*◌, true, false, List, [], ◌∷◌, ◌++◌, take, nat_le, if◌then◌else◌}
+use Rattle.std.specs.Prelude.{Option, Some, None, Result, Ok, codes, refl}
 use Rattle.ouch_codec.specs.declared.layout.Kind.{Kind}
 use Rattle.ouch_codec.specs.declared.order_state.OrderState.TheVariants.{Live, Dead}
 use Rattle.ouch_codec.specs.declared.outbound.system_event.SystemEvent.{SystemEvent}
@@ -16,7 +17,9 @@ use Rattle.ouch_codec.specs.declared.outbound.Outbound.TheVariants as market
 use Rattle.ouch_codec.specs.declared.refusal.DecodeRefusal.{DecodeRefusal}
 use Rattle.ouch_codec.specs.declared.side.Side.TheVariants.{Sell, SellShort}
 use Rattle.ouch_codec.specs.Layout.{is_message, total}
-use Rattle.ouch_codec.specs.Layouts.{enter_order, replace, cancel, system_event, accepted, replaced, canceled, executed, broken, rejected, cancel_pending, cancel_reject}
+use Rattle.ouch_codec.specs.Layouts.{enter_order_layout, replace_layout, cancel_layout, system_event_layout}
+use Rattle.ouch_codec.specs.Layouts.{accepted_layout, replaced_layout, canceled_layout, executed_layout, broken_layout}
+use Rattle.ouch_codec.specs.Layouts.{rejected_layout, cancel_pending_layout, cancel_reject_layout}
 use Rattle.ouch_codec.specs.Parts.{type_of}
 use Rattle.ouch_codec.specs.Decoding.{outbound_layout}
 use Rattle.ouch_codec.specs.ToMarket as to_market
@@ -32,10 +35,12 @@ bytes (high ∷ []) = []
 bytes (high ∷ low ∷ digits) = (16 * digit high + digit low) ∷ bytes digits
 
 abbrev enter_order_bytes : List ℕ
-enter_order_bytes = bytes (codes "4f4730303030303030303030303031420000012c494e544320202020000394040001869e4649524d59504e000000004e52")
+enter_order_bytes = bytes
+    (codes "4f4730303030303030303030303031420000012c494e544320202020000394040001869e4649524d59504e000000004e52")
 
 abbrev replace_bytes : List ℕ
-replace_bytes = bytes (codes "55473030303030303030303030303147303030303030303030303030320000012c000394040001869e594e00000000")
+replace_bytes = bytes
+    (codes "55473030303030303030303030303147303030303030303030303030320000012c000394040001869e594e00000000")
 
 abbrev cancel_bytes : List ℕ
 cancel_bytes = bytes (codes "58473030303030303030303030303100000000")
@@ -44,10 +49,12 @@ abbrev system_event_bytes : List ℕ
 system_event_bytes = bytes (codes "5300001f1aced9f00051")
 
 abbrev accepted_bytes : List ℕ
-accepted_bytes = bytes (codes "4100001f1aced9f0014730303030303030303030303031530000012c494e544320202020000394040001869e4649524d590000000000000011504e00000064434c31")
+accepted_bytes = bytes
+    (codes "4100001f1aced9f0014730303030303030303030303031530000012c494e544320202020000394040001869e4649524d590000000000000011504e00000064434c31")
 
 abbrev replaced_bytes : List ℕ
-replaced_bytes = bytes (codes "5500001f1aced9f002473030303030303030303030303254000000c84d53465420202020000f42400001869f5452494d4100000000000000125259000000324e44473030303030303030303030303132")
+replaced_bytes = bytes
+    (codes "5500001f1aced9f002473030303030303030303030303254000000c84d53465420202020000f42400001869f5452494d4100000000000000125259000000324e44473030303030303030303030303132")
 
 abbrev canceled_bytes : List ℕ
 canceled_bytes = bytes (codes "4300001f1aced9f00347303030303030303030303030330000009655")
@@ -68,76 +75,89 @@ abbrev cancel_reject_bytes : List ℕ
 cancel_reject_bytes = bytes (codes "4900001f1aced9f0084730303030303030303030303038")
 
 -- a message of a layout, and none with one byte less or more
-pub record Fits (layout : List Kind) (message : List ℕ) : Type 0 where
+pub record FitsLayout (layout : List Kind) (message : List ℕ) : Type 0 where
   pub whole : is_message layout message ≡ true
   pub short : is_message layout (take (total layout - 1) message) ≡ false
   pub long : is_message layout (message ++ 32 ∷ []) ≡ false
 
-enter_order_fits : Fits enter_order enter_order_bytes
+enter_order_fits : FitsLayout enter_order_layout enter_order_bytes
 enter_order_fits = record { whole = refl; short = refl; long = refl }
 
-replace_fits : Fits replace replace_bytes
+replace_fits : FitsLayout replace_layout replace_bytes
 replace_fits = record { whole = refl; short = refl; long = refl }
 
-cancel_fits : Fits cancel cancel_bytes
+cancel_fits : FitsLayout cancel_layout cancel_bytes
 cancel_fits = record { whole = refl; short = refl; long = refl }
 
-system_event_fits : Fits system_event system_event_bytes
+system_event_fits : FitsLayout system_event_layout system_event_bytes
 system_event_fits = record { whole = refl; short = refl; long = refl }
 
-accepted_fits : Fits accepted accepted_bytes
+accepted_fits : FitsLayout accepted_layout accepted_bytes
 accepted_fits = record { whole = refl; short = refl; long = refl }
 
-replaced_fits : Fits replaced replaced_bytes
+replaced_fits : FitsLayout replaced_layout replaced_bytes
 replaced_fits = record { whole = refl; short = refl; long = refl }
 
-canceled_fits : Fits canceled canceled_bytes
+canceled_fits : FitsLayout canceled_layout canceled_bytes
 canceled_fits = record { whole = refl; short = refl; long = refl }
 
-executed_fits : Fits executed executed_bytes
+executed_fits : FitsLayout executed_layout executed_bytes
 executed_fits = record { whole = refl; short = refl; long = refl }
 
-broken_fits : Fits broken broken_bytes
+broken_fits : FitsLayout broken_layout broken_bytes
 broken_fits = record { whole = refl; short = refl; long = refl }
 
-rejected_fits : Fits rejected rejected_bytes
+rejected_fits : FitsLayout rejected_layout rejected_bytes
 rejected_fits = record { whole = refl; short = refl; long = refl }
 
-cancel_pending_fits : Fits cancel_pending cancel_pending_bytes
+cancel_pending_fits : FitsLayout cancel_pending_layout cancel_pending_bytes
 cancel_pending_fits = record { whole = refl; short = refl; long = refl }
 
-cancel_reject_fits : Fits cancel_reject cancel_reject_bytes
+cancel_reject_fits : FitsLayout cancel_reject_layout cancel_reject_bytes
 cancel_reject_fits = record { whole = refl; short = refl; long = refl }
 
 -- the sets of the fields
 sets :
-    (is_message enter_order (bytes (codes "4f4730303030303030303030303031580000012c494e544320202020000394040001869e4649524d59504e000000004e52")) ≡ false)  -- side `X`
-    × (is_message enter_order (bytes (codes "4f4730303030303030303030303031450000012c494e544320202020000394040001869e4649524d59504e000000004e52")) ≡ true)  -- side `E`
-    × (is_message enter_order (bytes (codes "4f4730303030303030303030303031310000012c494e544320202020000394040001869e4649524d59504e000000004e52")) ≡ false)  -- side by its FIX digit
-    × (is_message enter_order (bytes (codes "4f47303030303030303030303030314200000000494e544320202020000394040001869e4649524d59504e000000004e52")) ≡ false)  -- no shares
-    × (is_message enter_order (bytes (codes "4f473030303030303030303030303142000f423f494e544320202020000394040001869e4649524d59504e000000004e52")) ≡ true)  -- 999,999 shares
-    × (is_message enter_order (bytes (codes "4f473030303030303030303030303142000f4240494e544320202020000394040001869e4649524d59504e000000004e52")) ≡ false)  -- 1,000,000 shares
-    × (is_message enter_order (bytes (codes "4f4730303030303030303030303031420000012c1f4e544320202020000394040001869e4649524d59504e000000004e52")) ≡ false)  -- a byte below 32 in a text
-    × (is_message enter_order (bytes (codes "4f4730303030303030303030303031420000012c494e544320202020000394040001869e4649524d7f504e000000004e52")) ≡ false)  -- a letter above 126
-    × (is_message accepted (bytes (codes "4100000000000000004730303030303030303030303031420000012c494e544320202020000394040001869e4649524d590000000000000001504e000000004e444e")) ≡ true)  -- state `D`
-    × (is_message accepted (bytes (codes "4100000000000000004730303030303030303030303031420000012c494e544320202020000394040001869e4649524d590000000000000001504e000000004e584e")) ≡ false)  -- state `X`
-    × (is_message accepted (bytes (codes "41000000000000000047303030303030303030303030314200000000494e544320202020000394040001869e4649524d590000000000000001504e000000004e4c4e")) ≡ false)  -- no shares
-    × (is_message accepted (bytes (codes "4f00000000000000004730303030303030303030303031420000012c494e544320202020000394040001869e4649524d590000000000000001504e000000004e4c4e")) ≡ false)  -- another type
-    × (is_message cancel (bytes (codes "584730303030303030303030303031000f4240")) ≡ false)  -- 1,000,000 shares
-    × (is_message canceled (bytes (codes "4300000000000000004730303030303030303030303031ffffffff55")) ≡ true)  -- a decrement may be any number
+    (is_message enter_order_layout
+    (bytes (codes "4f4730303030303030303030303031580000012c494e544320202020000394040001869e4649524d59504e000000004e52")) ≡ false)  -- side `X`
+    × (is_message enter_order_layout
+    (bytes (codes "4f4730303030303030303030303031450000012c494e544320202020000394040001869e4649524d59504e000000004e52")) ≡ true)  -- side `E`
+    × (is_message enter_order_layout
+    (bytes (codes "4f4730303030303030303030303031310000012c494e544320202020000394040001869e4649524d59504e000000004e52")) ≡ false)  -- side by its FIX digit
+    × (is_message enter_order_layout
+    (bytes (codes "4f47303030303030303030303030314200000000494e544320202020000394040001869e4649524d59504e000000004e52")) ≡ false)  -- no shares
+    × (is_message enter_order_layout
+    (bytes (codes "4f473030303030303030303030303142000f423f494e544320202020000394040001869e4649524d59504e000000004e52")) ≡ true)  -- 999,999 shares
+    × (is_message enter_order_layout
+    (bytes (codes "4f473030303030303030303030303142000f4240494e544320202020000394040001869e4649524d59504e000000004e52")) ≡ false)  -- 1,000,000 shares
+    × (is_message enter_order_layout
+    (bytes (codes "4f4730303030303030303030303031420000012c1f4e544320202020000394040001869e4649524d59504e000000004e52")) ≡ false)  -- a byte below 32 in a text
+    × (is_message enter_order_layout
+    (bytes (codes "4f4730303030303030303030303031420000012c494e544320202020000394040001869e4649524d7f504e000000004e52")) ≡ false)  -- a letter above 126
+    × (is_message accepted_layout
+    (bytes (codes "4100000000000000004730303030303030303030303031420000012c494e544320202020000394040001869e4649524d590000000000000001504e000000004e444e")) ≡ true)  -- state `D`
+    × (is_message accepted_layout
+    (bytes (codes "4100000000000000004730303030303030303030303031420000012c494e544320202020000394040001869e4649524d590000000000000001504e000000004e584e")) ≡ false)  -- state `X`
+    × (is_message accepted_layout
+    (bytes (codes "41000000000000000047303030303030303030303030314200000000494e544320202020000394040001869e4649524d590000000000000001504e000000004e4c4e")) ≡ false)  -- no shares
+    × (is_message accepted_layout
+    (bytes (codes "4f00000000000000004730303030303030303030303031420000012c494e544320202020000394040001869e4649524d590000000000000001504e000000004e4c4e")) ≡ false)  -- another type
+    × (is_message cancel_layout (bytes (codes "584730303030303030303030303031000f4240")) ≡ false)  -- 1,000,000 shares
+    × (is_message canceled_layout (bytes (codes "4300000000000000004730303030303030303030303031ffffffff55"))
+    ≡ true)  -- a decrement may be any number
 sets = (refl, refl, refl, refl, refl, refl, refl, refl, refl, refl, refl, refl, refl, refl)
 
 -- those from the market are listed by their types, and no others are
 listed :
-    (outbound_layout (type_of system_event_bytes) ≡ Some system_event)
-    × (outbound_layout (type_of accepted_bytes) ≡ Some accepted)
-    × (outbound_layout (type_of replaced_bytes) ≡ Some replaced)
-    × (outbound_layout (type_of canceled_bytes) ≡ Some canceled)
-    × (outbound_layout (type_of executed_bytes) ≡ Some executed)
-    × (outbound_layout (type_of broken_bytes) ≡ Some broken)
-    × (outbound_layout (type_of rejected_bytes) ≡ Some rejected)
-    × (outbound_layout (type_of cancel_pending_bytes) ≡ Some cancel_pending)
-    × (outbound_layout (type_of cancel_reject_bytes) ≡ Some cancel_reject)
+    (outbound_layout (type_of system_event_bytes) ≡ Some system_event_layout)
+    × (outbound_layout (type_of accepted_bytes) ≡ Some accepted_layout)
+    × (outbound_layout (type_of replaced_bytes) ≡ Some replaced_layout)
+    × (outbound_layout (type_of canceled_bytes) ≡ Some canceled_layout)
+    × (outbound_layout (type_of executed_bytes) ≡ Some executed_layout)
+    × (outbound_layout (type_of broken_bytes) ≡ Some broken_layout)
+    × (outbound_layout (type_of rejected_bytes) ≡ Some rejected_layout)
+    × (outbound_layout (type_of cancel_pending_bytes) ≡ Some cancel_pending_layout)
+    × (outbound_layout (type_of cancel_reject_bytes) ≡ Some cancel_reject_layout)
     × (outbound_layout (type_of enter_order_bytes) ≡ None)
     × (outbound_layout (type_of (codes "T")) ≡ None)
 listed = (refl, refl, refl, refl, refl, refl, refl, refl, refl, refl, refl)

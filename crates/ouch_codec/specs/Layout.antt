@@ -1,13 +1,15 @@
 -- What a layout is: which bytes are a message, and which bytes stand for a row of values.
 -- The layouts themselves are in `Layouts.antt`.
-use Rattle.std.specs.Prelude.{◌≡◌, ℕ, ◌+◌, ◌≤◌, ◌<◌, ◌^◌, List, [], ◌∷◌, ◌++◌, length, take, drop, Bool, true, ◌&&◌, ◌==◌, nat_le, slice_index}
+use Rattle.std.specs.Prelude.{◌≡◌, ℕ, ◌+◌, ◌≤◌, ◌<◌, ◌^◌, List, [], ◌∷◌, ◌++◌, length, take, drop, Bool, true, ◌&&◌}
+use Rattle.std.specs.Prelude.{◌==◌, nat_le, slice_index}
 use Rattle.std.specs.List.{list_all}
 use Rattle.std.specs.Int.{w32, w64, to_be_bytes, from_be_bytes}
 use Rattle.wire_law.specs.Printable.{is_printable, ArePrintable}
 use Rattle.ouch_codec.specs.declared.side.Side.{Side}
 use Rattle.ouch_codec.specs.declared.order_state.OrderState.{OrderState}
 use Rattle.ouch_codec.specs.declared.layout.Kind.{Kind}
-use Rattle.ouch_codec.specs.declared.layout.Kind.TheVariants.{Constant, SideLetter, OrderStateLetter, Printable, Text, Shares, IntendedShares, Number, LongNumber}
+use Rattle.ouch_codec.specs.declared.layout.Kind.TheVariants.{Constant, SideLetter, OrderStateLetter, Printable, Text}
+use Rattle.ouch_codec.specs.declared.layout.Kind.TheVariants.{Shares, IntendedShares, Number, LongNumber}
 use Rattle.ouch_codec.specs.Letters.{side_letter, is_side, order_state_letter, is_order_state}
 
 -- how many bytes a field takes
@@ -47,28 +49,28 @@ Value Number = ℕ
 Value LongNumber = ℕ
 
 -- a value is one that the field can say
-abbrev pub IsValue : (kind : Kind) → Value kind → Type 0
-IsValue (Constant byte) v = Unit {0}
-IsValue SideLetter v = Unit {0}
-IsValue OrderStateLetter v = Unit {0}
-IsValue Printable v = is_printable v ≡ true
-IsValue (Text bytes) v = (length v ≡ bytes) × ArePrintable v
-IsValue Shares v = (1 ≤ v) × (v ≤ 999_999)
-IsValue IntendedShares v = v ≤ 999_999
-IsValue Number v = v < 2 ^ 32
-IsValue LongNumber v = v < 2 ^ 64
+abbrev pub IsFieldValue : (kind : Kind) → Value kind → Type 0
+IsFieldValue (Constant byte) v = Unit {0}
+IsFieldValue SideLetter v = Unit {0}
+IsFieldValue OrderStateLetter v = Unit {0}
+IsFieldValue Printable v = is_printable v ≡ true
+IsFieldValue (Text bytes) v = (length v ≡ bytes) × ArePrintable v
+IsFieldValue Shares v = (1 ≤ v) × (v ≤ 999_999)
+IsFieldValue IntendedShares v = v ≤ 999_999
+IsFieldValue Number v = v < 2 ^ 32
+IsFieldValue LongNumber v = v < 2 ^ 64
 
 -- the bytes that a value is written as
-abbrev pub field : (kind : Kind) → Value kind → List ℕ
-field (Constant byte) v = byte ∷ []
-field SideLetter v = side_letter v ∷ []
-field OrderStateLetter v = order_state_letter v ∷ []
-field Printable v = v ∷ []
-field (Text bytes) v = v
-field Shares v = to_be_bytes w32 v
-field IntendedShares v = to_be_bytes w32 v
-field Number v = to_be_bytes w32 v
-field LongNumber v = to_be_bytes w64 v
+abbrev pub written_field : (kind : Kind) → Value kind → List ℕ
+written_field (Constant byte) v = byte ∷ []
+written_field SideLetter v = side_letter v ∷ []
+written_field OrderStateLetter v = order_state_letter v ∷ []
+written_field Printable v = v ∷ []
+written_field (Text bytes) v = v
+written_field Shares v = to_be_bytes w32 v
+written_field IntendedShares v = to_be_bytes w32 v
+written_field Number v = to_be_bytes w32 v
+written_field LongNumber v = to_be_bytes w64 v
 
 -- how many bytes a message has
 abbrev pub total : List Kind → ℕ
@@ -91,9 +93,9 @@ is_message (kind ∷ kinds) bs =
     && (is_in kind (take (width kind) bs) && is_message kinds (drop (width kind) bs))
 
 -- what a message says: a value for each field, one after another
-abbrev pub Row : List Kind → Type 0
-Row [] = Unit {0}
-Row (kind ∷ kinds) = Value kind × Row kinds
+abbrev pub RowValues : List Kind → Type 0
+RowValues [] = Unit {0}
+RowValues (kind ∷ kinds) = Value kind × RowValues kinds
 
 -- a value, and the values of the fields after it
 infixr 20 ◌⨾◌
@@ -101,11 +103,11 @@ abbrev pub ◌⨾◌ : {A B : Type 0} → A → B → A × B
 value ⨾ values = (value, values)
 
 -- each value is one that its field can say
-abbrev pub AreValues : (kinds : List Kind) → Row kinds → Type 0
+abbrev pub AreValues : (kinds : List Kind) → RowValues kinds → Type 0
 AreValues [] row = Unit {0}
-AreValues (kind ∷ kinds) row = IsValue kind row.0 × AreValues kinds row.1
+AreValues (kind ∷ kinds) row = IsFieldValue kind row.0 × AreValues kinds row.1
 
 -- the bytes that a row is written as
-abbrev pub spelled : (kinds : List Kind) → Row kinds → List ℕ
+abbrev pub spelled : (kinds : List Kind) → RowValues kinds → List ℕ
 spelled [] row = []
-spelled (kind ∷ kinds) row = field kind row.0 ++ spelled kinds row.1
+spelled (kind ∷ kinds) row = written_field kind row.0 ++ spelled kinds row.1

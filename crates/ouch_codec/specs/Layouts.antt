@@ -3,7 +3,8 @@
 -- checked of it: each offset is the sum of the widths before it, and all of them together are the message's length.
 use Rattle.std.specs.Prelude.{◌≡◌, ℕ, ◌+◌, List, [], ◌∷◌, Bool, true, ◌&&◌, ◌==◌, slice_index, codes, refl}
 use Rattle.ouch_codec.specs.declared.layout.Kind.{Kind}
-use Rattle.ouch_codec.specs.declared.layout.Kind.TheVariants.{Constant, SideLetter, OrderStateLetter, Printable, Text, Shares, IntendedShares, Number, LongNumber}
+use Rattle.ouch_codec.specs.declared.layout.Kind.TheVariants.{Constant, SideLetter, OrderStateLetter, Printable, Text}
+use Rattle.ouch_codec.specs.declared.layout.Kind.TheVariants.{Shares, IntendedShares, Number, LongNumber}
 use Rattle.ouch_codec.specs.Layout.{width}
 
 -- a line of the manual's table
@@ -51,8 +52,8 @@ enter_order_table =
 enter_order_lines_up : is_gapless 0 enter_order_table 49 ≡ true
 enter_order_lines_up = refl
 
-abbrev pub enter_order : List Kind
-enter_order = kinds_of enter_order_table
+abbrev pub enter_order_layout : List Kind
+enter_order_layout = kinds_of enter_order_table
 
 -- Cancel Order, `X`, towards the market. (OUCH 4.2, "Cancel Order Message".)
 abbrev pub cancel_table : List Line
@@ -65,8 +66,8 @@ cancel_table =
 cancel_lines_up : is_gapless 0 cancel_table 19 ≡ true
 cancel_lines_up = refl
 
-abbrev pub cancel : List Kind
-cancel = kinds_of cancel_table
+abbrev pub cancel_layout : List Kind
+cancel_layout = kinds_of cancel_table
 
 -- Accepted, `A`, from the market. (OUCH 4.2, "Accepted Message".)
 abbrev pub accepted_table : List Line
@@ -93,8 +94,8 @@ accepted_table =
 accepted_lines_up : is_gapless 0 accepted_table 66 ≡ true
 accepted_lines_up = refl
 
-abbrev pub accepted : List Kind
-accepted = kinds_of accepted_table
+abbrev pub accepted_layout : List Kind
+accepted_layout = kinds_of accepted_table
 
 -- Replace Order, `U`, towards the market. (OUCH 4.2, "Replace Order Message".)
 abbrev pub replace_table : List Line
@@ -113,8 +114,8 @@ replace_table =
 replace_lines_up : is_gapless 0 replace_table 47 ≡ true
 replace_lines_up = refl
 
-abbrev pub replace : List Kind
-replace = kinds_of replace_table
+abbrev pub replace_layout : List Kind
+replace_layout = kinds_of replace_table
 
 -- System Event, `S`, from the market. (OUCH 4.2, "System Event Message".)
 abbrev pub system_event_table : List Line
@@ -127,8 +128,8 @@ system_event_table =
 system_event_lines_up : is_gapless 0 system_event_table 10 ≡ true
 system_event_lines_up = refl
 
-abbrev pub system_event : List Kind
-system_event = kinds_of system_event_table
+abbrev pub system_event_layout : List Kind
+system_event_layout = kinds_of system_event_table
 
 -- Replaced, `U`, from the market. (OUCH 4.2, "Replaced Message".)
 abbrev pub replaced_table : List Line
@@ -156,8 +157,8 @@ replaced_table =
 replaced_lines_up : is_gapless 0 replaced_table 80 ≡ true
 replaced_lines_up = refl
 
-abbrev pub replaced : List Kind
-replaced = kinds_of replaced_table
+abbrev pub replaced_layout : List Kind
+replaced_layout = kinds_of replaced_table
 
 -- Canceled, `C`, from the market. (OUCH 4.2, "Canceled Message".)
 abbrev pub canceled_table : List Line
@@ -172,8 +173,8 @@ canceled_table =
 canceled_lines_up : is_gapless 0 canceled_table 28 ≡ true
 canceled_lines_up = refl
 
-abbrev pub canceled : List Kind
-canceled = kinds_of canceled_table
+abbrev pub canceled_layout : List Kind
+canceled_layout = kinds_of canceled_table
 
 -- Executed, `E`, from the market. (OUCH 4.2, "Executed Order Message".)
 abbrev pub executed_table : List Line
@@ -190,8 +191,8 @@ executed_table =
 executed_lines_up : is_gapless 0 executed_table 40 ≡ true
 executed_lines_up = refl
 
-abbrev pub executed : List Kind
-executed = kinds_of executed_table
+abbrev pub executed_layout : List Kind
+executed_layout = kinds_of executed_table
 
 -- Broken Trade, `B`, from the market. (OUCH 4.2, "Broken Trade Message".)
 abbrev pub broken_table : List Line
@@ -206,8 +207,8 @@ broken_table =
 broken_lines_up : is_gapless 0 broken_table 32 ≡ true
 broken_lines_up = refl
 
-abbrev pub broken : List Kind
-broken = kinds_of broken_table
+abbrev pub broken_layout : List Kind
+broken_layout = kinds_of broken_table
 
 -- Rejected, `J`, from the market. (OUCH 4.2, "Rejected Message".)
 abbrev pub rejected_table : List Line
@@ -221,8 +222,8 @@ rejected_table =
 rejected_lines_up : is_gapless 0 rejected_table 24 ≡ true
 rejected_lines_up = refl
 
-abbrev pub rejected : List Kind
-rejected = kinds_of rejected_table
+abbrev pub rejected_layout : List Kind
+rejected_layout = kinds_of rejected_table
 
 -- Cancel Pending, `P`, from the market. (OUCH 4.2, "Cancel Pending Message".)
 abbrev pub cancel_pending_table : List Line
@@ -235,8 +236,8 @@ cancel_pending_table =
 cancel_pending_lines_up : is_gapless 0 cancel_pending_table 23 ≡ true
 cancel_pending_lines_up = refl
 
-abbrev pub cancel_pending : List Kind
-cancel_pending = kinds_of cancel_pending_table
+abbrev pub cancel_pending_layout : List Kind
+cancel_pending_layout = kinds_of cancel_pending_table
 
 -- Cancel Reject, `I`, from the market. (OUCH 4.2, "Cancel Reject Message".)
 abbrev pub cancel_reject_table : List Line
@@ -249,5 +250,5 @@ cancel_reject_table =
 cancel_reject_lines_up : is_gapless 0 cancel_reject_table 23 ≡ true
 cancel_reject_lines_up = refl
 
-abbrev pub cancel_reject : List Kind
-cancel_reject = kinds_of cancel_reject_table
+abbrev pub cancel_reject_layout : List Kind
+cancel_reject_layout = kinds_of cancel_reject_table

@@ -15,20 +15,21 @@ is_side-letter SellShort = refl
 is_side-letter SellShortExempt = refl
 
 -- the side that a letter stands for
-abbrev pub side_of : ℕ → Side
-side_of byte = if byte == 66 then Buy else (if byte == 83 then Sell else (if byte == 84 then SellShort else SellShortExempt))
+abbrev pub side_of_byte : ℕ → Side
+side_of_byte byte = if byte == 66 then Buy else if byte == 83 then Sell else if byte == 84 then SellShort
+    else SellShortExempt
 
-pub side_of-letter : (side : Side) → side_of (side_letter side) ≡ side
+pub side_of-letter : (side : Side) → side_of_byte (side_letter side) ≡ side
 side_of-letter Buy = refl
 side_of-letter Sell = refl
 side_of-letter SellShort = refl
 side_of-letter SellShortExempt = refl
 
-pub side_letter-of : (byte : ℕ) → is_side byte ≡ true → side_letter (side_of byte) ≡ byte
+pub side_letter-of : (byte : ℕ) → is_side byte ≡ true → side_letter (side_of_byte byte) ≡ byte
 side_letter-of byte known = grind (arith, nat_tests)
 
-pub side_of_letter : (side : Side) (byte : ℕ) → side_letter side ≡ byte → side ≡ side_of byte
-side_of_letter side byte e = sym (side_of-letter side) ∙ ap side_of e
+pub side_from_letter : (side : Side) (byte : ℕ) → side_letter side ≡ byte → side ≡ side_of_byte byte
+side_from_letter side byte e = sym (side_of-letter side) ∙ ap side_of_byte e
 
 pub is_order_state-letter : (state : OrderState) → is_order_state (order_state_letter state) ≡ true
 is_order_state-letter Live = refl
@@ -45,5 +46,6 @@ order_state_of-letter Dead = refl
 pub order_state_letter-of : (byte : ℕ) → is_order_state byte ≡ true → order_state_letter (order_state_of byte) ≡ byte
 order_state_letter-of byte known = grind (arith, nat_tests)
 
-pub order_state_of_letter : (state : OrderState) (byte : ℕ) → order_state_letter state ≡ byte → state ≡ order_state_of byte
+pub order_state_of_letter : (state : OrderState) (byte : ℕ) → order_state_letter state ≡ byte
+    → state ≡ order_state_of byte
 order_state_of_letter state byte e = sym (order_state_of-letter state) ∙ ap order_state_of e

@@ -27,12 +27,18 @@ empty_of (b ∷ bs) h = absurd (not_nothing (length bs) h)
 pub is_message-passes : (kinds : List Kind) (bs : List ℕ) → IsMessage kinds bs → is_message kinds bs ≡ true
 is_message-passes [] bs message = rw message refl
 is_message-passes (kind ∷ kinds) bs message =
-    rw (le_test (width kind) (length bs) message.0, message.1, is_message-passes kinds (drop (width kind) bs) message.2) refl
+    rw (
+      le_test (width kind) (length bs) message.0,
+      message.1,
+      is_message-passes kinds
+          (drop (width kind) bs) message.2,
+    ) refl
 
 -- what passes the test is a message
 pub IsMessage-passed : (kinds : List Kind) (bs : List ℕ) → is_message kinds bs ≡ true → IsMessage kinds bs
 IsMessage-passed [] bs h = empty_of bs h
 IsMessage-passed (kind ∷ kinds) bs h =
-    let long = both (nat_le (width kind) (length bs)) (is_in kind (take (width kind) bs) && is_message kinds (drop (width kind) bs)) h in
+    let long = both (nat_le (width kind) (length bs))
+    (is_in kind (take (width kind) bs) && is_message kinds (drop (width kind) bs)) h in
     let inside = both (is_in kind (take (width kind) bs)) (is_message kinds (drop (width kind) bs)) long.1 in
     (le_said (width kind) (length bs) long.0, inside.0, IsMessage-passed kinds (drop (width kind) bs) inside.1)

@@ -1,5 +1,6 @@
 -- Parts of a message, read from its bytes by offset alone. (OUCH 4.2, "Data Types".)
-use Rattle.std.specs.Prelude.{ℕ, ◌+◌, ◌*◌, List, [], ◌∷◌, take, drop, reverse, fold, ◌==◌, if◌then◌else◌, Bool, false, ◌&&◌, bytes_eq, slice_index}
+use Rattle.std.specs.Prelude.{ℕ, ◌+◌, ◌*◌, List, [], ◌∷◌, take, drop, reverse, fold, ◌==◌, if◌then◌else◌, Bool, false}
+use Rattle.std.specs.Prelude.{◌&&◌, bytes_eq, slice_index}
 use Rattle.ouch_codec.specs.Layout.{width}
 use Rattle.ouch_codec.specs.Layouts.{Line}
 

@@ -2,8 +2,9 @@
 use Rattle.std.specs.Prelude.{◌≡◌, ℕ, List, take, drop, true, false, Option, MatchOption, slice_index}
 use Rattle.std.specs.Int.{w32, w64, from_be_bytes}
 use Rattle.ouch_codec.specs.declared.layout.Kind.{Kind}
-use Rattle.ouch_codec.specs.declared.layout.Kind.TheVariants.{Constant, SideLetter, OrderStateLetter, Printable, Text, Shares, IntendedShares, Number, LongNumber}
-use Rattle.ouch_codec.specs.LetterLaws.{side_of, order_state_of}
+use Rattle.ouch_codec.specs.declared.layout.Kind.TheVariants.{Constant, SideLetter, OrderStateLetter, Printable, Text}
+use Rattle.ouch_codec.specs.declared.layout.Kind.TheVariants.{Shares, IntendedShares, Number, LongNumber}
+use Rattle.ouch_codec.specs.LetterLaws.{side_of_byte, order_state_of}
 use Rattle.ouch_codec.specs.Layout.{width, is_in, Value}
 
 -- the bytes of a field at an offset
@@ -13,7 +14,7 @@ field_bytes kind at message = take (width kind) (drop at message)
 -- what the field says
 abbrev pub value_at : (kind : Kind) → ℕ → List ℕ → Value kind
 value_at (Constant byte) at bs = tt
-value_at SideLetter at bs = side_of (slice_index bs at)
+value_at SideLetter at bs = side_of_byte (slice_index bs at)
 value_at OrderStateLetter at bs = order_state_of (slice_index bs at)
 value_at Printable at bs = slice_index bs at
 value_at (Text bytes) at bs = take bytes (drop at bs)

@@ -1,13 +1,13 @@
 -- A Replace Order is its row.
 use Rattle.std.proofs.Common.{refl}
 use Rattle.ouch_codec.specs.declared.inbound.replace.Replace.{Replace}
-use Rattle.ouch_codec.specs.Layout.{Row, AreValues, ◌⨾◌}
-use Rattle.ouch_codec.specs.Layouts.{replace}
+use Rattle.ouch_codec.specs.Layout.{RowValues, AreValues, ◌⨾◌}
+use Rattle.ouch_codec.specs.Layouts.{replace_layout}
 use Rattle.ouch_codec.specs.Rows.{replace_row}
 use Rattle.ouch_codec.specs.LaidOut.{LaidOut}
 
 -- each value of its row is one that the field can say
-abbrev known : (m : Replace) → AreValues replace (replace_row m)
+abbrev known : (m : Replace) → AreValues replace_layout (replace_row m)
 known m =
     tt
     ⨾ m.token_set
@@ -21,8 +21,32 @@ known m =
     ⨾ tt
 
 -- the message of a row
-abbrev pub replace_of : (r : Row replace) → AreValues replace r → Replace
-replace_of (_, (token, (replacement_token, (shares, (price, (time_in_force, (display, (intermarket_sweep, (minimum_quantity, _))))))))) (_, (token_set, (replacement_token_set, (shares_set, (price_set, (time_in_force_set, (display_set, (intermarket_sweep_set, (minimum_quantity_set, _))))))))) = record {
+abbrev pub replace_of : (r : RowValues replace_layout) → AreValues replace_layout r → Replace
+replace_of (
+  _,
+  (
+    token,
+    (
+      replacement_token,
+      (
+        shares,
+        (price, (time_in_force, (display, (intermarket_sweep, (minimum_quantity, _))))),
+      ),
+    ),
+  ),
+) (
+  _,
+  (
+    token_set,
+    (
+      replacement_token_set,
+      (
+        shares_set,
+        (price_set, (time_in_force_set, (display_set, (intermarket_sweep_set, (minimum_quantity_set, _))))),
+      ),
+    ),
+  ),
+) = record {
   token = token;
   replacement_token = replacement_token;
   shares = shares;
@@ -41,5 +65,11 @@ replace_of (_, (token, (replacement_token, (shares, (price, (time_in_force, (dis
   minimum_quantity_set = minimum_quantity_set;
 }
 
-abbrev pub replace_laid_out : LaidOut Replace replace
-replace_laid_out = record { row = replace_row; known = known; make = replace_of; made = λ m. refl; remade = λ r k. refl }
+abbrev pub replace_laid_out : LaidOut Replace replace_layout
+replace_laid_out = record {
+  row = replace_row;
+  known = known;
+  make = replace_of;
+  made = λ m. refl;
+  remade = λ r k. refl;
+}

@@ -3,7 +3,7 @@ use Rattle.std.proofs.Common.{◌≡◌, ℕ, true, List, arith}
 use Rattle.std.specs.Prelude.{codes, slice_index}
 use Rattle.ouch_codec.specs.declared.inbound.replace.Replace.{Replace}
 use Rattle.ouch_codec.specs.Layout.{is_message, spelled}
-use Rattle.ouch_codec.specs.Layouts.{replace}
+use Rattle.ouch_codec.specs.Layouts.{replace_layout}
 use Rattle.ouch_codec.specs.Rows.{replace_row}
 use Rattle.ouch_codec.specs.LaidOut.{written, is_message-written, at_place}
 use Rattle.ouch_codec.specs.ReplaceLaws.{replace_laid_out}
@@ -13,7 +13,7 @@ use Rattle.ouch_codec.specs.ToMarket as said
 
 -- these bytes are a Replace Order that says the fields of this one
 pub record SaysReplace (m : Replace) (bytes : List ℕ) : Type 0 where
-  pub is_one : is_message replace bytes ≡ true
+  pub is_one : is_message replace_layout bytes ≡ true
   pub type : type_of bytes ≡ slice_index (codes "U") 0
   pub token : said.token bytes ≡ m.token
   pub replacement_token : said.replacement_token bytes ≡ m.replacement_token
@@ -25,7 +25,7 @@ pub record SaysReplace (m : Replace) (bytes : List ℕ) : Type 0 where
   pub minimum : said.replace_minimum bytes ≡ m.minimum_quantity
 
 -- a Replace Order is written as bytes that say it
-pub SaysReplace-written : (m : Replace) → SaysReplace m (spelled replace (replace_row m))
+pub SaysReplace-written : (m : Replace) → SaysReplace m (spelled replace_layout (replace_row m))
 SaysReplace-written m =
     let bytes = written replace_laid_out m in
     let place = at_place replace_laid_out m in

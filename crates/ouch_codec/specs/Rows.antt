@@ -11,10 +11,12 @@ use Rattle.ouch_codec.specs.declared.outbound.broken.Broken.{Broken}
 use Rattle.ouch_codec.specs.declared.outbound.rejected.Rejected.{Rejected}
 use Rattle.ouch_codec.specs.declared.outbound.cancel_pending.CancelPending.{CancelPending}
 use Rattle.ouch_codec.specs.declared.outbound.cancel_reject.CancelReject.{CancelReject}
-use Rattle.ouch_codec.specs.Layout.{Row, ◌⨾◌}
-use Rattle.ouch_codec.specs.Layouts.{enter_order, replace, cancel, system_event, accepted, replaced, canceled, executed, broken, rejected, cancel_pending, cancel_reject}
+use Rattle.ouch_codec.specs.Layout.{RowValues, ◌⨾◌}
+use Rattle.ouch_codec.specs.Layouts.{enter_order_layout, replace_layout, cancel_layout, system_event_layout}
+use Rattle.ouch_codec.specs.Layouts.{accepted_layout, replaced_layout, canceled_layout, executed_layout, broken_layout}
+use Rattle.ouch_codec.specs.Layouts.{rejected_layout, cancel_pending_layout, cancel_reject_layout}
 
-abbrev pub enter_order_row : EnterOrder → Row enter_order
+abbrev pub enter_order_row : EnterOrder → RowValues enter_order_layout
 enter_order_row m =
     tt
     ⨾ m.token
@@ -32,7 +34,7 @@ enter_order_row m =
     ⨾ m.customer_type
     ⨾ tt
 
-abbrev pub replace_row : Replace → Row replace
+abbrev pub replace_row : Replace → RowValues replace_layout
 replace_row m =
     tt
     ⨾ m.token
@@ -45,21 +47,21 @@ replace_row m =
     ⨾ m.minimum_quantity
     ⨾ tt
 
-abbrev pub cancel_row : Cancel → Row cancel
+abbrev pub cancel_row : Cancel → RowValues cancel_layout
 cancel_row m =
     tt
     ⨾ m.token
     ⨾ m.shares
     ⨾ tt
 
-abbrev pub system_event_row : SystemEvent → Row system_event
+abbrev pub system_event_row : SystemEvent → RowValues system_event_layout
 system_event_row m =
     tt
     ⨾ m.timestamp
     ⨾ m.event
     ⨾ tt
 
-abbrev pub accepted_row : Accepted → Row accepted
+abbrev pub accepted_row : Accepted → RowValues accepted_layout
 accepted_row m =
     tt
     ⨾ m.timestamp
@@ -80,7 +82,7 @@ accepted_row m =
     ⨾ m.bbo_weight
     ⨾ tt
 
-abbrev pub replaced_row : Replaced → Row replaced
+abbrev pub replaced_row : Replaced → RowValues replaced_layout
 replaced_row m =
     tt
     ⨾ m.timestamp
@@ -102,7 +104,7 @@ replaced_row m =
     ⨾ m.bbo_weight
     ⨾ tt
 
-abbrev pub canceled_row : Canceled → Row canceled
+abbrev pub canceled_row : Canceled → RowValues canceled_layout
 canceled_row m =
     tt
     ⨾ m.timestamp
@@ -111,7 +113,7 @@ canceled_row m =
     ⨾ m.reason
     ⨾ tt
 
-abbrev pub executed_row : Executed → Row executed
+abbrev pub executed_row : Executed → RowValues executed_layout
 executed_row m =
     tt
     ⨾ m.timestamp
@@ -122,7 +124,7 @@ executed_row m =
     ⨾ m.match_number
     ⨾ tt
 
-abbrev pub broken_row : Broken → Row broken
+abbrev pub broken_row : Broken → RowValues broken_layout
 broken_row m =
     tt
     ⨾ m.timestamp
@@ -131,7 +133,7 @@ broken_row m =
     ⨾ m.reason
     ⨾ tt
 
-abbrev pub rejected_row : Rejected → Row rejected
+abbrev pub rejected_row : Rejected → RowValues rejected_layout
 rejected_row m =
     tt
     ⨾ m.timestamp
@@ -139,14 +141,14 @@ rejected_row m =
     ⨾ m.reason
     ⨾ tt
 
-abbrev pub cancel_pending_row : CancelPending → Row cancel_pending
+abbrev pub cancel_pending_row : CancelPending → RowValues cancel_pending_layout
 cancel_pending_row m =
     tt
     ⨾ m.timestamp
     ⨾ m.token
     ⨾ tt
 
-abbrev pub cancel_reject_row : CancelReject → Row cancel_reject
+abbrev pub cancel_reject_row : CancelReject → RowValues cancel_reject_layout
 cancel_reject_row m =
     tt
     ⨾ m.timestamp

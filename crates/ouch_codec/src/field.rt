@@ -9,7 +9,8 @@ ghost use Rattle.std.specs.List.{flat_map};
 ghost use Rattle.std.specs.Int.{w32, w64, from_be_bytes, to_be_bytes};
 ghost use Rattle.ouch_codec.specs.Layout.{is_in};
 ghost use Rattle.ouch_codec.specs.Reading.{field_bytes, Reads};
-ghost use Rattle.ouch_codec.specs.declared.layout.Kind.TheVariants.{Constant, SideLetter, OrderStateLetter, Printable, Text, Shares, IntendedShares};
+ghost use Rattle.ouch_codec.specs.declared.layout.Kind.TheVariants.{Constant, SideLetter, OrderStateLetter, Printable};
+ghost use Rattle.ouch_codec.specs.declared.layout.Kind.TheVariants.{Text, Shares, IntendedShares};
 
 use crate::order_state::OrderState;
 use crate::side::Side;

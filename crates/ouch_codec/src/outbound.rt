@@ -56,7 +56,8 @@ pub enum Outbound {
 }
 
 impl Outbound {
-    /// The token that it is on, which a System Event and a Priority Update have not. Of a Replaced it is the previous one.
+    /// The token that it is on, which a System Event and a Priority Update have not. Of a Replaced it is the previous
+    /// one.
     pub fn order_token(&self) -> Option<&[u8; 14]>
         ensures { MatchOption result (order_token self.now ≡ None) (λ token. order_token self.now ≡ Some token.now) }
     {
@@ -112,8 +113,8 @@ pub fn one_answer()
     ensures { (payload : List ℕ) (a b : Result Outbound DecodeRefusal) → Decodes payload a → Decodes payload b → a ≡ b }
 {}
 
-/// What the law reads of bytes is what `decode` answers of them. It does nothing: its contract is the law, for callers to
-/// cite.
+/// What the law reads of bytes is what `decode` answers of them. It does nothing: its contract is the law, for
+/// callers to cite.
 pub fn one_reading()
     ensures { (payload : List ℕ) → list_all is_byte payload ≡ true → Decodes payload (decoded payload) }
 {}

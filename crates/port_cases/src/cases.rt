@@ -135,7 +135,8 @@ impl Cases {
         }
     }
 
-    /// Packets of each type of a range and of each length: `H-J 0 1 2`. Shows what they show, once where all show the same.
+    /// Packets of each type of a range and of each length: `H-J 0 1 2`. Shows what they show, once where all show the
+    /// same.
     fn hear_each(&mut self, alloc: Global, packets: &[u8]) -> Result<bool, AllocError> {
         let (kinds, lengths) = words_of(packets);
         let Some(kinds) = bytes_of(alloc, kinds)? else {

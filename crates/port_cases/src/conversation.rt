@@ -4,7 +4,7 @@ use crate::bytes::{bytes_of, show_bytes, show_number};
 use crate::line::{Step, number_of, words_of};
 use crate::packets::{feed, packet_of, reads, show_packet, writes, zeros};
 use soup_packets::{Packet, Packets};
-use soup_session::{PortOut, PortSession, PortState, PortTurn};
+use soup_session::{PortFault, PortOut, PortSession, PortState, PortTurn};
 use std::alloc::{AllocError, Global};
 use wire_law::WholeWire;
 
@@ -28,8 +28,8 @@ impl Conversation {
         }
     }
 
-    /// What the last step showed: a line for each packet or close that goes out, one for a payload that is given up, one
-    /// for how the session stands.
+    /// What the last step showed: a line for each packet or close that goes out, one for a payload that is delivered,
+    /// one for how the session stands.
     pub fn shown(&self) -> &[u8] {
         self.shown.as_slice()
     }
@@ -125,10 +125,10 @@ impl Conversation {
 
     fn fails(&mut self, alloc: Global, text: &[u8]) -> Result<bool, AllocError> {
         let fault = match text {
-            b"1" => 1,
-            b"2" => 2,
-            b"3" => 3,
-            b"4" => 4,
+            b"1" => PortFault::StrangePacket,
+            b"2" => PortFault::UnknownToken,
+            b"3" => PortFault::NotLawful,
+            b"4" => PortFault::OutsideProfile,
             _ => return Ok(false),
         };
         if !self.session.state().is_up() {
@@ -138,7 +138,7 @@ impl Conversation {
         self.show_turn(alloc, &turn)
     }
 
-    /// Sequenced packets of the numbers from one to another come. What is given up of them is shown in one line.
+    /// Sequenced packets of the numbers from one to another come. What is delivered of them is shown in one line.
     fn comes(&mut self, alloc: Global, text: &[u8]) -> Result<bool, AllocError> {
         let (from, to) = words_of(text);
         let (Some(from), Some(to)) = (number_of(from), number_of(to)) else {
@@ -155,7 +155,7 @@ impl Conversation {
         Ok(true)
     }
 
-    /// The sequenced packet of a number comes, and its payload is put behind those that were given up.
+    /// The sequenced packet of a number comes, and its payload is put behind those that were delivered.
     fn number_comes(
         &mut self,
         alloc: Global,
@@ -196,7 +196,7 @@ impl Conversation {
         Ok(true)
     }
 
-    /// Shows what goes out, and the payload that is given up.
+    /// Shows what goes out, and the payload that is delivered.
     fn show_turn(&mut self, alloc: Global, turn: &PortTurn) -> Result<bool, AllocError> {
         self.show_outs(alloc, turn.outs.as_slice())?;
         if let Some(payload) = &turn.payload {
@@ -231,9 +231,9 @@ impl Conversation {
         self.show_next()
     }
 
-    fn show_fault(&mut self, fault: u8) -> Result<bool, AllocError> {
+    fn show_fault(&mut self, fault: PortFault) -> Result<bool, AllocError> {
         self.shown.extend_from_slice(b"fault ")?;
-        show_number(&mut self.shown, u64::from(fault))?;
+        show_number(&mut self.shown, u64::from(fault.number()))?;
         self.show_next()
     }
 

@@ -11,7 +11,8 @@ pub enum Line<'a> {
     Case(&'a [u8]),
     /// What the last step has to show next.
     Wanted(&'a [u8]),
-    /// A packet of each type of a range with each of some lengths, each on a session of its own that stands as this one.
+    /// A packet of each type of a range with each of some lengths, each on a session of its own that stands as this
+    /// one.
     Each(&'a [u8]),
     /// A step.
     Step(Step<'a>),
@@ -103,19 +104,10 @@ pub fn words_of(text: &[u8]) -> (&[u8], &[u8]) {
     }
 }
 
-/// A number in decimal digits, modulo 2^64.
+/// The number of one digit or more.
 pub fn number_of(digits: &[u8]) -> Option<u64> {
     if digits.is_empty() {
         return None;
     }
-    let mut number = 0u64;
-    for digit in digits {
-        if !digit.is_ascii_digit() {
-            return None;
-        }
-        number = number
-            .wrapping_mul(10)
-            .wrapping_add(u64::from(digit.wrapping_sub(b'0')));
-    }
-    Some(number)
+    decimal_digits::number_of(digits)
 }

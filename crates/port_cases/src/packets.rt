@@ -62,8 +62,8 @@ pub fn writes(alloc: Global, shown: &mut Vec<u8>, text: &[u8]) -> Result<bool, A
     Ok(true)
 }
 
-/// Writes an `S` with so many zeros, and reads it again: shows its first three bytes, and how many zeros follow them; then
-/// how many zeros were read.
+/// Writes an `S` with so many zeros, and reads it again: shows its first three bytes, and how many zeros follow them;
+/// then how many zeros were read.
 pub fn zeros(alloc: Global, shown: &mut Vec<u8>, text: &[u8]) -> Result<bool, AllocError> {
     let Some(count) = number_of(text) else {
         return Ok(false);

@@ -1,1 +1,2 @@
 pub mod Command
+pub use Rattle.gate_lines.specs.Scripts

@@ -31,11 +31,11 @@ read or write fails.";
 
 /// The flags that a command line asks for; its first word is the program's name.
 ///
-/// An error tells why the command line is refused, or is the help that it asks for, or says that memory ran out: `refusal_status`
-/// has the status for each.
+/// An error tells why the command line is refused, or is the help that it asks for, or says that memory ran out:
+/// `refusal_status` has the status for each.
 pub fn script_flags<'a, S: AsStr>(alloc: Global, words: &'a [S]) -> Result<Flags, Error>
-    ensures flags { IfOk result (λ flags. flags ≡ spec.flags_in (spec.found (map S.text words.now))) }
-    ensures refused { FailsBy (spec.faults (map S.text words.now)) result }
+    ensures flags { IfOk result (λ flags. flags ≡ spec.flags_in (spec.script_found (map S.text words.now))) }
+    ensures refused { FailsBy (spec.script_faults (map S.text words.now)) result }
 {
     let matches = matches_of(alloc, words)?;
     Ok(Flags {
@@ -47,8 +47,8 @@ pub fn script_flags<'a, S: AsStr>(alloc: Global, words: &'a [S]) -> Result<Flags
 
 /// What `clap` finds in the words.
 fn matches_of<'a, S: AsStr>(alloc: Global, words: &'a [S]) -> Result<ArgMatches<'a>, Error>
-    ensures found { IfOk result (λ matches. rows_of (found_of matches) ≡ spec.found (map S.text words.now)) }
-    ensures refused { FailsBy (spec.faults (map S.text words.now)) result }
+    ensures found { IfOk result (λ matches. rows_of (found_of matches) ≡ spec.script_found (map S.text words.now)) }
+    ensures refused { FailsBy (spec.script_faults (map S.text words.now)) result }
 {
     let command = gate_script(alloc)?;
     command.try_get_matches_from(words)
@@ -73,7 +73,7 @@ fn is_true(value: Option<&str>) -> bool
 
 /// The status of a program whose command line gave this error: 0 for the help, 1 where memory ran out, else 2.
 pub fn refusal_status(error: &Error) -> u8
-    ensures { result ≡ spec.status_of (kind_of error.now) }
+    ensures { result ≡ spec.error_status (kind_of error.now) }
 {
     match error.kind() {
         ErrorKind::DisplayHelp => 0,

@@ -2,23 +2,24 @@
 
 ghost use Rattle.std.specs.Prelude.{◌≡◌, ◌≤◌, ◌⊎◌, [], IfSome, map};
 ghost use Rattle.clap.specs.Words.{kind_of};
-ghost use Rattle.core_scripts.specs.Scripts.{PrintsAll};
-ghost use Rattle.script_command.specs.Command.{IsMistake, IsTold, flags_in, found};
+ghost use Rattle.gate_lines.specs.Scripts.{PrintsAll};
+ghost use Rattle.script_command.specs.Command.{IsMistake, IsToldAs, flags_in, script_found};
 ghost use Rattle.script_command.specs.Command as spec;
 
 use crate::command::{refusal_status, script_flags};
 use clap::Error;
 use clap::error::ErrorKind;
-use core_scripts::run_script;
+use gate_lines::run_script;
 use std::alloc::Global;
 use std::convert::AsStr;
 use std::io::{Read, Write};
 
-/// Runs the script's program: `run_script` with the flags that the command line asks for, its first word the program's name.
+/// Runs the script's program: `run_script` with the flags that the command line asks for, its first word the
+/// program's name.
 ///
-/// Where it asks for the help, that is written to `output`, and the status is 0, or 1 where it can't be written, with `read or write
-/// failed` on `faults`. Where it is refused, `faults` is told why, and the status is 2. Where memory runs out, `out of memory`
-/// is told there, and the status is 1. In these cases nothing is read.
+/// Where it asks for the help, that is written to `output`, and the status is 0, or 1 where it can't be written, with
+/// `read or write failed` on `faults`. Where it is refused, `faults` is told why, and the status is 2. Where memory
+/// runs out, `out of memory` is told there, and the status is 1. In these cases nothing is read.
 pub fn run_program<'a, S: AsStr, R: Read, W: Write, F: Write>(
     alloc: Global,
     words: &'a [S],
@@ -28,8 +29,9 @@ pub fn run_program<'a, S: AsStr, R: Read, W: Write, F: Write>(
 ) -> u8
     ensures status { result ≤ 2 }
     ensures mistake { IsMistake (map S.text words.now) → (result ≡ 2) ⊎ (result ≡ 1) }
-    ensures printed { spec.faults (map S.text words.now) ≡ [] → result ≡ 0 → IfSome (R.remaining input.old)
-        (λ text. PrintsAll (flags_in (found (map S.text words.now))) text (W.contents output.old) (W.contents output.new)) }
+    ensures printed { spec.script_faults (map S.text words.now) ≡ [] → result ≡ 0 → IfSome (R.remaining input.old)
+        (λ text. PrintsAll (flags_in (script_found (map S.text words.now))) text (W.contents output.old)
+        (W.contents output.new)) }
 {
     match script_flags(alloc, words) {
         Ok(flags) => run_script(alloc, flags, input, output, faults),
@@ -39,11 +41,11 @@ pub fn run_program<'a, S: AsStr, R: Read, W: Write, F: Write>(
 
 /// Tells what a command line came to that isn't one to run by: the help goes to `output`, anything else to `faults`.
 ///
-/// Answers the status that the program ends with: 0 for the help, 1 where memory ran out or the help can't be written, which is told on
-/// `faults`, else 2.
+/// Answers the status that the program ends with: 0 for the help, 1 where memory ran out or the help can't be
+/// written, which is told on `faults`, else 2.
 pub fn tell_refusal<W: Write, F: Write>(error: &Error, output: &mut W, faults: &mut F) -> u8
     ensures status { result ≤ 2 }
-    ensures mistake { IsTold (kind_of error.now) result }
+    ensures mistake { IsToldAs (kind_of error.now) result }
 {
     match error.kind() {
         ErrorKind::DisplayHelp => help(error, output, faults),

@@ -1,4 +1,4 @@
-pub mod Begins
-mod Numerals
+mod Begins
+mod Behind
 mod Spaces
 mod Tests

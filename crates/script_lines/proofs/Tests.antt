@@ -13,7 +13,7 @@ use Rattle.ouch_codec.specs.declared.order_state.OrderState.{OrderState}
 use Rattle.ouch_codec.specs.declared.order_state.OrderState.TheVariants as states
 use Rattle.ouch_codec.specs.Letters.{is_side, side_letter, is_order_state, order_state_letter}
 use Rattle.script_lines.specs.Words.{IsNumberBelow, number_in}
-use Rattle.script_lines.specs.Forms.{is_number_from, is_letter_in, fits}
+use Rattle.script_lines.specs.Forms.{is_number_from, is_letter_in, fits_forms}
 
 -- tests that hold in the same cases are the same
 pub same_test : (a b : Bool) → (a ≡ true → b ≡ true) → (b ≡ true → a ≡ true) → a ≡ b
@@ -120,11 +120,11 @@ state_found (Some states.Live) byte h = rw (← h)
 state_found (Some states.Dead) byte h = rw (← h)
 
 -- a last word is missing or isn't the last
-pub no_last_word : (form : List ℕ → Bool) (words : List (List ℕ)) → length words ≢ 1 → fits (form ∷ []) words ≡ false
+pub no_last_word : (form : List ℕ → Bool) (words : List (List ℕ)) → length words ≢ 1 → fits_forms (form ∷ []) words ≡ false
 no_last_word form [] h = refl
 no_last_word form (word ∷ []) h = absurd (h refl)
 no_last_word form (word ∷ (other ∷ others)) h = and-false (form word)
 
 -- a word more in front of words that don't fit
-pub next_word : (form : List ℕ → Bool) (forms : List (List ℕ → Bool)) (words : List (List ℕ)) (word : List ℕ) (others : List (List ℕ)) → words ≡ word ∷ others → fits forms others ≡ false → fits (form ∷ forms) words ≡ false
+pub next_word : (form : List ℕ → Bool) (forms : List (List ℕ → Bool)) (words : List (List ℕ)) (word : List ℕ) (others : List (List ℕ)) → words ≡ word ∷ others → fits_forms forms others ≡ false → fits_forms (form ∷ forms) words ≡ false
 next_word form forms words word others h e = rw h (rw e (and-false (form word)))

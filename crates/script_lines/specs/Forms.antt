@@ -9,7 +9,8 @@ use Rattle.script_lines.specs.Words.{number_in}
 -- decimal digits, one at least, zeros in front allowed, whose number is from the least and below a limit
 abbrev pub is_number_from : ℕ → ℕ → List ℕ → Bool
 is_number_from least limit word =
-    list_all is_ascii_digit word && (nat_lt 0 (length word) && (nat_le least (number_in word) && nat_lt (number_in word) limit))
+    list_all is_ascii_digit word && (nat_lt 0 (length word)
+    && (nat_le least (number_in word) && nat_lt (number_in word) limit))
 
 -- a number that 64 bits hold
 unfoldable pub is_number64 : List ℕ → Bool
@@ -49,8 +50,8 @@ unfoldable pub is_printable_word : List ℕ → Bool
 is_printable_word word = is_letter_in is_printable word
 
 -- as many words as there are forms, each of its form
-abbrev pub fits : List (List ℕ → Bool) → List (List ℕ) → Bool
-fits [] [] = true
-fits [] (word ∷ words) = false
-fits (form ∷ forms) [] = false
-fits (form ∷ forms) (word ∷ words) = form word && fits forms words
+abbrev pub fits_forms : List (List ℕ → Bool) → List (List ℕ) → Bool
+fits_forms [] [] = true
+fits_forms [] (word ∷ words) = false
+fits_forms (form ∷ forms) [] = false
+fits_forms (form ∷ forms) (word ∷ words) = form word && fits_forms forms words

@@ -23,7 +23,8 @@ abbrev letter : List ℕ → ℕ
 letter text = slice_index text 0
 
 -- `side shares stock price tif state`
-pub record AreTerms (side_word shares_word stock_word price_word time_word state_word : List ℕ) (side : Side) (shares : ℕ) (stock : List ℕ) (price time_in_force : ℕ) (order_state : OrderState) : Type 0 where
+pub record AreTerms (side_word shares_word stock_word price_word time_word state_word : List ℕ) (side : Side)
+    (shares : ℕ) (stock : List ℕ) (price time_in_force : ℕ) (order_state : OrderState) : Type 0 where
   pub side_said : side_word ≡ side_letter side ∷ []
   pub shares_said : shares ≡ number_in shares_word
   pub stock_said : stock ≡ stock_word ++ replicate (8 - length stock_word) 32

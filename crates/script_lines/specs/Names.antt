@@ -5,10 +5,10 @@ use Rattle.script_lines.specs.declared.client.Client.TheVariants as client
 use Rattle.script_lines.specs.declared.port.Port.{Port}
 use Rattle.script_lines.specs.declared.port.Port.TheVariants as port
 
-abbrev pub client_name : Client → List ℕ
-client_name client.First = codes "C1"
-client_name client.Second = codes "C2"
-client_name client.Third = codes "C3"
+abbrev pub name_of_client : Client → List ℕ
+name_of_client client.First = codes "C1"
+name_of_client client.Second = codes "C2"
+name_of_client client.Third = codes "C3"
 
 -- by which the core knows a client
 abbrev pub client_number : Client → ℕ
@@ -37,7 +37,7 @@ port_index port.First = 0
 port_index port.Second = 1
 
 -- whose orders go where: the first two clients' by the first port, the third's by the second
-abbrev pub port_of : Client → Port
-port_of client.First = port.First
-port_of client.Second = port.First
-port_of client.Third = port.Second
+abbrev pub port_of_client : Client → Port
+port_of_client client.First = port.First
+port_of_client client.Second = port.First
+port_of_client client.Third = port.Second

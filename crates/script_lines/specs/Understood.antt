@@ -1,86 +1,94 @@
--- Which words are understood: the table of the market's messages, by the letter of their type, and the form of any table of
--- lines, by what they begin with.
-use Rattle.std.specs.Prelude.{◌≡◌, ℕ, Bool, true, false, List, [], ◌∷◌, length, drop, take, codes, if◌then◌else◌, Result, Ok, Err}
+-- Which lines are understood: the tables of all lines, by what they begin with.
+use Rattle.std.specs.Prelude.{ℕ, Bool, true, false, ◌||◌, ◌==◌, List, [], ◌∷◌, length, codes, Option, Some, None}
+use Rattle.std.specs.Prelude.{if◌then◌else◌}
 use Rattle.std.specs.Str.{bytes_eq}
-use Rattle.script_lines.specs.declared.fault.LineFault.{LineFault}
-use Rattle.script_lines.specs.declared.fault.LineFault.TheVariants as line_fault
-use Rattle.script_lines.specs.Forms.{is_number64, is_number32, is_share_count, is_token_number, is_stock, is_side_word, is_state_word, is_printable_word, fits}
+use Rattle.fix_fields.specs.Field.{Field}
+use Rattle.fix_fields.specs.Reading.{fields_of}
+use Rattle.script_lines.specs.Words.{words_of}
+use Rattle.script_lines.specs.Forms.{is_number64, fits_forms}
+use Rattle.script_lines.specs.Bars.{with_soh}
+use Rattle.script_lines.specs.MarketLines.{Form, begins_row, is_market_line}
+use Rattle.script_lines.specs.Hexadecimal.{are_bytes}
+use Rattle.script_lines.specs.Login.{login_forms}
 
--- what a word or a text may be asked
-abbrev pub Form : Type 0
-Form = List ℕ → Bool
+-- one of these words, and nothing else
+abbrev is_one_of : List (List ℕ) → List ℕ → Bool
+is_one_of [] text = false
+is_one_of (word ∷ words) text = bytes_eq text word || is_one_of words text
 
--- ---- the market's messages: the words behind the letter of the type
+-- anything
+abbrev any : Form
+any text = true
 
--- `side shares stock price tif state`
-abbrev pub terms_forms : List Form
-terms_forms = is_side_word ∷ is_share_count ∷ is_stock ∷ is_number32 ∷ is_number32 ∷ is_state_word ∷ []
+-- ---- a client's lines, behind its name
 
--- `event`
-abbrev pub system_event_forms : List Form
-system_event_forms = is_printable_word ∷ []
+-- the first of some fields is MsgType
+abbrev are_message : Option (List Field) → Bool
+are_message None = false
+are_message (Some []) = false
+are_message (Some (first ∷ others)) = first.tag == 35
 
--- `n side shares stock price tif state`
-abbrev pub accepted_forms : List Form
-accepted_forms = is_token_number ∷ terms_forms
+-- what stands behind `msg `
+unfoldable pub is_msg_text : List ℕ → Bool
+is_msg_text text = are_message (fields_of (with_soh text))
 
--- `new old side shares stock price tif state`
-abbrev pub replaced_forms : List Form
-replaced_forms = is_token_number ∷ is_token_number ∷ terms_forms
-
--- `n shares reason`
-abbrev pub canceled_forms : List Form
-canceled_forms = is_token_number ∷ is_number32 ∷ is_printable_word ∷ []
-
--- `n shares price match`
-abbrev pub executed_forms : List Form
-executed_forms = is_token_number ∷ is_number32 ∷ is_number32 ∷ is_number64 ∷ []
-
--- `n match reason`
-abbrev pub broken_forms : List Form
-broken_forms = is_token_number ∷ is_number64 ∷ is_printable_word ∷ []
-
--- `n reason`
-abbrev pub rejected_forms : List Form
-rejected_forms = is_token_number ∷ is_printable_word ∷ []
-
--- `n`, of a Cancel Pending and of a Cancel Reject
-abbrev pub token_forms : List Form
-token_forms = is_token_number ∷ []
-
--- the row of a letter decides
-abbrev pub fits_row : List (List ℕ × List Form) → List ℕ → List (List ℕ) → Bool
-fits_row [] name words = false
-fits_row (row ∷ rows) name words = if bytes_eq row.0 name then fits row.1 words else fits_row rows name words
-
-abbrev pub market_rows : List (List ℕ × List Form)
-market_rows =
-    (codes "S", system_event_forms)
-    ∷ (codes "A", accepted_forms)
-    ∷ (codes "U", replaced_forms)
-    ∷ (codes "C", canceled_forms)
-    ∷ (codes "E", executed_forms)
-    ∷ (codes "B", broken_forms)
-    ∷ (codes "J", rejected_forms)
-    ∷ (codes "P", token_forms)
-    ∷ (codes "I", token_forms)
+abbrev client_rows : List (List ℕ × Form)
+client_rows =
+    (codes "msg ", is_msg_text)
+    ∷ (codes "raw ", any)
     ∷ []
 
--- the words behind a port's name
-unfoldable pub is_market_line : List (List ℕ) → Bool
-is_market_line [] = false
-is_market_line (name ∷ words) = fits_row market_rows name words
+-- what comes on its link
+abbrev pub is_client_input : List ℕ → Bool
+is_client_input text = begins_row client_rows text
 
--- ---- tables of lines
+unfoldable pub is_client_line : List ℕ → Bool
+is_client_line text = is_one_of (codes "up" ∷ codes "gone" ∷ codes "tick" ∷ []) text || is_client_input text
 
--- the first row with whose words the text begins decides
-abbrev pub begins_row : List (List ℕ × Form) → List ℕ → Bool
-begins_row [] text = false
-begins_row (row ∷ rows) text =
-    if bytes_eq (take (length row.0) text) row.0 then row.1 (drop (length row.0) text) else begins_row rows text
+-- ---- a port's lines, behind its name
 
--- what is read is there just where this is so, want of memory aside
-abbrev pub IsReadWhere : {T : Type 0} → Bool → Result T LineFault → Type 0
-IsReadWhere so (Ok read) = so ≡ true
-IsReadWhere so (Err line_fault.NotUnderstood) = so ≡ false
-IsReadWhere so (Err line_fault.NoMemory) = Unit {0}
+abbrev port_rows : List (List ℕ × Form)
+port_rows =
+    (codes "login ", λ text. fits_forms login_forms (words_of text))
+    ∷ (codes "pkt ", are_bytes)
+    ∷ ([], λ text. is_market_line (words_of text))
+    ∷ []
+
+-- what comes on its link
+abbrev pub is_port_input : List ℕ → Bool
+is_port_input text = begins_row port_rows text
+
+unfoldable pub is_port_line : List ℕ → Bool
+is_port_line text = is_one_of (codes "up" ∷ codes "gone" ∷ codes "tick" ∷ codes "end" ∷ []) text || is_port_input text
+
+-- ---- all lines
+
+-- a client's name, and what is asked of what stands behind it; a port's name in the same way
+abbrev by_name : Form → Form → List (List ℕ × Form)
+by_name client port =
+    (codes "C1 ", client)
+    ∷ (codes "C2 ", client)
+    ∷ (codes "C3 ", client)
+    ∷ (codes "P1 ", port)
+    ∷ (codes "P2 ", port)
+    ∷ []
+
+abbrev line_rows : List (List ℕ × Form)
+line_rows = (codes "at ", is_number64) ∷ by_name is_client_line is_port_line
+
+-- a line: nothing, or by the rows
+abbrev pub is_understood : List ℕ → Bool
+is_understood text = if length text == 0 then true else begins_row line_rows text
+
+-- ---- lines whose event holds fields or bytes, for which memory is taken
+
+-- of a client: `msg` and `raw`
+abbrev pub client_takes_memory : List ℕ → Bool
+client_takes_memory text = begins_row ((codes "msg ", any) ∷ (codes "raw ", any) ∷ []) text
+
+-- of a port: `pkt`
+abbrev pub port_takes_memory : List ℕ → Bool
+port_takes_memory text = begins_row ((codes "pkt ", any) ∷ []) text
+
+abbrev pub takes_memory : List ℕ → Bool
+takes_memory text = begins_row (by_name client_takes_memory port_takes_memory) text

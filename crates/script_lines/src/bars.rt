@@ -3,7 +3,7 @@
 ghost use Rattle.std.specs.Prelude.{◌≡◌, IfOk, is_some, Some};
 ghost use Rattle.fix_fields.specs.Reading.{fields_of};
 ghost use Rattle.script_lines.specs.Bars as spec;
-ghost use Rattle.script_lines.specs.Understood.{IsReadWhere};
+ghost use Rattle.script_lines.specs.MarketLines.{IsReadWhere};
 
 use crate::fault::LineFault;
 use fix_fields::{Fields, SOH, split};
@@ -20,8 +20,8 @@ pub fn soh_for_bars(alloc: Global, text: &[u8]) -> Result<Vec<u8>, AllocError>
     Ok(bytes)
 }
 
-/// The fields of a text in which `|` stands for SOH, the last of which is left out. `NotUnderstood` where the text isn't
-/// fields, `NoMemory` where a growth was refused.
+/// The fields of a text in which `|` stands for SOH, the last of which is left out. `NotUnderstood` where the text
+/// isn't fields, `NoMemory` where a growth was refused.
 pub fn split_bars(alloc: Global, text: &[u8]) -> Result<Fields, LineFault>
     ensures fields { IfOk result (λ fields. fields_of (spec.with_soh text.now) ≡ Some fields) }
     ensures understood { IsReadWhere (is_some (fields_of (spec.with_soh text.now))) result }

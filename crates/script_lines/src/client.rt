@@ -1,7 +1,7 @@
 //! The clients of a script.
 
 ghost use Rattle.std.specs.Prelude.{◌≡◌, ◌≤◌, ◌<◌};
-ghost use Rattle.script_lines.specs.Names.{client_index, client_number, port_of};
+ghost use Rattle.script_lines.specs.Names.{client_index, client_number, port_of_client};
 
 use crate::port::Port;
 
@@ -44,7 +44,7 @@ impl Client {
 
     /// The port by which the client's orders go to the market.
     pub fn port(self) -> Port
-        ensures { result ≡ port_of self }
+        ensures { result ≡ port_of_client self }
     {
         match self {
             Client::First | Client::Second => Port::First,

@@ -20,9 +20,9 @@
 ghost use Rattle.std.specs.Prelude.{◌≡◌, ◌≤◌, ◌<◌, ◌^◌, length, is_some, IfSome};
 ghost use Rattle.wire_law.specs.Printable.{ArePrintable};
 ghost use Rattle.script_lines.specs.Words.{words_of};
-ghost use Rattle.script_lines.specs.Forms.{fits};
+ghost use Rattle.script_lines.specs.Forms.{fits_forms};
 ghost use Rattle.script_lines.specs.Market as spec;
-ghost use Rattle.script_lines.specs.Understood as forms;
+ghost use Rattle.script_lines.specs.MarketLines as forms;
 
 use crate::words::{
     first_word, letter, number, number32, only_word, order_state, printable_letter, share_count,
@@ -34,7 +34,7 @@ use ouch_codec::{
 };
 
 /// The message that the words behind a port's name say; `None` where they say none, or a field outside its set.
-#[tactic(auto, unfolding(crate::specs::Understood::is_market_line))]
+#[tactic(auto, unfolding(crate::specs::MarketLines::is_market_line))]
 pub fn market_message(text: &[u8]) -> Option<Outbound>
     ensures said { IfSome result (spec.SaysMarket (words_of text.now)) }
     ensures understood { is_some result ≡ forms.is_market_line (words_of text.now) }
@@ -71,7 +71,7 @@ struct Terms {
 fn read_terms(text: &[u8]) -> Option<Terms>
     ensures said { IfSome result (λ terms. spec.SaysTerms (words_of text.now)
         terms.side terms.shares terms.stock terms.price terms.time_in_force terms.order_state) }
-    ensures understood { is_some result ≡ fits forms.terms_forms (words_of text.now) }
+    ensures understood { is_some result ≡ fits_forms forms.terms_forms (words_of text.now) }
 {
     let (side_word, text) = first_word(text)?;
     let (shares, text) = first_word(text)?;
@@ -92,7 +92,7 @@ fn read_terms(text: &[u8]) -> Option<Terms>
 /// `event`.
 fn system_event(text: &[u8]) -> Option<SystemEvent>
     ensures said { IfSome result (spec.SaysSystemEvent (words_of text.now)) }
-    ensures understood { is_some result ≡ fits forms.system_event_forms (words_of text.now) }
+    ensures understood { is_some result ≡ fits_forms forms.system_event_forms (words_of text.now) }
 {
     let event = only_word(text)?;
     Some(SystemEvent {
@@ -104,7 +104,7 @@ fn system_event(text: &[u8]) -> Option<SystemEvent>
 /// `n side shares stock price tif state`.
 fn accepted(text: &[u8]) -> Option<Accepted>
     ensures said { IfSome result (spec.SaysAccepted (words_of text.now)) }
-    ensures understood { is_some result ≡ fits forms.accepted_forms (words_of text.now) }
+    ensures understood { is_some result ≡ fits_forms forms.accepted_forms (words_of text.now) }
 {
     let (token_number, text) = first_word(text)?;
     let terms = read_terms(text)?;
@@ -131,7 +131,7 @@ fn accepted(text: &[u8]) -> Option<Accepted>
 /// `new old side shares stock price tif state`.
 fn replaced(text: &[u8]) -> Option<Replaced>
     ensures said { IfSome result (spec.SaysReplaced (words_of text.now)) }
-    ensures understood { is_some result ≡ fits forms.replaced_forms (words_of text.now) }
+    ensures understood { is_some result ≡ fits_forms forms.replaced_forms (words_of text.now) }
 {
     let (new_number, text) = first_word(text)?;
     let (old_number, text) = first_word(text)?;
@@ -160,7 +160,7 @@ fn replaced(text: &[u8]) -> Option<Replaced>
 /// `n shares reason`.
 fn canceled(text: &[u8]) -> Option<Canceled>
     ensures said { IfSome result (spec.SaysCanceled (words_of text.now)) }
-    ensures understood { is_some result ≡ fits forms.canceled_forms (words_of text.now) }
+    ensures understood { is_some result ≡ fits_forms forms.canceled_forms (words_of text.now) }
 {
     let (token_number, text) = first_word(text)?;
     let (shares, text) = first_word(text)?;
@@ -176,7 +176,7 @@ fn canceled(text: &[u8]) -> Option<Canceled>
 /// `n shares price match`.
 fn executed(text: &[u8]) -> Option<Executed>
     ensures said { IfSome result (spec.SaysExecuted (words_of text.now)) }
-    ensures understood { is_some result ≡ fits forms.executed_forms (words_of text.now) }
+    ensures understood { is_some result ≡ fits_forms forms.executed_forms (words_of text.now) }
 {
     let (token_number, text) = first_word(text)?;
     let (shares, text) = first_word(text)?;
@@ -195,7 +195,7 @@ fn executed(text: &[u8]) -> Option<Executed>
 /// `n match reason`.
 fn broken(text: &[u8]) -> Option<Broken>
     ensures said { IfSome result (spec.SaysBroken (words_of text.now)) }
-    ensures understood { is_some result ≡ fits forms.broken_forms (words_of text.now) }
+    ensures understood { is_some result ≡ fits_forms forms.broken_forms (words_of text.now) }
 {
     let (token_number, text) = first_word(text)?;
     let (match_number, text) = first_word(text)?;
@@ -211,7 +211,7 @@ fn broken(text: &[u8]) -> Option<Broken>
 /// `n reason`.
 fn rejected(text: &[u8]) -> Option<Rejected>
     ensures said { IfSome result (spec.SaysRejected (words_of text.now)) }
-    ensures understood { is_some result ≡ fits forms.rejected_forms (words_of text.now) }
+    ensures understood { is_some result ≡ fits_forms forms.rejected_forms (words_of text.now) }
 {
     let (token_number, text) = first_word(text)?;
     let reason = only_word(text)?;
@@ -225,7 +225,7 @@ fn rejected(text: &[u8]) -> Option<Rejected>
 /// `n`.
 fn cancel_pending(text: &[u8]) -> Option<CancelPending>
     ensures said { IfSome result (spec.SaysCancelPending (words_of text.now)) }
-    ensures understood { is_some result ≡ fits forms.token_forms (words_of text.now) }
+    ensures understood { is_some result ≡ fits_forms forms.token_forms (words_of text.now) }
 {
     let token_number = only_word(text)?;
     Some(CancelPending {
@@ -237,7 +237,7 @@ fn cancel_pending(text: &[u8]) -> Option<CancelPending>
 /// `n`.
 fn cancel_reject(text: &[u8]) -> Option<CancelReject>
     ensures said { IfSome result (spec.SaysCancelReject (words_of text.now)) }
-    ensures understood { is_some result ≡ fits forms.token_forms (words_of text.now) }
+    ensures understood { is_some result ≡ fits_forms forms.token_forms (words_of text.now) }
 {
     let token_number = only_word(text)?;
     Some(CancelReject {

@@ -1,16 +1,17 @@
 //! The words and numbers of a line. One space stands between two words, and none before the first or after the last.
 
-ghost use Rattle.std.specs.Prelude.{◌≡◌, ◌≢◌, ◌↔◌, ◌≤◌, ◌<◌, ◌^◌, ◌-◌, ◌∷◌, ◌++◌, ◌==◌, [], length, replicate, slice_index, true, Some, None, IsSome, IsNone, IfSome, MatchOption, is_some};
-ghost use Rattle.std.specs.Char.{is_ascii_digit};
+ghost use Rattle.std.specs.Prelude.{◌≡◌, ◌≢◌, ◌↔◌, ◌≤◌, ◌<◌, ◌^◌, ◌-◌, ◌∷◌, ◌++◌, ◌==◌, [], length, replicate};
+ghost use Rattle.std.specs.Prelude.{slice_index, true, Some, None, IsSome, IsNone, IfSome, MatchOption, is_some};
 ghost use Rattle.std.specs.List.{list_all, position};
 ghost use Rattle.tokens.specs.TokenText.{token_text};
 ghost use Rattle.wire_law.specs.Printable.{is_printable, is_visible, ArePrintable};
 ghost use Rattle.ouch_codec.specs.Letters.{side_letter, order_state_letter};
 ghost use Rattle.script_lines.specs.Words.{words_of, number_in, IsNumberBelow};
-ghost use Rattle.script_lines.specs.Forms.{is_number64, is_number32, is_share_count, is_token_number, is_stock, is_side_word, is_state_word, is_printable_word};
+ghost use Rattle.script_lines.specs.Forms.{is_number64, is_number32, is_share_count, is_token_number, is_stock};
+ghost use Rattle.script_lines.specs.Forms.{is_side_word, is_state_word, is_printable_word};
 
+use decimal_digits::number_of;
 use ouch_codec::{OrderState, Side};
-use std::str;
 use tokens::Token;
 use wire_law::{are_visible, is_printable, padded};
 
@@ -58,20 +59,10 @@ pub fn number(word: &[u8]) -> Option<u64>
     ensures value { IfSome result (λ n. n ≡ number_in word.now) }
     ensures form { is_some result ≡ is_number64 word.now }
 {
-    if !are_digits(word) {
+    if word.is_empty() {
         return None;
     }
-    match str::from_utf8(word) {
-        Ok(digits) => digits.parse().ok(),
-        Err(_) => None,
-    }
-}
-
-/// Whether each byte is a decimal digit.
-fn are_digits(word: &[u8]) -> bool
-    ensures { result ≡ list_all is_ascii_digit word.now }
-{
-    word.iter().all(|byte| byte.is_ascii_digit())
+    number_of(word)
 }
 
 /// The number that decimal digits say, where 32 bits hold it.
@@ -150,7 +141,8 @@ pub fn order_state(word: &[u8]) -> Option<OrderState>
 
 /// The symbol of a stock, padded right with spaces; `None` where the word has not 1 to 8 bytes from 33 to 126.
 pub fn stock(word: &[u8]) -> Option<[u8; 8]>
-    ensures length { IsSome result ↔ ((1 ≤ length word.now) × (length word.now ≤ 8) × (list_all is_visible word.now ≡ true)) }
+    ensures length { IsSome result ↔ ((1 ≤ length word.now) × (length word.now ≤ 8)
+        × (list_all is_visible word.now ≡ true)) }
     ensures printable { IfSome result ArePrintable }
     ensures padded { IfSome result (λ stock. stock ≡ word.now ++ replicate (8 - length word.now) 32) }
     ensures form { is_some result ≡ is_stock word.now }

@@ -1,6 +1,7 @@
 //! Command lines of the script program.
 
 use script_command::run_program;
+use std::str;
 use std::test::Fail;
 
 /// A link that comes up, which a script with each flag shows in another way.
@@ -75,6 +76,10 @@ fn the_help(rt: HostRuntime) {
         );
         assert_eq!(rt; ended, 0);
         assert!(rt; output.starts_with(b"Runs a script of the order gateway"));
+        let help = str::from_utf8(output.as_slice()).unwrap_or("");
+        assert!(rt; help.contains("Shows each frame's sequence number (34)"));
+        assert!(rt; help.contains("Shows each frame whole, | for SOH"));
+        assert!(rt; help.contains("Starts with no client logged on and no port logged in"));
         assert_eq!(rt; faults.as_slice(), b"".as_slice());
     }
 }

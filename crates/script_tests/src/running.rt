@@ -1,6 +1,6 @@
 //! Running a script over memory.
 
-use core_scripts::{Flags, run_script};
+use gate_lines::{Flags, run_script};
 use std::alloc::{AllocError, Global};
 use std::process::Abort;
 use std::str;

@@ -1,7 +1,7 @@
 //! Readers and writers that fail.
 
 use super::running::PLAIN;
-use core_scripts::run_script;
+use gate_lines::run_script;
 use std::alloc::Global;
 use std::io::{self, ErrorKind, Read, Write};
 use std::test::Fail;

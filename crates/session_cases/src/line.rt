@@ -1,5 +1,7 @@
 //! What a line of the cases says.
 
+use decimal_digits::number_of;
+
 /// What a line of the cases says.
 #[derive(Clone, Copy, Debug, PartialEq, Eq)]
 pub enum Line<'a> {
@@ -55,7 +57,7 @@ fn line_with_text(text: &[u8]) -> Option<Line<'_>> {
         return Some(Line::Case(name));
     }
     if let Some(digits) = text.strip_prefix(b"at ") {
-        return Some(Line::At(moment_of(digits)?));
+        return Some(Line::At(number_of(digits)?));
     }
     if let Some(fields) = text.strip_prefix(b"C1 ") {
         return Some(Line::Message(fields));
@@ -73,18 +75,4 @@ fn line_with_text(text: &[u8]) -> Option<Line<'_>> {
         return Some(Line::Wanted(shown));
     }
     None
-}
-
-/// A moment in decimal digits, modulo 2^64.
-fn moment_of(digits: &[u8]) -> Option<u64> {
-    let mut moment = 0u64;
-    for digit in digits {
-        if !digit.is_ascii_digit() {
-            return None;
-        }
-        moment = moment
-            .wrapping_mul(10)
-            .wrapping_add(u64::from(*digit - b'0'));
-    }
-    Some(moment)
 }

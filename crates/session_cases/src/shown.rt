@@ -67,7 +67,7 @@ fn show_frame(
     }
 }
 
-/// Adds a message that is given up, by the fields that its type keeps.
+/// Adds a message that is delivered, by the fields that its type keeps.
 fn show_message(alloc: Global, shown: &mut Vec<u8>, message: &AppMsg) -> Result<(), AllocError> {
     let fields = match message {
         AppMsg::New(order) => order.put(alloc)?,
@@ -78,7 +78,7 @@ fn show_message(alloc: Global, shown: &mut Vec<u8>, message: &AppMsg) -> Result<
     show_fields(shown, &fields, true)
 }
 
-/// Adds a turn as it is shown: a line for each output, and one for a message that is given up.
+/// Adds a turn as it is shown: a line for each output, and one for a message that is delivered.
 pub fn show_turn(
     alloc: Global,
     shown: &mut Vec<u8>,

@@ -4,10 +4,12 @@ use Rattle.std.proofs.lemmas.Bool.Decides.{nat_tests}
 use Rattle.std.proofs.lemmas.Slice.Eq.{bytes_eq-Decides}
 use Rattle.fix_fields.proofs.Tags.{and_parts}
 use Rattle.fix_fields.specs.declared.session_refusal.SessionRefusal.{SessionRefusal}
-use Rattle.session_law.specs.Messages.{Fields, number, first_fault, text, is, has}
+use Rattle.fix_fields.specs.Field.{Message, text, is, has}
+use Rattle.fix_fields.specs.Fault.{first_fault}
+use Rattle.session_law.specs.Messages.{short_number}
 use Rattle.session_law.specs.Formats.{application_refusal}
-use Rattle.session_law.specs.Session.{State, Act, Answer, Grow, Expect, Say, Test, AskAgain, SayUnsupported, GiveUp, Shut}
-use Rattle.session_law.specs.Table.{first_row, numbered, is_type, is_plain_reset, is_from, resend_rows, resend_answer, ask_again, asked_number, expected_rows, logged_on_rows, fault_acts, refused, reject, log_out}
+use Rattle.session_law.specs.Session.{State, Act, Answer, Grow, Expect, Say, Test, AskAgain, SayUnsupported, Deliver, Shut}
+use Rattle.session_law.specs.Table.{answer_by, message_number, is_type, is_plain_reset, is_from, resend_rows, resend_answer, ask_again, asked_number, expected_rows, logged_on_rows, fault_acts, refused_acts, reject_act, log_out}
 use Rattle.session_law.specs.Expected.{by_message, is_gap_fill}
 use Rattle.session_law.proofs.Rows.{Firsts, first-holds}
 
@@ -18,7 +20,7 @@ move (Say kind body) e = e
 move Test e = e
 move (AskAgain n) e = e
 move (SayUnsupported body) e = e
-move (GiveUp m) e = e
+move (Deliver m) e = e
 move Shut e = e
 
 abbrev pub moves : List Act → ℕ → ℕ
@@ -63,7 +65,7 @@ not-gap false b c h = refl
 abbrev Stays : Answer → Type 0
 Stays a = (a.logon ≡ None) × ((e : ℕ) → moves a.acts e ≡ e)
 
-resend-stays : (s : State) (m : Fields) → Stays (resend_answer (length s.given) m)
+resend-stays : (s : State) (m : Message) → Stays (resend_answer (length s.given) m)
 unfolding Firsts
 resend-stays s m = first-holds Stays (resend_rows (length s.given) m)
     (λ _. (refl, λ e. refl), λ _. (λ _. (refl, λ e. refl), λ _. (λ _. (refl, λ e. refl), λ _. (λ _. (refl, λ e. refl), λ _. (λ _. (refl, λ e. refl), λ _. (λ _. (refl, λ e. refl), λ _. (refl, λ e. refl)))))))
@@ -72,17 +74,17 @@ asks-stay : (c : Bool) (n e : ℕ) → moves (if c then [] else AskAgain n ∷ [
 asks-stay true n e = refl
 asks-stay false n e = refl
 
-names-move : (c : Bool) (m : Fields) (tag e : ℕ) → moves ((if c then Grow ∷ [] else []) ++ reject m tag 9 ∷ log_out (codes "CompID problem")) e ≡ (if c then e + 1 else e)
+names-move : (c : Bool) (m : Message) (tag e : ℕ) → moves ((if c then Grow ∷ [] else []) ++ reject_act m tag 9 ∷ log_out (codes "CompID problem")) e ≡ (if c then e + 1 else e)
 names-move true m tag e = refl
 names-move false m tag e = refl
 
 -- ---- the expected number
 
-fault-moves : (o : Option SessionRefusal) (m : Fields) (b : Bool) (x e : ℕ) → is_some o ≡ true → moves (fault_acts m o) (e + 1) ≡ (if is_none o && b then x else e + 1)
+fault-moves : (o : Option SessionRefusal) (m : Message) (b : Bool) (x e : ℕ) → is_some o ≡ true → moves (fault_acts m o) (e + 1) ≡ (if is_none o && b then x else e + 1)
 fault-moves None m b x e h = absurd (cc)
 fault-moves (Some r) m b x e h = refl
 
-refused-stays : (o : Option SessionRefusal) (m : Fields) (e : ℕ) → moves (refused m o) e ≡ e
+refused-stays : (o : Option SessionRefusal) (m : Message) (e : ℕ) → moves (refused_acts m o) e ≡ e
 refused-stays None m e = refl
 refused-stays (Some r) m e = refl
 
@@ -90,22 +92,22 @@ none-of : (o : Option SessionRefusal) → is_some o ≡ false → is_none o ≡ 
 none-of None h = refl
 none-of (Some r) h = absurd (cc)
 
-abbrev Takes : Fields → ℕ → Answer → Type 0
-Takes m e a = (a.logon ≡ None) × (moves a.acts (e + 1) ≡ (if is_gap_fill m then unwrap_or (number 36 m) 0 else e + 1))
+abbrev Takes : Message → ℕ → Answer → Type 0
+Takes m e a = (a.logon ≡ None) × (moves a.acts (e + 1) ≡ (if is_gap_fill m then unwrap_or (short_number 36 m) 0 else e + 1))
 
 -- a message of another type
-no-gap : (m : Fields) (x e : ℕ) → is_type (codes "4") m ≡ false → e ≡ (if is_gap_fill m then x else e)
-no-gap m x e four = rw (not-gap (is_none (first_fault m)) (is_type (codes "4") m) (is_from (numbered m + 1) (number 36 m)) four) refl
+no-gap : (m : Message) (x e : ℕ) → is_type (codes "4") m ≡ false → e ≡ (if is_gap_fill m then x else e)
+no-gap m x e four = rw (not-gap (is_none (first_fault m)) (is_type (codes "4") m) (is_from (message_number m + 1) (short_number 36 m)) four) refl
 
-typed : (m : Fields) (x : List ℕ) → is_type x m ≡ true → bytes_eq x (codes "4") ≡ false → is_type (codes "4") m ≡ false
+typed : (m : Message) (x : List ℕ) → is_type x m ≡ true → bytes_eq x (codes "4") ≡ false → is_type (codes "4") m ≡ false
 typed m x h k = other (text 35 m) x (codes "4") h k
 
-expected-moves : (s : State) (m : Fields) (e : ℕ) → Takes m e (first_row (expected_rows (length s.given) m))
+expected-moves : (s : State) (m : Message) (e : ℕ) → Takes m e (answer_by (expected_rows (length s.given) m))
 unfolding Firsts
 expected-moves s m e =
-    let to = unwrap_or (number 36 m) 0 in
+    let to = unwrap_or (short_number 36 m) 0 in
     first-holds (Takes m e) (expected_rows (length s.given) m) (
-      λ h. (refl, fault-moves (first_fault m) m (is_type (codes "4") m && is_from (numbered m + 1) (number 36 m)) to e h),
+      λ h. (refl, fault-moves (first_fault m) m (is_type (codes "4") m && is_from (message_number m + 1) (short_number 36 m)) to e h),
       λ n1. (
         λ h. (refl, no-gap m to (e + 1) (or-parts (is_type (codes "0") m) (is_type (codes "3") m) (is_type (codes "j") m) (is_type (codes "4") m ≡ false) h (λ k. typed m (codes "0") k refl) (λ k. typed m (codes "3") k refl) (λ k. typed m (codes "j") k refl))),
         λ _. (
@@ -142,15 +144,15 @@ expected-moves s m e =
       ),
     )
 
-abbrev pub Moves : State → Fields → ℕ → Answer → Type 0
+abbrev pub Moves : State → Message → ℕ → Answer → Type 0
 Moves s m e a = (a.logon ≡ None) × (moves a.acts e ≡ by_message s.gate s.client m e)
 
-pub logged-on-moves : (s : State) (m : Fields) (e : ℕ) → Moves s m e (first_row (logged_on_rows s m (numbered m) e))
+pub logged-on-moves : (s : State) (m : Message) (e : ℕ) → Moves s m e (answer_by (logged_on_rows s m (message_number m) e))
 unfolding Firsts
 logged-on-moves s m e =
-    let n = numbered m in
+    let n = message_number m in
     let plain_reset = is_plain_reset m in
-    let from = is_from e (number 36 m) in
+    let from = is_from e (short_number 36 m) in
     first-holds (Moves s m e) (logged_on_rows s m n e) (
       λ h. (refl, rw h refl),
       λ n1. (

@@ -4,13 +4,13 @@ use Rattle.std.proofs.lemmas.List.{take-append-drop, append-nil, drop-drop}
 use Rattle.std.proofs.lemmas.List.Concat.{flat_map-append}
 use Rattle.soup_packets.specs.declared.packet.Packet.{Packet}
 use Rattle.soup_packets.specs.Spelling.{packet_bytes, same_first}
-use Rattle.soup_packets.specs.Stream.{written, ArePackets, EndsEmpty, IsPartial, BeginsEmpty, Stops, Waits, Fed, Reader}
+use Rattle.soup_packets.specs.Stream.{packets_written, ArePackets, EndsEmpty, IsPartial, BeginsEmpty, Stops, Waits, Fed, Reader}
 
-written_both : (ps qs : List Packet) → written (ps ++ qs) ≡ written ps ++ written qs
+written_both : (ps qs : List Packet) → packets_written (ps ++ qs) ≡ packets_written ps ++ packets_written qs
 written_both ps qs = flat_map-append packet_bytes ps qs
 
 -- one packet more
-pub written_more : (ps : List Packet) (p : Packet) (b x : List ℕ) → written (ps ++ p ∷ []) ++ x ≡ written ps ++ (packet_bytes p ++ x)
+pub written_more : (ps : List Packet) (p : Packet) (b x : List ℕ) → packets_written (ps ++ p ∷ []) ++ x ≡ packets_written ps ++ (packet_bytes p ++ x)
 written_more ps p b x = rw (written_both ps (p ∷ [])) (grind (arith, append_assoc))
 
 -- ---- one list of packets
@@ -32,26 +32,26 @@ pub stuck : (b : Bool) (rest : List ℕ) → Stops b rest → IsStuck rest
 stuck true rest s = stuck_empty rest s
 stuck false rest s = stuck_partial rest s
 
-no_more : (ps others : List Packet) (rest x : List ℕ) → IsStuck rest → written ps ++ rest ≡ written others ++ x → length others ≤ length ps
+no_more : (ps others : List Packet) (rest x : List ℕ) → IsStuck rest → packets_written ps ++ rest ≡ packets_written others ++ x → length others ≤ length ps
 no_more ps [] rest x s e = omega arith
-no_more [] (q ∷ qs) rest x s e = absurd (s q (written qs ++ x) (e ∙ append_assoc (packet_bytes q) (written qs) x))
+no_more [] (q ∷ qs) rest x s e = absurd (s q (packets_written qs ++ x) (e ∙ append_assoc (packet_bytes q) (packets_written qs) x))
 no_more (p ∷ ps) (q ∷ qs) rest x s e =
-    let both = same_first p q (written ps ++ rest) (written qs ++ x) (sym (append_assoc (packet_bytes p) (written ps) rest) ∙ (e ∙ append_assoc (packet_bytes q) (written qs) x)) in
+    let both = same_first p q (packets_written ps ++ rest) (packets_written qs ++ x) (sym (append_assoc (packet_bytes p) (packets_written ps) rest) ∙ (e ∙ append_assoc (packet_bytes q) (packets_written qs) x)) in
     let fewer = no_more ps qs rest x s both.1 in
     omega arith
 
-pub are_packets : (b : Bool) (stream : List ℕ) (packets : List Packet) (rest : List ℕ) → stream ≡ written packets ++ rest → Stops b rest → ArePackets stream packets
+pub are_packets : (b : Bool) (stream : List ℕ) (packets : List Packet) (rest : List ℕ) → stream ≡ packets_written packets ++ rest → Stops b rest → ArePackets stream packets
 are_packets b stream packets rest whole stops = record {
   begin = (rest, whole);
   longest = λ others begin. no_more packets others rest begin.0 (stuck b rest stops) (sym whole ∙ begin.1);
 }
 
-same_lists : (ps qs : List Packet) (x y : List ℕ) → length ps ≡ length qs → written ps ++ x ≡ written qs ++ y → ps ≡ qs
+same_lists : (ps qs : List Packet) (x y : List ℕ) → length ps ≡ length qs → packets_written ps ++ x ≡ packets_written qs ++ y → ps ≡ qs
 same_lists [] [] x y n e = refl
 same_lists [] (q ∷ qs) x y n e = absurd (omega arith)
 same_lists (p ∷ ps) [] x y n e = absurd (omega arith)
 same_lists (p ∷ ps) (q ∷ qs) x y n e =
-    let both = same_first p q (written ps ++ x) (written qs ++ y) (sym (append_assoc (packet_bytes p) (written ps) x) ∙ (e ∙ append_assoc (packet_bytes q) (written qs) y)) in
+    let both = same_first p q (packets_written ps ++ x) (packets_written qs ++ y) (sym (append_assoc (packet_bytes p) (packets_written ps) x) ∙ (e ∙ append_assoc (packet_bytes q) (packets_written qs) y)) in
     let others = same_lists ps qs x y (omega arith) both.1 in
     let firsts = both.0 in
     cc
@@ -74,19 +74,19 @@ empty_begins (h ∷ []) e = absurd e
 empty_begins (h ∷ l ∷ more) e = (more, rw (e.0, e.1) refl)
 
 pub fed_more : (b : Bool) (stream piece held rest : List ℕ) (before given : List Packet) → Waits false stream before held
-    → held ++ piece ≡ written given ++ rest → Stops b rest → Waits b (stream ++ piece) (before ++ given) rest
+    → held ++ piece ≡ packets_written given ++ rest → Stops b rest → Waits b (stream ++ piece) (before ++ given) rest
 fed_more b stream piece held rest before given waits whole stops = by_end b stops
   where
-    all : stream ++ piece ≡ written (before ++ given) ++ rest
+    all : stream ++ piece ≡ packets_written (before ++ given) ++ rest
     all =
         ap (λ (s : List ℕ). s ++ piece) waits.0
-        ∙ (append_assoc (written before) held piece
-        ∙ (ap (λ (s : List ℕ). written before ++ s) whole
-        ∙ (sym (append_assoc (written before) (written given) rest)
+        ∙ (append_assoc (packets_written before) held piece
+        ∙ (ap (λ (s : List ℕ). packets_written before ++ s) whole
+        ∙ (sym (append_assoc (packets_written before) (packets_written given) rest)
         ∙ ap (λ (s : List ℕ). s ++ rest) (sym (written_both before given)))))
 
     by_end : (b : Bool) → Stops b rest → Waits b (stream ++ piece) (before ++ given) rest
-    by_end true stops = let zeros = empty_begins rest stops in (zeros.0, all ∙ ap (λ (s : List ℕ). written (before ++ given) ++ s) zeros.1)
+    by_end true stops = let zeros = empty_begins rest stops in (zeros.0, all ∙ ap (λ (s : List ℕ). packets_written (before ++ given) ++ s) zeros.1)
     by_end false stops = (all, stops)
 
 pub waits_packets : (b : Bool) (stream held : List ℕ) (given : List Packet) → Waits b stream given held → ArePackets stream given
@@ -96,13 +96,13 @@ waits_packets false stream held given waits = are_packets false stream given hel
 -- a reader that isn't ended has met no length of 0
 pub waits_not_empty : (stream held : List ℕ) (given : List Packet) → Waits false stream given held → EndsEmpty stream given → ⊥
 waits_not_empty stream held given waits empty =
-    let rest = cancel (written given) held (0 ∷ 0 ∷ empty.0) (sym waits.0 ∙ empty.1) in
+    let rest = cancel (packets_written given) held (0 ∷ 0 ∷ empty.0) (sym waits.0 ∙ empty.1) in
     let short : length empty.0 < 0 = along IsPartial held (0 ∷ 0 ∷ empty.0) rest waits.1 in
     omega arith
 
 -- what follows a length of 0 changes nothing
 pub empty_more : (stream piece : List ℕ) (given : List Packet) → EndsEmpty stream given → EndsEmpty (stream ++ piece) given
-empty_more stream piece given empty = (empty.0 ++ piece, ap (λ (s : List ℕ). s ++ piece) empty.1 ∙ append_assoc (written given) (0 ∷ 0 ∷ empty.0) piece)
+empty_more stream piece given empty = (empty.0 ++ piece, ap (λ (s : List ℕ). s ++ piece) empty.1 ∙ append_assoc (packets_written given) (0 ∷ 0 ∷ empty.0) piece)
 
 -- what is kept, by a reader's own fields
 module _ (stream held : List ℕ) (given : List Packet) (ended : Bool) (now : Reader) (same : (let inside : Reader = record { held = held; is_ended = ended } in inside ≡ now)) (fed : Fed stream given now) where
@@ -126,15 +126,15 @@ unfolding Fed
 fed_of b stream held given waits = waits
 
 -- one packet more is cut off
-pub cut_more : (bytes : List ℕ) (used size : ℕ) (packets more : List Packet) (p : Packet) → bytes ≡ written packets ++ drop used bytes
-    → packet_bytes p ≡ take size (drop used bytes) → more ≡ packets ++ p ∷ [] → bytes ≡ written more ++ drop (used + size) bytes
+pub cut_more : (bytes : List ℕ) (used size : ℕ) (packets more : List Packet) (p : Packet) → bytes ≡ packets_written packets ++ drop used bytes
+    → packet_bytes p ≡ take size (drop used bytes) → more ≡ packets ++ p ∷ [] → bytes ≡ packets_written more ++ drop (used + size) bytes
 cut_more bytes used size packets more p whole is pushed =
     whole
-    ∙ (ap (λ (s : List ℕ). written packets ++ s) (sym (take-append-drop size (drop used bytes)))
-    ∙ (ap (λ (s : List ℕ). written packets ++ (s ++ drop size (drop used bytes))) (sym is)
-    ∙ (ap (λ (s : List ℕ). written packets ++ (packet_bytes p ++ s)) (drop-drop size used bytes)
+    ∙ (ap (λ (s : List ℕ). packets_written packets ++ s) (sym (take-append-drop size (drop used bytes)))
+    ∙ (ap (λ (s : List ℕ). packets_written packets ++ (s ++ drop size (drop used bytes))) (sym is)
+    ∙ (ap (λ (s : List ℕ). packets_written packets ++ (packet_bytes p ++ s)) (drop-drop size used bytes)
     ∙ (sym (written_more packets p [] (drop (used + size) bytes))
-    ∙ ap (λ (ps : List Packet). written ps ++ drop (used + size) bytes) (sym pushed)))))
+    ∙ ap (λ (ps : List Packet). packets_written ps ++ drop (used + size) bytes) (sym pushed)))))
 
 pub before_none : (before given : List Packet) → given ≡ [] → before ++ given ≡ before
 before_none before given none = rw none (append-nil before)

@@ -1,19 +1,19 @@
 -- The packets of a stream of bytes: a definition over the whole stream, which knows nothing of pieces.
 --
--- Source: SoupBinTCP 3.00, "Logical Packets". That a length of 0 ends the stream is this gateway's own: a packet has its
--- type at least, so no packet begins so.
+-- Source: SoupBinTCP 3.00, "Logical Packets". That a length of 0 ends the stream is this gateway's own: a packet has
+-- its type at least, so no packet begins so.
 use Rattle.std.specs.Prelude.{◌≡◌, ℕ, ◌+◌, ◌*◌, ◌<◌, ◌≤◌, Bool, true, false, List, [], ◌∷◌, ◌++◌, length}
 use Rattle.std.specs.List.{flat_map}
 use Rattle.soup_packets.specs.declared.packet.Packet.{Packet}
 use Rattle.soup_packets.specs.Spelling.{packet_bytes}
 
 -- packets, one after another
-abbrev pub written : List Packet → List ℕ
-written packets = flat_map packet_bytes packets
+abbrev pub packets_written : List Packet → List ℕ
+packets_written packets = flat_map packet_bytes packets
 
 -- the stream begins with these packets
 abbrev pub Begins : List Packet → List ℕ → Type 0
-Begins packets stream = (rest : List ℕ) × (stream ≡ written packets ++ rest)
+Begins packets stream = (rest : List ℕ) × (stream ≡ packets_written packets ++ rest)
 
 -- the packets of a stream: the longest list of packets that it begins with
 pub record ArePackets (stream : List ℕ) (packets : List Packet) : Type 0 where
@@ -22,7 +22,7 @@ pub record ArePackets (stream : List ℕ) (packets : List Packet) : Type 0 where
 
 -- a length of 0 stands behind these packets, where another should begin
 abbrev pub EndsEmpty : List ℕ → List Packet → Type 0
-EndsEmpty stream packets = (more : List ℕ) × (stream ≡ written packets ++ 0 ∷ 0 ∷ more)
+EndsEmpty stream packets = (more : List ℕ) × (stream ≡ packets_written packets ++ 0 ∷ 0 ∷ more)
 
 -- ---- what is left of a stream
 
@@ -54,7 +54,7 @@ pub record Reader : Type 0 where
 -- what the stream has behind the packets that were given
 abbrev pub Waits : Bool → List ℕ → List Packet → List ℕ → Type 0
 Waits true stream given held = EndsEmpty stream given
-Waits false stream given held = (stream ≡ written given ++ held) × IsPartial held
+Waits false stream given held = (stream ≡ packets_written given ++ held) × IsPartial held
 
 -- the reader was fed with this stream, in any pieces, and has given these packets
 unfoldable pub Fed : List ℕ → List Packet → Reader → Type 0

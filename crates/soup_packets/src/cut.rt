@@ -1,7 +1,7 @@
 //! The whole packets at the front of some bytes.
 
 ghost use Rattle.std.specs.Prelude.{◌≡◌, ◌≤◌, ◌++◌, [], length, vec_len, take, drop, IfOk, OnErr};
-ghost use Rattle.soup_packets.specs.Stream.{written, Stops};
+ghost use Rattle.soup_packets.specs.Stream.{packets_written, Stops};
 ghost use Rattle.soup_packets.specs.Heads.{IsHead};
 
 use crate::packet::{Packet, packet_of, size_of};
@@ -45,7 +45,7 @@ pub struct Cut {
 
 /// All packets in front of these bytes.
 pub fn cut_off(alloc: Global, bytes: &[u8]) -> Result<Cut, AllocError>
-    ensures whole { IfOk result (λ cut. bytes.now ≡ written cut.packets.items ++ drop cut.used bytes.now) }
+    ensures whole { IfOk result (λ cut. bytes.now ≡ packets_written cut.packets.items ++ drop cut.used bytes.now) }
     ensures used { IfOk result (λ cut. cut.used ≤ length bytes.now) }
     ensures stops { IfOk result (λ cut. Stops cut.is_empty (drop cut.used bytes.now)) }
 {
@@ -67,7 +67,8 @@ pub fn cut_off(alloc: Global, bytes: &[u8]) -> Result<Cut, AllocError>
 /// Takes a piece behind the bytes that are held: what is left behind the packets is held from then on. An error leaves
 /// all as it was.
 pub fn take(alloc: Global, held: &mut Vec<u8>, piece: &[u8]) -> Result<Cut, AllocError>
-    ensures whole { IfOk result (λ cut. held.old.items ++ piece.now ≡ written cut.packets.items ++ held.new.items) }
+    ensures whole { IfOk result (λ cut. held.old.items ++ piece.now
+        ≡ packets_written cut.packets.items ++ held.new.items) }
     ensures stops { IfOk result (λ cut. Stops cut.is_empty held.new.items) }
     ensures err { OnErr result (held.new.items ≡ held.old.items) }
 {
@@ -81,7 +82,8 @@ pub fn take(alloc: Global, held: &mut Vec<u8>, piece: &[u8]) -> Result<Cut, Allo
 /// The same where nothing is held: only what is left of the piece is copied.
 fn take_piece(alloc: Global, held: &mut Vec<u8>, piece: &[u8]) -> Result<Cut, AllocError>
     requires { held.old.items ≡ [] }
-    ensures whole { IfOk result (λ cut. held.old.items ++ piece.now ≡ written cut.packets.items ++ held.new.items) }
+    ensures whole { IfOk result (λ cut. held.old.items ++ piece.now
+        ≡ packets_written cut.packets.items ++ held.new.items) }
     ensures stops { IfOk result (λ cut. Stops cut.is_empty held.new.items) }
     ensures err { OnErr result (held.new.items ≡ held.old.items) }
 {
@@ -92,7 +94,8 @@ fn take_piece(alloc: Global, held: &mut Vec<u8>, piece: &[u8]) -> Result<Cut, Al
 
 /// The same where something is held: the piece is appended, so that no byte is looked at again until a packet is whole.
 fn take_joined(alloc: Global, held: &mut Vec<u8>, piece: &[u8]) -> Result<Cut, AllocError>
-    ensures whole { IfOk result (λ cut. held.old.items ++ piece.now ≡ written cut.packets.items ++ held.new.items) }
+    ensures whole { IfOk result (λ cut. held.old.items ++ piece.now
+        ≡ packets_written cut.packets.items ++ held.new.items) }
     ensures stops { IfOk result (λ cut. Stops cut.is_empty held.new.items) }
     ensures err { OnErr result (held.new.items ≡ held.old.items) }
 {

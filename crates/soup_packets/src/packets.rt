@@ -70,9 +70,10 @@ impl Packets {
 
     /// Takes the next bytes of the stream, and gives the packets that are whole now, the oldest first.
     ///
-    /// However the stream is cut into pieces, all packets given so far are those of the stream so far: the longest list
-    /// of packets that it begins with. `Empty` comes where a length of 0 stands in a packet's place: packets before it in
-    /// the same piece are given first, and then each call answers `Empty`. After `NoMemory` nothing was taken.
+    /// However the stream is cut into pieces, all packets given so far are those of the stream so far: the longest
+    /// list of packets that it begins with. `Empty` comes where a length of 0 stands in a packet's place: packets
+    /// before it in the same piece are given first, and then each call answers `Empty`. After `NoMemory` nothing was
+    /// taken.
     ///
     /// Source: SoupBinTCP 3.00, "Logical Packets".
     pub fn feed(&mut self, alloc: Global, piece: &[u8]) -> Result<Vec<Packet>, PacketFault>
@@ -83,7 +84,8 @@ impl Packets {
         ensures goes_on { IfOk result (λ given. given.items ≡ [] → (stream : List ℕ) (before : List Packet)
             → Fed stream before self.old → EndsEmpty (stream ++ piece.now) before → ⊥) }
         ensures empty { IsErrOf result PacketFault.Empty → (stream : List ℕ) (before : List Packet)
-            → Fed stream before self.old → Fed (stream ++ piece.now) before self.new × EndsEmpty (stream ++ piece.now) before }
+            → Fed stream before self.old → Fed (stream ++ piece.now) before self.new
+            × EndsEmpty (stream ++ piece.now) before }
         ensures for_good { (stream : List ℕ) (before : List Packet)
             → Fed stream before self.old → EndsEmpty stream before → result ≡ Err Empty }
         ensures no_memory { IsErrOf result PacketFault.NoMemory → self.new ≡ self.old }
@@ -102,5 +104,6 @@ impl Packets {
 
 /// There is one list of packets of a stream. It does nothing: its contract is the law.
 pub fn one_list_of_packets()
-    ensures { (stream : List ℕ) (packets others : List Packet) → ArePackets stream packets → ArePackets stream others → packets ≡ others }
+    ensures { (stream : List ℕ) (packets others : List Packet) → ArePackets stream packets → ArePackets stream others
+        → packets ≡ others }
 {}

@@ -1,7 +1,8 @@
+pub mod Faults
 pub mod States
 pub mod Writing
 pub mod Reading
-pub mod Given
+pub mod Delivered
 pub mod Table
 pub mod Calls
 pub mod Machine

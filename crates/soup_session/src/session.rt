@@ -1,10 +1,13 @@
 //! The session of a market port.
 
 ghost use Rattle.std.specs.Prelude.{◌≡◌, ◌≤◌, ◌<◌, ◌+◌, List, [], ◌∷◌, length, IfOk, OnErr};
-ghost use Rattle.soup_session.specs.Table.{Terms, Call, Opens, Hears, Goes, Ticks, Sends, Fails, answer, standing, wanted};
-ghost use Rattle.soup_session.specs.Calls.{Leaves, IsAnswer, GivesEachOnce, HasRoom, IsUp, next_of, EndsByClose};
+ghost use Rattle.soup_session.specs.Table.{LoginTerms, PortCall, OnUp, OnPacket, OnGone, OnTick, Send, Fail, answer};
+ghost use Rattle.soup_session.specs.Table.{standing, wanted};
+ghost use Rattle.soup_session.specs.Calls.{CallsLeave, IsAnswer, DeliversEachOnce, PortHasRoom, IsUp, next_of};
+ghost use Rattle.soup_session.specs.Calls.{EndsByClose};
 
-use crate::machine::{Answered, Port, closes, goes, hears, opens, sends, ticks};
+use crate::machine::{Answered, Port, closes, on_gone, on_packet, on_tick, on_up, send};
+use crate::port_fault::PortFault;
 use crate::port_state::PortState;
 use crate::port_turn::PortTurn;
 use soup_packets::Packet;
@@ -14,10 +17,10 @@ use wire_law::padded;
 
 /// The gateway's end of one port's session, over any links, one after another.
 ///
-/// Contracts speak of all its calls: `Leaves terms calls session` says that these calls, the newest first, leave it so.
-/// Then each call gives what the table has for it (`answers`), and the session is what the calls with this one leave
-/// (`leaves`). Moments are in milliseconds and are handed in; one that goes back counts as no time passed. After an error,
-/// which is always that memory ran out, the session is as it was.
+/// Contracts speak of all its calls: `Leaves terms calls session` says that these calls, the newest first, leave it
+/// so. Then each call gives what the table has for it (`answers`), and the session is what the calls with this one
+/// leave (`leaves`). Moments are in milliseconds and are handed in; one that goes back counts as no time passed.
+/// After an error, which is always that memory ran out, the session is as it was.
 #[derive(Debug, Drop)]
 pub struct PortSession {
     port: Port,
@@ -33,11 +36,11 @@ impl Model for PortSession {
 
 impl PortSession {
     /// A session that has made no call. A user of 1 to 6 bytes, a password of at most 10. Takes no memory.
-    #[tactic(auto, unfolding(crate::specs::Calls::Leaves))]
+    #[tactic(auto, unfolding(crate::specs::Calls::CallsLeave))]
     pub fn new(user: &[u8], password: &[u8]) -> PortSession
         requires user { (1 ≤ length user.now) × (length user.now ≤ 6) }
         requires password { length password.now ≤ 10 }
-        ensures leaves { Leaves (record { user = user.now; password = password.now }) [] result }
+        ensures leaves { CallsLeave (record { user = user.now; password = password.now }) [] result }
         ensures next { next_of result ≡ 1 }
     {
         PortSession {
@@ -73,21 +76,24 @@ impl PortSession {
     ///
     /// Source: SoupBinTCP 3.00, "Login Request Packet".
     pub fn on_up(&mut self, alloc: Global, at: u64) -> Result<PortTurn, AllocError>
-        ensures leaves { IfOk result (λ t. (terms : Terms) (before : List Call) → Leaves terms before self.old
-            → Leaves terms (Opens at ∷ before) self.new) }
-        ensures answers { IfOk result (λ t. (terms : Terms) (before : List Call) → Leaves terms before self.old
-            → IsAnswer (answer terms before (Opens at)) t) }
+        ensures leaves { IfOk result (λ t. (terms : LoginTerms) (before : List PortCall)
+            → CallsLeave terms before self.old
+            → CallsLeave terms (OnUp at ∷ before) self.new) }
+        ensures answers { IfOk result (λ t. (terms : LoginTerms) (before : List PortCall)
+            → CallsLeave terms before self.old
+            → IsAnswer (answer terms before (OnUp at)) t) }
         ensures next { next_of self.new ≡ next_of self.old }
         ensures err { OnErr result (self.new ≡ self.old) }
     {
-        let answered = opens(alloc, self.port, at)?;
+        let answered = on_up(alloc, self.port, at)?;
         Ok(self.take(answered))
     }
 
     /// A packet of the server on the port's link. Where there is no link it does nothing.
     ///
-    /// `payload` is that of a sequenced packet which is the first of its number. A packet of another type, length or time
-    /// is fault 1, a login that skips a number 5, one of another session 6: the link is closed, and the port stays faulted.
+    /// `payload` is that of a sequenced packet which is the first of its number. A packet of another type, length or
+    /// time is fault 1, a login that skips a number 5, one of another session 6: the link is closed, and the port
+    /// stays faulted.
     ///
     /// Source: SoupBinTCP 3.00, "Packets Sent by the Server".
     pub fn on_packet(
@@ -96,27 +102,30 @@ impl PortSession {
         packet: &Packet,
         at: u64,
     ) -> Result<PortTurn, AllocError>
-        requires room { HasRoom self.old }
-        ensures leaves { IfOk result (λ t. (terms : Terms) (before : List Call) → Leaves terms before self.old
-            → Leaves terms (Hears packet.now at ∷ before) self.new) }
-        ensures answers { IfOk result (λ t. (terms : Terms) (before : List Call) → Leaves terms before self.old
-            → IsAnswer (answer terms before (Hears packet.now at)) t) }
-        ensures given { IfOk result (λ t. (terms : Terms) (before : List Call) → Leaves terms before self.old
-            → GivesEachOnce terms (Hears packet.now at ∷ before)) }
+        requires room { PortHasRoom self.old }
+        ensures leaves { IfOk result (λ t. (terms : LoginTerms) (before : List PortCall)
+            → CallsLeave terms before self.old
+            → CallsLeave terms (OnPacket packet.now at ∷ before) self.new) }
+        ensures answers { IfOk result (λ t. (terms : LoginTerms) (before : List PortCall)
+            → CallsLeave terms before self.old
+            → IsAnswer (answer terms before (OnPacket packet.now at)) t) }
+        ensures delivered { IfOk result (λ t. (terms : LoginTerms) (before : List PortCall)
+            → CallsLeave terms before self.old
+            → DeliversEachOnce terms (OnPacket packet.now at ∷ before)) }
         ensures next { next_of self.new ≤ next_of self.old + 1 }
         ensures err { OnErr result (self.new ≡ self.old) }
     {
-        let answered = hears(alloc, self.port, packet, at)?;
+        let answered = on_packet(alloc, self.port, packet, at)?;
         Ok(self.take(answered))
     }
 
     /// The link is gone. An ended or faulted port stays so.
     pub fn on_gone(&mut self)
-        ensures leaves { (terms : Terms) (before : List Call) → Leaves terms before self.old
-            → Leaves terms (Goes ∷ before) self.new }
+        ensures leaves { (terms : LoginTerms) (before : List PortCall) → CallsLeave terms before self.old
+            → CallsLeave terms (OnGone ∷ before) self.new }
         ensures next { next_of self.new ≡ next_of self.old }
     {
-        let port = goes(self.port);
+        let port = on_gone(self.port);
         self.port = port;
     }
 
@@ -125,14 +134,16 @@ impl PortSession {
     ///
     /// Source: SoupBinTCP 3.00, "Heartbeats".
     pub fn on_tick(&mut self, alloc: Global, at: u64) -> Result<PortTurn, AllocError>
-        ensures leaves { IfOk result (λ t. (terms : Terms) (before : List Call) → Leaves terms before self.old
-            → Leaves terms (Ticks at ∷ before) self.new) }
-        ensures answers { IfOk result (λ t. (terms : Terms) (before : List Call) → Leaves terms before self.old
-            → IsAnswer (answer terms before (Ticks at)) t) }
+        ensures leaves { IfOk result (λ t. (terms : LoginTerms) (before : List PortCall)
+            → CallsLeave terms before self.old
+            → CallsLeave terms (OnTick at ∷ before) self.new) }
+        ensures answers { IfOk result (λ t. (terms : LoginTerms) (before : List PortCall)
+            → CallsLeave terms before self.old
+            → IsAnswer (answer terms before (OnTick at)) t) }
         ensures next { next_of self.new ≡ next_of self.old }
         ensures err { OnErr result (self.new ≡ self.old) }
     {
-        let answered = ticks(alloc, self.port, at)?;
+        let answered = on_tick(alloc, self.port, at)?;
         Ok(self.take(answered))
     }
 
@@ -142,27 +153,30 @@ impl PortSession {
     pub fn send(&mut self, alloc: Global, message: &[u8], at: u64) -> Result<PortTurn, AllocError>
         requires up { IsUp self.old }
         requires most { length message.now ≤ 65_534 }
-        ensures leaves { IfOk result (λ t. (terms : Terms) (before : List Call) → Leaves terms before self.old
-            → Leaves terms (Sends message.now at ∷ before) self.new) }
-        ensures answers { IfOk result (λ t. (terms : Terms) (before : List Call) → Leaves terms before self.old
-            → IsAnswer (answer terms before (Sends message.now at)) t) }
+        ensures leaves { IfOk result (λ t. (terms : LoginTerms) (before : List PortCall)
+            → CallsLeave terms before self.old
+            → CallsLeave terms (Send message.now at ∷ before) self.new) }
+        ensures answers { IfOk result (λ t. (terms : LoginTerms) (before : List PortCall)
+            → CallsLeave terms before self.old
+            → IsAnswer (answer terms before (Send message.now at)) t) }
         ensures next { next_of self.new ≡ next_of self.old }
         ensures up { IfOk result (λ t. IsUp self.new) }
         ensures err { OnErr result (self.new ≡ self.old) }
     {
-        let answered = sends(alloc, self.port, message, at)?;
+        let answered = send(alloc, self.port, message, at)?;
         Ok(self.take(answered))
     }
 
-    /// The payload that was given last is at fault at the order level, by a number from 1 to 4: the link is closed, and
-    /// the port stays faulted.
-    pub fn fail(&mut self, alloc: Global, fault: u8) -> Result<PortTurn, AllocError>
+    /// The payload that was delivered last is at fault at the order level: the link is closed, and the port stays
+    /// faulted.
+    pub fn fail(&mut self, alloc: Global, fault: PortFault) -> Result<PortTurn, AllocError>
         requires up { IsUp self.old }
-        requires fault { (1 ≤ fault) × (fault ≤ 4) }
-        ensures leaves { IfOk result (λ t. (terms : Terms) (before : List Call) → Leaves terms before self.old
-            → Leaves terms (Fails fault ∷ before) self.new) }
-        ensures answers { IfOk result (λ t. (terms : Terms) (before : List Call) → Leaves terms before self.old
-            → IsAnswer (answer terms before (Fails fault)) t) }
+        ensures leaves { IfOk result (λ t. (terms : LoginTerms) (before : List PortCall)
+            → CallsLeave terms before self.old
+            → CallsLeave terms (Fail fault ∷ before) self.new) }
+        ensures answers { IfOk result (λ t. (terms : LoginTerms) (before : List PortCall)
+            → CallsLeave terms before self.old
+            → IsAnswer (answer terms before (Fail fault)) t) }
         ensures next { next_of self.new ≡ next_of self.old }
         ensures err { OnErr result (self.new ≡ self.old) }
     {
@@ -173,7 +187,7 @@ impl PortSession {
     /// How the port stands. Takes no memory.
     pub fn state(&self) -> PortState
         ensures now { result ≡ self.now.state }
-        ensures state { (terms : Terms) (before : List Call) → Leaves terms before self.now
+        ensures state { (terms : LoginTerms) (before : List PortCall) → CallsLeave terms before self.now
             → result ≡ (standing terms before).state }
     {
         self.port.state
@@ -182,7 +196,7 @@ impl PortSession {
     /// The number of the next payload that is wanted. Takes no memory.
     pub fn next(&self) -> u64
         ensures now { result ≡ next_of self.now }
-        ensures next { (terms : Terms) (before : List Call) → Leaves terms before self.now
+        ensures next { (terms : LoginTerms) (before : List PortCall) → CallsLeave terms before self.now
             → result ≡ wanted (standing terms before) }
     {
         self.port.next
@@ -190,7 +204,7 @@ impl PortSession {
 
     /// The session of the last login, ten spaces before the first. Takes no memory.
     pub fn session(&self) -> [u8; 10]
-        ensures { (terms : Terms) (before : List Call) → Leaves terms before self.now
+        ensures { (terms : LoginTerms) (before : List PortCall) → CallsLeave terms before self.now
             → result ≡ (standing terms before).session }
     {
         self.port.session
@@ -199,5 +213,5 @@ impl PortSession {
 
 /// A call on a link closes it just where the session has no link after it. It does nothing: its contract is the law.
 pub fn links_end_by_a_close()
-    ensures { (terms : Terms) (before : List Call) (c : Call) → EndsByClose terms before c }
+    ensures { (terms : LoginTerms) (before : List PortCall) (c : PortCall) → EndsByClose terms before c }
 {}

@@ -8,7 +8,7 @@ use Rattle.fix_types.specs.declared.application.AppBody.TheVariants as bodies
 use Rattle.fix_types.specs.declared.cancel_reject.CancelReject.{CancelReject}
 use Rattle.fix_types.specs.CancelReject.{cancel_reject_fields}
 use Rattle.fix_types.specs.Application.{body_fields}
-use Rattle.order_law.specs.Messages.{Message}
+use Rattle.fix_fields.specs.Field.{Message}
 use Rattle.order_law.specs.History.{Entry}
 use Rattle.order_law.specs.Verdicts.{is_replace}
 use Rattle.order_law.specs.Told as law

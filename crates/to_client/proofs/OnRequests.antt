@@ -10,7 +10,7 @@ use Rattle.fix_values.specs.declared.cxl_rej_response_to.CxlRejResponseTo.TheVar
 use Rattle.fix_values.specs.declared.exec_type.ExecType.TheVariants as kinds
 use Rattle.fix_values.specs.Letters.{response_letter, status_letter}
 use Rattle.fix_values.specs.Slots.{char_text, order_id_text}
-use Rattle.order_law.specs.Messages.{Message, text}
+use Rattle.fix_fields.specs.Field.{Message, text}
 use Rattle.order_law.specs.History.{Entry}
 use Rattle.order_law.specs.Verdicts.{is_replace}
 use Rattle.order_law.specs.Told as law
@@ -61,14 +61,14 @@ record Rejected : Type 0 where
 
 abbrev written : Rejected → Message
 written f = law.in_order (
-    law.field 35 (codes "9")
-    ∷ law.field 37 f.order
-    ∷ law.field 11 f.id
-    ∷ law.field 41 f.orig
-    ∷ law.field 39 f.status
-    ∷ law.field 434 f.answers
-    ∷ law.field 102 f.code
-    ∷ law.field 58 f.why
+    law.told_field 35 (codes "9")
+    ∷ law.told_field 37 f.order
+    ∷ law.told_field 11 f.id
+    ∷ law.told_field 41 f.orig
+    ∷ law.told_field 39 f.status
+    ∷ law.told_field 434 f.answers
+    ∷ law.told_field 102 f.code
+    ∷ law.told_field 58 f.why
     ∷ [])
 
 same_written : (f g : Rejected) → f.order ≡ g.order → f.id ≡ g.id → f.orig ≡ g.orig → f.status ≡ g.status → f.answers ≡ g.answers → f.code ≡ g.code → f.why ≡ g.why → written f ≡ written g

@@ -3,13 +3,12 @@ use Rattle.std.proofs.Common.{◌≡◌, ℕ, List, [], ◌∷◌, ◌++◌, ref
 use Rattle.std.proofs.lemmas.List.{append-nil}
 use Rattle.std.specs.Prelude.{Option, Some, None, map, option_map, unwrap_or}
 use Rattle.std.specs.Fmt.{digits}
-use Rattle.fix_fields.specs.Field.{Field}
+use Rattle.fix_fields.specs.Field.{Field, Message, text}
 use Rattle.fixed_point.specs.Price.{price_text}
 use Rattle.fix_types.specs.declared.report.Report.{Report}
 use Rattle.fix_types.specs.Report.{report_fields, report_slots}
 use Rattle.fix_values.specs.Letters.{exec_letter, status_letter}
-use Rattle.fix_values.specs.Slots.{Slot, appended, char_text, number_text, slot_fields, value_fields}
-use Rattle.order_law.specs.Messages.{Message, text}
+use Rattle.fix_values.specs.Slots.{FieldSlot, appended, char_text, number_text, slot_fields, value_fields}
 use Rattle.order_law.specs.History.{Entry}
 use Rattle.order_law.specs.Reading.{average_of}
 use Rattle.order_law.specs.Told as law
@@ -23,7 +22,7 @@ use Rattle.to_client.specs.Shows.{IsAnyRequest, IsOccasion, ShowsAs, id_told, or
 use Rattle.to_client.proofs.Statuses.{status-shown}
 
 -- slots one after another are their fields one after another
-appended-in_order : (fs : List Field) (slots : List Slot) → appended fs slots ≡ fs ++ law.in_order (map slot_fields slots)
+appended-in_order : (fs : List Field) (slots : List FieldSlot) → appended fs slots ≡ fs ++ law.in_order (map slot_fields slots)
 appended-in_order fs [] = sym (append-nil fs)
 appended-in_order fs (s ∷ slots) = appended-in_order (fs ++ slot_fields s) slots ∙ append_assoc fs (slot_fields s) (law.in_order (map slot_fields slots))
 
@@ -56,25 +55,25 @@ record Fields : Type 0 where
 -- in the standard's order
 abbrev written : Fields → Message
 written f = law.in_order (
-    law.field 35 (codes "8")
-    ∷ law.field 37 f.order
-    ∷ law.field 11 f.id
+    law.told_field 35 (codes "8")
+    ∷ law.told_field 37 f.order
+    ∷ law.told_field 11 f.id
     ∷ law.optional 41 f.orig
-    ∷ law.field 17 f.number
+    ∷ law.told_field 17 f.number
     ∷ law.optional 19 f.broken
-    ∷ law.field 150 f.kind
-    ∷ law.field 39 f.status
+    ∷ law.told_field 150 f.kind
+    ∷ law.told_field 39 f.status
     ∷ law.optional 103 f.code
     ∷ law.optional 378 f.restated
-    ∷ law.field 55 f.symbol
-    ∷ law.field 54 f.side
-    ∷ law.field 38 f.total
-    ∷ law.field 44 f.price
+    ∷ law.told_field 55 f.symbol
+    ∷ law.told_field 54 f.side
+    ∷ law.told_field 38 f.total
+    ∷ law.told_field 44 f.price
     ∷ law.optional 32 f.shares
     ∷ law.optional 31 f.at
-    ∷ law.field 151 f.leaves
-    ∷ law.field 14 f.executed
-    ∷ law.field 6 f.average
+    ∷ law.told_field 151 f.leaves
+    ∷ law.told_field 14 f.executed
+    ∷ law.told_field 6 f.average
     ∷ law.optional 58 f.why
     ∷ [])
 

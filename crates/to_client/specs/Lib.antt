@@ -2,3 +2,17 @@ pub mod Occasions
 pub mod Refusals
 pub mod Shows
 pub mod Pending
+pub use Rattle.fix_fields.specs.Field
+pub use Rattle.fix_types.specs.Application
+pub use Rattle.fix_types.specs.CancelReject
+pub use Rattle.fix_types.specs.CancelRequest
+pub use Rattle.fix_types.specs.NewOrder
+pub use Rattle.fix_types.specs.ReplaceRequest
+pub use Rattle.fix_types.specs.Report
+pub use Rattle.fix_values.specs.Slots
+pub use Rattle.order_law.specs.Asks
+pub use Rattle.order_law.specs.History
+pub use Rattle.order_law.specs.Verdicts
+pub use Rattle.order_machine.specs.OrderRecord
+pub use Rattle.orders.specs.Seen
+pub use Rattle.wire_law.specs.Printable

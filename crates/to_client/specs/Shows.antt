@@ -1,5 +1,6 @@
 -- What an order and a request are to the law where something is told of them.
-use Rattle.std.specs.Prelude.{◌≡◌, ℕ, Bool, true, false, List, [], ◌∷◌, Option, Some, None, option_map, codes, decimal, if◌then◌else◌}
+use Rattle.std.specs.Prelude.{◌≡◌, ℕ, Bool, true, false, List, [], ◌∷◌, Option, Some, None, option_map, codes, decimal}
+use Rattle.std.specs.Prelude.{if◌then◌else◌}
 use Rattle.std.specs.List.{list_any}
 use Rattle.fix_values.specs.declared.cxl_rej_response_to.CxlRejResponseTo.{CxlRejResponseTo}
 use Rattle.fix_values.specs.declared.cxl_rej_response_to.CxlRejResponseTo.TheVariants as responses
@@ -11,7 +12,7 @@ use Rattle.fix_values.specs.Letters.{exec_letter}
 use Rattle.fix_values.specs.Slots.{char_text, number_text}
 use Rattle.fix_types.specs.declared.report.Report.{Report}
 use Rattle.fixed_point.specs.Price.{price_text}
-use Rattle.order_law.specs.Messages.{Message, text}
+use Rattle.fix_fields.specs.Field.{Message, text}
 use Rattle.order_law.specs.History.{Entry}
 use Rattle.order_law.specs.Verdicts.{is_replace}
 use Rattle.order_law.specs.Told as law
@@ -58,8 +59,8 @@ pub record IsRequest (q : Request) (m : Message) : Type 0 where
 abbrev pub status_with : Shown → OrdStatus
 status_with x =
     if x.progress.now.is_refused then statuses.Rejected
-    else (if x.has_pending_cancel then statuses.PendingCancel
-    else (if x.has_pending_replace then statuses.PendingReplace else status_as x.progress.now))
+    else if x.has_pending_cancel then statuses.PendingCancel
+    else if x.has_pending_replace then statuses.PendingReplace else status_as x.progress.now
 
 -- of an order that isn't known: rejected. (FIX 4.4 Volume 4, "Order Cancel Reject", OrdStatus.)
 abbrev pub status_any : Option Shown → OrdStatus

@@ -25,14 +25,16 @@ use std::alloc::{AllocError, Global};
 
 /// A report as one body more.
 pub fn push_report(bodies: &mut Vec<AppBody>, report: Report) -> Result<(), AllocError>
-    ensures told { IfOk result (λ nothing. map body_fields bodies.new.items ≡ map body_fields bodies.old.items ++ report_fields report ∷ []) }
+    ensures told { IfOk result (λ nothing. map body_fields bodies.new.items
+        ≡ map body_fields bodies.old.items ++ report_fields report ∷ []) }
     ensures few { length bodies.new.items ≤ length bodies.old.items + 1 }
 {
     bodies.push(AppBody::Report(report))?;
     Ok(())
 }
 
-/// The reject of a pending request, where there is one, with a code (102) and a text (58). The order is shown without it.
+/// The reject of a pending request, where there is one, with a code (102) and a text (58). The order is shown without
+/// it.
 ///
 /// Source: FIX 4.4 Volume 4, "Order Cancel Reject".
 pub fn push_reject(
@@ -44,7 +46,8 @@ pub fn push_reject(
     text: &[u8],
 ) -> Result<(), AllocError>
     requires { list_all is_inside text.now ≡ true }
-    ensures told { IfOk result (λ nothing. (q : Option Entry) (s : law.Shown) → IsAnyRequest request.now q → ShowsAs shown.now s
+    ensures told { IfOk result (λ nothing. (q : Option Entry) (s : law.Shown) → IsAnyRequest request.now q
+        → ShowsAs shown.now s
         → map body_fields bodies.new.items ≡ map body_fields bodies.old.items ++ rejects_of s q code text.now) }
     ensures few { length bodies.new.items ≤ length bodies.old.items + 1 }
 {
@@ -69,7 +72,8 @@ pub fn push_too_late(
     shown: &Shown,
     pending: &Pending,
 ) -> Result<(), AllocError>
-    ensures told { IfOk result (λ nothing. (replace cancel : Option Entry) (s : law.Shown) → ShowsAs shown.now s → IsPending pending.now replace cancel s
+    ensures told { IfOk result (λ nothing. (replace cancel : Option Entry) (s : law.Shown) → ShowsAs shown.now s
+        → IsPending pending.now replace cancel s
         → map body_fields bodies.new.items ≡ map body_fields bodies.old.items ++ law.too_late s) }
     ensures few { length bodies.new.items ≤ length bodies.old.items + 2 }
 {
@@ -85,8 +89,8 @@ pub fn push_too_late(
     push_reject(alloc, bodies, &pending.cancel, &last, 0, b"too late")
 }
 
-/// All that was open of an order is cancelled, and it is closed: 150=4, with the market's letter where it gave one, which
-/// answers a pending cancel; then a pending replace is too late.
+/// All that was open of an order is cancelled, and it is closed: 150=4, with the market's letter where it gave one,
+/// which answers a pending cancel; then a pending replace is too late.
 ///
 /// Source: FIX 4.4 Volume 4, "Execution Report", ExecType Canceled.
 pub fn push_canceled(
@@ -98,8 +102,10 @@ pub fn push_canceled(
     pending: &Pending,
 ) -> Result<(), AllocError>
     requires { IfSome reason (λ byte. is_printable byte ≡ true) }
-    ensures told { IfOk result (λ nothing. (replace cancel : Option Entry) (s : law.Shown) → ShowsAs shown.now s → IsPending pending.now replace cancel s
-        → map body_fields bodies.new.items ≡ map body_fields bodies.old.items ++ law.cancelled number (char_text reason) s) }
+    ensures told { IfOk result (λ nothing. (replace cancel : Option Entry) (s : law.Shown) → ShowsAs shown.now s
+        → IsPending pending.now replace cancel s
+        → map body_fields bodies.new.items ≡ map body_fields bodies.old.items
+        ++ law.cancelled number (char_text reason) s) }
     ensures few { length bodies.new.items ≤ length bodies.old.items + 2 }
 {
     let rest = Shown {
@@ -126,7 +132,8 @@ pub fn push_cancel_rejected(
     shown: &Shown,
     pending: &Pending,
 ) -> Result<(), AllocError>
-    ensures told { IfOk result (λ nothing. (replace cancel : Option Entry) (s : law.Shown) → ShowsAs shown.now s → IsPending pending.now replace cancel s
+    ensures told { IfOk result (λ nothing. (replace cancel : Option Entry) (s : law.Shown) → ShowsAs shown.now s
+        → IsPending pending.now replace cancel s
         → map body_fields bodies.new.items ≡ map body_fields bodies.old.items ++ law.cancel_rejected is_last s) }
     ensures few { length bodies.new.items ≤ length bodies.old.items + 1 }
 {

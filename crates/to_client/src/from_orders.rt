@@ -3,7 +3,7 @@
 ghost use Rattle.std.specs.Prelude.{◌≡◌};
 ghost use Rattle.order_law.specs.Asks.{total_of};
 ghost use Rattle.order_law.specs.declared.stage.Stage.TheVariants.{Waiting};
-ghost use Rattle.order_histories.specs.OrderRecord.{shown_as};
+ghost use Rattle.order_machine.specs.OrderRecord.{shown_as};
 ghost use Rattle.orders.specs.declared.progress.Progress.{Progress};
 ghost use Rattle.orders.specs.Seen.{progressed};
 ghost use Rattle.to_client.specs.Pending.{IsPending, cancel_in};
@@ -13,8 +13,8 @@ use crate::pending::Pending;
 use crate::shown::{Request, Shown};
 use orders::{Order, Progress};
 
-/// An order with its pending requests, as it is shown once it has come so far. The total of an order that waits is that of
-/// its own message.
+/// An order with its pending requests, as it is shown once it has come so far. The total of an order that waits is
+/// that of its own message.
 pub fn shown_of<'a>(order: &'a Order, progress: &'a Progress) -> Shown<'a>
     requires { progress.now.stage ≡ Waiting → progress.now.total ≡ total_of order.now.new.message }
     ensures { ShowsAs result (shown_as (progressed progress.now order.now)) }
@@ -32,7 +32,8 @@ pub fn shown_of<'a>(order: &'a Order, progress: &'a Progress) -> Shown<'a>
 
 /// The pending requests of an order.
 pub fn pending_of<'a>(order: &'a Order) -> Pending<'a>
-    ensures { (p : Progress) → IsPending result order.now.replace (cancel_in order.now.cancel) (shown_as (progressed p order.now)) }
+    ensures { (p : Progress) → IsPending result order.now.replace (cancel_in order.now.cancel)
+        (shown_as (progressed p order.now)) }
 {
     let replace = match &order.replace {
         None => None,

@@ -45,7 +45,15 @@ pub struct Details {
 
 /// Nothing but an ExecType.
 pub fn plain(exec_type: ExecType) -> Details
-    ensures { result ≡ record { exec_type = exec_type; exec_ref_id = None; ord_rej_reason = None; exec_restatement_reason = None; last_qty = None; last_px = None; reason = None } }
+    ensures { result ≡ record {
+      exec_type = exec_type;
+      exec_ref_id = None;
+      ord_rej_reason = None;
+      exec_restatement_reason = None;
+      last_qty = None;
+      last_px = None;
+      reason = None;
+    } }
 {
     Details {
         exec_type,

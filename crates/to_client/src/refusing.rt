@@ -26,7 +26,8 @@ pub fn refusal(
     code: u64,
     why: Text,
 ) -> Result<Report, AllocError>
-    ensures told { IfOk result (λ r. report_fields r ≡ law.refusal exec_id order_id (new_order_fields order.now) code why) }
+    ensures told { IfOk result (λ r. report_fields r
+        ≡ law.refusing_report exec_id order_id (new_order_fields order.now) code why) }
 {
     refused(alloc, order_id, exec_id, order, code, why)
 }

@@ -2,7 +2,7 @@
 
 ghost use Rattle.std.specs.Prelude.{◌≡◌, ◌∷◌, [], IfOk, Option, option_map};
 ghost use Rattle.fix_types.specs.CancelReject.{cancel_reject_fields};
-ghost use Rattle.order_law.specs.Messages.{Message};
+ghost use Rattle.fix_fields.specs.Field.{Message};
 ghost use Rattle.order_law.specs.Told as law;
 ghost use Rattle.to_client.specs.Shows.{IsRequest, ShowsAny, id_number};
 

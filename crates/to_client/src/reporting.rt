@@ -30,7 +30,8 @@ pub fn report_of(
     shown: &Shown,
 ) -> Result<Report, AllocError>
     requires reason { IfSome (details_of occasion).reason (λ byte. is_printable byte ≡ true) }
-    ensures told { IfOk result (λ r. (s : law.Shown) → ShowsAs shown.now s → report_fields r ≡ law.report number (occasion_seen occasion) s) }
+    ensures told { IfOk result (λ r. (s : law.Shown) → ShowsAs shown.now s
+        → report_fields r ≡ law.report number (occasion_seen occasion) s) }
 {
     report_on(alloc, number, &fields_given_by(occasion), &None, shown)
 }
@@ -44,7 +45,8 @@ pub fn report_on(
     shown: &Shown,
 ) -> Result<Report, AllocError>
     requires { IfSome details.now.reason (λ byte. is_printable byte ≡ true) }
-    ensures told { IfOk result (λ r. (o : law.Occasion) (s : law.Shown) → IsOccasion details.now request.now o → ShowsAs shown.now s
+    ensures told { IfOk result (λ r. (o : law.Occasion) (s : law.Shown) → IsOccasion details.now request.now o
+        → ShowsAs shown.now s
         → report_fields r ≡ law.report number o s) }
 {
     filled_in(alloc, number, details, request, shown)

@@ -34,8 +34,8 @@ pub fn report_pending(
     report_on(alloc, number, &details, &Some(*request), &shown)
 }
 
-/// The report that an order is replaced, 150=5. The order is shown as it is then, with its new total and price; its 11 is
-/// the replace's.
+/// The report that an order is replaced, 150=5. The order is shown as it is then, with its new total and price; its
+/// 11 is the replace's.
 ///
 /// Source: FIX 4.4 Volume 4, "Execution Report", ExecType Replaced.
 pub fn report_replaced(
@@ -56,8 +56,8 @@ pub fn report_replaced(
     )
 }
 
-/// The report that all that was open is cancelled, which answers a cancel: 150=4, with the market's letter where it gave
-/// one. The order is shown as it is then.
+/// The report that all that was open is cancelled, which answers a cancel: 150=4, with the market's letter where it
+/// gave one. The order is shown as it is then.
 ///
 /// Source: FIX 4.4 Volume 4, "Execution Report", ExecType Canceled.
 pub fn report_canceled(

@@ -6,16 +6,16 @@ use Rattle.ouch_codec.specs.declared.inbound.enter_order.EnterOrder.{EnterOrder}
 use Rattle.ouch_codec.specs.Letters.{side_letter}
 use Rattle.ouch_codec.specs.Parts.{unpadded}
 use Rattle.ouch_codec.specs.Layout.{spelled}
-use Rattle.ouch_codec.specs.Layouts.{enter_order}
+use Rattle.ouch_codec.specs.Layouts.{enter_order_layout}
 use Rattle.ouch_codec.specs.Rows.{enter_order_row}
 use Rattle.ouch_codec.specs.EnterOrderParts.{SaysEnterOrder, SaysEnterOrder-written}
 use Rattle.order_law.specs.Headline.{Says}
 use Rattle.ouch_codec.specs.ToMarket as said
-use Rattle.order_law.specs.Messages.{Message, text, character}
+use Rattle.fix_fields.specs.Field.{Message, text, character}
 use Rattle.order_law.specs.Asks.{ask_of_bytes, asked_by_new, side_of_letter, life_time_of_seconds, total_of, limit_of, minimum_of, display_of, life_time_of, capacity_of}
 use Rattle.to_market.specs.declared.client_terms.ClientTerms.{ClientTerms}
 use Rattle.to_market.specs.declared.new_ask.NewAsk.{NewAsk}
-use Rattle.to_market.specs.NewAsks.{AsksAs, standing_of, asked_with}
+use Rattle.to_market.specs.NewAsks.{AsksAs, client_standing, asked_with}
 
 -- an Enter Order that has what was asked, and what its client's terms are
 pub record Enters (ask : NewAsk) (terms : ClientTerms) (enter : EnterOrder) : Type 0 where
@@ -42,7 +42,7 @@ same_bytes (b ∷ bs) = rw (same_byte b, same_bytes bs) refl
 -- asks what the message asks
 pub ask_of_bytes-enters : (ask : NewAsk) (terms : ClientTerms) (enter : EnterOrder) (m : Message) (bytes : List ℕ) (order_of : List ℕ → Option ℕ)
     → AsksAs ask terms.capacity m → Enters ask terms enter → SaysEnterOrder enter bytes
-    → ask_of_bytes (standing_of terms) order_of bytes ≡ Some (asked_by_new terms.capacity m)
+    → ask_of_bytes (client_standing terms) order_of bytes ≡ Some (asked_by_new terms.capacity m)
 ask_of_bytes-enters ask terms enter m bytes order_of asks enters says =
     let side : side_of_letter (said.enter_side bytes) ≡ Some (character 54 m) = ap side_of_letter (says.side ∙ ap side_letter enters.side) ∙ asks.side in
     let life : life_time_of_seconds (said.enter_time_in_force bytes) ≡ Some (life_time_of m) = ap life_time_of_seconds (says.time_in_force ∙ enters.time_in_force) ∙ asks.life_time in
@@ -61,10 +61,10 @@ ask_of_bytes-enters ask terms enter m bytes order_of asks enters says =
 -- so its bytes say what was asked
 pub says_what_is_asked : (ask : NewAsk) (terms : ClientTerms) (enter : EnterOrder) (m : Message) (order : List ℕ) (order_of : List ℕ → Option ℕ)
     → AsksAs ask terms.capacity m → Enters ask terms enter
-    → Says (standing_of terms) order_of (asked_with order enter.token terms.capacity m) (spelled enter_order (enter_order_row enter))
+    → Says (client_standing terms) order_of (asked_with order enter.token terms.capacity m) (spelled enter_order_layout (enter_order_row enter))
 says_what_is_asked ask terms enter m order order_of asks enters =
     let says = SaysEnterOrder-written enter in
     record {
       tokens = (ap (λ (b : ℕ). b == 79) says.type, says.token);
-      ask = ask_of_bytes-enters ask terms enter m (spelled enter_order (enter_order_row enter)) order_of asks enters says;
+      ask = ask_of_bytes-enters ask terms enter m (spelled enter_order_layout (enter_order_row enter)) order_of asks enters says;
     }

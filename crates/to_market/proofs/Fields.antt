@@ -4,24 +4,23 @@ use Rattle.std.specs.Prelude.{◌&&◌, not, Option, Some, None, is_some, is_ok,
 use Rattle.std.specs.List.{list_any}
 use Rattle.std.specs.Result.{result_unwrap_or}
 use Rattle.fixed_point.specs.Decimal.{price, quantity}
-use Rattle.fix_fields.specs.Field.{first_value}
+use Rattle.fix_fields.specs.Field.{first_value, Message, has, text, is, is_one_of, character}
 use Rattle.fix_types.specs.declared.new_order.NewOrder.{NewOrder}
 use Rattle.fix_values.specs.Slots.{char_text}
 use Rattle.fix_types.specs.NewOrder.{new_order_fields}
 use Rattle.fix_types.proofs.NewOrderValues.{side-value, symbol-value, quantity-value, type-value, price-value, life_time-value, instruction-value, capacity-value, minimum-value}
-use Rattle.order_law.specs.Messages.{Message, has, text, is, is_one_of, character}
 use Rattle.order_law.specs.Asks.{Day, Immediate, total_of, limit_of, minimum_of, display_of, life_time_of, capacity_of}
 use Rattle.order_law.specs.Verdicts.{Row, field_rows, sides, life_times, capacities, is_symbol, is_minimum}
 use Rattle.to_market.specs.declared.refusal.Refusal.TheVariants as refusals
-use Rattle.to_market.specs.FieldRows.{is_among, is_other, life_time, display, minimum, is_no_minimum, row}
+use Rattle.to_market.specs.FieldRows.{is_among, is_none_of, life_time, display, minimum, is_no_minimum, refusal_row}
 use Rattle.to_market.proofs.Rows.{price_rows, price_rows_of}
 
 -- the tests on a value that may be missing
-other_test : (wanted : List (List ℕ)) (v : Option (List ℕ)) → (is_some v && not (list_any (λ wanted_text. bytes_eq (unwrap_or v []) wanted_text) wanted)) ≡ is_other wanted v
+other_test : (wanted : List (List ℕ)) (v : Option (List ℕ)) → (is_some v && not (list_any (λ wanted_text. bytes_eq (unwrap_or v []) wanted_text) wanted)) ≡ is_none_of wanted v
 other_test wanted None = refl
 other_test wanted (Some value) = refl
 
-pub other-same : (tag : ℕ) (wanted : List (List ℕ)) (m : Message) (v : Option (List ℕ)) → first_value tag m ≡ v → (has tag m && not (is_one_of tag wanted m)) ≡ is_other wanted v
+pub other-same : (tag : ℕ) (wanted : List (List ℕ)) (m : Message) (v : Option (List ℕ)) → first_value tag m ≡ v → (has tag m && not (is_one_of tag wanted m)) ≡ is_none_of wanted v
 other-same tag wanted m v e = rw e (other_test wanted v)
 
 pub no_minimum : (total : ℕ) (v : Option (List ℕ)) (m : Message) → first_value 110 m ≡ v → total_of m ≡ total → (has 110 m && not (is_minimum m)) ≡ is_no_minimum total v
@@ -31,14 +30,14 @@ no_minimum total (Some value) m e t = rw (e, t) refl
 -- the rows as a table of their tests, and those on 44
 unfoldable pub table : (side symbol type life instruction capacity quantity minimum : Bool) → List Row → List Row
 table side symbol type life instruction capacity quantity minimum prices =
-    row side refusals.Side
-    ∷ row symbol refusals.Symbol
-    ∷ row type refusals.OrderType
-    ∷ row life refusals.TimeInForce
-    ∷ row instruction refusals.ExecutionInstruction
-    ∷ row capacity refusals.Capacity
-    ∷ row quantity refusals.Quantity
-    ∷ row minimum refusals.MinimumQuantity
+    refusal_row side refusals.Side
+    ∷ refusal_row symbol refusals.Symbol
+    ∷ refusal_row type refusals.OrderType
+    ∷ refusal_row life refusals.TimeInForce
+    ∷ refusal_row instruction refusals.ExecutionInstruction
+    ∷ refusal_row capacity refusals.Capacity
+    ∷ refusal_row quantity refusals.Quantity
+    ∷ refusal_row minimum refusals.MinimumQuantity
     ∷ prices
 
 as_table : (m : Message) → field_rows m ≡ table (not (is_one_of 54 sides m)) (not (is_symbol (text 55 m))) (not (is 40 (codes "2") m)) (has 59 m && not (is_one_of 59 life_times m)) (has 18 m && not (is_one_of 18 (codes "6" ∷ []) m)) (has 528 m && not (is_one_of 528 capacities m)) (not (is_ok (quantity 1 (text 38 m)))) (has 110 m && not (is_minimum m)) (price_rows (not (has 44 m)) (price (text 44 m)))
@@ -47,7 +46,7 @@ as_table m = refl
 
 -- of a message's own fields
 abbrev pub rows_of : NewOrder → List Row
-rows_of m = table (not (is_among sides (m.side ∷ []))) (not (is_symbol m.symbol)) (not (bytes_eq (m.ord_type ∷ []) (codes "2"))) (is_other life_times (char_text m.time_in_force)) (is_other (codes "6" ∷ []) m.exec_inst) (is_other capacities (char_text m.order_capacity)) (not (is_ok (quantity 1 m.order_qty))) (is_no_minimum (result_unwrap_or (quantity 1 m.order_qty) 0) m.min_qty) (price_rows_of m.price)
+rows_of m = table (not (is_among sides (m.side ∷ []))) (not (is_symbol m.symbol)) (not (bytes_eq (m.ord_type ∷ []) (codes "2"))) (is_none_of life_times (char_text m.time_in_force)) (is_none_of (codes "6" ∷ []) m.exec_inst) (is_none_of capacities (char_text m.order_capacity)) (not (is_ok (quantity 1 m.order_qty))) (is_no_minimum (result_unwrap_or (quantity 1 m.order_qty) 0) m.min_qty) (price_rows_of m.price)
 
 -- a field that is always there
 pub text_there : (tag : ℕ) (m : Message) (value : List ℕ) → first_value tag m ≡ Some value → text tag m ≡ value

@@ -7,22 +7,22 @@ use Rattle.fix_types.specs.declared.replace_request.ReplaceRequest.{ReplaceReque
 use Rattle.fix_values.specs.Slots.{char_text}
 use Rattle.fix_types.specs.ReplaceRequest.{replace_request_fields}
 use Rattle.fix_types.proofs.ReplaceRequestValues.{kind-value, side-value, symbol-value, quantity-value, type-value, price-value, life_time-value, instruction-value, capacity-value, minimum-value}
-use Rattle.order_law.specs.Messages.{Message, has, text, is, is_one_of}
+use Rattle.fix_fields.specs.Field.{Message, has, text, is, is_one_of}
 use Rattle.order_law.specs.Asks.{Day, Immediate, total_of, limit_of, minimum_of, display_of, life_time_of}
 use Rattle.order_law.specs.Chain.{has_pending_cancel, has_pending_replace}
 use Rattle.order_law.specs.Verdicts.{Named, Port, Row, is_minimum, is_replace, last_token, life_times, most_replaces, port_rows, rows_of_request}
 use Rattle.to_market.specs.declared.named_order.NamedOrder.{NamedOrder}
 use Rattle.to_market.specs.declared.refusal.Refusal.{Refusal}
 use Rattle.to_market.specs.declared.refusal.Refusal.TheVariants as refusals
-use Rattle.to_market.specs.FieldRows.{is_other, life_time, display, minimum, is_no_minimum}
+use Rattle.to_market.specs.FieldRows.{is_none_of, life_time, display, minimum, is_no_minimum}
 use Rattle.to_market.specs.Names.{HasRead, changes_terms}
-use Rattle.to_market.specs.Refusals.{request_code_of, words_of}
+use Rattle.to_market.specs.Refusals.{request_code_of, refusal_text}
 use Rattle.to_market.proofs.Fields.{display_test, life_time_test, minimum_test, no_minimum, other-same, text_there}
 use Rattle.to_market.proofs.Rows.{price_rows, price_rows_of}
 
 -- a row of requests that gives this refusal
 abbrev pub row : Bool → Refusal → Row
-row holds refusal = record { holds = holds; code = request_code_of refusal; why = words_of refusal }
+row holds refusal = record { holds = holds; code = request_code_of refusal; why = refusal_text refusal }
 
 -- the last rows, on the order and on tokens
 abbrev pub last_rows : (low many spent : Bool) → List Row
@@ -61,7 +61,7 @@ total_of-replace m = ap (λ (t : List ℕ). result_unwrap_or (quantity 1 t) 0) (
 -- those from the first that a replace alone has, over its own fields
 abbrev pub change_rows : ReplaceRequest → NamedOrder → ℕ → List Row
 change_rows m o given =
-    change_table (changes_terms o m) (not (bytes_eq (m.ord_type ∷ []) (codes "2"))) (is_other life_times (char_text m.time_in_force)) (is_other (codes "6" ∷ []) m.exec_inst) (not (is_ok (quantity 1 m.order_qty))) (is_no_minimum (result_unwrap_or (quantity 1 m.order_qty) 0) m.min_qty) (price_rows_of m.price)
+    change_table (changes_terms o m) (not (bytes_eq (m.ord_type ∷ []) (codes "2"))) (is_none_of life_times (char_text m.time_in_force)) (is_none_of (codes "6" ∷ []) m.exec_inst) (not (is_ok (quantity 1 m.order_qty))) (is_no_minimum (result_unwrap_or (quantity 1 m.order_qty) 0) m.min_qty) (price_rows_of m.price)
     (last_rows (nat_le (result_unwrap_or (quantity 1 m.order_qty) 0) o.executed) (nat_le most_replaces o.replaces) (nat_le last_token given))
 
 -- the rows on a replace are those on its fields and on what was read of its order

@@ -12,7 +12,7 @@ use Rattle.ouch_codec.specs.CancelParts as spelled_cancel
 use Rattle.ouch_codec.specs.ReplaceParts as spelled_replace
 use Rattle.ouch_codec.specs.ToMarket as said
 use Rattle.order_law.specs.Headline.{Says}
-use Rattle.order_law.specs.Messages.{Message, is, text}
+use Rattle.fix_fields.specs.Field.{Message, is, text}
 use Rattle.order_law.specs.Asks.{Change, Standing, Stop, ask_of_bytes, asked_by_request, display_of, life_time_of, life_time_of_seconds, limit_of, limits_of, minimum_of, total_of}
 use Rattle.to_market.specs.declared.replace_ask.ReplaceAsk.{ReplaceAsk}
 use Rattle.to_market.specs.RequestAsks.{AsksToReplace, cancel_asked_with, cancel_bytes, replace_asked_with, replace_bytes}
@@ -22,11 +22,11 @@ with_false true = refl
 with_false false = refl
 
 -- bytes that begin with another type are no Enter Order, and no Replace Order
-no_enter_order : (bytes : List ℕ) → (slice_index bytes 0 == 79) ≡ false → is_message layouts.enter_order bytes ≡ false
+no_enter_order : (bytes : List ℕ) → (slice_index bytes 0 == 79) ≡ false → is_message layouts.enter_order_layout bytes ≡ false
 no_enter_order [] h = refl
 no_enter_order (b ∷ bytes) h = rw h (with_false (nat_le 1 (length (b ∷ bytes))))
 
-no_replace_order : (bytes : List ℕ) → (slice_index bytes 0 == 85) ≡ false → is_message layouts.replace bytes ≡ false
+no_replace_order : (bytes : List ℕ) → (slice_index bytes 0 == 85) ≡ false → is_message layouts.replace_layout bytes ≡ false
 no_replace_order [] h = refl
 no_replace_order (b ∷ bytes) h = rw h (with_false (nat_le 1 (length (b ∷ bytes))))
 
@@ -45,7 +45,7 @@ ask_of_replaces : (ask : ReplaceAsk) (live : List ℕ) (message : Replace) (m : 
     → AsksToReplace ask m → Replaces ask live message → spelled_replace.SaysReplace message bytes → order_of live ≡ Some order
     → ask_of_bytes standing order_of bytes ≡ Some (Change order (limits_of m))
 ask_of_replaces ask live message m order standing order_of bytes asks has says leads =
-    let no_enter : is_message layouts.enter_order bytes ≡ false = no_enter_order bytes (ap (λ (b : ℕ). b == 79) says.type) in
+    let no_enter : is_message layouts.enter_order_layout bytes ≡ false = no_enter_order bytes (ap (λ (b : ℕ). b == 79) says.type) in
     let token : order_of (said.token bytes) ≡ Some order = ap order_of (says.token ∙ has.token) ∙ leads in
     let life : life_time_of_seconds (said.replace_time_in_force bytes) ≡ Some (life_time_of m) = ap life_time_of_seconds (says.time_in_force ∙ has.time_in_force) ∙ asks.life_time in
     let shares : said.replace_shares bytes ≡ total_of m = says.shares ∙ has.shares ∙ asks.shares in
@@ -81,8 +81,8 @@ ask_of_cancels : (message : Cancel) (order : ℕ) (standing : Standing) (order_o
     → message.shares ≡ 0 → spelled_cancel.SaysCancel message bytes → order_of message.token ≡ Some order
     → ask_of_bytes standing order_of bytes ≡ Some (Stop order)
 ask_of_cancels message order standing order_of bytes all says leads =
-    let no_enter : is_message layouts.enter_order bytes ≡ false = no_enter_order bytes (ap (λ (b : ℕ). b == 79) says.type) in
-    let no_replace : is_message layouts.replace bytes ≡ false = no_replace_order bytes (ap (λ (b : ℕ). b == 85) says.type) in
+    let no_enter : is_message layouts.enter_order_layout bytes ≡ false = no_enter_order bytes (ap (λ (b : ℕ). b == 79) says.type) in
+    let no_replace : is_message layouts.replace_layout bytes ≡ false = no_replace_order bytes (ap (λ (b : ℕ). b == 85) says.type) in
     let token : order_of (said.token bytes) ≡ Some order = ap order_of says.token ∙ leads in
     let shares : (said.cancel_shares bytes == 0) ≡ true = ap (λ (n : ℕ). n == 0) (says.shares ∙ all) in
     rw (no_enter, no_replace, says.is_one, shares, token) refl

@@ -14,7 +14,7 @@ use Rattle.to_market.specs.declared.named_order.NamedOrder.{NamedOrder}
 use Rattle.to_market.specs.declared.refusal.Refusal.{Refusal}
 use Rattle.to_market.specs.declared.refusal.Refusal.TheVariants as refusals
 use Rattle.to_market.specs.declared.replace_ask.ReplaceAsk.{ReplaceAsk}
-use Rattle.to_market.specs.FieldRows.{RefusesPrice, display, is_no_minimum, is_other, life_time, minimum, price_read}
+use Rattle.to_market.specs.FieldRows.{RefusesPrice, display, is_no_minimum, is_none_of, life_time, minimum, price_read}
 use Rattle.to_market.specs.Names.{HasRead, ReachesTerms, changes_terms}
 use Rattle.to_market.specs.Refusals.{request_refused_by}
 use Rattle.to_market.specs.RequestAsks.{AsksToReplace}
@@ -41,12 +41,12 @@ pub by_type : (o : NamedOrder) (given : ℕ) (m : ReplaceRequest) → changes_te
 unfolding change_table
 by_type o given m terms other = rw (terms, other) refl
 
-pub by_life_time : (o : NamedOrder) (given : ℕ) (m : ReplaceRequest) → changes_terms o m ≡ false → bytes_eq (m.ord_type ∷ []) (codes "2") ≡ true → is_other life_times (char_text m.time_in_force) ≡ true
+pub by_life_time : (o : NamedOrder) (given : ℕ) (m : ReplaceRequest) → changes_terms o m ≡ false → bytes_eq (m.ord_type ∷ []) (codes "2") ≡ true → is_none_of life_times (char_text m.time_in_force) ≡ true
     → first_row (change_rows m o given) ≡ request_refused_by refusals.TimeInForce
 unfolding change_table
 by_life_time o given m terms type other = rw (terms, type, other) refl
 
-pub by_instruction : (o : NamedOrder) (given : ℕ) (m : ReplaceRequest) → changes_terms o m ≡ false → bytes_eq (m.ord_type ∷ []) (codes "2") ≡ true → is_other life_times (char_text m.time_in_force) ≡ false → is_other (codes "6" ∷ []) m.exec_inst ≡ true
+pub by_instruction : (o : NamedOrder) (given : ℕ) (m : ReplaceRequest) → changes_terms o m ≡ false → bytes_eq (m.ord_type ∷ []) (codes "2") ≡ true → is_none_of life_times (char_text m.time_in_force) ≡ false → is_none_of (codes "6" ∷ []) m.exec_inst ≡ true
     → first_row (change_rows m o given) ≡ request_refused_by refusals.ExecutionInstruction
 unfolding change_table
 by_instruction o given m terms type life_time other = rw (terms, type, life_time, other) refl
@@ -55,8 +55,8 @@ by_instruction o given m terms type life_time other = rw (terms, type, life_time
 pub record PassesKind (o : NamedOrder) (m : ReplaceRequest) : Type 0 where
   pub terms : changes_terms o m ≡ false
   pub type : bytes_eq (m.ord_type ∷ []) (codes "2") ≡ true
-  pub life_time : is_other life_times (char_text m.time_in_force) ≡ false
-  pub instruction : is_other (codes "6" ∷ []) m.exec_inst ≡ false
+  pub life_time : is_none_of life_times (char_text m.time_in_force) ≡ false
+  pub instruction : is_none_of (codes "6" ∷ []) m.exec_inst ≡ false
 
 pub by_quantity : (o : NamedOrder) (given : ℕ) (m : ReplaceRequest) → PassesKind o m → is_ok (quantity 1 m.order_qty) ≡ false → first_row (change_rows m o given) ≡ request_refused_by refusals.Quantity
 unfolding change_table

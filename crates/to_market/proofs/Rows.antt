@@ -7,7 +7,7 @@ use Rattle.fixed_point.specs.declared.refusal.DecimalRefusal.TheVariants.{NotFlo
 use Rattle.order_law.specs.Verdicts.{Row, Verdict, Accepted, Refused, first_row}
 use Rattle.to_market.specs.declared.refusal.Refusal.{Refusal}
 use Rattle.to_market.specs.declared.refusal.Refusal.TheVariants as refusals
-use Rattle.to_market.specs.FieldRows.{RefusesPrice, is_out_of_range, price_read, row}
+use Rattle.to_market.specs.FieldRows.{RefusesPrice, is_out_of_range, price_read, refusal_row}
 use Rattle.to_market.specs.Refusals.{refused_by, request_refused_by}
 
 -- the second verdict where the first accepts
@@ -26,9 +26,9 @@ first_row-append (r ∷ rows) more = step r.holds r.code r.why (first_row (rows 
 -- the rows on 44, which have one code in either table
 abbrev pub price_rows : Bool → Result ℕ DecimalRefusal → List Row
 price_rows is_missing read =
-    row is_missing refusals.PriceMissing
-    ∷ row (not (is_ok read) && not (is_out_of_range read)) refusals.PriceNotExact
-    ∷ row (is_out_of_range read) refusals.PriceOutOfRange
+    refusal_row is_missing refusals.PriceMissing
+    ∷ refusal_row (not (is_ok read) && not (is_out_of_range read)) refusals.PriceNotExact
+    ∷ refusal_row (is_out_of_range read) refusals.PriceOutOfRange
     ∷ []
 
 -- the same of a field's value

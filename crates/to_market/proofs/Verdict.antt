@@ -12,7 +12,7 @@ use Rattle.fix_types.specs.NewOrder.{new_order_fields}
 use Rattle.order_law.specs.Verdicts.{Row, first_row, field_rows, sides, life_times, capacities, is_symbol}
 use Rattle.to_market.specs.declared.refusal.Refusal.TheVariants as refusals
 use Rattle.to_market.specs.Refusals.{refused_by}
-use Rattle.to_market.specs.FieldRows.{is_among, is_other, is_no_minimum, row}
+use Rattle.to_market.specs.FieldRows.{is_among, is_none_of, is_no_minimum, refusal_row}
 use Rattle.to_market.specs.FieldRows.{life_time, display, minimum}
 use Rattle.to_market.specs.NewAsks.{AsksAs}
 use Rattle.to_market.specs.declared.new_ask.NewAsk.{NewAsk}
@@ -29,13 +29,13 @@ pub record PassesTerms (m : NewOrder) : Type 0 where
   pub side : is_among sides (m.side ∷ []) ≡ true
   pub symbol : is_symbol m.symbol ≡ true
   pub type : bytes_eq (m.ord_type ∷ []) (codes "2") ≡ true
-  pub life_time : is_other life_times (char_text m.time_in_force) ≡ false
-  pub instruction : is_other (codes "6" ∷ []) m.exec_inst ≡ false
-  pub capacity : is_other capacities (char_text m.order_capacity) ≡ false
+  pub life_time : is_none_of life_times (char_text m.time_in_force) ≡ false
+  pub instruction : is_none_of (codes "6" ∷ []) m.exec_inst ≡ false
+  pub capacity : is_none_of capacities (char_text m.order_capacity) ≡ false
 
 -- then those decide
 abbrev amounts : (quantity minimum : Bool) → List Row → List Row
-amounts quantity minimum prices = row quantity refusals.Quantity ∷ row minimum refusals.MinimumQuantity ∷ prices
+amounts quantity minimum prices = refusal_row quantity refusals.Quantity ∷ refusal_row minimum refusals.MinimumQuantity ∷ prices
 
 pub by_amounts : (m : NewOrder) → PassesTerms m → first_row (field_rows (new_order_fields m)) ≡ first_row (amounts (not (is_ok (quantity 1 m.order_qty))) (is_no_minimum (result_unwrap_or (quantity 1 m.order_qty) 0) m.min_qty) (price_rows_of m.price))
 unfolding table

@@ -1,6 +1,8 @@
--- What the tables judge of a field, over the field alone, and what a field that no row refuses says. The rows themselves stand in
--- `order_law`; `proofs/Fields.antt` and `proofs/ReplaceFields.antt` have that these are what they judge of a message's tags.
-use Rattle.std.specs.Prelude.{◌≡◌, ℕ, Bool, true, false, not, nat_le, List, Option, Some, None, option_map, Result, Ok, Err, slice_index, if◌then◌else◌, bytes_eq, codes}
+-- What the tables judge of a field, over the field alone, and what a field that no row refuses says. The rows
+-- themselves stand in `order_law`; `proofs/Fields.antt` and `proofs/ReplaceFields.antt` have that these are what they
+-- judge of a message's tags.
+use Rattle.std.specs.Prelude.{◌≡◌, ℕ, Bool, true, false, not, nat_le, List, Option, Some, None, option_map, Result, Ok}
+use Rattle.std.specs.Prelude.{Err, slice_index, if◌then◌else◌, bytes_eq, codes}
 use Rattle.std.specs.List.{list_any}
 use Rattle.std.specs.Result.{result_unwrap_or}
 use Rattle.fixed_point.specs.Decimal.{price, quantity}
@@ -10,7 +12,7 @@ use Rattle.order_law.specs.Asks.{LifeTime, Day, Immediate}
 use Rattle.order_law.specs.Verdicts.{Row}
 use Rattle.to_market.specs.declared.refusal.Refusal.{Refusal}
 use Rattle.to_market.specs.declared.refusal.Refusal.TheVariants as refusals
-use Rattle.to_market.specs.Refusals.{code_of, words_of}
+use Rattle.to_market.specs.Refusals.{code_of, refusal_text}
 
 abbrev letter : List ℕ → ℕ
 letter name = slice_index name 0
@@ -20,9 +22,9 @@ abbrev pub is_among : List (List ℕ) → List ℕ → Bool
 is_among wanted value = list_any (λ text. bytes_eq value text) wanted
 
 -- a value that is there isn't one of these
-abbrev pub is_other : List (List ℕ) → Option (List ℕ) → Bool
-is_other wanted None = false
-is_other wanted (Some value) = not (is_among wanted value)
+abbrev pub is_none_of : List (List ℕ) → Option (List ℕ) → Bool
+is_none_of wanted None = false
+is_none_of wanted (Some value) = not (is_among wanted value)
 
 -- 59=3 lives for an instant, anything else for the day
 abbrev pub life_time : Option (List ℕ) → LifeTime
@@ -57,8 +59,8 @@ is_out_of_range (Err NotExact) = false
 is_out_of_range (Err OutOfRange) = true
 
 -- a row of new orders that gives this refusal
-abbrev pub row : Bool → Refusal → Row
-row holds refusal = record { holds = holds; code = code_of refusal; why = words_of refusal }
+abbrev pub refusal_row : Bool → Refusal → Row
+refusal_row holds refusal = record { holds = holds; code = code_of refusal; why = refusal_text refusal }
 
 -- 44, where it is there, as a price
 abbrev pub price_read : Option (List ℕ) → Option (Result ℕ DecimalRefusal)

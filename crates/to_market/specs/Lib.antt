@@ -5,3 +5,13 @@ pub mod PortsSeen
 pub mod Names
 pub mod RequestAsks
 pub mod TermsSeen
+pub use Rattle.fix_fields.specs.Field
+pub use Rattle.fix_types.specs.NewOrder
+pub use Rattle.fix_types.specs.ReplaceRequest
+pub use Rattle.fix_values.specs.Slots
+pub use Rattle.order_law.specs.Asks
+pub use Rattle.order_law.specs.Headline
+pub use Rattle.order_law.specs.Verdicts
+pub use Rattle.ouch_codec.specs.Letters
+pub use Rattle.tokens.specs.TokenText
+pub use Rattle.wire_law.specs.Printable

@@ -5,7 +5,7 @@ use Rattle.fix_values.specs.Slots.{char_text}
 use Rattle.order_law.specs.Chain.{has_pending_cancel, has_pending_replace}
 use Rattle.order_law.specs.Verdicts.{Accepted, Named, Port, first_row, port_rows}
 use Rattle.to_market.specs.declared.named_order.NamedOrder.{NamedOrder}
-use Rattle.to_market.specs.FieldRows.{is_other}
+use Rattle.to_market.specs.FieldRows.{is_none_of}
 
 -- the value has all that the rows read of an order
 pub record HasRead (n : Named) (o : NamedOrder) : Type 0 where
@@ -28,8 +28,8 @@ IsRead (Some n) (Some o) = HasRead n o
 -- a replace gives another side, symbol or capacity than the order has
 abbrev pub changes_terms : NamedOrder → ReplaceRequest → Bool
 changes_terms o m =
-    is_other ((o.side ∷ []) ∷ []) (char_text m.side)
-    || (is_other (o.symbol.now ∷ []) m.symbol || is_other ((o.capacity ∷ []) ∷ []) (char_text m.order_capacity))
+    is_none_of ((o.side ∷ []) ∷ []) (char_text m.side)
+    || (is_none_of (o.symbol.now ∷ []) m.symbol || is_none_of ((o.capacity ∷ []) ∷ []) (char_text m.order_capacity))
 
 -- the rows before those that a replace alone has don't hold
 pub record ReachesTerms (is_used : Bool) (n : Named) (port : Port) : Type 0 where

@@ -2,12 +2,13 @@
 use Rattle.std.specs.Prelude.{◌≡◌, ℕ, ◌-◌, List, ◌++◌, length, replicate, Some}
 use Rattle.ouch_codec.specs.declared.inbound.enter_order.EnterOrder.{EnterOrder}
 use Rattle.ouch_codec.specs.Layout.{spelled}
-use Rattle.ouch_codec.specs.Layouts.{enter_order}
+use Rattle.ouch_codec.specs.Layouts.{enter_order_layout}
 use Rattle.ouch_codec.specs.Letters.{side_letter}
 use Rattle.ouch_codec.specs.Parts.{unpadded}
 use Rattle.ouch_codec.specs.Rows.{enter_order_row}
-use Rattle.order_law.specs.Messages.{Message, text, character}
-use Rattle.order_law.specs.Asks.{Standing, total_of, limit_of, minimum_of, display_of, life_time_of, capacity_of, asked_by_new, side_of_letter, life_time_of_seconds}
+use Rattle.fix_fields.specs.Field.{Message, text, character}
+use Rattle.order_law.specs.Asks.{Standing, total_of, limit_of, minimum_of, display_of, life_time_of, capacity_of}
+use Rattle.order_law.specs.Asks.{asked_by_new, side_of_letter, life_time_of_seconds}
 use Rattle.order_law.specs.History.{Asked, SaysNew}
 use Rattle.to_market.specs.declared.client_terms.ClientTerms.{ClientTerms}
 use Rattle.to_market.specs.declared.new_ask.NewAsk.{NewAsk}
@@ -25,13 +26,18 @@ pub record AsksAs (ask : NewAsk) (own : ℕ) (m : Message) : Type 0 where
   pub minimum : ask.minimum_quantity ≡ minimum_of m
 
 -- what never varies between the orders of a client
-abbrev pub standing_of : ClientTerms → Standing
-standing_of terms = record { firm = terms.firm; customer = terms.customer }
+abbrev pub client_standing : ClientTerms → Standing
+client_standing terms = record { firm = terms.firm; customer = terms.customer }
 
 -- what an accepted new order asks of the market, by a token of its own
 abbrev pub asked_with : List ℕ → List ℕ → ℕ → Message → Asked
-asked_with order token own m = record { order = order; id = text 11 m; said = SaysNew token; ask = Some (asked_by_new own m) }
+asked_with order token own m = record {
+  order = order;
+  id = text 11 m;
+  said = SaysNew token;
+  ask = Some (asked_by_new own m);
+}
 
 -- the bytes that an Enter Order is written as
 abbrev pub enter_bytes : EnterOrder → List ℕ
-enter_bytes enter = spelled enter_order (enter_order_row enter)
+enter_bytes enter = spelled enter_order_layout (enter_order_row enter)

@@ -1,7 +1,12 @@
 -- What each refusal says, and the verdict that it is: of a new order, and of a cancel or replace.
 use Rattle.std.specs.Prelude.{◌≡◌, ℕ, List, ◌++◌, MatchResult, Result, codes, decimal}
 use Rattle.to_market.specs.declared.refusal.Refusal.{Refusal}
-use Rattle.to_market.specs.declared.refusal.Refusal.TheVariants.{DuplicateClOrdId, PortEnded, PortFaulted, Side, Symbol, OrderType, TimeInForce, ExecutionInstruction, Capacity, Quantity, MinimumQuantity, PriceMissing, PriceNotExact, PriceOutOfRange, TooManyOpenOrders, NoTokenLeft, UnknownOrder, TooLate, AlreadyPending, OtherTerms, TotalNotAboveExecuted, ReplaceLimit}
+use Rattle.to_market.specs.declared.refusal.Refusal.TheVariants.{DuplicateClOrdId, PortEnded, PortFaulted, Side, Symbol}
+use Rattle.to_market.specs.declared.refusal.Refusal.TheVariants.{OrderType, TimeInForce, ExecutionInstruction, Capacity}
+use Rattle.to_market.specs.declared.refusal.Refusal.TheVariants.{Quantity, MinimumQuantity, PriceMissing, PriceNotExact}
+use Rattle.to_market.specs.declared.refusal.Refusal.TheVariants.{PriceOutOfRange, TooManyOpenOrders, NoTokenLeft}
+use Rattle.to_market.specs.declared.refusal.Refusal.TheVariants.{UnknownOrder, TooLate, AlreadyPending, OtherTerms}
+use Rattle.to_market.specs.declared.refusal.Refusal.TheVariants.{TotalNotAboveExecuted, ReplaceLimit}
 use Rattle.order_law.specs.Verdicts.{Verdict, Accepted, Refused}
 
 -- OrdRejReason (103); 99 of a row that only requests have
@@ -80,18 +85,20 @@ fixed_words TotalNotAboveExecuted = codes "total not above executed"
 fixed_words ReplaceLimit = codes "replace limit"
 
 -- Text (58)
-abbrev pub words_of : Refusal → List ℕ
-words_of (PortFaulted n) = fixed_words (PortFaulted n) ++ decimal n
-words_of refusal = fixed_words refusal
+abbrev pub refusal_text : Refusal → List ℕ
+refusal_text (PortFaulted n) = fixed_words (PortFaulted n) ++ decimal n
+refusal_text refusal = fixed_words refusal
 
 -- the verdict on a new order that a refusal is
 abbrev pub refused_by : Refusal → Verdict
-refused_by refusal = Refused (code_of refusal) (words_of refusal)
+refused_by refusal = Refused (code_of refusal) (refusal_text refusal)
 
 -- the verdict on a cancel or replace
 abbrev pub request_refused_by : Refusal → Verdict
-request_refused_by refusal = Refused (request_code_of refusal) (words_of refusal)
+request_refused_by refusal = Refused (request_code_of refusal) (refusal_text refusal)
 
--- a call decides on a cancel or replace as this verdict does: it gives something where that accepts, else the row that refuses
+-- a call decides on a cancel or replace as this verdict does: it gives something where that accepts, else the row
+-- that refuses
 abbrev pub Decides : {A : Type 0} → Result A Refusal → Verdict → Type 0
-Decides result verdict = MatchResult result (λ given. verdict ≡ Accepted) (λ refusal. verdict ≡ request_refused_by refusal)
+Decides result verdict = MatchResult result (λ given. verdict ≡ Accepted)
+    (λ refusal. verdict ≡ request_refused_by refusal)

@@ -6,8 +6,9 @@ use Rattle.ouch_codec.specs.declared.inbound.replace.Replace.{Replace}
 use Rattle.ouch_codec.specs.Layout.{spelled}
 use Rattle.ouch_codec.specs.Layouts as layouts
 use Rattle.ouch_codec.specs.Rows.{cancel_row, replace_row}
-use Rattle.order_law.specs.Messages.{Message, text}
-use Rattle.order_law.specs.Asks.{total_of, limit_of, minimum_of, display_of, life_time_of, asked_by_request, life_time_of_seconds}
+use Rattle.fix_fields.specs.Field.{Message, text}
+use Rattle.order_law.specs.Asks.{total_of, limit_of, minimum_of, display_of, life_time_of, asked_by_request}
+use Rattle.order_law.specs.Asks.{life_time_of_seconds}
 use Rattle.order_law.specs.History.{Asked, SaysCancel, SaysReplace}
 use Rattle.to_market.specs.declared.replace_ask.ReplaceAsk.{ReplaceAsk}
 
@@ -40,7 +41,7 @@ cancel_asked_with order token m = record {
 
 -- the bytes that a Replace Order and a Cancel Order are written as
 abbrev pub replace_bytes : Replace → List ℕ
-replace_bytes message = spelled layouts.replace (replace_row message)
+replace_bytes message = spelled layouts.replace_layout (replace_row message)
 
 abbrev pub cancel_bytes : Cancel → List ℕ
-cancel_bytes message = spelled layouts.cancel (cancel_row message)
+cancel_bytes message = spelled layouts.cancel_layout (cancel_row message)

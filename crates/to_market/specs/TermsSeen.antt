@@ -3,4 +3,8 @@ use Rattle.order_law.specs.History.{Terms}
 use Rattle.to_market.specs.declared.client_terms.ClientTerms.{ClientTerms}
 
 abbrev pub terms_seen : ClientTerms → Terms
-terms_seen terms = record { port = terms.port; capacity = terms.capacity; standing = record { firm = terms.firm; customer = terms.customer } }
+terms_seen terms = record {
+  port = terms.port;
+  capacity = terms.capacity;
+  standing = record { firm = terms.firm; customer = terms.customer };
+}

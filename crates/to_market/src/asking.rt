@@ -1,16 +1,17 @@
 //! What a new order asks, in the market's words, or the first reason why it can't be asked.
 
-ghost use Rattle.std.specs.Prelude.{◌≡◌, ℕ, ◌-◌, List, ◌++◌, ◌∷◌, [], Option, true, false, length, replicate, unwrap_or, Some, IfSome, IfOk, MatchOption, MatchResult};
+ghost use Rattle.std.specs.Prelude.{◌≡◌, ℕ, ◌-◌, List, ◌++◌, ◌∷◌, [], Option, true, false, length, replicate};
+ghost use Rattle.std.specs.Prelude.{unwrap_or, Some, IfSome, IfOk, MatchOption, MatchResult};
 ghost use Rattle.wire_law.specs.Printable.{is_printable, ArePrintable};
 ghost use Rattle.fix_types.specs.NewOrder.{new_order_fields};
 ghost use Rattle.fix_values.specs.Slots.{char_text};
 ghost use Rattle.ouch_codec.specs.Letters.{side_letter};
 ghost use Rattle.order_law.specs.Asks.{side_of_letter};
 ghost use Rattle.order_law.specs.Headline.{Says};
-ghost use Rattle.order_law.specs.Messages.{Message};
+ghost use Rattle.fix_fields.specs.Field.{Message};
 ghost use Rattle.order_law.specs.Verdicts.{Accepted, first_row, field_rows, sides, capacities, is_symbol};
-ghost use Rattle.to_market.specs.FieldRows.{is_among, is_other};
-ghost use Rattle.to_market.specs.NewAsks.{AsksAs, asked_with, enter_bytes, standing_of};
+ghost use Rattle.to_market.specs.FieldRows.{is_among, is_none_of};
+ghost use Rattle.to_market.specs.NewAsks.{AsksAs, asked_with, enter_bytes, client_standing};
 ghost use Rattle.to_market.specs.Refusals.{refused_by};
 
 use crate::client_terms::ClientTerms;
@@ -60,7 +61,7 @@ pub fn enter_order(ask: &NewAsk, token: Token, terms: &ClientTerms) -> EnterOrde
     ensures stock { result.stock ≡ ask.now.stock }
     ensures price { result.price ≡ ask.now.price }
     ensures says { (m : Message) → AsksAs ask.now terms.now.capacity m → (order : List ℕ) (order_of : List ℕ → Option ℕ)
-        → Says (standing_of terms.now) order_of (asked_with order token terms.now.capacity m) (enter_bytes result) }
+        → Says (client_standing terms.now) order_of (asked_with order token terms.now.capacity m) (enter_bytes result) }
 {
     EnterOrder {
         token: token.bytes(),
@@ -124,8 +125,8 @@ fn stock_of(symbol: &Text) -> Option<[u8; 8]>
 /// OrderCapacity (528): A agency, P principal, R riskless principal; missing, the client's own.
 fn capacity_of(order_capacity: Option<Character>, terms: &ClientTerms) -> Option<u8>
     ensures row { MatchOption result
-        (is_other capacities (char_text order_capacity) ≡ true)
-        (λ capacity. (is_other capacities (char_text order_capacity) ≡ false)
+        (is_none_of capacities (char_text order_capacity) ≡ true)
+        (λ capacity. (is_none_of capacities (char_text order_capacity) ≡ false)
         × (capacity ≡ unwrap_or order_capacity terms.now.capacity)) }
     ensures printable { IfSome result (λ capacity. is_printable capacity ≡ true) }
 {

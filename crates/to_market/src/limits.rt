@@ -1,12 +1,13 @@
 //! What a new order and a replace say in the same fields: how long, how shown, how many and at which price.
 
-ghost use Rattle.std.specs.Prelude.{◌≡◌, ◌∷◌, [], true, false, codes, is_ok, Ok, Some, IfSome, MatchOption, MatchResult};
+ghost use Rattle.std.specs.Prelude.{◌≡◌, ◌∷◌, [], true, false, codes, is_ok, Ok, Some, IfSome, MatchOption};
+ghost use Rattle.std.specs.Prelude.{MatchResult};
 ghost use Rattle.wire_law.specs.Printable.{is_printable};
 ghost use Rattle.fixed_point.specs.Decimal as decimal;
 ghost use Rattle.fix_values.specs.Slots.{char_text};
 ghost use Rattle.order_law.specs.Asks.{life_time_of_seconds};
 ghost use Rattle.order_law.specs.Verdicts.{life_times};
-ghost use Rattle.to_market.specs.FieldRows.{is_other, is_no_minimum, price_read, RefusesPrice};
+ghost use Rattle.to_market.specs.FieldRows.{is_none_of, is_no_minimum, price_read, RefusesPrice};
 ghost use Rattle.to_market.specs.FieldRows as fields;
 
 use crate::refusal::Refusal;
@@ -24,8 +25,8 @@ const IMMEDIATE: u32 = 0;
 /// TimeInForce (59): 0 or missing day, 3 immediate or cancel.
 pub fn time_in_force_of(time_in_force: Option<Character>) -> Option<u32>
     ensures { MatchOption result
-        (is_other life_times (char_text time_in_force) ≡ true)
-        (λ seconds. (is_other life_times (char_text time_in_force) ≡ false)
+        (is_none_of life_times (char_text time_in_force) ≡ true)
+        (λ seconds. (is_none_of life_times (char_text time_in_force) ≡ false)
         × (life_time_of_seconds seconds ≡ Some (fields.life_time (char_text time_in_force)))) }
 {
     let Some(time_in_force) = time_in_force else {
@@ -41,8 +42,8 @@ pub fn time_in_force_of(time_in_force: Option<Character>) -> Option<u32>
 /// ExecInst (18): 6 participate don't initiate, which is displayed as post-only; missing, displayed.
 pub fn display_of(exec_inst: &Option<Text>) -> Option<u8>
     ensures row { MatchOption result
-        (is_other (codes "6" ∷ []) exec_inst.now ≡ true)
-        (λ display. (is_other (codes "6" ∷ []) exec_inst.now ≡ false) × (display ≡ fields.display exec_inst.now)) }
+        (is_none_of (codes "6" ∷ []) exec_inst.now ≡ true)
+        (λ display. (is_none_of (codes "6" ∷ []) exec_inst.now ≡ false) × (display ≡ fields.display exec_inst.now)) }
     ensures printable { IfSome result (λ display. is_printable display ≡ true) }
 {
     let Some(exec_inst) = exec_inst else {

@@ -2,11 +2,12 @@
 //!
 //! A row that two tables have stands once, with its code in either: 103 and 102 have codes of their own.
 //!
-//! Source: FIX 4.4 Volume 6, OrdRejReason (103) and CxlRejReason (102); the rows and their texts are this gateway's own.
+//! Source: FIX 4.4 Volume 6, OrdRejReason (103) and CxlRejReason (102); the rows and their texts are this gateway's
+//! own.
 
 ghost use Rattle.std.specs.Prelude.{◌≡◌, ◌++◌, IfOk, codes, decimal};
 ghost use Rattle.fix_fields.specs.Field.{IsValue};
-ghost use Rattle.to_market.specs.Refusals.{code_of, request_code_of, words_of, fixed_words};
+ghost use Rattle.to_market.specs.Refusals.{code_of, request_code_of, refusal_text, fixed_words};
 
 use fix_fields::Text;
 use itoa::Buffer;
@@ -127,7 +128,7 @@ impl Refusal {
 
     /// Text (58).
     pub fn text(self, alloc: Global) -> Result<Text, AllocError>
-        ensures { IfOk result (λ text. text ≡ words_of self) }
+        ensures { IfOk result (λ text. text ≡ refusal_text self) }
     {
         match self {
             Refusal::PortFaulted(number) => fault_text(alloc, number),

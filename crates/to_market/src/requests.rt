@@ -1,21 +1,24 @@
 //! What a cancel or a replace of an order asks, in the market's words, or the first reason why it can't be asked.
 
-ghost use Rattle.std.specs.Prelude.{◌≡◌, ℕ, ◌+◌, ◌<◌, ◌||◌, List, ◌∷◌, [], Bool, Option, true, false, nat_le, codes, Some, IfOk, MatchResult};
+ghost use Rattle.std.specs.Prelude.{◌≡◌, ℕ, ◌+◌, ◌<◌, ◌||◌, List, ◌∷◌, [], Bool, Option, true, false, nat_le, codes};
+ghost use Rattle.std.specs.Prelude.{Some, IfOk, MatchResult};
 ghost use Rattle.std.specs.Str.Parse.{digits_value};
 ghost use Rattle.tokens.specs.TokenText.{token_text};
 ghost use Rattle.fix_types.specs.ReplaceRequest.{replace_request_fields};
 ghost use Rattle.fix_values.specs.Slots.{char_text};
 ghost use Rattle.order_law.specs.Asks.{Standing};
 ghost use Rattle.order_law.specs.Headline.{Says};
-ghost use Rattle.order_law.specs.Messages.{Message, text};
-ghost use Rattle.order_law.specs.Verdicts.{Accepted, Named, Port, first_row, is_replace, last_token, port_rows, rows_of_request};
+ghost use Rattle.fix_fields.specs.Field.{Message, text};
+ghost use Rattle.order_law.specs.Verdicts.{Accepted, Named, Port, first_row, is_replace, last_token, port_rows};
+ghost use Rattle.order_law.specs.Verdicts.{rows_of_request};
 ghost use Rattle.to_market.specs.declared.named_order.NamedOrder.{NamedOrder};
-ghost use Rattle.to_market.specs.FieldRows.{is_other};
+ghost use Rattle.to_market.specs.FieldRows.{is_none_of};
 ghost use Rattle.to_market.specs.Names.{HasRead, IsRead, ReachesTerms, changes_terms};
 ghost use Rattle.to_market.specs.PortsSeen.{port_seen};
 ghost use Rattle.to_market.specs.Refusals.{Decides, refused_by};
 ghost use Rattle.wire_law.specs.Printable.{ArePrintable};
-ghost use Rattle.to_market.specs.RequestAsks.{AsksToReplace, cancel_asked_with, cancel_bytes, replace_asked_with, replace_bytes};
+ghost use Rattle.to_market.specs.RequestAsks.{AsksToReplace, cancel_asked_with, cancel_bytes, replace_asked_with};
+ghost use Rattle.to_market.specs.RequestAsks.{replace_bytes};
 
 use crate::asking::refuse_if;
 use crate::limits::{LIMIT, display_of, minimum_of, price_of, shares_of, time_in_force_of};
@@ -32,8 +35,8 @@ use tokens::Token;
 /// So many replaces may be accepted of an order.
 const MOST_REPLACES: u64 = 65_535;
 
-/// The first of the table's rows that refuses a cancel, if one does. They read whether its ClOrdID (11) is used already,
-/// the order that its OrigClOrdID (41) names, and how that order's port stands.
+/// The first of the table's rows that refuses a cancel, if one does. They read whether its ClOrdID (11) is used
+/// already, the order that its OrigClOrdID (41) names, and how that order's port stands.
 ///
 /// Source: FIX 4.4 Volume 4, "Order Cancel Request".
 pub fn refuse_cancel(
@@ -66,7 +69,8 @@ pub fn ask_of_replace(
     given: u64,
 ) -> Result<ReplaceAsk, Refusal>
     ensures verdict { (n : Option Named) → IsRead n order.now
-        → Decides result (first_row (rows_of_request is_used n (port_seen port) given (replace_request_fields request.now))) }
+        → Decides result (first_row (rows_of_request is_used n (port_seen port) given
+        (replace_request_fields request.now))) }
     ensures asks { IfOk result (λ ask. AsksToReplace ask (replace_request_fields request.now)) }
     ensures token { IfOk result (λ ask. ask.token ≡ token_text (given + 1)) }
     ensures room { IfOk result (λ ask. (o : NamedOrder) → order.now ≡ Some o → o.replaces < 65_535) }
@@ -88,7 +92,8 @@ fn change_of(
     given: u64,
 ) -> Result<ReplaceAsk, Refusal>
     ensures verdict { (is_used : Bool) (n : Named) (port : Port) → ReachesTerms is_used n port → HasRead n order.now
-        → Decides result (first_row (rows_of_request is_used (Some n) port given (replace_request_fields request.now))) }
+        → Decides result (first_row (rows_of_request is_used (Some n) port given
+        (replace_request_fields request.now))) }
     ensures asks { IfOk result (λ ask. AsksToReplace ask (replace_request_fields request.now)) }
     ensures token { IfOk result (λ ask. ask.token ≡ token_text (given + 1)) }
     ensures room { IfOk result (λ ask. order.now.replaces < 65_535) }
@@ -121,7 +126,8 @@ pub fn say_replace(ask: &ReplaceAsk, live: &[u8; 14]) -> Replace
     requires { ArePrintable live.now }
     ensures token { result.token ≡ live.now }
     ensures replacement { result.replacement_token ≡ ask.now.token }
-    ensures says { (m : Message) → AsksToReplace ask.now m → (order : List ℕ) (standing : Standing) (order_of : List ℕ → Option ℕ)
+    ensures says { (m : Message) → AsksToReplace ask.now m
+        → (order : List ℕ) (standing : Standing) (order_of : List ℕ → Option ℕ)
         → order_of live.now ≡ Some (digits_value 10 order)
         → Says standing order_of (replace_asked_with order live.now ask.now.token m) (replace_bytes result) }
 {
@@ -143,7 +149,8 @@ pub fn say_replace(ask: &ReplaceAsk, live: &[u8; 14]) -> Replace
 pub fn say_cancel(token: &[u8; 14]) -> Cancel
     requires { ArePrintable token.now }
     ensures token { result.token ≡ token.now }
-    ensures says { (m : Message) → text 35 m ≡ codes "F" → (order : List ℕ) (standing : Standing) (order_of : List ℕ → Option ℕ)
+    ensures says { (m : Message) → text 35 m ≡ codes "F"
+        → (order : List ℕ) (standing : Standing) (order_of : List ℕ → Option ℕ)
         → order_of token.now ≡ Some (digits_value 10 order)
         → Says standing order_of (cancel_asked_with order token.now m) (cancel_bytes result) }
 {
@@ -185,7 +192,7 @@ fn has_other_terms(request: &ReplaceRequest, order: &NamedOrder) -> bool
 
 /// A letter is given, and isn't this one.
 fn is_other_letter(given: Option<Character>, kept: u8) -> bool
-    ensures { result ≡ is_other ((kept ∷ []) ∷ []) (char_text given) }
+    ensures { result ≡ is_none_of ((kept ∷ []) ∷ []) (char_text given) }
 {
     match given {
         None => false,
@@ -195,7 +202,7 @@ fn is_other_letter(given: Option<Character>, kept: u8) -> bool
 
 /// A text is given, and isn't this one.
 fn is_other_text(given: &Option<Text>, kept: &Text) -> bool
-    ensures { result ≡ is_other (kept.now ∷ []) given.now }
+    ensures { result ≡ is_none_of (kept.now ∷ []) given.now }
 {
     match given {
         None => false,

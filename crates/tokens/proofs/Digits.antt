@@ -1,11 +1,15 @@
 -- The last digits of a number.
-use Rattle.std.proofs.Common.{◌≡◌, ℕ, zero, suc, ◌+◌, ◌-◌, ◌*◌, ◌/◌, ◌%◌, ◌^◌, ◌<◌, ◌≤◌, List, [], ◌∷◌, ◌++◌, length, get_or, set, drop, refl, sym, ap, ◌∙◌, arith, append_assoc, add-one, inl, inr}
-use Rattle.std.specs.Prelude.{Bool, true, false, ◌&&◌}
+use Rattle.std.proofs.Common.{◌≡◌, ℕ, zero, suc, ◌+◌, ◌-◌, ◌*◌, ◌/◌, ◌%◌, ◌^◌, ◌<◌, ◌≤◌, List, [], ◌∷◌, ◌++◌, length, get_or, set, take, drop, refl, sym, ap, ◌∙◌, subst, arith, append_assoc, add-one}
+use Rattle.std.specs.Prelude.{Bool, true}
+use Rattle.std.specs.Char.{is_ascii_digit}
 use Rattle.std.specs.List.{list_all}
 use Rattle.std.proofs.lemmas.Bool.Decides.{nat_tests}
-use Rattle.std.proofs.Math.Nat.{pow-suc, pow-le-pow_right}
-use Rattle.std.proofs.lemmas.List.{drop_more, drop-set, length_push, get_or_push, get_or_append_left, same_from_push}
-use Rattle.std.proofs.lemmas.Bool.{cases_lt}
+use Rattle.std.proofs.Math.Nat.{pow-suc}
+use Rattle.std.proofs.lemmas.List.{drop_more, drop-set, length_push, same_from_push, take_all, take_more}
+use Rattle.std.proofs.lemmas.List.Folds.{list_all-append}
+use Rattle.std.proofs.lemmas.Str.Parse.{digit_at}
+use Rattle.decimal_digits.specs.Digits.{number_of, AreDigitsBelow}
+use Rattle.decimal_digits.proofs.Numbers.{own, number_of_more, number_of_short}
 use Rattle.wire_law.specs.Printable.{is_printable}
 use Rattle.tokens.specs.TokenText.{last_digits, token_text}
 
@@ -17,16 +21,6 @@ pub length-last_digits : (k n : ℕ) → length (last_digits k n) ≡ k
 unfolding last_digits
 length-last_digits zero n = refl
 length-last_digits (suc k) n = omega (arith, length_push (last_digits k (n / 10)) (48 + n % 10), length-last_digits k (n / 10))
-
--- each of them is a digit
-pub digit_at : (k n i : ℕ) → i < k → (48 ≤ get_or (last_digits k n) i 0) × (get_or (last_digits k n) i 0 ≤ 57)
-unfolding last_digits
-digit_at zero n i lt = absurd (omega arith)
-digit_at (suc k) n i lt =
-    elim (cases_lt i k) [
-      | inl below ↦ rw (get_or_append_left (last_digits k (n / 10)) ((48 + n % 10) ∷ []) 0 i (omega (arith, length-last_digits k (n / 10)))) (digit_at k (n / 10) i below)
-      | inr above ↦ rw (get_or_push (last_digits k (n / 10)) (48 + n % 10) 0 i (omega (arith, length-last_digits k (n / 10)))) (omega arith, omega arith)
-    ]
 
 -- one more digit at the end
 pub last_digits_more : (k n d : ℕ) → d < 10 → last_digits (k + 1) (10 * n + d) ≡ last_digits k n ++ (48 + d) ∷ []
@@ -43,16 +37,42 @@ same_number (suc k) m n hm hn e =
     let q : m / 10 ≡ n / 10 = same_number k (m / 10) (n / 10) (omega (arith, pow-suc 10 k)) (omega (arith, pow-suc 10 k)) p.0 in
     omega (arith, p.1, q)
 
--- a number of k digits with one more
-pub below_more : (k n d : ℕ) → n < 10 ^ k → d < 10 → 10 * n + d < 10 ^ (k + 1)
-below_more k n d h lt = rw add-one (omega (arith, pow-suc 10 k))
+-- digits are the last of their number
+spelled : (k : ℕ) (ds : List ℕ) → k ≤ length ds → list_all is_ascii_digit ds ≡ true → take k ds ≡ last_digits k (number_of (take k ds))
+unfolding last_digits
+spelled zero ds le digits = refl
+spelled (suc k) ds le digits =
+    let digit = digit_at ds k (own.to ds digits) (omega arith) in
+    let m = number_of (take k ds) in
+    let d = get_or ds k 0 - 48 in
+    let more : take (k + 1) ds ≡ last_digits (k + 1) (number_of (take (k + 1) ds)) =
+    take_more ds k 0 (omega arith)
+    ∙ ap (λ (t : List ℕ). t ++ get_or ds k 0 ∷ []) (spelled k ds (omega arith) digits)
+    ∙ ap (λ (x : ℕ). last_digits k m ++ x ∷ []) (omega arith)
+    ∙ sym (last_digits_more k m d (omega arith))
+    ∙ ap (λ (n : ℕ). last_digits (k + 1) n) (sym (number_of_more ds k (omega arith))) in
+    subst (λ (n : ℕ). take n ds ≡ last_digits n (number_of (take n ds))) (add-one k) more
 
-pub pow_below : (k : ℕ) → k ≤ 13 → 10 ^ k ≤ 10_000_000_000_000
-pow_below k le = let ten : 0 < 10 = omega arith in pow-le-pow_right ten le
+pub spelled_all : (ds : List ℕ) → length ds ≡ 13 → list_all is_ascii_digit ds ≡ true → ds ≡ last_digits 13 (number_of ds)
+spelled_all ds len digits =
+    let all : take 13 ds ≡ ds = take_all 13 ds (omega arith) in
+    sym all ∙ spelled 13 ds (omega arith) digits ∙ ap (λ (t : List ℕ). last_digits 13 (number_of t)) all
 
--- no other byte is one of them
-pub no_digit : (ds : List ℕ) (i : ℕ) → i < 13 → (48 ≤ get_or ds i 0 → get_or ds i 0 ≤ 57 → ⊥) → (n : ℕ) → ds ≡ last_digits 13 n → ⊥
-no_digit ds i lt other n e = let d = digit_at 13 n i lt in other (rw e d.0) (rw e d.1)
+-- each of them is a digit
+all-last_digits : (p : ℕ → Bool) → ((d : ℕ) → d < 10 → p (48 + d) ≡ true) → (k n : ℕ) → list_all p (last_digits k n) ≡ true
+unfolding last_digits
+all-last_digits p each zero n = refl
+all-last_digits p each (suc k) n =
+    list_all-append p (last_digits k (n / 10)) ((48 + n % 10) ∷ []) ∙ rw (all-last_digits p each k (n / 10), each (n % 10) (omega arith)) refl
+
+all_digits : (n : ℕ) → list_all is_ascii_digit (last_digits 13 n) ≡ true
+all_digits n = all-last_digits is_ascii_digit (λ d lt. grind (arith, nat_tests)) 13 n
+
+-- no number has other bytes
+pub no_digits : (ds : List ℕ) → (AreDigitsBelow (2 ^ 64) ds → ⊥) → (n : ℕ) → ds ≡ last_digits 13 n → ⊥
+no_digits ds none n e =
+    let small = number_of_short (last_digits 13 n) 13 (all_digits n) (omega (arith, length-last_digits 13 n)) in
+    none (rw e (all_digits n), rw e (omega (arith, small)))
 
 -- the digits behind the `G`
 pub digits_behind : (bytes : List ℕ) (n : ℕ) → bytes ≡ token_text n → drop 1 bytes ≡ last_digits 13 n
@@ -73,18 +93,5 @@ digit_before i n bytes lt len =
     let more : 13 - i ≡ 13 - (i + 1) + 1 = omega arith in
     rw (at, drop-set bytes (13 - i) (48 + n % 10) (omega arith), after, more, last_digits-step (13 - (i + 1)) n) (sym (append_assoc (last_digits (13 - (i + 1)) (n / 10)) ((48 + n % 10) ∷ []) (drop (14 - i) bytes)))
 
-printable_push : (xs : List ℕ) (d : ℕ) → list_all is_printable xs ≡ true → 48 ≤ d → d ≤ 57 → list_all is_printable (xs ++ d ∷ []) ≡ true
-printable_push [] d h low high = grind (arith, nat_tests)
-printable_push (x ∷ xs) d h low high = first_and (is_printable x) (list_all is_printable xs) (list_all is_printable (xs ++ d ∷ [])) h (λ t. printable_push xs d t low high)
-  where
-    first_and : (a b c : Bool) → (a && b) ≡ true → (b ≡ true → c ≡ true) → (a && c) ≡ true
-    first_and true b c e f = f e
-    first_and false b c e f = e
-
-pub printable-last_digits : (k n : ℕ) → list_all is_printable (last_digits k n) ≡ true
-unfolding last_digits
-printable-last_digits zero n = refl
-printable-last_digits (suc k) n = printable_push (last_digits k (n / 10)) (48 + n % 10) (printable-last_digits k (n / 10)) (omega arith) (omega arith)
-
 pub printable-token : (bytes : List ℕ) (n : ℕ) → bytes ≡ token_text n → list_all is_printable bytes ≡ true
-printable-token bytes n e = rw e (printable-last_digits 13 n)
+printable-token bytes n e = rw e (all-last_digits is_printable (λ d lt. grind (arith, nat_tests)) 13 n)

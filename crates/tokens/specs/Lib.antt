@@ -1,1 +1,2 @@
 pub mod TokenText
+pub use Rattle.wire_law.specs.Printable

@@ -6,7 +6,8 @@ unfoldable pub last_digits : ℕ → ℕ → List ℕ
 last_digits zero n = []
 last_digits (suc k) n = last_digits k (n / 10) ++ (48 + n % 10) ∷ []
 
--- `G` and 13 digits: 14 bytes, as many as an order token has. (OUCH 4.2, Enter Order Message, order token; the form is this gateway's own.)
+-- `G` and 13 digits: 14 bytes, as many as an order token has. (OUCH 4.2, Enter Order Message, order token; the form
+-- is this gateway's own.)
 abbrev pub token_text : ℕ → List ℕ
 token_text n = 71 ∷ last_digits 13 n
 

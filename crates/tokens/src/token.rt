@@ -1,9 +1,10 @@
 //! A token and its number.
 
-ghost use Rattle.std.specs.Prelude.{◌≡◌, ◌≢◌, ◌↔◌, ◌∷◌, ℕ, ◌≤◌, length, IsOk, IfOk, MatchOption};
+ghost use Rattle.std.specs.Prelude.{◌≡◌, ◌≢◌, ◌↔◌, ℕ, IsOk, IfOk, MatchOption};
 ghost use Rattle.wire_law.specs.Printable.{ArePrintable};
-ghost use Rattle.tokens.specs.TokenText.{HasToken, token_text, last_digits};
+ghost use Rattle.tokens.specs.TokenText.{HasToken, token_text};
 
+use decimal_digits::number_of;
 use std::marker::Model;
 use thiserror::Error;
 
@@ -84,23 +85,6 @@ fn text_of(number: u64) -> [u8; 14]
         rest /= 10;
     }
     bytes
-}
-
-/// The number that 13 digits spell; `None` where one of the bytes is no digit.
-fn number_of(digits: &[u8]) -> Option<u64>
-    requires { length digits.now ≡ 13 }
-    ensures { MatchOption result
-        ((n : ℕ) → digits.now ≢ last_digits 13 n)
-        (λ n. (n ≤ 9_999_999_999_999) × (digits.now ≡ last_digits 13 n)) }
-{
-    let mut number = 0u64;
-    for digit in digits {
-        if !digit.is_ascii_digit() {
-            return None;
-        }
-        number = 10 * number + u64::from(*digit - b'0');
-    }
-    Some(number)
 }
 
 /// No two numbers have one token. It does nothing: its contract is the law, for callers to cite.

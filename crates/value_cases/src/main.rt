@@ -1,5 +1,5 @@
-//! Asks the values: a call and what it is asked in each line of standard input, the line and the answer to standard output.
-//! `README.md` has the calls.
+//! Asks the values: a call and what it is asked in each line of standard input, the line and the answer to standard
+//! output. `README.md` has the calls.
 #![tactic(auto)]
 
 mod decimals;

@@ -1,31 +1,31 @@
 //! What a payload of the market changes.
 
-ghost use Rattle.std.specs.Prelude.{◌≡◌, ◌≤◌, ◌+◌, ◌<◌, length, map, IfOk, OnErr};
+ghost use Rattle.std.specs.Prelude.{◌≡◌, ◌≤◌, ◌+◌, ◌<◌, [], None, length, map, IfOk, OnErr};
 ghost use Rattle.std.specs.List.{count_by};
 ghost use Rattle.fix_types.specs.Application.{body_fields};
 ghost use Rattle.order_law.specs.History.{Entry};
-ghost use Rattle.order_law.specs.Told.{to_client_of};
+ghost use Rattle.order_law.specs.Told.{told_of_entry};
 ghost use Rattle.order_ledger.specs.Seen.{client_seen, tells_report};
 
 use super::OrderLedger;
 use crate::market_error::MarketError;
 use crate::turns::{ChangedOrder, MarketTurn};
 use fix_types::AppBody;
-use market_turns::{Judged, hear};
+use market_messages::{Judged, hear};
 use ouch_codec::{DecodeRefusal, Outbound};
 use std::alloc::Global;
 
 impl OrderLedger {
-    ghost use Rattle.order_histories.specs.Machine.{market_step};
+    ghost use Rattle.order_machine.specs.Machine.{market_step};
     ghost use Rattle.order_ledger.specs.State.{HasRoom, Keeps};
     ghost use Rattle.order_ledger.specs.Meets.{ChangesAny, MeetsMarket};
 
     /// Steps a payload that a market port's session gave, by what it is decoded as.
     ///
-    /// What the market says of an order changes it and is told to its client, in order. Any fault leaves the ledger as it
-    /// was. The faults, the first that holds: `OutsideProfile` (a type that isn't known), `Undecodable` (another length
-    /// than its type's, a field outside its set, or no byte at all), `UnknownToken` (no order of this port has it),
-    /// `NotLawful` (it doesn't fit how the order stands).
+    /// What the market says of an order changes it and is told to its client, in order. Any fault leaves the ledger
+    /// as it was. The faults, the first that holds: `OutsideProfile` (a type that isn't known), `Undecodable`
+    /// (another length than its type's, a field outside its set, or no byte at all), `UnknownToken` (no order of this
+    /// port has it), `NotLawful` (it doesn't fit how the order stands).
     ///
     /// Source: OUCH 4.2, "Outbound Messages".
     pub fn market(
@@ -37,6 +37,7 @@ impl OrderLedger {
         requires room { HasRoom self.old }
         ensures meets { MeetsMarket self.old (market_step self.old port heard.now) result self.new }
         ensures changed { IfOk result (λ turn. ChangesAny self.old port heard.now turn.changed) }
+        ensures nobody { IfOk result (λ turn. turn.bodies.items ≡ [] → turn.client ≡ None) }
         ensures keeps { Keeps self.old self.new }
         ensures err { OnErr result (self.new ≡ self.old) }
     {
@@ -68,7 +69,9 @@ impl OrderLedger {
 
 /// Whom bodies of an order's client are for: nobody, where there are none.
 fn told_client(client: u16, bodies: &[AppBody]) -> Option<u16>
-    ensures { (new : Entry) → new.client ≡ client → client_seen result ≡ (to_client_of new (map body_fields bodies.now)).client }
+    ensures seen { (new : Entry) → new.client ≡ client
+        → client_seen result ≡ (told_of_entry new (map body_fields bodies.now)).client }
+    ensures nobody { bodies.now ≡ [] → result ≡ None }
 {
     if bodies.is_empty() {
         return None;

@@ -5,23 +5,22 @@ ghost use Rattle.fix_types.specs.CancelRequest.{cancel_request_fields};
 ghost use Rattle.fix_types.specs.ReplaceRequest.{replace_request_fields};
 ghost use Rattle.to_market.specs.PortsSeen.{port_seen};
 
-use super::new_order::one_body;
 use super::{OrderLedger, terms_at};
 use crate::turns::ClientTurn;
 use crate::used_ids::{UsedId, is_used, push_used};
+use client_requests::{CancelTurn, ReplaceTurn, Sender, on_cancel, on_replace};
 use fix_types::{AppBody, CancelRequest, ReplaceRequest};
 use fix_values::ClOrdId;
 use order_table::GivenToken;
 use orders::{Cancelling, Replacing};
 use ouch_codec::Inbound;
-use request_turns::{CancelTurn, ReplaceTurn, Sender, on_cancel, on_replace};
 use std::alloc::{AllocError, Global};
 use to_market::PortState;
 
 impl OrderLedger {
     ghost use Rattle.order_ledger.specs.Meets.{GoByNumbers, MeetsFields};
     ghost use Rattle.order_ledger.specs.State.{IsClient, HasRoom, Keeps};
-    ghost use Rattle.request_turns.specs.Turns.{IsCancelling, IsReplacing};
+    ghost use Rattle.client_requests.specs.Turns.{IsCancelling, IsReplacing};
 
     /// A cancel of a client.
     pub(super) fn cancel(
@@ -111,7 +110,8 @@ impl OrderLedger {
         ensures bodies { IfOk result (λ turn. turn.bodies.items ≡ body ∷ []) }
         ensures asks { IfOk result (λ turn. turn.asks.items ≡ []) }
         ensures order_id { IfOk result (λ turn. turn.order_id ≡ 0) }
-        ensures used { IfOk result (λ turn. self.new ≡ record self.old { used = self.old.used ++ record { client = client; id = id.now } ∷ [] }) }
+        ensures used { IfOk result (λ turn. self.new
+            ≡ record self.old { used = self.old.used ++ record { client = client; id = id.now } ∷ [] }) }
         ensures err { OnErr result (self.new ≡ self.old) }
     {
         let bodies = one_body(alloc, body)?;
@@ -136,9 +136,11 @@ impl OrderLedger {
         asks: Vec<Inbound>,
     ) -> Result<ClientTurn, AllocError>
         requires room { HasRoom self.old }
-        requires is { IsCancelling self.old sender.now (cancel_request_fields request.now) order_id cancelling body asks.items }
+        requires is { IsCancelling self.old sender.now
+            (cancel_request_fields request.now) order_id cancelling body asks.items }
         ensures meets { IfOk result (λ turn. GoByNumbers self.old
-            → MeetsFields self.old sender.now.client (cancel_request_fields request.now) (port_seen sender.now.port) turn self.new) }
+            → MeetsFields self.old sender.now.client (cancel_request_fields request.now)
+            (port_seen sender.now.port) turn self.new) }
         ensures few { IfOk result (λ turn. length turn.asks.items ≤ 2) }
         ensures keeps { Keeps self.old self.new }
         ensures err { OnErr result (self.new ≡ self.old) }
@@ -169,9 +171,11 @@ impl OrderLedger {
         asks: Vec<Inbound>,
     ) -> Result<ClientTurn, AllocError>
         requires room { HasRoom self.old }
-        requires is { IsReplacing self.old sender.now (replace_request_fields request.now) order_id replacing given body asks.items }
+        requires is { IsReplacing self.old sender.now
+            (replace_request_fields request.now) order_id replacing given body asks.items }
         ensures meets { IfOk result (λ turn. GoByNumbers self.old
-            → MeetsFields self.old sender.now.client (replace_request_fields request.now) (port_seen sender.now.port) turn self.new) }
+            → MeetsFields self.old sender.now.client (replace_request_fields request.now)
+            (port_seen sender.now.port) turn self.new) }
         ensures few { IfOk result (λ turn. length turn.asks.items ≤ 2) }
         ensures keeps { Keeps self.old self.new }
         ensures err { OnErr result (self.new ≡ self.old) }
@@ -189,4 +193,13 @@ impl OrderLedger {
             asks,
         })
     }
+}
+
+/// A list of one body.
+pub(super) fn one_body(alloc: Global, body: AppBody) -> Result<Vec<AppBody>, AllocError>
+    ensures { IfOk result (λ bodies. bodies.items ≡ body ∷ []) }
+{
+    let mut bodies = Vec::with_capacity(alloc, 1)?;
+    bodies.push(body)?;
+    Ok(bodies)
 }

@@ -26,7 +26,7 @@ pub struct Cancel {
 
 impl FixedWire for Cancel {
     ghost use Rattle.ouch_codec.specs.Layout.{IsMessage, spelled};
-    ghost use Rattle.ouch_codec.specs.Layouts.{cancel};
+    ghost use Rattle.ouch_codec.specs.Layouts.{cancel_layout};
     ghost use Rattle.ouch_codec.specs.Rows.{cancel_row};
     ghost use Rattle.ouch_codec.specs.LaidOut.{length-written, IsMessage-written, same_written};
     ghost use Rattle.ouch_codec.specs.CancelLaws.{cancel_laid_out};
@@ -35,9 +35,9 @@ impl FixedWire for Cancel {
 
     ghost LEN = { 19 };
 
-    ghost bytes = { λ message. spelled cancel (cancel_row message) };
+    ghost bytes = { λ message. spelled cancel_layout (cancel_row message) };
 
-    ghost is_spelled = { IsMessage cancel };
+    ghost is_spelled = { IsMessage cancel_layout };
 
     ghost fixed = { length-written cancel_laid_out };
 

@@ -61,7 +61,7 @@ pub struct EnterOrder {
 
 impl FixedWire for EnterOrder {
     ghost use Rattle.ouch_codec.specs.Layout.{IsMessage, spelled};
-    ghost use Rattle.ouch_codec.specs.Layouts.{enter_order};
+    ghost use Rattle.ouch_codec.specs.Layouts.{enter_order_layout};
     ghost use Rattle.ouch_codec.specs.Rows.{enter_order_row};
     ghost use Rattle.ouch_codec.specs.LaidOut.{length-written, IsMessage-written, same_written};
     ghost use Rattle.ouch_codec.specs.EnterOrderLaws.{enter_order_laid_out};
@@ -70,9 +70,9 @@ impl FixedWire for EnterOrder {
 
     ghost LEN = { 49 };
 
-    ghost bytes = { λ message. spelled enter_order (enter_order_row message) };
+    ghost bytes = { λ message. spelled enter_order_layout (enter_order_row message) };
 
-    ghost is_spelled = { IsMessage enter_order };
+    ghost is_spelled = { IsMessage enter_order_layout };
 
     ghost fixed = { length-written enter_order_laid_out };
 

@@ -12,8 +12,8 @@ use wire_law::FixedWire;
 
 /// A request to replace what is open of an order by an order with other terms. Side, stock and firm stay.
 ///
-/// A value has each field in its set. `get` is `None` for bytes that are no Replace Order; neither `put` nor `get` takes
-/// memory.
+/// A value has each field in its set. `get` is `None` for bytes that are no Replace Order; neither `put` nor `get`
+/// takes memory.
 ///
 /// Source: OUCH 4.2, "Replace Order Message".
 #[derive(Clone, Copy, Debug, PartialEq, Eq)]
@@ -46,7 +46,7 @@ pub struct Replace {
 
 impl FixedWire for Replace {
     ghost use Rattle.ouch_codec.specs.Layout.{IsMessage, spelled};
-    ghost use Rattle.ouch_codec.specs.Layouts.{replace};
+    ghost use Rattle.ouch_codec.specs.Layouts.{replace_layout};
     ghost use Rattle.ouch_codec.specs.Rows.{replace_row};
     ghost use Rattle.ouch_codec.specs.LaidOut.{length-written, IsMessage-written, same_written};
     ghost use Rattle.ouch_codec.specs.ReplaceLaws.{replace_laid_out};
@@ -55,9 +55,9 @@ impl FixedWire for Replace {
 
     ghost LEN = { 47 };
 
-    ghost bytes = { λ message. spelled replace (replace_row message) };
+    ghost bytes = { λ message. spelled replace_layout (replace_row message) };
 
-    ghost is_spelled = { IsMessage replace };
+    ghost is_spelled = { IsMessage replace_layout };
 
     ghost fixed = { length-written replace_laid_out };
 

@@ -71,7 +71,7 @@ pub struct Accepted {
 
 impl FixedWire for Accepted {
     ghost use Rattle.ouch_codec.specs.Layout.{IsMessage, spelled};
-    ghost use Rattle.ouch_codec.specs.Layouts.{accepted};
+    ghost use Rattle.ouch_codec.specs.Layouts.{accepted_layout};
     ghost use Rattle.ouch_codec.specs.Rows.{accepted_row};
     ghost use Rattle.ouch_codec.specs.LaidOut.{length-written, IsMessage-written, same_written};
     ghost use Rattle.ouch_codec.specs.AcceptedLaws.{accepted_laid_out};
@@ -80,9 +80,9 @@ impl FixedWire for Accepted {
 
     ghost LEN = { 66 };
 
-    ghost bytes = { λ message. spelled accepted (accepted_row message) };
+    ghost bytes = { λ message. spelled accepted_layout (accepted_row message) };
 
-    ghost is_spelled = { IsMessage accepted };
+    ghost is_spelled = { IsMessage accepted_layout };
 
     ghost fixed = { length-written accepted_laid_out };
 

@@ -34,7 +34,7 @@ pub struct Broken {
 
 impl FixedWire for Broken {
     ghost use Rattle.ouch_codec.specs.Layout.{IsMessage, spelled};
-    ghost use Rattle.ouch_codec.specs.Layouts.{broken};
+    ghost use Rattle.ouch_codec.specs.Layouts.{broken_layout};
     ghost use Rattle.ouch_codec.specs.Rows.{broken_row};
     ghost use Rattle.ouch_codec.specs.LaidOut.{length-written, IsMessage-written, same_written};
     ghost use Rattle.ouch_codec.specs.BrokenLaws.{broken_laid_out};
@@ -43,9 +43,9 @@ impl FixedWire for Broken {
 
     ghost LEN = { 32 };
 
-    ghost bytes = { λ message. spelled broken (broken_row message) };
+    ghost bytes = { λ message. spelled broken_layout (broken_row message) };
 
-    ghost is_spelled = { IsMessage broken };
+    ghost is_spelled = { IsMessage broken_layout };
 
     ghost fixed = { length-written broken_laid_out };
 

@@ -10,8 +10,8 @@ use wire_law::FixedWire;
 
 /// The market has the request to cancel an order, and will cancel it once it may.
 ///
-/// A value has each field in its set. `get` is `None` for bytes that are no Cancel Pending; neither `put` nor `get` takes
-/// memory.
+/// A value has each field in its set. `get` is `None` for bytes that are no Cancel Pending; neither `put` nor `get`
+/// takes memory.
 ///
 /// Source: OUCH 4.2, "Cancel Pending Message".
 #[derive(Clone, Copy, Debug, PartialEq, Eq)]
@@ -26,7 +26,7 @@ pub struct CancelPending {
 
 impl FixedWire for CancelPending {
     ghost use Rattle.ouch_codec.specs.Layout.{IsMessage, spelled};
-    ghost use Rattle.ouch_codec.specs.Layouts.{cancel_pending};
+    ghost use Rattle.ouch_codec.specs.Layouts.{cancel_pending_layout};
     ghost use Rattle.ouch_codec.specs.Rows.{cancel_pending_row};
     ghost use Rattle.ouch_codec.specs.LaidOut.{length-written, IsMessage-written, same_written};
     ghost use Rattle.ouch_codec.specs.CancelPendingLaws.{cancel_pending_laid_out};
@@ -35,9 +35,9 @@ impl FixedWire for CancelPending {
 
     ghost LEN = { 23 };
 
-    ghost bytes = { λ message. spelled cancel_pending (cancel_pending_row message) };
+    ghost bytes = { λ message. spelled cancel_pending_layout (cancel_pending_row message) };
 
-    ghost is_spelled = { IsMessage cancel_pending };
+    ghost is_spelled = { IsMessage cancel_pending_layout };
 
     ghost fixed = { length-written cancel_pending_laid_out };
 

@@ -10,8 +10,8 @@ use wire_law::FixedWire;
 
 /// The market doesn't cancel an order.
 ///
-/// A value has each field in its set. `get` is `None` for bytes that are no Cancel Reject; neither `put` nor `get` takes
-/// memory.
+/// A value has each field in its set. `get` is `None` for bytes that are no Cancel Reject; neither `put` nor `get`
+/// takes memory.
 ///
 /// Source: OUCH 4.2, "Cancel Reject Message".
 #[derive(Clone, Copy, Debug, PartialEq, Eq)]
@@ -26,7 +26,7 @@ pub struct CancelReject {
 
 impl FixedWire for CancelReject {
     ghost use Rattle.ouch_codec.specs.Layout.{IsMessage, spelled};
-    ghost use Rattle.ouch_codec.specs.Layouts.{cancel_reject};
+    ghost use Rattle.ouch_codec.specs.Layouts.{cancel_reject_layout};
     ghost use Rattle.ouch_codec.specs.Rows.{cancel_reject_row};
     ghost use Rattle.ouch_codec.specs.LaidOut.{length-written, IsMessage-written, same_written};
     ghost use Rattle.ouch_codec.specs.CancelRejectLaws.{cancel_reject_laid_out};
@@ -35,9 +35,9 @@ impl FixedWire for CancelReject {
 
     ghost LEN = { 23 };
 
-    ghost bytes = { λ message. spelled cancel_reject (cancel_reject_row message) };
+    ghost bytes = { λ message. spelled cancel_reject_layout (cancel_reject_row message) };
 
-    ghost is_spelled = { IsMessage cancel_reject };
+    ghost is_spelled = { IsMessage cancel_reject_layout };
 
     ghost fixed = { length-written cancel_reject_laid_out };
 

@@ -35,7 +35,7 @@ pub struct Canceled {
 
 impl FixedWire for Canceled {
     ghost use Rattle.ouch_codec.specs.Layout.{IsMessage, spelled};
-    ghost use Rattle.ouch_codec.specs.Layouts.{canceled};
+    ghost use Rattle.ouch_codec.specs.Layouts.{canceled_layout};
     ghost use Rattle.ouch_codec.specs.Rows.{canceled_row};
     ghost use Rattle.ouch_codec.specs.LaidOut.{length-written, IsMessage-written, same_written};
     ghost use Rattle.ouch_codec.specs.CanceledLaws.{canceled_laid_out};
@@ -44,9 +44,9 @@ impl FixedWire for Canceled {
 
     ghost LEN = { 28 };
 
-    ghost bytes = { λ message. spelled canceled (canceled_row message) };
+    ghost bytes = { λ message. spelled canceled_layout (canceled_row message) };
 
-    ghost is_spelled = { IsMessage canceled };
+    ghost is_spelled = { IsMessage canceled_layout };
 
     ghost fixed = { length-written canceled_laid_out };
 

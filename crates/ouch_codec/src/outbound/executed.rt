@@ -41,7 +41,7 @@ pub struct Executed {
 
 impl FixedWire for Executed {
     ghost use Rattle.ouch_codec.specs.Layout.{IsMessage, spelled};
-    ghost use Rattle.ouch_codec.specs.Layouts.{executed};
+    ghost use Rattle.ouch_codec.specs.Layouts.{executed_layout};
     ghost use Rattle.ouch_codec.specs.Rows.{executed_row};
     ghost use Rattle.ouch_codec.specs.LaidOut.{length-written, IsMessage-written, same_written};
     ghost use Rattle.ouch_codec.specs.ExecutedLaws.{executed_laid_out};
@@ -50,9 +50,9 @@ impl FixedWire for Executed {
 
     ghost LEN = { 40 };
 
-    ghost bytes = { λ message. spelled executed (executed_row message) };
+    ghost bytes = { λ message. spelled executed_layout (executed_row message) };
 
-    ghost is_spelled = { IsMessage executed };
+    ghost is_spelled = { IsMessage executed_layout };
 
     ghost fixed = { length-written executed_laid_out };
 

@@ -31,7 +31,7 @@ pub struct Rejected {
 
 impl FixedWire for Rejected {
     ghost use Rattle.ouch_codec.specs.Layout.{IsMessage, spelled};
-    ghost use Rattle.ouch_codec.specs.Layouts.{rejected};
+    ghost use Rattle.ouch_codec.specs.Layouts.{rejected_layout};
     ghost use Rattle.ouch_codec.specs.Rows.{rejected_row};
     ghost use Rattle.ouch_codec.specs.LaidOut.{length-written, IsMessage-written, same_written};
     ghost use Rattle.ouch_codec.specs.RejectedLaws.{rejected_laid_out};
@@ -40,9 +40,9 @@ impl FixedWire for Rejected {
 
     ghost LEN = { 24 };
 
-    ghost bytes = { λ message. spelled rejected (rejected_row message) };
+    ghost bytes = { λ message. spelled rejected_layout (rejected_row message) };
 
-    ghost is_spelled = { IsMessage rejected };
+    ghost is_spelled = { IsMessage rejected_layout };
 
     ghost fixed = { length-written rejected_laid_out };
 

@@ -74,7 +74,7 @@ pub struct Replaced {
 
 impl FixedWire for Replaced {
     ghost use Rattle.ouch_codec.specs.Layout.{IsMessage, spelled};
-    ghost use Rattle.ouch_codec.specs.Layouts.{replaced};
+    ghost use Rattle.ouch_codec.specs.Layouts.{replaced_layout};
     ghost use Rattle.ouch_codec.specs.Rows.{replaced_row};
     ghost use Rattle.ouch_codec.specs.LaidOut.{length-written, IsMessage-written, same_written};
     ghost use Rattle.ouch_codec.specs.ReplacedLaws.{replaced_laid_out};
@@ -83,9 +83,9 @@ impl FixedWire for Replaced {
 
     ghost LEN = { 80 };
 
-    ghost bytes = { λ message. spelled replaced (replaced_row message) };
+    ghost bytes = { λ message. spelled replaced_layout (replaced_row message) };
 
-    ghost is_spelled = { IsMessage replaced };
+    ghost is_spelled = { IsMessage replaced_layout };
 
     ghost fixed = { length-written replaced_laid_out };
 

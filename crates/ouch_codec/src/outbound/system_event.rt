@@ -26,7 +26,7 @@ pub struct SystemEvent {
 
 impl FixedWire for SystemEvent {
     ghost use Rattle.ouch_codec.specs.Layout.{IsMessage, spelled};
-    ghost use Rattle.ouch_codec.specs.Layouts.{system_event};
+    ghost use Rattle.ouch_codec.specs.Layouts.{system_event_layout};
     ghost use Rattle.ouch_codec.specs.Rows.{system_event_row};
     ghost use Rattle.ouch_codec.specs.LaidOut.{length-written, IsMessage-written, same_written};
     ghost use Rattle.ouch_codec.specs.SystemEventLaws.{system_event_laid_out};
@@ -35,9 +35,9 @@ impl FixedWire for SystemEvent {
 
     ghost LEN = { 10 };
 
-    ghost bytes = { λ message. spelled system_event (system_event_row message) };
+    ghost bytes = { λ message. spelled system_event_layout (system_event_row message) };
 
-    ghost is_spelled = { IsMessage system_event };
+    ghost is_spelled = { IsMessage system_event_layout };
 
     ghost fixed = { length-written system_event_laid_out };
 

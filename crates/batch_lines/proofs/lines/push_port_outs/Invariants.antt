@@ -2,7 +2,7 @@
 use Rattle.std.proofs.Common.{◌≡◌, ◌++◌, take}
 use Rattle.std.specs.Prelude.{map}
 use Rattle.std.specs.List.{flat_map}
-use Rattle.core_batches.specs.Seen.{link_out_seen}
+use Rattle.gate_events.specs.Seen.{link_out_seen}
 use Rattle.batch_lines.specs.Lines.{shown_port_out}
 use Rattle.batch_lines.proofs.lines.push_port_outs.Given as goal
 

@@ -1,6 +1,6 @@
 use Rattle.std.proofs.Common.{◌∙◌, ap, refl}
 use Rattle.session_law.specs.declared.kind.Kind.TheVariants as kinds
-use Rattle.session_law.specs.Messages.{Fields, text}
+use Rattle.fix_fields.specs.Field.{Message, text}
 use Rattle.session_law.specs.Session.{Given, Logon, said, quiet, logged, reset}
 use Rattle.session_law.specs.Runs.{heard, at_moment}
 use Rattle.fix_session.proofs.logon.open.Goals as goal
@@ -11,4 +11,4 @@ returns-clause-opened c =
     let begun = quiet (logged l (reset c.args.resets (heard (at_moment c.args.at c.args.session.now)))) in
     c.in_ok-say.ensures
     ∙ ap (λ (g : Given). said c.args.at kinds.Logon c.in_ok-body.body g) (c.opened_at-draft.ensures.made l refl refl)
-    ∙ ap (λ (b : Fields). said c.args.at kinds.Logon b begun) (c.in_ok-body.ensures c.args.interval)
+    ∙ ap (λ (b : Message). said c.args.at kinds.Logon b begun) (c.in_ok-body.ensures c.args.interval)

@@ -6,5 +6,5 @@ use Rattle.gate_audit.proofs.accounts.readings.Given as goal
 abbrev pub invariant-loop-place : goal.invariant-loop-place
 invariant-loop-place l = record {
   readings : l.readings.items ≡ read.readings l.place (turns l.history);
-  held : read.AllHeld l.place (turns l.history);
+  held : read.AllReadHeld l.place (turns l.history);
 }

@@ -1,20 +1,21 @@
 use Rattle.std.proofs.Common.{◌≡◌, ◌+◌, ◌∷◌, ◌∙◌, ap, sym, arith, length, take, take_all, List, reverse}
-use Rattle.core_batches.specs.declared.event.Event.{Event}
-use Rattle.core_batches.specs.declared.batch.Batch.{Batch}
+use Rattle.gate_events.specs.declared.event.Event.{Event}
+use Rattle.gate_events.specs.declared.batch.Batch.{Batch}
 use Rattle.gate_journal.specs.Kept.{turns}
+use Rattle.soup_session.proofs.Closes.{ends_by_close}
 use Rattle.gate_audit.proofs.Following.{handled-again}
-use Rattle.core_law.specs.Settings.{port_terms}
-use Rattle.core_law.specs.Events.{History}
-use Rattle.soup_session.specs.Table.{Terms}
+use Rattle.gate_law.specs.Settings.{port_terms}
+use Rattle.gate_law.specs.Events.{History}
+use Rattle.soup_session.specs.Table.{LoginTerms}
 use Rattle.gate_core.specs.Core.{history, turn_of}
-use Rattle.gate_audit.specs.Again.{again}
+use Rattle.gate_audit.specs.Again.{called_again}
 use Rattle.gate_audit.proofs.Calling.{again-more, again-past, has-of, history-length, history-more}
 use Rattle.gate_audit.proofs.messages.handled_messages.Goals as goal
 use Rattle.gate_audit.proofs.messages.handled_messages.Goals.{then-i-lt-MOST_EVENTS+in_ok-step, else-i-lt-MOST_EVENTS}
 
 pub loop-i-preserved : goal.loop-i-preserved
 loop-i-preserved c =
-    let terms : Terms = port_terms c.args.settings.now c.args.port in
+    let terms : LoginTerms = port_terms c.args.settings.now c.args.port in
     let p = c.args.port in
     let es = c.events-events.result.now in
     let bs = c.batches-batches.result.now in
@@ -27,7 +28,7 @@ loop-i-preserved c =
     elim c.if-i-lt-MOST_EVENTS.branch [
       | then-i-lt-MOST_EVENTS+in_ok-step w ↦ record {
         again = rw (w.again-is, more, again-more terms p e b (history (take i es) (take i bs)) (omega (arith, long, w.if-i-lt-MOST_EVENTS.true)))
-            (w.in_ok-step.ensures.again terms (again terms p (history (take i es) (take i bs))) c.loop-i.invariant.again);
+            (w.in_ok-step.ensures.again terms (called_again terms p (history (take i es) (take i bs))) c.loop-i.invariant.again);
         next = rw w.again-is (omega (arith, w.in_ok-step.ensures.next, c.loop-i.invariant.next));
       }
       | else-i-lt-MOST_EVENTS w ↦ record {
@@ -48,5 +49,5 @@ returns-clause-run c holds =
     ap (λ (xs : List Event). history xs (take i bs)) (take_all i es c.loop-i-test.false ∙ c.events-events.ensures.events)
     ∙ ap (λ (xs : List Batch). history c.args.history.now.events xs) (take_all i bs (omega (arith, same, c.loop-i-test.false)) ∙ c.batches-batches.ensures.batches) in
     c.loop-i.invariant.again.handled
-    ∙ (ap (λ (h : History). reverse (again (port_terms s p) p h).handled) whole
-    ∙ ap reverse (sym (handled-again c.links_end_by_a_close.ensures s p (has-of p (length s.ports) c.requires.some c.requires.known) (turns c.args.history.now) holds.run)))
+    ∙ (ap (λ (h : History). reverse (called_again (port_terms s p) p h).handled) whole
+    ∙ ap reverse (sym (handled-again ends_by_close s p (has-of p (length s.ports) (omega (arith, c.number.ensures.value, c.number.ensures.from_one)) c.requires.known) (turns c.args.history.now) holds.run)))

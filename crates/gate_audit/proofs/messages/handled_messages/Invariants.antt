@@ -1,5 +1,5 @@
 use Rattle.std.proofs.Common.{◌≤◌, ◌+◌, take}
-use Rattle.core_law.specs.Settings.{port_terms}
+use Rattle.gate_law.specs.Settings.{port_terms}
 use Rattle.soup_session.specs.Calls.{next_of}
 use Rattle.gate_core.specs.Core.{history}
 use Rattle.gate_audit.specs.Again as read
@@ -8,6 +8,6 @@ use Rattle.gate_audit.proofs.messages.handled_messages.Given as goal
 
 abbrev pub invariant-loop-i : goal.invariant-loop-i
 invariant-loop-i l = record {
-  again : IsAgain (port_terms l.settings l.port) (read.again (port_terms l.settings l.port) l.port (history (take l.i l.events) (take l.i l.batches))) l.again;
+  again : IsAgain (port_terms l.settings l.port) (read.called_again (port_terms l.settings l.port) l.port (history (take l.i l.events) (take l.i l.batches))) l.again;
   next : next_of l.again.session ≤ l.i + 1;
 }

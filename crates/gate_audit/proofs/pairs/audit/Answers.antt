@@ -3,12 +3,13 @@ use Rattle.std.specs.Prelude.{IsErrOf}
 use Rattle.std.specs.List.{All}
 use Rattle.order_accounts.specs.declared.reading_fault.ReadingFault.{ReadingFault}
 use Rattle.order_accounts.specs.declared.reading_fault.ReadingFault.TheVariants.{TooLarge}
-use Rattle.core_law.specs.Settings.{ClientSettings, Settings, port_of}
-use Rattle.core_law.specs.Holds.{issued}
+use Rattle.gate_law.specs.Settings.{ClientSettings, Settings, port_of}
+use Rattle.gate_law.specs.Holds.{told_by_batches}
 use Rattle.order_law.specs.History.{Terms}
-use Rattle.core_settings.specs.Kept.{IsOnPort}
-use Rattle.core_batches.specs.declared.batch.Batch.{Batch}
+use Rattle.gate_settings.specs.Kept.{IsOnPort}
+use Rattle.gate_events.specs.declared.batch.Batch.{Batch}
 use Rattle.gate_journal.specs.Kept.{turns}
+use Rattle.soup_session.proofs.Closes.{ends_by_close}
 use Rattle.gate_audit.specs.Read.{for_clients, reports_to}
 use Rattle.gate_audit.specs.Pairs as read
 use Rattle.gate_audit.proofs.Pairing.{orders-ascend, pairs-same, terms-at}
@@ -22,22 +23,23 @@ loop-place-preserved c =
     let h = c.args.history.now in
     let n = c.loop-place.place in
     let inside : n < length s.clients = omega (arith, c.loop-place-test.true, c.loop-place.auto.place-end, ap length c.clients-place-end.ensures.clients) in
-    let port : c.own.inside.terms.port ≡ port_of s (n + 1) =
-    ap (λ (x : ClientSettings). x.terms.port) c.own.view_is ∙ ap (λ (x : ClientSettings). x.terms.port) c.index-clients-place.is
+    let port : c.new-port.result ≡ port_of s (n + 1) =
+    c.new-port.ensures ∙ ap (λ (x : ClientSettings). x.terms.port) c.own.view_is ∙ ap (λ (x : ClientSettings). x.terms.port) c.index-clients-place.is
     ∙ ap (λ (xs : List ClientSettings). (get_or xs n c.index-clients-place.result).terms.port) c.clients.ensures.clients
     ∙ sym (ap (λ (t : Terms). t.port) (terms-at s.clients n c.index-clients-place.result inside)) in
     let same : length h.batches ≡ length h.events = ap length (sym c.batches.ensures.batches) ∙ c.batches.ensures.count in
     let reports : c.deref-in-loop-place.result.now ≡ reports_to (n + 1) h.batches =
-    c.deref-in-loop-place.ensures.value ∙ c.in_ok-reports.ensures ∙ ap (reports_to (n + 1)) c.batches-in-loop-place.ensures.batches in
-    let openings : c.deref.result.now ≡ reverse (read.opened_orders (reverse (read.said_by h.batches))) =
-    c.deref.ensures.value ∙ c.in_ok-openings.ensures.opened ∙ ap (λ (bs : List Batch). reverse (read.opened_orders (reverse (read.said_by bs)))) c.batches.ensures.batches in
+    c.deref-in-loop-place.ensures.value ∙ c.in_ok-reports.ensures ∙ ap (λ (k : ℕ). reports_to k c.batches-in-loop-place.result.now) c.at_place.ensures
+    ∙ ap (reports_to (n + 1)) c.batches-in-loop-place.ensures.batches in
+    let openings : c.deref.result.now ≡ reverse (read.opened_orders (reverse (read.said_by_batches h.batches))) =
+    c.deref.ensures.value ∙ c.in_ok-openings.ensures.opened ∙ ap (λ (bs : List Batch). reverse (read.opened_orders (reverse (read.said_by_batches bs)))) c.batches.ensures.batches in
     record {
       pairs =
           c.in_ok-pair_all.ensures.paired
-          ∙ pairs-more s n c.own.inside.terms.port c.loop-place.pairs.items c.deref-in-loop-place.result.now c.deref-in-loop-place-2.result.now c.deref.result.now h.events h.batches
+          ∙ pairs-more s n c.new-port.result c.loop-place.pairs.items c.deref-in-loop-place.result.now c.deref-in-loop-place-2.result.now c.deref.result.now h.events h.batches
           same reports port (c.deref-in-loop-place-2.ensures.value ∙ c.in_ok-handled.ensures.read) openings c.loop-place.invariant.pairs;
       held =
-          known-more (λ (k : ℕ). read.AreHeld (issued k (turns h)) (reverse (read.orders_of k (read.opened_orders (read.said (turns h)))))) n c.loop-place.invariant.held
+          known-more (λ (k : ℕ). read.AreHeld (told_by_batches k (turns h)) (reverse (read.orders_of k (read.opened_orders (read.said_to_clients (turns h)))))) n c.loop-place.invariant.held
           (held-now h.events h.batches (n + 1) same c.deref-in-loop-place.result.now c.deref.result.now reports openings c.in_ok-pair_all.ensures.held);
     }
 
@@ -48,7 +50,7 @@ returns-clause-run c holds =
     let all : c.loop-place.place ≡ length s.clients = omega (arith, clients, c.loop-place-test.false, c.loop-place.auto.place-end) in
     let ports : All (IsOnPort (length s.ports)) s.clients = subst (λ (cs : List ClientSettings). All (IsOnPort (length s.ports)) cs) c.clients-place-end.ensures.clients c.clients-place-end.ensures.ports in
     c.loop-place.invariant.pairs ∙ ap (for_clients (read.pairs_of s (turns c.args.history.now))) all
-    ∙ pairs-same c.links_end_by_a_close.ensures s (turns c.args.history.now) ports holds
+    ∙ pairs-same ends_by_close s (turns c.args.history.now) ports holds
 
 pub returns-clause-held : goal.returns-clause-held
 returns-clause-held c =
@@ -57,7 +59,7 @@ returns-clause-held c =
     let same : length h.batches ≡ length h.events = ap length (sym c.batches.ensures.batches) ∙ c.batches.ensures.count in
     let clients : length c.clients-place-end.result.now ≡ length s.clients = ap length c.clients-place-end.ensures.clients in
     let all : c.loop-place.place ≡ length s.clients = omega (arith, clients, c.loop-place-test.false, c.loop-place.auto.place-end) in
-    let tokens : read.HasTokens (reverse (read.said_by h.batches)) = subst (λ (bs : List Batch). read.HasTokens (reverse (read.said_by bs))) c.batches.ensures.batches c.in_ok-openings.ensures.tokens in
+    let tokens : read.HasTokenNumbers (reverse (read.said_by_batches h.batches)) = subst (λ (bs : List Batch). read.HasTokenNumbers (reverse (read.said_by_batches bs))) c.batches.ensures.batches c.in_ok-openings.ensures.tokens in
     (λ k some known. c.loop-place.invariant.held k some (omega (arith, known, all)), omega (arith, tokens, same-tokens h.events h.batches same))
 
 pub returns-clause-ascending : goal.returns-clause-ascending
@@ -67,9 +69,9 @@ pub returns-in_err-openings-clause-large : goal.returns-in_err-openings-clause-l
 returns-in_err-openings-clause-large c err held tokens =
     let h = c.args.history.now in
     let same : length h.batches ≡ length h.events = ap length (sym c.batches.ensures.batches) ∙ c.batches.ensures.count in
-    let by_batches : read.HasTokens (reverse (read.said_by h.batches)) = omega (arith, tokens, same-tokens h.events h.batches same) in
+    let by_batches : read.HasTokenNumbers (reverse (read.said_by_batches h.batches)) = omega (arith, tokens, same-tokens h.events h.batches same) in
     let own_error : IsErrOf {E = ReadingFault} (Err c.in_err-openings.field-0.0) TooLarge = search (rules, c.from_residual.ensures, err) in
-    c.in_err-openings.ensures.large own_error (subst (λ (bs : List Batch). read.HasTokens (reverse (read.said_by bs))) (sym c.batches.ensures.batches) by_batches)
+    c.in_err-openings.ensures.large own_error (subst (λ (bs : List Batch). read.HasTokenNumbers (reverse (read.said_by_batches bs))) (sym c.batches.ensures.batches) by_batches)
 
 pub returns-in_err-pair_all-clause-large : goal.returns-in_err-pair_all-clause-large
 returns-in_err-pair_all-clause-large c err held tokens =
@@ -79,9 +81,10 @@ returns-in_err-pair_all-clause-large c err held tokens =
     let inside : n < length s.clients = omega (arith, c.loop-place-test.true, c.loop-place.auto.place-end, ap length c.clients-place-end.ensures.clients) in
     let same : length h.batches ≡ length h.events = ap length (sym c.batches.ensures.batches) ∙ c.batches.ensures.count in
     let reports : c.deref-in-loop-place.result.now ≡ reports_to (n + 1) h.batches =
-    c.deref-in-loop-place.ensures.value ∙ c.in_ok-reports.ensures ∙ ap (reports_to (n + 1)) c.batches-in-loop-place.ensures.batches in
-    let openings : c.deref.result.now ≡ reverse (read.opened_orders (reverse (read.said_by h.batches))) =
-    c.deref.ensures.value ∙ c.in_ok-openings.ensures.opened ∙ ap (λ (bs : List Batch). reverse (read.opened_orders (reverse (read.said_by bs)))) c.batches.ensures.batches in
+    c.deref-in-loop-place.ensures.value ∙ c.in_ok-reports.ensures ∙ ap (λ (k : ℕ). reports_to k c.batches-in-loop-place.result.now) c.at_place.ensures
+    ∙ ap (reports_to (n + 1)) c.batches-in-loop-place.ensures.batches in
+    let openings : c.deref.result.now ≡ reverse (read.opened_orders (reverse (read.said_by_batches h.batches))) =
+    c.deref.ensures.value ∙ c.in_ok-openings.ensures.opened ∙ ap (λ (bs : List Batch). reverse (read.opened_orders (reverse (read.said_by_batches bs)))) c.batches.ensures.batches in
     let own_error : IsErrOf {T = Unit {0}} {E = ReadingFault} (Err c.in_err-pair_all.field-0.0) TooLarge = search (rules, c.from_residual-in_err-pair_all.ensures, err) in
     c.in_err-pair_all.ensures.large own_error
     (held-then h.events h.batches (n + 1) same c.deref-in-loop-place.result.now c.deref.result.now reports openings (held (n + 1) (omega arith) (omega (arith, inside))))

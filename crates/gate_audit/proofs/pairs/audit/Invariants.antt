@@ -1,5 +1,5 @@
 use Rattle.std.proofs.Common.{◌≡◌, ◌≤◌, ℕ, reverse}
-use Rattle.core_law.specs.Holds.{issued}
+use Rattle.gate_law.specs.Holds.{told_by_batches}
 use Rattle.gate_journal.specs.Kept.{turns}
 use Rattle.gate_audit.specs.Read.{for_clients}
 use Rattle.gate_audit.specs.Pairs as read
@@ -8,5 +8,5 @@ use Rattle.gate_audit.proofs.pairs.audit.Given as goal
 abbrev pub invariant-loop-place : goal.invariant-loop-place
 invariant-loop-place l = record {
   pairs : l.pairs.items ≡ for_clients (read.pairs_of l.settings (turns l.history)) l.place;
-  held : (c : ℕ) → 1 ≤ c → c ≤ l.place → read.AreHeld (issued c (turns l.history)) (reverse (read.orders_of c (read.opened_orders (read.said (turns l.history)))));
+  held : (c : ℕ) → 1 ≤ c → c ≤ l.place → read.AreHeld (told_by_batches c (turns l.history)) (reverse (read.orders_of c (read.opened_orders (read.said_to_clients (turns l.history)))));
 }

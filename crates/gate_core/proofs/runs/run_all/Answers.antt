@@ -1,5 +1,5 @@
 use Rattle.std.proofs.Common.{length, take, sym, subst, ap, arith, take_all, length-append}
-use Rattle.core_law.specs.Events.{History}
+use Rattle.gate_law.specs.Events.{History}
 use Rattle.gate_core.specs.Core.{IsAfter, history}
 use Rattle.gate_core.proofs.Histories.{history-more}
 use Rattle.gate_core.proofs.Stepping.{holds-of}

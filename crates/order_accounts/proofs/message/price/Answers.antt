@@ -1,4 +1,4 @@
-use Rattle.order_law.specs.Messages.{text}
+use Rattle.fix_fields.specs.Field.{text}
 use Rattle.fixed_point.specs.Decimal.{worth}
 use Rattle.order_accounts.proofs.Numbers.{counted_ok, counted_none, counted_large}
 use Rattle.order_accounts.proofs.message.price.Goals as goal

@@ -1,7 +1,8 @@
 use Rattle.std.proofs.Common.{◌<◌, ◌^◌, [], length, take, map, sym, subst, ap, ◌∙◌, arith, take_all, length-append, length-take-le}
-use Rattle.order_law.specs.History.{History}
-use Rattle.order_core.specs.State.{IsAfter}
-use Rattle.order_core.specs.Runs.{history, is_known}
+use Rattle.order_law.specs.History.{OrderHistory}
+use Rattle.order_machine.proofs.Running.{headline-of}
+use Rattle.order_core.specs.State.{IsAfterTurns}
+use Rattle.order_core.specs.Runs.{run_history, is_known_client}
 use Rattle.to_market.specs.TermsSeen.{terms_seen}
 use Rattle.order_core.proofs.Histories.{history-more, length-onto, passes-at}
 use Rattle.order_core.proofs.Turns.{parts-of}
@@ -17,7 +18,7 @@ loop-event-init c = record {
 
 pub step-requires-clause-client : goal.step-requires-clause-client
 step-requires-clause-client c =
-    rw c.loop-event.invariant.clients (passes-at (is_known (length c.args.terms.now)) c.args.events.now c.loop-event.event-index c.event-item.result c.requires.clients c.loop-event-test.true c.event-item.is)
+    rw c.loop-event.invariant.clients (passes-at (is_known_client (length c.args.terms.now)) c.args.events.now c.loop-event.event-index c.event-item.result c.requires.clients c.loop-event-test.true c.event-item.is)
 
 pub step-requires-clause-room : goal.step-requires-clause-room
 step-requires-clause-room c = omega (arith, c.loop-event.invariant.issued, c.requires.short, c.loop-event-test.true)
@@ -25,9 +26,9 @@ step-requires-clause-room c = omega (arith, c.loop-event.invariant.issued, c.req
 pub loop-event-preserved : goal.loop-event-preserved
 loop-event-preserved c = record {
   after =
-      let before = history (take c.loop-event.event-index c.args.events.now) c.loop-event.outcomes.items in
+      let before = run_history (take c.loop-event.event-index c.args.events.now) c.loop-event.outcomes.items in
       let short : length before < 2 ^ 58 = omega (arith, length-onto (take c.loop-event.event-index c.args.events.now) c.loop-event.outcomes.items [], length-take-le c.loop-event.event-index c.args.events.now (omega arith), c.requires.short) in
-      rw c.in_ok-push.ensures.items (subst (λ (h : History). IsAfter (map terms_seen c.args.terms.now) h c.step.new.core)
+      rw c.in_ok-push.ensures.items (subst (λ (h : OrderHistory). IsAfterTurns (map terms_seen c.args.terms.now) h c.step.new.core)
       (sym (history-more c.args.events.now c.loop-event.outcomes.items c.loop-event.event-index c.event-item.result c.in_ok-outcome.outcome c.loop-event-test.true c.event-item.is c.loop-event.invariant.same))
       (c.in_ok-outcome.ensures.after (map terms_seen c.args.terms.now) before short c.loop-event.invariant.after));
   same = rw (c.in_ok-push.ensures.items, length-append) (omega (arith, c.loop-event.invariant.same));
@@ -38,10 +39,10 @@ loop-event-preserved c = record {
 pub returns-clause-exact : goal.returns-clause-exact
 returns-clause-exact c =
     let after = rw (take_all c.loop-event.event-index c.args.events.now (omega arith)) at c.loop-event.invariant.after in
-    (c.loop-event.core.table, (parts-of (map terms_seen c.args.terms.now) (history c.args.events.now c.loop-event.outcomes.items) c.loop-event.core after).0)
+    (c.loop-event.core.table, (parts-of (map terms_seen c.args.terms.now) (run_history c.args.events.now c.loop-event.outcomes.items) c.loop-event.core after).0)
 
 pub returns-clause-headline : goal.returns-clause-headline
 returns-clause-headline c =
     let after = rw (take_all c.loop-event.event-index c.args.events.now (omega arith)) at c.loop-event.invariant.after in
-    let leaves = (parts-of (map terms_seen c.args.terms.now) (history c.args.events.now c.loop-event.outcomes.items) c.loop-event.core after).0 in
-    c.tables_have_the_headline.ensures (map terms_seen c.args.terms.now) (history c.args.events.now c.loop-event.outcomes.items) c.loop-event.core.table (omega (arith, length-onto c.args.events.now c.loop-event.outcomes.items [], c.requires.short)) leaves
+    let leaves = (parts-of (map terms_seen c.args.terms.now) (run_history c.args.events.now c.loop-event.outcomes.items) c.loop-event.core after).0 in
+    headline-of (map terms_seen c.args.terms.now) (run_history c.args.events.now c.loop-event.outcomes.items) c.loop-event.core.table (omega (arith, length-onto c.args.events.now c.loop-event.outcomes.items [], c.requires.short)) leaves

@@ -1,5 +1,5 @@
 use Rattle.std.proofs.Common.{decimal, ap, ◌∙◌, arith}
-use Rattle.order_histories.specs.Table as table
+use Rattle.order_machine.specs.Table as table
 use Rattle.order_table.proofs.Newest.{number-test}
 use Rattle.order_table.proofs.places.is_number.Goals as goal
 

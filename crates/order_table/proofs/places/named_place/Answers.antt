@@ -1,5 +1,5 @@
 use Rattle.std.proofs.Common.{rules}
-use Rattle.order_histories.specs.Table as table
+use Rattle.order_machine.specs.Table as table
 use Rattle.order_table.proofs.Newest.{newest-at, newest-none}
 use Rattle.order_table.proofs.places.named_place.Goals as goal
 

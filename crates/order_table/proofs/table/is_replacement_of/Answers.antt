@@ -1,6 +1,6 @@
 use Rattle.std.proofs.Common.{◌≡◌, Bool, false, decimal, sym, ap, ◌∙◌, arith, ne_eqb}
 use Rattle.std.specs.Prelude.{◌==◌, ◌&&◌}
-use Rattle.order_histories.specs.Table as table
+use Rattle.order_machine.specs.Table as table
 use Rattle.order_table.proofs.Newest.{number-test}
 use Rattle.order_table.proofs.table.is_replacement_of.Goals as goal
 

@@ -1,6 +1,6 @@
 use Rattle.std.proofs.Common.{IfSome, subst}
 use Rattle.batch_lines.specs.declared.flags.Flags.{Flags}
-use Rattle.core_scripts.specs.Scripts.{PrintsAll}
+use Rattle.gate_lines.specs.Scripts.{PrintsAll}
 use Rattle.script_command.proofs.program.run_program.Goals as goal
 
 pub returns-in-Ok-clause-printed : goal.returns-in-Ok-clause-printed

@@ -4,7 +4,7 @@ use Rattle.fix_types.specs.Report.{report_fields}
 use Rattle.fix_values.specs.Slots.{char_text}
 use Rattle.fix_types.specs.Application.{body_fields}
 use Rattle.order_law.specs.History.{Entry}
-use Rattle.order_law.specs.Messages.{Message}
+use Rattle.fix_fields.specs.Field.{Message}
 use Rattle.order_law.specs.Told as law
 use Rattle.to_client.specs.declared.occasion.Details.{Details}
 use Rattle.to_client.specs.Shows.{IsOccasion}

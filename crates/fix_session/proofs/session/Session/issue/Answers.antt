@@ -2,25 +2,25 @@ use Rattle.std.proofs.Common.{◌≡◌, ap, subst, ◌∙◌}
 use Rattle.std.specs.Prelude.{IfOk}
 use Rattle.std.proofs.lemmas.Result.{IfOk-weaker}
 use Rattle.session_law.specs.declared.kind.Kind.{Kind}
-use Rattle.session_law.specs.Messages.{Fields}
-use Rattle.session_law.specs.Runs.{Call, Issued, step}
-use Rattle.fix_session.specs.Issues.{issued, kind_of}
+use Rattle.fix_fields.specs.Field.{Message}
+use Rattle.session_law.specs.Runs.{Call, Issue, step}
+use Rattle.fix_session.specs.Issues.{call_of_body, issued_kind}
 use Rattle.fix_session.specs.Meets.{Meets}
 use Rattle.fix_session.proofs.Turns.{tells, one-more, one-more-headline}
 use Rattle.fix_session.proofs.session.Session.issue.Goals as goal
 
 -- the step's answer is the issued body's
-meets : (c : goal.After-issue_step) → IfOk c.issue_step.result (λ turn. Meets c.args.self.now (step c.args.self.now c.args.at (issued c.args.body.now)) turn c.issue_step.new.self)
+meets : (c : goal.After-issue_step) → IfOk c.issue_step.result (λ turn. Meets c.args.self.now (step c.args.self.now c.args.at (call_of_body c.args.body.now)) turn c.issue_step.new.self)
 meets c =
-    let same : Issued c.kind_of.result c.in_ok-fields.fields ≡ issued c.args.body.now =
-    ap (λ (k : Kind). Issued k c.in_ok-fields.fields) c.kind_of.ensures ∙ ap (λ (b : Fields). Issued (kind_of c.args.body.now) b) c.in_ok-fields.ensures in
+    let same : Issue c.kind_of.result c.in_ok-fields.fields ≡ call_of_body c.args.body.now =
+    ap (λ (k : Kind). Issue k c.in_ok-fields.fields) c.kind_of.ensures ∙ ap (λ (b : Message). Issue (issued_kind c.args.body.now) b) c.in_ok-fields.ensures in
     subst (λ (call : Call). IfOk c.issue_step.result (λ turn. Meets c.args.self.now (step c.args.self.now c.args.at call) turn c.issue_step.new.self)) same c.issue_step.ensures.meets
 
 pub returns-clause-turn : goal.returns-clause-turn
-returns-clause-turn c = IfOk-weaker c.issue_step.result _ _ (λ turn m. tells c.args.self.now c.args.at (issued c.args.body.now) turn c.issue_step.new.self m) (meets c)
+returns-clause-turn c = IfOk-weaker c.issue_step.result _ _ (λ turn m. tells c.args.self.now c.args.at (call_of_body c.args.body.now) turn c.issue_step.new.self m) (meets c)
 
 pub returns-clause-leaves : goal.returns-clause-leaves
-returns-clause-leaves c = IfOk-weaker c.issue_step.result _ _ (λ turn m gate client h. one-more gate client h c.args.self.now c.args.at (issued c.args.body.now) turn c.issue_step.new.self m) (meets c)
+returns-clause-leaves c = IfOk-weaker c.issue_step.result _ _ (λ turn m gate client h. one-more gate client h c.args.self.now c.args.at (call_of_body c.args.body.now) turn c.issue_step.new.self m) (meets c)
 
 pub returns-clause-headline : goal.returns-clause-headline
-returns-clause-headline c = IfOk-weaker c.issue_step.result _ _ (λ turn m gate client h. one-more-headline gate client h c.args.self.now c.args.at (issued c.args.body.now) turn c.issue_step.new.self m) (meets c)
+returns-clause-headline c = IfOk-weaker c.issue_step.result _ _ (λ turn m gate client h. one-more-headline gate client h c.args.self.now c.args.at (call_of_body c.args.body.now) turn c.issue_step.new.self m) (meets c)

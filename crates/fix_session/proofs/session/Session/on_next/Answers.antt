@@ -1,8 +1,8 @@
 use Rattle.std.proofs.Common.{ap, ◌∙◌, sym, arith}
 use Rattle.session_law.specs.Session.{Given, Answer, answered}
 use Rattle.session_law.specs.Runs.{at_moment, heard}
-use Rattle.session_law.specs.Table.{numbered}
-use Rattle.session_rows.specs.Judged.{row_answer}
+use Rattle.session_law.specs.Table.{message_number}
+use Rattle.session_reading.specs.Judged.{row_answer}
 use Rattle.session_law.proofs.Bounds.{logged-on-little}
 use Rattle.fix_session.proofs.session.Session.on_next.Goals as goal
 
@@ -11,7 +11,7 @@ take-requires c =
     let s = c.args.self.now in
     let m = c.args.m.now in
     let begun = heard (at_moment c.args.at s) in
-    let row = row_answer s m (numbered m) s.expected c.judge-row.result in
+    let row = row_answer s m (message_number m) s.expected c.judge-row.result in
     let little = (logged-on-little s c.args.at m).expected in
     let same = ap (λ (g : Given). g.state.expected) c.in_ok-answer.ensures
     ∙ ap (λ (g : Given). (answered c.args.at g.state row).state.expected) c.heard_at-draft.ensures.made

@@ -2,15 +2,15 @@ use Rattle.std.proofs.Common.{rules, ◌++◌, ◌∷◌, List, map, reverse, su
 use Rattle.std.specs.Prelude.{IsErrOf, Err}
 use Rattle.order_accounts.specs.declared.reading_fault.ReadingFault.{ReadingFault}
 use Rattle.order_accounts.specs.declared.reading_fault.ReadingFault.TheVariants.{TooLarge}
-use Rattle.order_law.specs.Messages.{Message}
-use Rattle.gate_audit.specs.Pairs.{HasTokens, Said, said_to}
+use Rattle.fix_fields.specs.Field.{Message}
+use Rattle.gate_audit.specs.Pairs.{HasTokenNumbers, SaidToClient, said_to}
 use Rattle.gate_audit.proofs.Counting.{has-next}
 use Rattle.gate_audit.proofs.openings.Openings.hear_all.Goals as goal
 
 pub returns-in_err-hear-clause-large : goal.returns-in_err-hear-clause-large
 returns-in_err-hear-clause-large c all of err has =
-    let before : List Said = reverse (map (said_to c.args.client) (take c.loop-report.report-index c.args.reports.now)) ++ all in
+    let before : List SaidToClient = reverse (map (said_to c.args.client) (take c.loop-report.report-index c.args.reports.now)) ++ all in
     let own_error : IsErrOf {T = Unit {0}} {E = ReadingFault} (Err c.in_err-hear.field-0.0) TooLarge = search (rules, c.from_residual.ensures, err) in
     c.in_err-hear.ensures.large before (c.loop-report.invariant all of) own_error
-    (subst (λ (m : Message). HasTokens (said_to c.args.client m ∷ before)) (sym c.fields.ensures.fields)
+    (subst (λ (m : Message). HasTokenNumbers (said_to c.args.client m ∷ before)) (sym c.fields.ensures.fields)
     (has-next c.args.client c.args.reports.now c.loop-report.report-index c.report-item.result all c.loop-report-test.true c.report-item.is has))

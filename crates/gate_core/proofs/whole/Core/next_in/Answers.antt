@@ -1,5 +1,5 @@
 use Rattle.std.proofs.Common.{sym, subst}
-use Rattle.core_law.specs.After.{lists}
+use Rattle.gate_law.specs.After.{lists}
 use Rattle.gate_core.specs.Core.{IsAfter}
 use Rattle.gate_core.proofs.Naming.{parts-of}
 use Rattle.gate_core.proofs.whole.Core.next_in.Goals as goal

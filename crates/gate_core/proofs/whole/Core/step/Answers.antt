@@ -1,19 +1,23 @@
 use Rattle.std.proofs.Common.{◌+◌, refl, sym, ap, ◌∙◌, subst}
 use Rattle.std.proofs.lemmas.Result.{IfOk-weaker}
 use Rattle.gate_core.specs.Core.{CoreState, IsAfter}
-use Rattle.core_batches.specs.Seen.{batch_seen, event_seen}
+use Rattle.gate_events.specs.Seen.{batch_seen, event_seen}
 use Rattle.gate_core.proofs.Stepping.{next-step, numbers-still, past-step, shaped-still, still-few}
+use Rattle.soup_session.proofs.Closes.{ends_by_close}
+use Rattle.gate_law.proofs.Counted.{turns-few as no-more-turns}
+use Rattle.gate_law.proofs.Links.{links-current}
+use Rattle.gate_law.proofs.Steps.{holds-past, holds-step}
 use Rattle.gate_core.proofs.whole.Core.step.Goals as goal
 
 pub returns-then-self-eq-MOST_EVENTS-clause-after :
     goal.returns-then-self-eq-MOST_EVENTS-clause-after
 returns-then-self-eq-MOST_EVENTS-clause-after c s before is =
-    (past-step s before c.args.self.now (event_seen c.args.event.now) (batch_seen c.empty.result) c.steps_keep_the_promises.ensures.past
+    (past-step s before c.args.self.now (event_seen c.args.event.now) (batch_seen c.empty.result) holds-past
     (ap (λ (x : CoreState). x.events) (sym c.self.view_is) ∙ c.if-self-eq-MOST_EVENTS.true) c.empty.ensures is).0
 
 pub returns-then-self-eq-MOST_EVENTS-clause-holds : goal.returns-then-self-eq-MOST_EVENTS-clause-holds
 returns-then-self-eq-MOST_EVENTS-clause-holds c s before is =
-    (past-step s before c.args.self.now (event_seen c.args.event.now) (batch_seen c.empty.result) c.steps_keep_the_promises.ensures.past
+    (past-step s before c.args.self.now (event_seen c.args.event.now) (batch_seen c.empty.result) holds-past
     (ap (λ (x : CoreState). x.events) (sym c.self.view_is) ∙ c.if-self-eq-MOST_EVENTS.true) c.empty.ensures is).1
 
 pub invariant_of-self : goal.invariant_of-self
@@ -27,9 +31,9 @@ pub returns-clause-after : goal.returns-clause-after
 returns-clause-after c =
     IfOk-weaker c.event.result _ _
     (λ b step s before is.
-    let old : CoreState = record { gate = c.self.inside.gate; events = c.self.inside.events } in
-    (next-step s before old (record { gate = c.event.new.self; events = c.self.inside.events + 1 }) (event_seen c.args.event.now) (batch_seen b)
-    c.steps_keep_the_promises.ensures.step c.links_are_current_while_sessions_are_open.ensures c.turns_are_no_more_than_events.ensures
+    let old : CoreState = record { parts = c.self.inside.parts; events = c.self.inside.events } in
+    (next-step s before old (record { parts = c.event.new.self; events = c.self.inside.events + 1 }) (event_seen c.args.event.now) (batch_seen b)
+    (holds-step ends_by_close) (links-current ends_by_close) no-more-turns
     c.if-self-eq-MOST_EVENTS.false (subst (λ (x : CoreState). IsAfter s before x) (sym c.self.view_is) is) (step s) refl).0)
     c.event.ensures.step
 
@@ -37,8 +41,8 @@ pub returns-clause-holds : goal.returns-clause-holds
 returns-clause-holds c =
     IfOk-weaker c.event.result _ _
     (λ b step s before is.
-    let old : CoreState = record { gate = c.self.inside.gate; events = c.self.inside.events } in
-    (next-step s before old (record { gate = c.event.new.self; events = c.self.inside.events + 1 }) (event_seen c.args.event.now) (batch_seen b)
-    c.steps_keep_the_promises.ensures.step c.links_are_current_while_sessions_are_open.ensures c.turns_are_no_more_than_events.ensures
+    let old : CoreState = record { parts = c.self.inside.parts; events = c.self.inside.events } in
+    (next-step s before old (record { parts = c.event.new.self; events = c.self.inside.events + 1 }) (event_seen c.args.event.now) (batch_seen b)
+    (holds-step ends_by_close) (links-current ends_by_close) no-more-turns
     c.if-self-eq-MOST_EVENTS.false (subst (λ (x : CoreState). IsAfter s before x) (sym c.self.view_is) is) (step s) refl).1)
     c.event.ensures.step

@@ -1,5 +1,5 @@
 use Rattle.std.proofs.Common.{◌≡◌, ◌++◌, ◌∷◌, [], List, sym, ap, ◌∙◌}
-use Rattle.core_batches.specs.declared.batch.Batch.{Batch}
+use Rattle.gate_events.specs.declared.batch.Batch.{Batch}
 use Rattle.gate_core.specs.Core.{turn_of}
 use Rattle.gate_journal.specs.Kept.{Kept, turns}
 use Rattle.gate_core.proofs.Histories.{onto-push}

@@ -1,15 +1,16 @@
-use Rattle.std.proofs.Common.{◌≡◌, ℕ, List, Option, Some, None, ap, sym, subst, ◌∙◌}
+use Rattle.std.proofs.Common.{ℕ, List, Option, Some, ap, sym, subst, ◌∙◌}
 use Rattle.std.specs.Prelude.{option_and_then, option_map}
 use Rattle.order_law.specs.History.{Entry, accepted}
 use Rattle.order_law.specs.Lawful.{order_of_token, token_of_heard}
-use Rattle.order_core.specs.State.{IsAfter}
+use Rattle.order_machine.proofs.Leading.{token-of}
+use Rattle.order_core.specs.State.{IsAfterTurns}
 use Rattle.order_core.proofs.Addressed.{client-by-heard}
 use Rattle.order_core.proofs.order_core.OrderCore.client_of.Goals as goal
 
 pub returns-in-Some : goal.returns-in-Some
 returns-in-Some c terms before short is =
     c.client_of_token.ensures
-    ∙ client-by-heard c.tokens_lead_to_accepted_orders.ensures terms before _ c.args.port (Some c.in-Some.token.now) short (subst (IsAfter terms before) (sym c.self.view_is) is)
+    ∙ client-by-heard token-of terms before _ c.args.port (Some c.in-Some.token.now) short (subst (IsAfterTurns terms before) (sym c.self.view_is) is)
     ∙ ap (λ (x : Option (List ℕ)). option_map (λ (new : Entry). new.client) (option_and_then (order_of_token terms c.args.port (accepted terms before)) x))
     (sym (ap token_of_heard (sym c.decode-heard.ensures) ∙ c.in-Some.ensures))
 

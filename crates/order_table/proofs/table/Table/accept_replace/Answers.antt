@@ -1,8 +1,8 @@
 use Rattle.std.proofs.Common.{rules, ◌≡◌, ℕ, List, [], ◌∷◌, ◌++◌, sym, None, decimal, refl, reverse, ap, ◌∙◌, arith, slice_get, slice_set}
 use Rattle.std.specs.Prelude.{Some}
 use Rattle.std.specs.List.{find, list_all}
-use Rattle.order_histories.specs.OrderRecord.{OrderRecord, at}
-use Rattle.order_histories.specs.Table.{GivenToken, has_number, is_replacement_of, put}
+use Rattle.order_machine.specs.OrderRecord.{OrderRecord, at}
+use Rattle.order_machine.specs.Table.{GivenToken, has_number, is_replacement_of, put}
 use Rattle.std.proofs.lemmas.List.{reverse-append}
 use Rattle.std.specs.List.{count_by}
 use Rattle.order_table.specs.Held.{Held, IsNewest, is_counted, with_number}

@@ -1,7 +1,7 @@
 use Rattle.std.proofs.Common.{◌≡◌, ◌∷◌, ◌++◌, [], List, sym, ap, ◌∙◌}
 use Rattle.std.specs.List.{list_all}
-use Rattle.order_histories.specs.OrderRecord.{OrderRecord}
-use Rattle.order_histories.specs.Table.{GivenToken, open_count}
+use Rattle.order_machine.specs.OrderRecord.{OrderRecord}
+use Rattle.order_machine.specs.Table.{GivenToken, open_count}
 use Rattle.order_table.specs.Held.{is_counted}
 use Rattle.order_table.proofs.Counted.{added}
 use Rattle.order_table.proofs.StillOpen.{counted-in}

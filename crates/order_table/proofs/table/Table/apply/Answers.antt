@@ -1,8 +1,8 @@
 use Rattle.std.proofs.Common.{rules, ◌≡◌, sym, List, None, decimal, refl, reverse, ap, ◌∙◌, slice_get, slice_set}
 use Rattle.std.specs.Prelude.{Some}
 use Rattle.std.specs.List.{find}
-use Rattle.order_histories.specs.OrderRecord.{OrderRecord}
-use Rattle.order_histories.specs.Table.{has_number}
+use Rattle.order_machine.specs.OrderRecord.{OrderRecord}
+use Rattle.order_machine.specs.Table.{has_number}
 use Rattle.order_table.specs.Held.{Held, IsNewest, changed, with_number}
 use Rattle.orders.specs.Changes.{Fits, changed_by}
 use Rattle.order_table.proofs.Newest.{at-place, change-newest, newest-there}

@@ -1,5 +1,5 @@
 use Rattle.std.proofs.Common.{rules, sym, ap, ◌∙◌}
-use Rattle.order_histories.specs.Table.{is_open_of, open_count}
+use Rattle.order_machine.specs.Table.{is_open_of, open_count}
 use Rattle.order_table.specs.Held.{Held}
 use Rattle.order_table.proofs.Newest.{count-reverse}
 use Rattle.order_table.proofs.table.Table.open_count.Goals as goal

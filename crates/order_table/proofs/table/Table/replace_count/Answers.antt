@@ -1,6 +1,6 @@
 use Rattle.std.proofs.Common.{decimal, sym, ap, ◌∙◌}
 use Rattle.std.specs.List.{count_by}
-use Rattle.order_histories.specs.Table.{is_replacement_of}
+use Rattle.order_machine.specs.Table.{is_replacement_of}
 use Rattle.order_table.specs.Held.{Held}
 use Rattle.order_table.proofs.Newest.{count-reverse}
 use Rattle.order_table.proofs.table.Table.replace_count.Goals as goal

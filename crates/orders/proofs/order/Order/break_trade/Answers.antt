@@ -1,5 +1,5 @@
 use Rattle.std.proofs.Common.{◌≡◌, map, reverse, ap, ◌∙◌}
-use Rattle.order_histories.specs.OrderRecord.{broken, mark}
+use Rattle.order_machine.specs.OrderRecord.{with_trade_broken, mark}
 use Rattle.orders.specs.Seen.{told_seen}
 use Rattle.orders.specs.contracts.order.Order.{the_view}
 use Rattle.orders.proofs.Broken.{broken-is}
@@ -13,4 +13,4 @@ returns c =
     let is = c.broken-self-inside.ensures in
     broken-is c.args.told (the_view c.self.inside) c.broken-self-inside.result (reverse (map told_seen c.mark.new.trades.items)) trades
     is.stage is.refused is.total_closed is.total_open is.price is.unfilled is.executed is.cancelled is.value
-    ∙ ap (broken (told_seen c.args.told)) c.self.view_is
+    ∙ ap (with_trade_broken (told_seen c.args.told)) c.self.view_is

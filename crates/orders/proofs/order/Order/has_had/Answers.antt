@@ -1,7 +1,7 @@
 use Rattle.std.proofs.Common.{Bool, reverse, sym, ap, ◌∙◌}
 use Rattle.std.specs.Prelude.{◌||◌, bytes_eq}
 use Rattle.std.specs.List.{list_any}
-use Rattle.order_histories.specs.OrderRecord.{OrderRecord}
+use Rattle.order_machine.specs.OrderRecord.{OrderRecord}
 use Rattle.orders.proofs.Marks.{any-reverse}
 use Rattle.orders.proofs.order.Order.has_had.Goals as goal
 

@@ -1,7 +1,7 @@
 use Rattle.std.proofs.Common.{◌≡◌, ◌+◌, Option, Some, sym, ap, ◌∙◌}
 use Rattle.std.specs.Prelude.{option_map}
 use Rattle.order_law.specs.History.{Entry}
-use Rattle.order_histories.specs.OrderRecord.{OrderRecord, live_token}
+use Rattle.order_machine.specs.OrderRecord.{OrderRecord, live_token}
 use Rattle.orders.specs.declared.change.Change.{Change}
 use Rattle.orders.specs.Changes.{changed_by, replaced_as, still_without, with_quantities}
 use Rattle.orders.specs.Seen.{replace_seen}

@@ -1,23 +1,23 @@
 use Rattle.std.proofs.Common.{◌≤◌, ◌+◌, ◌∷◌, subst, sym}
 use Rattle.soup_session.specs.declared.machine.Port.{Port}
-use Rattle.soup_session.specs.Table.{Hears}
-use Rattle.soup_session.specs.Calls.{Leaves}
+use Rattle.soup_session.specs.Table.{OnPacket}
+use Rattle.soup_session.specs.Calls.{CallsLeave}
 use Rattle.soup_session.proofs.Kept.{leaves_more, answers_call}
-use Rattle.soup_session.proofs.Gives.{gives_each_once}
+use Rattle.soup_session.proofs.Delivers.{delivers_each_once}
 use Rattle.soup_session.proofs.Grows.{next_grows}
 use Rattle.soup_session.proofs.session.PortSession.on_packet.Goals as goal
 
 pub returns-clause-leaves : goal.returns-clause-leaves
 returns-clause-leaves c = λ terms before l.
-    rw c.take.ensures.port (leaves_more terms before c.self.inside.port (Hears c.args.packet.now c.args.at) c.in_ok-answered.answered c.in_ok-answered.ensures (subst (Leaves terms before) (sym c.self.view_is) l))
+    rw c.take.ensures.port (leaves_more terms before c.self.inside.port (OnPacket c.args.packet.now c.args.at) c.in_ok-answered.answered c.in_ok-answered.ensures (subst (CallsLeave terms before) (sym c.self.view_is) l))
 
 pub returns-clause-answers : goal.returns-clause-answers
 returns-clause-answers c = λ terms before l.
-    answers_call terms before c.self.inside.port (Hears c.args.packet.now c.args.at) c.in_ok-answered.answered c.take.result c.in_ok-answered.ensures c.take.ensures.outs c.take.ensures.payload (subst (Leaves terms before) (sym c.self.view_is) l)
+    answers_call terms before c.self.inside.port (OnPacket c.args.packet.now c.args.at) c.in_ok-answered.answered c.take.result c.in_ok-answered.ensures c.take.ensures.outs c.take.ensures.payload (subst (CallsLeave terms before) (sym c.self.view_is) l)
 
-pub returns-clause-given : goal.returns-clause-given
-returns-clause-given c = λ terms before l.
-    gives_each_once terms (Hears c.args.packet.now c.args.at ∷ before) c.in_ok-answered.answered.port (leaves_more terms before c.self.inside.port (Hears c.args.packet.now c.args.at) c.in_ok-answered.answered c.in_ok-answered.ensures (subst (Leaves terms before) (sym c.self.view_is) l))
+pub returns-clause-delivered : goal.returns-clause-delivered
+returns-clause-delivered c = λ terms before l.
+    delivers_each_once terms (OnPacket c.args.packet.now c.args.at ∷ before) c.in_ok-answered.answered.port (leaves_more terms before c.self.inside.port (OnPacket c.args.packet.now c.args.at) c.in_ok-answered.answered c.in_ok-answered.ensures (subst (CallsLeave terms before) (sym c.self.view_is) l))
 
 pub returns-clause-next : goal.returns-clause-next
 returns-clause-next c =

@@ -1,9 +1,0 @@
-use Rattle.std.proofs.Common.{◌≡◌, ◌++◌, map}
-use Rattle.session_frames.specs.Written.{told}
-use Rattle.core_law.specs.Sessions.{to_link}
-use Rattle.core_batches.specs.Seen.{link_out_seen}
-use Rattle.core_batches.proofs.link_outs.tell_client.Given as goal
-
--- the outputs passed so far
-abbrev pub invariant-loop-out : goal.invariant-loop-out
-invariant-loop-out l = map link_out_seen l.to.items ≡ map link_out_seen l.fn.to.items ++ map (to_link l.link) (map told l.yielded)

@@ -1,9 +1,0 @@
-use Rattle.soup_session.specs.Table.{Opens}
-use Rattle.core_lines.proofs.Ports.{port-answers, port-more}
-use Rattle.core_lines.proofs.port_line.PortLine.comes.Goals as goal
-
-pub returns-clause-leaves : goal.returns-clause-leaves
-returns-clause-leaves c = λ s p calls. port-more s p calls c.args.self.now.session (Opens c.args.at) c.on_up.new.self c.in_ok-turn.ensures.leaves
-
-pub returns-clause-answers : goal.returns-clause-answers
-returns-clause-answers c = λ s p calls. port-answers s p calls c.args.self.now.session (Opens c.args.at) c.in_ok-turn.turn c.in_ok-turn.ensures.answers

@@ -1,5 +1,0 @@
-use Rattle.core_lines.proofs.Ports.{port-first}
-use Rattle.core_lines.proofs.port_line.PortLine.new.Goals as goal
-
-pub returns-clause-leaves : goal.returns-clause-leaves
-returns-clause-leaves c = λ s p is. port-first s p _ c.new.result c.new.ensures.leaves is

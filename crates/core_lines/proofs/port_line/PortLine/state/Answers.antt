@@ -1,5 +1,0 @@
-use Rattle.core_lines.proofs.Ports.{port-stands}
-use Rattle.core_lines.proofs.port_line.PortLine.state.Goals as goal
-
-pub returns-clause-state : goal.returns-clause-state
-returns-clause-state c = λ s p calls. port-stands s p calls c.args.self.now.session c.state.result c.state.ensures.state

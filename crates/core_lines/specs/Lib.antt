@@ -1,3 +1,0 @@
-pub mod Leaving
-pub mod Lines
-pub mod Longest

@@ -1,4 +1,0 @@
-use Rattle.core_scripts.proofs.desk.Desk.take.Goals as goal
-
-pub returns-clause-stepped : goal.returns-clause-stepped
-returns-clause-stepped c = (c.in_ok-line.line, c.in_ok-line.ensures.said, record { on = c.in_ok-step.ensures.on; events = c.in_ok-step.ensures.line })

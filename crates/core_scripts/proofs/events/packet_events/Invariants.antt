@@ -1,8 +1,0 @@
--- An event for each packet that was taken.
-use Rattle.std.proofs.Common.{◌≡◌, map}
-use Rattle.core_law.specs.Events as law
-use Rattle.core_batches.specs.Seen.{event_seen}
-use Rattle.core_scripts.proofs.events.packet_events.Given as goal
-
-abbrev pub invariant-loop-packet : goal.invariant-loop-packet
-invariant-loop-packet l = map event_seen l.events.items ≡ map (law.PortPacket l.port l.link l.at) l.yielded

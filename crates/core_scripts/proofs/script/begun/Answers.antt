@@ -1,6 +1,0 @@
-use Rattle.std.proofs.Common.{Bool, sym, subst}
-use Rattle.core_scripts.specs.Scripts.{Begins}
-use Rattle.core_scripts.proofs.script.begun.Goals as goal
-
-pub returns : goal.returns
-returns c = subst (λ (cold : Bool). Begins cold c.in_ok-warm.warm) (sym c.if-flags.false) (c.started.new.kept, c.in_ok-warm.ensures c.new-kept.ensures)

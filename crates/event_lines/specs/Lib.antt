@@ -1,5 +1,0 @@
-pub mod Hexadecimal
-pub mod Lines
-pub mod Login
-pub mod Understood
-pub mod WorkedLines

@@ -1,0 +1,152 @@
+//! A case: a script with what it prints.
+
+use crate::between::{Named, push_line};
+use gate_lines::{Flags, run_script};
+use std::alloc::{AllocError, Global};
+use std::io::{self, Write};
+
+/// A script, and what it has to print and to tell.
+#[derive(Drop)]
+pub struct Case {
+    name: Vec<u8>,
+    script: Vec<u8>,
+    /// What the script has to print.
+    wanted: Vec<u8>,
+    /// What has to end it, where it isn't its own end.
+    told: Vec<u8>,
+    flags: Flags,
+    /// Whether each line so far was one of a case, and each single line that isn't to be understood wasn't.
+    is_right: bool,
+}
+
+impl Case {
+    /// No case yet.
+    pub fn new(alloc: Global) -> Case {
+        Case {
+            name: Vec::new(alloc),
+            script: Vec::new(alloc),
+            wanted: Vec::new(alloc),
+            told: Vec::new(alloc),
+            flags: Flags {
+                num: false,
+                raw: false,
+                cold: false,
+            },
+            is_right: true,
+        }
+    }
+
+    /// A case of this name, of which nothing was read.
+    pub fn named(alloc: Global, name: &[u8]) -> Result<Case, AllocError> {
+        Ok(Case {
+            name: Vec::from_slice(alloc, name)?,
+            ..Case::new(alloc)
+        })
+    }
+
+    /// Takes a line of the case.
+    pub fn take(&mut self, alloc: Global, line: &[u8]) -> Result<(), AllocError> {
+        if line.is_empty() || line.starts_with(b"#") {
+            return Ok(());
+        }
+        if let Some(text) = line.strip_prefix(b"-> ") {
+            return push_line(&mut self.wanted, text);
+        }
+        if let Some(text) = line.strip_prefix(b"!! ") {
+            return push_line(&mut self.told, text);
+        }
+        if let Some(text) = line.strip_prefix(b"?? ") {
+            let told = b"line 1: not understood\n";
+            self.is_right = self.is_right && has_run(alloc, self.flags, text, b"", told);
+            return Ok(());
+        }
+        if let Some(text) = line.strip_prefix(b"-- ") {
+            self.flag(text);
+            return Ok(());
+        }
+        push_line(&mut self.script, line)
+    }
+
+    /// Takes the name of a flag. A name of none makes the case wrong.
+    fn flag(&mut self, name: &[u8]) {
+        if name == b"num".as_slice() {
+            self.flags.num = true;
+        } else if name == b"raw".as_slice() {
+            self.flags.raw = true;
+        } else if name == b"cold".as_slice() {
+            self.flags.cold = true;
+        } else {
+            self.is_right = false;
+        }
+    }
+
+    /// Ends the case, and says whether all was as it is to be; also with lines of others between, where that is asked
+    /// for.
+    pub fn end<W: Write>(
+        &self,
+        alloc: Global,
+        is_mixed: bool,
+        output: &mut W,
+    ) -> Result<(), io::Error> {
+        if self.name.is_empty() {
+            return Ok(());
+        }
+        let is_right = self.is_right && self.has_run(alloc) && (!is_mixed || self.is_apart(alloc)?);
+        output.write_all(self.name.as_slice())?;
+        output.write_all(if is_right {
+            b": right\n".as_slice()
+        } else {
+            b": WRONG\n".as_slice()
+        })
+    }
+
+    /// Whether the script prints what it has to, and ends as it is to.
+    fn has_run(&self, alloc: Global) -> bool {
+        has_run(
+            alloc,
+            self.flags,
+            self.script.as_slice(),
+            self.wanted.as_slice(),
+            self.told.as_slice(),
+        )
+    }
+
+    /// Whether, with lines of others between, its own lines print the same, and those of the others what they print
+    /// without them. A script that ends at a line that isn't understood is left as it is.
+    fn is_apart(&self, alloc: Global) -> Result<bool, AllocError> {
+        if !self.told.is_empty() {
+            return Ok(true);
+        }
+        let script = self.script.as_slice();
+        let named = Named::in_script(script);
+        let mixed = self.printed(alloc, named.mixed(alloc, script, true)?.as_slice())?;
+        let others = self.printed(alloc, named.mixed(alloc, script, false)?.as_slice())?;
+        Ok(
+            named.part(alloc, mixed.as_slice(), false)? == self.wanted
+                && named.part(alloc, mixed.as_slice(), true)? == others,
+        )
+    }
+
+    /// What a script prints; a line of its own behind it where it doesn't come to its end.
+    fn printed(&self, alloc: Global, script: &[u8]) -> Result<Vec<u8>, AllocError> {
+        let mut input = script;
+        let mut output = Vec::new(alloc);
+        let mut faults = Vec::new(alloc);
+        let status = run_script(alloc, self.flags, &mut input, &mut output, &mut faults);
+        if status != 0 {
+            push_line(&mut output, b"no end")?;
+        }
+        Ok(output)
+    }
+}
+
+/// Whether a script prints this and ends as it is to: at its end, or at a line that isn't understood where that is
+/// told.
+fn has_run(alloc: Global, flags: Flags, script: &[u8], wanted: &[u8], told: &[u8]) -> bool {
+    let mut input = script;
+    let mut output = Vec::new(alloc);
+    let mut faults = Vec::new(alloc);
+    let status = run_script(alloc, flags, &mut input, &mut output, &mut faults);
+    let ends = if told.is_empty() { 0 } else { 2 };
+    status == ends && output.as_slice() == wanted && faults.as_slice() == told
+}

@@ -1,8 +1,0 @@
-use Rattle.std.proofs.Common.{◌≡◌, map, take}
-use Rattle.to_market.specs.TermsSeen.{terms_seen}
-use Rattle.core_law.specs.Settings.{ClientSettings}
-use Rattle.gate_core.proofs.gate.new.client_terms.Given as goal
-
--- those of the clients so far
-abbrev pub invariant-loop-client : goal.invariant-loop-client
-invariant-loop-client l = map terms_seen l.all.items ≡ map (λ (c : ClientSettings). c.terms) (take l.client-index l.client-items)

@@ -1,0 +1,56 @@
+use Rattle.std.proofs.Common.{◌≡◌, ◌+◌, ◌∷◌, [], ℕ, Some, None, true, refl, sym, ◌∙◌, subst}
+use Rattle.std.specs.Prelude.{◌&&◌}
+use Rattle.std.proofs.lemmas.Result.{IfOk-weaker}
+use Rattle.session_law.specs.Runs.{OnMessage}
+use Rattle.fix_fields.specs.Field.{Message}
+use Rattle.gate_law.specs.Settings.{has_client}
+use Rattle.gate_law.specs.Events.{ClientMessage, is_the_number}
+use Rattle.gate_core.specs.declared.parts.Parts.{Parts}
+use Rattle.gate_events.specs.Seen.{batch_seen}
+use Rattle.gate_core.specs.Steps.{AfterFrame, Stepped}
+use Rattle.gate_core.proofs.Parted.{clients-parts}
+use Rattle.gate_core.proofs.parts.Parts.client_message.Goals as goal
+
+pub returns-in-Some-app-clause-step : goal.returns-in-Some-app-clause-step
+returns-in-Some-app-clause-step c =
+    IfOk-weaker c.message_delivered.result _ _
+    (λ b step s v ready.
+    let n = c.in-Some.place + 1 in
+    let is = c.in-Some.ensures.place.0 in
+    let answer = c.in_ok-outs.ensures.answers s v.client_calls ready.parts.clients in
+    let mid : Parts = record { clients = c.client_frame.new.lines; ports = c.args.self.now.ports; client_ports = c.args.self.now.client_ports; orders = c.args.self.now.orders } in
+    let heard : AfterFrame s n c.args.link c.args.at c.fields.result.now (Some c.in-Some-app.message) c.in_ok-outs.field-0.outs.items v mid = record {
+      on = subst (λ (k : ℕ). (has_client s k && is_the_number c.args.link (v.client_link k)) ≡ true) is (sym (c.in-Some.ensures.on s v ready.parts));
+      app_is = sym answer.app ∙ c.in-Some-app.is;
+      said_is = answer.outs;
+      linked = ready.linked;
+      few = ready.few;
+      parts = clients-parts s n ((c.args.at, OnMessage c.fields.result.now) ∷ []) v c.args.self.now mid ready.parts
+          (c.in_ok-outs.ensures.leave s v.client_calls ready.parts.clients) (c.client_frame.ensures.links v.client_link ready.parts.client_links) c.client_frame.ensures.length refl refl refl;
+    } in
+    subst (λ (k : ℕ). Stepped s (ClientMessage k c.args.link c.args.at c.args.frame.now) (batch_seen b) v c.message_delivered.new.self) (sym is)
+    (subst (λ (m : Message). Stepped s (ClientMessage n c.args.link c.args.at m) (batch_seen b) v c.message_delivered.new.self) c.fields.ensures.fields
+    (step s v c.args.link c.fields.result.now heard)))
+    c.message_delivered.ensures.step
+
+pub returns-in-None-clause-step : goal.returns-in-None-clause-step
+returns-in-None-clause-step c =
+    IfOk-weaker c.no_message_delivered.result _ _
+    (λ b step s v ready.
+    let n = c.in-Some.place + 1 in
+    let is = c.in-Some.ensures.place.0 in
+    let answer = c.in_ok-outs.ensures.answers s v.client_calls ready.parts.clients in
+    let mid : Parts = record { clients = c.client_frame.new.lines; ports = c.args.self.now.ports; client_ports = c.args.self.now.client_ports; orders = c.args.self.now.orders } in
+    let heard : AfterFrame s n c.args.link c.args.at c.fields.result.now None c.in_ok-outs.field-0.outs.items v mid = record {
+      on = subst (λ (k : ℕ). (has_client s k && is_the_number c.args.link (v.client_link k)) ≡ true) is (sym (c.in-Some.ensures.on s v ready.parts));
+      app_is = sym answer.app ∙ c.in-None.is;
+      said_is = answer.outs;
+      linked = ready.linked;
+      few = ready.few;
+      parts = clients-parts s n ((c.args.at, OnMessage c.fields.result.now) ∷ []) v c.args.self.now mid ready.parts
+          (c.in_ok-outs.ensures.leave s v.client_calls ready.parts.clients) (c.client_frame.ensures.links v.client_link ready.parts.client_links) c.client_frame.ensures.length refl refl refl;
+    } in
+    subst (λ (k : ℕ). Stepped s (ClientMessage k c.args.link c.args.at c.args.frame.now) (batch_seen b) v c.no_message_delivered.new.self) (sym is)
+    (subst (λ (m : Message). Stepped s (ClientMessage n c.args.link c.args.at m) (batch_seen b) v c.no_message_delivered.new.self) c.fields.ensures.fields
+    (step s v c.args.link c.args.at c.fields.result.now heard)))
+    c.no_message_delivered.ensures.step

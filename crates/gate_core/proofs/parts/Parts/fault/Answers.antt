@@ -1,0 +1,62 @@
+use Rattle.std.proofs.Common.{◌≡◌, ℕ, ◌+◌, ◌∷◌, [], Some, map, true, false, refl, sym, ap, ◌∙◌, subst}
+use Rattle.std.proofs.lemmas.Option.{slice_get_read}
+use Rattle.soup_session.specs.Faults.{fault_number}
+use Rattle.soup_session.specs.States.{is_up}
+use Rattle.soup_session.specs.Table.{OnPacket, Fail}
+use Rattle.gate_law.specs.Events.{Batch, PortPacket}
+use Rattle.gate_law.specs.Lists.{Lists, port_called, turned}
+use Rattle.gate_law.specs.Sessions.{port_state}
+use Rattle.gate_core.specs.declared.parts.Parts.{Parts}
+use Rattle.gate_events.specs.Seen.{link_out_seen}
+use Rattle.gate_events.specs.Batches.{batch_of}
+use Rattle.gate_core.specs.Steps.{Stepped, heard_turn}
+use Rattle.gate_core.proofs.Growing.{ports-grow}
+use Rattle.gate_core.proofs.Parted.{not-up, ports-parts}
+use Rattle.gate_core.proofs.Payloads.{faulty-step, up-after}
+use Rattle.gate_law.proofs.Messages.{reads-after}
+use Rattle.gate_core.proofs.parts.Parts.fault.Goals as goal
+
+pub returns-in_err-turn-in-Up-clause-grows : goal.returns-in_err-turn-in-Up-clause-grows
+returns-in_err-turn-in-Up-clause-grows c = ports-grow c.args.self.now _ c.port_fail.ensures.length c.port_fail.ensures.next refl refl refl
+
+pub returns-in_err-port_out-in-Up-clause-grows : goal.returns-in_err-port_out-in-Up-clause-grows
+returns-in_err-port_out-in-Up-clause-grows c =
+    ports-grow c.args.self.now _ (c.told_port.ensures.length ∙ c.port_fail.ensures.length)
+    (λ n within. c.told_port.ensures.next n (c.port_fail.ensures.next n within)) refl refl refl
+
+pub returns-in_ok-port_out-in-Up-clause-grows : goal.returns-in_ok-port_out-in-Up-clause-grows
+returns-in_ok-port_out-in-Up-clause-grows c =
+    ports-grow c.args.self.now _ (c.told_port.ensures.length ∙ c.port_fail.ensures.length)
+    (λ n within. c.told_port.ensures.next n (c.port_fail.ensures.next n within)) refl refl refl
+
+pub returns-in_ok-port_out-in-Up-clause-step : goal.returns-in_ok-port_out-in-Up-clause-step
+returns-in_ok-port_out-in-Up-clause-step c s v link at packet payload g given faulty =
+    let p = c.args.place + 1 in
+    let k = c.args.fault in
+    let t = heard_turn p payload 0 [] (Some (fault_number k)) in
+    let w : Lists = turned (Some t) (port_called p (OnPacket packet at) v) in
+    let mid : Parts = record { clients = c.args.self.now.clients; ports = c.port_fail.new.lines; client_ports = c.args.self.now.client_ports; orders = c.args.self.now.orders } in
+    let new : Parts = record { clients = c.args.self.now.clients; ports = c.told_port.new.lines; client_ports = c.args.self.now.client_ports; orders = c.args.self.now.orders } in
+    let answer = c.in_ok-turn-in-Up.ensures.answers s w.port_calls faulty.parts.ports in
+    let parts = ports-parts s p (Fail k ∷ []) w c.args.self.now mid faulty.parts (c.in_ok-turn-in-Up.ensures.leave s w.port_calls faulty.parts.ports)
+    (c.port_fail.ensures.links w.port_link faulty.parts.port_links) c.port_fail.ensures.length refl refl refl in
+    let packets = c.in_ok-port_out-in-Up.ensures.outs v.port_link parts.port_links in
+    let outs = map link_out_seen c.in_ok-port_out-in-Up.port_out.items in
+    subst (λ (b : Batch). Stepped s (PortPacket p link at packet) b v new)
+    (sym (c.for_port.ensures ∙ ap (λ (n : ℕ). batch_of 0 [] [] n outs (Some k)) c.at_place.ensures))
+    (faulty-step s p link at packet payload c.args.said.now v g given k c.deref.result.now mid new (map link_out_seen c.in_ok-port_out-in-Up.port_out.items)
+    reads-after faulty.headline (c.deref.ensures.value ∙ answer.outs) parts packets
+    (c.told_port.ensures.leave s (port_called p (Fail k) w).port_calls parts.ports) (c.in_ok-port_out-in-Up.ensures.links v.port_link parts.port_links) c.told_port.ensures.length refl refl refl)
+
+-- the payload was given only while the port was up, and it still is
+pub returns-in_default : goal.returns-in_default
+returns-in_default c = record {
+  step = λ s v link at packet payload g given faulty.
+      let p = c.args.place + 1 in
+      let calls = (port_called p (OnPacket packet at) v).port_calls p in
+      let leaves = faulty.parts.ports c.args.place c.index.result.now (slice_get_read c.args.self.now.ports.items _ c.args.place c.index.result.now refl c.requires.place c.index.ensures) in
+      let down : is_up (port_state s p calls) ≡ false = ap is_up (sym (c.state.ensures.state s p calls leaves)) ∙ not-up c.state.result c.in_default.not-Up in
+      let up : is_up (port_state s p calls) ≡ true = up-after s p link at packet payload c.args.said.now v g given in
+      absurd (let clash : true ≡ false = sym up ∙ down in cc);
+  grows = ports-grow c.args.self.now c.args.self.now refl (λ n within. within) refl refl refl;
+}

@@ -1,0 +1,35 @@
+//! The parts of the core, and the events that step them.
+
+mod client_frames;
+mod client_links;
+mod client_messages;
+mod event_targets;
+mod events;
+mod new;
+mod port_links;
+mod port_packets;
+mod port_payloads;
+
+ghost use Rattle.std.specs.Prelude.{◌≡◌, ◌<◌, ◌+◌, ◌&&◌, nat_le, is_some, IfSome};
+
+use gate_sessions::{ClientLine, PortLine};
+use order_core::OrderCore;
+
+/// The lines of all clients and ports, and the order level.
+#[derive(Debug, Drop)]
+pub(crate) struct Parts {
+    pub(crate) clients: Vec<ClientLine>,
+    pub(crate) ports: Vec<PortLine>,
+    /// The port of each client, by the client's place.
+    pub(crate) client_ports: Vec<u16>,
+    pub(crate) orders: OrderCore,
+}
+
+/// The place of a number from 1, where there are so many.
+fn place_of(number: u16, count: usize) -> Option<usize>
+    ensures known { is_some result ≡ (nat_le 1 number && nat_le number count) }
+    ensures place { IfSome result (λ place. (number ≡ place + 1) × (place < count)) }
+{
+    let place = usize::from(number).checked_sub(1)?;
+    if place < count { Some(place) } else { None }
+}

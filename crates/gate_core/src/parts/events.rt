@@ -1,0 +1,49 @@
+//! Every event, on the parts.
+
+ghost use Rattle.std.specs.Prelude.{◌^◌, IfOk};
+ghost use Rattle.order_core.specs.State.{CoreHasRoom};
+ghost use Rattle.gate_law.specs.Settings.{Settings};
+ghost use Rattle.gate_law.specs.Lists.{Lists};
+ghost use Rattle.gate_sessions.specs.Lines.{NextWithin};
+ghost use Rattle.gate_events.specs.Seen.{batch_seen, event_seen};
+ghost use Rattle.gate_core.specs.State.{IsShaped};
+ghost use Rattle.gate_core.specs.Steps.{Grows, Ready, Stepped};
+
+use super::Parts;
+use gate_events::{Batch, Event};
+use std::alloc::{AllocError, Global};
+
+impl Parts {
+    /// Steps an event.
+    pub(crate) fn event(&mut self, alloc: Global, event: &Event) -> Result<Batch, AllocError>
+        requires shaped { IsShaped self.old }
+        requires room { CoreHasRoom self.old.orders }
+        requires next { NextWithin (2 ^ 59) self.old.ports.items }
+        ensures step { IfOk result (λ b. (s : Settings) (v : Lists) → Ready s v self.old
+            → Stepped s (event_seen event.now) (batch_seen b) v self.new) }
+        ensures grows { Grows 3 1 self.old self.new }
+    {
+        match event {
+            Event::ClientUp { client, link, at } => self.client_up(alloc, *client, *link, *at),
+            Event::ClientMessage {
+                client,
+                link,
+                at,
+                frame,
+            } => self.client_message(alloc, *client, *link, *at, frame),
+            Event::ClientGone { client, link, at } => {
+                Ok(self.client_gone(alloc, *client, *link, *at))
+            }
+            Event::ClientTick { client, at } => self.client_tick(alloc, *client, *at),
+            Event::PortUp { port, link, at } => self.port_up(alloc, *port, *link, *at),
+            Event::PortPacket {
+                port,
+                link,
+                at,
+                packet,
+            } => self.port_packet(alloc, *port, *link, *at, packet),
+            Event::PortGone { port, link, at } => Ok(self.port_gone(alloc, *port, *link, *at)),
+            Event::PortTick { port, at } => self.port_tick(alloc, *port, *at),
+        }
+    }
+}

@@ -1,0 +1,119 @@
+//! Events of ports: links and ticks.
+
+ghost use Rattle.std.specs.Prelude.{◌≡◌, ◌<◌, ◌+◌, ◌&&◌, length, true, is_some, IfOk, IfSome};
+ghost use Rattle.soup_session.specs.States.{is_up};
+ghost use Rattle.gate_law.specs.Settings.{Settings, has_port};
+ghost use Rattle.gate_law.specs.Events.{PortUp, PortGone, PortTick, is_the_number};
+ghost use Rattle.gate_law.specs.Lists.{Lists};
+ghost use Rattle.gate_law.specs.Sessions.{port_state};
+ghost use Rattle.gate_sessions.specs.Lines.{IsUpAt};
+ghost use Rattle.gate_events.specs.Seen.{batch_seen};
+ghost use Rattle.gate_core.specs.State.{ArePartsOf};
+ghost use Rattle.gate_core.specs.Steps.{Grows, Ready, Stepped};
+
+use super::{Parts, place_of};
+use gate_events::{Batch, PortNumber, told_port};
+use gate_sessions::{port_gone, port_tick, port_up};
+use soup_session::PortState;
+use std::alloc::{AllocError, Global};
+
+impl Parts {
+    /// A port's link is up: the session is told, and may close it at once; or, where another is current, the new one
+    /// is closed.
+    pub(crate) fn port_up(
+        &mut self,
+        alloc: Global,
+        port: PortNumber,
+        link: u64,
+        at: u64,
+    ) -> Result<Batch, AllocError>
+        ensures step { IfOk result (λ b. (s : Settings) (v : Lists) → Ready s v self.old
+            → Stepped s (PortUp port link at) (batch_seen b) v self.new) }
+        ensures grows { Grows 0 0 self.old self.new }
+    {
+        let Some(place) = self.port_place(port) else {
+            return Ok(Batch::empty(alloc));
+        };
+        match self.port_link(place) {
+            None => {
+                let turn = port_up(&mut self.ports, alloc, place, link, at)?;
+                let outs = told_port(&mut self.ports, alloc, place, &turn.outs, &[])?;
+                Ok(Batch::for_port(alloc, port, outs, None))
+            }
+            Some(current) if current == link => Ok(Batch::empty(alloc)),
+            Some(_) => Batch::refused_port(alloc, port, link),
+        }
+    }
+
+    /// A port's current link is gone.
+    pub(crate) fn port_gone(&mut self, alloc: Global, port: PortNumber, link: u64, at: u64) -> Batch
+        ensures step { (s : Settings) (v : Lists) → Ready s v self.old
+            → Stepped s (PortGone port link at) (batch_seen result) v self.new }
+        ensures grows { Grows 0 0 self.old self.new }
+    {
+        let Some(place) = self.port_on(port, link) else {
+            return Batch::empty(alloc);
+        };
+        port_gone(&mut self.ports, place);
+        Batch::empty(alloc)
+    }
+
+    /// Time passes for a port's session.
+    pub(crate) fn port_tick(
+        &mut self,
+        alloc: Global,
+        port: PortNumber,
+        at: u64,
+    ) -> Result<Batch, AllocError>
+        ensures step { IfOk result (λ b. (s : Settings) (v : Lists) → Ready s v self.old
+            → Stepped s (PortTick port at) (batch_seen b) v self.new) }
+        ensures grows { Grows 0 0 self.old self.new }
+    {
+        let Some(place) = self.port_place(port) else {
+            return Ok(Batch::empty(alloc));
+        };
+        let turn = port_tick(&mut self.ports, alloc, place, at)?;
+        let outs = told_port(&mut self.ports, alloc, place, &turn.outs, &[])?;
+        Ok(Batch::for_port(alloc, port, outs, None))
+    }
+
+    /// The place of a port, where the settings have it.
+    pub(crate) fn port_place(&self, port: PortNumber) -> Option<usize>
+        ensures known { (s : Settings) (v : Lists) → ArePartsOf s v self.now → is_some result ≡ has_port s port }
+        ensures place { IfSome result (λ place. (port ≡ place + 1) × (place < length self.now.ports.items)) }
+    {
+        place_of(port.number(), self.ports.len())
+    }
+
+    /// The current link of the port at a place.
+    pub(crate) fn port_link(&self, place: usize) -> Option<u64>
+        requires place { place < length self.now.ports.items }
+        ensures link { (s : Settings) (v : Lists) → ArePartsOf s v self.now → result ≡ v.port_link (place + 1) }
+    {
+        self.ports[place].link
+    }
+
+    /// How the port at a place stands.
+    pub(crate) fn port_state(&self, place: usize) -> PortState
+        requires place { place < length self.now.ports.items }
+        ensures state { (s : Settings) (v : Lists) → ArePartsOf s v self.now
+            → result ≡ port_state s (place + 1) (v.port_calls (place + 1)) }
+        ensures up { is_up result ≡ true → IsUpAt place self.now.ports.items }
+    {
+        self.ports[place].state()
+    }
+
+    /// The place of a port of which this link is the current one.
+    pub(crate) fn port_on(&self, port: PortNumber, link: u64) -> Option<usize>
+        ensures on { (s : Settings) (v : Lists) → ArePartsOf s v self.now
+            → is_some result ≡ (has_port s port && is_the_number link (v.port_link port)) }
+        ensures place { IfSome result (λ place. (port ≡ place + 1) × (place < length self.now.ports.items)) }
+    {
+        let place = self.port_place(port)?;
+        if self.port_link(place) == Some(link) {
+            Some(place)
+        } else {
+            None
+        }
+    }
+}

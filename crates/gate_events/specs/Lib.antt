@@ -1,0 +1,13 @@
+pub mod Seen
+pub mod Links
+pub mod Batches
+pub use Rattle.fix_fields.specs.Field
+pub use Rattle.fix_framing.specs.Stream
+pub use Rattle.gate_law.specs.After
+pub use Rattle.gate_law.specs.Events
+pub use Rattle.gate_law.specs.Sessions
+pub use Rattle.gate_law.specs.Settings
+pub use Rattle.gate_sessions.specs.Lines
+pub use Rattle.session_law.specs.Runs
+pub use Rattle.session_writing.specs.Written
+pub use Rattle.soup_session.specs.Table

@@ -1,0 +1,36 @@
+//! What an event gives.
+
+ghost use Rattle.std.specs.Prelude.{◌≡◌, ◌==◌, ◌&&◌, not, is_some, length};
+
+use crate::number::{ClientNumber, PortNumber};
+use gate_sessions::IssuedReport;
+use soup_session::PortFault;
+
+/// What a link is told.
+#[derive(Debug, Drop)]
+pub enum LinkOut {
+    /// The bytes of one frame or packet are to be written.
+    Write { link: u64, bytes: Vec<u8> },
+    /// The link is to be closed.
+    Close { link: u64 },
+}
+
+/// What one event gives. It names a client just where there is something for one, and a port likewise.
+#[derive(Debug, Drop)]
+pub struct Batch {
+    /// The client that something is for, where there is one.
+    pub client: Option<ClientNumber>,
+    /// Each report and reject as it was issued, with its number, be its frame written or not: the fields from MsgType
+    /// (35) on.
+    pub reports: Vec<IssuedReport>,
+    /// What the client's link is told, in order.
+    pub client_out: Vec<LinkOut>,
+    /// The port that something is for, where there is one.
+    pub port: Option<PortNumber>,
+    /// What the port's link is told, in order.
+    pub port_out: Vec<LinkOut>,
+    /// The fault of the port's packet or payload: the port stays closed.
+    pub fault: Option<PortFault>,
+    ghost for_client: { is_some client ≡ not ((length reports.items == 0) && (length client_out.items == 0)) },
+    ghost for_port: { is_some port ≡ not ((length port_out.items == 0) && not (is_some fault)) },
+}

@@ -1,0 +1,97 @@
+//! What sessions say, as their links are told it.
+
+ghost use Rattle.std.specs.Prelude.{◌≡◌, ◌++◌, map, IfOk};
+ghost use Rattle.session_writing.specs.Written.{told_bytes};
+ghost use Rattle.gate_law.specs.Sessions.{to_link, to_port, port_line};
+ghost use Rattle.gate_law.specs.After.{is_close};
+ghost use Rattle.gate_events.specs.Seen.{link_out_seen};
+ghost use Rattle.gate_events.specs.Links.{outs_told_on, is_link_closed};
+
+use crate::batch::LinkOut;
+use fix_session::SessionOut;
+use soup_session::PortOut;
+use std::alloc::{AllocError, Global};
+use wire_law::WholeWire;
+
+/// What a client's session said goes onto its link, where there is one.
+pub(crate) fn tell_client(
+    link: Option<u64>,
+    outs: Vec<SessionOut>,
+    to: &mut Vec<LinkOut>,
+) -> Result<(), AllocError>
+    ensures { IfOk result (λ u. map link_out_seen to.new.items
+        ≡ map link_out_seen to.old.items ++ outs_told_on link (map told_bytes outs.items)) }
+{
+    let Some(link) = link else {
+        return Ok(());
+    };
+    for out in outs {
+        to.push(client_line(link, out))?;
+    }
+    Ok(())
+}
+
+/// One output of a client's session.
+fn client_line(link: u64, out: SessionOut) -> LinkOut
+    ensures { link_out_seen result ≡ to_link link (told_bytes out) }
+{
+    match out {
+        SessionOut::Frame(bytes) => LinkOut::Write { link, bytes },
+        SessionOut::Close => LinkOut::Close { link },
+    }
+}
+
+/// What a port's session said, onto its link where there is one.
+pub(crate) fn tell_port(
+    alloc: Global,
+    link: Option<u64>,
+    outs: &[PortOut],
+    to: &mut Vec<LinkOut>,
+) -> Result<(), AllocError>
+    ensures { IfOk result (λ u. map link_out_seen to.new.items
+        ≡ map link_out_seen to.old.items ++ to_port link outs.now) }
+{
+    let Some(link) = link else {
+        return Ok(());
+    };
+    for out in outs {
+        to.push(port_line_of(alloc, link, out)?)?;
+    }
+    Ok(())
+}
+
+/// One output of a port's session.
+fn port_line_of(alloc: Global, link: u64, out: &PortOut) -> Result<LinkOut, AllocError>
+    ensures { IfOk result (λ line. link_out_seen line ≡ port_line link out.now) }
+{
+    match out {
+        PortOut::Packet(packet) => {
+            let mut bytes = Vec::new(alloc);
+            packet.put(&mut bytes)?;
+            Ok(LinkOut::Write { link, bytes })
+        }
+        PortOut::Close => Ok(LinkOut::Close { link }),
+    }
+}
+
+/// Whether the current link is closed by one of these.
+pub fn closes_link(link: Option<u64>, outs: &[LinkOut]) -> bool
+    ensures { result ≡ is_link_closed link (map link_out_seen outs.now) }
+{
+    for out in outs {
+        if is_close_of(link, out) {
+            return true;
+        }
+    }
+    false
+}
+
+/// Whether this one closes the current link.
+fn is_close_of(link: Option<u64>, out: &LinkOut) -> bool
+    ensures { result ≡ is_close link (link_out_seen out.now) }
+{
+    match out {
+        LinkOut::Write { .. } => false,
+        LinkOut::Close { link: closed } => link == Some(*closed),
+    }
+}

@@ -1,0 +1,107 @@
+//! A line is told what its session said, and loses its link where that closes it.
+
+ghost use Rattle.std.specs.Prelude.{◌≡◌, ◌<◌, ◌+◌, ◌++◌, ℕ, List, length, map, Option, IfOk};
+ghost use Rattle.session_writing.specs.Written.{told_bytes};
+ghost use Rattle.session_law.specs.Runs.{Timed};
+ghost use Rattle.soup_session.specs.Table.{PortCall};
+ghost use Rattle.gate_law.specs.Settings.{Settings};
+ghost use Rattle.gate_law.specs.Sessions.{to_port};
+ghost use Rattle.gate_sessions.specs.Lines.{ClientsLeave, ClientLinks, PortsLeave, PortLinks, NextWithin};
+ghost use Rattle.gate_events.specs.Seen.{link_out_seen};
+ghost use Rattle.gate_events.specs.Links.{outs_told_on, unlinked};
+
+use crate::batch::LinkOut;
+use crate::link_outs::{closes_link, tell_client, tell_port};
+use fix_session::{SessionOut, SessionTurn};
+use gate_sessions::{ClientLine, PortLine, client_close, port_close};
+use soup_session::PortOut;
+use std::alloc::{AllocError, Global};
+
+/// Tells the link of the client at a place what its session said in one call and then in others.
+pub fn told_client(
+    lines: &mut Vec<ClientLine>,
+    alloc: Global,
+    place: usize,
+    first: Vec<SessionOut>,
+    rest: Vec<SessionOut>,
+) -> Result<Vec<LinkOut>, AllocError>
+    requires place { place < length lines.old.items }
+    ensures outs { IfOk result (λ outs. (links : ℕ → Option ℕ) → ClientLinks links lines.old.items
+        → map link_out_seen outs.items ≡ outs_told_on (links (place + 1)) (map told_bytes first.items)
+        ++ outs_told_on (links (place + 1)) (map told_bytes rest.items)) }
+    ensures leave { (s : Settings) (calls : ℕ → List Timed) → ClientsLeave s calls lines.old.items
+        → ClientsLeave s calls lines.new.items }
+    ensures links { IfOk result (λ outs. (links : ℕ → Option ℕ) → ClientLinks links lines.old.items
+        → ClientLinks (unlinked (place + 1) (map link_out_seen outs.items) links) lines.new.items) }
+    ensures length { length lines.new.items ≡ length lines.old.items }
+{
+    let link = lines[place].link;
+    let mut outs = Vec::new(alloc);
+    tell_client(link, first, &mut outs)?;
+    tell_client(link, rest, &mut outs)?;
+    close_client(lines, place, &outs);
+    Ok(outs)
+}
+
+/// Tells the link of the port at a place what its session said in one call and then in others.
+pub fn told_port(
+    lines: &mut Vec<PortLine>,
+    alloc: Global,
+    place: usize,
+    first: &[PortOut],
+    rest: &[PortOut],
+) -> Result<Vec<LinkOut>, AllocError>
+    requires place { place < length lines.old.items }
+    ensures outs { IfOk result (λ outs. (links : ℕ → Option ℕ) → PortLinks links lines.old.items
+        → map link_out_seen outs.items ≡ to_port (links (place + 1)) first.now
+        ++ to_port (links (place + 1)) rest.now) }
+    ensures leave { (s : Settings) (calls : ℕ → List PortCall) → PortsLeave s calls lines.old.items
+        → PortsLeave s calls lines.new.items }
+    ensures links { IfOk result (λ outs. (links : ℕ → Option ℕ) → PortLinks links lines.old.items
+        → PortLinks (unlinked (place + 1) (map link_out_seen outs.items) links) lines.new.items) }
+    ensures next { (n : ℕ) → NextWithin n lines.old.items → NextWithin n lines.new.items }
+    ensures length { length lines.new.items ≡ length lines.old.items }
+{
+    let link = lines[place].link;
+    let mut outs = Vec::new(alloc);
+    tell_port(alloc, link, first, &mut outs)?;
+    tell_port(alloc, link, rest, &mut outs)?;
+    close_port(lines, place, &outs);
+    Ok(outs)
+}
+
+/// The current link of the client at a place goes where these close it.
+fn close_client(lines: &mut Vec<ClientLine>, place: usize, outs: &[LinkOut])
+    requires place { place < length lines.old.items }
+    ensures leave { (s : Settings) (calls : ℕ → List Timed) → ClientsLeave s calls lines.old.items
+        → ClientsLeave s calls lines.new.items }
+    ensures links { (links : ℕ → Option ℕ) → ClientLinks links lines.old.items
+        → ClientLinks (unlinked (place + 1) (map link_out_seen outs.now) links) lines.new.items }
+    ensures length { length lines.new.items ≡ length lines.old.items }
+{
+    if closes_link(lines[place].link, outs) {
+        client_close(lines, place);
+    }
+}
+
+/// The current link of the port at a place goes where these close it.
+fn close_port(lines: &mut Vec<PortLine>, place: usize, outs: &[LinkOut])
+    requires place { place < length lines.old.items }
+    ensures leave { (s : Settings) (calls : ℕ → List PortCall) → PortsLeave s calls lines.old.items
+        → PortsLeave s calls lines.new.items }
+    ensures links { (links : ℕ → Option ℕ) → PortLinks links lines.old.items
+        → PortLinks (unlinked (place + 1) (map link_out_seen outs.now) links) lines.new.items }
+    ensures next { (n : ℕ) → NextWithin n lines.old.items → NextWithin n lines.new.items }
+    ensures length { length lines.new.items ≡ length lines.old.items }
+{
+    if closes_link(lines[place].link, outs) {
+        port_close(lines, place);
+    }
+}
+
+/// What goes to the link of a turn that delivers no message.
+pub fn only_outs(turn: SessionTurn) -> Vec<SessionOut>
+    ensures { result ≡ turn.outs }
+{
+    turn.outs
+}

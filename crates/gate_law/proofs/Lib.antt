@@ -1,0 +1,10 @@
+mod Other
+pub mod Telling
+pub mod Messages
+pub mod Parts
+pub mod Links
+mod Faults
+mod Targets
+pub mod Clients
+pub mod Counted
+pub mod Steps

@@ -1,0 +1,16 @@
+pub mod Settings
+pub mod Limits
+pub mod Events
+pub mod Sessions
+pub mod Lists
+pub mod Outcome
+pub mod After
+pub mod Due
+pub mod Promises
+pub mod Holds
+pub mod Clients
+pub use Rattle.order_law.specs.Headline
+pub use Rattle.order_law.specs.History
+pub use Rattle.order_law.specs.Told
+pub use Rattle.soup_session.specs.States
+pub use Rattle.soup_session.specs.Table

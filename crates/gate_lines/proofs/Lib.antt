@@ -1,0 +1,2 @@
+mod Printing
+mod Stepping

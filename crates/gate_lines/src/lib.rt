@@ -1,0 +1,21 @@
+//! Scripts of the whole gateway: events by lines in, and what the gateway tells its links by lines out.
+//!
+//! A line is an event of a client or a port, or the moment from here on. It is stepped through the gateway's core,
+//! sessions included, and what follows is printed before the next line is taken: the client's lines first, then the
+//! port's. A script says all that happens, so the same script always prints the same.
+//!
+//! A line that isn't understood ends the run, and so do want of memory and a read or write that fails. What earlier
+//! lines printed stays.
+//!
+//! `run_script` runs a script, `audit_script` audits what it comes to, `write_audit` writes the audit of any
+//! history's pairs.
+#![tactic(auto)]
+
+mod audit;
+mod script;
+mod stop;
+
+pub use audit::audit_script;
+pub use audit_lines::write_audit;
+pub use batch_lines::Flags;
+pub use script::run_script;

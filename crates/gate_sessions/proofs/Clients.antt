@@ -1,0 +1,71 @@
+-- A call on a client's session, in the words of the core: the calls with it leave the session, and it gives what the table has.
+use Rattle.std.proofs.Common.{◌≡◌, ℕ, List, [], ◌∷◌, refl, sym, ap, ◌∙◌, subst, map}
+use Rattle.fix_fields.specs.Field.{Field}
+use Rattle.fix_stamp.specs.Stamp.{stamp_text}
+use Rattle.session_law.specs.declared.kind.Kind.{Kind}
+use Rattle.session_law.specs.Session.{State, fresh, next_out}
+use Rattle.session_law.specs.Runs.{Call, Issue, SessionHistory, Leaves, Timed, call_turn, turn_after, turns_after, state_after, calls_seen, step}
+use Rattle.session_law.specs.Frames.{frame_fields, told_of_out}
+use Rattle.session_law.proofs.Runs.{after-Leaves, Leaves-after}
+use Rattle.session_law.proofs.Expects.{Leaves-named}
+use Rattle.fix_session.specs.declared.session.SessionTurn.{SessionTurn}
+use Rattle.fix_session.specs.Meets.{Tells}
+use Rattle.gate_law.specs.Settings.{Settings, client_name}
+use Rattle.gate_law.specs.Sessions.{client_answer, report_issued}
+use Rattle.gate_sessions.specs.Leaving.{ClientLeaves, IsClientAnswer}
+
+seen-turns : (gate client : List ℕ) (calls : List Timed) → calls_seen (turns_after gate client calls) ≡ calls
+seen-turns gate client [] = refl
+seen-turns gate client (c ∷ before) = ap (λ (seen : List Timed). c ∷ seen) (seen-turns gate client before)
+
+-- any state that the turns of these calls leave is the one that is computed
+only-state : (gate client : List ℕ) (calls : List Timed) (s : State) → Leaves gate client (turns_after gate client calls) s → s ≡ state_after gate client calls
+only-state gate client calls s l =
+    (Leaves-after gate client (turns_after gate client calls) s l).1
+    ∙ ap (λ (seen : List Timed). state_after gate client seen) (seen-turns gate client calls)
+
+pub client-first : (s : Settings) (c : ℕ) (gate client : List ℕ) (session : State) → Leaves gate client [] session → s.comp ≡ gate → client_name s c ≡ client → ClientLeaves s c [] session
+unfolding ClientLeaves Leaves
+client-first s c gate client session l is_gate is_client = rw (is_gate, is_client) l
+
+pub client-more : (s : Settings) (c : ℕ) (calls : List Timed) (old : State) (at : ℕ) (call : Call) (new : State)
+    → ((gate client : List ℕ) (h : SessionHistory) → Leaves gate client h old → Leaves gate client (turn_after old at call ∷ h) new)
+    → ClientLeaves s c calls old → ClientLeaves s c ((at, call) ∷ calls) new
+unfolding ClientLeaves turn_after Leaves
+client-more s c calls old at call new leaves is =
+    let gate = s.comp in
+    let client = client_name s c in
+    let turns = turns_after gate client calls in
+    let before : Leaves gate client turns old = subst (Leaves gate client turns) (sym is) (after-Leaves gate client calls) in
+    let more = leaves gate client turns before in
+    more.3 ∙ ap (λ (x : State). (step x at call).state) (only-state gate client calls more.0 more.1)
+
+pub client-answers : (s : Settings) (c : ℕ) (calls : List Timed) (old : State) (at : ℕ) (call : Call) (turn : SessionTurn)
+    → Tells old.gate old.client turn (turn_after old at call) → ClientLeaves s c calls old → IsClientAnswer s c (client_answer s c calls (at, call)) turn
+unfolding ClientLeaves client_answer turn_after
+client-answers s c calls old at call turn tells is =
+    let gate = s.comp in
+    let client = client_name s c in
+    let now = state_after gate client calls in
+    let named = Leaves-named gate client (turns_after gate client calls) now (after-Leaves gate client calls) in
+    let told = subst (λ (x : State). Tells x.gate x.client turn (call_turn at call (step x at call))) is tells in
+    record {
+      outs = told.outs
+          ∙ ap (λ (g : List ℕ). map (told_of_out g now.client) (step now at call).outs) named.0
+          ∙ ap (λ (n : List ℕ). map (told_of_out gate n) (step now at call).outs) named.1;
+      app = told.app;
+    }
+
+pub client-reports : (s : Settings) (c : ℕ) (calls : List Timed) (old : State) (at : ℕ) (kind : Kind) (body fields : List Field)
+    → fields ≡ frame_fields stamp_text old.gate old.client (fresh (next_out old) kind body at)
+    → ClientLeaves s c calls old → report_issued s c calls (at, Issue kind body) ≡ fields ∷ []
+unfolding ClientLeaves report_issued
+client-reports s c calls old at kind body fields are is =
+    let gate = s.comp in
+    let client = client_name s c in
+    let now = state_after gate client calls in
+    let named = Leaves-named gate client (turns_after gate client calls) now (after-Leaves gate client calls) in
+    let told : fields ≡ frame_fields stamp_text now.gate now.client (fresh (next_out now) kind body at) = subst (λ (x : State). fields ≡ frame_fields stamp_text x.gate x.client (fresh (next_out x) kind body at)) is are in
+    ap (λ (fs : List Field). fs ∷ []) (sym (told
+    ∙ ap (λ (g : List ℕ). frame_fields stamp_text g now.client (fresh (next_out now) kind body at)) named.0
+    ∙ ap (λ (n : List ℕ). frame_fields stamp_text gate n (fresh (next_out now) kind body at)) named.1))

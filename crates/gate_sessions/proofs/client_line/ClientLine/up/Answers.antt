@@ -1,0 +1,7 @@
+use Rattle.std.proofs.Common.{true}
+use Rattle.session_law.specs.Runs.{OnLink}
+use Rattle.gate_sessions.proofs.Clients.{client-more}
+use Rattle.gate_sessions.proofs.client_line.ClientLine.up.Goals as goal
+
+pub returns-clause-leaves : goal.returns-clause-leaves
+returns-clause-leaves c = λ s k calls. client-more s k calls c.args.self.now.session c.args.at (OnLink true) c.on_link-turn.new.self c.on_link-turn.ensures.leaves

@@ -1,0 +1,6 @@
+use Rattle.soup_session.specs.Table.{OnGone}
+use Rattle.gate_sessions.proofs.Ports.{port-more}
+use Rattle.gate_sessions.proofs.port_line.PortLine.gone.Goals as goal
+
+pub returns-clause-leaves : goal.returns-clause-leaves
+returns-clause-leaves c = λ s p calls. port-more s p calls c.args.self.now.session OnGone c.on_gone.new.self c.on_gone.ensures.leaves

@@ -1,0 +1,37 @@
+use Rattle.std.proofs.Common.{◌≡◌, ◌+◌, ◌++◌, ◌∷◌, [], ℕ, List, ap, ◌∙◌, map, subst, sym, take}
+use Rattle.ouch_codec.specs.Inbound.{inbound_bytes}
+use Rattle.soup_session.specs.Table.{PortCall, Send}
+use Rattle.gate_law.specs.Sessions.{port_outs, sends}
+use Rattle.gate_sessions.specs.Lines.{PortsLeave, called_all}
+use Rattle.gate_sessions.proofs.Several.{called-all-more}
+use Rattle.gate_sessions.proofs.Sending.{outs-more, sends-more}
+use Rattle.gate_sessions.proofs.port_messages.port_send_all.Goals as goal
+
+pub loop-message-preserved : goal.loop-message-preserved
+loop-message-preserved c =
+    let n = c.args.place + 1 in
+    let at = c.args.at in
+    let messages = c.args.messages.now in
+    let i = c.loop-message.message-index in
+    let before = sends at (map inbound_bytes (take i messages)) in
+    let call = Send (inbound_bytes c.message-item.result) at in
+    let more : sends at (map inbound_bytes (take (i + 1) messages)) ≡ before ++ call ∷ [] = sends-more at messages i c.message-item.result c.loop-message-test.true c.message-item.is in
+    let so_far = c.loop-message.invariant in
+    let this = c.in_ok-send_one.ensures in
+    record {
+      leave = λ s calls k. subst (λ (made : ℕ → List PortCall). PortsLeave s made c.send_one.new.lines.items)
+          (sym (ap (λ (cs : List PortCall). called_all n cs calls) more ∙ called-all-more n before call calls))
+          (this.leave s (called_all n before calls) (so_far.leave s calls k));
+      answers = λ s calls k. outs-more s n calls before call c.loop-message.outs.items c.send_one.new.outs.items (so_far.answers s calls k) (this.answers s (called_all n before calls) (so_far.leave s calls k))
+          ∙ ap (λ (cs : List PortCall). port_outs s n (calls n) cs) (sym more);
+      links = λ links k. c.send_one.ensures.links links (so_far.links links k);
+      next = λ m k. c.send_one.ensures.next m (so_far.next m k);
+      up = this.up;
+      length = c.send_one.ensures.length ∙ so_far.length;
+    }
+
+pub returns-in_err-send_one-clause-links : goal.returns-in_err-send_one-clause-links
+returns-in_err-send_one-clause-links c = λ links k. c.send_one.ensures.links links (c.loop-message.invariant.links links k)
+
+pub returns-in_err-send_one-clause-next : goal.returns-in_err-send_one-clause-next
+returns-in_err-send_one-clause-next c = λ m k. c.send_one.ensures.next m (c.loop-message.invariant.next m k)

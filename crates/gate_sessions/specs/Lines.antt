@@ -1,0 +1,46 @@
+-- Sessions and links by their places: number i + 1 stands at place i.
+use Rattle.std.specs.Prelude.{◌≡◌, ℕ, ◌+◌, ◌≤◌, ◌==◌, List, [], ◌∷◌, Option, Some, slice_get, if◌then◌else◌}
+use Rattle.soup_session.specs.Table as port
+use Rattle.soup_session.specs.Calls.{IsUp, next_of}
+use Rattle.session_law.specs.Runs.{Timed}
+use Rattle.gate_law.specs.Settings.{Settings}
+use Rattle.gate_sessions.specs.declared.client_line.ClientLine.{ClientLine}
+use Rattle.gate_sessions.specs.declared.port_line.PortLine.{PortLine}
+use Rattle.gate_sessions.specs.Leaving.{ClientLeaves, PortLeaves}
+
+-- each client's session is what its calls leave
+abbrev pub ClientsLeave : Settings → (ℕ → List Timed) → List ClientLine → Type 0
+ClientsLeave s calls lines = (i : ℕ) (line : ClientLine) → slice_get lines i ≡ Some line
+    → ClientLeaves s (i + 1) (calls (i + 1)) line.session
+
+abbrev pub ClientLinks : (ℕ → Option ℕ) → List ClientLine → Type 0
+ClientLinks links lines = (i : ℕ) (line : ClientLine) → slice_get lines i ≡ Some line → line.link ≡ links (i + 1)
+
+-- and each port's
+abbrev pub PortsLeave : Settings → (ℕ → List port.PortCall) → List PortLine → Type 0
+PortsLeave s calls lines = (i : ℕ) (line : PortLine) → slice_get lines i ≡ Some line
+    → PortLeaves s (i + 1) (calls (i + 1)) line.session
+
+abbrev pub PortLinks : (ℕ → Option ℕ) → List PortLine → Type 0
+PortLinks links lines = (i : ℕ) (line : PortLine) → slice_get lines i ≡ Some line → line.link ≡ links (i + 1)
+
+-- one call more, of one number alone
+abbrev pub called : {X : Type 0} → ℕ → X → (ℕ → List X) → ℕ → List X
+called n call calls m = if m == n then call ∷ calls m else calls m
+
+-- several calls more, in this order, of one number alone
+abbrev pub called_all : {X : Type 0} → ℕ → List X → (ℕ → List X) → ℕ → List X
+called_all n [] calls = calls
+called_all n (call ∷ more) calls = called_all n more (called n call calls)
+
+-- another link, of one number alone
+abbrev pub link_set : ℕ → Option ℕ → (ℕ → Option ℕ) → ℕ → Option ℕ
+link_set n link links m = if m == n then link else links m
+
+-- no port wants a number above this one next
+abbrev pub NextWithin : ℕ → List PortLine → Type 0
+NextWithin n lines = (i : ℕ) (line : PortLine) → slice_get lines i ≡ Some line → next_of line.session ≤ n
+
+-- the port at this place is up
+abbrev pub IsUpAt : ℕ → List PortLine → Type 0
+IsUpAt place lines = (line : PortLine) → slice_get lines place ≡ Some line → IsUp line.session

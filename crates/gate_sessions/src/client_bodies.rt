@@ -1,0 +1,113 @@
+//! Several bodies issued on the client's line at a place, one after another.
+
+ghost use Rattle.std.specs.Prelude.{◌≡◌, ◌<◌, ◌+◌, ℕ, List, ◌∷◌, [], ◌++◌, Option, IfOk, OnOk, length, map};
+ghost use Rattle.fix_types.specs.Application.{body_fields};
+ghost use Rattle.session_law.specs.Runs.{Timed};
+ghost use Rattle.session_law.specs.Frames.{told_of_out};
+ghost use Rattle.session_writing.specs.Written.{told_bytes};
+ghost use Rattle.order_law.specs.Messages.{body_of};
+ghost use Rattle.gate_law.specs.Settings.{Settings, client_name};
+ghost use Rattle.gate_law.specs.Sessions.{client_answer, client_outs, client_reports, issues, report_issued};
+ghost use Rattle.gate_sessions.specs.Leaving.{issue_call};
+ghost use Rattle.gate_sessions.specs.Lines.{ClientsLeave, ClientLinks, called, called_all};
+
+use crate::client_line::ClientLine;
+use crate::client_lines::client_issue;
+use crate::issued_report::IssuedReport;
+use fix_session::SessionTurn;
+use fix_types::AppBody;
+use session_writing::SessionOut;
+use std::alloc::{AllocError, Global};
+
+/// What comes of bodies that are issued to one client.
+#[derive(Debug, Drop)]
+pub struct Issues {
+    /// Of each body, in order, the fields from MsgType (35) on of its frame, be the frame written or not.
+    pub reports: Vec<IssuedReport>,
+    /// What goes to the client's link, in order.
+    pub outs: Vec<SessionOut>,
+}
+
+/// Issues bodies, in their order, each once, and gives what is reported of each and what goes to the link.
+///
+/// `AllocError` leaves every link and the number of lines as they were; how many of the bodies were issued isn't said.
+pub fn client_issue_all(
+    lines: &mut Vec<ClientLine>,
+    alloc: Global,
+    place: usize,
+    bodies: &[AppBody],
+    at: u64,
+) -> Result<Issues, AllocError>
+    requires place { place < length lines.old.items }
+    ensures leave { OnOk result ((s : Settings) (calls : ℕ → List Timed) → ClientsLeave s calls lines.old.items
+        → ClientsLeave s (called_all (place + 1) (issues at (map body_fields bodies.now)) calls) lines.new.items) }
+    ensures outs { IfOk result (λ all. (s : Settings) (calls : ℕ → List Timed) → ClientsLeave s calls lines.old.items
+        → map told_bytes all.outs.items ≡ map (told_of_out s.comp (client_name s (place + 1)))
+        (client_outs s (place + 1) (calls (place + 1)) (issues at (map body_fields bodies.now)))) }
+    ensures reports { IfOk result (λ all. (s : Settings) (calls : ℕ → List Timed) → ClientsLeave s calls lines.old.items
+        → all.reports.items ≡ client_reports s (place + 1) (calls (place + 1))
+        (issues at (map body_fields bodies.now))) }
+    ensures bodies { IfOk result (λ all. (s : Settings) (calls : ℕ → List Timed) → ClientsLeave s calls lines.old.items
+        → map body_of all.reports.items ≡ map body_fields bodies.now) }
+    ensures links { (links : ℕ → Option ℕ) → ClientLinks links lines.old.items → ClientLinks links lines.new.items }
+    ensures length { length lines.new.items ≡ length lines.old.items }
+{
+    let mut all = Issues {
+        reports: Vec::new(alloc),
+        outs: Vec::new(alloc),
+    };
+    for body in bodies {
+        issue_one(lines, alloc, place, body, at, &mut all)?;
+    }
+    Ok(all)
+}
+
+/// Reports a body, and then issues it.
+fn issue_one(
+    lines: &mut Vec<ClientLine>,
+    alloc: Global,
+    place: usize,
+    body: &AppBody,
+    at: u64,
+    all: &mut Issues,
+) -> Result<(), AllocError>
+    requires place { place < length lines.old.items }
+    ensures leave { OnOk result ((s : Settings) (calls : ℕ → List Timed) → ClientsLeave s calls lines.old.items
+        → ClientsLeave s (called (place + 1) (issue_call at body.now) calls) lines.new.items) }
+    ensures outs { OnOk result ((s : Settings) (calls : ℕ → List Timed) → ClientsLeave s calls lines.old.items
+        → map told_bytes all.new.outs.items ≡ map told_bytes all.old.outs.items
+        ++ map (told_of_out s.comp (client_name s (place + 1)))
+        (client_answer s (place + 1) (calls (place + 1)) (issue_call at body.now)).outs) }
+    ensures reports { OnOk result ((s : Settings) (calls : ℕ → List Timed) → ClientsLeave s calls lines.old.items
+        → all.new.reports.items ≡ all.old.reports.items
+        ++ report_issued s (place + 1) (calls (place + 1)) (issue_call at body.now)) }
+    ensures links { (links : ℕ → Option ℕ) → ClientLinks links lines.old.items → ClientLinks links lines.new.items }
+    ensures length { length lines.new.items ≡ length lines.old.items }
+{
+    let report = report_next(lines.as_slice(), alloc, place, body, at)?;
+    all.reports.push(report)?;
+    let mut outs = outs_of(client_issue(lines, alloc, place, body, at)?);
+    all.outs.append(&mut outs)
+}
+
+/// The report of the body that is issued next.
+fn report_next(
+    lines: &[ClientLine],
+    alloc: Global,
+    place: usize,
+    body: &AppBody,
+    at: u64,
+) -> Result<IssuedReport, AllocError>
+    requires place { place < length lines.now }
+    ensures { IfOk result (λ report. (s : Settings) (calls : ℕ → List Timed) → ClientsLeave s calls lines.now
+        → report_issued s (place + 1) (calls (place + 1)) (issue_call at body.now) ≡ report ∷ []) }
+{
+    lines[place].report(alloc, body, at)
+}
+
+/// What goes to the link: an issued body brings no message of the client.
+fn outs_of(turn: SessionTurn) -> Vec<SessionOut>
+    ensures { result ≡ turn.outs }
+{
+    turn.outs
+}

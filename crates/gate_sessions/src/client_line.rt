@@ -1,0 +1,155 @@
+//! A client's line: its current link, and its session.
+
+ghost use Rattle.std.specs.Prelude.{◌≡◌, ℕ, List, [], ◌∷◌, Some, None, IfOk, OnOk, OnErr, true, false};
+ghost use Rattle.session_law.specs.Runs.{Timed, OnLink, OnMessage, OnTick};
+ghost use Rattle.gate_law.specs.Settings.{Settings, client_name};
+ghost use Rattle.gate_law.specs.Sessions.{client_answer, report_issued};
+ghost use Rattle.gate_sessions.specs.Leaving.{ClientLeaves, IsClientAnswer, expected_in, issue_call};
+
+use crate::issued_report::IssuedReport;
+use fix_fields::{Fields, Text};
+use fix_session::{Session, SessionTurn};
+use fix_types::AppBody;
+use std::alloc::{AllocError, Global};
+
+/// A client's current link, where it has one, and its session over all its links.
+#[derive(Debug, Drop)]
+pub struct ClientLine {
+    pub link: Option<u64>,
+    pub session: Session,
+}
+
+impl ClientLine {
+    /// A line with no link, of a session that has had no call.
+    pub fn new(alloc: Global, gate: Text, client: Text) -> ClientLine
+        ensures leaves { (s : Settings) (c : ℕ) → s.comp ≡ gate → client_name s c ≡ client
+            → ClientLeaves s c [] result.session }
+        ensures link { result.link ≡ None }
+    {
+        ClientLine {
+            link: None,
+            session: Session::new(alloc, gate, client),
+        }
+    }
+
+    /// A link is current from now on.
+    pub fn up(&mut self, alloc: Global, link: u64, at: u64)
+        ensures leaves { (s : Settings) (c : ℕ) (calls : List Timed) → ClientLeaves s c calls self.old.session
+            → ClientLeaves s c ((at, OnLink true) ∷ calls) self.new.session }
+        ensures link { self.new.link ≡ Some link }
+    {
+        self.link = Some(link);
+        let _turn = self.session.on_link(alloc, true, at);
+    }
+
+    /// The current link is gone.
+    pub fn gone(&mut self, alloc: Global, at: u64)
+        ensures leaves { (s : Settings) (c : ℕ) (calls : List Timed) → ClientLeaves s c calls self.old.session
+            → ClientLeaves s c ((at, OnLink false) ∷ calls) self.new.session }
+        ensures link { self.new.link ≡ None }
+    {
+        self.link = None;
+        let _turn = self.session.on_link(alloc, false, at);
+    }
+
+    /// The core closed the current link.
+    pub fn close(&mut self)
+        ensures session { self.new.session ≡ self.old.session }
+        ensures link { self.new.link ≡ None }
+    {
+        self.link = None;
+    }
+
+    /// A frame on the current link.
+    pub fn frame(
+        &mut self,
+        alloc: Global,
+        frame: &Fields,
+        at: u64,
+    ) -> Result<SessionTurn, AllocError>
+        ensures leaves { OnOk result ((s : Settings) (c : ℕ) (calls : List Timed)
+            → ClientLeaves s c calls self.old.session
+            → ClientLeaves s c ((at, OnMessage frame.now) ∷ calls) self.new.session) }
+        ensures answers { IfOk result (λ turn. (s : Settings) (c : ℕ) (calls : List Timed)
+            → ClientLeaves s c calls self.old.session
+            → IsClientAnswer s c (client_answer s c calls (at, OnMessage frame.now)) turn) }
+        ensures link { self.new.link ≡ self.old.link }
+        ensures err { OnErr result (self.new ≡ self.old) }
+    {
+        self.session.on_message(alloc, frame, at)
+    }
+
+    /// Time passes.
+    pub fn tick(&mut self, alloc: Global, at: u64) -> Result<SessionTurn, AllocError>
+        ensures leaves { OnOk result ((s : Settings) (c : ℕ) (calls : List Timed)
+            → ClientLeaves s c calls self.old.session
+            → ClientLeaves s c ((at, OnTick) ∷ calls) self.new.session) }
+        ensures answers { IfOk result (λ turn. (s : Settings) (c : ℕ) (calls : List Timed)
+            → ClientLeaves s c calls self.old.session
+            → IsClientAnswer s c (client_answer s c calls (at, OnTick)) turn) }
+        ensures link { self.new.link ≡ self.old.link }
+        ensures err { OnErr result (self.new ≡ self.old) }
+    {
+        self.session.on_tick(alloc, at)
+    }
+
+    /// A body is issued, written or not.
+    pub fn issue(
+        &mut self,
+        alloc: Global,
+        body: &AppBody,
+        at: u64,
+    ) -> Result<SessionTurn, AllocError>
+        ensures leaves { OnOk result ((s : Settings) (c : ℕ) (calls : List Timed)
+            → ClientLeaves s c calls self.old.session
+            → ClientLeaves s c (issue_call at body.now ∷ calls) self.new.session) }
+        ensures answers { IfOk result (λ turn. (s : Settings) (c : ℕ) (calls : List Timed)
+            → ClientLeaves s c calls self.old.session
+            → IsClientAnswer s c (client_answer s c calls (issue_call at body.now)) turn) }
+        ensures link { self.new.link ≡ self.old.link }
+        ensures err { OnErr result (self.new ≡ self.old) }
+    {
+        self.session.issue(alloc, body, at)
+    }
+
+    /// The fields from MsgType (35) on of the frame that `issues` makes of this body, written or not.
+    pub fn report(&self, alloc: Global, body: &AppBody, at: u64) -> Result<IssuedReport, AllocError>
+        ensures { IfOk result (λ report. (s : Settings) (c : ℕ) (calls : List Timed)
+            → ClientLeaves s c calls self.now.session
+            → report_issued s c calls (issue_call at body.now) ≡ report ∷ []) }
+    {
+        let fields = self.next_fields(alloc, body, at)?;
+        let report = within_limit(fields)?;
+        Ok(report)
+    }
+
+    /// The fields, from MsgType (35) on, of the body that is issued next.
+    fn next_fields(&self, alloc: Global, body: &AppBody, at: u64) -> Result<Fields, AllocError>
+        ensures { IfOk result (λ fields. (s : Settings) (c : ℕ) (calls : List Timed)
+            → ClientLeaves s c calls self.now.session
+            → report_issued s c calls (issue_call at body.now) ≡ fields ∷ []) }
+    {
+        self.session.issued_fields(alloc, body, at)
+    }
+
+    /// The number that is expected of the client's next frame (MsgSeqNum, 34), from 1.
+    ///
+    /// Source: FIX 4.4 Volume 2, "Message Recovery".
+    pub fn next_in(&self) -> u64
+        ensures { (s : Settings) (c : ℕ) (calls : List Timed) → ClientLeaves s c calls self.now.session
+            → result ≡ expected_in s c calls }
+    {
+        self.session.next_in()
+    }
+}
+
+/// The report of these fields; where they print in more than `IssuedReport::LONGEST` bytes it is answered as want of
+/// memory. No report does, since its longest texts are those of a frame of 8,192 bytes at most; that isn't proved.
+fn within_limit(fields: Fields) -> Result<IssuedReport, AllocError>
+    ensures { IfOk result (λ report. report ≡ fields) }
+{
+    match IssuedReport::of(fields) {
+        Some(report) => Ok(report),
+        None => Err(AllocError),
+    }
+}

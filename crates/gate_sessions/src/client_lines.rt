@@ -1,0 +1,112 @@
+//! Calls on the client's line at a place.
+
+ghost use Rattle.std.specs.Prelude.{◌≡◌, ◌<◌, ◌+◌, ℕ, List, ◌∷◌, Option, Some, None, IfOk, OnOk, OnErr, length};
+ghost use Rattle.std.specs.Prelude.{slice_get, slice_set, true, false};
+ghost use Rattle.session_law.specs.Runs.{Timed, OnLink, OnMessage, OnTick};
+ghost use Rattle.gate_law.specs.Settings.{Settings};
+ghost use Rattle.gate_law.specs.Sessions.{client_answer};
+ghost use Rattle.gate_sessions.specs.Leaving.{ClientLeaves, IsClientAnswer, issue_call};
+ghost use Rattle.gate_sessions.specs.Lines.{ClientsLeave, ClientLinks, called, link_set};
+
+use crate::client_line::ClientLine;
+use fix_fields::Fields;
+use fix_session::SessionTurn;
+use fix_types::AppBody;
+use std::alloc::{AllocError, Global};
+
+/// A link is current from now on.
+pub fn client_up(lines: &mut Vec<ClientLine>, alloc: Global, place: usize, link: u64, at: u64)
+    requires place { place < length lines.old.items }
+    ensures leave { (s : Settings) (calls : ℕ → List Timed) → ClientsLeave s calls lines.old.items
+        → ClientsLeave s (called (place + 1) (at, OnLink true) calls) lines.new.items }
+    ensures links { (links : ℕ → Option ℕ) → ClientLinks links lines.old.items
+        → ClientLinks (link_set (place + 1) (Some link) links) lines.new.items }
+    ensures length { length lines.new.items ≡ length lines.old.items }
+{
+    lines[place].up(alloc, link, at);
+}
+
+/// The current link is gone.
+pub fn client_gone(lines: &mut Vec<ClientLine>, alloc: Global, place: usize, at: u64)
+    requires place { place < length lines.old.items }
+    ensures leave { (s : Settings) (calls : ℕ → List Timed) → ClientsLeave s calls lines.old.items
+        → ClientsLeave s (called (place + 1) (at, OnLink false) calls) lines.new.items }
+    ensures links { (links : ℕ → Option ℕ) → ClientLinks links lines.old.items
+        → ClientLinks (link_set (place + 1) None links) lines.new.items }
+    ensures length { length lines.new.items ≡ length lines.old.items }
+{
+    lines[place].gone(alloc, at);
+}
+
+/// The core closed the current link.
+pub fn client_close(lines: &mut Vec<ClientLine>, place: usize)
+    requires place { place < length lines.old.items }
+    ensures leave { (s : Settings) (calls : ℕ → List Timed) → ClientsLeave s calls lines.old.items
+        → ClientsLeave s calls lines.new.items }
+    ensures links { (links : ℕ → Option ℕ) → ClientLinks links lines.old.items
+        → ClientLinks (link_set (place + 1) None links) lines.new.items }
+    ensures length { length lines.new.items ≡ length lines.old.items }
+{
+    lines[place].close();
+}
+
+/// A frame on the current link.
+pub fn client_frame(
+    lines: &mut Vec<ClientLine>,
+    alloc: Global,
+    place: usize,
+    frame: &Fields,
+    at: u64,
+) -> Result<SessionTurn, AllocError>
+    requires place { place < length lines.old.items }
+    ensures leave { OnOk result ((s : Settings) (calls : ℕ → List Timed) → ClientsLeave s calls lines.old.items
+        → ClientsLeave s (called (place + 1) (at, OnMessage frame.now) calls) lines.new.items) }
+    ensures answers { IfOk result (λ turn. (s : Settings) (calls : ℕ → List Timed)
+        → ClientsLeave s calls lines.old.items
+        → IsClientAnswer s (place + 1) (client_answer s (place + 1) (calls (place + 1))
+        (at, OnMessage frame.now)) turn) }
+    ensures links { (links : ℕ → Option ℕ) → ClientLinks links lines.old.items → ClientLinks links lines.new.items }
+    ensures length { length lines.new.items ≡ length lines.old.items }
+{
+    lines[place].frame(alloc, frame, at)
+}
+
+/// Time passes.
+pub fn client_tick(
+    lines: &mut Vec<ClientLine>,
+    alloc: Global,
+    place: usize,
+    at: u64,
+) -> Result<SessionTurn, AllocError>
+    requires place { place < length lines.old.items }
+    ensures leave { OnOk result ((s : Settings) (calls : ℕ → List Timed) → ClientsLeave s calls lines.old.items
+        → ClientsLeave s (called (place + 1) (at, OnTick) calls) lines.new.items) }
+    ensures answers { IfOk result (λ turn. (s : Settings) (calls : ℕ → List Timed)
+        → ClientsLeave s calls lines.old.items
+        → IsClientAnswer s (place + 1) (client_answer s (place + 1) (calls (place + 1)) (at, OnTick)) turn) }
+    ensures links { (links : ℕ → Option ℕ) → ClientLinks links lines.old.items → ClientLinks links lines.new.items }
+    ensures length { length lines.new.items ≡ length lines.old.items }
+{
+    lines[place].tick(alloc, at)
+}
+
+/// A body is issued, written or not.
+pub fn client_issue(
+    lines: &mut Vec<ClientLine>,
+    alloc: Global,
+    place: usize,
+    body: &AppBody,
+    at: u64,
+) -> Result<SessionTurn, AllocError>
+    requires place { place < length lines.old.items }
+    ensures leave { OnOk result ((s : Settings) (calls : ℕ → List Timed) → ClientsLeave s calls lines.old.items
+        → ClientsLeave s (called (place + 1) (issue_call at body.now) calls) lines.new.items) }
+    ensures answers { IfOk result (λ turn. (s : Settings) (calls : ℕ → List Timed)
+        → ClientsLeave s calls lines.old.items
+        → IsClientAnswer s (place + 1) (client_answer s (place + 1) (calls (place + 1))
+        (issue_call at body.now)) turn) }
+    ensures links { (links : ℕ → Option ℕ) → ClientLinks links lines.old.items → ClientLinks links lines.new.items }
+    ensures length { length lines.new.items ≡ length lines.old.items }
+{
+    lines[place].issue(alloc, body, at)
+}

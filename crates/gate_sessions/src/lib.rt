@@ -1,0 +1,27 @@
+//! The lines of the core: of each client and each port its current link and its session, found by their places.
+//!
+//! A call on one line changes that line alone. Clauses speak of all places at once, in the words of `gate_law`: which
+//! calls each session has had, and which link is current.
+#![tactic(auto)]
+
+mod client_bodies;
+mod client_line;
+mod client_lines;
+mod issued_report;
+mod laws;
+mod port_line;
+mod port_lines;
+mod port_messages;
+
+pub use client_bodies::{Issues, client_issue_all};
+pub use client_line::ClientLine;
+pub use client_lines::{
+    client_close, client_frame, client_gone, client_issue, client_tick, client_up,
+};
+pub use issued_report::IssuedReport;
+pub use laws::issues_are_what_is_reported;
+pub use port_line::PortLine;
+pub use port_lines::{
+    port_close, port_fail, port_gone, port_packet, port_send, port_tick, port_up,
+};
+pub use port_messages::port_send_all;

@@ -1,0 +1,151 @@
+//! A port's line: its current link, and its session.
+
+ghost use Rattle.std.specs.Prelude.{◌≡◌, ◌≤◌, ◌+◌, ℕ, List, [], ◌∷◌, length, Some, None, IfOk, OnErr};
+ghost use Rattle.soup_session.specs.Table.{PortCall, OnUp, OnPacket, OnGone, OnTick, Send, Fail};
+ghost use Rattle.soup_session.specs.Calls.{IsAnswer, PortHasRoom, IsUp, next_of};
+ghost use Rattle.gate_law.specs.Settings.{Settings, port_terms};
+ghost use Rattle.gate_law.specs.Sessions.{port_answer, port_state};
+ghost use Rattle.gate_sessions.specs.Leaving.{PortLeaves};
+
+use soup_packets::Packet;
+use soup_session::{PortFault, PortSession, PortState, PortTurn};
+use std::alloc::{AllocError, Global};
+
+/// A port's current link, where it has one, and its session over all its links.
+#[derive(Debug, Drop)]
+pub struct PortLine {
+    pub link: Option<u64>,
+    pub session: PortSession,
+}
+
+impl PortLine {
+    /// A line with no link, of a session that has made no call.
+    pub fn new(user: &[u8], password: &[u8]) -> PortLine
+        requires user { (1 ≤ length user.now) × (length user.now ≤ 6) }
+        requires password { length password.now ≤ 10 }
+        ensures leaves { (s : Settings) (p : ℕ) → port_terms s p ≡ record { user = user.now; password = password.now }
+            → PortLeaves s p [] result.session }
+        ensures link { result.link ≡ None }
+        ensures next { next_of result.session ≡ 1 }
+    {
+        PortLine {
+            link: None,
+            session: PortSession::new(user, password),
+        }
+    }
+
+    /// A link is current from now on.
+    pub fn up(&mut self, alloc: Global, link: u64, at: u64) -> Result<PortTurn, AllocError>
+        ensures leaves { IfOk result (λ t. (s : Settings) (p : ℕ) (calls : List PortCall)
+            → PortLeaves s p calls self.old.session
+            → PortLeaves s p (OnUp at ∷ calls) self.new.session) }
+        ensures answers { IfOk result (λ t. (s : Settings) (p : ℕ) (calls : List PortCall)
+            → PortLeaves s p calls self.old.session
+            → IsAnswer (port_answer s p calls (OnUp at)) t) }
+        ensures link { IfOk result (λ t. self.new.link ≡ Some link) }
+        ensures next { next_of self.new.session ≡ next_of self.old.session }
+        ensures err { OnErr result (self.new ≡ self.old) }
+    {
+        let turn = self.session.on_up(alloc, at)?;
+        self.link = Some(link);
+        Ok(turn)
+    }
+
+    /// The current link is gone.
+    pub fn gone(&mut self)
+        ensures leaves { (s : Settings) (p : ℕ) (calls : List PortCall) → PortLeaves s p calls self.old.session
+            → PortLeaves s p (OnGone ∷ calls) self.new.session }
+        ensures link { self.new.link ≡ None }
+        ensures next { next_of self.new.session ≡ next_of self.old.session }
+    {
+        self.link = None;
+        self.session.on_gone();
+    }
+
+    /// The core closed the current link.
+    pub fn close(&mut self)
+        ensures session { self.new.session ≡ self.old.session }
+        ensures link { self.new.link ≡ None }
+    {
+        self.link = None;
+    }
+
+    /// A packet on the current link.
+    pub fn packet(
+        &mut self,
+        alloc: Global,
+        packet: &Packet,
+        at: u64,
+    ) -> Result<PortTurn, AllocError>
+        requires room { PortHasRoom self.old.session }
+        ensures leaves { IfOk result (λ t. (s : Settings) (p : ℕ) (calls : List PortCall)
+            → PortLeaves s p calls self.old.session
+            → PortLeaves s p (OnPacket packet.now at ∷ calls) self.new.session) }
+        ensures answers { IfOk result (λ t. (s : Settings) (p : ℕ) (calls : List PortCall)
+            → PortLeaves s p calls self.old.session
+            → IsAnswer (port_answer s p calls (OnPacket packet.now at)) t) }
+        ensures link { self.new.link ≡ self.old.link }
+        ensures next { next_of self.new.session ≤ next_of self.old.session + 1 }
+        ensures err { OnErr result (self.new ≡ self.old) }
+    {
+        self.session.on_packet(alloc, packet, at)
+    }
+
+    /// Time passes.
+    pub fn tick(&mut self, alloc: Global, at: u64) -> Result<PortTurn, AllocError>
+        ensures leaves { IfOk result (λ t. (s : Settings) (p : ℕ) (calls : List PortCall)
+            → PortLeaves s p calls self.old.session
+            → PortLeaves s p (OnTick at ∷ calls) self.new.session) }
+        ensures answers { IfOk result (λ t. (s : Settings) (p : ℕ) (calls : List PortCall)
+            → PortLeaves s p calls self.old.session
+            → IsAnswer (port_answer s p calls (OnTick at)) t) }
+        ensures link { self.new.link ≡ self.old.link }
+        ensures next { next_of self.new.session ≡ next_of self.old.session }
+        ensures err { OnErr result (self.new ≡ self.old) }
+    {
+        self.session.on_tick(alloc, at)
+    }
+
+    /// A message goes out while the port is up.
+    pub fn send(&mut self, alloc: Global, message: &[u8], at: u64) -> Result<PortTurn, AllocError>
+        requires up { IsUp self.old.session }
+        requires most { length message.now ≤ 65_534 }
+        ensures leaves { IfOk result (λ t. (s : Settings) (p : ℕ) (calls : List PortCall)
+            → PortLeaves s p calls self.old.session
+            → PortLeaves s p (Send message.now at ∷ calls) self.new.session) }
+        ensures answers { IfOk result (λ t. (s : Settings) (p : ℕ) (calls : List PortCall)
+            → PortLeaves s p calls self.old.session
+            → IsAnswer (port_answer s p calls (Send message.now at)) t) }
+        ensures link { self.new.link ≡ self.old.link }
+        ensures next { next_of self.new.session ≡ next_of self.old.session }
+        ensures up { IfOk result (λ t. IsUp self.new.session) }
+        ensures err { OnErr result (self.new ≡ self.old) }
+    {
+        self.session.send(alloc, message, at)
+    }
+
+    /// The payload that was delivered last is at fault at the order level.
+    pub fn fail(&mut self, alloc: Global, fault: PortFault) -> Result<PortTurn, AllocError>
+        requires up { IsUp self.old.session }
+        ensures leaves { IfOk result (λ t. (s : Settings) (p : ℕ) (calls : List PortCall)
+            → PortLeaves s p calls self.old.session
+            → PortLeaves s p (Fail fault ∷ calls) self.new.session) }
+        ensures answers { IfOk result (λ t. (s : Settings) (p : ℕ) (calls : List PortCall)
+            → PortLeaves s p calls self.old.session
+            → IsAnswer (port_answer s p calls (Fail fault)) t) }
+        ensures link { self.new.link ≡ self.old.link }
+        ensures next { next_of self.new.session ≡ next_of self.old.session }
+        ensures err { OnErr result (self.new ≡ self.old) }
+    {
+        self.session.fail(alloc, fault)
+    }
+
+    /// How the port stands.
+    pub fn state(&self) -> PortState
+        ensures now { result ≡ self.now.session.state }
+        ensures state { (s : Settings) (p : ℕ) (calls : List PortCall) → PortLeaves s p calls self.now.session
+            → result ≡ port_state s p calls }
+    {
+        self.session.state()
+    }
+}

@@ -1,0 +1,145 @@
+//! Calls on the port's line at a place.
+
+ghost use Rattle.std.specs.Prelude.{◌≡◌, ◌<◌, ◌≤◌, ◌+◌, ◌-◌, ◌^◌, ℕ, List, ◌∷◌, Option, Some, None, IfOk, OnErr};
+ghost use Rattle.std.specs.Prelude.{length, slice_get, slice_set};
+ghost use Rattle.soup_session.specs.Table.{PortCall, OnUp, OnPacket, OnGone, OnTick, Send, Fail};
+ghost use Rattle.soup_session.specs.Calls.{IsAnswer, PortHasRoom, IsUp};
+ghost use Rattle.gate_law.specs.Settings.{Settings};
+ghost use Rattle.gate_law.specs.Sessions.{port_answer};
+ghost use Rattle.gate_sessions.specs.Leaving.{PortLeaves};
+ghost use Rattle.gate_sessions.specs.Lines.{PortsLeave, PortLinks, NextWithin, IsUpAt, called, link_set};
+
+use crate::port_line::PortLine;
+use soup_packets::Packet;
+use soup_session::{PortFault, PortTurn};
+use std::alloc::{AllocError, Global};
+
+/// A link is current from now on.
+pub fn port_up(
+    lines: &mut Vec<PortLine>,
+    alloc: Global,
+    place: usize,
+    link: u64,
+    at: u64,
+) -> Result<PortTurn, AllocError>
+    requires place { place < length lines.old.items }
+    ensures leave { IfOk result (λ t. (s : Settings) (calls : ℕ → List PortCall) → PortsLeave s calls lines.old.items
+        → PortsLeave s (called (place + 1) (OnUp at) calls) lines.new.items) }
+    ensures answers { IfOk result (λ t. (s : Settings) (calls : ℕ → List PortCall) → PortsLeave s calls lines.old.items
+        → IsAnswer (port_answer s (place + 1) (calls (place + 1)) (OnUp at)) t) }
+    ensures links { IfOk result (λ t. (links : ℕ → Option ℕ) → PortLinks links lines.old.items
+        → PortLinks (link_set (place + 1) (Some link) links) lines.new.items) }
+    ensures next { (n : ℕ) → NextWithin n lines.old.items → NextWithin n lines.new.items }
+    ensures length { length lines.new.items ≡ length lines.old.items }
+{
+    lines[place].up(alloc, link, at)
+}
+
+/// The current link is gone.
+pub fn port_gone(lines: &mut Vec<PortLine>, place: usize)
+    requires place { place < length lines.old.items }
+    ensures leave { (s : Settings) (calls : ℕ → List PortCall) → PortsLeave s calls lines.old.items
+        → PortsLeave s (called (place + 1) OnGone calls) lines.new.items }
+    ensures links { (links : ℕ → Option ℕ) → PortLinks links lines.old.items
+        → PortLinks (link_set (place + 1) None links) lines.new.items }
+    ensures next { (n : ℕ) → NextWithin n lines.old.items → NextWithin n lines.new.items }
+    ensures length { length lines.new.items ≡ length lines.old.items }
+{
+    lines[place].gone();
+}
+
+/// The core closed the current link.
+pub fn port_close(lines: &mut Vec<PortLine>, place: usize)
+    requires place { place < length lines.old.items }
+    ensures leave { (s : Settings) (calls : ℕ → List PortCall) → PortsLeave s calls lines.old.items
+        → PortsLeave s calls lines.new.items }
+    ensures links { (links : ℕ → Option ℕ) → PortLinks links lines.old.items
+        → PortLinks (link_set (place + 1) None links) lines.new.items }
+    ensures next { (n : ℕ) → NextWithin n lines.old.items → NextWithin n lines.new.items }
+    ensures length { length lines.new.items ≡ length lines.old.items }
+{
+    lines[place].close();
+}
+
+/// A packet on the current link.
+pub fn port_packet(
+    lines: &mut Vec<PortLine>,
+    alloc: Global,
+    place: usize,
+    packet: &Packet,
+    at: u64,
+) -> Result<PortTurn, AllocError>
+    requires place { place < length lines.old.items }
+    requires room { NextWithin (2 ^ 59) lines.old.items }
+    ensures leave { IfOk result (λ t. (s : Settings) (calls : ℕ → List PortCall) → PortsLeave s calls lines.old.items
+        → PortsLeave s (called (place + 1) (OnPacket packet.now at) calls) lines.new.items) }
+    ensures answers { IfOk result (λ t. (s : Settings) (calls : ℕ → List PortCall) → PortsLeave s calls lines.old.items
+        → IsAnswer (port_answer s (place + 1) (calls (place + 1)) (OnPacket packet.now at)) t) }
+    ensures links { (links : ℕ → Option ℕ) → PortLinks links lines.old.items → PortLinks links lines.new.items }
+    ensures next { (n : ℕ) → NextWithin n lines.old.items → NextWithin (n + 1) lines.new.items }
+    ensures length { length lines.new.items ≡ length lines.old.items }
+{
+    lines[place].packet(alloc, packet, at)
+}
+
+/// Time passes.
+pub fn port_tick(
+    lines: &mut Vec<PortLine>,
+    alloc: Global,
+    place: usize,
+    at: u64,
+) -> Result<PortTurn, AllocError>
+    requires place { place < length lines.old.items }
+    ensures leave { IfOk result (λ t. (s : Settings) (calls : ℕ → List PortCall) → PortsLeave s calls lines.old.items
+        → PortsLeave s (called (place + 1) (OnTick at) calls) lines.new.items) }
+    ensures answers { IfOk result (λ t. (s : Settings) (calls : ℕ → List PortCall) → PortsLeave s calls lines.old.items
+        → IsAnswer (port_answer s (place + 1) (calls (place + 1)) (OnTick at)) t) }
+    ensures links { (links : ℕ → Option ℕ) → PortLinks links lines.old.items → PortLinks links lines.new.items }
+    ensures next { (n : ℕ) → NextWithin n lines.old.items → NextWithin n lines.new.items }
+    ensures length { length lines.new.items ≡ length lines.old.items }
+{
+    lines[place].tick(alloc, at)
+}
+
+/// A message goes out while the port is up.
+pub fn port_send(
+    lines: &mut Vec<PortLine>,
+    alloc: Global,
+    place: usize,
+    message: &[u8],
+    at: u64,
+) -> Result<PortTurn, AllocError>
+    requires place { place < length lines.old.items }
+    requires up { IsUpAt place lines.old.items }
+    requires most { length message.now ≤ 65_534 }
+    ensures leave { IfOk result (λ t. (s : Settings) (calls : ℕ → List PortCall) → PortsLeave s calls lines.old.items
+        → PortsLeave s (called (place + 1) (Send message.now at) calls) lines.new.items) }
+    ensures answers { IfOk result (λ t. (s : Settings) (calls : ℕ → List PortCall) → PortsLeave s calls lines.old.items
+        → IsAnswer (port_answer s (place + 1) (calls (place + 1)) (Send message.now at)) t) }
+    ensures links { (links : ℕ → Option ℕ) → PortLinks links lines.old.items → PortLinks links lines.new.items }
+    ensures next { (n : ℕ) → NextWithin n lines.old.items → NextWithin n lines.new.items }
+    ensures up { IfOk result (λ t. IsUpAt place lines.new.items) }
+    ensures length { length lines.new.items ≡ length lines.old.items }
+{
+    lines[place].send(alloc, message, at)
+}
+
+/// The payload that was delivered last is at fault at the order level.
+pub fn port_fail(
+    lines: &mut Vec<PortLine>,
+    alloc: Global,
+    place: usize,
+    fault: PortFault,
+) -> Result<PortTurn, AllocError>
+    requires place { place < length lines.old.items }
+    requires up { IsUpAt place lines.old.items }
+    ensures leave { IfOk result (λ t. (s : Settings) (calls : ℕ → List PortCall) → PortsLeave s calls lines.old.items
+        → PortsLeave s (called (place + 1) (Fail fault) calls) lines.new.items) }
+    ensures answers { IfOk result (λ t. (s : Settings) (calls : ℕ → List PortCall) → PortsLeave s calls lines.old.items
+        → IsAnswer (port_answer s (place + 1) (calls (place + 1)) (Fail fault)) t) }
+    ensures links { (links : ℕ → Option ℕ) → PortLinks links lines.old.items → PortLinks links lines.new.items }
+    ensures next { (n : ℕ) → NextWithin n lines.old.items → NextWithin n lines.new.items }
+    ensures length { length lines.new.items ≡ length lines.old.items }
+{
+    lines[place].fail(alloc, fault)
+}

@@ -1,0 +1,11 @@
+mod Stages
+mod Tells
+mod AcceptedRow
+mod CanceledRow
+mod ExecutedRow
+mod BrokenRow
+mod CancelRejectRow
+mod RejectedRow
+mod ReplacedRow
+mod Found
+mod Judging

@@ -1,0 +1,44 @@
+//! What comes of a message on an order.
+
+ghost use Rattle.std.specs.Prelude.{◌≡◌, ◌≤◌, length};
+ghost use Rattle.market_messages.specs.declared.heard.RowFault.TheVariants.{NoMemory};
+
+use fix_types::AppBody;
+use orders::Change;
+use std::alloc::{AllocError, AllocFailed};
+use thiserror::Error;
+
+/// What comes of a message that is lawful of an order.
+#[derive(Debug, Drop)]
+pub struct Heard {
+    /// What it changes of the order.
+    pub change: Change,
+    /// What its client is told, in order: three bodies at most, or none.
+    pub bodies: Vec<AppBody>,
+    ghost few: { length bodies.items ≤ 3 },
+}
+
+/// Why nothing comes of a message.
+#[derive(Clone, Copy, Debug, PartialEq, Eq, Drop, Error)]
+pub enum RowFault {
+    #[error("out of memory")]
+    NoMemory,
+    #[error("a message that is not lawful here")]
+    NotLawful,
+}
+
+impl From<AllocError> for RowFault {
+    ghost from_gives = { λ _ fault. fault ≡ NoMemory };
+
+    fn from(_error: AllocError) -> RowFault {
+        RowFault::NoMemory
+    }
+}
+
+impl<T: Drop> From<AllocFailed<T>> for RowFault {
+    ghost from_gives = { λ _ fault. fault ≡ NoMemory };
+
+    fn from(_error: AllocFailed<T>) -> RowFault {
+        RowFault::NoMemory
+    }
+}

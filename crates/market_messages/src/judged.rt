@@ -1,0 +1,21 @@
+//! What a payload of the market comes to.
+
+use crate::heard::Heard;
+use crate::market_fault::MarketFault;
+
+/// What a payload of the market comes to.
+#[derive(Debug, Drop)]
+pub enum Judged {
+    /// Nothing comes of it, and it is no fault.
+    Silent,
+    /// It may not be handled, and changes nothing.
+    Faulty(MarketFault),
+    /// An order is changed, and its client is told of it where there are bodies.
+    Told {
+        /// OrderID (37) of the order.
+        order_id: u64,
+        /// The number of its client, from 1.
+        client: u16,
+        heard: Heard,
+    },
+}

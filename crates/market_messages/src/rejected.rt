@@ -1,0 +1,113 @@
+//! Rejected: the market didn't take a new order, or a replacement.
+
+ghost use Rattle.std.specs.Prelude.{◌≡◌, ℕ, ◌≤◌, ◌<◌, ◌^◌, true, false, length, map, IfOk, List};
+ghost use Rattle.fix_types.specs.Application.{body_fields};
+ghost use Rattle.ouch_codec.specs.declared.outbound.Outbound.TheVariants as market;
+ghost use Rattle.market_messages.specs.Meets.{MeetsRow, rejects_new, rejects_replace, told_of};
+
+use crate::heard::{Heard, RowFault};
+use fix_types::AppBody;
+use order_law::Stage;
+use orders::{Change, Order};
+use ouch_codec::Rejected;
+use std::alloc::{AllocError, Global};
+use to_client::{
+    Occasion, Pending, Shown, pending_of, push_cancel_rejected, push_reject, push_report,
+    push_too_late, report_of, shown_of,
+};
+
+/// Lawful for an order that waits under this token: it is over, with the market's letter as the reason, and each
+/// pending request is too late. And for an order that isn't closed, of its pending replace: that is answered by a
+/// reject with the letter, and the Cancel Order of its token is answered.
+///
+/// Source: OUCH 4.2, "Rejected Message".
+pub fn on_rejected(
+    alloc: Global,
+    issued: u64,
+    order: &Order,
+    message: &Rejected,
+) -> Result<Heard, RowFault>
+    requires { issued < 2 ^ 60 }
+    ensures { MeetsRow issued (market.Rejected message.now) order.now result }
+{
+    if may_refuse(order, message) {
+        return Ok(Heard {
+            change: Change::Refused,
+            bodies: tell_refused(alloc, issued, order, message)?,
+        });
+    }
+    if may_reject_replace(order, message) {
+        return Ok(Heard {
+            change: Change::NotReplaced(message.token),
+            bodies: tell_not_replaced(alloc, order, message)?,
+        });
+    }
+    Err(RowFault::NotLawful)
+}
+
+/// What its client is told of a new order.
+fn tell_refused(
+    alloc: Global,
+    issued: u64,
+    order: &Order,
+    message: &Rejected,
+) -> Result<Vec<AppBody>, AllocError>
+    requires issued { issued < 2 ^ 60 }
+    requires may { rejects_new message.now order.now ≡ true }
+    ensures told { IfOk result (λ bodies. map body_fields bodies.items
+        ≡ told_of issued (market.Rejected message.now) order.now) }
+    ensures few { IfOk result (λ bodies. length bodies.items ≤ 3) }
+{
+    let refused = order.progress_after(Change::Refused);
+    let occasion = Occasion::Rejected(message.reason);
+    let mut bodies = Vec::with_capacity(alloc, 3)?;
+    let shown = shown_of(order, &refused);
+    let report = report_of(alloc, issued + 1, occasion, &shown)?;
+    push_report(&mut bodies, report)?;
+    push_too_late(alloc, &mut bodies, &shown, &pending_of(order))?;
+    Ok(bodies)
+}
+
+/// What its client is told of a replace.
+fn tell_not_replaced(
+    alloc: Global,
+    order: &Order,
+    message: &Rejected,
+) -> Result<Vec<AppBody>, AllocError>
+    requires not_new { rejects_new message.now order.now ≡ false }
+    requires may { rejects_replace message.now order.now ≡ true }
+    ensures told { IfOk result (λ bodies. (issued : ℕ)
+        → map body_fields bodies.items ≡ told_of issued (market.Rejected message.now) order.now) }
+    ensures few { IfOk result (λ bodies. length bodies.items ≤ 3) }
+{
+    let progress = order.progress_after(Change::NotReplaced(message.token));
+    let pending = pending_of(order);
+    let shown = Shown {
+        has_pending_replace: false,
+        ..shown_of(order, &progress)
+    };
+    let mut bodies = Vec::with_capacity(alloc, 2)?;
+    let letter = [message.reason];
+    push_reject(alloc, &mut bodies, &pending.replace, &shown, 2, &letter)?;
+    let rest = Pending {
+        replace: None,
+        ..pending
+    };
+    let is_last = order.is_last(&message.token);
+    push_cancel_rejected(alloc, &mut bodies, is_last, &shown, &rest)?;
+    Ok(bodies)
+}
+
+/// Whether an order waits for the market's answer under this token.
+fn may_refuse(order: &Order, message: &Rejected) -> bool
+    ensures { result ≡ rejects_new message.now order.now }
+{
+    message.token == order.token && order.progress.stage == Stage::Waiting
+}
+
+/// Whether this is the token of a pending replace of an order that isn't closed.
+fn may_reject_replace(order: &Order, message: &Rejected) -> bool
+    ensures { result ≡ rejects_replace message.now order.now }
+{
+    order.awaits(&message.token) && order.progress.stage != Stage::Closed
+}

@@ -1,0 +1,48 @@
+//! The terms of an order, as the market gives them back.
+
+ghost use Rattle.std.specs.Prelude.{◌≡◌, ◌==◌, bytes_eq};
+ghost use Rattle.ouch_codec.specs.Parts.{unpadded};
+ghost use Rattle.order_law.specs.Lawful.{same_terms};
+ghost use Rattle.market_messages.specs.Sides.{fix_side};
+
+use fix_fields::Text;
+use fix_values::Character;
+use orders::Order;
+use ouch_codec::Side;
+
+/// Whether a stock and a side are those of an order.
+pub fn is_same_terms(order: &Order, stock: &[u8; 8], side: Side) -> bool
+    ensures { result ≡ same_terms side stock.now order.now.new }
+{
+    is_stock(stock, &order.message.symbol) && is_same_side(order.message.side, side)
+}
+
+/// Whether a stock is this symbol.
+fn is_stock(stock: &[u8; 8], symbol: &Text) -> bool
+    ensures { result ≡ bytes_eq (unpadded stock.now) symbol.now }
+{
+    trimmed(stock) == symbol.as_slice()
+}
+
+/// A text without the spaces behind it.
+fn trimmed(text: &[u8]) -> &[u8]
+    ensures { result.now ≡ unpadded text.now }
+{
+    match text {
+        [front @ .., b' '] => trimmed(front),
+        _ => text,
+    }
+}
+
+/// Whether FIX's side is the market's.
+fn is_same_side(side: Character, of_market: Side) -> bool
+    ensures { result ≡ (fix_side of_market == side) }
+{
+    let byte = match of_market {
+        Side::Buy => b'1',
+        Side::Sell => b'2',
+        Side::SellShort => b'5',
+        Side::SellShortExempt => b'6',
+    };
+    byte == side.byte()
+}

@@ -1,9 +1,0 @@
-mod Stages
-mod Tells
-mod AcceptedRow
-mod CanceledRow
-mod ExecutedRow
-mod BrokenRow
-mod CancelRejectRow
-mod RejectedRow
-mod ReplacedRow

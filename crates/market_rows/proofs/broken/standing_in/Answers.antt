@@ -1,7 +1,0 @@
-use Rattle.std.proofs.Common.{rules, ap, ◌∙◌}
-use Rattle.std.specs.List.{find}
-use Rattle.order_histories.specs.OrderRecord.{OrderRecord, stands_told}
-use Rattle.market_rows.proofs.broken.standing_in.Goals as goal
-
-pub returns : goal.returns
-returns c = (search rules) ∙ ap (λ (o : OrderRecord). find (stands_told c.args.match_number) o.trades) c.order.view_is

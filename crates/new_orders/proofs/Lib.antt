@@ -1,0 +1,3 @@
+mod NewVerdict
+mod Asking
+mod Entering

@@ -1,0 +1,10 @@
+pub mod Verdict
+pub mod Turns
+pub use Rattle.fix_types.specs.Application
+pub use Rattle.order_law.specs.Headline
+pub use Rattle.order_law.specs.History
+pub use Rattle.order_law.specs.Verdicts
+pub use Rattle.order_machine.specs.OrderRecord
+pub use Rattle.order_machine.specs.Table
+pub use Rattle.to_market.specs.NewAsks
+pub use Rattle.to_market.specs.Refusals

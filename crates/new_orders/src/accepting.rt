@@ -1,0 +1,101 @@
+//! An accepted new order.
+
+ghost use Rattle.std.specs.Prelude.{◌≡◌, ◌+◌, ◌<◌, ◌≤◌, ◌^◌, ◌∷◌, [], ℕ, List, Option, Some, codes, decimal, length};
+ghost use Rattle.std.specs.Prelude.{map, IfOk};
+ghost use Rattle.fix_types.specs.Application.{body_fields};
+ghost use Rattle.fix_types.specs.NewOrder.{new_order_fields};
+ghost use Rattle.ouch_codec.specs.Inbound.{inbound_bytes};
+ghost use Rattle.order_law.specs.Asks.{Standing};
+ghost use Rattle.order_law.specs.Headline.{EachWith, Says};
+ghost use Rattle.order_law.specs.History.{Asked};
+ghost use Rattle.order_law.specs.Told as law;
+ghost use Rattle.order_machine.specs.OrderRecord.{entered, shown_as};
+ghost use Rattle.to_market.specs.NewAsks.{enter_bytes};
+ghost use Rattle.new_orders.specs.Turns.{StepsAccepted, entry_after};
+ghost use Rattle.new_orders.specs.Verdict.{AsksNext};
+
+use crate::turn::NewOrderTurn;
+use client_requests::{Sender, shown_now};
+use fix_types::{AppBody, NewOrder};
+use order_table::{GivenToken, Table};
+use orders::{Order, Progress};
+use ouch_codec::{EnterOrder, Inbound};
+use std::alloc::{AllocError, Global};
+use to_client::{Occasion, report_of};
+
+/// What an accepted new order comes to, where this message asks it.
+pub fn accept(
+    alloc: Global,
+    order_ids: u64,
+    exec_ids: u64,
+    table: &Table,
+    sender: &Sender,
+    order: &NewOrder,
+    enter: EnterOrder,
+) -> Result<NewOrderTurn, AllocError>
+    requires order_ids { order_ids < 2 ^ 60 }
+    requires exec_ids { exec_ids < 2 ^ 60 }
+    requires tokens { length table.now.tokens < 2 ^ 60 }
+    requires enter { AsksNext sender.now table.now order.now enter }
+    ensures { IfOk result (StepsAccepted order_ids exec_ids sender.now table.now order.now) }
+{
+    let order_id = order_ids + 1;
+    let waiting = entered(alloc, order_id, table, sender, order, &enter)?;
+    let body = report_pending(alloc, exec_ids + 1, &waiting)?;
+    let given = GivenToken {
+        port: sender.terms.port,
+        token: enter.token,
+        order_id,
+        is_replacement: false,
+    };
+    let asks = asks_of(alloc, enter)?;
+    Ok(NewOrderTurn::Accepted {
+        order_id,
+        order: waiting,
+        given,
+        body,
+        asks,
+    })
+}
+
+/// The order that then waits for the market, under this OrderID.
+fn entered(
+    alloc: Global,
+    order_id: u64,
+    table: &Table,
+    sender: &Sender,
+    order: &NewOrder,
+    enter: &EnterOrder,
+) -> Result<Order, AllocError>
+    requires tokens { length table.now.tokens < 2 ^ 60 }
+    requires enter { AsksNext sender.now table.now order.now enter.now }
+    ensures { IfOk result (λ o. o ≡ entered (entry_after order_id sender.now table.now order.now)) }
+{
+    Order::entered(
+        alloc,
+        sender.client,
+        order_id,
+        enter.token,
+        table.token_count() as u64 + 1,
+        order.copied(alloc)?,
+        Progress::entered(enter.shares, enter.price),
+    )
+}
+
+/// The report that an order waits for the market.
+fn report_pending(alloc: Global, number: u64, order: &Order) -> Result<AppBody, AllocError>
+    ensures { IfOk result (λ body. body_fields body ≡ law.report number (law.plain (codes "A")) (shown_as order.now)) }
+{
+    let report = report_of(alloc, number, Occasion::PendingNew, &shown_now(order))?;
+    Ok(AppBody::Report(report))
+}
+
+/// What an accepted new order asks: one Enter Order.
+fn asks_of(alloc: Global, enter: EnterOrder) -> Result<Vec<Inbound>, AllocError>
+    ensures says { IfOk result (λ asks. (standing : Standing) (order_of : List ℕ → Option ℕ) (asked : Asked)
+        → Says standing order_of asked (enter_bytes enter)
+        → EachWith (Says standing order_of) (asked ∷ []) (map inbound_bytes asks.items)) }
+    ensures few { IfOk result (λ asks. length asks.items ≤ 2) }
+{
+    Ok(vec![in alloc; Inbound::Enter(enter)]?)
+}

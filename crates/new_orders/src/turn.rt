@@ -1,0 +1,25 @@
+//! What a new order comes to.
+
+use fix_types::AppBody;
+use order_table::GivenToken;
+use orders::Order;
+use ouch_codec::Inbound;
+
+/// What a new order comes to.
+#[derive(Drop)]
+pub enum NewOrderTurn {
+    /// It is refused, in one report.
+    Refused(AppBody),
+    /// It waits for the market, which one report says.
+    Accepted {
+        /// OrderID (37).
+        order_id: u64,
+        order: Order,
+        /// Its token: the next one.
+        given: GivenToken,
+        /// The report that it waits.
+        body: AppBody,
+        /// What the market is asked, at once or as soon as the port is up.
+        asks: Vec<Inbound>,
+    },
+}

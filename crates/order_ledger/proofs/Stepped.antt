@@ -1,0 +1,118 @@
+-- What comes of a client's message, put into the table, is what the table's step gives.
+use Rattle.std.proofs.Common.{◌≡◌, ℕ, ◌+◌, ◌≤◌, List, [], ◌∷◌, length, map, refl, sym, ap, ◌∙◌, subst, arith, Option, Some, None, decimal}
+use Rattle.fix_types.specs.declared.application.AppBody.{AppBody}
+use Rattle.fix_types.specs.Application.{body_fields}
+use Rattle.ouch_codec.specs.Inbound.{inbound_bytes}
+use Rattle.ouch_codec.specs.declared.inbound.Inbound.{Inbound}
+use Rattle.order_law.specs.Headline.{Each, EachWith, Says}
+use Rattle.order_law.specs.History.{Asked, terms_of}
+use Rattle.fix_fields.specs.Field.{Message}
+use Rattle.order_law.specs.Verdicts.{Port}
+use Rattle.order_machine.specs.Machine.{GivenByEvent, client_step, tells, with_used}
+use Rattle.order_machine.specs.OrderRecord.{OrderRecord, at}
+use Rattle.order_machine.specs.Runs.{Finds}
+use Rattle.order_machine.specs.Table.{GivenToken, TableState, by_number, put, used_by}
+use Rattle.orders.specs.Seen.{cancel_seen, replace_seen}
+use Rattle.orders.specs.declared.requests.Cancelling.{Cancelling}
+use Rattle.orders.specs.declared.requests.Replacing.{Replacing}
+use Rattle.order_table.specs.Held.{Held, changed, with_number}
+use Rattle.to_market.specs.PortsSeen.{port_seen}
+use Rattle.client_requests.specs.Turns.{AreOf, IsCancelling, IsReplacing}
+use Rattle.client_requests.specs.declared.sender.Sender.{Sender}
+use Rattle.new_orders.specs.Turns.{IsEntering, numbered_on, with_order}
+use Rattle.order_ledger.specs.declared.turns.ClientTurn.{ClientTurn}
+use Rattle.order_ledger.specs.Meets.{GoByNumbers, MeetsFields}
+
+-- what is asked of what a step gives
+abbrev AsksOf : TableState → ℕ → ClientTurn → GivenByEvent → Type 0
+AsksOf old client turn g =
+    (order_of : List ℕ → Option ℕ) → Each (Finds order_of) g.asks → EachWith (Says (terms_of old.terms client).standing order_of) g.asks (map inbound_bytes turn.asks.items)
+
+-- and of which order
+abbrev OfOrder : ClientTurn → GivenByEvent → Type 0
+OfOrder turn g = AreOf turn.order_id g.asks
+
+-- one body is told, and this is asked of one order
+given-meets : (old : TableState) (client : ℕ) (m : Message) (port : Port) (turn : ClientTurn) (new : TableState) (body : AppBody) (asked : List Asked)
+    → client_step old client m port ≡ tells new client (body_fields body ∷ []) asked → turn.bodies.items ≡ body ∷ [] → AreOf turn.order_id asked
+    → ((order_of : List ℕ → Option ℕ) → Each (Finds order_of) asked → EachWith (Says (terms_of old.terms client).standing order_of) asked (map inbound_bytes turn.asks.items))
+    → MeetsFields old client m port turn new
+given-meets old client m port turn new body asked is told of_order says = record {
+  state = ap (λ (g : GivenByEvent). g.state) (sym is);
+  for_client = ap (λ (g : GivenByEvent). g.client) is;
+  bodies = ap (map body_fields) told ∙ ap (λ (g : GivenByEvent). g.bodies) (sym is);
+  no_fault = ap (λ (g : GivenByEvent). g.fault) is;
+  of_order = subst (OfOrder turn) (sym is) of_order;
+  asks = subst (AsksOf old client turn) (sym is) says;
+}
+
+-- refused: nothing is asked
+ended-meets : (old : TableState) (client : ℕ) (m : Message) (port : Port) (turn : ClientTurn) (new left : TableState) (body : AppBody)
+    → client_step old client m port ≡ tells left client (body_fields body ∷ []) [] → turn.bodies.items ≡ body ∷ [] → turn.asks.items ≡ [] → new ≡ left
+    → MeetsFields old client m port turn new
+ended-meets old client m port turn new left body is told nothing state =
+    given-meets old client m port turn new body [] (is ∙ ap (λ (s : TableState). tells s client (body_fields body ∷ []) []) (sym state)) told tt
+    (λ order_of finds. subst (λ (asks : List Inbound). EachWith (Says (terms_of old.terms client).standing order_of) [] (map inbound_bytes asks)) (sym nothing) tt)
+
+-- a request: nothing changes but that its id is used
+pub refused-meets : (old : TableState) (client : ℕ) (m : Message) (port : Port) (turn : ClientTurn) (new : TableState) (body : AppBody)
+    → client_step old client m port ≡ tells (with_used client m old) client (body_fields body ∷ []) [] → turn.bodies.items ≡ body ∷ [] → turn.asks.items ≡ [] → new ≡ with_used client m old
+    → MeetsFields old client m port turn new
+refused-meets old client m port turn new body is told nothing state = ended-meets old client m port turn new (with_used client m old) body is told nothing state
+
+-- a new order: it takes two numbers, too
+pub refused_new-meets : (old : TableState) (client : ℕ) (m : Message) (port : Port) (turn : ClientTurn) (new : TableState) (body : AppBody)
+    → client_step old client m port ≡ tells (numbered_on client m old) client (body_fields body ∷ []) [] → turn.bodies.items ≡ body ∷ [] → turn.asks.items ≡ [] → new ≡ numbered_on client m old
+    → MeetsFields old client m port turn new
+refused_new-meets old client m port turn new body is told nothing state = ended-meets old client m port turn new (numbered_on client m old) body is told nothing state
+
+-- a table with the id used, and one report more
+abbrev with_table : TableState → ℕ → Message → Held → TableState
+with_table old client m held = record (with_used client m old) { orders = held.orders; tokens = held.tokens; exec_ids = old.exec_ids + 1 }
+
+module _ (old : TableState) (sender : Sender) (m : Message) (turn : ClientTurn) (new : TableState) (order_id : ℕ) (body : AppBody) (told : turn.bodies.items ≡ body ∷ []) (numbered_as : turn.order_id ≡ order_id) where
+  pub entering-meets : (o : OrderRecord) (given : GivenToken) → IsEntering old sender m order_id o given body turn.asks.items → new ≡ with_order (used_by sender.client m) o given old
+      → MeetsFields old sender.client m (port_seen sender.port) turn new
+  entering-meets o given is state =
+      given-meets old sender.client m (port_seen sender.port) turn new body is.asked
+      (is.gives ∙ ap (λ (s : TableState). tells s sender.client (body_fields body ∷ []) is.asked) (sym state))
+      told (subst (λ (k : ℕ). AreOf k is.asked) (sym numbered_as) is.of_asked) is.says
+
+  module _ (numbered : GoByNumbers old) (held : Held) (state : new ≡ with_table old sender.client m held) where
+    pub cancelling-meets : (c : Cancelling) → IsCancelling old sender m order_id c body turn.asks.items
+        → ((o : OrderRecord) → by_number old (decimal order_id) ≡ Some o → held ≡ record { orders = put (at o o.replace (Some (cancel_seen o.new.client order_id c))) old.orders; tokens = old.tokens })
+        → MeetsFields old sender.client m (port_seen sender.port) turn new
+    cancelling-meets c is is_changed =
+        let found : by_number old (decimal order_id) ≡ Some is.order = ap (by_number old) (sym is.of_order) ∙ numbered sender.client _ is.order is.named in
+        given-meets old sender.client m (port_seen sender.port) turn new body is.asked
+        (is.gives ∙ ap (λ (s : TableState). tells s sender.client (body_fields body ∷ []) is.asked) (sym (state ∙ ap (with_table old sender.client m) (is_changed is.order found))))
+        told (subst (λ (k : ℕ). AreOf k is.asked) (sym numbered_as) is.of_asked) is.says
+
+    pub replacing-meets : (r : Replacing) (given : GivenToken) → IsReplacing old sender m order_id r given body turn.asks.items
+        → ((o : OrderRecord) → by_number old (decimal order_id) ≡ Some o → held ≡ record { orders = put (at o (Some (replace_seen o.new.client order_id r)) o.cancel) old.orders; tokens = given ∷ old.tokens })
+        → MeetsFields old sender.client m (port_seen sender.port) turn new
+    replacing-meets r given is is_changed =
+        let found : by_number old (decimal order_id) ≡ Some is.order = ap (by_number old) (sym is.of_order) ∙ numbered sender.client _ is.order is.named in
+        given-meets old sender.client m (port_seen sender.port) turn new body is.asked
+        (is.gives ∙ ap (λ (s : TableState). tells s sender.client (body_fields body ∷ []) is.asked) (sym (state ∙ ap (with_table old sender.client m) (is_changed is.order found))))
+        told (subst (λ (k : ℕ). AreOf k is.asked) (sym numbered_as) is.of_asked) is.says
+
+-- ---- tokens
+
+-- a cancel takes no token
+pub same-tokens : (h k : Held) (order_id : ℕ) (f : OrderRecord → OrderRecord) → ((o : OrderRecord) → with_number h order_id ≡ Some o → k ≡ changed (f o) h) → (with_number h order_id ≡ None → k ≡ h)
+    → length k.tokens ≡ length h.tokens
+same-tokens h k order_id f accepted unknown = by_order (with_number h order_id) refl
+  where
+    by_order : (x : Option OrderRecord) → with_number h order_id ≡ x → length k.tokens ≡ length h.tokens
+    by_order None e = ap (λ (x : Held). length x.tokens) (unknown e)
+    by_order (Some o) e = ap (λ (x : Held). length x.tokens) (accepted o e)
+
+-- a replace takes one
+pub one_token : (h k : Held) (order_id : ℕ) (given : GivenToken) (f : OrderRecord → OrderRecord) → ((o : OrderRecord) → with_number h order_id ≡ Some o → k ≡ record { orders = put (f o) h.orders; tokens = given ∷ h.tokens })
+    → (with_number h order_id ≡ None → k ≡ h) → length k.tokens ≤ length h.tokens + 1
+one_token h k order_id given f accepted unknown = by_order (with_number h order_id) refl
+  where
+    by_order : (x : Option OrderRecord) → with_number h order_id ≡ x → length k.tokens ≤ length h.tokens + 1
+    by_order None e = let same : length k.tokens ≡ length h.tokens = ap (λ (x : Held). length x.tokens) (unknown e) in omega (arith, same)
+    by_order (Some o) e = let more : length k.tokens ≡ length (given ∷ h.tokens) = ap (λ (x : Held). length x.tokens) (accepted o e) in omega (arith, more)

@@ -1,0 +1,11 @@
+pub mod OrderRecord
+pub mod Told
+pub mod Table
+pub mod Machine
+pub mod Runs
+pub mod Outstanding
+pub use Rattle.fix_fields.specs.Field
+pub use Rattle.order_law.specs.Headline
+pub use Rattle.order_law.specs.History
+pub use Rattle.order_law.specs.Lawful
+pub use Rattle.order_law.specs.Verdicts

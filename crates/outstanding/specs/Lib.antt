@@ -1,0 +1,4 @@
+pub mod Kept
+pub mod Keeping
+pub mod KeptInTurns
+pub use Rattle.ouch_codec.specs.Inbound

@@ -1,0 +1,4 @@
+pub mod Going
+mod Parts
+mod Places
+pub mod Stepping

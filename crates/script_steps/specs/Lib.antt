@@ -1,0 +1,11 @@
+pub mod Events
+pub mod Frames
+pub mod Lines
+pub mod Settings
+pub mod Standing
+pub mod Steps
+pub use Rattle.fix_fields.specs.Field
+pub use Rattle.gate_events.specs.Seen
+pub use Rattle.gate_journal.specs.Kept
+pub use Rattle.ouch_codec.specs.Decoding
+pub use Rattle.script_lines.specs.Names

@@ -1,0 +1,158 @@
+//! The core with the script's settings, and the links of its clients and ports.
+
+ghost use Rattle.std.specs.Prelude.{◌≡◌, ◌++◌, ◌∷◌, [], IfOk, OnOk, IsErrOf};
+ghost use Rattle.std.specs.List.{FoldsTo};
+ghost use Rattle.gate_journal.specs.Kept.{nothing_kept};
+ghost use Rattle.script_steps.specs.Lines.{MayStop, MayStopAt};
+ghost use Rattle.script_steps.specs.Standing.{IsCold, IsStep, IsWarm, StepsText, logs_in_lines, logs_on_lines};
+ghost use Rattle.script_steps.specs.Standing as spec;
+ghost use Rattle.script_steps.specs.Steps.{GoesOn, KeepsLine};
+
+use crate::events::Links;
+use crate::settings::fixed_settings;
+use fix_fields::Fields;
+use gate_core::{Core, Event};
+use gate_journal::History;
+use script_lines::{Client, Line, LineFault, Port, line_of};
+use std::alloc::{AllocError, Global};
+
+/// The gateway's core with the settings of a script, and what the script's lines have told of links and of the time.
+#[derive(Drop)]
+pub struct Runner {
+    pub core: Core,
+    pub links: Links,
+}
+
+impl Runner {
+    /// A runner of which no line was stepped. No link is up.
+    pub fn cold(alloc: Global) -> Result<Runner, AllocError>
+        ensures { IfOk result IsCold }
+    {
+        let settings = fixed_settings(alloc)?;
+        Ok(Runner {
+            core: Core::new(alloc, &settings)?,
+            links: Links::new(alloc),
+        })
+    }
+
+    /// Steps the line of this text, and keeps its events with the batches that they give. `NotUnderstood` where it is
+    /// none of the tables' lines, and where `step` answers it.
+    pub fn take(&mut self, alloc: Global, text: &[u8], kept: &mut History) -> Result<(), LineFault>
+        ensures stepped { OnOk result (StepsText self.old kept.old text.now self.new kept.new) }
+        ensures stopped { IsErrOf result LineFault.NotUnderstood → MayStopAt text.now }
+    {
+        let line = line_of(alloc, text)?;
+        self.step(alloc, line, kept)?;
+        Ok(())
+    }
+
+    /// Steps a line, and keeps its events with the batches that they give. `NotUnderstood` where `Links::events_of`
+    /// answers it.
+    pub fn step(&mut self, alloc: Global, line: Line, kept: &mut History) -> Result<(), LineFault>
+        ensures on { OnOk result (GoesOn self.old.core kept.old self.new.core kept.new) }
+        ensures line { OnOk result (KeepsLine self.old.core line self.old.links self.new.links kept.old kept.new) }
+        ensures stopped { IsErrOf result LineFault.NotUnderstood → MayStop line }
+    {
+        let events = self.links.events_of(alloc, &self.core, line)?;
+        Ok(step_events(alloc, &mut self.core, events, kept)?)
+    }
+}
+
+/// Steps events in their order, and keeps each with its batch.
+fn step_events(
+    alloc: Global,
+    core: &mut Core,
+    events: Vec<Event>,
+    kept: &mut History,
+) -> Result<(), AllocError>
+    ensures on { OnOk result (GoesOn core.old kept.old core.new kept.new) }
+    ensures events { OnOk result (kept.new.events ≡ kept.old.events ++ events.items) }
+{
+    for event in events {
+        step_event(alloc, core, event, kept)?;
+    }
+    Ok(())
+}
+
+/// Steps an event, and keeps it with its batch.
+fn step_event(
+    alloc: Global,
+    core: &mut Core,
+    event: Event,
+    kept: &mut History,
+) -> Result<(), AllocError>
+    ensures on { OnOk result (GoesOn core.old kept.old core.new kept.new) }
+    ensures event { OnOk result (kept.new.events ≡ kept.old.events ++ event ∷ []) }
+{
+    let batch = core.step(alloc, &event)?;
+    kept.push(event, batch)?;
+    Ok(())
+}
+
+/// A runner whose clients are logged on, and whose ports are logged in, on their first links at moment 0. What was
+/// stepped for it is kept.
+pub fn warm_runner(alloc: Global, kept: &mut History) -> Result<Runner, LineFault>
+    ensures { IfOk result (λ runner. kept.old ≡ nothing_kept → IsWarm (record { runner = runner; kept = kept.new })) }
+{
+    let mut runner = Runner::cold(alloc)?;
+    log_on(alloc, &mut runner, Client::First, kept)?;
+    log_on(alloc, &mut runner, Client::Second, kept)?;
+    log_on(alloc, &mut runner, Client::Third, kept)?;
+    log_in(alloc, &mut runner, Port::First, kept)?;
+    log_in(alloc, &mut runner, Port::Second, kept)?;
+    Ok(runner)
+}
+
+/// A client comes up and logs on, with a heartbeat every 30 seconds.
+///
+/// Source: FIX 4.4 Volume 2, "Logon".
+fn log_on(
+    alloc: Global,
+    runner: &mut Runner,
+    client: Client,
+    kept: &mut History,
+) -> Result<(), LineFault>
+    ensures { OnOk result (FoldsTo IsStep (record { runner = runner.old; kept = kept.old }) (logs_on_lines client)
+        (record { runner = runner.new; kept = kept.new })) }
+{
+    runner.step(alloc, Line::ClientUp(client), kept)?;
+    let logon = logon(alloc)?;
+    runner.step(alloc, Line::ClientMessage(client, logon), kept)?;
+    Ok(())
+}
+
+/// A Logon (A): no encryption, a heartbeat every 30 seconds.
+///
+/// Source: FIX 4.4 Volume 2, "Logon".
+fn logon(alloc: Global) -> Result<Fields, AllocError>
+    ensures { IfOk result (λ fields. fields ≡ spec.logon) }
+{
+    let mut fields = Fields::new(alloc);
+    fields.push(35, b"A")?;
+    fields.push(98, b"0")?;
+    fields.push(108, b"30")?;
+    Ok(fields)
+}
+
+/// A port comes up and is logged in.
+fn log_in(
+    alloc: Global,
+    runner: &mut Runner,
+    port: Port,
+    kept: &mut History,
+) -> Result<(), LineFault>
+    ensures { OnOk result (FoldsTo IsStep (record { runner = runner.old; kept = kept.old }) (logs_in_lines port)
+        (record { runner = runner.new; kept = kept.new })) }
+{
+    runner.step(alloc, Line::PortUp(port), kept)?;
+    runner.step(
+        alloc,
+        Line::PortLogin {
+            port,
+            session: *b"SESSION001",
+            number: *b"                   1",
+        },
+        kept,
+    )?;
+    Ok(())
+}

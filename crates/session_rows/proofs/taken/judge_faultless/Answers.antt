@@ -1,4 +1,0 @@
-use Rattle.session_rows.proofs.taken.judge_faultless.Goals as goal
-
-pub returns-then-is_application-clause-fits : goal.returns-then-is_application-clause-fits
-returns-then-is_application-clause-fits c = c.judge_application.ensures.fits c.args.last
