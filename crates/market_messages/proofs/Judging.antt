@@ -8,7 +8,7 @@ use Rattle.ouch_codec.specs.declared.outbound.Outbound.TheVariants as market
 use Rattle.order_law.specs.Lawful.{judged_on, judged_token, order_token, row_fault, token_fault}
 use Rattle.order_machine.specs.Machine.{given_by_fault, payload_fault, faulty, heard_on, is_lawful_in, market_step, silent, tells}
 use Rattle.order_machine.specs.OrderRecord.{OrderRecord, after_message}
-use Rattle.order_machine.specs.Table.{TableState, by_number, record_by_token, put}
+use Rattle.order_machine.specs.Table.{TableState, by_number, record_by_token}
 use Rattle.orders.specs.Changes.{changed_by}
 use Rattle.order_table.specs.Held.{Held, found}
 use Rattle.market_messages.specs.declared.heard.Heard.{Heard}

@@ -6,19 +6,18 @@ use Rattle.std.proofs.lemmas.Bool.{and_parts}
 use Rattle.ouch_codec.specs.declared.outbound.rejected.Rejected.{Rejected}
 use Rattle.ouch_codec.specs.declared.outbound.Outbound.TheVariants as market
 use Rattle.order_law.specs.declared.stage.Stage.TheVariants.{Waiting}
-use Rattle.order_law.specs.History.{Entry, SaysCancel, answers, token_of}
+use Rattle.order_law.specs.History.{Entry, token_of}
 use Rattle.order_law.specs.Life.{is_waiting}
 use Rattle.order_law.specs.Told as law
 use Rattle.order_law.specs.Verdicts.{is_replace}
-use Rattle.order_machine.specs.OrderRecord.{Cancelling, OrderRecord, after_message, live_token, replacements, shown_as}
+use Rattle.order_machine.specs.OrderRecord.{OrderRecord, after_message, last_after, live_token, replacements, shown_as}
 use Rattle.order_machine.proofs.Texts.{eq-is, eq-true}
-use Rattle.orders.specs.Changes.{changed_by, is_last_of, with_quantities}
+use Rattle.orders.specs.Changes.{changed_by, with_quantities}
 use Rattle.orders.specs.declared.change.Change.TheVariants as changes
 use Rattle.to_client.specs.Occasions.{occasion_seen}
 use Rattle.to_client.specs.declared.occasion.Occasion.TheVariants as occasions
 use Rattle.to_client.specs.Pending.{cancel_in, rejects_of}
 use Rattle.market_messages.specs.Meets.{rejects_new, told_of}
-use Rattle.market_messages.proofs.CancelRejectRow.{last-same, still-same}
 use Rattle.market_messages.proofs.Stages.{waits-is}
 
 -- ---- of the new order
@@ -81,9 +80,6 @@ and-turned false false e = refl
 
 module _ (issued : ℕ) (m : Rejected) (o : OrderRecord) (q : Entry) (not_new : rejects_new m o ≡ false) (some : o.replace ≡ Some q) (own : m.token ≡ token_of q)
     (is_g : is_replace q.message ≡ true) (is_f : IfSome (cancel_in o.cancel) (λ (p : Entry). is_replace p.message ≡ false)) (in_order : (shown_as o).pending ≡ option_to_list o.replace ++ option_to_list (cancel_in o.cancel)) where
-  answered : (other : List ℕ) → answers (market.Rejected m) (SaysCancel other) ≡ bytes_eq m.token other
-  answered other = refl
-
   abbrev pub rest : law.Shown
   rest = record (shown_as (with_quantities (changed_by (changes.NotReplaced m.token) o) o)) { pending = option_to_list (cancel_in o.cancel) }
 
@@ -97,35 +93,31 @@ module _ (issued : ℕ) (m : Rejected) (o : OrderRecord) (q : Entry) (not_new : 
   left = ap (λ (ps : List Entry). record (shown_as o) { pending = filter (λ (p : Entry). not (law.asked_token m.token p)) ps }) listed
       ∙ ap (λ (ps : List Entry). record (shown_as o) { pending = ps }) (without-replace m.token q (cancel_in o.cancel) own is_g is_f)
 
-  pub not_replaced-told : told_of issued (market.Rejected m) o ≡ rejects_of rest o.replace 2 (m.reason ∷ []) ++ law.cancel_rejected (is_last_of m.token o.cancel) rest
+  pub not_replaced-told : told_of issued (market.Rejected m) o ≡ rejects_of rest o.replace 2 (m.reason ∷ []) ++ law.cancel_rejected (last_after (bytes_eq m.token) o.cancel) rest
   not_replaced-told =
       rw not_refused (
-      ap (λ (x : Bool). map (λ (p : Entry). law.answered_no (law.without_replace m.token (shown_as o)) p 2 (m.reason ∷ [])) (filter (law.asked_token m.token) (shown_as o).pending) ++ law.cancel_rejected x (law.without_replace m.token (shown_as o))) (last-same (market.Rejected m) m.token answered o.cancel)
-      ∙ ap (λ (ps : List Entry). map (λ (p : Entry). law.answered_no (law.without_replace m.token (shown_as o)) p 2 (m.reason ∷ [])) (filter (law.asked_token m.token) ps) ++ law.cancel_rejected (is_last_of m.token o.cancel) (law.without_replace m.token (shown_as o))) listed
-      ∙ ap (λ (ps : List Entry). map (λ (p : Entry). law.answered_no (law.without_replace m.token (shown_as o)) p 2 (m.reason ∷ [])) ps ++ law.cancel_rejected (is_last_of m.token o.cancel) (law.without_replace m.token (shown_as o))) (only-replace m.token q (cancel_in o.cancel) own is_g is_f)
-      ∙ ap (λ (s : law.Shown). law.answered_no s q 2 (m.reason ∷ []) ∷ law.cancel_rejected (is_last_of m.token o.cancel) s) left
-      ∙ ap (λ (r : Option Entry). rejects_of rest r 2 (m.reason ∷ []) ++ law.cancel_rejected (is_last_of m.token o.cancel) rest) (sym some)
+      ap (λ (ps : List Entry). map (λ (p : Entry). law.answered_no (law.without_replace m.token (shown_as o)) p 2 (m.reason ∷ [])) (filter (law.asked_token m.token) ps) ++ law.cancel_rejected (last_after (bytes_eq m.token) o.cancel) (law.without_replace m.token (shown_as o))) listed
+      ∙ ap (λ (ps : List Entry). map (λ (p : Entry). law.answered_no (law.without_replace m.token (shown_as o)) p 2 (m.reason ∷ [])) ps ++ law.cancel_rejected (last_after (bytes_eq m.token) o.cancel) (law.without_replace m.token (shown_as o))) (only-replace m.token q (cancel_in o.cancel) own is_g is_f)
+      ∙ ap (λ (s : law.Shown). law.answered_no s q 2 (m.reason ∷ []) ∷ law.cancel_rejected (last_after (bytes_eq m.token) o.cancel) s) left
+      ∙ ap (λ (r : Option Entry). rejects_of rest r 2 (m.reason ∷ []) ++ law.cancel_rejected (last_after (bytes_eq m.token) o.cancel) rest) (sym some)
       )
 
 module _ (issued : ℕ) (m : Rejected) (o : OrderRecord) (not_new : rejects_new m o ≡ false) where
-  answers-token : (other : List ℕ) → answers (market.Rejected m) (SaysCancel other) ≡ bytes_eq m.token other
-  answers-token other = refl
-
   pub not_replaced-now : changed_by (changes.NotReplaced m.token) o ≡ after_message issued (market.Rejected m) o
   not_replaced-now =
       let not_refused : (is_waiting o.stage && bytes_eq m.token (live_token o)) ≡ false = and-turned (bytes_eq m.token (live_token o)) (is_waiting o.stage) not_new in
-      rw not_refused (ap (λ (c : Option Cancelling). record o { replace = None; cancel = c }) (still-same (market.Rejected m) m.token answers-token o.cancel))
+      rw not_refused refl
 
 -- with any pending replace
 pub not_replaced-is : (issued : ℕ) (m : Rejected) (o : OrderRecord) → rejects_new m o ≡ false → list_any (bytes_eq m.token) (replacements o.replace) ≡ true
     → IfSome o.replace (λ (q : Entry). is_replace q.message ≡ true) → IfSome (cancel_in o.cancel) (λ (p : Entry). is_replace p.message ≡ false) → (shown_as o).pending ≡ option_to_list o.replace ++ option_to_list (cancel_in o.cancel)
     → (rest : law.Shown) → rest ≡ record (shown_as (with_quantities (changed_by (changes.NotReplaced m.token) o) o)) { pending = option_to_list (cancel_in o.cancel) }
-    → rejects_of rest o.replace 2 (m.reason ∷ []) ++ law.cancel_rejected (is_last_of m.token o.cancel) rest ≡ told_of issued (market.Rejected m) o
+    → rejects_of rest o.replace 2 (m.reason ∷ []) ++ law.cancel_rejected (last_after (bytes_eq m.token) o.cancel) rest ≡ told_of issued (market.Rejected m) o
 not_replaced-is issued m o not_new awaits typed is_f in_order rest same = by_replace o.replace refl typed
   where
     by_replace : (r : Option Entry) → o.replace ≡ r → IfSome r (λ (q : Entry). is_replace q.message ≡ true)
-        → rejects_of rest o.replace 2 (m.reason ∷ []) ++ law.cancel_rejected (is_last_of m.token o.cancel) rest ≡ told_of issued (market.Rejected m) o
+        → rejects_of rest o.replace 2 (m.reason ∷ []) ++ law.cancel_rejected (last_after (bytes_eq m.token) o.cancel) rest ≡ told_of issued (market.Rejected m) o
     by_replace None none is_g = absurd (none-replacing m.token o awaits none)
     by_replace (Some q) some is_g =
-        ap (λ (s : law.Shown). rejects_of s o.replace 2 (m.reason ∷ []) ++ law.cancel_rejected (is_last_of m.token o.cancel) s) same
+        ap (λ (s : law.Shown). rejects_of s o.replace 2 (m.reason ∷ []) ++ law.cancel_rejected (last_after (bytes_eq m.token) o.cancel) s) same
         ∙ sym (not_replaced-told issued m o q not_new some (the-replace m.token o q awaits some) is_g is_f in_order)

@@ -1,5 +1,5 @@
 -- What a message comes to on the one order that it is on, and whether the token is known that it gives the order.
-use Rattle.std.specs.Prelude.{◌≡◌, ℕ, Bool, true, false, List, [], is_some, decimal}
+use Rattle.std.specs.Prelude.{◌≡◌, ℕ, Bool, true, false, [], is_some, decimal}
 use Rattle.ouch_codec.specs.declared.outbound.Outbound.{Outbound}
 use Rattle.ouch_codec.specs.declared.outbound.Outbound.TheVariants as market
 use Rattle.order_machine.specs.OrderRecord.{OrderRecord, after_message}

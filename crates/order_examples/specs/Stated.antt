@@ -22,7 +22,7 @@ use Rattle.order_examples.specs.Exchanges as exchanges
 -- ---- reports
 
 abbrev pub new_orders : List Terms → OrderHistory → List Entry
-new_orders fixed_terms h = filter (λ e. is_new_order e.message) (accepted fixed_terms h)
+new_orders terms h = filter (λ e. is_new_order e.message) (accepted terms h)
 
 abbrev stated_on : List ℕ → List Message → List ReportState
 stated_on order [] = []
@@ -36,11 +36,11 @@ due_on order new (r ∷ earlier) =
     else due_on order new earlier
 
 abbrev pub states : List Terms → OrderHistory → List ReportState
-states fixed_terms h = flat_map (λ (e : Entry). stated_on e.order (issued e.client h)) (new_orders fixed_terms h)
+states terms h = flat_map (λ (e : Entry). stated_on e.order (issued e.client h)) (new_orders terms h)
 
 abbrev pub due_states : List Terms → OrderHistory → List ReportState
-due_states fixed_terms h = flat_map (λ (e : Entry). due_on e.order e.message (issued e.client h))
-    (new_orders fixed_terms h)
+due_states terms h = flat_map (λ (e : Entry). due_on e.order e.message (issued e.client h))
+    (new_orders terms h)
 
 -- each report on the order has the ids that are due, and each reject of a pending request the id that this named
 abbrev ids_on : List ℕ → (List ℕ → List ℕ) → List Message → List Bool
@@ -53,8 +53,8 @@ ids_on order old_id (r ∷ earlier) =
     else ids_on order old_id earlier
 
 abbrev ids : List Terms → OrderHistory → List Bool
-ids fixed_terms h = flat_map (λ (e : Entry). ids_on e.order (old_ids e.client (accepted fixed_terms h))
-    (issued e.client h)) (new_orders fixed_terms h)
+ids terms h = flat_map (λ (e : Entry). ids_on e.order (old_ids e.client (accepted terms h))
+    (issued e.client h)) (new_orders terms h)
 
 abbrev pub ids_are_due : OrderHistory → Bool
 ids_are_due h = list_all (λ is_due. is_due) (ids fixed_terms h)

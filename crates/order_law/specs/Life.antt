@@ -51,8 +51,7 @@ live l = first_token l.tokens
 abbrev pub born : List ℕ → ℕ → Life
 born root side = record {
   side = side;
-  tokens = root
-      ∷ [];
+  tokens = root ∷ [];
   stage = Waiting;
   unfilled = 0;
   executed = 0;

@@ -463,7 +463,7 @@ on_token terms port before token = option_and_then (order_of_token terms port (a
 
 -- a payload that is a fault, and one without a token, tells nobody anything
 abbrev pub told_by_market : List Terms → ℕ → Result Outbound DecodeRefusal → OrderHistory → Told
-told_by_market terms port (Err refusing_report) before = nobody
+told_by_market terms port (Err refusal) before = nobody
 told_by_market terms port (Ok m) before =
     if is_some (judgement terms port (Ok m) before) then nobody
     else told_on terms port m before (on_token terms port before (order_token m))

@@ -158,7 +158,7 @@ order_in s port m = option_and_then (record_by_token s port) (order_token m)
 
 -- a payload that is no fault, on the order that it is on
 abbrev pub given_by_fault : TableState → ℕ → Result Outbound DecodeRefusal → Option ℕ → GivenByEvent
-given_by_fault s port (Err refusing_report) None = silent s
+given_by_fault s port (Err refusal) None = silent s
 given_by_fault s port (Ok m) None = heard_on s m (order_in s port m)
 given_by_fault s port heard (Some fault) = faulty s fault
 

@@ -14,7 +14,6 @@ use Rattle.ouch_codec.specs.declared.outbound.Outbound.{Outbound}
 use Rattle.ouch_codec.specs.declared.outbound.Outbound.TheVariants as market
 use Rattle.ouch_codec.specs.declared.outbound.replaced.Replaced.{Replaced}
 use Rattle.ouch_codec.specs.declared.outbound.executed.Executed.{Executed}
-use Rattle.ouch_codec.specs.declared.order_state.OrderState.{OrderState}
 use Rattle.order_law.specs.Life.{Life, first_token, is_closed, is_dead, is_live, is_waiting, marked, stands_as}
 use Rattle.order_law.specs.Reading.{Fill, Reading}
 use Rattle.order_law.specs.Chain.{Chain, Request}
@@ -203,18 +202,26 @@ without_pending_cancel o = record o { cancel = None }
 abbrev pub unasked : OrderRecord → OrderRecord
 unasked o = record o { replace = None; cancel = None }
 
+-- a message answers the Cancel Order of a token
+abbrev answers_cancel : Outbound → List ℕ → Bool
+answers_cancel m token = answers m (SaysCancel token)
+
 -- the tokens whose Cancel Order a message doesn't answer
 abbrev pub unanswered_tokens : Outbound → List (List ℕ) → List (List ℕ)
-unanswered_tokens m tokens = filter (λ token. not (answers m (SaysCancel token))) tokens
+unanswered_tokens m tokens = filter (λ token. not (answers_cancel m token)) tokens
 
 abbrev pub with_tokens : Entry → List (List ℕ) → Option Cancelling
 with_tokens q [] = None
 with_tokens q (token ∷ tokens) = Some (record { request = q; tokens = token ∷ tokens })
 
--- a pending cancel after a message: it is answered where none of its messages is left
+-- a pending cancel once the Cancel Orders of such tokens are answered: it is over where none is left
+abbrev pub still_after : (List ℕ → Bool) → Option Cancelling → Option Cancelling
+still_after is_answered None = None
+still_after is_answered (Some c) = with_tokens c.request (filter (λ token. not (is_answered token)) c.tokens)
+
+-- a pending cancel after a message
 abbrev pub still_cancelling : Outbound → Option Cancelling → Option Cancelling
-still_cancelling m None = None
-still_cancelling m (Some c) = with_tokens c.request (unanswered_tokens m c.tokens)
+still_cancelling m c = still_after (answers_cancel m) c
 
 -- all of it is cancelled, which answers a cancel
 abbrev pub all_cancelled : OrderRecord → OrderRecord
@@ -224,14 +231,13 @@ all_cancelled o = without_pending_cancel (gone o)
 abbrev pub at : OrderRecord → Option Entry → Option Cancelling → OrderRecord
 at o r c = record o { replace = r; cancel = c }
 
+-- under the ClOrdID of its replace, and its new token
+abbrev pub renamed : List ℕ → Entry → OrderRecord → OrderRecord
+renamed token q o = record o { id = text 11 q.message; tokens = token ∷ o.tokens; replace = None }
+
 -- in the book under a replace
 abbrev pub put_by_replace : Replaced → Entry → OrderRecord → OrderRecord
-put_by_replace m q o = record (put_in_book m.shares m.price o) {
-  id = text 11 q.message;
-  tokens = m.token
-      ∷ o.tokens;
-  replace = None;
-}
+put_by_replace m q o = put_in_book m.shares m.price (renamed m.token q o)
 
 -- less is open
 abbrev pub reduced : ℕ → OrderRecord → OrderRecord
@@ -286,21 +292,33 @@ abbrev pub is_empty : List (List ℕ) → Bool
 is_empty [] = true
 is_empty (token ∷ tokens) = false
 
+-- with the Cancel Orders of such tokens, the last of a pending cancel is answered
+abbrev pub last_after : (List ℕ → Bool) → Option Cancelling → Bool
+last_after is_answered None = false
+last_after is_answered (Some c) = is_empty (filter (λ token. not (is_answered token)) c.tokens)
+
 -- a message answers the last Cancel Order of a pending cancel
 abbrev pub last_of : Outbound → Option Cancelling → Bool
-last_of m None = false
-last_of m (Some c) = is_empty (unanswered_tokens m c.tokens)
+last_of m c = last_after (answers_cancel m) c
 
 -- ---- what a message of the market makes of it, which is lawful of it: a line for each row
 
 -- over as it is answered, or not
-abbrev pub after_opened : OrderState → OrderRecord → OrderRecord
-after_opened state o = if is_dead state then unasked (gone o) else o
+abbrev pub over_if : Bool → OrderRecord → OrderRecord
+over_if is_over o = if is_over then unasked (gone o) else o
+
+-- so many shares are taken off
+abbrev pub after_canceled : ℕ → OrderRecord → OrderRecord
+after_canceled shares o = if o.unfilled - shares == 0 then unasked (gone o) else reduced shares o
+
+-- a trade, told by the report with this number
+abbrev pub after_traded : ℕ → Trade → OrderRecord → OrderRecord
+after_traded number t o = if o.unfilled - t.shares == 0 then unasked (filled number t o) else with_trade number t o
 
 abbrev pub after_replaced : Replaced → OrderRecord → Option Entry → OrderRecord
 after_replaced m o None = o
-after_replaced m o (Some q) = if is_dead m.order_state then unasked (gone (put_by_replace m q o))
-    else at (put_by_replace m q o) None (still_cancelling (market.Replaced m) o.cancel)
+after_replaced m o (Some q) =
+    over_if (is_dead m.order_state) (at (put_by_replace m q o) None (still_cancelling (market.Replaced m) o.cancel))
 
 abbrev pub trade_in : Executed → Trade
 trade_in m = record { match_number = m.match_number; shares = m.shares; price = m.price; is_broken = false }
@@ -315,12 +333,10 @@ after_broken o (Some t) = with_trade_broken t o
 
 -- after so many reports: a line for each message
 abbrev pub after_message : ℕ → Outbound → OrderRecord → OrderRecord
-after_message reports (market.Accepted m) o = after_opened m.order_state (put_in_book m.shares m.price o)
+after_message reports (market.Accepted m) o = over_if (is_dead m.order_state) (put_in_book m.shares m.price o)
 after_message reports (market.Replaced m) o = after_replaced m o o.replace
-after_message reports (market.Canceled m) o = if o.unfilled - m.decrement == 0 then unasked (gone o)
-    else reduced m.decrement o
-after_message reports (market.Executed m) o = if o.unfilled - m.shares == 0
-    then unasked (filled (reports + 1) (trade_in m) o) else with_trade (reports + 1) (trade_in m) o
+after_message reports (market.Canceled m) o = after_canceled m.decrement o
+after_message reports (market.Executed m) o = after_traded (reports + 1) (trade_in m) o
 after_message reports (market.Broken m) o = after_broken o (find (stands_told m.match_number) o.trades)
 after_message reports (market.Rejected m) o = if is_waiting o.stage && is_live (record_life o) m.token
     then unasked (market_refused o) else at o None (still_cancelling (market.Rejected m) o.cancel)

@@ -5,12 +5,12 @@ use Rattle.std.specs.List.{count_by, list_all}
 use Rattle.std.proofs.lemmas.Bool.{and_parts}
 use Rattle.std.proofs.lemmas.Bool.Decides.{nat_tests}
 use Rattle.std.proofs.lemmas.List.Folds.{list_all-append}
-use Rattle.order_law.specs.History.{Entry}
-use Rattle.order_machine.specs.OrderRecord.{OrderRecord, at, filled, gone, live_token, reduced, with_trade, unasked}
+use Rattle.order_law.specs.History.{Entry, token_of}
+use Rattle.order_machine.specs.OrderRecord.{OrderRecord, at, filled, gone, live_token, over_if, put_in_book, reduced, renamed, still_after, unasked, with_trade}
 use Rattle.order_machine.specs.Table.{GivenToken, has_number, is_replacement_of}
 use Rattle.order_machine.proofs.Lists.{count-push, found-passes}
 use Rattle.order_machine.proofs.Texts.{eq-is, eq-true}
-use Rattle.orders.specs.Changes.{changed_by, opened_at, over_if, renamed, replaced_as, still_without}
+use Rattle.orders.specs.Changes.{changed_by, replaced_as}
 use Rattle.orders.specs.declared.change.Change.{Change}
 use Rattle.orders.specs.declared.change.Change.TheVariants as changes
 use Rattle.order_table.specs.Held.{IsNewest, is_counted}
@@ -101,7 +101,7 @@ over-new false o = refl
 replaced-few : (shares price : ℕ) (is_dead : Bool) (o : OrderRecord) (q : Option Entry) → o.replace ≡ q → had (replaced_as shares price is_dead o q) ≤ had o
 replaced-few shares price is_dead o None e = omega arith
 replaced-few shares price is_dead o (Some q) e =
-    let over = over-few is_dead (at (opened_at shares price (renamed q o)) None (still_without (live_token o) o.cancel)) in
+    let over = over-few is_dead (at (put_in_book shares price (renamed (token_of q) q o)) None (still_after (bytes_eq (live_token o)) o.cancel)) in
     let one : length (option_to_list o.replace) ≡ 1 = ap (λ (x : Option Entry). length (option_to_list x)) e in
     omega (arith, over, one)
 
@@ -111,7 +111,7 @@ replaced-new shares price true o (Some q) = refl
 replaced-new shares price false o (Some q) = refl
 
 pub change-few : (change : Change) (o : OrderRecord) → had (changed_by change o) ≤ had o
-change-few (changes.Opened shares price is_dead) o = over-few is_dead (opened_at shares price o)
+change-few (changes.Opened shares price is_dead) o = over-few is_dead (put_in_book shares price o)
 change-few (changes.Replaced shares price is_dead) o = replaced-few shares price is_dead o o.replace refl
 change-few (changes.Canceled shares) o = by_rest (o.unfilled - shares == 0)
   where
@@ -129,7 +129,7 @@ change-few (changes.NotReplaced token) o = omega arith
 change-few (changes.NotCanceled token) o = omega arith
 
 pub change-new : (change : Change) (o : OrderRecord) → (changed_by change o).new ≡ o.new
-change-new (changes.Opened shares price is_dead) o = over-new is_dead (opened_at shares price o)
+change-new (changes.Opened shares price is_dead) o = over-new is_dead (put_in_book shares price o)
 change-new (changes.Replaced shares price is_dead) o = replaced-new shares price is_dead o o.replace
 change-new (changes.Canceled shares) o = by_rest (o.unfilled - shares == 0)
   where

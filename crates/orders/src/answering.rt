@@ -1,7 +1,7 @@
 //! What is left of a cancel once the market has answered a Cancel Order of it.
 
-ghost use Rattle.std.specs.Prelude.{◌≡◌, ℕ, Some, is_none, option_map};
-ghost use Rattle.orders.specs.Changes.{is_last_of, still_without};
+ghost use Rattle.std.specs.Prelude.{◌≡◌, ℕ, Some, bytes_eq, is_none, option_map};
+ghost use Rattle.order_machine.specs.OrderRecord.{last_after, still_after};
 ghost use Rattle.orders.specs.Seen.{cancel_seen, other_than};
 
 use crate::requests::Cancelling;
@@ -9,7 +9,8 @@ use crate::requests::Cancelling;
 impl Cancelling {
     /// Whether no other Cancel Order than that of a token is left.
     pub fn is_last(&self, token: &[u8; 14]) -> bool
-        ensures { (client order_id : ℕ) → result ≡ is_last_of token.now (Some (cancel_seen client order_id self.now)) }
+        ensures { (client order_id : ℕ)
+            → result ≡ last_after (bytes_eq token.now) (Some (cancel_seen client order_id self.now)) }
     {
         *token == self.first && is_no_other(&self.second, token)
     }
@@ -17,7 +18,7 @@ impl Cancelling {
     /// The cancel once the Cancel Order of a token is answered; `None` where no other is left.
     pub fn without(self, token: [u8; 14]) -> Option<Cancelling>
         ensures { (client order_id : ℕ) → option_map (cancel_seen client order_id) result
-            ≡ still_without token (Some (cancel_seen client order_id self)) }
+            ≡ still_after (bytes_eq token) (Some (cancel_seen client order_id self)) }
     {
         match (token == self.first, second_without(self.second, token)) {
             (true, None) => None,

@@ -4,8 +4,8 @@ ghost use Rattle.std.specs.Prelude.{◌≡◌, ◌≢◌, ◌≤◌, ◌<◌, �
 ghost use Rattle.order_law.specs.declared.stage.Stage.TheVariants.{Waiting, Working};
 ghost use Rattle.fix_types.specs.NewOrder.{new_order_fields};
 ghost use Rattle.order_law.specs.Asks.{total_of};
-ghost use Rattle.order_machine.specs.OrderRecord.{OrderRecord};
-ghost use Rattle.orders.specs.Changes.{over_if, with_quantities};
+ghost use Rattle.order_machine.specs.OrderRecord.{OrderRecord, over_if};
+ghost use Rattle.orders.specs.Changes.{with_quantities};
 ghost use Rattle.orders.specs.Seen.{progressed};
 ghost use Rattle.wire_law.specs.Printable.{ArePrintable};
 
@@ -94,8 +94,9 @@ impl Order {
     ghost use Rattle.tokens.specs.TokenText.{token_text};
     ghost use Rattle.fix_types.specs.NewOrder.{new_order_fields};
     ghost use Rattle.order_law.specs.Asks.{limit_of};
-    ghost use Rattle.order_machine.specs.OrderRecord.{at, entered, live_token, replacements, unasked};
-    ghost use Rattle.orders.specs.Changes.{Fits, changed_by, is_last_of, replaced_as, still_without, with_quantities};
+    ghost use Rattle.order_machine.specs.OrderRecord.{at, entered, last_after, live_token, replacements, still_after};
+    ghost use Rattle.order_machine.specs.OrderRecord.{unasked};
+    ghost use Rattle.orders.specs.Changes.{Fits, changed_by, replaced_as, with_quantities};
     ghost use Rattle.orders.specs.Seen.{cancel_seen, progressed, replace_seen};
     ghost use Rattle.orders.specs.declared.change.Change.TheVariants as changes;
 
@@ -219,7 +220,7 @@ impl Order {
 
     /// Whether the Cancel Order of a token is the last of its pending cancel that isn't answered.
     pub fn is_last(&self, token: &[u8; 14]) -> bool
-        ensures { result ≡ is_last_of token.now self.now.cancel }
+        ensures { result ≡ last_after (bytes_eq token.now) self.now.cancel }
     {
         match &self.cancel {
             None => false,
@@ -341,7 +342,7 @@ impl Order {
 
     /// The Cancel Order of a token is answered.
     fn answer(&mut self, token: [u8; 14])
-        ensures { self.new ≡ at self.old self.old.replace (still_without token self.old.cancel) }
+        ensures { self.new ≡ at self.old self.old.replace (still_after (bytes_eq token) self.old.cancel) }
     {
         self.cancel = match self.cancel.take() {
             None => None,

@@ -1,8 +1,7 @@
-use Rattle.std.proofs.Common.{Bool, sym, ap, ◌∙◌}
+use Rattle.std.proofs.Common.{Bool, bytes_eq, sym, ap, ◌∙◌}
 use Rattle.order_law.specs.Told as law
-use Rattle.order_machine.specs.OrderRecord.{OrderRecord, shown_as}
+use Rattle.order_machine.specs.OrderRecord.{OrderRecord, last_after, shown_as}
 use Rattle.to_client.specs.Pending.{cancel_in}
-use Rattle.orders.specs.Changes.{is_last_of}
 use Rattle.orders.specs.Seen.{progressed}
 use Rattle.market_messages.proofs.CancelRejectRow.{reject-told}
 use Rattle.market_messages.proofs.Tells.{only-told}
@@ -16,5 +15,5 @@ returns-clause-told c = λ issued.
     only-told c.in_ok-bodies.bodies.items c.push_cancel_rejected.new.bodies.items _ _ c.in_ok-bodies.ensures.items
     (c.in_ok-push_cancel_rejected.ensures.told o.replace (cancel_in o.cancel) (shown_as (progressed p o)) c.shown_of-shown.ensures (c.pending_of.ensures p))
     (ap (λ (x : Bool). law.cancel_rejected x (shown_as (progressed p o))) c.is_last-is_last.ensures
-    ∙ ap (λ (x : OrderRecord). law.cancel_rejected (is_last_of m.token o.cancel) (shown_as x)) c.progress_after-progress.ensures.after)
+    ∙ ap (λ (x : OrderRecord). law.cancel_rejected (last_after (bytes_eq m.token) o.cancel) (shown_as x)) c.progress_after-progress.ensures.after)
     ∙ sym (reject-told m o issued)

@@ -1,12 +1,12 @@
-use Rattle.std.proofs.Common.{◌≡◌, ◌+◌, Bool, true, false, None, refl, subst, sym, ap, ◌∙◌, codes}
+use Rattle.std.proofs.Common.{◌≡◌, ◌+◌, Bool, bytes_eq, true, false, None, refl, subst, sym, ap, ◌∙◌, codes}
 use Rattle.std.specs.Prelude.{IfSome, Option, Some, option_map, option_to_list}
 use Rattle.fix_types.specs.Report.{report_fields}
 use Rattle.order_law.specs.History.{Entry}
 use Rattle.fix_fields.specs.Field.{text}
 use Rattle.order_law.specs.Told as law
 use Rattle.order_law.specs.Verdicts.{is_replace}
-use Rattle.order_machine.specs.OrderRecord.{OrderRecord, shown_as}
-use Rattle.orders.specs.Changes.{changed_by, is_last_of, with_quantities}
+use Rattle.order_machine.specs.OrderRecord.{OrderRecord, last_after, shown_as}
+use Rattle.orders.specs.Changes.{changed_by, with_quantities}
 use Rattle.orders.specs.declared.change.Change.{Change}
 use Rattle.orders.specs.declared.change.Change.TheVariants as changes
 use Rattle.orders.specs.Seen.{progressed, replace_seen}
@@ -71,5 +71,5 @@ returns-clause-told c =
     more-told c.push_report.new.bodies.items c.push_cancel_rejected.new.bodies.items _ _ _ first
     (c.in_ok-push_cancel_rejected.ensures.told None cancel s shows (record { in_order = refl; replace_is = tt; cancel_is = is.cancel_is; is_replace_set = tt; is_cancel_set = is.is_cancel_set }))
     (ap (λ (x : Bool). law.cancel_rejected x s) c.is_last-is_last.ensures
-    ∙ ap (λ (x : OrderRecord). law.cancel_rejected (is_last_of m.previous_token o.cancel) (record (shown_as x) { id = text 11 q.message; pending = option_to_list cancel })) opened)
+    ∙ ap (λ (x : OrderRecord). law.cancel_rejected (last_after (bytes_eq m.previous_token) o.cancel) (record (shown_as x) { id = text 11 q.message; pending = option_to_list cancel })) opened)
     ∙ sym (replaced-live c.args.issued m o q some own (replace-live m o c.requires.may) is_g is.is_cancel_set is.in_order (sym c.if-is_dead.ensures))

@@ -1,9 +1,9 @@
 use Rattle.std.proofs.Common.{◌≡◌, ◌+◌, Option, Some, sym, ap, ◌∙◌}
-use Rattle.std.specs.Prelude.{option_map}
+use Rattle.std.specs.Prelude.{bytes_eq, option_map}
 use Rattle.order_law.specs.History.{Entry}
-use Rattle.order_machine.specs.OrderRecord.{OrderRecord, live_token}
+use Rattle.order_machine.specs.OrderRecord.{OrderRecord, live_token, still_after}
 use Rattle.orders.specs.declared.change.Change.{Change}
-use Rattle.orders.specs.Changes.{changed_by, replaced_as, still_without, with_quantities}
+use Rattle.orders.specs.Changes.{changed_by, replaced_as, with_quantities}
 use Rattle.orders.specs.Seen.{replace_seen}
 use Rattle.orders.proofs.Quantities.{replaced-quantities}
 use Rattle.orders.proofs.order.Order.progress_after.Goals as goal
@@ -19,7 +19,7 @@ returns-in-Some-clause-after c =
     let is = c.replaced.ensures in
     let some : o.replace ≡ Some q = ap (λ (x : OrderRecord). x.replace) (sym same) ∙ ap (option_map (replace_seen c.self.inside.client c.self.inside.order_id)) c.in-Some.is in
     c.over_if-in-Some.ensures.after o
-    ∙ replaced-quantities is_dead c.replaced.result o q (still_without (live_token o) o.cancel) shares price is.stage
+    ∙ replaced-quantities is_dead c.replaced.result o q (still_after (bytes_eq (live_token o)) o.cancel) shares price is.stage
     (is.refused ∙ ap (λ (x : OrderRecord). x.is_refused) same)
     (is.total ∙ ap (λ (x : OrderRecord). x.executed + shares) same)
     is.price
