@@ -1,0 +1,5 @@
+pub mod Page
+pub mod Pages
+pub mod Record
+pub mod Seen
+mod Worked

@@ -1,0 +1,6 @@
+-- A record that is read where it lies, as the definitions see it.
+use Rattle.journal_pages.specs.declared.view.RecordView.{RecordView}
+use Rattle.journal_pages.specs.Record.{Record}
+
+abbrev pub seen : RecordView → Record
+seen v = record { kind = v.kind; source = v.source; link = v.link; at = v.at; payload = v.payload.now }
