@@ -6,10 +6,10 @@ use Rattle.soup_packets.specs.declared.packet.Packet.{Packet}
 use Rattle.soup_packets.specs.declared.packets.PacketFault.{PacketFault}
 use Rattle.soup_packets.specs.declared.packets.PacketFault.TheVariants as fault
 use Rattle.soup_packets.specs.declared.view.PacketView.{PacketView}
-use Rattle.soup_packets.specs.Front.{IsFront}
+use Rattle.soup_packets.specs.Front.{LendsPacket}
 use Rattle.soup_packets.specs.Spelling.{packet_bytes, same_first}
-use Rattle.soup_packets.specs.Stream.{packets_written, ArePackets, EndsEmpty, IsPartial, BeginsEmpty, Stops, Fed, Passes}
-use Rattle.stream_buffer.specs.Buffer.{Kept, LetsGo}
+use Rattle.soup_packets.specs.Stream.{packets_written, ArePackets, EndsEmpty, IsPartial, BeginsEmpty, Stops, Fed, PassesPacket}
+use Rattle.stream_buffer.specs.Buffer.{BytesHeld, LetsGo}
 
 written_both : (ps qs : List Packet) → packets_written (ps ++ qs) ≡ packets_written ps ++ packets_written qs
 written_both ps qs = flat_map-append packet_bytes ps qs
@@ -87,7 +87,7 @@ pub not_both : (held rest : List ℕ) (p : Packet) → held ≡ packet_bytes p +
 not_both held rest p e empty = stuck_empty held empty p rest e
 
 -- the packet in front was passed
-pub fed_passed : (stream : List ℕ) (given : List Packet) (p : Packet) (old new : Kept) → old.held ≡ packet_bytes p ++ new.held → Fed stream given old → Fed stream (given ++ p ∷ []) new
+pub fed_passed : (stream : List ℕ) (given : List Packet) (p : Packet) (old new : BytesHeld) → old.held ≡ packet_bytes p ++ new.held → Fed stream given old → Fed stream (given ++ p ∷ []) new
 unfolding Fed
 fed_passed stream given p old new front fed = elim fed [
   | inl e ↦ inl (e ∙ (ap (λ (s : List ℕ). packets_written given ++ s) front ∙ sym (written_more given p [] new.held)))
@@ -95,7 +95,7 @@ fed_passed stream given p old new front fed = elim fed [
 ]
 
 -- a piece more was taken
-pub fed_put : (stream piece : List ℕ) (passed : List Packet) (old new : Kept) → (BeginsEmpty old.held → ⊥) → new.held ≡ old.held ++ piece
+pub fed_put : (stream piece : List ℕ) (passed : List Packet) (old new : BytesHeld) → (BeginsEmpty old.held → ⊥) → new.held ≡ old.held ++ piece
     → Fed stream passed old → Fed (stream ++ piece) passed new
 unfolding Fed
 fed_put stream piece passed old new open_ held fed = elim fed [
@@ -104,7 +104,7 @@ fed_put stream piece passed old new open_ held fed = elim fed [
 ]
 
 -- the packets that were taken out behind those passed
-pub fed_taken : (stream piece : List ℕ) (before given : List Packet) (old new : Kept) → (BeginsEmpty old.held → ⊥) → old.held ++ piece ≡ packets_written given ++ new.held
+pub fed_taken : (stream piece : List ℕ) (before given : List Packet) (old new : BytesHeld) → (BeginsEmpty old.held → ⊥) → old.held ++ piece ≡ packets_written given ++ new.held
     → Fed stream before old → stream ++ piece ≡ packets_written (before ++ given) ++ new.held
 unfolding Fed
 fed_taken stream piece before given old new open_ whole fed = elim fed [
@@ -117,7 +117,7 @@ fed_taken stream piece before given old new open_ whole fed = elim fed [
   | inr e ↦ absurd (open_ e.0)
 ]
 
-pub fed_of : (stream : List ℕ) (given : List Packet) (reader : Kept) → stream ≡ packets_written given ++ reader.held → Fed stream given reader
+pub fed_of : (stream : List ℕ) (given : List Packet) (reader : BytesHeld) → stream ≡ packets_written given ++ reader.held → Fed stream given reader
 unfolding Fed
 fed_of stream given reader e = inl e
 
@@ -125,11 +125,11 @@ fed_of stream given reader e = inl e
 pub ends_empty : (stream : List ℕ) (given : List Packet) (held : List ℕ) → stream ≡ packets_written given ++ held → BeginsEmpty held → EndsEmpty stream given
 ends_empty stream given held e empty = let zeros = empty_begins held empty in (zeros.0, e ∙ ap (λ (s : List ℕ). packets_written given ++ s) zeros.1)
 
-pub fed_ended : (stream : List ℕ) (given : List Packet) (reader : Kept) → BeginsEmpty reader.held → Fed stream given reader → EndsEmpty stream given
+pub fed_ended : (stream : List ℕ) (given : List Packet) (reader : BytesHeld) → BeginsEmpty reader.held → Fed stream given reader → EndsEmpty stream given
 unfolding Fed
 fed_ended stream given reader empty fed = elim fed [ inl e ↦ ends_empty stream given reader.held e empty | inr e ↦ e.1 ]
 
-pub fed_ended_more : (stream piece : List ℕ) (given : List Packet) (reader : Kept) → BeginsEmpty reader.held → Fed stream given reader → Fed (stream ++ piece) given reader
+pub fed_ended_more : (stream piece : List ℕ) (given : List Packet) (reader : BytesHeld) → BeginsEmpty reader.held → Fed stream given reader → Fed (stream ++ piece) given reader
 unfolding Fed
 fed_ended_more stream piece given reader empty fed = inr (empty, empty_more stream piece given (fed_ended stream given reader empty fed))
 
@@ -140,7 +140,7 @@ begins_empty held more e = along BeginsEmpty (0 ∷ 0 ∷ more) held (sym e) (re
 pub empty_held : (stream : List ℕ) (given : List Packet) (held : List ℕ) → stream ≡ packets_written given ++ held → EndsEmpty stream given → BeginsEmpty held
 empty_held stream given held e empty = begins_empty held empty.0 (cancel (packets_written given) held (0 ∷ 0 ∷ empty.0) (sym e ∙ empty.1))
 
-pub fed_empty : (stream : List ℕ) (given : List Packet) (reader : Kept) → Fed stream given reader → EndsEmpty stream given → BeginsEmpty reader.held
+pub fed_empty : (stream : List ℕ) (given : List Packet) (reader : BytesHeld) → Fed stream given reader → EndsEmpty stream given → BeginsEmpty reader.held
 unfolding Fed
 fed_empty stream given reader fed empty = elim fed [ inl e ↦ empty_held stream given reader.held e empty | inr e ↦ e.0 ]
 
@@ -164,7 +164,7 @@ pub before_none : (before given : List Packet) → given ≡ [] → before ++ gi
 before_none before given none = rw none (append-nil before)
 
 -- the packet in front is let go
-pub passes : (old new : Kept) (n : ℕ) → n ≤ length old.held → ((p : Packet) × (packet_bytes p ≡ take n old.held)) → LetsGo n old new → Passes true old new
+pub passes : (old new : BytesHeld) (n : ℕ) → n ≤ length old.held → ((p : Packet) × (packet_bytes p ≡ take n old.held)) → LetsGo n old new → PassesPacket true old new
 passes old new n within front gone = (front.0, whole, subst (λ (m : ℕ). LetsGo m old new) size gone)
   where
     whole : old.held ≡ packet_bytes front.0 ++ new.held
@@ -178,21 +178,21 @@ pub front_seen : (p : Packet) (n : ℕ) (held : List ℕ) → packet_bytes p ≡
 front_seen p n held e = (drop n held, sym (take-append-drop n held) ∙ ap (λ (s : List ℕ). s ++ drop n held) (sym e))
 
 -- where nothing whole stands in front, the packets passed are the stream's
-all_passed : (b : Bool) (stream : List ℕ) (passed : List Packet) (reader : Kept) → Stops b reader.held → Fed stream passed reader → ArePackets stream passed
+all_passed : (b : Bool) (stream : List ℕ) (passed : List Packet) (reader : BytesHeld) → Stops b reader.held → Fed stream passed reader → ArePackets stream passed
 unfolding Fed
 all_passed b stream passed reader stops fed = elim fed [
   | inl e ↦ are_packets b stream passed reader.held e stops
   | inr e ↦ are_packets true stream passed (0 ∷ 0 ∷ e.1.0) e.1.1 (refl, refl)
 ]
 
-pub front_none : (reader : Kept) (r : Result (Option PacketView) PacketFault) → IsFront reader.held r
+pub front_none : (reader : BytesHeld) (r : Result (Option PacketView) PacketFault) → LendsPacket reader.held r
     → IfOk r (λ found. IfNone found ((stream : List ℕ) (passed : List Packet) → Fed stream passed reader → ArePackets stream passed))
 front_none reader (Ok (Some view)) front = tt
 front_none reader (Ok None) front = λ stream passed fed. all_passed false stream passed reader front fed
 front_none reader (Err fault) front = tt
 
-pub front_empty : (reader : Kept) (r : Result (Option PacketView) PacketFault) → IsFront reader.held r → IsErrOf r fault.Empty
+pub front_empty : (reader : BytesHeld) (r : Result (Option PacketView) PacketFault) → LendsPacket reader.held r → IsErrOf r fault.Empty
     → (stream : List ℕ) (passed : List Packet) → Fed stream passed reader → ArePackets stream passed × EndsEmpty stream passed
 front_empty reader r front e stream passed fed =
-    let over : BeginsEmpty reader.held = subst (IsFront reader.held) e front in
+    let over : BeginsEmpty reader.held = subst (LendsPacket reader.held) e front in
     (all_passed true stream passed reader over fed, fed_ended stream passed reader over fed)

@@ -4,7 +4,7 @@
 -- its type at least, so no packet begins so.
 use Rattle.std.specs.Prelude.{◌≡◌, ℕ, ◌+◌, ◌*◌, ◌<◌, ◌≤◌, ◌⊎◌, Bool, true, false, List, [], ◌∷◌, ◌++◌, length}
 use Rattle.std.specs.List.{flat_map}
-use Rattle.stream_buffer.specs.Buffer.{Kept, LetsGo}
+use Rattle.stream_buffer.specs.Buffer.{BytesHeld, LetsGo}
 use Rattle.soup_packets.specs.declared.packet.Packet.{Packet}
 use Rattle.soup_packets.specs.Spelling.{packet_bytes}
 
@@ -48,12 +48,12 @@ Stops false rest = IsPartial rest
 
 -- the reader has taken this stream, in any pieces, and these packets were passed: it holds what stands behind them; or
 -- a length of 0 stands there, and what follows that may be forgotten
-unfoldable pub Fed : List ℕ → List Packet → Kept → Type 0
+unfoldable pub Fed : List ℕ → List Packet → BytesHeld → Type 0
 Fed stream passed reader =
     (stream ≡ packets_written passed ++ reader.held) ⊎ (BeginsEmpty reader.held × EndsEmpty stream passed)
 
 -- the packet in front is let go, where one stands there whole; else nothing changes
-abbrev pub Passes : Bool → Kept → Kept → Type 0
-Passes true old new =
+abbrev pub PassesPacket : Bool → BytesHeld → BytesHeld → Type 0
+PassesPacket true old new =
     (p : Packet) × (old.held ≡ packet_bytes p ++ new.held) × LetsGo (length (packet_bytes p)) old new
-Passes false old new = (new ≡ old) × ((p : Packet) (rest : List ℕ) → old.held ≡ packet_bytes p ++ rest → ⊥)
+PassesPacket false old new = (new ≡ old) × ((p : Packet) (rest : List ℕ) → old.held ≡ packet_bytes p ++ rest → ⊥)

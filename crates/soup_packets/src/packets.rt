@@ -5,8 +5,8 @@ ghost use Rattle.std.specs.Prelude.{Result, IsErrOf, Err, IsOk, IsTrue, ◌↔�
 ghost use Rattle.std.specs.Borrow.{sem, follows_so};
 ghost use mathlib.Core.Option.{none};
 ghost use Rattle.stream_buffer.specs.Buffer.{Takes, Counts};
-ghost use Rattle.soup_packets.specs.Stream.{Fed, ArePackets, BeginsEmpty, EndsEmpty, Passes, Stops, packets_written};
-ghost use Rattle.soup_packets.specs.Front.{IsFront};
+ghost use Rattle.soup_packets.specs.Stream.{Fed, ArePackets, BeginsEmpty, EndsEmpty, PassesPacket, Stops, packets_written};
+ghost use Rattle.soup_packets.specs.Front.{LendsPacket};
 ghost use Rattle.soup_packets.specs.Spelling.{packet_bytes};
 ghost use Rattle.soup_packets.specs.declared.packet.Packet.{Packet};
 ghost use Rattle.soup_packets.specs.declared.packets.PacketFault.TheVariants.{NoMemory, Empty};
@@ -58,9 +58,9 @@ pub struct Packets {
 
 impl Model for Packets {
     ghost use Rattle.std.specs.Prelude.{◌≡◌, []};
-    ghost use Rattle.stream_buffer.specs.Buffer.{Kept};
+    ghost use Rattle.stream_buffer.specs.Buffer.{BytesHeld};
 
-    ghost Value = { Kept };
+    ghost Value = { BytesHeld };
 
     ghost view = { λ packets. packets.buffer.kept };
 
@@ -101,7 +101,7 @@ impl Packets {
     pub fn front(&mut self) -> Result<Option<PacketView<'_>>, PacketFault>
         ensures* unchanged { sem 𝓛 (follows_so the_row the_row self.entry.ghost_name none
             (λ _ _. ⊤) (λ v. v ≡ self.old)) }
-        ensures front { IsFront self.old.held result }
+        ensures front { LendsPacket self.old.held result }
 
         // Where no packet stands whole in front, those that were passed are the stream's.
         ensures all { IfOk result (λ found. IfNone found ((stream : List ℕ) (passed : List Packet)
@@ -114,7 +114,7 @@ impl Packets {
 
     /// The same, from a reader that is only read.
     fn look(&self) -> Result<Option<PacketView<'_>>, PacketFault>
-        ensures front { IsFront self.now.held result }
+        ensures front { LendsPacket self.now.held result }
         ensures all { IfOk result (λ found. IfNone found ((stream : List ℕ) (passed : List Packet)
             → Fed stream passed self.now → ArePackets stream passed)) }
         ensures empty { IsErrOf result PacketFault.Empty → (stream : List ℕ) (passed : List Packet)
@@ -130,9 +130,9 @@ impl Packets {
         begins_empty(self.buffer.held())
     }
 
-    /// Passes the packet in front: whether one stood there whole. Takes no memory.
+    /// PassesPacket the packet in front: whether one stood there whole. Takes no memory.
     pub fn pass(&mut self) -> bool
-        ensures passes { Passes result self.old self.new }
+        ensures passes { PassesPacket result self.old self.new }
         ensures fed { (stream : List ℕ) (passed : List Packet) (p : Packet)
             → self.old.held ≡ packet_bytes p ++ self.new.held
             → Fed stream passed self.old → Fed stream (passed ++ p ∷ []) self.new }
@@ -249,7 +249,7 @@ impl Packets {
 
 /// What stands in front of these bytes, a whole packet lent.
 fn front_of(bytes: &[u8]) -> Result<Option<PacketView<'_>>, PacketFault>
-    ensures { IsFront bytes.now result }
+    ensures { LendsPacket bytes.now result }
 {
     match head_of(bytes) {
         Head::Partial => Ok(None),

@@ -1,7 +1,7 @@
 //! The buffer of a reader.
 
 ghost use Rattle.std.specs.Prelude.{◌≡◌, ◌≤◌, ◌<◌, ◌*◌, ◌^◌, ◌++◌, [], length, vec_len, drop, OnOk, OnErr};
-ghost use Rattle.stream_buffer.specs.Buffer.{Buffer, Takes, LetsGo, fresh};
+ghost use Rattle.stream_buffer.specs.Buffer.{Buffer, Takes, LetsGo, empty_buffer};
 
 use std::alloc::{AllocError, Global};
 use std::marker::Model;
@@ -40,7 +40,7 @@ impl Model for StreamBuffer {
 impl StreamBuffer {
     /// Nothing of a stream. Takes no memory.
     pub fn new(alloc: Global) -> StreamBuffer
-        ensures { result ≡ fresh }
+        ensures { result ≡ empty_buffer }
     {
         StreamBuffer {
             bytes: Vec::new(alloc),
