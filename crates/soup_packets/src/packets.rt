@@ -5,7 +5,8 @@ ghost use Rattle.std.specs.Prelude.{Result, IsErrOf, Err, IsOk, IsTrue, ◌↔�
 ghost use Rattle.std.specs.Borrow.{sem, follows_so};
 ghost use mathlib.Core.Option.{none};
 ghost use Rattle.stream_buffer.specs.Buffer.{Takes, Counts};
-ghost use Rattle.soup_packets.specs.Stream.{Fed, ArePackets, BeginsEmpty, EndsEmpty, PassesPacket, Stops, packets_written};
+ghost use Rattle.soup_packets.specs.Stream.{Fed, ArePackets, BeginsEmpty, EndsEmpty, PassesPacket, Stops};
+ghost use Rattle.soup_packets.specs.Stream.{packets_written};
 ghost use Rattle.soup_packets.specs.Front.{LendsPacket};
 ghost use Rattle.soup_packets.specs.Spelling.{packet_bytes};
 ghost use Rattle.soup_packets.specs.declared.packet.Packet.{Packet};

@@ -29,7 +29,12 @@ impl Model for StreamBuffer {
     ghost Value = { Buffer };
 
     ghost view = { λ b. record {
-      kept = record { held = drop b.start (take b.taken b.bytes.items); room = b.start; copied = b.copied; fed = b.fed };
+      kept = record {
+        held = drop b.start (take b.taken b.bytes.items);
+        room = b.start;
+        copied = b.copied;
+        fed = b.fed;
+      };
       offered = drop b.taken b.bytes.items;
     } };
 
