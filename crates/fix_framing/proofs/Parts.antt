@@ -2,7 +2,7 @@
 use Rattle.std.proofs.Common.{◌≡◌, ◌≢◌, ◌^◌, min, ℕ, zero, suc, ◌+◌, ◌-◌, ◌≤◌, List, [], ◌∷◌, ◌++◌, length, drop, refl, sym, ap, ◌∙◌, arith, append_assoc}
 use Rattle.std.proofs.lemmas.List.{append-nil, drop-drop, length-drop}
 use Rattle.fix_fields.specs.Field.{Field}
-use Rattle.fix_framing.specs.Stream.{Place, Frame, Skipped, Waiting, TooLong, End, Rest, Over, StreamParts, place, parts, parts_of, parts_behind, with_frame, with_skipped, only, ReaderStanding, BytesLeave, Feeds}
+use Rattle.fix_framing.specs.Stream.{Place, Frame, Skipped, Waiting, TooLong, End, Rest, Over, StreamParts, place, parts, parts_of, parts_behind, with_frame, with_skipped, only, ReaderStanding, BytesLeave, Feeds, with_frames, IsOn}
 use Rattle.fix_framing.proofs.Places.{place_more, frame_is_there, place_of_nothing}
 
 -- ---- what stands in front, and the parts behind it
@@ -50,12 +50,8 @@ parts-too_long (byte ∷ s) e = ap (λ (p : Place). parts_of p (byte ∷ s) (λ 
 
 -- ---- one stream behind another
 
--- these frames and so many skipped bytes come before the parts
-abbrev pub behind : List (List Field) → ℕ → StreamParts → StreamParts
-behind frames skipped p = record { frames = frames ++ p.frames; skipped = skipped + p.skipped; end = p.end }
-
-abbrev go_on : List (List Field) → ℕ → End → List ℕ → StreamParts
-go_on frames skipped (Rest bytes) more = behind frames skipped (parts (bytes ++ more))
+abbrev pub go_on : List (List Field) → ℕ → End → List ℕ → StreamParts
+go_on frames skipped (Rest bytes) more = with_frames frames skipped (parts (bytes ++ more))
 go_on frames skipped Over more = record { frames = frames; skipped = skipped; end = Over }
 
 -- the parts of a stream that goes on after its end
@@ -79,8 +75,8 @@ joined-with_skipped p more = by_end p.end
     by_end Over = refl
 
 -- nothing before the parts
-pub behind-nothing : (p : StreamParts) → p ≡ behind [] 0 p
-behind-nothing p = let zero-more : 0 + p.skipped ≡ p.skipped = omega arith in rw zero-more refl
+pub with_frames-nothing : (p : StreamParts) → p ≡ with_frames [] 0 p
+with_frames-nothing p = let zero-more : 0 + p.skipped ≡ p.skipped = omega arith in rw zero-more refl
 
 -- at a byte, if what is behind it goes on so
 append_at : (byte : ℕ) (s more : List ℕ) → ((inside : ℕ) → inside ≤ length s → parts_behind inside (s ++ more) ≡ joined (parts_behind inside s) more)
@@ -103,8 +99,8 @@ append_at byte s more rest Skipped e =
     other h = cc
 append_at byte s more rest Waiting e = at_place (parts_of (place (byte ∷ (s ++ more))) (byte ∷ (s ++ more)) (λ inside. parts_behind inside (s ++ more))) (parts ((byte ∷ s) ++ more)) refl
   where
-    at_place : (p q : StreamParts) → p ≡ q → p ≡ behind [] 0 q
-    at_place p q same = same ∙ behind-nothing q
+    at_place : (p q : StreamParts) → p ≡ q → p ≡ with_frames [] 0 q
+    at_place p q same = same ∙ with_frames-nothing q
 append_at byte s more rest TooLong e =
     let kept : place (byte ∷ (s ++ more)) ≡ TooLong = place_more (byte ∷ s) more (λ w. other (sym e ∙ w)) ∙ e in
     ap (λ (p : Place). parts_of p (byte ∷ (s ++ more)) (λ inside. parts_behind inside (s ++ more))) kept
@@ -114,7 +110,7 @@ append_at byte s more rest TooLong e =
 
 pub parts_behind-append : (inside : ℕ) (s more : List ℕ) → inside ≤ length s → parts_behind inside (s ++ more) ≡ joined (parts_behind inside s) more
 unfolding parts_behind
-parts_behind-append zero [] more le = behind-nothing (parts more)
+parts_behind-append zero [] more le = with_frames-nothing (parts more)
 parts_behind-append (suc inside) [] more le = absurd (omega arith)
 parts_behind-append (suc inside) (byte ∷ s) more le = parts_behind-append inside s more (omega arith)
 parts_behind-append zero (byte ∷ s) more le =
@@ -126,16 +122,11 @@ parts-append s more = parts_behind-append 0 s more (omega arith)
 
 -- ---- a scan of a text from the left
 
--- a frame is found
-pub record IsOn (text : List ℕ) (frames : List (List Field)) (skipped at : ℕ) : Type 0 where
-  pub within : at ≤ length text
-  pub few : skipped ≤ at
-  pub parts : parts text ≡ behind frames skipped (parts (drop at text))
-
 is_some : (s : List ℕ) → place s ≢ Waiting → 1 ≤ length s
 is_some [] judged = absurd (judged place_of_nothing)
 is_some (byte ∷ s) judged = omega arith
 
+-- a frame is found
 pub on_frame : (text : List ℕ) (frames : List (List Field)) (skipped at size : ℕ) (fields : List Field) → IsOn text frames skipped at → Frame size fields ≡ place (drop at text) → IsOn text (frames ++ fields ∷ []) skipped (at + size) × (1 ≤ size)
 on_frame text frames skipped at size fields on e =
     let there = frame_is_there (drop at text) size fields (sym e) in
@@ -144,7 +135,7 @@ on_frame text frames skipped at size fields on e =
       record {
         within = omega (arith, on.within, there.there, length-drop at text);
         few = omega (arith, on.few);
-        parts = on.parts ∙ ap (behind frames skipped) step ∙ ap (λ (l : List (List Field)). record (behind frames skipped (parts (drop (at + size) text))) { frames = l }) (sym (append_assoc frames (fields ∷ []) (parts (drop (at + size) text)).frames));
+        parts = on.parts ∙ ap (with_frames frames skipped) step ∙ ap (λ (l : List (List Field)). record (with_frames frames skipped (parts (drop (at + size) text))) { frames = l }) (sym (append_assoc frames (fields ∷ []) (parts (drop (at + size) text)).frames));
       },
       there.some,
     )
@@ -158,7 +149,7 @@ on_skipped text frames skipped at on e =
     record {
       within = omega (arith, some, length-drop at text);
       few = omega (arith, on.few);
-      parts = on.parts ∙ ap (behind frames skipped) step ∙ ap (λ n. record (behind frames skipped (parts (drop (at + 1) text))) { skipped = n }) count;
+      parts = on.parts ∙ ap (with_frames frames skipped) step ∙ ap (λ n. record (with_frames frames skipped (parts (drop (at + 1) text))) { skipped = n }) count;
     }
   where
     other : ◌≢◌ {A = Place} Skipped Waiting
@@ -168,7 +159,7 @@ on_skipped text frames skipped at on e =
 at_end : (text : List ℕ) (frames : List (List Field)) (skipped at : ℕ) (end : End) → IsOn text frames skipped at → parts (drop at text) ≡ only end → record { frames = frames; skipped = skipped; end = end } ≡ parts text
 at_end text frames skipped at end on e =
     let none : skipped + 0 ≡ skipped = omega arith in
-    sym (on.parts ∙ ap (behind frames skipped) e ∙ ap (λ (l : List (List Field)). record { frames = l; skipped = skipped + 0; end = end }) (append-nil frames) ∙ ap (λ n. record { frames = frames; skipped = n; end = end }) none)
+    sym (on.parts ∙ ap (with_frames frames skipped) e ∙ ap (λ (l : List (List Field)). record { frames = l; skipped = skipped + 0; end = end }) (append-nil frames) ∙ ap (λ n. record { frames = frames; skipped = n; end = end }) none)
 
 pub at_rest : (text rest : List ℕ) (frames : List (List Field)) (skipped at : ℕ) → IsOn text frames skipped at → Waiting ≡ place (drop at text) → rest ≡ drop at text → record { frames = frames; skipped = skipped; end = Rest rest } ≡ parts text
 at_rest text rest frames skipped at on e same =
@@ -183,8 +174,8 @@ at_over text frames skipped at on e = at_end text frames skipped at Over on (par
 pub feeds : (fed piece bytes : List ℕ) (old after : ReaderStanding) (p : StreamParts) → BytesLeave fed old → old.end ≡ Rest bytes → p ≡ parts (bytes ++ piece) → after.end ≡ p.end → after.skipped ≡ min (old.skipped + p.skipped) (2 ^ 64 - 1) → Feeds fed piece p.frames after
 unfolding BytesLeave
 feeds fed piece bytes old after p left waits same end skipped =
-    let all : parts (fed ++ piece) ≡ behind (parts fed).frames (parts fed).skipped p =
-    parts-append fed piece ∙ ap (λ (e : End). go_on (parts fed).frames (parts fed).skipped e piece) (sym left.0 ∙ waits) ∙ ap (behind (parts fed).frames (parts fed).skipped) (sym same) in
+    let all : parts (fed ++ piece) ≡ with_frames (parts fed).frames (parts fed).skipped p =
+    parts-append fed piece ∙ ap (λ (e : End). go_on (parts fed).frames (parts fed).skipped e piece) (sym left.0 ∙ waits) ∙ ap (with_frames (parts fed).frames (parts fed).skipped) (sym same) in
     record {
       frames = ap (λ (q : StreamParts). q.frames) all;
       leaves = (end ∙ sym (ap (λ (q : StreamParts). q.end) all), omega (arith, skipped, left.1, ap (λ (q : StreamParts). q.skipped) all));

@@ -3,4 +3,6 @@ pub mod Stream
 pub mod Examples
 pub mod Seen
 pub mod Scanned
+pub mod Front
 pub use Rattle.fix_fields.specs.Field
+pub use Rattle.stream_buffer.specs.Buffer

@@ -1,16 +1,19 @@
 -- What a scan found, in the definition's words.
+use Rattle.std.specs.Prelude.{ℕ, List, [], drop}
 use Rattle.fix_framing.specs.declared.scan.Scanned.{Scanned}
-use Rattle.fix_framing.specs.declared.scan.StreamEnd.{StreamEnd}
-use Rattle.fix_framing.specs.declared.scan.StreamEnd.TheVariants as scan
-use Rattle.fix_framing.specs.Stream.{End, Rest, Over, StreamParts}
+use Rattle.fix_framing.specs.declared.scan.Next.{Next}
+use Rattle.fix_framing.specs.Seen.{IsNext}
+use Rattle.fix_framing.specs.Stream.{StreamParts, IsOn, end_of, place}
 
-abbrev pub scanned_end : StreamEnd → End
-scanned_end (scan.Rest bytes) = Rest bytes.items
-scanned_end scan.Over = Over
-
-abbrev pub scanned_parts : Scanned → StreamParts
-scanned_parts scanned = record {
+-- with this left behind all
+abbrev pub scanned_parts : Scanned → List ℕ → StreamParts
+scanned_parts scanned rest = record {
   frames = scanned.frames.items;
   skipped = scanned.skipped;
-  end = scanned_end scanned.end;
+  end = end_of scanned.is_over rest;
 }
+
+-- so many bytes are skipped in front of it, and then this stands there
+abbrev pub StandsNext : Next → List ℕ → Type 0
+StandsNext next text =
+    IsOn text [] next.skipped next.skipped × IsNext next.size next.is_over (place (drop next.skipped text))

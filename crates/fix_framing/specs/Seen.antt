@@ -1,10 +1,15 @@
 -- What the reader's own types say in the definition's words.
-use Rattle.std.specs.Prelude.{◌≤◌, ◌<◌}
+use Rattle.std.specs.Prelude.{◌≡◌, ◌≤◌, ◌<◌, ℕ, Bool, true, false, List, length, take, Option, Some, None}
+use Rattle.fix_fields.specs.Field.{Field}
+use Rattle.fix_fields.specs.Reading.{fields_of}
 use Rattle.fix_framing.specs.declared.start.Start.{Start as ReadStart}
 use Rattle.fix_framing.specs.declared.start.Start.TheVariants as start
 use Rattle.fix_framing.specs.declared.place.Place.{Place as ReadPlace}
 use Rattle.fix_framing.specs.declared.place.Place.TheVariants as place
+use Rattle.fix_framing.specs.declared.place.Framing.{Framing}
+use Rattle.fix_framing.specs.declared.place.Framing.TheVariants as framing
 use Rattle.fix_framing.specs.Stream.{Start, Head, LessThanHead, NoHead, Place, Frame, Skipped, Waiting, TooLong}
+use Rattle.fix_framing.specs.Stream.{framed_by}
 
 abbrev pub start_seen : ReadStart → Start
 start_seen (start.Head head body) = Head head body
@@ -22,3 +27,31 @@ place_seen (place.Frame size fields) = Frame size fields
 place_seen place.Skipped = Skipped
 place_seen place.Waiting = Waiting
 place_seen place.TooLong = TooLong
+
+-- a framing is a place, by the fields
+abbrev pub framing_seen : Framing → List ℕ → Place
+framing_seen (framing.Whole size) stream = framed_by size (fields_of (take size stream))
+framing_seen framing.Skipped stream = Skipped
+framing_seen framing.Waiting stream = Waiting
+framing_seen framing.TooLong stream = TooLong
+
+-- the bytes are there
+abbrev pub IsThere : Framing → List ℕ → Type 0
+IsThere (framing.Whole size) stream = (1 ≤ size) × (size ≤ length stream)
+IsThere framing.Skipped stream = Unit {0}
+IsThere framing.Waiting stream = Unit {0}
+IsThere framing.TooLong stream = Unit {0}
+
+-- the same place, where a whole one has fields
+abbrev pub IsAhead : Framing → Place → Type 0
+IsAhead (framing.Whole size) place = (fields : List Field) × (place ≡ Frame size fields)
+IsAhead framing.Skipped place = place ≡ Skipped
+IsAhead framing.Waiting place = place ≡ Waiting
+IsAhead framing.TooLong place = place ≡ TooLong
+
+-- what comes next: a frame of so many bytes, too long a one, or what has to wait
+abbrev pub IsNext : Option ℕ → Bool → Place → Type 0
+IsNext (Some size) true place = ⊥
+IsNext (Some size) false place = (fields : List Field) × (place ≡ Frame size fields)
+IsNext None true place = place ≡ TooLong
+IsNext None false place = place ≡ Waiting

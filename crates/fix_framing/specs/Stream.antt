@@ -1,9 +1,10 @@
 -- The frames of a stream of bytes. A stream is cut from the left: a frame where one stands, else one byte is skipped,
 -- up to what can't be judged yet, or to a head that announces too long a frame.
 use Rattle.std.specs.Prelude.{◌≡◌, ◌++◌, ◌^◌, min, ℕ, zero, suc, ◌+◌, ◌-◌, ◌==◌, Bool, ◌&&◌, nat_lt, List, [], ◌∷◌}
-use Rattle.std.specs.Prelude.{length, take, drop, Option, Some, None, slice_index_or, if◌then◌else◌}
+use Rattle.std.specs.Prelude.{◌≤◌, true, false, length, take, drop, Option, Some, None, slice_index_or, if◌then◌else◌}
 use Rattle.std.specs.Char.{is_ascii_digit}
 use Rattle.std.specs.List.{prefix_len}
+use Rattle.stream_buffer.specs.Buffer.{BytesHeld, LetsGo}
 use Rattle.fix_fields.specs.Field.{Field}
 use Rattle.decimal_digits.specs.Digits.{number_of}
 use Rattle.fix_fields.specs.Reading.{fields_of}
@@ -113,13 +114,24 @@ parts_behind zero (byte ∷ stream) = parts_of (place (byte ∷ stream)) (byte �
 abbrev pub parts : List ℕ → StreamParts
 parts stream = parts_behind 0 stream
 
+-- these frames and so many skipped bytes come before the parts
+abbrev pub with_frames : List (List Field) → ℕ → StreamParts → StreamParts
+with_frames frames skipped p = record { frames = frames ++ p.frames; skipped = skipped + p.skipped; end = p.end }
+
+-- the text was cut so far: behind these frames and so many skipped bytes its parts are those of what is left
+pub record IsOn (text : List ℕ) (frames : List (List Field)) (skipped at : ℕ) : Type 0 where
+  pub within : at ≤ length text
+  pub few : skipped ≤ at
+  pub parts : parts text ≡ with_frames frames skipped (parts (drop at text))
+
 -- ---- what a reader of a stream is
 
--- the bytes that it still has to judge, or that no more frames come; and how many bytes it passed over, which doesn't
--- count further than a word of 64 bits does
+-- the bytes that it still has to judge, or that no more frames come; how many bytes it passed over, which doesn't
+-- count further than a word of 64 bits does; and what its buffer holds, which is those bytes unless it is over
 pub record ReaderStanding : Type 0 where
   pub end : End
   pub skipped : ℕ
+  pub kept : BytesHeld
 
 abbrev pub counted_skips : ℕ → ℕ
 counted_skips skipped = min skipped (2 ^ 64 - 1)
@@ -133,3 +145,66 @@ BytesLeave fed reader = (reader.end ≡ (parts fed).end) × (reader.skipped ≡ 
 pub record Feeds (fed piece : List ℕ) (given : List (List Field)) (after : ReaderStanding) : Type 0 where
   pub frames : (parts (fed ++ piece)).frames ≡ (parts fed).frames ++ given
   pub leaves : BytesLeave (fed ++ piece) after
+
+-- ---- a reader whose frames are passed one by one
+
+-- the parts of what it still has
+abbrev pub left : End → StreamParts
+left (Rest bytes) = parts bytes
+left Over = only Over
+
+-- these bytes were taken, and these frames passed
+unfoldable pub Passed : List ℕ → List (List Field) → ReaderStanding → Type 0
+Passed taken passed reader =
+    (skipped : ℕ) × (parts taken ≡ with_frames passed skipped (left reader.end))
+    × (reader.skipped ≡ counted_skips skipped)
+
+abbrev pub end_of : Bool → List ℕ → End
+end_of true bytes = Over
+end_of false bytes = Rest bytes
+
+-- behind it a piece
+abbrev pub longer : End → List ℕ → End
+longer (Rest bytes) piece = Rest (bytes ++ piece)
+longer Over piece = Over
+
+-- bytes in front may have been skipped, and nothing else was done
+pub record Sought (old new : ReaderStanding) : Type 0 where
+  pub frames : (left new.end).frames ≡ (left old.end).frames
+  pub end : (left new.end).end ≡ (left old.end).end
+  pub passed : (taken : List ℕ) (passed : List (List Field)) → Passed taken passed old → Passed taken passed new
+  pub kept : (count : ℕ) × LetsGo count old.kept new.kept
+
+-- what was seen in front: a frame of so many bytes, or none that is whole
+abbrev pub IsSeen : Option ℕ → End → Type 0
+IsSeen None Over = Unit {0}
+IsSeen (Some size) Over = ⊥
+IsSeen None (Rest bytes) = place bytes ≡ Waiting
+IsSeen (Some size) (Rest bytes) = (fields : List Field) × (place bytes ≡ Frame size fields)
+
+-- what is remembered of the front stands there
+abbrev pub IsRemembered : Option ℕ → List ℕ → Type 0
+IsRemembered None bytes = Unit {0}
+IsRemembered (Some size) bytes = (fields : List Field) × (place bytes ≡ Frame size fields)
+
+-- so many bytes that are skipped were let go, and then a frame's
+abbrev pub LetsGoTwice : BytesHeld → BytesHeld → Type 0
+LetsGoTwice old new =
+    (between : BytesHeld) × (skipped : ℕ) × (size : ℕ) × LetsGo skipped old between × LetsGo size between new
+
+-- the frame that comes next is let go, where one is whole; where none is, those that were passed are the stream's
+abbrev pub PassesFrame : Bool → ReaderStanding → ReaderStanding → Type 0
+PassesFrame true old new =
+    (fields : List Field) × ((left old.end).frames ≡ fields ∷ (left new.end).frames)
+    × ((taken : List ℕ) (passed : List (List Field))
+    → Passed taken passed old → Passed taken (passed ++ fields ∷ []) new)
+    × LetsGoTwice old.kept new.kept
+PassesFrame false old new =
+    ((left old.end).frames ≡ []) × Sought old new
+    × ((taken : List ℕ) (passed : List (List Field)) → Passed taken passed old → (parts taken).frames ≡ passed)
+
+-- with a piece these parts were found: the frames were given, and the rest is held
+pub record IsTaken (p : StreamParts) (given : List (List Field)) (old new : ReaderStanding) : Type 0 where
+  pub frames : given ≡ p.frames
+  pub end : new.end ≡ p.end
+  pub skipped : new.skipped ≡ counted_skips (old.skipped + p.skipped)

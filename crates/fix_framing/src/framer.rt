@@ -1,53 +1,156 @@
 //! The reader of a stream.
 
-ghost use Rattle.std.specs.Prelude.{◌≡◌, ◌≢◌, ◌+◌, ◌-◌, ◌^◌, ◌++◌, ℕ, List, [], min, IfOk, IfErr, IsTrue, ◌↔◌};
+ghost use Rattle.std.specs.Prelude.{◌≡◌, ◌≢◌, ◌<◌, ◌≤◌, ◌*◌, ◌^◌, ◌++◌, ℕ, List, [], length};
+ghost use Rattle.std.specs.Prelude.{IfOk, IfNone, IsOk, OnOk, OnErr, Err, IsTrue, ◌↔◌, ⊤};
+ghost use Rattle.std.specs.Borrow.{sem, follows_so};
+ghost use mathlib.Core.Option.{none};
+ghost use Rattle.stream_buffer.specs.Buffer.{Takes, Counts};
+ghost use Rattle.fix_fields.specs.Field.{Field};
 ghost use Rattle.fix_framing.specs.Stream.{Rest, Over, BytesLeave, Feeds, parts, counted_skips};
-ghost use Rattle.fix_framing.specs.Scanned.{scanned_end, scanned_parts};
+ghost use Rattle.fix_framing.specs.Stream.{Passed, PassesFrame, Sought, IsSeen, IsTaken, left, longer};
+ghost use Rattle.fix_framing.specs.Front.{LendsFrame};
 ghost use Rattle.fix_framing.specs.declared.frame_fault.FrameFault.TheVariants.{TooLong, NoMemory};
+ghost use Rattle.fix_framing.specs.contracts.framer.Framer.{the_row};
 
 use crate::frame_fault::FrameFault;
-use crate::scan::{Scanned, StreamEnd, scan_behind};
-use fix_fields::Fields;
-use std::alloc::Global;
+use crate::scan::{next_of, scan_in};
+use fix_fields::{Fields, FieldsView};
+use std::alloc::{AllocError, Global};
 use std::marker::Model;
+use stream_buffer::StreamBuffer;
 
-/// The reader of a stream of bytes: it is fed pieces, and gives the frames that are whole. Contracts see the bytes that
-/// still wait for more, or that no more frames come, and how many bytes were skipped.
+/// The reader of a stream of bytes: it takes pieces, and gives the frames that are whole. Contracts see the bytes that
+/// it still has to judge, or that no more frames come, how many bytes were skipped, and what its buffer holds.
 ///
-/// No byte is kept that is part of a frame given or was skipped.
+/// `Passed taken passed reader` says that the reader has taken these bytes, in any pieces, and that these frames were
+/// passed, by `pass` or by `feed`, which passes what it gives.
 ///
 /// Source: FIX 4.4 Volume 1, "Message Format".
 #[derive(Debug, Drop)]
 pub struct Framer {
-    end: StreamEnd,
+    buffer: StreamBuffer,
+    // the size of the frame in front, where it was seen there
+    seen: Option<usize>,
+    is_over: bool,
     skipped: u64,
 }
 
 impl Model for Framer {
-    ghost use Rattle.fix_framing.specs.Stream.{ReaderStanding};
-    ghost use Rattle.fix_framing.specs.Scanned.{scanned_end};
+    ghost use Rattle.std.specs.Prelude.{◌≡◌, []};
+    ghost use Rattle.fix_framing.specs.Stream.{ReaderStanding, IsRemembered, end_of};
 
     ghost Value = { ReaderStanding };
 
-    ghost view = { λ f. record { end = scanned_end f.end; skipped = f.skipped } };
+    ghost view = { λ f. record {
+      end = end_of f.is_over f.buffer.kept.held;
+      skipped = f.skipped;
+      kept = f.buffer.kept;
+    } };
+
+    ghost invariant = { λ f. (f.buffer.offered ≡ []) × IsRemembered f.seen f.buffer.kept.held };
 }
 
 impl Framer {
     /// The reader of a stream of which nothing has come. Takes no memory.
     #[tactic(auto, unfolding(crate::specs::Stream::BytesLeave, crate::specs::Stream::parts_behind))]
     pub fn new(alloc: Global) -> Framer
-        ensures { BytesLeave [] result }
+        ensures leaves { BytesLeave [] result }
+        ensures passed { Passed [] [] result }
     {
         Framer {
-            end: StreamEnd::Rest(Vec::new(alloc)),
+            buffer: StreamBuffer::new(alloc),
+            seen: None,
+            is_over: false,
             skipped: 0,
         }
+    }
+
+    /// Takes the next bytes of the stream; none once too long a frame was met, behind which nothing is read. One
+    /// growth; `AllocError` leaves the reader as it was.
+    pub fn put(&mut self, alloc: Global, piece: &[u8]) -> Result<(), AllocError>
+        ensures end { OnOk result (self.new.end ≡ longer self.old.end piece.now) }
+        ensures passed { OnOk result ((taken : List ℕ) (passed : List (List Field))
+            → Passed taken passed self.old → Passed (taken ++ piece.now) passed self.new) }
+        ensures takes { OnOk result (self.old.end ≢ Over
+            → Takes piece.now (length piece.now) self.old.kept self.new.kept) }
+        ensures over { self.old.end ≡ Over → IsOk result × (self.new ≡ self.old) }
+        ensures err { OnErr result (self.new ≡ self.old) }
+    {
+        if self.is_over {
+            return Ok(());
+        }
+        self.buffer.put(alloc, piece)
+    }
+
+    /// The frame that comes next, its fields lent; `None` where none is whole. It is the same until `pass`. Bytes
+    /// before it are skipped. `TooLong` where a head announces a frame of more than 8,192 bytes. Takes no memory.
+    ///
+    /// Source: FIX 4.4 Volume 1, "Message Format".
+    #[tactic(auto, using(crate::proofs::Passing::front_all))]
+    pub fn front(&mut self) -> Result<Option<FieldsView<'_>>, FrameFault>
+        ensures* sought { sem 𝓛 (follows_so the_row the_row self.entry.ghost_name none
+            (λ _ _. ⊤) (λ v. Sought self.old v)) }
+        ensures front { LendsFrame (left self.old.end) result }
+
+        // Where none is whole, those that were passed are the stream's.
+        ensures all { IfOk result (λ found. IfNone found ((taken : List ℕ) (passed : List (List Field))
+            → Passed taken passed self.old → (parts taken).frames ≡ passed)) }
+    {
+        let size = self.seek();
+        self.look(size)
+    }
+
+    /// Passes the frame that comes next: whether one is whole. Takes no memory.
+    pub fn pass(&mut self) -> bool
+        ensures { PassesFrame result self.old self.new }
+    {
+        let Some(size) = self.seek() else {
+            return false;
+        };
+        self.seen = None;
+        self.buffer.pass(size);
+        true
+    }
+
+    /// Skips what no frame begins with. The size of the frame in front, where one is whole.
+    fn seek(&mut self) -> Option<usize>
+        ensures sought { Sought self.old self.new }
+        ensures seen { IsSeen result self.new.end }
+    {
+        if self.is_over {
+            return None;
+        }
+        if self.seen.is_some() {
+            return self.seen;
+        }
+        let next = next_of(self.buffer.held());
+        self.buffer.pass(next.skipped);
+        self.skipped = self.skipped.saturating_add(next.skipped as u64);
+        self.is_over = next.is_over;
+        self.seen = next.size;
+        next.size
+    }
+
+    /// What was seen in front.
+    fn look(&self, size: Option<usize>) -> Result<Option<FieldsView<'_>>, FrameFault>
+        requires { IsSeen size self.now.end }
+        ensures { LendsFrame (left self.now.end) result }
+    {
+        if self.is_over {
+            return Err(FrameFault::TooLong);
+        }
+        let Some(size) = size else {
+            return Ok(None);
+        };
+        let (text, _) = self.buffer.held().split_at(size);
+        Ok(Some(FieldsView::known(text)))
     }
 
     /// The frames that are whole with this piece of the stream, in order, each with all its fields.
     ///
     /// `TooLong` where a head announces a frame of more than 8,192 bytes: frames before it in the same piece are given
-    /// first, and `TooLong` by the next feed and by all that follow. After `NoMemory` nothing of the piece was taken.
+    /// first, and `TooLong` by the next feed and by all that follow, which take nothing. After `NoMemory` nothing of
+    /// the piece was taken.
     pub fn feed(&mut self, alloc: Global, piece: &[u8]) -> Result<Vec<Fields>, FrameFault>
         ensures frames { IfOk result (λ given. (fed : List ℕ) → BytesLeave fed self.old
             → Feeds fed piece.now given.items self.new) }
@@ -61,41 +164,54 @@ impl Framer {
         ensures over { result ≡ Err TooLong → self.new.end ≡ Over }
         ensures for_good { self.old.end ≡ Over → result ≡ Err TooLong }
         ensures no_memory { result ≡ Err NoMemory → self.new ≡ self.old }
+        ensures counts { OnOk result (Counts (length piece.now) self.old.kept self.new.kept) }
+        ensures stays { self.old.end ≡ Over → self.new ≡ self.old }
     {
-        let scanned = match &self.end {
-            StreamEnd::Over => return Err(FrameFault::TooLong),
-            StreamEnd::Rest(waiting) => scan_behind(alloc, waiting.as_slice(), piece)?,
-        };
-        self.take(scanned)
+        if self.is_over() {
+            return Err(FrameFault::TooLong);
+        }
+        let frames = self.take(alloc, piece)?;
+        if self.is_over() && frames.is_empty() {
+            return Err(FrameFault::TooLong);
+        }
+        Ok(frames)
     }
 
-    /// Takes what was found behind the bytes that waited.
-    fn take(&mut self, scanned: Scanned) -> Result<Vec<Fields>, FrameFault>
-        ensures end { self.new.end ≡ scanned_end scanned.end }
-        ensures skipped { self.new.skipped ≡ min (self.old.skipped + scanned.skipped) (2 ^ 64 - 1) }
-        ensures ok { IfOk result (λ given. given.items ≡ scanned.frames.items) }
-        ensures first { IfOk result (λ given. self.new.end ≡ Over → given.items ≢ []) }
-        ensures err { IfErr result (λ fault. (fault ≡ TooLong) × (self.new.end ≡ Over) × (scanned.frames.items ≡ [])) }
+    /// Takes a piece, and takes out the frames that are whole then. An error leaves all as it was.
+    fn take(&mut self, alloc: Global, piece: &[u8]) -> Result<Vec<Fields>, AllocError>
+        ensures taken { IfOk result (λ given. (bytes : List ℕ) → self.old.end ≡ Rest bytes
+            → IsTaken (parts (bytes ++ piece.now)) given.items self.old self.new) }
+        ensures counts { OnOk result (Counts (length piece.now) self.old.kept self.new.kept) }
+        ensures err { OnErr result (self.new ≡ self.old) }
     {
-        let Scanned {
-            frames,
-            skipped,
-            end,
-        } = scanned;
-        self.skipped = self.skipped.saturating_add(skipped as u64);
-        self.end = end;
-        if self.is_over() && frames.is_empty() {
-            Err(FrameFault::TooLong)
-        } else {
-            Ok(frames)
-        }
+        self.seen = None;
+        let scanned = scan_in(alloc, &mut self.buffer, piece)?;
+        self.skipped = self.skipped.saturating_add(scanned.skipped as u64);
+        self.is_over = scanned.is_over;
+        Ok(scanned.frames)
     }
 
     /// Whether no more frames come.
     fn is_over(&self) -> bool
         ensures { IsTrue result ↔ (self.now.end ≡ Over) }
     {
-        matches!(self.end, StreamEnd::Over)
+        self.is_over
+    }
+
+    /// How many bytes were written into the buffer, from a piece or when what is held is moved to its front;
+    /// 2^64 - 1 stands for more. Takes no memory.
+    pub fn copied(&self) -> u64
+        ensures now { result ≡ self.now.kept.copied }
+        ensures most { self.now.kept.fed < 2 ^ 62 → result ≤ 2 * self.now.kept.fed }
+    {
+        self.buffer.copied()
+    }
+
+    /// How many bytes were taken; 2^64 - 1 stands for more. Takes no memory.
+    pub fn fed(&self) -> u64
+        ensures { result ≡ self.now.kept.fed }
+    {
+        self.buffer.fed()
     }
 
     /// How many bytes were skipped; 2^64 - 1 stands for more. Takes no memory.

@@ -9,14 +9,45 @@ use std::test::Fail;
 /// A heartbeat without a header, as a frame.
 const HEARTBEAT: &[u8; 26] = b"8=FIX.4.4\x019=5\x0135=0\x0110=163\x01";
 
-/// What came of a stream: the texts of all frames one behind another, and how many bytes were skipped.
+/// How frames are taken from a reader.
+#[derive(Clone, Copy, Debug)]
+enum Way {
+    Fed,
+    Lent,
+}
+
+/// What came of a stream: the texts of all frames one behind another, and the reader's counters.
 #[derive(Drop)]
 struct Seen {
     texts: Vec<u8>,
     skipped: u64,
+    copied: u64,
+    fed: u64,
 }
 
-/// Feeds one piece, and appends the texts of its frames.
+fn seen_of(framer: &Framer, texts: Vec<u8>) -> Seen {
+    Seen {
+        texts,
+        skipped: framer.skipped(),
+        copied: framer.copied(),
+        fed: framer.fed(),
+    }
+}
+
+/// Takes one piece, and appends the texts of its frames.
+fn take(
+    alloc: Global,
+    way: Way,
+    framer: &mut Framer,
+    texts: &mut Vec<u8>,
+    piece: &[u8],
+) -> Result<(), FrameFault> {
+    match way {
+        Way::Fed => feed(alloc, framer, texts, piece),
+        Way::Lent => lend(alloc, framer, texts, piece),
+    }
+}
+
 fn feed(
     alloc: Global,
     framer: &mut Framer,
@@ -29,21 +60,35 @@ fn feed(
     Ok(())
 }
 
+fn lend(
+    alloc: Global,
+    framer: &mut Framer,
+    texts: &mut Vec<u8>,
+    piece: &[u8],
+) -> Result<(), FrameFault> {
+    framer.put(alloc, piece)?;
+    for _ in 0..=piece.len() {
+        match framer.front()? {
+            Some(view) => texts.extend_from_slice(view.to_fields(alloc)?.text())?,
+            None => return Ok(()),
+        }
+        framer.pass();
+    }
+    Ok(())
+}
+
 /// A stream in pieces of one size.
-fn read(alloc: Global, stream: &[u8], size: usize) -> Result<Seen, FrameFault> {
+fn read(alloc: Global, way: Way, stream: &[u8], size: usize) -> Result<Seen, FrameFault> {
     let mut framer = Framer::new(alloc);
     let mut texts = Vec::new(alloc);
     for piece in stream.chunks(size.max(1)) {
-        feed(alloc, &mut framer, &mut texts, piece)?;
+        take(alloc, way, &mut framer, &mut texts, piece)?;
     }
-    Ok(Seen {
-        texts,
-        skipped: framer.skipped(),
-    })
+    Ok(seen_of(&framer, texts))
 }
 
 /// The frame in three pieces, cut at these two places.
-fn read_cut(alloc: Global, i: usize, j: usize) -> Result<Seen, FrameFault>
+fn read_cut(alloc: Global, way: Way, i: usize, j: usize) -> Result<Seen, FrameFault>
     requires ordered { i ≤ j }
     requires ends { j ≤ 26 }
 {
@@ -51,26 +96,25 @@ fn read_cut(alloc: Global, i: usize, j: usize) -> Result<Seen, FrameFault>
     let mut texts = Vec::new(alloc);
     let (front, back) = HEARTBEAT.split_at(j);
     let (first, second) = front.split_at(i);
-    feed(alloc, &mut framer, &mut texts, first)?;
-    feed(alloc, &mut framer, &mut texts, second)?;
-    feed(alloc, &mut framer, &mut texts, back)?;
-    Ok(Seen {
-        texts,
-        skipped: framer.skipped(),
-    })
+    take(alloc, way, &mut framer, &mut texts, first)?;
+    take(alloc, way, &mut framer, &mut texts, second)?;
+    take(alloc, way, &mut framer, &mut texts, back)?;
+    Ok(seen_of(&framer, texts))
 }
 
 #[test]
 fn one_frame_cut_in_three(rt: HostRuntime) -> Result<(), Fail> {
-    for i in 0..=HEARTBEAT.len() {
-        for j in i..=HEARTBEAT.len() {
-            let seen = read_cut(rt.alloc(), i, j)?;
-            assert_eq!(rt;
-                seen.texts.as_slice(),
-                HEARTBEAT.as_slice(),
-                "cut at {i} and {j}"
-            );
-            assert_eq!(rt; seen.skipped, 0);
+    for way in [Way::Fed, Way::Lent] {
+        for i in 0..=HEARTBEAT.len() {
+            for j in i..=HEARTBEAT.len() {
+                let seen = read_cut(rt.alloc(), way, i, j)?;
+                assert_eq!(rt;
+                    seen.texts.as_slice(),
+                    HEARTBEAT.as_slice(),
+                    "{way:?}, cut at {i} and {j}"
+                );
+                assert_eq!(rt; seen.skipped, 0);
+            }
         }
     }
     Ok(())
@@ -128,27 +172,39 @@ fn what_is_given_and_what_is_skipped(rt: HostRuntime) -> Result<(), Fail> {
         (b"8=FIX.4.4\x019=8168\x01".as_slice(), b"".as_slice(), 0),
     ] {
         for size in [1, 2, 3, 7, 4_096] {
-            let seen = read(rt.alloc(), stream, size)?;
-            assert_eq!(rt; seen.texts.as_slice(), texts, "in pieces of {size}");
-            assert_eq!(rt; seen.skipped, skipped, "in pieces of {size}");
+            for way in [Way::Fed, Way::Lent] {
+                let seen = read(rt.alloc(), way, stream, size)?;
+                assert_eq!(rt;
+                    seen.texts.as_slice(),
+                    texts,
+                    "{way:?}, in pieces of {size}"
+                );
+                assert_eq!(rt; seen.skipped, skipped, "{way:?}, in pieces of {size}");
+            }
         }
     }
     Ok(())
 }
 
+/// Byte by byte each byte is written once.
 #[test]
 fn a_thousand_frames_in_pieces(rt: HostRuntime) -> Result<(), Fail> {
     let mut stream = Vec::new(rt.alloc());
     for _ in 0..1_000 {
         stream.extend_from_slice(HEARTBEAT)?;
     }
-    for size in [1, 2, 3, 7, 4_096] {
-        let seen = read(rt.alloc(), stream.as_slice(), size)?;
-        assert!(rt;
-            seen.texts.as_slice() == stream.as_slice(),
-            "in pieces of {size}"
-        );
-        assert_eq!(rt; seen.skipped, 0);
+    for way in [Way::Fed, Way::Lent] {
+        for size in [1, 2, 3, 7, 4_096] {
+            let seen = read(rt.alloc(), way, stream.as_slice(), size)?;
+            assert!(rt;
+                seen.texts.as_slice() == stream.as_slice(),
+                "{way:?}, in pieces of {size}"
+            );
+            assert_eq!(rt; seen.skipped, 0);
+            assert_eq!(rt; seen.fed, 26_000);
+            assert!(rt; seen.copied <= 52_000, "{way:?}, in pieces of {size}");
+        }
+        assert_eq!(rt; read(rt.alloc(), way, stream.as_slice(), 1)?.copied, 26_000);
     }
     Ok(())
 }
@@ -162,7 +218,7 @@ fn no_byte_may_be_another(rt: HostRuntime) -> Result<(), Fail> {
             if byte != HEARTBEAT[i] {
                 let mut text = *HEARTBEAT;
                 text[i] = byte;
-                let seen = read(rt.alloc(), &text, text.len())?;
+                let seen = read(rt.alloc(), Way::Fed, &text, text.len())?;
                 assert!(rt; seen.texts.is_empty(), "{byte} at {i}");
             }
         }
@@ -187,6 +243,38 @@ fn too_long_is_for_good(rt: HostRuntime) -> Result<(), Fail> {
     Ok(())
 }
 
+/// The same frame stands in front until it is passed. Two frames before too long a one are given first, and what comes
+/// behind it isn't taken.
+#[test]
+fn what_stands_in_front(rt: HostRuntime) -> Result<(), Fail> {
+    let mut framer = Framer::new(rt.alloc());
+    assert!(rt; framer.front()?.is_none());
+    assert!(rt; !framer.pass());
+    framer.put(
+        rt.alloc(),
+        b"xx8=FIX.4.4\x019=5\x0135=0\x0110=163\x018=FIX.4.4\x019=5\x0135=0\x0110=163\x018=FIX.4.4\x019=8169\x01",
+    )?;
+    for _ in 0..2u32 {
+        for _ in 0..3u32 {
+            let view = framer.front()?.ok_or("a frame is whole")?;
+            assert_eq!(rt; view.text(), HEARTBEAT.as_slice());
+            assert_eq!(rt; view.first(35), Some(b"0".as_slice()));
+            assert_eq!(rt; view.first(10), Some(b"163".as_slice()));
+            assert_eq!(rt; view.first(34), None);
+        }
+        assert!(rt; framer.pass());
+    }
+    for piece in [b"".as_slice(), HEARTBEAT.as_slice()] {
+        assert!(rt; matches!(framer.front(), Err(FrameFault::TooLong)));
+        assert!(rt; !framer.pass());
+        framer.put(rt.alloc(), piece)?;
+        assert!(rt; is_too_long(framer.feed(rt.alloc(), piece)));
+    }
+    assert_eq!(rt; framer.skipped(), 2);
+    assert_eq!(rt; framer.fed(), 71);
+    Ok(())
+}
+
 fn is_too_long(fed: Result<Vec<Fields>, FrameFault>) -> bool {
     matches!(fed, Err(FrameFault::TooLong))
 }
@@ -207,9 +295,11 @@ fn what_is_written_is_read(rt: HostRuntime) -> Result<(), Fail> {
 fn the_longest_frame(rt: HostRuntime) -> Result<(), Fail> {
     let text = long_frame(&rt, rt.alloc(), 8_159)?;
     assert_eq!(rt; text.len(), 8_192);
-    let seen = read(rt.alloc(), text.as_slice(), 1_000)?;
-    assert!(rt; seen.texts.as_slice() == text.as_slice());
-    assert_eq!(rt; seen.skipped, 0);
+    for way in [Way::Fed, Way::Lent] {
+        let seen = read(rt.alloc(), way, text.as_slice(), 1_000)?;
+        assert!(rt; seen.texts.as_slice() == text.as_slice());
+        assert_eq!(rt; seen.skipped, 0);
+    }
     let longer = long_frame(&rt, rt.alloc(), 8_160)?;
     assert_eq!(rt; longer.len(), 8_193);
     let mut framer = Framer::new(rt.alloc());

@@ -1,4 +1,7 @@
 pub mod Spelling
 pub mod Stream
 pub mod Heads
+pub mod Lent
+pub mod Front
 pub mod Worked
+pub use Rattle.stream_buffer.specs.Buffer

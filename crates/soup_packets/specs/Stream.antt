@@ -2,8 +2,9 @@
 --
 -- Source: SoupBinTCP 3.00, "Logical Packets". That a length of 0 ends the stream is this gateway's own: a packet has
 -- its type at least, so no packet begins so.
-use Rattle.std.specs.Prelude.{◌≡◌, ℕ, ◌+◌, ◌*◌, ◌<◌, ◌≤◌, Bool, true, false, List, [], ◌∷◌, ◌++◌, length}
+use Rattle.std.specs.Prelude.{◌≡◌, ℕ, ◌+◌, ◌*◌, ◌<◌, ◌≤◌, ◌⊎◌, Bool, true, false, List, [], ◌∷◌, ◌++◌, length}
 use Rattle.std.specs.List.{flat_map}
+use Rattle.stream_buffer.specs.Buffer.{BytesHeld, LetsGo}
 use Rattle.soup_packets.specs.declared.packet.Packet.{Packet}
 use Rattle.soup_packets.specs.Spelling.{packet_bytes}
 
@@ -43,19 +44,16 @@ abbrev pub Stops : Bool → List ℕ → Type 0
 Stops true rest = BeginsEmpty rest
 Stops false rest = IsPartial rest
 
--- ---- what a reader keeps
+-- ---- a reader of a stream
 
-pub record Reader : Type 0 where
-  -- what has come of the next packet
-  pub held : List ℕ
-  -- a length of 0 has come
-  pub is_ended : Bool
+-- the reader has taken this stream, in any pieces, and these packets were passed: it holds what stands behind them; or
+-- a length of 0 stands there, and what follows that may be forgotten
+unfoldable pub Fed : List ℕ → List Packet → BytesHeld → Type 0
+Fed stream passed reader =
+    (stream ≡ packets_written passed ++ reader.held) ⊎ (BeginsEmpty reader.held × EndsEmpty stream passed)
 
--- what the stream has behind the packets that were given
-abbrev pub Waits : Bool → List ℕ → List Packet → List ℕ → Type 0
-Waits true stream given held = EndsEmpty stream given
-Waits false stream given held = (stream ≡ packets_written given ++ held) × IsPartial held
-
--- the reader was fed with this stream, in any pieces, and has given these packets
-unfoldable pub Fed : List ℕ → List Packet → Reader → Type 0
-Fed stream given reader = Waits reader.is_ended stream given reader.held
+-- the packet in front is let go, where one stands there whole; else nothing changes
+abbrev pub PassesPacket : Bool → BytesHeld → BytesHeld → Type 0
+PassesPacket true old new =
+    (p : Packet) × (old.held ≡ packet_bytes p ++ new.held) × LetsGo (length (packet_bytes p)) old new
+PassesPacket false old new = (new ≡ old) × ((p : Packet) (rest : List ℕ) → old.held ≡ packet_bytes p ++ rest → ⊥)

@@ -1,28 +1,26 @@
-use Rattle.std.proofs.Common.{arith, ℕ, List, ◌++◌, sym, ap, ◌∙◌, subst}
-use Rattle.std.proofs.lemmas.Result.{IfOk-weaker}
+use Rattle.std.proofs.Common.{◌≡◌, List, [], length, subst, arith, rules}
+use Rattle.std.proofs.lemmas.List.{nil_from_length}
+use Rattle.std.proofs.lemmas.Bool.Decides.{nat_tests}
 use Rattle.fix_fields.specs.Field.{Field}
-use Rattle.fix_framing.specs.Stream.{ReaderStanding, BytesLeave, Feeds, parts}
-use Rattle.fix_framing.specs.Scanned.{scanned_end, scanned_parts}
-use Rattle.fix_framing.proofs.Parts.{feeds, feeds_over}
+use Rattle.fix_framing.specs.Stream.{Over, Feeds}
+use Rattle.fix_framing.proofs.Parts.{feeds_over}
+use Rattle.fix_framing.proofs.Passing.{feeds_taken}
 use Rattle.fix_framing.proofs.framer.Framer.feed.Goals as goal
 
-pub returns-in-Over-clause-too_long : goal.returns-in-Over-clause-too_long
-returns-in-Over-clause-too_long c = λ _ fed left.
-    feeds_over fed c.args.piece.now c.args.self.now left (sym (ap (λ (s : ReaderStanding). s.end) c.self.view_is) ∙ ap scanned_end c.in-Over.is)
+pub returns-then-is_over-clause-too_long : goal.returns-then-is_over-clause-too_long
+returns-then-is_over-clause-too_long c = λ _ fed left.
+    let over : c.args.self.now.end ≡ Over = search rules in
+    feeds_over fed c.args.piece.now c.args.self.now left over
 
--- what the scan found is what the piece adds
-found : (c : goal.After-take) (fed : List ℕ) → BytesLeave fed c.args.self.now → Feeds fed c.args.piece.now c.in_ok-scanned-in-Rest.scanned.frames.items c.take.new.self
-found c fed left =
-    feeds fed c.args.piece.now c.in-Rest.waiting.items c.args.self.now c.take.new.self (scanned_parts c.in_ok-scanned-in-Rest.scanned) left
-    (sym (ap (λ (s : ReaderStanding). s.end) c.self.view_is) ∙ ap scanned_end c.in-Rest.is)
-    (c.in_ok-scanned-in-Rest.ensures ∙ ap (λ (l : List ℕ). parts (l ++ c.args.piece.now)) c.as_slice.ensures.value)
-    c.take.ensures.end
-    (omega (arith, c.take.ensures.skipped, ap (λ (s : ReaderStanding). s.skipped) c.self.view_is))
+pub returns-then-is_empty-clause-too_long : goal.returns-then-is_empty-clause-too_long
+returns-then-is_empty-clause-too_long c = λ _ fed left.
+    let open_ : c.args.self.now.end ≡ Over → ⊥ = search rules in
+    let given = c.in_ok-frames.frames.items in
+    let len : length given ≡ 0 = grind (arith, nat_tests, c.is_empty.ensures, c.if-is_empty.true, c.in_ok-frames.frames.ok) in
+    let none : given ≡ [] = nil_from_length given len in
+    subst (λ (g : List (List Field)). Feeds fed c.args.piece.now g c.take.new.self) none (feeds_taken fed c.args.piece.now given c.args.self.now c.take.new.self open_ c.in_ok-frames.ensures.taken left)
 
 pub returns-clause-frames : goal.returns-clause-frames
-returns-clause-frames c =
-    IfOk-weaker c.take.result _ _ (λ given same fed left. subst (λ (g : List (List Field)). Feeds fed c.args.piece.now g c.take.new.self) (sym same) (found c fed left)) c.take.ensures.ok
-
-pub returns-clause-too_long : goal.returns-clause-too_long
-returns-clause-too_long c = λ e fed left.
-    subst (λ (g : List (List Field)). Feeds fed c.args.piece.now g c.take.new.self) (rw e at c.take.ensures.err).2 (found c fed left)
+returns-clause-frames c = λ fed left.
+    let open_ : c.args.self.now.end ≡ Over → ⊥ = search rules in
+    feeds_taken fed c.args.piece.now c.in_ok-frames.frames.items c.args.self.now c.take.new.self open_ c.in_ok-frames.ensures.taken left
