@@ -8,9 +8,9 @@ use Rattle.std.specs.Int.{w16, w32, to_be_bytes, from_be_bytes}
 use Rattle.journal_pages.specs.declared.kind.RecordKind.{RecordKind}
 use Rattle.journal_pages.specs.declared.kind.RecordKind.TheVariants as kinds
 use Rattle.journal_pages.specs.declared.fault.PageFault.TheVariants as faults
-use Rattle.journal_pages.specs.Record.{Record, Stands, Refused, front, is_cut, is_sound, kind_number, kind_of, link_fits, payload_fits, payload_limit, payload_size, record_bytes, read_as, source_fits}
+use Rattle.journal_pages.specs.Record.{Record, Stands, Refused, front, is_cut, is_sound, kind_number, kind_numbered, link_fits, payload_fits, payload_limit, payload_size, record_bytes, read_as, source_fits}
 
-number-read : (k : RecordKind) → kind_of (kind_number k) ≡ Some k
+number-read : (k : RecordKind) → kind_numbered (kind_number k) ≡ Some k
 number-read kinds.ClientUp = refl
 number-read kinds.ClientMessage = refl
 number-read kinds.ClientGone = refl

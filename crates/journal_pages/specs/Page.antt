@@ -71,8 +71,8 @@ batch_with b r = record {
   rank = rank r.kind;
 }
 
-abbrev pub within : Batch → Record → Place
-within b r = if rank r.kind == 5 then BetweenBatches else InBatch (batch_with b r)
+abbrev pub place_within : Batch → Record → Place
+place_within b r = if rank r.kind == 5 then BetweenBatches else InBatch (batch_with b r)
 
 -- ---- a place in a page
 
@@ -88,28 +88,28 @@ unless None later = later
 
 -- the place behind it
 abbrev pub place_after : Place → Record → Place
-place_after PageStart r = if is_event r.kind then InBatch (batch_at r.at) else within (batch_at r.at) r
+place_after PageStart r = if is_event r.kind then InBatch (batch_at r.at) else place_within (batch_at r.at) r
 place_after BetweenBatches r = InBatch (batch_at r.at)
-place_after (InBatch b) r = within b r
+place_after (InBatch b) r = place_within b r
 
 -- ---- a page
 
 -- what is wrong with the record in front, or else with what stands behind it
-abbrev pub judged : Front → Place → (Place → ℕ → Option PageFault) → Option PageFault
-judged (Refused fault) place behind = Some fault
-judged (Stands r) place behind = unless (fault_at place r) (behind (place_after place r) (size_of r))
+abbrev pub fault_of_front : Front → Place → (Place → ℕ → Option PageFault) → Option PageFault
+fault_of_front (Refused fault) place behind = Some fault
+fault_of_front (Stands r) place behind = unless (fault_at place r) (behind (place_after place r) (size_of r))
 
 -- The first thing that is wrong with records that stand one behind another. Each takes some bytes, so that as many
 -- looks as there are bytes are enough.
-abbrev pub first_fault : ℕ → Place → List ℕ → Option PageFault
-first_fault zero place bytes = None
-first_fault (suc looks) place [] = None
-first_fault (suc looks) place (b ∷ bytes) =
-    judged (front (b ∷ bytes)) place (λ later size. first_fault looks later (drop size (b ∷ bytes)))
+abbrev pub fault_by_looks : ℕ → Place → List ℕ → Option PageFault
+fault_by_looks zero place bytes = None
+fault_by_looks (suc looks) place [] = None
+fault_by_looks (suc looks) place (b ∷ bytes) =
+    fault_of_front (front (b ∷ bytes)) place (λ later size. fault_by_looks looks later (drop size (b ∷ bytes)))
 
 -- what is wrong with records behind a place
 abbrev pub records_fault : Place → List ℕ → Option PageFault
-records_fault place bytes = first_fault (length bytes) place bytes
+records_fault place bytes = fault_by_looks (length bytes) place bytes
 
 abbrev pub page_head : List ℕ
 page_head = codes "GJ01"

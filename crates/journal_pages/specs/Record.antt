@@ -32,8 +32,8 @@ kind_number Fault = 14
 kind_number BatchEnd = 15
 
 -- the kind of a number
-abbrev pub kind_of : ℕ → Option RecordKind
-kind_of n =
+abbrev pub kind_numbered : ℕ → Option RecordKind
+kind_numbered n =
     if n == 1 then Some ClientUp
     else if n == 2 then Some ClientMessage
     else if n == 3 then Some ClientGone
@@ -151,4 +151,4 @@ of_kind (Some kind) bytes = if is_sound (read_as kind bytes) then Stands (read_a
 abbrev pub front : List ℕ → Front
 front bytes = if nat_lt (length bytes) head_size then Refused faults.CutShort
     else if is_cut bytes then Refused faults.CutShort
-    else of_kind (kind_of (slice_index bytes 0)) bytes
+    else of_kind (kind_numbered (slice_index bytes 0)) bytes

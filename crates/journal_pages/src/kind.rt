@@ -1,7 +1,7 @@
 //! The kinds of records.
 
 ghost use Rattle.std.specs.Prelude.{◌≡◌};
-ghost use Rattle.journal_pages.specs.Record.{kind_number, kind_of};
+ghost use Rattle.journal_pages.specs.Record.{kind_number, kind_numbered};
 
 /// What a record says. The first eight are events, the others parts of the batch that the event gave.
 #[derive(Clone, Copy, Debug, PartialEq, Eq)]
@@ -64,7 +64,7 @@ impl RecordKind {
 
     /// The kind of a number, or `None` where it is not 1 to 15. Takes no memory.
     pub fn of(number: u8) -> Option<RecordKind>
-        ensures { result ≡ kind_of number }
+        ensures { result ≡ kind_numbered number }
     {
         match number {
             1 => Some(RecordKind::ClientUp),

@@ -22,13 +22,13 @@ pub struct Page {
 }
 
 impl Page {
-    /// The page that a text is. Records are judged one after another, each for `CutShort`, `Kind`, `Payload` and
-    /// `Order`, in this order; the first that is found is given. `NoMemory` says nothing of the text.
+    /// The page that a text is. Records are fault_of_front one after another, each for `CutShort`, `Kind`, `Payload` and
+    /// `Order`, in this order; the first that is found is given. `NoMemory` says nothing of the text: one growth.
     pub fn read(alloc: Global, text: &[u8]) -> Result<Page, PageFault>
         ensures { MatchResult result (λ page. page.bytes ≡ text.now)
             (λ fault. (fault ≡ NoMemory) ⊎ (page_fault text.now ≡ Some fault)) }
     {
-        judge(alloc, text)?;
+        judge(text)?;
         Ok(Page {
             bytes: PageBytes::of(alloc, text)?,
         })
@@ -59,11 +59,10 @@ impl WholeWire for Page {
     }
 }
 
-/// Nothing, where a text is a page; else the first thing that is wrong with it. `NoMemory` may come of a record that is
-/// a list of fields.
-fn judge(alloc: Global, text: &[u8]) -> Result<(), PageFault>
+/// Nothing, where a text is a page; else the first thing that is wrong with it. Takes no memory.
+fn judge(text: &[u8]) -> Result<(), PageFault>
     ensures { MatchResult result (λ nothing. page_fault text.now ≡ None)
-        (λ fault. (fault ≡ NoMemory) ⊎ (page_fault text.now ≡ Some fault)) }
+        (λ fault. page_fault text.now ≡ Some fault) }
 {
     if !text.starts_with(PAGE_HEAD) {
         return Err(PageFault::Head);
@@ -75,7 +74,7 @@ fn judge(alloc: Global, text: &[u8]) -> Result<(), PageFault>
     let mut at = PAGE_HEAD.len();
     while at < text.len() {
         let (_, rest) = text.split_at(at);
-        let next = front(alloc, rest)?;
+        let next = front(rest)?;
         place = place.after(&next)?;
         at += HEAD + next.payload.len();
     }

@@ -3,8 +3,8 @@
 ghost use Rattle.std.specs.Prelude.{◌≡◌, Some, None, MatchResult};
 ghost use Rattle.journal_pages.specs.Page as spec;
 ghost use Rattle.journal_pages.specs.Page.{batch_at, batch_with, fault_at, is_event, is_of_batch, is_same, may_follow};
-ghost use Rattle.journal_pages.specs.Page.{next_fault, place_after, rank, within};
-ghost use Rattle.journal_pages.specs.Seen.{seen};
+ghost use Rattle.journal_pages.specs.Page.{next_fault, place_after, place_within, rank};
+ghost use Rattle.journal_pages.specs.Seen.{record_seen};
 
 use crate::fault::PageFault;
 use crate::kind::RecordKind;
@@ -36,8 +36,8 @@ impl Place {
     /// `Order` where its kind can't come here. Takes no memory.
     pub fn after(self, next: &RecordView<'_>) -> Result<Place, PageFault>
         ensures { MatchResult result
-            (λ place. (fault_at self (seen next.now) ≡ None) × (place ≡ place_after self (seen next.now)))
-            (λ fault. fault_at self (seen next.now) ≡ Some fault) }
+            (λ place. (fault_at self (record_seen next.now) ≡ None) × (place ≡ place_after self (record_seen next.now)))
+            (λ fault. fault_at self (record_seen next.now) ≡ Some fault) }
     {
         let is_event = rank(next.kind) == 0;
         match self {
@@ -55,8 +55,8 @@ impl Batch {
     /// The place behind a record that goes on with this batch, or what is wrong with it.
     fn after(self, next: &RecordView<'_>) -> Result<Place, PageFault>
         ensures { MatchResult result
-            (λ place. (next_fault self (seen next.now) ≡ None) × (place ≡ within self (seen next.now)))
-            (λ fault. next_fault self (seen next.now) ≡ Some fault) }
+            (λ place. (next_fault self (record_seen next.now) ≡ None) × (place ≡ place_within self (record_seen next.now)))
+            (λ fault. next_fault self (record_seen next.now) ≡ Some fault) }
     {
         if self.at != next.at || !self.has(next) {
             return Err(PageFault::Payload);
@@ -70,7 +70,7 @@ impl Batch {
 
     /// Whether a record is of this batch's client, or its port.
     fn has(self, next: &RecordView<'_>) -> bool
-        ensures { result ≡ is_of_batch self (seen next.now) }
+        ensures { result ≡ is_of_batch self (record_seen next.now) }
     {
         match rank(next.kind) {
             0..=2 => is_same(self.client, next.source),
@@ -81,7 +81,7 @@ impl Batch {
 
     /// The place behind a record of this batch.
     fn within(self, next: &RecordView<'_>) -> Place
-        ensures { result ≡ within self (seen next.now) }
+        ensures { result ≡ place_within self (record_seen next.now) }
     {
         if rank(next.kind) == 5 {
             Place::BetweenBatches
@@ -92,7 +92,7 @@ impl Batch {
 
     /// The batch with one record more.
     fn with(self, next: &RecordView<'_>) -> Batch
-        ensures { result ≡ batch_with self (seen next.now) }
+        ensures { result ≡ batch_with self (record_seen next.now) }
     {
         let rank = rank(next.kind);
         Batch {

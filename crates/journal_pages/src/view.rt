@@ -1,18 +1,15 @@
 //! One record, read where it lies.
 
-ghost use Rattle.std.specs.Prelude.{◌≡◌, ◌+◌, ◌≤◌, ◌⊎◌, true, length, take, drop, MatchResult, IfOk};
+ghost use Rattle.std.specs.Prelude.{◌≡◌, ◌+◌, ◌≤◌, true, length, take, drop, MatchResult, IfOk};
 ghost use Rattle.std.specs.Int.{w16, w32, w64, from_be_bytes};
-ghost use Rattle.fix_fields.specs.Reading.{fields_of};
 ghost use Rattle.journal_pages.specs.Record as spec;
 ghost use Rattle.journal_pages.specs.Record.{Stands, Refused, head_size, is_fault_number, is_packet, link_fits};
 ghost use Rattle.journal_pages.specs.Record.{payload_fits, payload_size, size_of, source_fits};
-ghost use Rattle.journal_pages.specs.Seen.{seen};
-ghost use Rattle.journal_pages.specs.declared.fault.PageFault.TheVariants.{NoMemory};
+ghost use Rattle.journal_pages.specs.Seen.{record_seen};
 
 use crate::fault::PageFault;
 use crate::kind::RecordKind;
-use fix_fields::split;
-use std::alloc::{AllocError, Global};
+use fix_fields::FieldsView;
 
 /// How many bytes stand before a record's payload.
 pub const HEAD: usize = 23;
@@ -35,12 +32,11 @@ pub struct RecordView<'a> {
 }
 
 /// The record in front of some bytes. `CutShort` where there are fewer than its head or than this says; `Kind` where
-/// its kind isn't 1 to 15; `Payload` where its payload, source or link isn't one that its kind has. `NoMemory` may come
-/// of a payload that is a list of fields.
-pub fn front<'a>(alloc: Global, bytes: &'a [u8]) -> Result<RecordView<'a>, PageFault>
-    ensures within { IfOk result (λ r. size_of (seen r) ≤ length bytes.now) }
-    ensures front { MatchResult result (λ r. spec.front bytes.now ≡ Stands (seen r))
-        (λ fault. (fault ≡ NoMemory) ⊎ (spec.front bytes.now ≡ Refused fault)) }
+/// its kind isn't 1 to 15; `Payload` where its payload, source or link isn't one that its kind has. Takes no memory.
+pub fn front<'a>(bytes: &'a [u8]) -> Result<RecordView<'a>, PageFault>
+    ensures within { IfOk result (λ r. size_of (record_seen r) ≤ length bytes.now) }
+    ensures front { MatchResult result (λ r. spec.front bytes.now ≡ Stands (record_seen r))
+        (λ fault. spec.front bytes.now ≡ Refused fault) }
 {
     if bytes.len() < HEAD {
         return Err(PageFault::CutShort);
@@ -53,7 +49,7 @@ pub fn front<'a>(alloc: Global, bytes: &'a [u8]) -> Result<RecordView<'a>, PageF
         return Err(PageFault::Kind);
     };
     let record = read_as(kind, bytes, size);
-    if is_sound(alloc, &record)? {
+    if is_sound(&record) {
         Ok(record)
     } else {
         Err(PageFault::Payload)
@@ -72,7 +68,7 @@ fn payload_size(bytes: &[u8]) -> usize
 fn read_as<'a>(kind: RecordKind, bytes: &'a [u8], size: usize) -> RecordView<'a>
     requires within { head_size + size ≤ length bytes.now }
     requires size { size ≡ payload_size bytes.now }
-    ensures { seen result ≡ spec.read_as kind bytes.now }
+    ensures { record_seen result ≡ spec.read_as kind bytes.now }
 {
     RecordView {
         kind,
@@ -100,31 +96,29 @@ fn long_number_at(bytes: &[u8], at: usize) -> u64
     ])
 }
 
-/// Whether a record has what its kind has. The one error is that memory ran out.
-fn is_sound(alloc: Global, record: &RecordView<'_>) -> Result<bool, AllocError>
-    ensures { IfOk result (λ sound. sound ≡ spec.is_sound (seen (record.now))) }
+/// Whether a record has what its kind has.
+fn is_sound(record: &RecordView<'_>) -> bool
+    ensures { result ≡ spec.is_sound (record_seen (record.now)) }
 {
-    if record.payload.len() >= PAYLOAD_LIMIT {
-        return Ok(false);
-    }
-    Ok(
-        payload_fits(alloc, record.kind, record.payload)?
-            && source_fits(record.kind, record.source)
-            && link_fits(record.kind, record.link),
-    )
+    record.payload.len() < PAYLOAD_LIMIT
+        && payload_fits(record.kind, record.payload)
+        && source_fits(record.kind, record.source)
+        && link_fits(record.kind, record.link)
 }
 
-/// Whether a payload is one of a kind. The one error is that memory ran out.
-fn payload_fits(alloc: Global, kind: RecordKind, payload: &[u8]) -> Result<bool, AllocError>
-    ensures { IfOk result (λ fits. fits ≡ payload_fits kind payload.now) }
+/// Whether a payload is one of a kind.
+fn payload_fits(kind: RecordKind, payload: &[u8]) -> bool
+    ensures { result ≡ payload_fits kind payload.now }
 {
     match kind {
-        RecordKind::ClientMessage if payload.len() > LONGEST_FRAME => Ok(false),
-        RecordKind::ClientMessage | RecordKind::Report => Ok(split(alloc, payload)?.is_some()),
-        RecordKind::PortPacket => Ok(is_packet(payload)),
-        RecordKind::ClientWrite | RecordKind::PortWrite => Ok(true),
-        RecordKind::Fault => Ok(is_fault_number(payload)),
-        _ => Ok(payload.is_empty()),
+        RecordKind::ClientMessage => {
+            payload.len() <= LONGEST_FRAME && FieldsView::of(payload).is_some()
+        }
+        RecordKind::Report => FieldsView::of(payload).is_some(),
+        RecordKind::PortPacket => is_packet(payload),
+        RecordKind::ClientWrite | RecordKind::PortWrite => true,
+        RecordKind::Fault => is_fault_number(payload),
+        _ => payload.is_empty(),
     }
 }
 

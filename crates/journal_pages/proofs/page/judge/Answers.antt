@@ -2,7 +2,7 @@ use Rattle.std.proofs.Common.{◌≡◌, ◌≤◌, length, drop, arith, sym, ap
 use Rattle.std.proofs.lemmas.List.{drop-drop}
 use Rattle.journal_pages.specs.declared.place.Place.{Place}
 use Rattle.journal_pages.specs.Record.{size_of}
-use Rattle.journal_pages.specs.Seen.{seen}
+use Rattle.journal_pages.specs.Seen.{record_seen}
 use Rattle.journal_pages.specs.Page.{fault_at, place_after, records_fault}
 use Rattle.journal_pages.proofs.page.judge.Goals as goal
 use Rattle.journal_pages.proofs.Faults.{record-behind}
@@ -27,7 +27,7 @@ loop-at-preserved c =
     let place = c.loop-at.place in
     let later = c.in_ok-place.place in
     let rest = c.split_at.result.1.now in
-    let r = seen c.in_ok-next.next in
+    let r = record_seen c.in_ok-next.next in
     let some : 1 ≤ length rest = omega (arith, few) in
     let told : (fault_at place r ≡ None) × (later ≡ place_after place r) = c.in_ok-place.ensures in
     record {
