@@ -12,7 +12,7 @@ ghost use Rattle.session_reading.specs.Judged.{taken_answer, row_answer, RowFits
 
 use crate::draft::Draft;
 use crate::session::Session;
-use fix_fields::Fields;
+use fix_fields::{Fields, SessionRejectReason};
 use session_law::Kind;
 use session_reading::{Row, Taken, numbered, text};
 use session_writing::{echo_body, too_low_body, unsupported_body};
@@ -87,7 +87,8 @@ fn names_wrong(
         ≡ fold (perform at) (made session.now draft.old)
         (table.reject_act m.now tag 9 ∷ table.log_out (codes "CompID problem"))) }
 {
-    draft.reject(alloc, session, m, tag, 9, at)?;
+    let reason = SessionRejectReason::CompIdProblem.number();
+    draft.reject(alloc, session, m, tag, reason, at)?;
     draft.log_out(alloc, session, b"CompID problem", at)
 }
 

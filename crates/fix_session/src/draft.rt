@@ -232,7 +232,7 @@ impl Draft {
         session: &Session,
         m: &Fields,
         tag: u32,
-        reason: u64,
+        reason: u8,
         at: u64,
     ) -> Result<(), AllocError>
         ensures { OnOk result (made session.now self.new

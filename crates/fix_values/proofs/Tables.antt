@@ -5,7 +5,8 @@ use Rattle.std.specs.Option.{option_or}
 use Rattle.fix_fields.specs.Field.{Field, first_value}
 use Rattle.fix_values.specs.declared.format.Row.{Row}
 use Rattle.fix_fields.specs.declared.session_refusal.SessionRefusal.{SessionRefusal}
-use Rattle.fix_values.specs.Formats.{first_missing, first_misfit, first_refusal, passes, refusal, misfit_reason}
+use Rattle.fix_fields.specs.Fault.{refusal}
+use Rattle.fix_values.specs.Formats.{first_missing, first_misfit, first_refusal, passes, misfit_reason}
 
 -- each tag is there
 abbrev pub AreThere : List ℕ → List Field → Type 0

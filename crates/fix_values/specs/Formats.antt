@@ -4,6 +4,7 @@ use Rattle.std.specs.Prelude.{slice_index, Option, Some, None, is_none, if◌the
 use Rattle.std.specs.Option.{option_or}
 use Rattle.std.specs.List.{list_all, list_any}
 use Rattle.std.specs.Char.{is_ascii_digit}
+use Rattle.fix_fields.specs.Fault.{refusal}
 use Rattle.fix_fields.specs.Field.{Field, first_value}
 use Rattle.decimal_digits.specs.Digits.{number_of}
 use Rattle.fix_values.specs.Texts.{is_cl_ord_id, is_float}
@@ -38,8 +39,8 @@ abbrev pub is_order_id : List ℕ → Bool
 is_order_id text = is_none_text text || is_number text
 
 -- a text of one of these letters
-abbrev pub is_one_of : List ℕ → List ℕ → Bool
-is_one_of letters text = length text == 1 && list_any (λ letter. slice_index text 0 == letter) letters
+abbrev pub is_letter_of : List ℕ → List ℕ → Bool
+is_letter_of letters text = length text == 1 && list_any (λ letter. slice_index text 0 == letter) letters
 
 -- a value has this format
 abbrev pub fits : Format → List ℕ → Bool
@@ -47,10 +48,10 @@ fits formats.ClOrdId text = is_cl_ord_id text
 fits formats.Char text = length text == 1
 fits formats.Float text = is_float text
 fits formats.Number text = is_number text
-fits formats.ExecType text = is_one_of exec_types text
-fits formats.OrdStatus text = is_one_of ord_statuses text
+fits formats.ExecType text = is_letter_of exec_types text
+fits formats.OrdStatus text = is_letter_of ord_statuses text
 fits formats.OrderId text = is_order_id text
-fits formats.CxlRejResponseTo text = is_one_of responses text
+fits formats.CxlRejResponseTo text = is_letter_of responses text
 
 -- What a value of another format is refused with. (FIX 4.4 Volume 2, SessionRejectReason, 373: 5 value is incorrect,
 -- 6 incorrect data format.)
@@ -63,9 +64,6 @@ misfit_reason formats.ExecType = 5
 misfit_reason formats.OrdStatus = 5
 misfit_reason formats.OrderId = 6
 misfit_reason formats.CxlRejResponseTo = 5
-
-abbrev pub refusal : ℕ → ℕ → SessionRefusal
-refusal tag reason = record { tag = tag; reason = reason }
 
 -- The first of these tags that no field has, reason 1: required tag missing.
 abbrev pub first_missing : List ℕ → List Field → Option SessionRefusal

@@ -1,5 +1,6 @@
 pub mod Texts
 pub mod Letters
+pub mod Reasons
 pub mod Formats
 pub mod Slots
 pub use Rattle.fix_fields.specs.Field

@@ -3,21 +3,15 @@
 ghost use Rattle.std.specs.Prelude.{◌≡◌, MatchOption, true, false};
 ghost use Rattle.std.specs.Option.{option_copied};
 ghost use Rattle.decimal_digits.specs.Digits.{number_of as digits_number};
+ghost use Rattle.fix_fields.specs.Reasons.{session_reject_number};
 ghost use Rattle.fix_values.specs.Formats as spec;
 ghost use Rattle.fix_values.specs.Texts as texts;
 
 use crate::cxl_rej_response_to::CxlRejResponseTo;
 use crate::exec_type::ExecType;
 use crate::ord_status::OrdStatus;
-use fix_fields::{Fields, SessionRefusal};
+use fix_fields::{Fields, SessionRefusal, SessionRejectReason};
 use fixed_point::{DecimalRefusal, parse_price};
-
-/// SessionRejectReason (373): required tag missing.
-const REQUIRED_TAG_MISSING: u8 = 1;
-/// SessionRejectReason (373): value is incorrect for this tag.
-const VALUE_IS_INCORRECT: u8 = 5;
-/// SessionRejectReason (373): incorrect data format for value.
-const INCORRECT_DATA_FORMAT: u8 = 6;
 
 /// What the value of a field has to be.
 #[derive(Clone, Copy)]
@@ -91,21 +85,21 @@ fn is_number(value: &[u8]) -> bool
 
 /// Whether a text is a letter of ExecType (150).
 fn is_exec_type(value: &[u8]) -> bool
-    ensures { result ≡ spec.is_one_of spec.exec_types value.now }
+    ensures { result ≡ spec.is_letter_of spec.exec_types value.now }
 {
     value.len() == 1 && ExecType::of_letter(value[0]).is_some()
 }
 
 /// Whether a text is a letter of OrdStatus (39).
 fn is_ord_status(value: &[u8]) -> bool
-    ensures { result ≡ spec.is_one_of spec.ord_statuses value.now }
+    ensures { result ≡ spec.is_letter_of spec.ord_statuses value.now }
 {
     value.len() == 1 && OrdStatus::of_letter(value[0]).is_some()
 }
 
 /// Whether a text is a digit of CxlRejResponseTo (434).
 fn is_response(value: &[u8]) -> bool
-    ensures { result ≡ spec.is_one_of spec.responses value.now }
+    ensures { result ≡ spec.is_letter_of spec.responses value.now }
 {
     value.len() == 1 && CxlRejResponseTo::of_letter(value[0]).is_some()
 }
@@ -140,13 +134,16 @@ pub fn number_of(digits: &[u8]) -> Option<u64>
 }
 
 /// What a value of another format is refused with.
-fn misfit_reason(format: Format) -> u8
-    ensures { result ≡ spec.misfit_reason format }
+fn misfit_reason(format: Format) -> SessionRejectReason
+    ensures { session_reject_number result ≡ spec.misfit_reason format }
 {
     match format {
-        Format::ClOrdId => VALUE_IS_INCORRECT,
-        Format::ExecType | Format::OrdStatus | Format::CxlRejResponseTo => VALUE_IS_INCORRECT,
-        Format::Char | Format::Float | Format::Number | Format::OrderId => INCORRECT_DATA_FORMAT,
+        Format::ClOrdId | Format::ExecType | Format::OrdStatus | Format::CxlRejResponseTo => {
+            SessionRejectReason::ValueIsIncorrect
+        }
+        Format::Char | Format::Float | Format::Number | Format::OrderId => {
+            SessionRejectReason::IncorrectDataFormat
+        }
     }
 }
 
@@ -168,7 +165,7 @@ fn first_missing(fields: &Fields, tags: &[u32]) -> Option<SessionRefusal>
         if fields.first(*tag).is_none() {
             return Some(SessionRefusal {
                 tag: *tag,
-                reason: REQUIRED_TAG_MISSING,
+                reason: SessionRejectReason::RequiredTagMissing.number(),
             });
         }
     }
@@ -182,7 +179,7 @@ fn first_misfit(fields: &Fields, rows: &[Row]) -> Option<SessionRefusal>
         if !passes(row.format, fields.first(row.tag)) {
             return Some(SessionRefusal {
                 tag: row.tag,
-                reason: misfit_reason(row.format),
+                reason: misfit_reason(row.format).number(),
             });
         }
     }

@@ -7,6 +7,7 @@ use Rattle.std.specs.Prelude.{◌∷◌, ◌++◌, length, Option, None, Some, R
 use Rattle.std.specs.Char.{is_ascii_digit}
 use Rattle.std.specs.List.{list_all, before_first, after_first}
 use Rattle.decimal_digits.specs.Digits.{number_of}
+pub use Rattle.wire_law.specs.Limits.{most_shares}
 use Rattle.fixed_point.specs.declared.refusal.DecimalRefusal.{DecimalRefusal}
 use Rattle.fixed_point.specs.declared.refusal.DecimalRefusal.TheVariants.{NotFloat, NotExact, OutOfRange}
 
@@ -80,10 +81,6 @@ amount scale least most text = amount_of scale least most (fraction text)
 -- the greatest price, in 1/10,000: 199,999.99 (OUCH 4.2, "Data Types", price)
 abbrev pub most_price : ℕ
 most_price = 1_999_999_900
-
--- the most shares of one message (OUCH 4.2, "Enter Order Message", shares: below 1,000,000)
-abbrev pub most_shares : ℕ
-most_shares = 999_999
 
 -- The price that a text says, in 1/10,000. The range is the market's.
 unfoldable pub price : List ℕ → Result ℕ DecimalRefusal

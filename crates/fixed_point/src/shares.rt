@@ -4,6 +4,7 @@ ghost use Rattle.std.specs.Prelude.{◌≡◌, ◌≤◌, ◌↔◌, IsSome, IfS
 ghost use Rattle.fixed_point.specs.Decimal.{most_shares};
 
 use std::marker::Model;
+use wire_law::MOST_SHARES;
 
 /// A number of shares, from `Shares::LEAST` to `Shares::MOST`. Contracts see the number.
 ///
@@ -31,7 +32,7 @@ impl Shares {
     pub const LEAST: u32 = 1;
 
     /// The greatest number of shares.
-    pub const MOST: u32 = 999_999;
+    pub const MOST: u32 = MOST_SHARES;
 
     /// That many shares, which the caller knows to be in range. Takes no memory.
     pub fn new(count: u32) -> Self

@@ -4,6 +4,7 @@ use Rattle.std.specs.Prelude.{◌≡◌, ℕ, ◌+◌, ◌≤◌, ◌<◌, ◌^�
 use Rattle.std.specs.Prelude.{◌==◌, nat_le, slice_index}
 use Rattle.std.specs.List.{list_all}
 use Rattle.std.specs.Int.{w32, w64, to_be_bytes, from_be_bytes}
+use Rattle.wire_law.specs.Limits.{most_shares}
 use Rattle.wire_law.specs.Printable.{is_printable, ArePrintable}
 use Rattle.ouch_codec.specs.declared.side.Side.{Side}
 use Rattle.ouch_codec.specs.declared.order_state.OrderState.{OrderState}
@@ -31,8 +32,8 @@ is_in SideLetter bs = is_side (slice_index bs 0)
 is_in OrderStateLetter bs = is_order_state (slice_index bs 0)
 is_in Printable bs = is_printable (slice_index bs 0)
 is_in (Text bytes) bs = list_all is_printable bs
-is_in Shares bs = nat_le 1 (from_be_bytes w32 bs) && nat_le (from_be_bytes w32 bs) 999_999
-is_in IntendedShares bs = nat_le (from_be_bytes w32 bs) 999_999
+is_in Shares bs = nat_le 1 (from_be_bytes w32 bs) && nat_le (from_be_bytes w32 bs) most_shares
+is_in IntendedShares bs = nat_le (from_be_bytes w32 bs) most_shares
 is_in Number bs = true
 is_in LongNumber bs = true
 
@@ -55,8 +56,8 @@ IsFieldValue SideLetter v = Unit {0}
 IsFieldValue OrderStateLetter v = Unit {0}
 IsFieldValue Printable v = is_printable v ≡ true
 IsFieldValue (Text bytes) v = (length v ≡ bytes) × ArePrintable v
-IsFieldValue Shares v = (1 ≤ v) × (v ≤ 999_999)
-IsFieldValue IntendedShares v = v ≤ 999_999
+IsFieldValue Shares v = (1 ≤ v) × (v ≤ most_shares)
+IsFieldValue IntendedShares v = v ≤ most_shares
 IsFieldValue Number v = v < 2 ^ 32
 IsFieldValue LongNumber v = v < 2 ^ 64
 

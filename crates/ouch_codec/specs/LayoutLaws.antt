@@ -8,6 +8,7 @@ use Rattle.std.proofs.Props.{props}
 use Rattle.std.specs.Prelude.{◌==◌, ◌&&◌, nat_le, slice_index}
 use Rattle.std.specs.Int.{w32, w64, to_be_bytes, from_be_bytes}
 use mathlib.Core.HLevel.{Σ_prop_path}
+use Rattle.wire_law.specs.Limits.{most_shares}
 use Rattle.ouch_codec.specs.declared.layout.Kind.{Kind}
 use Rattle.ouch_codec.specs.declared.layout.Kind.TheVariants.{Constant, SideLetter, OrderStateLetter, Printable, Text}
 use Rattle.ouch_codec.specs.declared.layout.Kind.TheVariants.{Shares, IntendedShares, Number, LongNumber}
@@ -16,10 +17,10 @@ use Rattle.ouch_codec.specs.LetterLaws.{order_state_of, order_state_of-letter}
 use Rattle.ouch_codec.specs.Layout.{width, total, is_in, IsMessage, Value, IsFieldValue, written_field, RowValues}
 use Rattle.ouch_codec.specs.Layout.{AreValues, spelled}
 
-shares_pass : (n : ℕ) → 1 ≤ n → n ≤ 999_999 → (nat_le 1 n && nat_le n 999_999) ≡ true
+shares_pass : (n : ℕ) → 1 ≤ n → n ≤ most_shares → (nat_le 1 n && nat_le n most_shares) ≡ true
 shares_pass n least most = grind (arith, nat_tests)
 
-intended_shares_pass : (n : ℕ) → n ≤ 999_999 → nat_le n 999_999 ≡ true
+intended_shares_pass : (n : ℕ) → n ≤ most_shares → nat_le n most_shares ≡ true
 intended_shares_pass n most = grind (arith, nat_tests)
 
 same_byte : (n : ℕ) → (n == n) ≡ true

@@ -11,6 +11,7 @@ use Rattle.std.proofs.lemmas.Bool.Decides.{nat_tests}
 use Rattle.std.proofs.lemmas.List.{take-append-drop, length-take, length-drop, length-take-le, get_or-take, get_or-drop}
 use Rattle.std.proofs.lemmas.List.{get_or_past, drop-drop, drop_more}
 use Rattle.std.proofs.lemmas.Nat.{be_bytes_4, be_bytes_8}
+use Rattle.wire_law.specs.Limits.{most_shares}
 use Rattle.wire_law.specs.Printable.{is_printable}
 use Rattle.ouch_codec.specs.declared.layout.Kind.{Kind}
 use Rattle.ouch_codec.specs.declared.layout.Kind.TheVariants.{Constant, SideLetter, OrderStateLetter, Printable, Text}
@@ -82,10 +83,10 @@ number_below bs below = omega (arith, below 0, below 1, below 2, below 3)
 long_number_below : (bs : List ℕ) → AreBytes bs → from_be_bytes w64 bs < 2 ^ 64
 long_number_below bs below = omega (arith, below 0, below 1, below 2, below 3, below 4, below 5, below 6, below 7)
 
-shares_within : (n : ℕ) → (nat_le 1 n && nat_le n 999_999) ≡ true → (1 ≤ n) × (n ≤ 999_999)
+shares_within : (n : ℕ) → (nat_le 1 n && nat_le n most_shares) ≡ true → (1 ≤ n) × (n ≤ most_shares)
 shares_within n in_set = (grind (arith, nat_tests), grind (arith, nat_tests))
 
-intended_shares_within : (n : ℕ) → nat_le n 999_999 ≡ true → n ≤ 999_999
+intended_shares_within : (n : ℕ) → nat_le n most_shares ≡ true → n ≤ most_shares
 intended_shares_within n in_set = grind (arith, nat_tests)
 
 -- what a field says is a value of the field

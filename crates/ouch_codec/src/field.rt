@@ -14,10 +14,7 @@ ghost use Rattle.ouch_codec.specs.declared.layout.Kind.TheVariants.{Text, Shares
 
 use crate::order_state::OrderState;
 use crate::side::Side;
-use wire_law::{are_printable, is_printable};
-
-/// The largest number of shares that an order may have.
-const MOST_SHARES: u32 = 999_999;
+use wire_law::{MOST_SHARES, are_printable, is_printable};
 
 /// The four bytes of a number.
 pub fn number_bytes(number: u32) -> [u8; 4]

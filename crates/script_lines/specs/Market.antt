@@ -60,7 +60,8 @@ SaysAccepted (n ∷ words) m =
     (m.token ≡ token_text (number_in n))
     × (m.order_reference ≡ number_in n)
     × SaysTerms words m.side m.shares m.stock m.price m.time_in_force m.order_state
-    × AreDefaults m.timestamp m.firm m.display m.capacity m.intermarket_sweep m.minimum_quantity m.cross_type m.bbo_weight
+    × AreDefaults m.timestamp m.firm m.display m.capacity m.intermarket_sweep m.minimum_quantity m.cross_type
+    m.bbo_weight
 
 -- `new old side shares stock price tif state`
 abbrev pub SaysReplaced : List (List ℕ) → Replaced → Type 0
@@ -69,7 +70,8 @@ SaysReplaced (new ∷ old ∷ words) m =
     × (m.previous_token ≡ token_text (number_in old))
     × (m.order_reference ≡ number_in new)
     × SaysTerms words m.side m.shares m.stock m.price m.time_in_force m.order_state
-    × AreDefaults m.timestamp m.firm m.display m.capacity m.intermarket_sweep m.minimum_quantity m.cross_type m.bbo_weight
+    × AreDefaults m.timestamp m.firm m.display m.capacity m.intermarket_sweep m.minimum_quantity m.cross_type
+    m.bbo_weight
 SaysReplaced words m = ⊥
 
 -- `n shares reason`

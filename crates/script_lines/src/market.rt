@@ -18,6 +18,7 @@
 //! Source: OUCH 4.2, "Outbound Messages".
 
 ghost use Rattle.std.specs.Prelude.{◌≡◌, ◌≤◌, ◌<◌, ◌^◌, length, is_some, IfSome};
+ghost use Rattle.wire_law.specs.Limits.{most_shares};
 ghost use Rattle.wire_law.specs.Printable.{ArePrintable};
 ghost use Rattle.script_lines.specs.Words.{words_of};
 ghost use Rattle.script_lines.specs.Forms.{fits_forms};
@@ -63,7 +64,7 @@ struct Terms {
     price: u32,
     time_in_force: u32,
     order_state: OrderState,
-    ghost shares_set: { (1 ≤ shares) × (shares ≤ 999_999) },
+    ghost shares_set: { (1 ≤ shares) × (shares ≤ most_shares) },
     ghost stock_set: { (length stock ≡ 8) × ArePrintable stock },
 }
 

@@ -13,10 +13,7 @@ ghost use Rattle.script_lines.specs.Forms.{is_side_word, is_state_word, is_print
 use decimal_digits::number_of;
 use ouch_codec::{OrderState, Side};
 use tokens::Token;
-use wire_law::{are_visible, is_printable, padded};
-
-/// The most shares that an order may have.
-const MOST_SHARES: u32 = 999_999;
+use wire_law::{MOST_SHARES, are_visible, is_printable, padded};
 
 /// The first word of a text and what stands behind the space after it; `None` where the text has no space.
 pub fn first_word(text: &[u8]) -> Option<(&[u8], &[u8])>

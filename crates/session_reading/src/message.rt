@@ -2,11 +2,12 @@
 
 ghost use Rattle.std.specs.Prelude.{◌≡◌, ◌<◌, ◌^◌, ◌||◌, true, false, MatchOption, IfSome, unwrap_or, codes};
 ghost use Rattle.std.specs.List.{list_all};
+ghost use Rattle.fix_fields.specs.Reasons.{session_reject_number};
 ghost use Rattle.session_law.specs.Messages as law;
 ghost use Rattle.session_law.specs.Table as table;
 
 use crate::words::{has, is, number};
-use fix_fields::Fields;
+use fix_fields::{Fields, SessionRejectReason};
 
 /// Whether a message has this type (35).
 pub fn is_type(m: &Fields, kind: &[u8]) -> bool
@@ -72,15 +73,15 @@ pub fn new_number(m: &Fields, least: u64) -> Option<u64>
 }
 
 /// Why a NewSeqNo is refused (SessionRejectReason, 373): it is missing, no number, or not above.
-pub fn new_number_reason(m: &Fields) -> u64
-    ensures { result ≡ table.new_number_reason m.now }
+pub fn new_number_reason(m: &Fields) -> SessionRejectReason
+    ensures { session_reject_number result ≡ table.new_number_reason m.now }
 {
     if !has(m, 36) {
-        1
+        SessionRejectReason::RequiredTagMissing
     } else if number(m, 36).is_none() {
-        6
+        SessionRejectReason::IncorrectDataFormat
     } else {
-        5
+        SessionRejectReason::ValueIsIncorrect
     }
 }
 

@@ -2,6 +2,7 @@
 
 ghost use Rattle.std.specs.Prelude.{◌≡◌, true, false, unwrap_or, codes, if◌then◌else◌, ℕ};
 ghost use Rattle.fix_fields.specs.Field as tags;
+ghost use Rattle.fix_fields.specs.Reasons.{session_reject_number};
 ghost use Rattle.session_law.specs.Messages as law;
 ghost use Rattle.session_law.specs.Table as table;
 ghost use Rattle.session_reading.specs.declared.row.Row.TheVariants as rows;
@@ -10,7 +11,7 @@ ghost use Rattle.session_reading.specs.Judged.{RowFits};
 use crate::message::new_number;
 use crate::taken::Taken;
 use crate::words::{has, is};
-use fix_fields::Fields;
+use fix_fields::{Fields, SessionRejectReason};
 
 /// A line of the table of a client that is logged on.
 #[derive(Clone, Copy, Debug, PartialEq, Eq)]
@@ -22,7 +23,7 @@ pub enum Row {
     /// A SequenceReset without GapFill moves the expected number.
     Expects(u64),
     /// Such a SequenceReset that goes back, or has no number.
-    Rejected { reason: u64 },
+    Rejected { reason: u8 },
     /// A low number that is sent again: nothing.
     Passed,
     /// A low number: a Logout, and the end.
@@ -48,8 +49,19 @@ pub fn judge_plain_reset(m: &Fields, expected: u64) -> Row
     match new_number(m, expected) {
         Some(number) => Row::Expects(number),
         None => Row::Rejected {
-            reason: if has(m, 36) { 5 } else { 1 },
+            reason: plain_reset_reason(m).number(),
         },
+    }
+}
+
+/// Why a SequenceReset without GapFill is rejected (SessionRejectReason, 373): NewSeqNo (36) is missing, or goes back.
+fn plain_reset_reason(m: &Fields) -> SessionRejectReason
+    ensures { session_reject_number result ≡ (if tags.has 36 m.now then 5 else 1) }
+{
+    if has(m, 36) {
+        SessionRejectReason::ValueIsIncorrect
+    } else {
+        SessionRejectReason::RequiredTagMissing
     }
 }
 

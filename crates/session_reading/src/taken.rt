@@ -3,6 +3,7 @@
 ghost use Rattle.std.specs.Prelude.{◌≡◌, ◌≤◌, ◌+◌, true, false, None, codes, unwrap_or, ℕ};
 ghost use Rattle.fix_fields.specs.Field as tags;
 ghost use Rattle.fix_fields.specs.Fault as fault;
+ghost use Rattle.fix_fields.specs.Reasons.{session_reject_number};
 ghost use Rattle.session_law.specs.Messages as law;
 ghost use Rattle.session_law.specs.Table as table;
 ghost use Rattle.session_law.specs.Table.{answer_by};
@@ -15,7 +16,7 @@ use crate::message::{
 };
 use crate::requests::{is_application, refusal_of};
 use crate::words::{has, number, text};
-use fix_fields::Fields;
+use fix_fields::{Fields, SessionRejectReason};
 
 /// What the message with the expected number brings.
 #[derive(Clone, Copy, Debug, PartialEq, Eq)]
@@ -23,7 +24,7 @@ pub enum Taken {
     /// Nothing is answered.
     Nothing,
     /// A Reject of this tag, for this reason.
-    Rejected { tag: u32, reason: u64 },
+    Rejected { tag: u32, reason: u8 },
     /// A Heartbeat with the TestRequest's own text.
     Echoed,
     /// These numbers are sent again.
@@ -40,22 +41,32 @@ pub enum Taken {
     Unsupported,
 }
 
+/// A Reject of this tag, for this reason.
+fn rejected(tag: u32, reason: SessionRejectReason) -> Taken
+    ensures { result ≡ taken.Rejected tag (session_reject_number reason) }
+{
+    Taken::Rejected {
+        tag,
+        reason: reason.number(),
+    }
+}
+
 /// What a ResendRequest brings, where so many numbers were given.
 pub fn judge_resend(m: &Fields, last: u64) -> Taken
     ensures answer { table.resend_answer last m.now ≡ taken_answer m.now result }
     ensures fits { TakenFits m.now last result }
 {
     if !has(m, 7) {
-        return Taken::Rejected { tag: 7, reason: 1 };
+        return rejected(7, SessionRejectReason::RequiredTagMissing);
     }
     if !has(m, 16) {
-        return Taken::Rejected { tag: 16, reason: 1 };
+        return rejected(16, SessionRejectReason::RequiredTagMissing);
     }
     let Some(from) = number(m, 7) else {
-        return Taken::Rejected { tag: 7, reason: 6 };
+        return rejected(7, SessionRejectReason::IncorrectDataFormat);
     };
     let Some(to) = number(m, 16) else {
-        return Taken::Rejected { tag: 16, reason: 6 };
+        return rejected(16, SessionRejectReason::IncorrectDataFormat);
     };
     if from >= 1 {
         return Taken::SentAgain {
@@ -63,7 +74,7 @@ pub fn judge_resend(m: &Fields, last: u64) -> Taken
             to: until(last, to),
         };
     }
-    Taken::Rejected { tag: 7, reason: 5 }
+    rejected(7, SessionRejectReason::ValueIsIncorrect)
 }
 
 /// The last number asked for: 0 and what is above the last given mean that one.
@@ -82,7 +93,7 @@ pub fn judge_taken(m: &Fields, last: u64) -> Taken
     match m.first_fault() {
         Some(fault) => Taken::Rejected {
             tag: fault.tag,
-            reason: u64::from(fault.reason),
+            reason: fault.reason,
         },
         None => judge_faultless(m, last),
     }
@@ -118,10 +129,7 @@ fn judge_faultless(m: &Fields, last: u64) -> Taken
     if is_other_type(text(m, 35)) {
         return Taken::Unsupported;
     }
-    Taken::Rejected {
-        tag: 35,
-        reason: 11,
-    }
+    rejected(35, SessionRejectReason::InvalidMsgType)
 }
 
 /// What a TestRequest brings.
@@ -133,10 +141,7 @@ fn judge_test(m: &Fields) -> Taken
     if has(m, 112) {
         Taken::Echoed
     } else {
-        Taken::Rejected {
-            tag: 112,
-            reason: 1,
-        }
+        rejected(112, SessionRejectReason::RequiredTagMissing)
     }
 }
 
@@ -150,10 +155,7 @@ fn judge_gap_fill(m: &Fields) -> Taken
 {
     match new_number(m, numbered(m) + 1) {
         Some(number) => Taken::Expects(number),
-        None => Taken::Rejected {
-            tag: 36,
-            reason: new_number_reason(m),
-        },
+        None => rejected(36, new_number_reason(m)),
     }
 }
 
@@ -166,7 +168,7 @@ fn judge_application(m: &Fields) -> Taken
         None => Taken::Delivered,
         Some(refusal) => Taken::Rejected {
             tag: refusal.tag,
-            reason: u64::from(refusal.reason),
+            reason: refusal.reason,
         },
     }
 }

@@ -23,7 +23,7 @@ pub fn push_number(fields: &mut Fields, tag: u32, number: u64) -> Result<(), All
 
 /// What a Reject of a message says: the message's number, the tag, the message's type where it has one, the reason
 /// (SessionRejectReason, 373).
-pub fn reject_body(alloc: Global, m: &Fields, tag: u32, reason: u64) -> Result<Fields, AllocError>
+pub fn reject_body(alloc: Global, m: &Fields, tag: u32, reason: u8) -> Result<Fields, AllocError>
     ensures { IfOk result (λ body. body ≡ table.reject_body m.now (record { tag = tag; reason = reason })) }
 {
     let mut body = Fields::new(alloc);
@@ -34,7 +34,7 @@ pub fn reject_body(alloc: Global, m: &Fields, tag: u32, reason: u64) -> Result<F
             body.push(372, kind)?;
         }
     }
-    push_number(&mut body, 373, reason)?;
+    push_number(&mut body, 373, u64::from(reason))?;
     Ok(body)
 }
 

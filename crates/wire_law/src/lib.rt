@@ -5,11 +5,13 @@
 #![tactic(auto)]
 
 mod fixed_wire;
+mod limits;
 mod printable;
 mod text_wire;
 mod whole_wire;
 
 pub use fixed_wire::FixedWire;
+pub use limits::MOST_SHARES;
 pub use printable::{are_printable, are_visible, is_printable, is_visible, padded};
 pub use text_wire::TextWire;
 pub use whole_wire::WholeWire;

@@ -3,6 +3,7 @@
 //! Source: OUCH 4.2, "Cancel Order Message".
 
 ghost use Rattle.std.specs.Prelude.{◌≡◌, ◌≤◌, true, length};
+ghost use Rattle.wire_law.specs.Limits.{most_shares};
 ghost use Rattle.wire_law.specs.Printable.{ArePrintable};
 
 use crate::field::{intended_shares_at, is_of_type, number_bytes, put_fields, text_at};
@@ -21,7 +22,7 @@ pub struct Cancel {
     /// The intended order size: at most so many shares are executed in all, 0 to 999,999. 0 cancels all that is open.
     pub shares: u32,
     ghost token_set: { (length token ≡ 14) × ArePrintable token },
-    ghost shares_set: { shares ≤ 999_999 },
+    ghost shares_set: { shares ≤ most_shares },
 }
 
 impl FixedWire for Cancel {

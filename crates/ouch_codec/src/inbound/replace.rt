@@ -3,6 +3,7 @@
 //! Source: OUCH 4.2, "Replace Order Message".
 
 ghost use Rattle.std.specs.Prelude.{◌≡◌, ◌<◌, ◌≤◌, ◌^◌, true, length};
+ghost use Rattle.wire_law.specs.Limits.{most_shares};
 ghost use Rattle.wire_law.specs.Printable.{is_printable, ArePrintable};
 
 use crate::field::{
@@ -36,7 +37,7 @@ pub struct Replace {
     pub minimum_quantity: u32,
     ghost token_set: { (length token ≡ 14) × ArePrintable token },
     ghost replacement_token_set: { (length replacement_token ≡ 14) × ArePrintable replacement_token },
-    ghost shares_set: { (1 ≤ shares) × (shares ≤ 999_999) },
+    ghost shares_set: { (1 ≤ shares) × (shares ≤ most_shares) },
     ghost price_set: { price < 2 ^ 32 },
     ghost time_in_force_set: { time_in_force < 2 ^ 32 },
     ghost display_set: { is_printable display ≡ true },

@@ -3,6 +3,7 @@
 //! Source: OUCH 4.2, "Accepted Message".
 
 ghost use Rattle.std.specs.Prelude.{◌≡◌, ◌<◌, ◌≤◌, ◌^◌, true, length};
+ghost use Rattle.wire_law.specs.Limits.{most_shares};
 ghost use Rattle.wire_law.specs.Printable.{is_printable, ArePrintable};
 
 use crate::field::{
@@ -55,7 +56,7 @@ pub struct Accepted {
     pub bbo_weight: u8,
     ghost timestamp_set: { timestamp < 2 ^ 64 },
     ghost token_set: { (length token ≡ 14) × ArePrintable token },
-    ghost shares_set: { (1 ≤ shares) × (shares ≤ 999_999) },
+    ghost shares_set: { (1 ≤ shares) × (shares ≤ most_shares) },
     ghost stock_set: { (length stock ≡ 8) × ArePrintable stock },
     ghost price_set: { price < 2 ^ 32 },
     ghost time_in_force_set: { time_in_force < 2 ^ 32 },
