@@ -1,0 +1,7 @@
+pub mod Basics
+pub mod Sound
+pub mod Books
+pub mod Runs
+pub mod Says
+pub mod Bounds
+pub mod Theorems

@@ -1,0 +1,7 @@
+pub mod Numbers
+pub mod Messages
+pub mod Machine
+pub mod Run
+pub mod Said
+pub mod Moves
+pub mod Examples

@@ -1,0 +1,15 @@
+//! The market's machine, as definitions: what it keeps, what it answers to a message, and what it may do by itself.
+//!
+//! Contracts of the crates above cite `specs/`. In Rust there are the choices that are handed to it, and its four laws.
+//!
+//! Source: OUCH 4.2, "Inbound Messages" and "Outbound Messages".
+#![tactic(auto)]
+
+mod choice;
+mod laws;
+
+pub use choice::{Breaking, Choice, Letter, Removal, Trading};
+pub use laws::{
+    books_are_lives, orders_stay_within_what_was_asked, tokens_are_used_once,
+    what_is_said_is_lawful,
+};
