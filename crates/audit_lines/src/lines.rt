@@ -13,8 +13,11 @@ use std::alloc::{AllocError, Global};
 ///
 /// | Line | What it shows |
 /// |---|---|
-/// | `C1 A1 side 1 executed 300 open 0 cancelled 0 value 70330000 agree` | the client, its first ClOrdID, and the order as the client read it: side as in 54, shares that are executed, open and cancelled, and the executed shares times their prices in 1/10,000; `differ` where the market said anything else of these |
+/// | `C1 A1 side 1 executed 300 open 0 cancelled 0 value 70330000 agree` | an order as its client read it |
 /// | `orders 2 agree 2` | how many orders there are, and how many agree |
+///
+/// An order has its client, its first ClOrdID, its side as in 54, how many shares are executed, open and cancelled, and
+/// the executed shares times their prices in 1/10,000; `differ` where the market said anything else of these.
 pub fn audit_text(alloc: Global, pairs: &[OrderPair]) -> Result<Vec<u8>, AllocError>
     ensures { IfOk result (λ text. text.items ≡ shown.shown_audit pairs.now) }
 {

@@ -18,15 +18,16 @@ use std::alloc::{AllocError, Global};
 ///
 /// | Line | What it shows |
 /// |---|---|
-/// | `C1 > 35=8\|37=1\|..` | a frame: its fields with `\|` between them, without 8, 9, 10, 49, 52, 56, 60 and 122, and without 34 unless the flags ask for it; or, where they ask for that, the whole frame with `\|` for each SOH |
-/// | `P1 > O ..`, `P1 > U ..`, `P1 > X ..` | a message to the market: its fields in the layout's order, without padding |
-/// | `P1 > login S N` | a login request: the session that is asked for, `-` where it is blank, and the number that is wanted next |
+/// | `C1 > 35=8\|37=1\|..` | a frame, `\|` between its fields |
+/// | `P1 > O ..`, `P1 > U ..`, `P1 > X ..` | a message to the market: its fields in the layout's order, not padded |
+/// | `P1 > login S N` | a login request: its session, `-` where that is blank, and the number that is wanted next |
 /// | `P1 > R` | a heartbeat |
 /// | `P1 fault 2` | the port's fault |
 /// | `C1 > close`, `P1 > close` | the link is closed |
 ///
-/// Of bytes that are none of these a line has nothing behind `>` but, for a client, a space. A link's number isn't
-/// shown.
+/// A frame is shown without 8, 9, 10, 49, 52, 56, 60 and 122, and without 34 unless the flags ask for it; or, where
+/// they ask for that, whole, with `\|` for each SOH. Of bytes that are none of these a line has nothing behind `>`
+/// but, for a client, a space. A link's number isn't shown.
 ///
 /// Source: FIX 4.4 Volume 2, "Standard Message Header"; OUCH 4.2, "Inbound Messages"; SoupBinTCP 3.00, "Packets Sent
 /// by the Client".

@@ -6,7 +6,7 @@ ghost use Rattle.journal_pages.specs.declared.fault.PageFault.TheVariants.{NoMem
 use std::alloc::{AllocError, AllocFailed};
 use thiserror::Error;
 
-/// Why a text is no page of the journal. Records are fault_of_front one after another, each for `CutShort`, `Kind`, `Payload`
+/// Why a text is no page of the journal. Records are judged one after another, each for `CutShort`, `Kind`, `Payload`
 /// and `Order`, in this order; the first that is found is given.
 #[derive(Clone, Copy, Debug, PartialEq, Eq, Drop, Error)]
 pub enum PageFault {

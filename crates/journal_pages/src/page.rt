@@ -22,7 +22,7 @@ pub struct Page {
 }
 
 impl Page {
-    /// The page that a text is. Records are fault_of_front one after another, each for `CutShort`, `Kind`, `Payload` and
+    /// The page that a text is. Records are judged one after another, each for `CutShort`, `Kind`, `Payload` and
     /// `Order`, in this order; the first that is found is given. `NoMemory` says nothing of the text: one growth.
     pub fn read(alloc: Global, text: &[u8]) -> Result<Page, PageFault>
         ensures { MatchResult result (λ page. page.bytes ≡ text.now)

@@ -55,7 +55,8 @@ impl Batch {
     /// The place behind a record that goes on with this batch, or what is wrong with it.
     fn after(self, next: &RecordView<'_>) -> Result<Place, PageFault>
         ensures { MatchResult result
-            (λ place. (next_fault self (record_seen next.now) ≡ None) × (place ≡ place_within self (record_seen next.now)))
+            (λ place. (next_fault self (record_seen next.now) ≡ None)
+            × (place ≡ place_within self (record_seen next.now)))
             (λ fault. next_fault self (record_seen next.now) ≡ Some fault) }
     {
         if self.at != next.at || !self.has(next) {

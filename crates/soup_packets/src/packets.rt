@@ -131,7 +131,7 @@ impl Packets {
         begins_empty(self.buffer.held())
     }
 
-    /// PassesPacket the packet in front: whether one stood there whole. Takes no memory.
+    /// Passes the packet in front: whether one stood there whole. Takes no memory.
     pub fn pass(&mut self) -> bool
         ensures passes { PassesPacket result self.old self.new }
         ensures fed { (stream : List ℕ) (passed : List Packet) (p : Packet)
