@@ -1,0 +1,3 @@
+pub mod Same
+pub mod Lists
+pub mod Finding

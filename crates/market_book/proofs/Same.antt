@@ -1,0 +1,40 @@
+-- Two orders in the book are one where all that they say is the same.
+use Rattle.std.proofs.Common.{◌≡◌, ℕ, ◌<◌, ◌^◌, List, refl}
+use Rattle.std.proofs.Props.{props}
+use mathlib.Core.HLevel.{Σ_prop_path}
+use Rattle.ouch_codec.specs.declared.inbound.enter_order.EnterOrder.{EnterOrder}
+use Rattle.ouch_codec.specs.declared.inbound.replace.Replace.{Replace}
+use Rattle.order_law.specs.declared.trade.Trade.{Trade}
+use Rattle.market_law.specs.Machine.{BookOrder}
+
+abbrev Fit : ℕ → Type 0
+Fit n = n < 2 ^ 32
+
+Fit-prop : (n : ℕ) → IsProp (Fit n)
+Fit-prop n = hlevel props
+
+same-fit : (m n : ℕ) (p : Fit m) (q : Fit n) → m ≡ n → ◌≡◌ {A = (k : ℕ) × Fit k} (m, p) (n, q)
+same-fit m n p q e = Σ_prop_path {A = ℕ} {B = Fit} Fit-prop {u = (m, p)} {v = (n, q)} e
+
+abbrev of : EnterOrder → List Replace → (k : ℕ) × Fit k → ℕ → ℕ → ℕ → List Trade → BookOrder
+of entered replacements u executed cancelled value trades = record {
+  entered = entered;
+  replacements = replacements;
+  unfilled = u.0;
+  executed = executed;
+  cancelled = cancelled;
+  value = value;
+  trades = trades;
+  unfilled_set = u.1;
+}
+
+same-parts : (e e' : EnterOrder) (r r' : List Replace) (u u' : (k : ℕ) × Fit k) (x x' c c' v v' : ℕ) (t t' : List Trade)
+    → e ≡ e' → r ≡ r' → u ≡ u' → x ≡ x' → c ≡ c' → v ≡ v' → t ≡ t' → of e r u x c v t ≡ of e' r' u' x' c' v' t'
+same-parts e e' r r' u u' x x' c c' v v' t t' he hr hu hx hc hv ht = rw (he, hr, hu, hx, hc, hv, ht) refl
+
+pub same-order : (a b : BookOrder) → a.entered ≡ b.entered → a.replacements ≡ b.replacements → a.unfilled ≡ b.unfilled
+    → a.executed ≡ b.executed → a.cancelled ≡ b.cancelled → a.value ≡ b.value → a.trades ≡ b.trades → a ≡ b
+same-order a b e r u x c v t =
+    same-parts a.entered b.entered a.replacements b.replacements (a.unfilled, a.unfilled_set) (b.unfilled, b.unfilled_set)
+    a.executed b.executed a.cancelled b.cancelled a.value b.value a.trades b.trades
+    e r (same-fit a.unfilled b.unfilled a.unfilled_set b.unfilled_set u) x c v t

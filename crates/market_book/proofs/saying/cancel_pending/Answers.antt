@@ -1,0 +1,8 @@
+use Rattle.std.proofs.Common.{refl, ap}
+use Rattle.ouch_codec.specs.declared.outbound.Outbound.TheVariants as market
+use Rattle.ouch_codec.specs.LaidOut.{same_written}
+use Rattle.ouch_codec.specs.CancelPendingLaws.{cancel_pending_laid_out}
+use Rattle.market_book.proofs.saying.cancel_pending.Goals as goal
+
+pub returns : goal.returns
+returns c = ap market.CancelPending (same_written cancel_pending_laid_out _ _ (rw c.live_token.ensures refl))

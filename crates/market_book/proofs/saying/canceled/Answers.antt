@@ -1,0 +1,8 @@
+use Rattle.std.proofs.Common.{refl, ap}
+use Rattle.ouch_codec.specs.declared.outbound.Outbound.TheVariants as market
+use Rattle.ouch_codec.specs.LaidOut.{same_written}
+use Rattle.ouch_codec.specs.CanceledLaws.{canceled_laid_out}
+use Rattle.market_book.proofs.saying.canceled.Goals as goal
+
+pub returns : goal.returns
+returns c = λ fit. ap market.Canceled (same_written canceled_laid_out _ _ (rw c.live_token.ensures refl))
