@@ -17,9 +17,13 @@
 uint64_t bench_split(const uint8_t *text, size_t length);
 uint64_t bench_first_fault(const uint8_t *text, size_t length);
 uint64_t bench_feed_frames(const uint8_t *text, size_t length, uint32_t times);
+uint64_t bench_lend_frames(const uint8_t *text, size_t length, uint32_t times);
+uint64_t bench_feed_frame_bytes(const uint8_t *text, size_t length, uint32_t times);
+uint64_t bench_lend_frame_bytes(const uint8_t *text, size_t length, uint32_t times);
 uint64_t bench_frame(const uint8_t *body, size_t length, uint32_t times);
 uint64_t bench_stamps(uint64_t from, uint32_t times);
 uint64_t bench_feed_packets(const uint8_t *piece, size_t length, uint32_t times);
+uint64_t bench_lend_packets(const uint8_t *piece, size_t length, uint32_t times);
 uint32_t bench_parse_price(const uint8_t *text, size_t length);
 uint64_t bench_make_messages(const uint8_t *head, size_t head_length, const uint8_t *tail, size_t tail_length,
                              uint32_t times);
@@ -151,9 +155,22 @@ static void first_fault_calls(void) {
     }
 }
 
-// These four exports loop by themselves, over one reader or one body.
+// These exports loop by themselves, over one reader or one body.
 static void feed_frames_calls(void) {
     sum += bench_feed_frames(hidden(FRAME), FRAME_LENGTH, CALLS);
+}
+
+static void lend_frames_calls(void) {
+    sum += bench_lend_frames(hidden(FRAME), FRAME_LENGTH, CALLS);
+}
+
+// A hundredth of the calls, since each takes its bytes one by one.
+static void feed_frame_bytes_calls(void) {
+    sum += bench_feed_frame_bytes(hidden(FRAME), FRAME_LENGTH, CALLS / 100);
+}
+
+static void lend_frame_bytes_calls(void) {
+    sum += bench_lend_frame_bytes(hidden(FRAME), FRAME_LENGTH, CALLS / 100);
 }
 
 static void frame_calls(void) {
@@ -166,6 +183,10 @@ static void stamp_calls(void) {
 
 static void feed_packets_calls(void) {
     sum += bench_feed_packets(hidden(EXECUTED), EXECUTED_PACKET, CALLS);
+}
+
+static void lend_packets_calls(void) {
+    sum += bench_lend_packets(hidden(EXECUTED), EXECUTED_PACKET, CALLS);
 }
 
 static void parse_price_calls(void) {
@@ -404,6 +425,10 @@ static bool first_fault_is_right(void) {
 static bool frames_are_right(void) {
     return bench_feed_frames((const uint8_t *)FRAME, FRAME_LENGTH, 3) == 3 * FIELDS &&
            bench_feed_frames((const uint8_t *)FRAME, FRAME_LENGTH - 1, 1) == 0 &&
+           bench_lend_frames((const uint8_t *)FRAME, FRAME_LENGTH, 3) == 3 * FIELDS &&
+           bench_lend_frames((const uint8_t *)FRAME, FRAME_LENGTH - 1, 1) == 0 &&
+           bench_feed_frame_bytes((const uint8_t *)FRAME, FRAME_LENGTH, 3) == 3 * FIELDS &&
+           bench_lend_frame_bytes((const uint8_t *)FRAME, FRAME_LENGTH, 3) == 3 * FIELDS &&
            bench_frame((const uint8_t *)REPORT, sizeof REPORT - 1, 2) == 2 * REPORT_FRAME;
 }
 
@@ -417,7 +442,8 @@ static bool stamp_is_right(void) {
 }
 
 static bool packets_are_right(void) {
-    return sizeof EXECUTED - 1 == EXECUTED_PACKET && bench_feed_packets((const uint8_t *)EXECUTED, EXECUTED_PACKET, 3) == 3;
+    return sizeof EXECUTED - 1 == EXECUTED_PACKET && bench_feed_packets((const uint8_t *)EXECUTED, EXECUTED_PACKET, 3) == 3 &&
+           bench_lend_packets((const uint8_t *)EXECUTED, EXECUTED_PACKET, 3) == 3;
 }
 
 static bool parse_price_is_right(void) {
@@ -586,9 +612,13 @@ int main(void) {
     printf("%-44s %7.1f   aim: below 400\n", "split, a NewOrderSingle frame of 160 bytes", split);
     printf("%-44s %7.1f   aim: below 150\n", "first_fault of its fields, the difference", best(first_fault_calls) - split);
     printf("%-44s %7.1f   aim: below 700\n", "Framer::feed, the same frame, with its split", best(feed_frames_calls));
+    printf("%-44s %7.1f   no aim\n", "Framer: put, front, to_fields, pass", best(lend_frames_calls));
+    printf("%-44s %7.1f   no aim\n", "Framer::feed, byte by byte", 100 * best(feed_frame_bytes_calls));
+    printf("%-44s %7.1f   no aim\n", "the same, lent and copied", 100 * best(lend_frame_bytes_calls));
     printf("%-44s %7.1f   aim: below 500\n", "frame, a report of 20 fields", best(frame_calls));
     printf("%-44s %7.1f   no aim\n", "stamp, moments one after another", best(stamp_calls));
     printf("%-44s %7.1f   aim: below  60\n", "Packets::feed, an Executed's packet", best(feed_packets_calls));
+    printf("%-44s %7.1f   no aim\n", "Packets: put, front, to_packet, pass", best(lend_packets_calls));
     printf("%-44s %7.1f   aim: below  25\n", "parse_price, the text 23.45", best(parse_price_calls));
     printf("%-44s %7.1f   aim: below  25\n", "EnterOrder::put, 49 bytes", best(put_calls));
     printf("%-44s %7.1f   aim: below  40\n", "decode, an Executed of 40 bytes", best(decode_calls));
