@@ -43,7 +43,8 @@ links :
     × (client_link 1 second_links ≡ Some 1)
     × (client_link 1 client_is_away ≡ None)
     × (port_link 1 client_is_away ≡ Some 2)
-unfolding client_answer port_answer port_state report_issued digits stamp_text calendar_day day_of_years day_of_months fraction
+unfolding client_answer port_answer port_state report_issued digits stamp_text calendar_day day_of_years day_of_months
+    fraction
 links = (refl, refl, refl, refl, refl, refl, refl, refl, refl, refl, refl, refl, refl, refl)
 
 -- ---- how ports stand
@@ -60,7 +61,8 @@ states :
     × (state_of 2 day_ordered_on_a_faulted_port ≡ Up)
     × (state_of 1 day_ordered_after_the_end ≡ Ended)
     × (state_of 1 client_is_away ≡ LoggingIn)
-unfolding client_answer port_answer port_state report_issued digits stamp_text calendar_day day_of_years day_of_months fraction
+unfolding client_answer port_answer port_state report_issued digits stamp_text calendar_day day_of_years day_of_months
+    fraction
 states = (refl, refl, refl, refl, refl, refl, refl, refl)
 
 -- ---- what is outstanding
@@ -79,7 +81,8 @@ unanswered :
     × (unanswered_on 1 day_cancelled_while_down ≡ SaysCancel (token_text 1) ∷ [])
     × (unanswered_on 2 day_ordered_on_a_faulted_port ≡ SaysNew (token_text 1) ∷ [])
     × (unanswered_on 1 repeat_is_dropped ≡ [])
-unfolding client_answer port_answer port_state report_issued digits stamp_text calendar_day day_of_years day_of_months price quantity amount amount_of within scaled fraction worth worth_of last_digits
+unfolding client_answer port_answer port_state report_issued digits stamp_text calendar_day day_of_years day_of_months
+    price quantity amount amount_of within scaled fraction worth worth_of last_digits
 unanswered = (refl, refl, refl, refl, refl, refl)
 
 -- ---- bytes, typed in
@@ -97,5 +100,6 @@ logon_in_bytes :
     map text_of (due_to_client settings (ClientMessage 2 1 0 (from 2 1 (codes "35=A|98=0|108=30"))) empty
     (lists settings second_client_is_up))
     ≡ codes "8=FIX.4.4|9=61|35=A|49=GATE|56=C2|34=1|52=19700101-00:00:00.000|98=0|108=30|10=118|" ∷ []
-unfolding client_answer port_answer port_state report_issued digits frame_text counted_text stamp_text calendar_day day_of_years day_of_months
+unfolding client_answer port_answer port_state report_issued digits frame_text counted_text stamp_text calendar_day
+    day_of_years day_of_months
 logon_in_bytes = refl

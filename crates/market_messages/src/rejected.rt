@@ -7,6 +7,7 @@ ghost use Rattle.market_messages.specs.Meets.{MeetsRow, rejects_new, rejects_rep
 
 use crate::heard::{Heard, RowFault};
 use fix_types::AppBody;
+use fix_values::CxlRejReason;
 use order_law::Stage;
 use orders::{Change, Order};
 use ouch_codec::Rejected;
@@ -88,7 +89,8 @@ fn tell_not_replaced(
     };
     let mut bodies = Vec::with_capacity(alloc, 2)?;
     let letter = [message.reason];
-    push_reject(alloc, &mut bodies, &pending.replace, &shown, 2, &letter)?;
+    let code = CxlRejReason::BrokerOption;
+    push_reject(alloc, &mut bodies, &pending.replace, &shown, code, &letter)?;
     let rest = Pending {
         replace: None,
         ..pending

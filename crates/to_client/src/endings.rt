@@ -6,6 +6,7 @@ ghost use Rattle.std.specs.Prelude.{◌≡◌, ◌≤◌, ◌+◌, ◌++◌, ◌
 ghost use Rattle.std.specs.List.{list_all};
 ghost use Rattle.fix_fields.specs.Field.{is_inside};
 ghost use Rattle.fix_types.specs.Report.{report_fields};
+ghost use Rattle.fix_values.specs.Reasons.{cxl_rej_number};
 ghost use Rattle.fix_values.specs.Slots.{char_text};
 ghost use Rattle.wire_law.specs.Printable.{is_printable};
 ghost use Rattle.fix_types.specs.Application.{body_fields};
@@ -21,6 +22,7 @@ use crate::reporting::report_on;
 use crate::shown::{Request, Shown};
 use fix_fields::Text;
 use fix_types::{AppBody, Report};
+use fix_values::CxlRejReason;
 use std::alloc::{AllocError, Global};
 
 /// A report as one body more.
@@ -42,13 +44,13 @@ pub fn push_reject(
     bodies: &mut Vec<AppBody>,
     request: &Option<Request>,
     shown: &Shown,
-    code: u64,
+    code: CxlRejReason,
     text: &[u8],
 ) -> Result<(), AllocError>
     requires { list_all is_inside text.now ≡ true }
     ensures told { IfOk result (λ nothing. (q : Option Entry) (s : law.Shown) → IsAnyRequest request.now q
         → ShowsAs shown.now s
-        → map body_fields bodies.new.items ≡ map body_fields bodies.old.items ++ rejects_of s q code text.now) }
+        → map body_fields bodies.new.items ≡ map body_fields bodies.old.items ++ rejects_of s q (cxl_rej_number code) text.now) }
     ensures few { length bodies.new.items ≤ length bodies.old.items + 1 }
 {
     if let Some(request) = request {
@@ -81,12 +83,13 @@ pub fn push_too_late(
         has_pending_replace: false,
         ..*shown
     };
-    push_reject(alloc, bodies, &pending.replace, &rest, 0, b"too late")?;
+    let code = CxlRejReason::TooLateToCancel;
+    push_reject(alloc, bodies, &pending.replace, &rest, code, b"too late")?;
     let last = Shown {
         has_pending_cancel: false,
         ..rest
     };
-    push_reject(alloc, bodies, &pending.cancel, &last, 0, b"too late")
+    push_reject(alloc, bodies, &pending.cancel, &last, code, b"too late")
 }
 
 /// All that was open of an order is cancelled, and it is closed: 150=4, with the market's letter where it gave one,
@@ -119,7 +122,8 @@ pub fn push_canceled(
         has_pending_replace: false,
         ..rest
     };
-    push_reject(alloc, bodies, &pending.replace, &last, 0, b"too late")
+    let code = CxlRejReason::TooLateToCancel;
+    push_reject(alloc, bodies, &pending.replace, &last, code, b"too late")
 }
 
 /// The last Cancel Order of a pending cancel is answered, and the order isn't closed: its reject.
@@ -147,7 +151,7 @@ pub fn push_cancel_rejected(
             bodies,
             &pending.cancel,
             &rest,
-            2,
+            CxlRejReason::BrokerOption,
             b"cancel rejected by market",
         )?;
     }

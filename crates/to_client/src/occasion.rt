@@ -3,7 +3,7 @@
 ghost use Rattle.std.specs.Prelude.{◌≡◌, None};
 ghost use Rattle.to_client.specs.Occasions.{details_of};
 
-use fix_values::ExecType;
+use fix_values::{ExecType, OrdRejReason};
 
 /// What happened to an order, and what a report says of it beside the order. Reasons are the market's letters.
 #[derive(Clone, Copy, Debug)]
@@ -93,7 +93,7 @@ pub fn fields_given_by(occasion: Occasion) -> Details
             ..plain(ExecType::TradeCancel)
         },
         Occasion::Rejected(reason) => Details {
-            ord_rej_reason: Some(99),
+            ord_rej_reason: Some(OrdRejReason::Other.number()),
             reason: Some(reason),
             ..plain(ExecType::Rejected)
         },

@@ -3,13 +3,14 @@
 ghost use Rattle.std.specs.Prelude.{◌≡◌, ◌<◌, ◌^◌, IfOk};
 ghost use Rattle.fix_types.specs.NewOrder.{new_order_fields};
 ghost use Rattle.fix_types.specs.Report.{report_fields};
+ghost use Rattle.fix_values.specs.Reasons.{ord_rej_number};
 ghost use Rattle.order_law.specs.Told as law;
 ghost use Rattle.to_client.specs.Refusals.{refusal_of};
 
 use crate::texts::number_text;
 use fix_fields::Text;
 use fix_types::{NewOrder, Report};
-use fix_values::{ClOrdId, ExecType, FloatText, OrdStatus};
+use fix_values::{ClOrdId, ExecType, FloatText, OrdRejReason, OrdStatus};
 use std::alloc::{AllocError, Global};
 
 /// The report, with an OrderID (37) and an ExecID (17) of these numbers, that refuses a new order for a reason:
@@ -23,11 +24,11 @@ pub fn refusal(
     order_id: u64,
     exec_id: u64,
     order: &NewOrder,
-    code: u64,
+    code: OrdRejReason,
     why: Text,
 ) -> Result<Report, AllocError>
     ensures told { IfOk result (λ r. report_fields r
-        ≡ law.refusing_report exec_id order_id (new_order_fields order.now) code why) }
+        ≡ law.refusing_report exec_id order_id (new_order_fields order.now) (ord_rej_number code) why) }
 {
     refused(alloc, order_id, exec_id, order, code, why)
 }
@@ -38,10 +39,10 @@ fn refused(
     order_id: u64,
     exec_id: u64,
     order: &NewOrder,
-    code: u64,
+    code: OrdRejReason,
     why: Text,
 ) -> Result<Report, AllocError>
-    ensures { IfOk result (λ r. r ≡ refusal_of order_id exec_id code why order.now) }
+    ensures { IfOk result (λ r. r ≡ refusal_of order_id exec_id (ord_rej_number code) why order.now) }
 {
     Ok(Report {
         order_id,
@@ -51,7 +52,7 @@ fn refused(
         exec_ref_id: None,
         exec_type: ExecType::Rejected,
         ord_status: OrdStatus::Rejected,
-        ord_rej_reason: Some(code),
+        ord_rej_reason: Some(code.number()),
         exec_restatement_reason: None,
         symbol: Text::copied(alloc, order.symbol.as_slice())?,
         side: order.side,

@@ -3,6 +3,7 @@
 ghost use Rattle.std.specs.Prelude.{◌≡◌, ◌∷◌, [], IfOk, Option, option_map};
 ghost use Rattle.fix_types.specs.CancelReject.{cancel_reject_fields};
 ghost use Rattle.fix_fields.specs.Field.{Message};
+ghost use Rattle.fix_values.specs.Reasons.{cxl_rej_number};
 ghost use Rattle.order_law.specs.Told as law;
 ghost use Rattle.to_client.specs.Shows.{IsRequest, ShowsAny, id_number};
 
@@ -10,7 +11,7 @@ use crate::shown::{Request, Shown};
 use crate::status::status_or_rejected;
 use fix_fields::Text;
 use fix_types::CancelReject;
-use fix_values::ClOrdId;
+use fix_values::{ClOrdId, CxlRejReason};
 use std::alloc::{AllocError, Global};
 
 /// The reject of a request, with a code (102) and a text (58): of one that is refused, or of a pending one that the
@@ -22,11 +23,11 @@ pub fn cancel_reject(
     alloc: Global,
     request: &Request,
     order: &Option<Shown>,
-    code: u64,
+    code: CxlRejReason,
     text: Text,
 ) -> Result<CancelReject, AllocError>
     ensures { IfOk result (λ r. (m : Message) (s : Option law.Shown) → IsRequest request.now m → ShowsAny order.now s
-        → cancel_reject_fields r ∷ [] ≡ law.refused_request m s code text) }
+        → cancel_reject_fields r ∷ [] ≡ law.refused_request m s (cxl_rej_number code) text) }
 {
     Ok(CancelReject {
         order_id: order_id_of(order),
@@ -34,7 +35,7 @@ pub fn cancel_reject(
         orig_cl_ord_id: ClOrdId::copied(alloc, request.orig_cl_ord_id.as_slice())?,
         ord_status: status_or_rejected(order),
         cxl_rej_response_to: request.kind,
-        cxl_rej_reason: code,
+        cxl_rej_reason: code.number(),
         text,
     })
 }

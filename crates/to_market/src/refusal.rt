@@ -7,9 +7,11 @@
 
 ghost use Rattle.std.specs.Prelude.{◌≡◌, ◌++◌, IfOk, codes, decimal};
 ghost use Rattle.fix_fields.specs.Field.{IsValue};
+ghost use Rattle.fix_values.specs.Reasons.{cxl_rej_number, ord_rej_number};
 ghost use Rattle.to_market.specs.Refusals.{code_of, request_code_of, refusal_text, fixed_words};
 
 use fix_fields::Text;
+use fix_values::{CxlRejReason, OrdRejReason};
 use itoa::Buffer;
 use std::alloc::{AllocError, Global};
 
@@ -66,21 +68,20 @@ pub enum Refusal {
 }
 
 impl Refusal {
-    /// OrdRejReason (103): 1 unknown symbol, 2 exchange closed, 3 order exceeds limit, 6 duplicate order, 11
-    /// unsupported order characteristic, 13 incorrect quantity, 99 other. A row that only requests have is 99.
-    pub fn code(self) -> u64
-        ensures { result ≡ code_of self }
+    /// OrdRejReason (103). A row that only requests have is other.
+    pub fn code(self) -> OrdRejReason
+        ensures { ord_rej_number result ≡ code_of self }
     {
         match self {
-            Refusal::DuplicateClOrdId => 6,
-            Refusal::PortEnded | Refusal::PortFaulted(_) => 2,
-            Refusal::Symbol => 1,
+            Refusal::DuplicateClOrdId => OrdRejReason::DuplicateOrder,
+            Refusal::PortEnded | Refusal::PortFaulted(_) => OrdRejReason::ExchangeClosed,
+            Refusal::Symbol => OrdRejReason::UnknownSymbol,
             Refusal::Side
             | Refusal::OrderType
             | Refusal::TimeInForce
             | Refusal::ExecutionInstruction
-            | Refusal::Capacity => 11,
-            Refusal::Quantity | Refusal::MinimumQuantity => 13,
+            | Refusal::Capacity => OrdRejReason::UnsupportedOrderCharacteristic,
+            Refusal::Quantity | Refusal::MinimumQuantity => OrdRejReason::IncorrectQuantity,
             Refusal::PriceMissing
             | Refusal::PriceNotExact
             | Refusal::PriceOutOfRange
@@ -90,25 +91,24 @@ impl Refusal {
             | Refusal::AlreadyPending
             | Refusal::OtherTerms
             | Refusal::TotalNotAboveExecuted
-            | Refusal::ReplaceLimit => 99,
-            Refusal::TooManyOpenOrders => 3,
+            | Refusal::ReplaceLimit => OrdRejReason::Other,
+            Refusal::TooManyOpenOrders => OrdRejReason::OrderExceedsLimit,
         }
     }
 
-    /// CxlRejReason (102): 0 too late to cancel, 1 unknown order, 2 broker option, 3 already pending, 6 duplicate
-    /// ClOrdID, 99 other. A row that only new orders have is 99.
-    pub fn request_code(self) -> u64
-        ensures { result ≡ request_code_of self }
+    /// CxlRejReason (102). A row that only new orders have is other.
+    pub fn request_code(self) -> CxlRejReason
+        ensures { cxl_rej_number result ≡ request_code_of self }
     {
         match self {
-            Refusal::DuplicateClOrdId => 6,
-            Refusal::UnknownOrder => 1,
-            Refusal::TooLate => 0,
+            Refusal::DuplicateClOrdId => CxlRejReason::DuplicateClOrdId,
+            Refusal::UnknownOrder => CxlRejReason::UnknownOrder,
+            Refusal::TooLate => CxlRejReason::TooLateToCancel,
             Refusal::PortEnded
             | Refusal::PortFaulted(_)
             | Refusal::ReplaceLimit
-            | Refusal::NoTokenLeft => 2,
-            Refusal::AlreadyPending => 3,
+            | Refusal::NoTokenLeft => CxlRejReason::BrokerOption,
+            Refusal::AlreadyPending => CxlRejReason::AlreadyPending,
             Refusal::Side
             | Refusal::Symbol
             | Refusal::OrderType
@@ -122,7 +122,7 @@ impl Refusal {
             | Refusal::PriceOutOfRange
             | Refusal::TooManyOpenOrders
             | Refusal::OtherTerms
-            | Refusal::TotalNotAboveExecuted => 99,
+            | Refusal::TotalNotAboveExecuted => CxlRejReason::Other,
         }
     }
 
