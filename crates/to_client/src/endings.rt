@@ -50,7 +50,8 @@ pub fn push_reject(
     requires { list_all is_inside text.now ≡ true }
     ensures told { IfOk result (λ nothing. (q : Option Entry) (s : law.Shown) → IsAnyRequest request.now q
         → ShowsAs shown.now s
-        → map body_fields bodies.new.items ≡ map body_fields bodies.old.items ++ rejects_of s q (cxl_rej_number code) text.now) }
+        → map body_fields bodies.new.items
+        ≡ map body_fields bodies.old.items ++ rejects_of s q (cxl_rej_number code) text.now) }
     ensures few { length bodies.new.items ≤ length bodies.old.items + 1 }
 {
     if let Some(request) = request {
