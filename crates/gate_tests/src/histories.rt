@@ -1,12 +1,12 @@
 //! The audit of a history that is typed in.
 
+use crate::events::{packet, port_up};
 use crate::served::settings;
 use audit_lines::audit_text;
 use fix_fields::{Fields, split};
 use gate_audit::audit;
 use gate_core::{Batch, ClientNumber, Event, IssuedReport, PortNumber};
 use gate_journal::History;
-use soup_packets::{Packet, Payload};
 use std::alloc::Global;
 use std::test::Fail;
 
@@ -33,11 +33,11 @@ fn a_life_begins_with_the_token_that_the_reports_count(rt: HostRuntime) -> Resul
     let mut history = History::new(alloc);
     history.push(tick(), told(alloc, ClientNumber::at_place(0), &FIRST)?)?;
     history.push(tick(), told(alloc, ClientNumber::at_place(1), &SECOND)?)?;
-    history.push(up(), Batch::empty(alloc))?;
-    let login = packet(alloc, b'A', b"SESSION001                   1")?;
+    history.push(port_up(1, 7), Batch::empty(alloc))?;
+    let login = packet(alloc, 1, 7, b'A', b"SESSION001                   1")?;
     history.push(login, Batch::empty(alloc))?;
     history.push(
-        packet(alloc, b'S', ACCEPTED)?,
+        packet(alloc, 1, 7, b'S', ACCEPTED)?,
         told(alloc, ClientNumber::at_place(1), &OPEN)?,
     )?;
     let Ok(pairs) = audit(alloc, &history, &settings(alloc)?) else {
@@ -57,31 +57,6 @@ fn tick() -> Event {
         port: PortNumber::at_place(0),
         at: 0,
     }
-}
-
-/// The port's link is up.
-fn up() -> Event {
-    Event::PortUp {
-        port: PortNumber::at_place(0),
-        link: 7,
-        at: 0,
-    }
-}
-
-/// The port's link brings a packet.
-fn packet(alloc: Global, kind: u8, payload: &[u8]) -> Result<Event, Fail> {
-    if payload.len() > Payload::MOST {
-        return Err(Fail::new("too long for a packet"));
-    }
-    Ok(Event::PortPacket {
-        port: PortNumber::at_place(0),
-        link: 7,
-        at: 0,
-        packet: Packet {
-            kind,
-            payload: Payload::of(alloc, payload)?,
-        },
-    })
 }
 
 /// A client is told these reports.
