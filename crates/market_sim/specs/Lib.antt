@@ -1,0 +1,4 @@
+pub mod Sim
+pub mod Numbers
+pub mod Outbound
+pub mod Runs
