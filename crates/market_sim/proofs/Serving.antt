@@ -8,13 +8,13 @@ use Rattle.market_law.specs.declared.choice.Choice.{Choice}
 use Rattle.market_sim.specs.declared.event.SimEvent.TheVariants as events
 use Rattle.market_sim.specs.declared.link.SimLink.{SimLink}
 use Rattle.market_sim.specs.declared.link.SimLink.TheVariants.{NoLink, Connected, LoggedIn}
-use Rattle.market_sim.specs.Sim.{SimState, hears, is_session_here, keeps_said, known_number, login_number, login_rejected, logs_on, on_packet, sequenced, sent_on, sends_nothing, server_heartbeat}
-use Rattle.market_sim.specs.Numbers.{field_number}
+use Rattle.market_sim.specs.Sim.{SimState, hears, is_session_here, keeps_said, known_number, login_number, rejects_login, answers_login, on_packet, sequenced_packet, sent_on, sends_nothing, server_heartbeat}
+use Rattle.market_sim.specs.Numbers.{number_asked}
 use Rattle.market_sim.specs.Outbound.{outbound_bytes}
 use Rattle.market_law.specs.Machine.{act, inbound}
 use Rattle.market_sim.specs.Runs.{IsServed, SimMove, Comes, Says, SimRun, goes_on, login_by, payloads_in, sim_moved, sim_run}
 
-sequenced-payloads : (xs : List (List ℕ)) → payloads_in (map sequenced xs) ≡ xs
+sequenced-payloads : (xs : List (List ℕ)) → payloads_in (map sequenced_packet xs) ≡ xs
 sequenced-payloads [] = refl
 sequenced-payloads (x ∷ xs) = ap (λ ys. x ∷ ys) (sequenced-payloads xs)
 
@@ -69,7 +69,7 @@ within-if count n true false number e = absurd (cc)
 within-if count n false b number e = absurd (cc)
 
 number-within : (count n : ℕ) (payload : List ℕ) → login_number count payload ≡ Some n → n ≤ count + 1
-number-within count n payload e = within-if count n (length payload == 46) (is_session_here (take 10 (drop 16 payload))) (field_number (drop 26 payload)) e
+number-within count n payload e = within-if count n (length payload == 46) (is_session_here (take 10 (drop 16 payload))) (number_asked (drop 26 payload)) e
 
 module _ (r : SimRun) (served : IsServed r) (packet : Packet) (read : Option Inbound) (choice : Choice) where
   abbrev s : SimState
@@ -78,8 +78,8 @@ module _ (r : SimRun) (served : IsServed r) (packet : Packet) (read : Option Inb
   abbrev asks : Option ℕ
   asks = login_number (length s.kept) packet.payload
 
-  by_login : (is_login : Bool) (number : Option ℕ) → asks ≡ number → IsServed (goes_on (if is_login then number else None) r (if is_login then logs_on s number else sends_nothing s))
-  by_login true None e = quiet-served r (login_rejected ∷ []) refl served
+  by_login : (is_login : Bool) (number : Option ℕ) → asks ≡ number → IsServed (goes_on (if is_login then number else None) r (if is_login then answers_login s number else sends_nothing s))
+  by_login true None e = quiet-served r (rejects_login ∷ []) refl served
   by_login true (Some n) e = record {
     sent = λ on. sequenced-payloads (drop (n - 1) s.kept);
     from = λ on. number-within (length s.kept) n packet.payload e;

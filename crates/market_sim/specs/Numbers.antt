@@ -14,9 +14,9 @@ behind_spaces [] = []
 behind_spaces (c ∷ cs) = if c == 32 then behind_spaces cs else (c ∷ cs)
 
 -- digits of 1 or more, below 2^64
-abbrev pub is_number : List ℕ → Bool
-is_number digits = not (length digits == 0) &&
+abbrev pub is_number_asked : List ℕ → Bool
+is_number_asked digits = not (length digits == 0) &&
     (list_all is_ascii_digit digits && (nat_le 1 (number_of digits) && nat_lt (number_of digits) (2 ^ 64)))
 
-abbrev pub field_number : List ℕ → Option ℕ
-field_number field = if is_number (behind_spaces field) then Some (number_of (behind_spaces field)) else None
+abbrev pub number_asked : List ℕ → Option ℕ
+number_asked field = if is_number_asked (behind_spaces field) then Some (number_of (behind_spaces field)) else None

@@ -13,7 +13,7 @@ use Rattle.market_sim.specs.declared.event.SimEvent.{SimEvent}
 use Rattle.market_sim.specs.declared.event.SimEvent.TheVariants as events
 use Rattle.market_sim.specs.declared.link.SimLink.{SimLink}
 use Rattle.market_sim.specs.declared.link.SimLink.TheVariants.{NoLink, Connected, LoggedIn}
-use Rattle.market_sim.specs.Numbers.{field_number, padded_number}
+use Rattle.market_sim.specs.Numbers.{number_asked, padded_number}
 use Rattle.market_sim.specs.Outbound.{outbound_bytes}
 
 pub record SimState : Type 0 where
@@ -39,15 +39,15 @@ abbrev pub market_session : List ℕ
 market_session = codes "SESSION001"
 
 -- the session, and the number of the next sequenced packet
-abbrev pub login_accepted : ℕ → Packet
-login_accepted number = record { kind = 65; payload = market_session ++ padded_number number }
+abbrev pub accepts_login : ℕ → Packet
+accepts_login number = record { kind = 65; payload = market_session ++ padded_number number }
 
 -- `S`: the session isn't there, or has no such number
-abbrev pub login_rejected : Packet
-login_rejected = record { kind = 74; payload = 83 ∷ [] }
+abbrev pub rejects_login : Packet
+rejects_login = record { kind = 74; payload = 83 ∷ [] }
 
-abbrev pub sequenced : List ℕ → Packet
-sequenced payload = record { kind = 83; payload = payload }
+abbrev pub sequenced_packet : List ℕ → Packet
+sequenced_packet payload = record { kind = 83; payload = payload }
 
 abbrev pub server_heartbeat : Packet
 server_heartbeat = record { kind = 72; payload = [] }
@@ -66,19 +66,19 @@ abbrev pub login_number : ℕ → List ℕ → Option ℕ
 login_number count payload =
     if not (length payload == 46) then None
     else if not (is_session_here (take 10 (drop 16 payload))) then None
-    else known_number count (field_number (drop 26 payload))
+    else known_number count (number_asked (drop 26 payload))
 
-abbrev pub logs_on : SimState → Option ℕ → SimStep
-logs_on s None = record { state = s; packets = login_rejected ∷ [] }
-logs_on s (Some number) = record {
+abbrev pub answers_login : SimState → Option ℕ → SimStep
+answers_login s None = record { state = s; packets = rejects_login ∷ [] }
+answers_login s (Some number) = record {
   state = record s { link = LoggedIn };
-  packets = login_accepted number ∷ map sequenced (drop (number - 1) s.kept);
+  packets = accepts_login number ∷ map sequenced_packet (drop (number - 1) s.kept);
 }
 
 -- ---- what is said is kept, and goes out where a login was accepted
 
 abbrev pub sent_on : SimLink → List (List ℕ) → List Packet
-sent_on LoggedIn payloads = map sequenced payloads
+sent_on LoggedIn payloads = map sequenced_packet payloads
 sent_on other payloads = []
 
 abbrev pub keeps_said : SimState → List (List ℕ) → SimStep
@@ -90,9 +90,9 @@ booked s step = keeps_said (record s { book = step.machine }) (map outbound_byte
 -- ---- a packet
 
 -- a payload is this message, or none
-abbrev pub IsRead : List ℕ → Option Inbound → Type 0
-IsRead payload (Some message) = inbound_bytes message ≡ payload
-IsRead payload None = (message : Inbound) → inbound_bytes message ≡ payload → ⊥
+abbrev pub IsReadAs : List ℕ → Option Inbound → Type 0
+IsReadAs payload (Some message) = inbound_bytes message ≡ payload
+IsReadAs payload None = (message : Inbound) → inbound_bytes message ≡ payload → ⊥
 
 abbrev pub hears : SimState → Option Inbound → Choice → SimStep
 hears s None choice = sends_nothing s
@@ -102,7 +102,7 @@ hears s (Some message) choice = booked s (inbound s.book message choice)
 abbrev pub on_packet : SimState → SimLink → Packet → Option Inbound → Choice → SimStep
 on_packet s NoLink packet read choice = sends_nothing s
 on_packet s Connected packet read choice =
-    if packet.kind == 76 then logs_on s (login_number (length s.kept) packet.payload) else sends_nothing s
+    if packet.kind == 76 then answers_login s (login_number (length s.kept) packet.payload) else sends_nothing s
 on_packet s LoggedIn packet read choice =
     if packet.kind == 85 then hears s read choice
     else if packet.kind == 82 then record { state = s; packets = server_heartbeat ∷ [] }
@@ -113,7 +113,7 @@ on_packet s LoggedIn packet read choice =
 
 -- what is read of its payload, if it has one
 abbrev pub ReadsEvent : SimEvent → Option Inbound → Type 0
-ReadsEvent (events.Packet packet choice) read = IsRead packet.payload read
+ReadsEvent (events.Packet packet choice) read = IsReadAs packet.payload read
 ReadsEvent other read = read ≡ None
 
 abbrev pub sim_step : SimState → SimEvent → Option Inbound → SimStep

@@ -20,8 +20,8 @@ pub fn padded_number(number: u64) -> [u8; 20]
 }
 
 /// The number of a field: spaces, and then digits of 1 or more, below 2^64.
-pub fn field_number(field: &[u8]) -> Option<u64>
-    ensures { result ≡ numbers.field_number field.now }
+pub fn number_asked(field: &[u8]) -> Option<u64>
+    ensures { result ≡ numbers.number_asked field.now }
 {
     let digits = behind_spaces(field);
     if digits.is_empty() {

@@ -13,8 +13,8 @@ use std::alloc::{AllocError, Global};
 pub const SESSION: &[u8; 10] = b"SESSION001";
 
 /// Login Accepted: the session, and the number of the next sequenced packet. One growth.
-pub fn login_accepted(alloc: Global, number: u64) -> Result<Packet, AllocError>
-    ensures { IfOk result (λ packet. packet ≡ spec.login_accepted number) }
+pub fn accepts_login(alloc: Global, number: u64) -> Result<Packet, AllocError>
+    ensures { IfOk result (λ packet. packet ≡ spec.accepts_login number) }
 {
     let mut fields = Vec::with_capacity(alloc, 30)?;
     fields.extend_from_slice(SESSION)?;
@@ -26,8 +26,8 @@ pub fn login_accepted(alloc: Global, number: u64) -> Result<Packet, AllocError>
 }
 
 /// Login Rejected: the session isn't there, or has no such number. One growth.
-pub fn login_rejected(alloc: Global) -> Result<Packet, AllocError>
-    ensures { IfOk result (λ packet. packet ≡ spec.login_rejected) }
+pub fn rejects_login(alloc: Global) -> Result<Packet, AllocError>
+    ensures { IfOk result (λ packet. packet ≡ spec.rejects_login) }
 {
     Ok(Packet {
         kind: b'J',
@@ -36,8 +36,8 @@ pub fn login_rejected(alloc: Global) -> Result<Packet, AllocError>
 }
 
 /// Sequenced data. Takes no memory.
-pub fn sequenced(payload: Payload) -> Packet
-    ensures { result ≡ spec.sequenced payload }
+pub fn sequenced_packet(payload: Payload) -> Packet
+    ensures { result ≡ spec.sequenced_packet payload }
 {
     Packet {
         kind: b'S',

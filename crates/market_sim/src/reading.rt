@@ -2,14 +2,14 @@
 //!
 //! Source: OUCH 4.2, "Inbound Messages".
 
-ghost use Rattle.market_sim.specs.Sim.{IsRead};
+ghost use Rattle.market_sim.specs.Sim.{IsReadAs};
 
 use ouch_codec::{Cancel, EnterOrder, Inbound, Replace};
 use wire_law::FixedWire;
 
 /// The message that a payload is, or `None` where it is none. Takes no memory.
 pub fn inbound_of(payload: &[u8]) -> Option<Inbound>
-    ensures { IsRead payload.now result }
+    ensures { IsReadAs payload.now result }
 {
     if let Some(order) = EnterOrder::get(payload) {
         return Some(Inbound::Enter(order));

@@ -6,13 +6,13 @@ ghost use Rattle.ouch_codec.specs.declared.inbound.Inbound.{Inbound};
 ghost use Rattle.market_law.specs.Machine as law;
 ghost use Rattle.market_sim.specs.Outbound.{outbound_bytes};
 ghost use Rattle.market_sim.specs.Sim as spec;
-ghost use Rattle.market_sim.specs.Sim.{IsRead, IsStepOfSim, ReadsEvent};
+ghost use Rattle.market_sim.specs.Sim.{IsReadAs, IsStepOfSim, ReadsEvent};
 ghost use Rattle.market_sim.specs.declared.event.SimEvent.TheVariants as events;
 
 use crate::event::SimEvent;
 use crate::link::SimLink;
-use crate::numbers::field_number;
-use crate::packets::{SESSION, login_accepted, login_rejected, sequenced, server_heartbeat};
+use crate::numbers::number_asked;
+use crate::packets::{SESSION, accepts_login, rejects_login, sequenced_packet, server_heartbeat};
 use crate::reading::inbound_of;
 use crate::saying::{LONGEST, payload_in};
 use market_book::{Book, Choice};
@@ -122,7 +122,7 @@ impl Sim {
         packet: &Packet,
         choice: Choice,
     ) -> Result<Vec<Packet>, AllocError>
-        ensures step { IfOk result (λ packets. (read : Option Inbound) × IsRead packet.now.payload read
+        ensures step { IfOk result (λ packets. (read : Option Inbound) × IsReadAs packet.now.payload read
             × IsStepOfSim (spec.on_packet self.old self.old.link packet.now read choice) self.new packets.items) }
         ensures err { OnErr result (self.new ≡ self.old) }
     {
@@ -140,11 +140,11 @@ impl Sim {
     /// A login came.
     fn log_on(&mut self, alloc: Global, payload: &[u8]) -> Result<Vec<Packet>, AllocError>
         ensures step { IfOk result (λ packets. IsStepOfSim
-            (spec.logs_on self.old (spec.login_number (length self.old.kept) payload.now)) self.new packets.items) }
+            (spec.answers_login self.old (spec.login_number (length self.old.kept) payload.now)) self.new packets.items) }
         ensures err { OnErr result (self.new ≡ self.old) }
     {
         match login_number(self.kept.len(), payload) {
-            None => one(alloc, login_rejected(alloc)?),
+            None => one(alloc, rejects_login(alloc)?),
             Some(number) => {
                 let packets = resent(alloc, number, self.kept.as_slice())?;
                 self.link = SimLink::LoggedIn;
@@ -229,7 +229,7 @@ fn sent_on(link: SimLink, payload: Payload, packets: Vec<Packet>) -> Vec<Packet>
 {
     let mut packets = packets;
     if link == SimLink::LoggedIn {
-        let _ = packets.push(sequenced(payload));
+        let _ = packets.push(sequenced_packet(payload));
     }
     packets
 }
@@ -246,7 +246,7 @@ fn login_number(count: usize, payload: &[u8]) -> Option<u64>
     if !is_session_here(&payload[16..26]) {
         return None;
     }
-    known_number(count, field_number(&payload[26..]))
+    known_number(count, number_asked(&payload[26..]))
 }
 
 /// A number, where it is at most the one behind so many.
@@ -271,13 +271,13 @@ fn is_session_here(session: &[u8]) -> bool
 fn resent(alloc: Global, number: u64, kept: &[Payload]) -> Result<Vec<Packet>, AllocError>
     requires { number ≤ length kept.now + 1 }
     ensures { IfOk result (λ packets. packets.items
-        ≡ spec.login_accepted number ∷ map spec.sequenced (drop (number - 1) kept.now)) }
+        ≡ spec.accepts_login number ∷ map spec.sequenced_packet (drop (number - 1) kept.now)) }
 {
     let mut packets = Vec::new(alloc);
-    packets.push(login_accepted(alloc, number)?)?;
+    packets.push(accepts_login(alloc, number)?)?;
     let (_, rest) = kept.split_at(number.saturating_sub(1) as usize);
     for payload in rest {
-        packets.push(sequenced(payload.copy(alloc)?))?;
+        packets.push(sequenced_packet(payload.copy(alloc)?))?;
     }
     Ok(packets)
 }
