@@ -7,5 +7,5 @@ use Rattle.gate_audit.specs.Again.{Again}
 
 pub record IsAgain (terms : LoginTerms) (r : Again) (x : PortAgain) : Type 0 where
   pub link : x.link ≡ r.link
-  pub session : CallsLeave terms r.calls x.session
+  pub session : CallsLeave terms r.calls x.session.port
   pub handled : x.handled.items ≡ reverse r.handled

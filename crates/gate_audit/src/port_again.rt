@@ -31,7 +31,7 @@ impl PortAgain {
     pub fn new(alloc: Global, settings: &PortSettings) -> PortAgain
         requires { CanLogIn settings.now }
         ensures again { IsAgain settings.now read.called_at_first result }
-        ensures next { next_of result.session ≡ 1 }
+        ensures next { next_of result.session.port ≡ 1 }
     {
         PortAgain {
             link: None,
@@ -48,11 +48,11 @@ impl PortAgain {
         event: &Event,
         batch: &Batch,
     ) -> Result<(), AllocError>
-        requires room { next_of self.old.session < 2 ^ 60 }
+        requires room { next_of self.old.session.port < 2 ^ 60 }
         ensures again { IfOk result (λ u. (terms : LoginTerms) (r : Again) → IsAgain terms r self.old
             → IsAgain terms (read.unless_lost port (batch_seen batch.now)
             (read.called_by_event terms port (event_seen event.now) (batch_seen batch.now) r)) self.new) }
-        ensures next { next_of self.new.session ≤ next_of self.old.session + 1 }
+        ensures next { next_of self.new.session.port ≤ next_of self.old.session.port + 1 }
     {
         self.hear(alloc, port, event, batch)?;
         self.lose(port, batch);
@@ -67,11 +67,11 @@ impl PortAgain {
         event: &Event,
         batch: &Batch,
     ) -> Result<(), AllocError>
-        requires room { next_of self.old.session < 2 ^ 60 }
+        requires room { next_of self.old.session.port < 2 ^ 60 }
         ensures again { IfOk result (λ u. (terms : LoginTerms) (r : Again) → IsAgain terms r self.old
             → IsAgain terms (read.called_by_event terms port (event_seen event.now)
             (batch_seen batch.now) r) self.new) }
-        ensures next { next_of self.new.session ≤ next_of self.old.session + 1 }
+        ensures next { next_of self.new.session.port ≤ next_of self.old.session.port + 1 }
     {
         match event {
             Event::PortUp {
@@ -115,7 +115,7 @@ impl PortAgain {
     fn on_up(&mut self, alloc: Global, link: u64) -> Result<(), AllocError>
         ensures again { IfOk result (λ u. (terms : LoginTerms) (r : Again) → IsAgain terms r self.old
             → IsAgain terms (read.called_up link r.link r) self.new) }
-        ensures next { next_of self.new.session ≡ next_of self.old.session }
+        ensures next { next_of self.new.session.port ≡ next_of self.old.session.port }
     {
         if self.link.is_none() {
             self.session.on_up(alloc, 0)?;
@@ -128,7 +128,7 @@ impl PortAgain {
     fn on_gone(&mut self)
         ensures again { (terms : LoginTerms) (r : Again) → IsAgain terms r self.old
             → IsAgain terms (read.called_gone r) self.new }
-        ensures next { next_of self.new.session ≡ next_of self.old.session }
+        ensures next { next_of self.new.session.port ≡ next_of self.old.session.port }
     {
         self.session.on_gone();
         self.link = None;
@@ -136,10 +136,10 @@ impl PortAgain {
 
     /// A packet on the current link.
     fn on_packet(&mut self, alloc: Global, packet: &Packet, batch: &Batch) -> Result<(), AllocError>
-        requires room { next_of self.old.session < 2 ^ 60 }
+        requires room { next_of self.old.session.port < 2 ^ 60 }
         ensures again { IfOk result (λ u. (terms : LoginTerms) (r : Again) → IsAgain terms r self.old
             → IsAgain terms (read.called_packet terms packet.now (batch_seen batch.now) r) self.new) }
-        ensures next { next_of self.new.session ≤ next_of self.old.session + 1 }
+        ensures next { next_of self.new.session.port ≤ next_of self.old.session.port + 1 }
     {
         let turn = self.session.on_packet(alloc, packet, 0)?;
         if let Some(message) = message_of(&turn.payload, batch.fault) {
@@ -152,7 +152,7 @@ impl PortAgain {
     fn lose(&mut self, port: PortNumber, batch: &Batch)
         ensures again { (terms : LoginTerms) (r : Again) → IsAgain terms r self.old
             → IsAgain terms (read.unless_lost port (batch_seen batch.now) r) self.new }
-        ensures next { next_of self.new.session ≡ next_of self.old.session }
+        ensures next { next_of self.new.session.port ≡ next_of self.old.session.port }
     {
         if batch.names_port(port) && closes_link(self.link, &batch.port_out) {
             self.on_gone();

@@ -2,17 +2,19 @@
 use Rattle.std.proofs.Common.{◌≡◌, ◌+◌, ◌≤◌, ℕ, length, refl, sym, ◌∙◌, subst, arith}
 use Rattle.gate_sessions.specs.Lines.{NextWithin}
 use Rattle.gate_core.specs.declared.parts.Parts.{Parts}
-use Rattle.gate_core.specs.Steps.{Grows}
+use Rattle.gate_core.specs.Steps.{Grows, PortsStaySettled}
 
 pub ports-grow : (old new : Parts) → length new.ports.items ≡ length old.ports.items → ((n : ℕ) → NextWithin n old.ports.items → NextWithin n new.ports.items)
+    → PortsStaySettled old new
     → new.clients ≡ old.clients → new.client_ports ≡ old.client_ports → new.orders ≡ old.orders → Grows 0 0 old new
-ports-grow old new count next same_clients same_client_ports same_orders = record {
+ports-grow old new count next settled same_clients same_client_ports same_orders = record {
   clients = rw same_clients refl;
   ports = count;
   client_ports = rw same_client_ports refl;
   served = rw same_orders refl;
   issued = rw same_orders (omega arith);
   next = λ n within. (let same : n + 0 ≡ n = omega arith in subst (λ (k : ℕ). NextWithin k new.ports.items) (sym same) (next n within));
+  ports_settled = settled;
 }
 
 -- one step and then another
@@ -24,19 +26,22 @@ grows-then a b c d x y z first second = record {
   served = second.served ∙ first.served;
   issued = omega (arith, first.issued, second.issued);
   next = λ n within. (let same : (n + b) + d ≡ n + (b + d) = omega arith in subst (λ (k : ℕ). NextWithin k z.ports.items) same (second.next (n + b) (first.next n within)));
+  ports_settled = λ was kept. second.ports_settled was (first.ports_settled was kept);
 }
 
 -- lines of both sides that keep the next numbers
 pub lines-grow : (old new : Parts) → length new.clients.items ≡ length old.clients.items → length new.ports.items ≡ length old.ports.items
     → ((n : ℕ) → NextWithin n old.ports.items → NextWithin n new.ports.items)
+    → PortsStaySettled old new
     → new.client_ports ≡ old.client_ports → new.orders ≡ old.orders → Grows 0 0 old new
-lines-grow old new clients ports next same_client_ports same_orders = record {
+lines-grow old new clients ports next settled same_client_ports same_orders = record {
   clients = clients;
   ports = ports;
   client_ports = rw same_client_ports refl;
   served = rw same_orders refl;
   issued = rw same_orders (omega arith);
   next = λ n within. (let same : n + 0 ≡ n = omega arith in subst (λ (k : ℕ). NextWithin k new.ports.items) (sym same) (next n within));
+  ports_settled = settled;
 }
 
 -- what gives few numbers gives no more than many
@@ -48,6 +53,7 @@ grows-within few many packets old new most grows = record {
   served = grows.served;
   issued = omega (arith, grows.issued, most);
   next = grows.next;
+  ports_settled = grows.ports_settled;
 }
 
 -- no event gives more numbers than three, or brings more than one packet
@@ -59,4 +65,5 @@ grows-most numbers packets old new few one grows = record {
   served = grows.served;
   issued = omega (arith, grows.issued, few);
   next = λ n within i line at. omega (arith, grows.next n within i line at, one);
+  ports_settled = grows.ports_settled;
 }

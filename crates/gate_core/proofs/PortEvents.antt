@@ -15,7 +15,7 @@ use Rattle.gate_sessions.specs.Lines.{PortsLeave, PortLinks, NextWithin, called_
 use Rattle.gate_core.specs.declared.parts.Parts.{Parts}
 use Rattle.gate_events.specs.Links.{unlinked}
 use Rattle.gate_core.specs.State.{ArePartsOf}
-use Rattle.gate_core.specs.Steps.{Grows, Stepped}
+use Rattle.gate_core.specs.Steps.{PortsStaySettled, Grows, Stepped}
 use Rattle.gate_events.specs.Batches.{batch_of}
 use Rattle.gate_core.proofs.Told.{named-port}
 use Rattle.gate_core.proofs.Parted.{port-called-is}
@@ -92,12 +92,14 @@ port-event s e v g new p move calls fault outs is lines asks named earlier parts
 -- lines of ports that are as many, and want so many packets more
 pub packets-grow : (packets : ℕ) (old new : Parts) → length new.ports.items ≡ length old.ports.items
     → ((n : ℕ) → NextWithin n old.ports.items → NextWithin (n + packets) new.ports.items)
+    → PortsStaySettled old new
     → new.clients ≡ old.clients → new.client_ports ≡ old.client_ports → new.orders ≡ old.orders → Grows 0 packets old new
-packets-grow packets old new count next same_clients same_client_ports same_orders = record {
+packets-grow packets old new count next settled same_clients same_client_ports same_orders = record {
   clients = rw same_clients refl;
   ports = count;
   client_ports = rw same_client_ports refl;
   served = rw same_orders refl;
   issued = rw same_orders (omega arith);
   next = next;
+  ports_settled = settled;
 }

@@ -1,6 +1,7 @@
 pub mod Seen
 pub mod Links
 pub mod Batches
+pub mod Sources
 pub use Rattle.fix_fields.specs.Field
 pub use Rattle.fix_framing.specs.Stream
 pub use Rattle.gate_law.specs.After

@@ -13,7 +13,7 @@ use std::marker::Model;
 /// Source: FIX 4.4 Volume 1, "Message Format"; the limit is the gateway's own, that of frames in a stream.
 #[derive(Debug, Drop)]
 pub struct ClientFrame {
-    fields: Fields,
+    pub(crate) fields: Fields,
 }
 
 impl Model for ClientFrame {

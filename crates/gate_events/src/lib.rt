@@ -11,6 +11,8 @@ mod link_outs;
 mod links;
 mod number;
 mod parts;
+mod source;
+mod told;
 
 pub use batch::{Batch, LinkOut};
 pub use client_frame::ClientFrame;
@@ -20,3 +22,5 @@ pub use link_outs::closes_link;
 pub use links::{only_outs, told_client, told_port};
 pub use number::{ClientNumber, PortNumber};
 pub use soup_session::PortFault;
+pub use source::{Recipient, Source};
+pub use told::Told;

@@ -7,6 +7,7 @@ ghost use Rattle.soup_session.specs.Table.{PortCall};
 ghost use Rattle.gate_law.specs.Settings.{Settings};
 ghost use Rattle.gate_law.specs.Sessions.{to_port};
 ghost use Rattle.gate_sessions.specs.Lines.{ClientsLeave, ClientLinks, PortsLeave, PortLinks, NextWithin};
+ghost use Rattle.gate_sessions.specs.Lines.{PortStands, PortsSettledAs};
 ghost use Rattle.gate_events.specs.Seen.{link_out_seen};
 ghost use Rattle.gate_events.specs.Links.{outs_told_on, unlinked};
 
@@ -60,6 +61,8 @@ pub fn told_port(
     ensures links { IfOk result (λ outs. (links : ℕ → Option ℕ) → PortLinks links lines.old.items
         → PortLinks (unlinked (place + 1) (map link_out_seen outs.items) links) lines.new.items) }
     ensures next { (n : ℕ) → NextWithin n lines.old.items → NextWithin n lines.new.items }
+    ensures settled { (was : ℕ → PortStands) → PortsSettledAs was lines.old.items
+        → PortsSettledAs was lines.new.items }
     ensures length { length lines.new.items ≡ length lines.old.items }
 {
     let link = lines[place].link;
@@ -92,6 +95,8 @@ fn close_port(lines: &mut Vec<PortLine>, place: usize, outs: &[LinkOut])
     ensures links { (links : ℕ → Option ℕ) → PortLinks links lines.old.items
         → PortLinks (unlinked (place + 1) (map link_out_seen outs.now) links) lines.new.items }
     ensures next { (n : ℕ) → NextWithin n lines.old.items → NextWithin n lines.new.items }
+    ensures settled { (was : ℕ → PortStands) → PortsSettledAs was lines.old.items
+        → PortsSettledAs was lines.new.items }
     ensures length { length lines.new.items ≡ length lines.old.items }
 {
     if closes_link(lines[place].link, outs) {

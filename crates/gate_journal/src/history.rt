@@ -1,8 +1,11 @@
 //! Events with their batches, in order.
 
-ghost use Rattle.std.specs.Prelude.{◌≡◌, ◌<◌, ◌++◌, ◌∷◌, [], vec_len, vec_capacity};
+ghost use Rattle.std.specs.Prelude.{◌≡◌, ◌<◌, ◌++◌, ◌∷◌, [], IfOk, vec_len, vec_capacity};
+ghost use Rattle.gate_events.specs.Seen.{batch_seen};
+ghost use Rattle.gate_events.specs.Sources.{told_to, unless_empty};
 
 use gate_core::{Batch, Event};
+use gate_events::{Recipient, Source, Told};
 use std::alloc::{AllocError, Global};
 use std::marker::Model;
 
@@ -27,7 +30,8 @@ impl Model for History {
 impl History {
     ghost use Rattle.std.specs.Prelude.{◌++◌, ◌∷◌, [], IfOk, OnErr, length};
     ghost use Rattle.gate_core.specs.Core.{turn_of};
-    ghost use Rattle.gate_journal.specs.Kept.{nothing_kept, turns};
+    ghost use Rattle.gate_events.specs.Sources.{events_from};
+    ghost use Rattle.gate_journal.specs.Kept.{lists_kept, nothing_kept, turns};
 
     /// No events. Takes no memory.
     pub fn new(alloc: Global) -> History
@@ -67,6 +71,48 @@ impl History {
     {
         &self.batches
     }
+
+    /// The events of one source, in order, once more.
+    pub fn from(&self, alloc: Global, source: Source) -> Result<Vec<Event>, AllocError>
+        ensures { IfOk result (λ events. events.items ≡ events_from source self.now.events) }
+    {
+        let mut found = Vec::new(alloc);
+        for event in &self.events {
+            if event.is_from(&source) {
+                found.push(event.copied(alloc)?)?;
+            }
+        }
+        Ok(found)
+    }
+
+    /// What the batches told one link, in order, once more: a list for each batch that told it something.
+    pub fn to(&self, alloc: Global, recipient: Recipient) -> Result<Vec<Told>, AllocError>
+        ensures { IfOk result (λ lists. lists.items ≡ lists_kept recipient self.now) }
+    {
+        let mut lists = Vec::new(alloc);
+        for batch in &self.batches {
+            keep_told(&mut lists, alloc, batch, &recipient)?;
+        }
+        Ok(lists)
+    }
+}
+
+/// A list more, where the batch tells the recipient something.
+fn keep_told(
+    lists: &mut Vec<Told>,
+    alloc: Global,
+    batch: &Batch,
+    recipient: &Recipient,
+) -> Result<(), AllocError>
+    ensures { IfOk result (λ nothing. lists.new.items
+        ≡ lists.old.items ++ unless_empty (told_to recipient.now (batch_seen batch.now))) }
+{
+    let told = batch.told(*recipient);
+    if told.is_empty() {
+        return Ok(());
+    }
+    lists.push(Told::copied(alloc, told)?)?;
+    Ok(())
 }
 
 /// Adds a batch, where there is room for it.

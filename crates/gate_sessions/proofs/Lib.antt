@@ -1,5 +1,7 @@
 mod Bodies
 mod Clients
+mod Places
 mod Ports
 mod Sending
+mod Settling
 mod Several

@@ -1,6 +1,7 @@
 -- Sessions and links by their places: number i + 1 stands at place i.
 use Rattle.std.specs.Prelude.{◌≡◌, ℕ, ◌+◌, ◌≤◌, ◌==◌, List, [], ◌∷◌, Option, Some, slice_get, if◌then◌else◌}
 use Rattle.soup_session.specs.Table as port
+use Rattle.soup_session.specs.declared.machine.Port.{Port}
 use Rattle.soup_session.specs.Calls.{IsUp, next_of}
 use Rattle.session_law.specs.Runs.{Timed}
 use Rattle.gate_law.specs.Settings.{Settings}
@@ -19,7 +20,7 @@ ClientLinks links lines = (i : ℕ) (line : ClientLine) → slice_get lines i �
 -- and each port's
 abbrev pub PortsLeave : Settings → (ℕ → List port.PortCall) → List PortLine → Type 0
 PortsLeave s calls lines = (i : ℕ) (line : PortLine) → slice_get lines i ≡ Some line
-    → PortLeaves s (i + 1) (calls (i + 1)) line.session
+    → PortLeaves s (i + 1) (calls (i + 1)) line.session.port
 
 abbrev pub PortLinks : (ℕ → Option ℕ) → List PortLine → Type 0
 PortLinks links lines = (i : ℕ) (line : PortLine) → slice_get lines i ≡ Some line → line.link ≡ links (i + 1)
@@ -39,8 +40,24 @@ link_set n link links m = if m == n then link else links m
 
 -- no port wants a number above this one next
 abbrev pub NextWithin : ℕ → List PortLine → Type 0
-NextWithin n lines = (i : ℕ) (line : PortLine) → slice_get lines i ≡ Some line → next_of line.session ≤ n
+NextWithin n lines = (i : ℕ) (line : PortLine) → slice_get lines i ≡ Some line → next_of line.session.port ≤ n
 
 -- the port at this place is up
 abbrev pub IsUpAt : ℕ → List PortLine → Type 0
-IsUpAt place lines = (line : PortLine) → slice_get lines place ≡ Some line → IsUp line.session
+IsUpAt place lines = (line : PortLine) → slice_get lines place ≡ Some line → IsUp line.session.port
+
+-- how a port's line stands: its link, and what its session keeps
+pub record PortStands : Type 0 where
+  pub link : Option ℕ
+  pub port : Port
+
+abbrev pub port_now : PortLine → PortStands
+port_now line = record { link = line.link; port = line.session.port }
+
+-- how it stood when it was settled last
+abbrev pub port_settled : PortLine → PortStands
+port_settled line = record { link = line.settled_link; port = line.session.settled }
+
+-- each port's line was settled so
+abbrev pub PortsSettledAs : (ℕ → PortStands) → List PortLine → Type 0
+PortsSettledAs was lines = (i : ℕ) (line : PortLine) → slice_get lines i ≡ Some line → port_settled line ≡ was (i + 1)

@@ -22,6 +22,7 @@ pub use issued_report::IssuedReport;
 pub use laws::issues_are_what_is_reported;
 pub use port_line::PortLine;
 pub use port_lines::{
-    port_close, port_fail, port_gone, port_packet, port_send, port_tick, port_up,
+    port_close, port_fail, port_gone, port_packet, port_send, port_tick, port_up, ports_settle,
+    ports_undo,
 };
 pub use port_messages::port_send_all;

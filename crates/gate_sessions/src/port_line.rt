@@ -6,6 +6,7 @@ ghost use Rattle.soup_session.specs.Calls.{IsAnswer, PortHasRoom, IsUp, next_of}
 ghost use Rattle.gate_law.specs.Settings.{Settings, port_terms};
 ghost use Rattle.gate_law.specs.Sessions.{port_answer, port_state};
 ghost use Rattle.gate_sessions.specs.Leaving.{PortLeaves};
+ghost use Rattle.gate_sessions.specs.Lines.{port_now, port_settled};
 
 use soup_packets::Packet;
 use soup_session::{PortFault, PortSession, PortState, PortTurn};
@@ -16,6 +17,8 @@ use std::alloc::{AllocError, Global};
 pub struct PortLine {
     pub link: Option<u64>,
     pub session: PortSession,
+    /// The link when the line was settled last.
+    pub settled_link: Option<u64>,
 }
 
 impl PortLine {
@@ -24,26 +27,47 @@ impl PortLine {
         requires user { (1 ≤ length user.now) × (length user.now ≤ 6) }
         requires password { length password.now ≤ 10 }
         ensures leaves { (s : Settings) (p : ℕ) → port_terms s p ≡ record { user = user.now; password = password.now }
-            → PortLeaves s p [] result.session }
+            → PortLeaves s p [] result.session.port }
         ensures link { result.link ≡ None }
-        ensures next { next_of result.session ≡ 1 }
+        ensures settled { port_settled result ≡ port_now result }
+        ensures next { next_of result.session.port ≡ 1 }
     {
         PortLine {
             link: None,
             session: PortSession::new(user, password),
+            settled_link: None,
         }
+    }
+
+    /// It can be put back to how it is now.
+    pub fn settle(&mut self)
+        ensures now { port_now self.new ≡ port_now self.old }
+        ensures settled { port_settled self.new ≡ port_now self.old }
+    {
+        self.settled_link = self.link;
+        self.session.settle();
+    }
+
+    /// It is as it was when it was settled last.
+    pub fn undo(&mut self)
+        ensures now { port_now self.new ≡ port_settled self.old }
+        ensures settled { port_settled self.new ≡ port_settled self.old }
+    {
+        self.link = self.settled_link;
+        self.session.undo();
     }
 
     /// A link is current from now on.
     pub fn up(&mut self, alloc: Global, link: u64, at: u64) -> Result<PortTurn, AllocError>
         ensures leaves { IfOk result (λ t. (s : Settings) (p : ℕ) (calls : List PortCall)
-            → PortLeaves s p calls self.old.session
-            → PortLeaves s p (OnUp at ∷ calls) self.new.session) }
+            → PortLeaves s p calls self.old.session.port
+            → PortLeaves s p (OnUp at ∷ calls) self.new.session.port) }
         ensures answers { IfOk result (λ t. (s : Settings) (p : ℕ) (calls : List PortCall)
-            → PortLeaves s p calls self.old.session
+            → PortLeaves s p calls self.old.session.port
             → IsAnswer (port_answer s p calls (OnUp at)) t) }
         ensures link { IfOk result (λ t. self.new.link ≡ Some link) }
-        ensures next { next_of self.new.session ≡ next_of self.old.session }
+        ensures settled { port_settled self.new ≡ port_settled self.old }
+        ensures next { next_of self.new.session.port ≡ next_of self.old.session.port }
         ensures err { OnErr result (self.new ≡ self.old) }
     {
         let turn = self.session.on_up(alloc, at)?;
@@ -53,10 +77,11 @@ impl PortLine {
 
     /// The current link is gone.
     pub fn gone(&mut self)
-        ensures leaves { (s : Settings) (p : ℕ) (calls : List PortCall) → PortLeaves s p calls self.old.session
-            → PortLeaves s p (OnGone ∷ calls) self.new.session }
+        ensures leaves { (s : Settings) (p : ℕ) (calls : List PortCall) → PortLeaves s p calls self.old.session.port
+            → PortLeaves s p (OnGone ∷ calls) self.new.session.port }
         ensures link { self.new.link ≡ None }
-        ensures next { next_of self.new.session ≡ next_of self.old.session }
+        ensures settled { port_settled self.new ≡ port_settled self.old }
+        ensures next { next_of self.new.session.port ≡ next_of self.old.session.port }
     {
         self.link = None;
         self.session.on_gone();
@@ -64,8 +89,9 @@ impl PortLine {
 
     /// The core closed the current link.
     pub fn close(&mut self)
-        ensures session { self.new.session ≡ self.old.session }
+        ensures session { self.new.session.port ≡ self.old.session.port }
         ensures link { self.new.link ≡ None }
+        ensures settled { port_settled self.new ≡ port_settled self.old }
     {
         self.link = None;
     }
@@ -77,15 +103,16 @@ impl PortLine {
         packet: &Packet,
         at: u64,
     ) -> Result<PortTurn, AllocError>
-        requires room { PortHasRoom self.old.session }
+        requires room { PortHasRoom self.old.session.port }
         ensures leaves { IfOk result (λ t. (s : Settings) (p : ℕ) (calls : List PortCall)
-            → PortLeaves s p calls self.old.session
-            → PortLeaves s p (OnPacket packet.now at ∷ calls) self.new.session) }
+            → PortLeaves s p calls self.old.session.port
+            → PortLeaves s p (OnPacket packet.now at ∷ calls) self.new.session.port) }
         ensures answers { IfOk result (λ t. (s : Settings) (p : ℕ) (calls : List PortCall)
-            → PortLeaves s p calls self.old.session
+            → PortLeaves s p calls self.old.session.port
             → IsAnswer (port_answer s p calls (OnPacket packet.now at)) t) }
         ensures link { self.new.link ≡ self.old.link }
-        ensures next { next_of self.new.session ≤ next_of self.old.session + 1 }
+        ensures settled { port_settled self.new ≡ port_settled self.old }
+        ensures next { next_of self.new.session.port ≤ next_of self.old.session.port + 1 }
         ensures err { OnErr result (self.new ≡ self.old) }
     {
         self.session.on_packet(alloc, packet, at)
@@ -94,13 +121,14 @@ impl PortLine {
     /// Time passes.
     pub fn tick(&mut self, alloc: Global, at: u64) -> Result<PortTurn, AllocError>
         ensures leaves { IfOk result (λ t. (s : Settings) (p : ℕ) (calls : List PortCall)
-            → PortLeaves s p calls self.old.session
-            → PortLeaves s p (OnTick at ∷ calls) self.new.session) }
+            → PortLeaves s p calls self.old.session.port
+            → PortLeaves s p (OnTick at ∷ calls) self.new.session.port) }
         ensures answers { IfOk result (λ t. (s : Settings) (p : ℕ) (calls : List PortCall)
-            → PortLeaves s p calls self.old.session
+            → PortLeaves s p calls self.old.session.port
             → IsAnswer (port_answer s p calls (OnTick at)) t) }
         ensures link { self.new.link ≡ self.old.link }
-        ensures next { next_of self.new.session ≡ next_of self.old.session }
+        ensures settled { port_settled self.new ≡ port_settled self.old }
+        ensures next { next_of self.new.session.port ≡ next_of self.old.session.port }
         ensures err { OnErr result (self.new ≡ self.old) }
     {
         self.session.on_tick(alloc, at)
@@ -108,17 +136,18 @@ impl PortLine {
 
     /// A message goes out while the port is up.
     pub fn send(&mut self, alloc: Global, message: &[u8], at: u64) -> Result<PortTurn, AllocError>
-        requires up { IsUp self.old.session }
+        requires up { IsUp self.old.session.port }
         requires most { length message.now ≤ 65_534 }
         ensures leaves { IfOk result (λ t. (s : Settings) (p : ℕ) (calls : List PortCall)
-            → PortLeaves s p calls self.old.session
-            → PortLeaves s p (Send message.now at ∷ calls) self.new.session) }
+            → PortLeaves s p calls self.old.session.port
+            → PortLeaves s p (Send message.now at ∷ calls) self.new.session.port) }
         ensures answers { IfOk result (λ t. (s : Settings) (p : ℕ) (calls : List PortCall)
-            → PortLeaves s p calls self.old.session
+            → PortLeaves s p calls self.old.session.port
             → IsAnswer (port_answer s p calls (Send message.now at)) t) }
         ensures link { self.new.link ≡ self.old.link }
-        ensures next { next_of self.new.session ≡ next_of self.old.session }
-        ensures up { IfOk result (λ t. IsUp self.new.session) }
+        ensures settled { port_settled self.new ≡ port_settled self.old }
+        ensures next { next_of self.new.session.port ≡ next_of self.old.session.port }
+        ensures up { IfOk result (λ t. IsUp self.new.session.port) }
         ensures err { OnErr result (self.new ≡ self.old) }
     {
         self.session.send(alloc, message, at)
@@ -126,15 +155,16 @@ impl PortLine {
 
     /// The payload that was delivered last is at fault at the order level.
     pub fn fail(&mut self, alloc: Global, fault: PortFault) -> Result<PortTurn, AllocError>
-        requires up { IsUp self.old.session }
+        requires up { IsUp self.old.session.port }
         ensures leaves { IfOk result (λ t. (s : Settings) (p : ℕ) (calls : List PortCall)
-            → PortLeaves s p calls self.old.session
-            → PortLeaves s p (Fail fault ∷ calls) self.new.session) }
+            → PortLeaves s p calls self.old.session.port
+            → PortLeaves s p (Fail fault ∷ calls) self.new.session.port) }
         ensures answers { IfOk result (λ t. (s : Settings) (p : ℕ) (calls : List PortCall)
-            → PortLeaves s p calls self.old.session
+            → PortLeaves s p calls self.old.session.port
             → IsAnswer (port_answer s p calls (Fail fault)) t) }
         ensures link { self.new.link ≡ self.old.link }
-        ensures next { next_of self.new.session ≡ next_of self.old.session }
+        ensures settled { port_settled self.new ≡ port_settled self.old }
+        ensures next { next_of self.new.session.port ≡ next_of self.old.session.port }
         ensures err { OnErr result (self.new ≡ self.old) }
     {
         self.session.fail(alloc, fault)
@@ -142,8 +172,8 @@ impl PortLine {
 
     /// How the port stands.
     pub fn state(&self) -> PortState
-        ensures now { result ≡ self.now.session.state }
-        ensures state { (s : Settings) (p : ℕ) (calls : List PortCall) → PortLeaves s p calls self.now.session
+        ensures now { result ≡ self.now.session.port.state }
+        ensures state { (s : Settings) (p : ℕ) (calls : List PortCall) → PortLeaves s p calls self.now.session.port
             → result ≡ port_state s p calls }
     {
         self.session.state()

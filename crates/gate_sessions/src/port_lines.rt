@@ -1,13 +1,14 @@
 //! Calls on the port's line at a place.
 
 ghost use Rattle.std.specs.Prelude.{◌≡◌, ◌<◌, ◌≤◌, ◌+◌, ◌-◌, ◌^◌, ℕ, List, ◌∷◌, Option, Some, None, IfOk, OnErr};
-ghost use Rattle.std.specs.Prelude.{length, slice_get, slice_set};
+ghost use Rattle.std.specs.Prelude.{length, map, slice_get, slice_set};
 ghost use Rattle.soup_session.specs.Table.{PortCall, OnUp, OnPacket, OnGone, OnTick, Send, Fail};
 ghost use Rattle.soup_session.specs.Calls.{IsAnswer, PortHasRoom, IsUp};
 ghost use Rattle.gate_law.specs.Settings.{Settings};
 ghost use Rattle.gate_law.specs.Sessions.{port_answer};
 ghost use Rattle.gate_sessions.specs.Leaving.{PortLeaves};
 ghost use Rattle.gate_sessions.specs.Lines.{PortsLeave, PortLinks, NextWithin, IsUpAt, called, link_set};
+ghost use Rattle.gate_sessions.specs.Lines.{PortStands, PortsSettledAs, port_now, port_settled};
 
 use crate::port_line::PortLine;
 use soup_packets::Packet;
@@ -30,6 +31,8 @@ pub fn port_up(
     ensures links { IfOk result (λ t. (links : ℕ → Option ℕ) → PortLinks links lines.old.items
         → PortLinks (link_set (place + 1) (Some link) links) lines.new.items) }
     ensures next { (n : ℕ) → NextWithin n lines.old.items → NextWithin n lines.new.items }
+    ensures settled { (was : ℕ → PortStands) → PortsSettledAs was lines.old.items
+        → PortsSettledAs was lines.new.items }
     ensures length { length lines.new.items ≡ length lines.old.items }
 {
     lines[place].up(alloc, link, at)
@@ -43,6 +46,8 @@ pub fn port_gone(lines: &mut Vec<PortLine>, place: usize)
     ensures links { (links : ℕ → Option ℕ) → PortLinks links lines.old.items
         → PortLinks (link_set (place + 1) None links) lines.new.items }
     ensures next { (n : ℕ) → NextWithin n lines.old.items → NextWithin n lines.new.items }
+    ensures settled { (was : ℕ → PortStands) → PortsSettledAs was lines.old.items
+        → PortsSettledAs was lines.new.items }
     ensures length { length lines.new.items ≡ length lines.old.items }
 {
     lines[place].gone();
@@ -56,6 +61,8 @@ pub fn port_close(lines: &mut Vec<PortLine>, place: usize)
     ensures links { (links : ℕ → Option ℕ) → PortLinks links lines.old.items
         → PortLinks (link_set (place + 1) None links) lines.new.items }
     ensures next { (n : ℕ) → NextWithin n lines.old.items → NextWithin n lines.new.items }
+    ensures settled { (was : ℕ → PortStands) → PortsSettledAs was lines.old.items
+        → PortsSettledAs was lines.new.items }
     ensures length { length lines.new.items ≡ length lines.old.items }
 {
     lines[place].close();
@@ -77,6 +84,8 @@ pub fn port_packet(
         → IsAnswer (port_answer s (place + 1) (calls (place + 1)) (OnPacket packet.now at)) t) }
     ensures links { (links : ℕ → Option ℕ) → PortLinks links lines.old.items → PortLinks links lines.new.items }
     ensures next { (n : ℕ) → NextWithin n lines.old.items → NextWithin (n + 1) lines.new.items }
+    ensures settled { (was : ℕ → PortStands) → PortsSettledAs was lines.old.items
+        → PortsSettledAs was lines.new.items }
     ensures length { length lines.new.items ≡ length lines.old.items }
 {
     lines[place].packet(alloc, packet, at)
@@ -96,6 +105,8 @@ pub fn port_tick(
         → IsAnswer (port_answer s (place + 1) (calls (place + 1)) (OnTick at)) t) }
     ensures links { (links : ℕ → Option ℕ) → PortLinks links lines.old.items → PortLinks links lines.new.items }
     ensures next { (n : ℕ) → NextWithin n lines.old.items → NextWithin n lines.new.items }
+    ensures settled { (was : ℕ → PortStands) → PortsSettledAs was lines.old.items
+        → PortsSettledAs was lines.new.items }
     ensures length { length lines.new.items ≡ length lines.old.items }
 {
     lines[place].tick(alloc, at)
@@ -119,6 +130,8 @@ pub fn port_send(
     ensures links { (links : ℕ → Option ℕ) → PortLinks links lines.old.items → PortLinks links lines.new.items }
     ensures next { (n : ℕ) → NextWithin n lines.old.items → NextWithin n lines.new.items }
     ensures up { IfOk result (λ t. IsUpAt place lines.new.items) }
+    ensures settled { (was : ℕ → PortStands) → PortsSettledAs was lines.old.items
+        → PortsSettledAs was lines.new.items }
     ensures length { length lines.new.items ≡ length lines.old.items }
 {
     lines[place].send(alloc, message, at)
@@ -139,7 +152,29 @@ pub fn port_fail(
         → IsAnswer (port_answer s (place + 1) (calls (place + 1)) (Fail fault)) t) }
     ensures links { (links : ℕ → Option ℕ) → PortLinks links lines.old.items → PortLinks links lines.new.items }
     ensures next { (n : ℕ) → NextWithin n lines.old.items → NextWithin n lines.new.items }
+    ensures settled { (was : ℕ → PortStands) → PortsSettledAs was lines.old.items
+        → PortsSettledAs was lines.new.items }
     ensures length { length lines.new.items ≡ length lines.old.items }
 {
     lines[place].fail(alloc, fault)
+}
+
+/// Each line can be put back to how it is now.
+pub fn ports_settle(lines: &mut [PortLine])
+    ensures now { map port_now lines.new ≡ map port_now lines.old }
+    ensures settled { map port_settled lines.new ≡ map port_now lines.old }
+{
+    for line in lines.iter_mut() {
+        line.settle();
+    }
+}
+
+/// Each line is as it was when it was settled last.
+pub fn ports_undo(lines: &mut [PortLine])
+    ensures now { map port_now lines.new ≡ map port_settled lines.old }
+    ensures settled { map port_settled lines.new ≡ map port_settled lines.old }
+{
+    for line in lines.iter_mut() {
+        line.undo();
+    }
 }

@@ -6,6 +6,7 @@ ghost use Rattle.soup_session.specs.Table.{PortCall, Send};
 ghost use Rattle.gate_law.specs.Settings.{Settings};
 ghost use Rattle.gate_law.specs.Sessions.{port_answer, port_outs, sends};
 ghost use Rattle.gate_sessions.specs.Lines.{PortsLeave, PortLinks, NextWithin, IsUpAt, called, called_all};
+ghost use Rattle.gate_sessions.specs.Lines.{PortStands, PortsSettledAs};
 
 use crate::port_line::PortLine;
 use crate::port_lines::port_send;
@@ -33,6 +34,8 @@ pub fn port_send_all(
     ensures links { (links : ℕ → Option ℕ) → PortLinks links lines.old.items → PortLinks links lines.new.items }
     ensures next { (n : ℕ) → NextWithin n lines.old.items → NextWithin n lines.new.items }
     ensures up { IfOk result (λ outs. IsUpAt place lines.new.items) }
+    ensures settled { (was : ℕ → PortStands) → PortsSettledAs was lines.old.items
+        → PortsSettledAs was lines.new.items }
     ensures length { length lines.new.items ≡ length lines.old.items }
 {
     let mut outs = Vec::new(alloc);
@@ -61,6 +64,8 @@ fn send_one(
     ensures links { (links : ℕ → Option ℕ) → PortLinks links lines.old.items → PortLinks links lines.new.items }
     ensures next { (n : ℕ) → NextWithin n lines.old.items → NextWithin n lines.new.items }
     ensures up { IfOk result (λ u. IsUpAt place lines.new.items) }
+    ensures settled { (was : ℕ → PortStands) → PortsSettledAs was lines.old.items
+        → PortsSettledAs was lines.new.items }
     ensures length { length lines.new.items ≡ length lines.old.items }
 {
     let bytes = bytes_of(alloc, message)?;

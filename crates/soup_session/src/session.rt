@@ -20,18 +20,21 @@ use wire_law::padded;
 /// Contracts speak of all its calls: `Leaves terms calls session` says that these calls, the newest first, leave it
 /// so. Then each call gives what the table has for it (`answers`), and the session is what the calls with this one
 /// leave (`leaves`). Moments are in milliseconds and are handed in; one that goes back counts as no time passed.
-/// After an error, which is always that memory ran out, the session is as it was.
+/// After an error, which is always that memory ran out, the session is as it was. `settle` and `undo` put calls back
+/// that succeeded: how it was when it was settled is kept beside how it is, and no call but these two changes it.
 #[derive(Debug, Drop)]
 pub struct PortSession {
     port: Port,
+    /// How it was when it was settled last.
+    settled: Port,
 }
 
 impl Model for PortSession {
-    ghost use Rattle.soup_session.specs.declared.machine.Port.{Port};
+    ghost use Rattle.soup_session.specs.Calls.{PortHeld};
 
-    ghost Value = { Port };
+    ghost Value = { PortHeld };
 
-    ghost view = { λ s. s.port };
+    ghost view = { λ s. record { port = s.port; settled = s.settled } };
 }
 
 impl PortSession {
@@ -40,27 +43,46 @@ impl PortSession {
     pub fn new(user: &[u8], password: &[u8]) -> PortSession
         requires user { (1 ≤ length user.now) × (length user.now ≤ 6) }
         requires password { length password.now ≤ 10 }
-        ensures leaves { CallsLeave (record { user = user.now; password = password.now }) [] result }
-        ensures next { next_of result ≡ 1 }
+        ensures leaves { CallsLeave (record { user = user.now; password = password.now }) [] result.port }
+        ensures next { next_of result.port ≡ 1 }
+        ensures settled { result.settled ≡ result.port }
     {
+        let port = Port {
+            user: padded(user),
+            password: padded(password),
+            state: PortState::Down,
+            session: [b' '; 10],
+            next: 1,
+            repeats: 0,
+            now: 0,
+            heard: 0,
+            sent: 0,
+        };
         PortSession {
-            port: Port {
-                user: padded(user),
-                password: padded(password),
-                state: PortState::Down,
-                session: [b' '; 10],
-                next: 1,
-                repeats: 0,
-                now: 0,
-                heard: 0,
-                sent: 0,
-            },
+            port,
+            settled: port,
         }
+    }
+
+    /// It can be put back to how it is now. Takes no memory.
+    pub fn settle(&mut self)
+        ensures { self.new ≡ record self.old { settled = self.old.port } }
+    {
+        let port = self.port;
+        self.settled = port;
+    }
+
+    /// It is as it was when it was settled last, before that as it was at first. Takes no memory.
+    pub fn undo(&mut self)
+        ensures { self.new ≡ record self.old { port = self.old.settled } }
+    {
+        let settled = self.settled;
+        self.port = settled;
     }
 
     /// The memory is this one now.
     fn take(&mut self, answered: Answered) -> PortTurn
-        ensures port { self.new ≡ answered.port }
+        ensures port { self.new ≡ record self.old { port = answered.port } }
         ensures outs { result.outs ≡ answered.outs }
         ensures payload { result.payload ≡ answered.payload }
     {
@@ -77,12 +99,13 @@ impl PortSession {
     /// Source: SoupBinTCP 3.00, "Login Request Packet".
     pub fn on_up(&mut self, alloc: Global, at: u64) -> Result<PortTurn, AllocError>
         ensures leaves { IfOk result (λ t. (terms : LoginTerms) (before : List PortCall)
-            → CallsLeave terms before self.old
-            → CallsLeave terms (OnUp at ∷ before) self.new) }
+            → CallsLeave terms before self.old.port
+            → CallsLeave terms (OnUp at ∷ before) self.new.port) }
         ensures answers { IfOk result (λ t. (terms : LoginTerms) (before : List PortCall)
-            → CallsLeave terms before self.old
+            → CallsLeave terms before self.old.port
             → IsAnswer (answer terms before (OnUp at)) t) }
-        ensures next { next_of self.new ≡ next_of self.old }
+        ensures next { next_of self.new.port ≡ next_of self.old.port }
+        ensures settled { self.new.settled ≡ self.old.settled }
         ensures err { OnErr result (self.new ≡ self.old) }
     {
         let answered = on_up(alloc, self.port, at)?;
@@ -102,17 +125,18 @@ impl PortSession {
         packet: &Packet,
         at: u64,
     ) -> Result<PortTurn, AllocError>
-        requires room { PortHasRoom self.old }
+        requires room { PortHasRoom self.old.port }
         ensures leaves { IfOk result (λ t. (terms : LoginTerms) (before : List PortCall)
-            → CallsLeave terms before self.old
-            → CallsLeave terms (OnPacket packet.now at ∷ before) self.new) }
+            → CallsLeave terms before self.old.port
+            → CallsLeave terms (OnPacket packet.now at ∷ before) self.new.port) }
         ensures answers { IfOk result (λ t. (terms : LoginTerms) (before : List PortCall)
-            → CallsLeave terms before self.old
+            → CallsLeave terms before self.old.port
             → IsAnswer (answer terms before (OnPacket packet.now at)) t) }
         ensures delivered { IfOk result (λ t. (terms : LoginTerms) (before : List PortCall)
-            → CallsLeave terms before self.old
+            → CallsLeave terms before self.old.port
             → DeliversEachOnce terms (OnPacket packet.now at ∷ before)) }
-        ensures next { next_of self.new ≤ next_of self.old + 1 }
+        ensures next { next_of self.new.port ≤ next_of self.old.port + 1 }
+        ensures settled { self.new.settled ≡ self.old.settled }
         ensures err { OnErr result (self.new ≡ self.old) }
     {
         let answered = on_packet(alloc, self.port, packet, at)?;
@@ -121,9 +145,10 @@ impl PortSession {
 
     /// The link is gone. An ended or faulted port stays so.
     pub fn on_gone(&mut self)
-        ensures leaves { (terms : LoginTerms) (before : List PortCall) → CallsLeave terms before self.old
-            → CallsLeave terms (OnGone ∷ before) self.new }
-        ensures next { next_of self.new ≡ next_of self.old }
+        ensures leaves { (terms : LoginTerms) (before : List PortCall) → CallsLeave terms before self.old.port
+            → CallsLeave terms (OnGone ∷ before) self.new.port }
+        ensures next { next_of self.new.port ≡ next_of self.old.port }
+        ensures settled { self.new.settled ≡ self.old.settled }
     {
         let port = on_gone(self.port);
         self.port = port;
@@ -135,12 +160,13 @@ impl PortSession {
     /// Source: SoupBinTCP 3.00, "Heartbeats".
     pub fn on_tick(&mut self, alloc: Global, at: u64) -> Result<PortTurn, AllocError>
         ensures leaves { IfOk result (λ t. (terms : LoginTerms) (before : List PortCall)
-            → CallsLeave terms before self.old
-            → CallsLeave terms (OnTick at ∷ before) self.new) }
+            → CallsLeave terms before self.old.port
+            → CallsLeave terms (OnTick at ∷ before) self.new.port) }
         ensures answers { IfOk result (λ t. (terms : LoginTerms) (before : List PortCall)
-            → CallsLeave terms before self.old
+            → CallsLeave terms before self.old.port
             → IsAnswer (answer terms before (OnTick at)) t) }
-        ensures next { next_of self.new ≡ next_of self.old }
+        ensures next { next_of self.new.port ≡ next_of self.old.port }
+        ensures settled { self.new.settled ≡ self.old.settled }
         ensures err { OnErr result (self.new ≡ self.old) }
     {
         let answered = on_tick(alloc, self.port, at)?;
@@ -151,16 +177,17 @@ impl PortSession {
     ///
     /// Source: SoupBinTCP 3.00, "Unsequenced Data Packet".
     pub fn send(&mut self, alloc: Global, message: &[u8], at: u64) -> Result<PortTurn, AllocError>
-        requires up { IsUp self.old }
+        requires up { IsUp self.old.port }
         requires most { length message.now ≤ 65_534 }
         ensures leaves { IfOk result (λ t. (terms : LoginTerms) (before : List PortCall)
-            → CallsLeave terms before self.old
-            → CallsLeave terms (Send message.now at ∷ before) self.new) }
+            → CallsLeave terms before self.old.port
+            → CallsLeave terms (Send message.now at ∷ before) self.new.port) }
         ensures answers { IfOk result (λ t. (terms : LoginTerms) (before : List PortCall)
-            → CallsLeave terms before self.old
+            → CallsLeave terms before self.old.port
             → IsAnswer (answer terms before (Send message.now at)) t) }
-        ensures next { next_of self.new ≡ next_of self.old }
-        ensures up { IfOk result (λ t. IsUp self.new) }
+        ensures next { next_of self.new.port ≡ next_of self.old.port }
+        ensures settled { self.new.settled ≡ self.old.settled }
+        ensures up { IfOk result (λ t. IsUp self.new.port) }
         ensures err { OnErr result (self.new ≡ self.old) }
     {
         let answered = send(alloc, self.port, message, at)?;
@@ -170,14 +197,15 @@ impl PortSession {
     /// The payload that was delivered last is at fault at the order level: the link is closed, and the port stays
     /// faulted.
     pub fn fail(&mut self, alloc: Global, fault: PortFault) -> Result<PortTurn, AllocError>
-        requires up { IsUp self.old }
+        requires up { IsUp self.old.port }
         ensures leaves { IfOk result (λ t. (terms : LoginTerms) (before : List PortCall)
-            → CallsLeave terms before self.old
-            → CallsLeave terms (Fail fault ∷ before) self.new) }
+            → CallsLeave terms before self.old.port
+            → CallsLeave terms (Fail fault ∷ before) self.new.port) }
         ensures answers { IfOk result (λ t. (terms : LoginTerms) (before : List PortCall)
-            → CallsLeave terms before self.old
+            → CallsLeave terms before self.old.port
             → IsAnswer (answer terms before (Fail fault)) t) }
-        ensures next { next_of self.new ≡ next_of self.old }
+        ensures next { next_of self.new.port ≡ next_of self.old.port }
+        ensures settled { self.new.settled ≡ self.old.settled }
         ensures err { OnErr result (self.new ≡ self.old) }
     {
         let answered = closes(alloc, self.port, PortState::Faulted(fault))?;
@@ -186,8 +214,8 @@ impl PortSession {
 
     /// How the port stands. Takes no memory.
     pub fn state(&self) -> PortState
-        ensures now { result ≡ self.now.state }
-        ensures state { (terms : LoginTerms) (before : List PortCall) → CallsLeave terms before self.now
+        ensures now { result ≡ self.now.port.state }
+        ensures state { (terms : LoginTerms) (before : List PortCall) → CallsLeave terms before self.now.port
             → result ≡ (standing terms before).state }
     {
         self.port.state
@@ -195,8 +223,8 @@ impl PortSession {
 
     /// The number of the next payload that is wanted. Takes no memory.
     pub fn next(&self) -> u64
-        ensures now { result ≡ next_of self.now }
-        ensures next { (terms : LoginTerms) (before : List PortCall) → CallsLeave terms before self.now
+        ensures now { result ≡ next_of self.now.port }
+        ensures next { (terms : LoginTerms) (before : List PortCall) → CallsLeave terms before self.now.port
             → result ≡ wanted (standing terms before) }
     {
         self.port.next
@@ -204,7 +232,7 @@ impl PortSession {
 
     /// The session of the last login, ten spaces before the first. Takes no memory.
     pub fn session(&self) -> [u8; 10]
-        ensures { (terms : LoginTerms) (before : List PortCall) → CallsLeave terms before self.now
+        ensures { (terms : LoginTerms) (before : List PortCall) → CallsLeave terms before self.now.port
             → result ≡ (standing terms before).session }
     {
         self.port.session

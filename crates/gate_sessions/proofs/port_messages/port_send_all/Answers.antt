@@ -26,6 +26,7 @@ loop-message-preserved c =
           ∙ ap (λ (cs : List PortCall). port_outs s n (calls n) cs) (sym more);
       links = λ links k. c.send_one.ensures.links links (so_far.links links k);
       next = λ m k. c.send_one.ensures.next m (so_far.next m k);
+      settled = λ was k. c.send_one.ensures.settled was (so_far.settled was k);
       up = this.up;
       length = c.send_one.ensures.length ∙ so_far.length;
     }
@@ -35,3 +36,6 @@ returns-in_err-send_one-clause-links c = λ links k. c.send_one.ensures.links li
 
 pub returns-in_err-send_one-clause-next : goal.returns-in_err-send_one-clause-next
 returns-in_err-send_one-clause-next c = λ m k. c.send_one.ensures.next m (c.loop-message.invariant.next m k)
+
+pub returns-in_err-send_one-clause-settled : goal.returns-in_err-send_one-clause-settled
+returns-in_err-send_one-clause-settled c = λ was k. c.send_one.ensures.settled was (c.loop-message.invariant.settled was k)

@@ -3,7 +3,7 @@ use Rattle.ouch_codec.specs.Inbound.{inbound_bytes}
 use Rattle.soup_session.specs.Table.{PortCall}
 use Rattle.gate_law.specs.Settings.{Settings}
 use Rattle.gate_law.specs.Sessions.{port_outs, sends}
-use Rattle.gate_sessions.specs.Lines.{PortsLeave, PortLinks, NextWithin, IsUpAt, called_all}
+use Rattle.gate_sessions.specs.Lines.{PortStands, PortsSettledAs, PortsLeave, PortLinks, NextWithin, IsUpAt, called_all}
 use Rattle.gate_sessions.proofs.port_messages.port_send_all.Given as goal
 
 -- the clauses, of the messages so far
@@ -15,6 +15,7 @@ invariant-loop-message l = record {
       → l.outs.items ≡ port_outs s (l.place + 1) (calls (l.place + 1)) (sends l.at (map inbound_bytes (take l.message-index l.messages)));
   links : (links : ℕ → Option ℕ) → PortLinks links l.fn.lines.items → PortLinks links l.lines.items;
   next : (n : ℕ) → NextWithin n l.fn.lines.items → NextWithin n l.lines.items;
+  settled : (was : ℕ → PortStands) → PortsSettledAs was l.fn.lines.items → PortsSettledAs was l.lines.items;
   up : IsUpAt l.place l.lines.items;
   length : length l.lines.items ≡ length l.fn.lines.items;
 }

@@ -17,17 +17,17 @@ use Rattle.gate_law.proofs.Messages.{reads-after}
 use Rattle.gate_core.proofs.parts.Parts.fault.Goals as goal
 
 pub returns-in_err-turn-in-Up-clause-grows : goal.returns-in_err-turn-in-Up-clause-grows
-returns-in_err-turn-in-Up-clause-grows c = ports-grow c.args.self.now _ c.port_fail.ensures.length c.port_fail.ensures.next refl refl refl
+returns-in_err-turn-in-Up-clause-grows c = ports-grow c.args.self.now _ c.port_fail.ensures.length c.port_fail.ensures.next c.port_fail.ensures.settled refl refl refl
 
 pub returns-in_err-port_out-in-Up-clause-grows : goal.returns-in_err-port_out-in-Up-clause-grows
 returns-in_err-port_out-in-Up-clause-grows c =
     ports-grow c.args.self.now _ (c.told_port.ensures.length ∙ c.port_fail.ensures.length)
-    (λ n within. c.told_port.ensures.next n (c.port_fail.ensures.next n within)) refl refl refl
+    (λ n within. c.told_port.ensures.next n (c.port_fail.ensures.next n within)) (λ was kept. c.told_port.ensures.settled was (c.port_fail.ensures.settled was kept)) refl refl refl
 
 pub returns-in_ok-port_out-in-Up-clause-grows : goal.returns-in_ok-port_out-in-Up-clause-grows
 returns-in_ok-port_out-in-Up-clause-grows c =
     ports-grow c.args.self.now _ (c.told_port.ensures.length ∙ c.port_fail.ensures.length)
-    (λ n within. c.told_port.ensures.next n (c.port_fail.ensures.next n within)) refl refl refl
+    (λ n within. c.told_port.ensures.next n (c.port_fail.ensures.next n within)) (λ was kept. c.told_port.ensures.settled was (c.port_fail.ensures.settled was kept)) refl refl refl
 
 pub returns-in_ok-port_out-in-Up-clause-step : goal.returns-in_ok-port_out-in-Up-clause-step
 returns-in_ok-port_out-in-Up-clause-step c s v link at packet payload g given faulty =
@@ -58,5 +58,5 @@ returns-in_default c = record {
       let down : is_up (port_state s p calls) ≡ false = ap is_up (sym (c.state.ensures.state s p calls leaves)) ∙ not-up c.state.result c.in_default.not-Up in
       let up : is_up (port_state s p calls) ≡ true = up-after s p link at packet payload c.args.said.now v g given in
       absurd (let clash : true ≡ false = sym up ∙ down in cc);
-  grows = ports-grow c.args.self.now c.args.self.now refl (λ n within. within) refl refl refl;
+  grows = ports-grow c.args.self.now c.args.self.now refl (λ n within. within) (λ was kept. kept) refl refl refl;
 }

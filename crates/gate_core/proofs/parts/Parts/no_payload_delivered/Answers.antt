@@ -43,10 +43,10 @@ pub returns-in_err-outs-clause-grows : goal.returns-in_err-outs-clause-grows
 returns-in_err-outs-clause-grows c =
     let between = c.send_again.new.self in
     let new : Parts = record { clients = between.clients; ports = c.told_port.new.lines; client_ports = between.client_ports; orders = between.orders } in
-    grows-then 0 0 0 0 c.args.self.now between new c.send_again.ensures.grows (ports-grow between new c.told_port.ensures.length c.told_port.ensures.next refl refl refl)
+    grows-then 0 0 0 0 c.args.self.now between new c.send_again.ensures.grows (ports-grow between new c.told_port.ensures.length c.told_port.ensures.next c.told_port.ensures.settled refl refl refl)
 
 pub returns-clause-grows : goal.returns-clause-grows
 returns-clause-grows c =
     let between = c.send_again.new.self in
     let new : Parts = record { clients = between.clients; ports = c.told_port.new.lines; client_ports = between.client_ports; orders = between.orders } in
-    grows-then 0 0 0 0 c.args.self.now between new c.send_again.ensures.grows (ports-grow between new c.told_port.ensures.length c.told_port.ensures.next refl refl refl)
+    grows-then 0 0 0 0 c.args.self.now between new c.send_again.ensures.grows (ports-grow between new c.told_port.ensures.length c.told_port.ensures.next c.told_port.ensures.settled refl refl refl)

@@ -23,4 +23,4 @@ returns-clause-step c s v ready =
 pub returns-clause-grows : goal.returns-clause-grows
 returns-clause-grows c =
     let new : Parts = record { clients = c.args.self.now.clients; ports = c.port_gone.new.lines; client_ports = c.args.self.now.client_ports; orders = c.args.self.now.orders } in
-    ports-grow c.args.self.now new c.port_gone.ensures.length c.port_gone.ensures.next refl refl refl
+    ports-grow c.args.self.now new c.port_gone.ensures.length c.port_gone.ensures.next c.port_gone.ensures.settled refl refl refl

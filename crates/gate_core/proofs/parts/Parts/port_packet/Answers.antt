@@ -32,7 +32,7 @@ returns-in-Some-payload-clause-step c =
 
 pub returns-in-Some-payload-clause-grows : goal.returns-in-Some-payload-clause-grows
 returns-in-Some-payload-clause-grows c =
-    grows-then 0 1 3 0 _ _ _ (packets-grow 1 c.args.self.now _ c.port_packet.ensures.length c.port_packet.ensures.next refl refl refl) c.payload_delivered.ensures.grows
+    grows-then 0 1 3 0 _ _ _ (packets-grow 1 c.args.self.now _ c.port_packet.ensures.length c.port_packet.ensures.next c.port_packet.ensures.settled refl refl refl) c.payload_delivered.ensures.grows
 
 pub returns-in-None-clause-step : goal.returns-in-None-clause-step
 returns-in-None-clause-step c =
@@ -54,4 +54,4 @@ returns-in-None-clause-step c =
 pub returns-in-None-clause-grows : goal.returns-in-None-clause-grows
 returns-in-None-clause-grows c =
     grows-within 0 3 1 _ _ (omega arith)
-    (grows-then 0 1 0 0 _ _ _ (packets-grow 1 c.args.self.now _ c.port_packet.ensures.length c.port_packet.ensures.next refl refl refl) c.no_payload_delivered.ensures.grows)
+    (grows-then 0 1 0 0 _ _ _ (packets-grow 1 c.args.self.now _ c.port_packet.ensures.length c.port_packet.ensures.next c.port_packet.ensures.settled refl refl refl) c.no_payload_delivered.ensures.grows)

@@ -37,14 +37,14 @@ returns-clause-step c s v ready =
 pub returns-in_err-turn-clause-grows : goal.returns-in_err-turn-clause-grows
 returns-in_err-turn-clause-grows c =
     let new : Parts = record { clients = c.args.self.now.clients; ports = c.port_tick.new.lines; client_ports = c.args.self.now.client_ports; orders = c.args.self.now.orders } in
-    ports-grow c.args.self.now new c.port_tick.ensures.length c.port_tick.ensures.next refl refl refl
+    ports-grow c.args.self.now new c.port_tick.ensures.length c.port_tick.ensures.next c.port_tick.ensures.settled refl refl refl
 
 pub returns-in_err-outs-clause-grows : goal.returns-in_err-outs-clause-grows
 returns-in_err-outs-clause-grows c =
     let new : Parts = record { clients = c.args.self.now.clients; ports = c.told_port.new.lines; client_ports = c.args.self.now.client_ports; orders = c.args.self.now.orders } in
-    ports-grow c.args.self.now new (c.told_port.ensures.length ∙ c.port_tick.ensures.length) (λ n within. c.told_port.ensures.next n (c.port_tick.ensures.next n within)) refl refl refl
+    ports-grow c.args.self.now new (c.told_port.ensures.length ∙ c.port_tick.ensures.length) (λ n within. c.told_port.ensures.next n (c.port_tick.ensures.next n within)) (λ was kept. c.told_port.ensures.settled was (c.port_tick.ensures.settled was kept)) refl refl refl
 
 pub returns-clause-grows : goal.returns-clause-grows
 returns-clause-grows c =
     let new : Parts = record { clients = c.args.self.now.clients; ports = c.told_port.new.lines; client_ports = c.args.self.now.client_ports; orders = c.args.self.now.orders } in
-    ports-grow c.args.self.now new (c.told_port.ensures.length ∙ c.port_tick.ensures.length) (λ n within. c.told_port.ensures.next n (c.port_tick.ensures.next n within)) refl refl refl
+    ports-grow c.args.self.now new (c.told_port.ensures.length ∙ c.port_tick.ensures.length) (λ n within. c.told_port.ensures.next n (c.port_tick.ensures.next n within)) (λ was kept. c.told_port.ensures.settled was (c.port_tick.ensures.settled was kept)) refl refl refl

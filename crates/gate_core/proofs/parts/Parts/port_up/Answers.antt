@@ -63,14 +63,14 @@ returns-in-Some-2-clause-step c =
 pub returns-in_err-turn-in-None-clause-grows : goal.returns-in_err-turn-in-None-clause-grows
 returns-in_err-turn-in-None-clause-grows c =
     let new : Parts = record { clients = c.args.self.now.clients; ports = c.port_up.new.lines; client_ports = c.args.self.now.client_ports; orders = c.args.self.now.orders } in
-    ports-grow c.args.self.now new c.port_up.ensures.length c.port_up.ensures.next refl refl refl
+    ports-grow c.args.self.now new c.port_up.ensures.length c.port_up.ensures.next c.port_up.ensures.settled refl refl refl
 
 pub returns-in_err-outs-in-None-clause-grows : goal.returns-in_err-outs-in-None-clause-grows
 returns-in_err-outs-in-None-clause-grows c =
     let new : Parts = record { clients = c.args.self.now.clients; ports = c.told_port.new.lines; client_ports = c.args.self.now.client_ports; orders = c.args.self.now.orders } in
-    ports-grow c.args.self.now new (c.told_port.ensures.length ∙ c.port_up.ensures.length) (λ n within. c.told_port.ensures.next n (c.port_up.ensures.next n within)) refl refl refl
+    ports-grow c.args.self.now new (c.told_port.ensures.length ∙ c.port_up.ensures.length) (λ n within. c.told_port.ensures.next n (c.port_up.ensures.next n within)) (λ was kept. c.told_port.ensures.settled was (c.port_up.ensures.settled was kept)) refl refl refl
 
 pub returns-in_ok-outs-in-None-clause-grows : goal.returns-in_ok-outs-in-None-clause-grows
 returns-in_ok-outs-in-None-clause-grows c =
     let new : Parts = record { clients = c.args.self.now.clients; ports = c.told_port.new.lines; client_ports = c.args.self.now.client_ports; orders = c.args.self.now.orders } in
-    ports-grow c.args.self.now new (c.told_port.ensures.length ∙ c.port_up.ensures.length) (λ n within. c.told_port.ensures.next n (c.port_up.ensures.next n within)) refl refl refl
+    ports-grow c.args.self.now new (c.told_port.ensures.length ∙ c.port_up.ensures.length) (λ n within. c.told_port.ensures.next n (c.port_up.ensures.next n within)) (λ was kept. c.told_port.ensures.settled was (c.port_up.ensures.settled was kept)) refl refl refl

@@ -9,7 +9,7 @@ use Rattle.gate_core.proofs.parts.Parts.send.Goals as goal
 
 pub returns-in_err-outs-in-Up-clause-grows : goal.returns-in_err-outs-in-Up-clause-grows
 returns-in_err-outs-in-Up-clause-grows c =
-    ports-grow c.args.self.now _ c.port_send_all.ensures.length c.port_send_all.ensures.next refl refl refl
+    ports-grow c.args.self.now _ c.port_send_all.ensures.length c.port_send_all.ensures.next c.port_send_all.ensures.settled refl refl refl
 
 pub returns-in_ok-outs-in-Up-clause-sent : goal.returns-in_ok-outs-in-Up-clause-sent
 returns-in_ok-outs-in-Up-clause-sent c s v parts only =
@@ -22,7 +22,7 @@ returns-in_ok-outs-in-Up-clause-sent c s v parts only =
 
 pub returns-in_ok-outs-in-Up-clause-grows : goal.returns-in_ok-outs-in-Up-clause-grows
 returns-in_ok-outs-in-Up-clause-grows c =
-    ports-grow c.args.self.now _ c.port_send_all.ensures.length c.port_send_all.ensures.next refl refl refl
+    ports-grow c.args.self.now _ c.port_send_all.ensures.length c.port_send_all.ensures.next c.port_send_all.ensures.settled refl refl refl
 
 pub returns-in_default : goal.returns-in_default
 returns-in_default c = record {
@@ -31,5 +31,5 @@ returns-in_default c = record {
       let stands = c.state.ensures.state s (c.args.place + 1) (v.port_calls (c.args.place + 1)) leaves in
       unsent s (c.args.place + 1) c.args.at (map inbound_bytes c.args.messages.now) c.new.result.items v c.args.self.now parts
       (only (ap is_up (sym stands) ∙ not-up c.state.result c.in_default.not-Up)) c.new.ensures.items;
-  grows = ports-grow c.args.self.now c.args.self.now refl (λ n within. within) refl refl refl;
+  grows = ports-grow c.args.self.now c.args.self.now refl (λ n within. within) (λ was kept. kept) refl refl refl;
 }

@@ -12,10 +12,10 @@ use Rattle.gate_law.proofs.Messages.{reads-after}
 use Rattle.gate_core.proofs.parts.Parts.tell_nobody.Goals as goal
 
 pub returns-in_err-port_out-clause-grows : goal.returns-in_err-port_out-clause-grows
-returns-in_err-port_out-clause-grows c = ports-grow c.args.self.now _ c.told_port.ensures.length c.told_port.ensures.next refl refl refl
+returns-in_err-port_out-clause-grows c = ports-grow c.args.self.now _ c.told_port.ensures.length c.told_port.ensures.next c.told_port.ensures.settled refl refl refl
 
 pub returns-clause-grows : goal.returns-clause-grows
-returns-clause-grows c = ports-grow c.args.self.now _ c.told_port.ensures.length c.told_port.ensures.next refl refl refl
+returns-clause-grows c = ports-grow c.args.self.now _ c.told_port.ensures.length c.told_port.ensures.next c.told_port.ensures.settled refl refl refl
 
 pub returns-clause-step : goal.returns-clause-step
 returns-clause-step c s v link at packet payload g given told =

@@ -1,13 +1,13 @@
 use Rattle.std.proofs.Common.{subst, sym}
 use Rattle.soup_session.specs.Table.{Fail}
-use Rattle.soup_session.specs.Calls.{CallsLeave}
+use Rattle.soup_session.specs.Calls.{CallsLeave, PortHeld}
 use Rattle.soup_session.proofs.Kept.{leaves_more, answers_call}
 use Rattle.soup_session.proofs.session.PortSession.fail.Goals as goal
 
 pub returns-clause-leaves : goal.returns-clause-leaves
 returns-clause-leaves c = λ terms before l.
-    rw c.take.ensures.port (leaves_more terms before c.self.inside.port (Fail c.args.fault) c.in_ok-answered.answered c.in_ok-answered.ensures (subst (CallsLeave terms before) (sym c.self.view_is) l))
+    rw c.take.ensures.port (leaves_more terms before c.self.inside.port (Fail c.args.fault) c.in_ok-answered.answered c.in_ok-answered.ensures (subst (λ (h : PortHeld). CallsLeave terms before h.port) (sym c.self.view_is) l))
 
 pub returns-clause-answers : goal.returns-clause-answers
 returns-clause-answers c = λ terms before l.
-    answers_call terms before c.self.inside.port (Fail c.args.fault) c.in_ok-answered.answered c.take.result c.in_ok-answered.ensures c.take.ensures.outs c.take.ensures.payload (subst (CallsLeave terms before) (sym c.self.view_is) l)
+    answers_call terms before c.self.inside.port (Fail c.args.fault) c.in_ok-answered.answered c.take.result c.in_ok-answered.ensures c.take.ensures.outs c.take.ensures.payload (subst (λ (h : PortHeld). CallsLeave terms before h.port) (sym c.self.view_is) l)

@@ -1,7 +1,6 @@
 use Rattle.std.proofs.Common.{◌≤◌, ◌+◌, ◌∷◌, subst, sym}
-use Rattle.soup_session.specs.declared.machine.Port.{Port}
 use Rattle.soup_session.specs.Table.{OnPacket}
-use Rattle.soup_session.specs.Calls.{CallsLeave}
+use Rattle.soup_session.specs.Calls.{CallsLeave, PortHeld}
 use Rattle.soup_session.proofs.Kept.{leaves_more, answers_call}
 use Rattle.soup_session.proofs.Delivers.{delivers_each_once}
 use Rattle.soup_session.proofs.Grows.{next_grows}
@@ -9,17 +8,17 @@ use Rattle.soup_session.proofs.session.PortSession.on_packet.Goals as goal
 
 pub returns-clause-leaves : goal.returns-clause-leaves
 returns-clause-leaves c = λ terms before l.
-    rw c.take.ensures.port (leaves_more terms before c.self.inside.port (OnPacket c.args.packet.now c.args.at) c.in_ok-answered.answered c.in_ok-answered.ensures (subst (CallsLeave terms before) (sym c.self.view_is) l))
+    rw c.take.ensures.port (leaves_more terms before c.self.inside.port (OnPacket c.args.packet.now c.args.at) c.in_ok-answered.answered c.in_ok-answered.ensures (subst (λ (h : PortHeld). CallsLeave terms before h.port) (sym c.self.view_is) l))
 
 pub returns-clause-answers : goal.returns-clause-answers
 returns-clause-answers c = λ terms before l.
-    answers_call terms before c.self.inside.port (OnPacket c.args.packet.now c.args.at) c.in_ok-answered.answered c.take.result c.in_ok-answered.ensures c.take.ensures.outs c.take.ensures.payload (subst (CallsLeave terms before) (sym c.self.view_is) l)
+    answers_call terms before c.self.inside.port (OnPacket c.args.packet.now c.args.at) c.in_ok-answered.answered c.take.result c.in_ok-answered.ensures c.take.ensures.outs c.take.ensures.payload (subst (λ (h : PortHeld). CallsLeave terms before h.port) (sym c.self.view_is) l)
 
 pub returns-clause-delivered : goal.returns-clause-delivered
 returns-clause-delivered c = λ terms before l.
-    delivers_each_once terms (OnPacket c.args.packet.now c.args.at ∷ before) c.in_ok-answered.answered.port (leaves_more terms before c.self.inside.port (OnPacket c.args.packet.now c.args.at) c.in_ok-answered.answered c.in_ok-answered.ensures (subst (CallsLeave terms before) (sym c.self.view_is) l))
+    delivers_each_once terms (OnPacket c.args.packet.now c.args.at ∷ before) c.in_ok-answered.answered.port (leaves_more terms before c.self.inside.port (OnPacket c.args.packet.now c.args.at) c.in_ok-answered.answered c.in_ok-answered.ensures (subst (λ (h : PortHeld). CallsLeave terms before h.port) (sym c.self.view_is) l))
 
 pub returns-clause-next : goal.returns-clause-next
 returns-clause-next c =
     let grown = next_grows c.self.inside.port c.args.packet.now c.args.at c.in_ok-answered.answered c.in_ok-answered.ensures in
-    rw c.take.ensures.port (subst (λ (p : Port). c.in_ok-answered.answered.port.next ≤ p.next + 1) c.self.view_is grown)
+    rw c.take.ensures.port (subst (λ (h : PortHeld). c.in_ok-answered.answered.port.next ≤ h.port.next + 1) c.self.view_is grown)

@@ -1,0 +1,3 @@
+pub mod Rings
+pub mod Ends
+pub use Rattle.gate_events.specs.Sources

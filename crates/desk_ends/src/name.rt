@@ -1,0 +1,22 @@
+//! The name of a desk.
+
+use std::marker::Brand;
+
+/// Names the rings of one desk, by position: of each inlet its ring and whose events go through it, of each outlet its
+/// ring and whom its lists are for. Who opens a desk picks the name.
+pub trait DeskName {
+    ghost use Rattle.std.specs.Prelude.{List};
+    ghost use Rattle.desk_ends.specs.Rings.{NamedInlet, NamedOutlet};
+
+    ghost inlets: { List NamedInlet };
+
+    ghost outlets: { List NamedOutlet };
+}
+
+impl DeskName for Brand {
+    ghost use Rattle.std.specs.Prelude.{[]};
+
+    ghost inlets = { [] };
+
+    ghost outlets = { [] };
+}

@@ -1,0 +1,91 @@
+//! The end by which one thread takes what a link is told.
+
+use crate::finished::{Finished, FinishedEnd};
+use crate::name::DeskName;
+use gate_events::{Recipient, Told};
+use rtrb::Consumer;
+use std::marker::{Model, PhantomData};
+
+/// The end by which one thread takes what the links of one client or port are told. Contracts see its position, for
+/// whom it is, what was taken and what it knows to lie in the ring.
+#[derive(Drop)]
+pub struct Outlet<K: DeskName> {
+    at: usize,
+    to: Recipient,
+    consumer: Consumer<Told>,
+    of: PhantomData<K>,
+}
+
+impl<K: DeskName> Model for Outlet<K> {
+    ghost use Rattle.std.specs.Prelude.{◌≡◌, Some, slice_get};
+    ghost use Rattle.rtrb.specs.Ring.{received, known_items};
+    ghost use Rattle.desk_ends.specs.Rings.{Taking, consumer_ring};
+
+    ghost Value = { Taking };
+
+    ghost view = { λ s. record {
+      at = s.at;
+      to = s.to;
+      took = received s.consumer;
+      ahead = known_items s.consumer;
+    } };
+
+    ghost invariant = { λ s. slice_get K.outlets s.at ≡ Some (record { to = s.to; ring = consumer_ring s.consumer }) };
+}
+
+impl<K: DeskName> Outlet<K> {
+    ghost use Rattle.std.specs.Prelude.{◌≡◌, ◌<◌, ◌++◌, [], ◌∷◌, Some, IfSome, IfNone, IsSome, length, slice_get};
+    ghost use Rattle.rtrb.specs.Ring.{received, known_items};
+    ghost use Rattle.desk_ends.specs.Rings.{consumer_ring, took_at};
+
+    /// The end of a ring through which nothing went yet, at its position.
+    pub fn new(at: usize, to: Recipient, consumer: Consumer<Told>) -> Outlet<K>
+        requires named { slice_get K.outlets at ≡ Some (record { to = to; ring = consumer_ring consumer }) }
+        requires empty { (received consumer ≡ []) × (known_items consumer ≡ []) }
+        ensures { (result.at ≡ at) × (result.to ≡ to) × (result.took ≡ []) × (result.ahead ≡ []) }
+    {
+        Outlet {
+            at,
+            to,
+            consumer,
+            of: PhantomData,
+        }
+    }
+
+    /// Its position among the desk's outlets.
+    pub fn position(&self) -> usize
+        ensures { result ≡ self.now.at }
+    {
+        self.at
+    }
+
+    /// Whose links its lists are for.
+    pub fn recipient(&self) -> Recipient
+        ensures { result ≡ self.now.to }
+    {
+        self.to
+    }
+
+    /// The next list, or none where this end knows of none.
+    pub fn take(&mut self) -> Option<Told>
+        ensures same { (self.new.at ≡ self.old.at) × (self.new.to ≡ self.old.to) }
+        ensures some { IfSome result (λ told. self.new.took ≡ self.old.took ++ told ∷ []) }
+        ensures none { IfNone result ((self.new.took ≡ self.old.took) × (self.new.ahead ≡ [])) }
+        ensures succeeds { 0 < length self.old.ahead → IsSome result }
+    {
+        self.consumer.pop().ok()
+    }
+
+    /// Ends the outlet, and tells what was taken.
+    pub fn finish(self) -> Finished<K>
+        ensures { result ≡ took_at self.at self.to self.took }
+    {
+        let Outlet {
+            at,
+            to,
+            consumer,
+            of: _,
+        } = self;
+        Finished::new(at, FinishedEnd::Took(to, consumer))
+    }
+}

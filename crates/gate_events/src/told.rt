@@ -1,0 +1,58 @@
+//! What one link is told by one batch, as a list.
+
+ghost use Rattle.std.specs.Prelude.{◌≡◌, IfOk, map};
+ghost use Rattle.gate_events.specs.Seen.{link_out_seen};
+
+use crate::batch::LinkOut;
+use std::alloc::{AllocError, Global};
+use std::marker::Model;
+
+/// What a link is told, in order. Contracts see the list.
+#[derive(Debug, Drop)]
+pub struct Told {
+    outs: Vec<LinkOut>,
+}
+
+impl Model for Told {
+    ghost use Rattle.std.specs.Prelude.{List, map};
+    ghost use Rattle.gate_law.specs.Events.{LinkOut};
+    ghost use Rattle.gate_events.specs.Seen.{link_out_seen};
+
+    ghost Value = { List LinkOut };
+
+    ghost view = { λ told. map link_out_seen told.outs.items };
+}
+
+impl Told {
+    /// This list. Takes no memory.
+    pub fn of(outs: Vec<LinkOut>) -> Told
+        ensures { result ≡ map link_out_seen outs.items }
+    {
+        Told { outs }
+    }
+
+    /// The same list once more.
+    pub fn copied(alloc: Global, outs: &[LinkOut]) -> Result<Told, AllocError>
+        ensures { IfOk result (λ told. told ≡ map link_out_seen outs.now) }
+    {
+        let mut told = Vec::with_capacity(alloc, outs.len())?;
+        for out in outs {
+            told.push(out.copied(alloc)?)?;
+        }
+        Ok(Told { outs: told })
+    }
+
+    /// The list. Takes no memory.
+    pub fn as_slice(&self) -> &[LinkOut]
+        ensures { map link_out_seen result.now ≡ self.now }
+    {
+        &self.outs
+    }
+
+    /// The list, moved out. Takes no memory.
+    pub fn into_outs(self) -> Vec<LinkOut>
+        ensures { map link_out_seen result.items ≡ self }
+    {
+        self.outs
+    }
+}
