@@ -86,3 +86,23 @@ fn a_trade_while_the_link_is_lost(rt: HostRuntime) -> Result<(), Fail> {
     assert!(rt; bytes_of(alloc, again.as_slice())?.is_empty());
     Ok(())
 }
+
+/// A market that begins anew hasn't the message that a session wants next: the login is refused, and the port is down.
+#[test]
+fn a_market_that_begins_anew(rt: HostRuntime) -> Result<(), Fail> {
+    let alloc = rt.alloc();
+    let mut session = PortSession::new(b"FEV001", b"PASSWORD");
+    let mut sim = Sim::new(alloc);
+    assert!(rt; connected(alloc, &mut session, &mut sim)?.is_empty());
+    for _ in 0..2 {
+        let packets = sim.say(alloc, b"S\0\0\0\0\0\0\0\0O")?;
+        heard(alloc, &mut session, packets.as_slice())?;
+    }
+    assert_eq!(rt; session.next(), 3);
+    session.on_gone();
+    let mut other = Sim::new(alloc);
+    assert!(rt; connected(alloc, &mut session, &mut other)?.is_empty());
+    assert!(rt; session.state() == PortState::Down);
+    assert_eq!(rt; session.next(), 3);
+    Ok(())
+}
