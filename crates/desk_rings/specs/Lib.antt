@@ -1,0 +1,2 @@
+pub mod Made
+pub use Rattle.desk_ends.specs.Rings

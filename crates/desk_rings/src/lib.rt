@@ -1,0 +1,11 @@
+//! The rings of a desk: made in a row, one for each source of events and one for each recipient, and their ends handed
+//! out by position.
+#![tactic(auto)]
+
+mod handing;
+mod making;
+mod rings;
+
+pub use handing::{inlets_of, outlets_of};
+pub use making::{RING, event_rings, told_rings};
+pub use rings::{EventRing, ToldRing, Way};

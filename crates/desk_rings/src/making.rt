@@ -1,0 +1,54 @@
+//! Rings, made in a row.
+
+ghost use Rattle.std.specs.Prelude.{◌≡◌, All, IfOk, false, map};
+ghost use Rattle.desk_rings.specs.Made.{MadeEvents, MadeLists};
+
+use crate::rings::{EventRing, ToldRing, Way};
+use gate_events::{Event, Recipient, Source};
+use rtrb::{Consumer, RingBuffer};
+use std::alloc::{AllocError, Global};
+use std::collections::VecDeque;
+
+/// So many items a ring holds.
+pub const RING: usize = 1_024;
+
+/// A ring for each source, in order, the desk's end of each beside the other.
+pub fn event_rings(
+    alloc: Global,
+    sources: &[Source],
+) -> Result<(VecDeque<EventRing>, Vec<Consumer<Event>>), AllocError>
+    ensures { IfOk result (λ r. MadeEvents sources.now r.0.items r.1.items) }
+{
+    let mut rings = VecDeque::new(alloc);
+    let mut consumers = Vec::new(alloc);
+    for source in sources {
+        let (producer, consumer) = RingBuffer::new(alloc, RING)?;
+        rings.push_back(EventRing {
+            source: *source,
+            producer,
+        })?;
+        consumers.push(consumer)?;
+    }
+    Ok((rings, consumers))
+}
+
+/// A ring for each recipient, in order, the desk's end of each beside the other.
+pub fn told_rings(
+    alloc: Global,
+    recipients: &[Recipient],
+) -> Result<(Vec<Way>, VecDeque<ToldRing>), AllocError>
+    ensures { IfOk result (λ r. MadeLists recipients.now r.0.items r.1.items) }
+{
+    let mut ways = Vec::new(alloc);
+    let mut rings = VecDeque::new(alloc);
+    for to in recipients {
+        let (producer, consumer) = RingBuffer::new(alloc, RING)?;
+        ways.push(Way {
+            to: *to,
+            producer,
+            cut: false,
+        })?;
+        rings.push_back(ToldRing { to: *to, consumer })?;
+    }
+    Ok((ways, rings))
+}
