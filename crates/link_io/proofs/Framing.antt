@@ -1,5 +1,5 @@
 -- The next frame of a client's link, and the events of its frames.
-use Rattle.std.proofs.Common.{◌≡◌, ℕ, zero, suc, ◌+◌, ◌-◌, ◌<◌, ◌≤◌, ◌⊎◌, inl, inr, ◌++◌, Bool, true, false, List, [], ◌∷◌, length, take, Option, Some, None, Result, Ok, Err, refl, sym, ◌∙◌, ap, subst, append-nil, arith, nat_lt}
+use Rattle.std.proofs.Common.{◌≡◌, ℕ, zero, suc, ◌+◌, ◌-◌, ◌<◌, ◌≤◌, ◌⊎◌, inl, inr, ◌++◌, Bool, true, false, List, [], ◌∷◌, length, take, Option, Some, None, Ok, Err, refl, sym, ◌∙◌, ap, subst, append-nil, arith, nat_lt}
 use Rattle.std.proofs.lemmas.List.{length-take}
 use Rattle.std.proofs.lemmas.Bool.Decides.{nat_tests}
 use Rattle.gate_law.specs.Events.{Event, ClientMessage}
@@ -12,10 +12,9 @@ use Rattle.fix_framing.specs.declared.frame_fault.FrameFault.{FrameFault}
 use Rattle.fix_framing.specs.declared.frame_fault.FrameFault.TheVariants as fault
 use Rattle.fix_framing.specs.Front.{LendsFrame}
 use Rattle.fix_framing.specs.Frame.{trailer_size}
-use Rattle.fix_framing.specs.Stream.{Start, Head, LessThanHead, NoHead, Place, Frame, Skipped, Waiting, TooLong, place, place_of, place_of_head, framed_by, is_whole, parts, parts_behind, parts_of, StreamParts, End, Rest, Over, only, left, with_frames, longest, Passed, PassesFrame, Sought, ReaderStanding, counted_skips, start}
-use Rattle.link_io.specs.declared.link_fault.LinkFault.{LinkFault}
+use Rattle.fix_framing.specs.Stream.{Start, Head, LessThanHead, NoHead, Place, Frame, Skipped, Waiting, TooLong, place, place_of, place_of_head, framed_by, is_whole, parts, parts_behind, parts_of, StreamParts, End, Rest, Over, left, longest, Passed, PassesFrame, Sought, ReaderStanding, start}
 use Rattle.link_io.specs.declared.link_fault.LinkFault.TheVariants.{Malformed, NoMemory}
-use Rattle.link_io.specs.Decoding.{BringFrames, FramesOfLink, MadeOfFrames, AreAllOfFrames, EndsSo, NextFrame}
+use Rattle.link_io.specs.Decoding.{BringFrames, FramesOfLink, MadeOfFrames, NextFrame}
 
 either : (b : Bool) → (b ≡ true) ⊎ (b ≡ false)
 either true = inl refl

@@ -1,7 +1,7 @@
 -- Steps of a reader, one after another.
-use Rattle.std.proofs.Common.{◌≡◌, ℕ, ◌<◌, ◌≤◌, ◌++◌, Bool, true, false, List, [], ◌∷◌, length, Option, Some, None, Result, Ok, Err, IsSome, refl, sym, ◌∙◌, ap, subst, append_assoc, append-nil, arith}
+use Rattle.std.proofs.Common.{◌≡◌, ℕ, ◌≤◌, ◌++◌, Bool, true, false, List, [], ◌∷◌, length, Option, Some, None, Result, Ok, Err, refl, sym, ◌∙◌, ap, subst, append_assoc, append-nil, arith}
 use Rattle.core.specs.Result.{IsErrAnd}
-use Rattle.std.specs.Io.KnownBytes.{Consumes, Keeps, IsAtEnd}
+use Rattle.std.specs.Io.KnownBytes.{Consumes}
 use Rattle.std.proofs.KnownBytes.{Consumes-nil, Consumes-kept}
 use Rattle.gate_law.specs.Events as law
 use Rattle.link_io.specs.declared.limit.Limit.{Limit}
@@ -9,9 +9,7 @@ use Rattle.link_io.specs.declared.link_fault.LinkFault.{LinkFault}
 use Rattle.link_io.specs.declared.link_fault.LinkFault.TheVariants.{ReadFailed, WriteFailed, Malformed, StepLimit, NoMemory}
 use Rattle.link_io.specs.declared.progress.Progress.{Progress}
 use Rattle.link_io.specs.declared.progress.Progress.TheVariants.{Read, Ended, Held}
-use Rattle.gate_events.specs.declared.event.Event.{Event}
-use Rattle.gate_events.specs.Seen.{event_seen}
-use Rattle.link_io.specs.Reading.{Reading, Gave, Goes, GoesThrough, Offers, offered_list, FeedsPiece, MakesNext, Makes, Feeds, Stays, MadeAll, SaysPut, HasPut, Puts, SaysRead, Reads, Fills}
+use Rattle.link_io.specs.Reading.{Reading, Gave, ComesFirst, Goes, GoesThrough, Offers, offered_list, FeedsPiece, MakesNext, Feeds, Stays, MadeAll, SaysPut, HasPut, Puts, SaysRead, Reads, Fills}
 
 -- what a `?` hands on
 pub read_err : (r : Result Progress LinkFault) (fault : LinkFault) → IsErrAnd r (λ (e : LinkFault). e ≡ fault) → r ≡ Err fault
@@ -94,13 +92,34 @@ module _ {D : Type 0} (made : D → List ℕ → List law.Event → Type 0) (are
   -- ---- putting
 
   pub put_none : (a : Reading D) (x : List law.Event) → HasPut made a a x x
-  put_none a x = record { put = []; puts = sym (append-nil x); goes = goes_none a }
+  put_none a x = record { put = []; puts = sym (append-nil x); goes = goes_none a; first = ([], sym (append-nil (offered_list a.offered))) }
 
-  pub put_same : (a b c : Reading D) (x y : List law.Event) → HasPut made a b x y → Goes made [] [] b c → HasPut made a c x y
-  put_same a b c x y h goes = record {
+  goes_more : (a b c : Reading D) (p : List law.Event) → Goes made [] p a b → Goes made [] [] b c → Goes made [] p a c
+  goes_more a b c p first second = subst (λ (z : List law.Event). Goes made [] z a c) (append-nil p) (goes_again a b c [] [] p [] first second)
+
+  -- the event that is offered stays
+  pub put_same : (a b c : Reading D) (x y : List law.Event) → HasPut made a b x y → Goes made [] [] b c → c.offered ≡ b.offered → HasPut made a c x y
+  put_same a b c x y h goes e = record {
     put = h.put;
     puts = h.puts;
-    goes = subst (λ (z : List law.Event). Goes made [] z a c) (append-nil h.put) (goes_again a b c [] [] h.put [] h.goes goes);
+    goes = goes_more a b c h.put h.goes goes;
+    first = (h.first.0, ap (λ (o : Option law.Event). h.put ++ offered_list o) e ∙ h.first.1);
+  }
+
+  first_more : (o : Option law.Event) (p : List law.Event) (m other : Option law.Event) → m ≡ None → ComesFirst o p m → ComesFirst o p other
+  first_more o p m other e (more, whole) = (
+    more ++ offered_list other,
+    ap (λ (l : List law.Event). l ++ offered_list other) (sym (ap (λ (n : Option law.Event). p ++ offered_list n) e ∙ append-nil p) ∙ whole)
+        ∙ append_assoc (offered_list o) more (offered_list other),
+  )
+
+  -- nothing was offered
+  pub put_made : (a b c : Reading D) (x y : List law.Event) → HasPut made a b x y → Goes made [] [] b c → b.offered ≡ None → HasPut made a c x y
+  put_made a b c x y h goes none = record {
+    put = h.put;
+    puts = h.puts;
+    goes = goes_more a b c h.put h.goes goes;
+    first = first_more a.offered h.put b.offered c.offered none h.first;
   }
 
   pub put_offered : (a b c : Reading D) (x y z : List law.Event) → HasPut made a b x y → Offers true b c y z → HasPut made a c x z
@@ -108,6 +127,11 @@ module _ {D : Type 0} (made : D → List ℕ → List law.Event → Type 0) (are
     put = h.put ++ offered_list b.offered;
     puts = puts ∙ (ap (λ (l : List law.Event). l ++ offered_list b.offered) h.puts ∙ append_assoc x h.put (offered_list b.offered));
     goes = goes_again a b c [] [] h.put (offered_list b.offered) h.goes (goes_offered b c is);
+    first = (
+      h.first.0,
+      ap (λ (r : Reading D). (h.put ++ offered_list b.offered) ++ offered_list r.offered) is
+          ∙ (append-nil (h.put ++ offered_list b.offered) ∙ h.first.1),
+    );
   }
 
   put_back : (a b c : Reading D) (x y z : List law.Event) → HasPut made a b x y → Offers false b c y z → HasPut made a c x z
@@ -116,7 +140,7 @@ module _ {D : Type 0} (made : D → List ℕ → List law.Event → Type 0) (are
 
   puts_of : (answer : Result Bool LinkFault) (a b : Reading D) (x y : List law.Event) (h : HasPut made a b x y)
       → SaysPut made are_all answer h.put a b → Puts made are_all answer a b x y
-  puts_of answer a b x y h says = record { put = h.put; puts = h.puts; goes = h.goes; says = says }
+  puts_of answer a b x y h says = record { put = h.put; puts = h.puts; goes = h.goes; first = h.first; says = says }
 
   pub puts_back : (a b c : Reading D) (x y z : List law.Event) → HasPut made a b x y → Offers false b c y z → Puts made are_all (Ok false) a c x z
   puts_back a b c x y z h offers = puts_of (Ok false) a c x z (put_back a b c x y z h offers) offers.2
@@ -130,27 +154,28 @@ module _ {D : Type 0} (made : D → List ℕ → List law.Event → Type 0) (are
       subst (λ (z : List law.Event). GoesThrough made are_all over [] z a c) (append-nil p) (through_again a b c over [] [] p [] goes through)
 
   puts_from : (answer : Result Bool LinkFault) (a b c : Reading D) (x y : List law.Event) (h : HasPut made a b x y) → Goes made [] [] b c
-      → SaysPut made are_all answer h.put a c → Puts made are_all answer a c x y
-  puts_from answer a b c x y h goes says = record {
+      → b.offered ≡ None → SaysPut made are_all answer h.put a c → Puts made are_all answer a c x y
+  puts_from answer a b c x y h goes none says = record {
     put = h.put;
     puts = h.puts;
-    goes = subst (λ (z : List law.Event). Goes made [] z a c) (append-nil h.put) (goes_again a b c [] [] h.put [] h.goes goes);
+    goes = goes_more a b c h.put h.goes goes;
+    first = first_more a.offered h.put b.offered c.offered none h.first;
     says = says;
   }
 
-  pub puts_err : (to_make : D → ℕ) (fault : LinkFault) (a b c : Reading D) (x y : List law.Event) → HasPut made a b x y
+  pub puts_err : (to_make : D → ℕ) (fault : LinkFault) (a b c : Reading D) (x y : List law.Event) → HasPut made a b x y → b.offered ≡ None
       → MakesNext made are_all to_make (Err fault) b c → Puts made are_all (Err fault) a c x y
-  puts_err to_make Malformed a b c x y h (goes, through) =
-      puts_from (Err Malformed) a b c x y h goes (through_put a b c true h.put h.goes through)
-  puts_err to_make NoMemory a b c x y h goes = puts_from (Err NoMemory) a b c x y h goes tt
-  puts_err to_make ReadFailed a b c x y h next = absurd next
-  puts_err to_make WriteFailed a b c x y h next = absurd next
-  puts_err to_make StepLimit a b c x y h next = absurd next
+  puts_err to_make Malformed a b c x y h none (goes, through) =
+      puts_from (Err Malformed) a b c x y h goes none (through_put a b c true h.put h.goes through)
+  puts_err to_make NoMemory a b c x y h none goes = puts_from (Err NoMemory) a b c x y h goes none tt
+  puts_err to_make ReadFailed a b c x y h none next = absurd next
+  puts_err to_make WriteFailed a b c x y h none next = absurd next
+  puts_err to_make StepLimit a b c x y h none next = absurd next
 
-  pub puts_all : (to_make : D → ℕ) (a b c : Reading D) (x y : List law.Event) → HasPut made a b x y → MakesNext made are_all to_make (Ok false) b c
-      → Puts made are_all (Ok true) a c x y
-  puts_all to_make a b c x y h (goes, piece, offered, through) =
-      puts_from (Ok true) a b c x y h goes (offered, piece, through_put a b c false h.put h.goes through)
+  pub puts_all : (to_make : D → ℕ) (a b c : Reading D) (x y : List law.Event) → HasPut made a b x y → b.offered ≡ None
+      → MakesNext made are_all to_make (Ok false) b c → Puts made are_all (Ok true) a c x y
+  puts_all to_make a b c x y h none (goes, piece, offered, through) =
+      puts_from (Ok true) a b c x y h goes none (offered, piece, through_put a b c false h.put h.goes through)
 
   -- ---- reading
 
@@ -164,6 +189,7 @@ module _ {D : Type 0} (made : D → List ℕ → List law.Event → Type 0) (are
     consumes = Consumes-nil s;
     puts = p.puts;
     goes = p.goes;
+    first = p.first;
     says = says;
   }
 
@@ -191,6 +217,7 @@ module _ {D : Type 0} (made : D → List ℕ → List law.Event → Type 0) (are
     goes = subst (λ (z : List law.Event). Goes made [] z a (record b { piece = piece })) (append-nil p.put)
         (goes_again a b (record b { piece = piece }) [] [] p.put [] p.goes
         (subst (λ (l : List ℕ). Goes made [] [] b (record b { piece = l })) (sym none) (goes_read b [] p.says.1)));
+    first = p.first;
     says = (refl, p.says.2);
   }
   failed WriteFailed a b piece x y s t p fills = absurd fills
@@ -221,6 +248,7 @@ module _ {D : Type 0} (made : D → List ℕ → List law.Event → Type 0) (are
         goes = subst (λ (z : List law.Event). Goes made [] z a (record b { piece = piece })) (append-nil p.put)
             (goes_again a b (record b { piece = piece }) [] [] p.put [] p.goes
             (subst (λ (l : List ℕ). Goes made [] [] b (record b { piece = l })) (sym none) (goes_read b [] p.says.1)));
+        first = p.first;
         says = (refl, end zero, p.says.2);
       }
 
@@ -229,6 +257,16 @@ module _ {D : Type 0} (made : D → List ℕ → List law.Event → Type 0) (are
       → Reads made are_all (Ok Ended) a c x y s t
   reads_end count a b c piece x y s t p e fills zero =
       subst (λ (r : Reading D). Reads made are_all (Ok Ended) a r x y s t) (sym e) (at_end count a b piece x y s t p fills zero)
+
+  first_again : (o : Option law.Event) (p : List law.Event) (m : Option law.Event) (q : List law.Event) (n : Option law.Event)
+      → ComesFirst o p m → m ≡ None → ComesFirst m q n → ComesFirst o (p ++ q) n
+  first_again o p m q n (more, whole) none (later, rest) =
+      let so_far : p ≡ offered_list o ++ more = sym (ap (λ (w : Option law.Event). p ++ offered_list w) none ∙ append-nil p) ∙ whole in
+      let behind : (q ++ offered_list n) ≡ later = rest ∙ ap (λ (w : Option law.Event). offered_list w ++ later) none in (
+        more ++ later,
+        append_assoc p q (offered_list n) ∙ (ap (λ (l : List law.Event). p ++ l) behind
+            ∙ (ap (λ (l : List law.Event). l ++ later) so_far ∙ append_assoc (offered_list o) more later)),
+      )
 
   -- bytes were read, and events put before and after
   reads_on : (answer : Result Bool LinkFault) (says_so : Result Progress LinkFault) (count : ℕ) (a b d : Reading D) (piece : List ℕ) (x y z : List law.Event)
@@ -241,6 +279,7 @@ module _ {D : Type 0} (made : D → List ℕ → List law.Event → Type 0) (are
     consumes = consumes;
     puts = q.puts ∙ (ap (λ (l : List law.Event). l ++ q.put) p.puts ∙ append_assoc x p.put q.put);
     goes = went piece a b d p.put q.put p.goes p.says.1 q.goes;
+    first = first_again a.offered p.put b.offered q.put d.offered p.first p.says.0 q.first;
     says = says;
   }
     where
@@ -293,7 +332,7 @@ module _ {D : Type 0} (made : D → List ℕ → List law.Event → Type 0) (are
   -- the loop begins
   pub loop_start : (a b c : Reading D) (x y : List law.Event) → Offers true a b x y → FeedsPiece made b c → HasPut made a c x y × (c.offered ≡ None)
   loop_start a b c x y offers feeds = (
-    put_same a b c x y (put_offered a a b x x y (put_none a x) offers) feeds.goes,
+    put_same a b c x y (put_offered a a b x x y (put_none a x) offers) feeds.goes feeds.offered,
     feeds.offered ∙ ap (λ (r : Reading D). r.offered) offers.0,
   )
 
@@ -307,6 +346,7 @@ module _ {D : Type 0} (made : D → List ℕ → List law.Event → Type 0) (are
     consumes = p.consumes;
     puts = p.puts;
     goes = p.goes;
+    first = p.first;
     says = same_says answer p.read p.put p.says;
   }
     where

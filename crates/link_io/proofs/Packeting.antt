@@ -1,9 +1,8 @@
 -- The next packet of a port's link, and the events of its packets.
-use Rattle.std.proofs.Common.{◌≡◌, ℕ, ◌<◌, ◌++◌, List, [], ◌∷◌, length, Option, Some, None, Result, Ok, Err, refl, sym, subst}
+use Rattle.std.proofs.Common.{◌≡◌, ℕ, ◌<◌, ◌++◌, List, [], ◌∷◌, length, Some, Ok, refl, sym, subst}
 use Rattle.gate_law.specs.Events.{Event, PortPacket}
 use Rattle.stream_buffer.specs.Buffer.{BytesHeld}
 use Rattle.soup_packets.specs.declared.packet.Packet.{Packet}
-use Rattle.soup_packets.specs.Stream.{Fed}
 use Rattle.link_io.specs.Decoding.{BringPackets, PacketsOfLink, MadeOfPackets, NextPacket}
 
 bring_more : (port link : ℕ) (packets : List Packet) (events : List Event) (packet : Packet) (event : Event) (at : ℕ)

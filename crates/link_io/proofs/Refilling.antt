@@ -1,8 +1,7 @@
 -- Lists that are joined and taken, one after another.
-use Rattle.std.proofs.Common.{◌≡◌, ℕ, zero, suc, ◌+◌, ◌==◌, ◌++◌, Bool, true, false, not, ◌||◌, List, [], ◌∷◌, length, refl, sym, ◌∙◌, ap, subst, append_assoc, append-nil, arith, Option, Some, Result, Ok, Err}
+use Rattle.std.proofs.Common.{◌≡◌, ℕ, ◌==◌, ◌++◌, Bool, true, false, not, ◌||◌, List, [], ◌∷◌, length, refl, sym, ◌∙◌, ap, subst, append_assoc, append-nil, arith, Option, Some, Result, Ok, Err}
 use Rattle.std.proofs.lemmas.Bool.Decides.{nat_tests}
 use Rattle.std.proofs.lemmas.List.{length-append}
-use Rattle.std.specs.List.{flat_map, list_any}
 use Rattle.gate_law.specs.Events.{LinkOut}
 use Rattle.gate_events.specs.Links.{is_link_closed}
 use Rattle.core.specs.Result.{IsErrAnd}
@@ -12,14 +11,15 @@ use Rattle.link_io.specs.declared.limit.Limit.{Limit}
 use Rattle.link_io.specs.declared.writer.Wrote.{Wrote}
 use Rattle.link_io.specs.declared.link_fault.LinkFault.{LinkFault}
 use Rattle.link_io.specs.declared.link_fault.LinkFault.TheVariants.{ReadFailed, WriteFailed, Malformed, StepLimit, NoMemory}
-use Rattle.link_io.specs.Writing.{WriterState, unwritten, link_bytes, lists_bytes, do_close, Joins, TakesList, StopsAtClose, Refills, Sends, Tells, Writes}
+use Rattle.link_io.specs.Writing.{WriterState, unwritten, link_bytes, lists_bytes, do_close, Joins, TakesList, Refills, Sends, Tells, Writes}
 
 pub joins_none : (a : WriterState) → Joins a a
-joins_none a = record { whole = refl; link = refl; is_taken = refl; is_closing = refl; limit = refl }
+joins_none a = record { whole = refl; number = refl; link = refl; is_taken = refl; is_closing = refl; limit = refl }
 
 pub joins_again : (a b c : WriterState) → Joins a b → Joins b c → Joins a c
 joins_again a b c p q = record {
   whole = q.whole ∙ p.whole;
+  number = q.number ∙ p.number;
   link = q.link ∙ p.link;
   is_taken = q.is_taken ∙ p.is_taken;
   is_closing = q.is_closing ∙ p.is_closing;
@@ -58,6 +58,7 @@ refills_none a t = record {
   taken = [];
   takes = sym (append-nil t);
   whole = sym (append-nil (unwritten a));
+  number = refl;
   link = refl;
   is_taken = sym (or_false a.is_taken);
   is_closing = sym (or_false a.is_closing);
@@ -70,6 +71,7 @@ joined_refills a b c x y p q = record {
   taken = q.taken;
   takes = q.takes;
   whole = q.whole ∙ (ap (λ (l : List ℕ). l ++ lists_bytes b.link q.taken) p.whole ∙ ap (λ (n : ℕ). unwritten a ++ lists_bytes n q.taken) p.link);
+  number = q.number ∙ p.number;
   link = q.link ∙ p.link;
   is_taken = q.is_taken ∙ ap (λ (v : Bool). v || not (length q.taken == 0)) p.is_taken;
   is_closing = q.is_closing ∙ (ap (λ (v : Bool). v || do_close b.link q.taken) p.is_closing ∙ ap (λ (n : ℕ). a.is_closing || do_close n q.taken) p.link);
@@ -83,6 +85,7 @@ refills_joined a b c x y p q = record {
   taken = p.taken;
   takes = p.takes;
   whole = q.whole ∙ p.whole;
+  number = q.number ∙ p.number;
   link = q.link ∙ p.link;
   is_taken = q.is_taken ∙ p.is_taken;
   is_closing = q.is_closing ∙ p.is_closing;
@@ -139,6 +142,7 @@ refills_more a b c x y z p none free (outs, takes, is) =
       whole = told ∙ (ap (λ (l : List ℕ). l ++ link_bytes a.link outs) p.whole ∙ (append_assoc (unwritten a) (lists_bytes a.link p.taken) (link_bytes a.link outs)
           ∙ ap (λ (l : List ℕ). unwritten a ++ l) (ap (λ (l : List ℕ). lists_bytes a.link p.taken ++ l) (sym (append-nil (link_bytes a.link outs)))
           ∙ sym (lists_append a.link p.taken (outs ∷ [])))));
+      number = ap (λ (w : WriterState). w.number) is ∙ p.number;
       link = ap (λ (w : WriterState). w.link) is ∙ p.link;
       is_taken = ap (λ (w : WriterState). w.is_taken) is ∙ taken_more a.is_taken p.taken outs;
       is_closing = ap (λ (w : WriterState). w.is_closing) is ∙ (ap (λ (v : Bool). v || is_link_closed (Some b.link) outs) p.is_closing
@@ -171,6 +175,7 @@ writes_refused a b x y s p = record {
   takes = p.takes;
   appends = Appends-nil s;
   whole = sym p.whole;
+  number = p.number;
   link = p.link;
   stops = p.stops;
   tells = (refl, refl, p.is_taken, p.is_closing);
@@ -188,6 +193,7 @@ writes_err a b x y s t WriteFailed p none (rest, sent, some) = record {
   takes = p.takes;
   appends = sent.1;
   whole = sym p.whole ∙ (all_joined b none ∙ sent.2);
+  number = p.number;
   link = p.link;
   stops = p.stops;
   tells = some;
@@ -207,6 +213,7 @@ writes_all a b c x y s t w p none sent says left = record {
   takes = p.takes;
   appends = sent;
   whole = sym p.whole ∙ (all_joined b none ∙ sym (append-nil b.bytes));
+  number = ap (λ (v : WriterState). v.number) left ∙ p.number;
   link = ap (λ (v : WriterState). v.link) left ∙ p.link;
   stops = p.stops;
   tells = (
@@ -230,6 +237,7 @@ writes_limited answer a b l m x y s t p = record {
   takes = p.takes;
   appends = p.appends;
   whole = p.whole;
+  number = p.number;
   link = p.link;
   stops = p.stops;
   tells = same_tells answer p.tells;

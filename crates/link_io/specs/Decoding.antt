@@ -1,13 +1,15 @@
 -- The frames of a client's link and the packets of a port's, as events.
-use Rattle.std.specs.Prelude.{◌≡◌, ℕ, ◌≤◌, ◌<◌, ◌++◌, Bool, true, false, List, [], ◌∷◌, length, Option, Some, None, Result, Ok, Err}
+use Rattle.std.specs.Prelude.{◌≡◌, ℕ, ◌≤◌, ◌<◌, ◌++◌, Bool, true, false, List, []}
+use Rattle.std.specs.Prelude.{◌∷◌, length, Option, Some, None, Result, Ok, Err}
 use Rattle.gate_law.specs.Events.{Event, ClientMessage, PortPacket}
-use Rattle.fix_fields.specs.Field.{Field, Message, fields_text}
+use Rattle.fix_fields.specs.Field.{Message, fields_text}
 use Rattle.fix_framing.specs.Stream.{ReaderStanding, Passed, End, Rest, Over, parts, left, longest}
 use Rattle.stream_buffer.specs.Buffer.{BytesHeld}
 use Rattle.soup_packets.specs.declared.packet.Packet.{Packet}
 use Rattle.soup_packets.specs.Stream.{Fed, ArePackets, EndsEmpty}
 use Rattle.link_io.specs.declared.link_fault.LinkFault.{LinkFault}
-use Rattle.link_io.specs.declared.link_fault.LinkFault.TheVariants.{ReadFailed, WriteFailed, Malformed, StepLimit, NoMemory}
+use Rattle.link_io.specs.declared.link_fault.LinkFault.TheVariants.{ReadFailed, WriteFailed, Malformed, StepLimit}
+use Rattle.link_io.specs.declared.link_fault.LinkFault.TheVariants.{NoMemory}
 
 -- ---- a client's
 
@@ -36,7 +38,8 @@ EndsSo false end = (rest : List ℕ) × (end ≡ Rest rest)
 
 -- the events bring all frames of these bytes
 abbrev pub AreAllOfFrames : FramesOfLink → Bool → List ℕ → List Event → Type 0
-AreAllOfFrames f over taken events = BringFrames f.client f.link (parts taken).frames events × EndsSo over (parts taken).end
+AreAllOfFrames f over taken events = BringFrames f.client f.link (parts taken).frames events
+    × EndsSo over (parts taken).end
 
 -- the next frame is passed, and given, where one is whole; `Malformed` where too long a one is announced
 abbrev pub NextFrame : Result (Option Message) LinkFault → ReaderStanding → ReaderStanding → Type 0
@@ -96,7 +99,8 @@ NextPacket (Ok None) old new =
 NextPacket (Err Malformed) old new =
     (taken : List ℕ) (passed : List Packet) → Fed taken passed old
     → Fed taken passed new × ArePackets taken passed × EndsEmpty taken passed
-NextPacket (Err NoMemory) old new = (taken : List ℕ) (passed : List Packet) → Fed taken passed old → Fed taken passed new
+NextPacket (Err NoMemory) old new = (taken : List ℕ) (passed : List Packet) → Fed taken passed old
+    → Fed taken passed new
 NextPacket (Err ReadFailed) old new = ⊥
 NextPacket (Err WriteFailed) old new = ⊥
 NextPacket (Err StepLimit) old new = ⊥

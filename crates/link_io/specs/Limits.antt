@@ -2,7 +2,8 @@
 use Rattle.std.specs.Prelude.{◌≡◌, ℕ, ◌-◌, ◌==◌, Option, Some, None, Result, Ok, Err, if◌then◌else◌}
 use Rattle.link_io.specs.declared.limit.Limit.{Limit}
 use Rattle.link_io.specs.declared.link_fault.LinkFault.{LinkFault}
-use Rattle.link_io.specs.declared.link_fault.LinkFault.TheVariants.{ReadFailed, WriteFailed, Malformed, StepLimit, NoMemory}
+use Rattle.link_io.specs.declared.link_fault.LinkFault.TheVariants.{ReadFailed, WriteFailed, Malformed, StepLimit}
+use Rattle.link_io.specs.declared.link_fault.LinkFault.TheVariants.{NoMemory}
 
 abbrev pub fault_number : LinkFault → ℕ
 fault_number ReadFailed = 1

@@ -1,13 +1,14 @@
 -- What a writer of a link has to write, and what a step of it does.
-use Rattle.std.specs.Prelude.{◌≡◌, ℕ, ◌≤◌, ◌<◌, ◌==◌, ◌++◌, Bool, true, false, not, ◌&&◌, ◌||◌, List, [], ◌∷◌, length}
-use Rattle.std.specs.Prelude.{Option, Some, None, Result, Ok, Err, if◌then◌else◌}
+use Rattle.std.specs.Prelude.{◌≡◌, ℕ, ◌<◌, ◌==◌, ◌++◌, Bool, true, false, not, ◌||◌, List, [], ◌∷◌, length}
+use Rattle.std.specs.Prelude.{Option, Some, Result, Ok, Err, if◌then◌else◌}
 use Rattle.std.specs.List.{flat_map, list_any}
 use Rattle.std.specs.Io.KnownBytes.{Appends}
 use Rattle.gate_law.specs.Events.{LinkOut, Write, Close}
 use Rattle.gate_events.specs.Links.{is_link_closed}
 use Rattle.link_io.specs.declared.limit.Limit.{Limit}
 use Rattle.link_io.specs.declared.link_fault.LinkFault.{LinkFault}
-use Rattle.link_io.specs.declared.link_fault.LinkFault.TheVariants.{ReadFailed, WriteFailed, Malformed, StepLimit, NoMemory}
+use Rattle.link_io.specs.declared.link_fault.LinkFault.TheVariants.{ReadFailed, WriteFailed, Malformed, StepLimit}
+use Rattle.link_io.specs.declared.link_fault.LinkFault.TheVariants.{NoMemory}
 use Rattle.link_io.specs.declared.writer.Wrote.{Wrote}
 
 -- the bytes that a link is told to be written, one after another
@@ -28,6 +29,8 @@ do_close link lists = list_any (is_link_closed (Some link)) lists
 
 -- what a writer has
 pub record WriterState : Type 0 where
+  -- of the client or port
+  pub number : ℕ
   pub link : ℕ
   -- bytes of lists that were taken, and of a list the rest
   pub bytes : List ℕ
@@ -44,6 +47,7 @@ unwritten w = w.bytes ++ link_bytes w.link w.held
 -- of the list that is held something became bytes
 pub record Joins (old new : WriterState) : Type 0 where
   pub whole : unwritten new ≡ unwritten old
+  pub number : new.number ≡ old.number
   pub link : new.link ≡ old.link
   pub is_taken : new.is_taken ≡ old.is_taken
   pub is_closing : new.is_closing ≡ old.is_closing
@@ -70,6 +74,7 @@ pub record Refills (old new : WriterState) (taken_old taken_new : List (List Lin
   pub taken : List (List LinkOut)
   pub takes : taken_new ≡ taken_old ++ taken
   pub whole : unwritten new ≡ unwritten old ++ lists_bytes old.link taken
+  pub number : new.number ≡ old.number
   pub link : new.link ≡ old.link
   pub is_taken : new.is_taken ≡ (old.is_taken || not (length taken == 0))
   pub is_closing : new.is_closing ≡ (old.is_closing || do_close old.link taken)
@@ -78,7 +83,8 @@ pub record Refills (old new : WriterState) (taken_old taken_new : List (List Lin
 
 -- of these bytes those in front of the rest went out
 abbrev pub HasSent : (bytes rest : List ℕ) → (sent_old sent_new : Option (List ℕ)) → Type 0
-HasSent bytes rest sent_old sent_new = (written : List ℕ) × Appends sent_old sent_new written × (bytes ≡ written ++ rest)
+HasSent bytes rest sent_old sent_new = (written : List ℕ) × Appends sent_old sent_new written
+    × (bytes ≡ written ++ rest)
 
 -- the bytes went out, or, at a failure, those in front of them
 abbrev pub Sends : {A : Type 0} → Result A LinkFault → List ℕ → Option (List ℕ) → Option (List ℕ) → Type 0
@@ -113,6 +119,7 @@ pub record Writes (answer : Result Wrote LinkFault) (old new : WriterState) (tak
   pub takes : taken_new ≡ taken_old ++ taken
   pub appends : Appends sent_old sent_new written
   pub whole : unwritten old ++ lists_bytes old.link taken ≡ written ++ rest
+  pub number : new.number ≡ old.number
   pub link : new.link ≡ old.link
   pub stops : StopsAtClose old taken
   pub tells : Tells answer (written ++ rest) (old.is_taken || not (length taken == 0))

@@ -57,6 +57,7 @@ impl Model for BatchWriter {
     ghost Value = { WriterState };
 
     ghost view = { λ w. record {
+      number = w.number;
       link = w.link;
       bytes = w.pending.items;
       held = map link_out_seen (drop w.joined w.held.items);
@@ -74,6 +75,7 @@ impl BatchWriter {
     pub fn new(alloc: Global, number: u16, link: u64, steps: u64) -> BatchWriter
         requires from_one { 1 ≤ steps }
         ensures { result ≡ record {
+          number = number;
           link = link;
           bytes = [];
           held = [];
@@ -95,7 +97,9 @@ impl BatchWriter {
     }
 
     /// The number of its client or port. Takes no memory.
-    pub fn number(&self) -> u16 {
+    pub fn number(&self) -> u16
+        ensures { result ≡ self.now.number }
+    {
         self.number
     }
 

@@ -1,4 +1,4 @@
-use Rattle.std.proofs.Common.{◌≡◌, ℕ, List, [], None}
+use Rattle.std.proofs.Common.{◌≡◌, [], None}
 use Rattle.link_io.specs.Reading.{HasPut}
 use Rattle.link_io.proofs.reader.Reader.put_all.Given as goal
 

@@ -1,4 +1,4 @@
-use Rattle.std.proofs.Common.{ℕ, length}
+use Rattle.std.proofs.Common.{length}
 use Rattle.link_io.specs.Writing.{Joins}
 use Rattle.link_io.proofs.writer.BatchWriter.join.Given as goal
 

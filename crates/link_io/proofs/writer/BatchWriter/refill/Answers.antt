@@ -1,4 +1,4 @@
-use Rattle.std.proofs.Common.{List, rules}
+use Rattle.std.proofs.Common.{rules}
 use Rattle.link_io.proofs.Refilling.{joined_refills, refills_none, refills_next}
 use Rattle.link_io.proofs.writer.BatchWriter.refill.Goals as goal
 

@@ -1,4 +1,4 @@
-use Rattle.std.proofs.Common.{◌≡◌, [], List}
+use Rattle.std.proofs.Common.{◌≡◌, []}
 use Rattle.link_io.specs.Writing.{Refills}
 use Rattle.link_io.proofs.writer.BatchWriter.refill.Given as goal
 
