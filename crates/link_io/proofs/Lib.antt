@@ -1,0 +1,5 @@
+mod Refilling
+mod Sending
+mod Going
+mod Framing
+mod Packeting

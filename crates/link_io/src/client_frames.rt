@@ -1,0 +1,91 @@
+//! The frames of a client's link, as events.
+
+ghost use Rattle.std.specs.Prelude.{◌≡◌, ◌≤◌, ◌+◌, ◌++◌, ◌∷◌, [], ℕ, List, length, OnOk, OnErr, IfOk};
+ghost use Rattle.fix_fields.specs.Field.{Field, fields_text};
+ghost use Rattle.fix_framing.specs.Stream.{Passed, left, longest};
+ghost use Rattle.link_io.specs.Decoding.{NextFrame};
+
+use crate::decoder::Decoder;
+use crate::link_fault::LinkFault;
+use fix_fields::Fields;
+use fix_framing::Framer;
+use gate_events::{ClientFrame, ClientNumber, Event};
+use std::alloc::{AllocError, Global};
+use std::marker::Model;
+
+/// Makes a client's messages of the frames of its link. Contracts see the reader of the stream.
+///
+/// Source: FIX 4.4 Volume 1, "Message Format".
+#[derive(Drop)]
+pub struct ClientFrames {
+    client: ClientNumber,
+    link: u64,
+    framer: Framer,
+}
+
+impl Model for ClientFrames {
+    ghost use Rattle.link_io.specs.Decoding.{FramesOfLink};
+
+    ghost Value = { FramesOfLink };
+
+    ghost view = { λ f. record { client = f.client; link = f.link; framer = f.framer } };
+}
+
+impl ClientFrames {
+    /// Of a link of which nothing has come. Takes no memory.
+    pub(crate) fn new(alloc: Global, client: ClientNumber, link: u64) -> ClientFrames
+        ensures client { result.client ≡ client }
+        ensures link { result.link ≡ link }
+        ensures passed { Passed [] [] result.framer }
+    {
+        ClientFrames {
+            client,
+            link,
+            framer: Framer::new(alloc),
+        }
+    }
+}
+
+impl Decoder for ClientFrames {
+    ghost use Rattle.std.specs.Prelude.{length};
+    ghost use Rattle.fix_framing.specs.Stream.{left};
+    ghost use Rattle.link_io.specs.Decoding.{MadeOfFrames, AreAllOfFrames};
+
+    ghost source = { λ f. (f.client, f.link) };
+
+    ghost made = { MadeOfFrames };
+
+    ghost are_all = { AreAllOfFrames };
+
+    ghost to_make = { λ f. length (left f.framer.end).frames };
+
+    fn feed(&mut self, alloc: Global, piece: &[u8]) -> Result<(), AllocError> {
+        self.framer.put(alloc, piece)
+    }
+
+    fn make(&mut self, alloc: Global, at: u64) -> Result<Option<Event>, LinkFault> {
+        let Some(fields) = next_frame(&mut self.framer, alloc)? else {
+            return Ok(None);
+        };
+        let frame = ClientFrame::of(fields).unwrap();
+        Ok(Some(Event::ClientMessage {
+            client: self.client,
+            link: self.link,
+            at,
+            frame,
+        }))
+    }
+}
+
+/// The next frame, out of the reader: one copy.
+fn next_frame(framer: &mut Framer, alloc: Global) -> Result<Option<Fields>, LinkFault>
+    ensures { NextFrame result framer.old framer.new }
+{
+    let fields = match framer.front() {
+        Ok(Some(view)) => view.to_fields(alloc)?,
+        Ok(None) => return Ok(None),
+        Err(_) => return Err(LinkFault::Malformed),
+    };
+    framer.pass();
+    Ok(Some(fields))
+}

@@ -1,0 +1,37 @@
+//! Where an engine's events go, and where what a link is told comes from.
+
+use gate_events::{Event, LinkOut};
+use std::alloc::{AllocError, Global};
+use std::sync::Wait;
+
+/// One end of what steps the gateway's core: events are put into it, lists of what links are told are taken from it.
+/// Contracts see the events that were put, and the lists that were taken, each in order.
+pub trait Gate {
+    ghost use Rattle.std.specs.Prelude.{◌≡◌, ◌++◌, List, [], ◌∷◌, map, OnOk, IfErr, IfSome, IfNone};
+    ghost use Rattle.gate_law.specs.Events as law;
+    ghost use Rattle.gate_events.specs.Seen.{event_seen, link_out_seen};
+
+    ghost was_put: { Self → List law.Event };
+
+    ghost was_taken: { Self → List (List law.LinkOut) };
+
+    /// Puts an event, or gives it back where there is no room for it now. Waits for nobody, takes no memory.
+    fn put(&mut self, event: Event) -> Result<(), Event>
+        ensures put { OnOk result (was_put self.new ≡ was_put self.old ++ event_seen event ∷ []) }
+        ensures back { IfErr result (λ back. (event_seen back ≡ event_seen event)
+            × (was_put self.new ≡ was_put self.old)) }
+        ensures none_taken { was_taken self.new ≡ was_taken self.old };
+
+    /// Takes the next list of what a link is told, where there is one. Waits for nobody, takes no memory.
+    fn take(&mut self) -> Option<Vec<LinkOut>>
+        ensures taken { IfSome result (λ outs. was_taken self.new
+            ≡ was_taken self.old ++ map link_out_seen outs.items ∷ []) }
+        ensures none { IfNone result (was_taken self.new ≡ was_taken self.old) }
+        ensures none_put { was_put self.new ≡ was_put self.old };
+
+    /// Has the core stepped over events that were put, and gives how many steps were made. It may wait for others. An
+    /// `AllocError` comes where memory ran out for the first step.
+    fn turn<R: Wait>(&mut self, rt: &R, alloc: Global) -> Result<u32, AllocError>
+        ensures none_put { was_put self.new ≡ was_put self.old }
+        ensures none_taken { was_taken self.new ≡ was_taken self.old };
+}

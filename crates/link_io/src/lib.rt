@@ -1,0 +1,26 @@
+//! Engines of a link: readers that make events of what a stream brings, and a writer of what a link is told. Each
+//! goes on by steps, over any stream and any gate, and waits for nothing but these.
+//!
+//! Source: FIX 4.4 Volume 1, "Message Format"; SoupBinTCP 3.00, "Logical Packets".
+#![tactic(auto)]
+
+mod client_frames;
+mod decoder;
+mod gate;
+mod limit;
+mod link_fault;
+mod piece;
+mod port_packets;
+mod progress;
+mod reader;
+mod writer;
+
+pub use client_frames::ClientFrames;
+pub use decoder::Decoder;
+pub use gate::Gate;
+pub use gate_events::{ClientNumber, Event, LinkOut, PortNumber};
+pub use link_fault::LinkFault;
+pub use port_packets::PortPackets;
+pub use progress::Progress;
+pub use reader::{ClientReader, PortReader, Reader};
+pub use writer::{BatchWriter, Wrote};

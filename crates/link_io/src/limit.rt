@@ -1,0 +1,54 @@
+//! How many steps a link's engine still makes, and the fault with which its link ended.
+
+ghost use Rattle.std.specs.Prelude.{◌≡◌, ◌≤◌, ◌-◌, None};
+ghost use Rattle.link_io.specs.Limits.{Begins, end_by};
+
+use crate::link_fault::LinkFault;
+
+/// How many steps a link's engine still makes, and the fault with which its link ended.
+#[derive(Clone, Copy, Debug)]
+pub struct Limit {
+    /// How many steps are still made before the one that answers that they are used up.
+    left: u64,
+    over: Option<LinkFault>,
+}
+
+impl Limit {
+    /// Of so many steps, of which the last one answers that they are used up.
+    pub(crate) fn new(steps: u64) -> Limit
+        requires from_one { 1 ≤ steps }
+        ensures left { result.left ≡ steps - 1 }
+        ensures over { result.over ≡ None }
+    {
+        Limit {
+            left: steps - 1,
+            over: None,
+        }
+    }
+
+    /// Counts a step. The fault with which the link ended, or that the steps are used up.
+    pub(crate) fn begin(&mut self) -> Result<(), LinkFault>
+        ensures { Begins result self.old self.new }
+    {
+        if let Some(fault) = self.over {
+            return Err(fault);
+        }
+        if self.left == 0 {
+            self.over = Some(LinkFault::StepLimit);
+            return Err(LinkFault::StepLimit);
+        }
+        self.left -= 1;
+        Ok(())
+    }
+
+    /// The step failed: the link is over, unless memory ran out.
+    pub(crate) fn fail(&mut self, fault: LinkFault)
+        requires { self.old.over ≡ None }
+        ensures left { self.new.left ≡ self.old.left }
+        ensures over { self.new.over ≡ end_by fault }
+    {
+        if fault != LinkFault::NoMemory {
+            self.over = Some(fault);
+        }
+    }
+}

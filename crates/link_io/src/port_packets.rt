@@ -1,0 +1,87 @@
+//! The packets of a port's link, as events.
+
+ghost use Rattle.std.specs.Prelude.{◌≡◌, []};
+ghost use Rattle.soup_packets.specs.Stream.{Fed};
+ghost use Rattle.link_io.specs.Decoding.{NextPacket};
+
+use crate::decoder::Decoder;
+use crate::link_fault::LinkFault;
+use gate_events::{Event, PortNumber};
+use soup_packets::{Packet, Packets};
+use std::alloc::{AllocError, Global};
+use std::marker::Model;
+
+/// Makes a port's packets of what its link brings. Contracts see the reader of the stream.
+///
+/// Source: SoupBinTCP 3.00, "Logical Packets".
+#[derive(Drop)]
+pub struct PortPackets {
+    port: PortNumber,
+    link: u64,
+    packets: Packets,
+}
+
+impl Model for PortPackets {
+    ghost use Rattle.link_io.specs.Decoding.{PacketsOfLink};
+
+    ghost Value = { PacketsOfLink };
+
+    ghost view = { λ p. record { port = p.port; link = p.link; packets = p.packets } };
+}
+
+impl PortPackets {
+    /// Of a link of which nothing has come. Takes no memory.
+    pub(crate) fn new(alloc: Global, port: PortNumber, link: u64) -> PortPackets
+        ensures port { result.port ≡ port }
+        ensures link { result.link ≡ link }
+        ensures fed { Fed [] [] result.packets }
+    {
+        PortPackets {
+            port,
+            link,
+            packets: Packets::new(alloc),
+        }
+    }
+}
+
+impl Decoder for PortPackets {
+    ghost use Rattle.std.specs.Prelude.{length};
+    ghost use Rattle.link_io.specs.Decoding.{MadeOfPackets, AreAllOfPackets};
+
+    ghost source = { λ p. (p.port, p.link) };
+
+    ghost made = { MadeOfPackets };
+
+    ghost are_all = { AreAllOfPackets };
+
+    ghost to_make = { λ p. length p.packets.held };
+
+    fn feed(&mut self, alloc: Global, piece: &[u8]) -> Result<(), AllocError> {
+        self.packets.put(alloc, piece)
+    }
+
+    fn make(&mut self, alloc: Global, at: u64) -> Result<Option<Event>, LinkFault> {
+        let Some(packet) = next_packet(&mut self.packets, alloc)? else {
+            return Ok(None);
+        };
+        Ok(Some(Event::PortPacket {
+            port: self.port,
+            link: self.link,
+            at,
+            packet,
+        }))
+    }
+}
+
+/// The next packet, out of the reader: one copy.
+fn next_packet(packets: &mut Packets, alloc: Global) -> Result<Option<Packet>, LinkFault>
+    ensures { NextPacket result packets.old packets.new }
+{
+    let packet = match packets.front() {
+        Ok(Some(view)) => view.to_packet(alloc)?,
+        Ok(None) => return Ok(None),
+        Err(_) => return Err(LinkFault::Malformed),
+    };
+    packets.pass();
+    Ok(Some(packet))
+}

@@ -1,0 +1,221 @@
+//! The reader of a link.
+
+ghost use Rattle.std.specs.Prelude.{◌≡◌, ◌≤◌, ◌-◌, None, Some, Err, true, false, [], ◌++◌, OnOk, OnErr, IfOk};
+ghost use Rattle.link_io.specs.Limits.{refusal, limit_after};
+ghost use Rattle.link_io.specs.Reading.{FeedsPiece, Gave, MakesNext, Offers, Puts, Reads};
+ghost use Rattle.link_io.specs.Decoding.{MadeOfFrames, MadeOfPackets};
+ghost use Rattle.link_io.specs.declared.link_fault.LinkFault.{LinkFault as Fault};
+
+use crate::client_frames::ClientFrames;
+use crate::decoder::Decoder;
+use crate::gate::Gate;
+use crate::limit::Limit;
+use crate::link_fault::LinkFault;
+use crate::piece::Piece;
+use crate::port_packets::PortPackets;
+use crate::progress::Progress;
+use gate_events::{ClientNumber, Event, PortNumber};
+use std::alloc::{AllocError, Global};
+use std::io::Read;
+use std::marker::Model;
+
+/// Reads a link's stream, and puts the events that its decoder makes of it.
+///
+/// Contracts see the decoder, the bytes of the last read where nothing was made of them for want of memory, and an
+/// event that was given back.
+#[derive(Drop)]
+pub struct Reader<D> {
+    decoder: D,
+    piece: Piece,
+    offered: Option<Event>,
+    limit: Limit,
+}
+
+/// The reader of a client's link.
+pub type ClientReader = Reader<ClientFrames>;
+
+/// The reader of a port's link.
+pub type PortReader = Reader<PortPackets>;
+
+impl<D> Model for Reader<D> {
+    ghost use Rattle.std.specs.Option.{option_map};
+    ghost use Rattle.gate_events.specs.Seen.{event_seen};
+    ghost use Rattle.link_io.specs.Reading.{Reading};
+
+    ghost Value = { Reading D };
+
+    ghost view = { λ r. record {
+      decoder = r.decoder;
+      piece = r.piece;
+      offered = option_map event_seen r.offered;
+      limit = r.limit;
+    } };
+}
+
+impl Reader<ClientFrames> {
+    /// The reader of a link of this client. At the step of number `steps`, 1 or more, they are used up. Takes no
+    /// memory.
+    pub fn new(alloc: Global, client: ClientNumber, link: u64, steps: u64) -> ClientReader
+        requires from_one { 1 ≤ steps }
+        ensures begins { Gave MadeOfFrames [] [] result }
+        ensures source { (result.decoder.client ≡ client) × (result.decoder.link ≡ link) }
+        ensures limit { result.limit ≡ record { left = steps - 1; over = None } }
+    {
+        Reader::with(ClientFrames::new(alloc, client, link), steps)
+    }
+}
+
+impl Reader<PortPackets> {
+    /// The reader of a link of this port. At the step of number `steps`, 1 or more, they are used up. Takes no memory.
+    pub fn new(alloc: Global, port: PortNumber, link: u64, steps: u64) -> PortReader
+        requires from_one { 1 ≤ steps }
+        ensures begins { Gave MadeOfPackets [] [] result }
+        ensures source { (result.decoder.port ≡ port) × (result.decoder.link ≡ link) }
+        ensures limit { result.limit ≡ record { left = steps - 1; over = None } }
+    {
+        Reader::with(PortPackets::new(alloc, port, link), steps)
+    }
+}
+
+impl<D: Decoder> Reader<D> {
+    /// The reader of a link, with what makes its events.
+    pub(crate) fn with(decoder: D, steps: u64) -> Reader<D>
+        requires from_one { 1 ≤ steps }
+        ensures { result ≡ record {
+          decoder = decoder;
+          piece = [];
+          offered = None;
+          limit = record { left = steps - 1; over = None };
+        } }
+    {
+        Reader {
+            decoder,
+            piece: Piece::new(),
+            offered: None,
+            limit: Limit::new(steps),
+        }
+    }
+
+    /// Puts what was given back or not yet made of what was read, then reads once, at most 4,096 bytes, and puts the
+    /// events that stand whole in the stream then, with this moment: milliseconds since 1970.
+    ///
+    /// `ReadFailed` where the read failed, `Malformed` where too long a frame or an empty packet follows: the events
+    /// before it are put. `StepLimit` at the last step, without a read. After `NoMemory` what was read stays, and the
+    /// next step goes on with it. After any other fault each step answers the same and does nothing.
+    pub fn step<R: Read, G: Gate>(
+        &mut self,
+        alloc: Global,
+        stream: &mut R,
+        gate: &mut G,
+        at: u64,
+    ) -> Result<Progress, LinkFault>
+        ensures reads { refusal self.old.limit ≡ None → Reads D.made D.are_all result self.old self.new
+            (G.was_put gate.old) (G.was_put gate.new) (R.remaining stream.old) (R.remaining stream.new) }
+        ensures refused { (fault : Fault) → refusal self.old.limit ≡ Some fault
+            → (result ≡ Err fault) × (stream.new ≡ stream.old) × (gate.new ≡ gate.old) }
+        ensures limit { self.new.limit ≡ limit_after self.old.limit result }
+        ensures source { D.source self.new.decoder ≡ D.source self.old.decoder }
+        ensures none_taken { G.was_taken gate.new ≡ G.was_taken gate.old }
+    {
+        self.limit.begin()?;
+        match self.read_on(alloc, stream, gate, at) {
+            Ok(progress) => Ok(progress),
+            Err(fault) => {
+                self.limit.fail(fault);
+                Err(fault)
+            }
+        }
+    }
+
+    /// The same, of a link that goes on.
+    fn read_on<R: Read, G: Gate>(
+        &mut self,
+        alloc: Global,
+        stream: &mut R,
+        gate: &mut G,
+        at: u64,
+    ) -> Result<Progress, LinkFault>
+        ensures reads { Reads D.made D.are_all result self.old self.new
+            (G.was_put gate.old) (G.was_put gate.new) (R.remaining stream.old) (R.remaining stream.new) }
+        ensures limit { self.new.limit ≡ self.old.limit }
+        ensures source { D.source self.new.decoder ≡ D.source self.old.decoder }
+        ensures none_taken { G.was_taken gate.new ≡ G.was_taken gate.old }
+    {
+        if !self.put_all(alloc, gate, at)? {
+            return Ok(Progress::Held);
+        }
+        let count = self.piece.fill(stream)?;
+        if count == 0 {
+            return Ok(Progress::Ended);
+        }
+        if !self.put_all(alloc, gate, at)? {
+            return Ok(Progress::Held);
+        }
+        Ok(Progress::Read(count))
+    }
+
+    /// Puts what was given back and what can be made of what was read: whether all was taken.
+    fn put_all<G: Gate>(&mut self, alloc: Global, gate: &mut G, at: u64) -> Result<bool, LinkFault>
+        ensures puts { Puts D.made D.are_all result self.old self.new (G.was_put gate.old) (G.was_put gate.new) }
+        ensures limit { self.new.limit ≡ self.old.limit }
+        ensures source { D.source self.new.decoder ≡ D.source self.old.decoder }
+        ensures none_taken { G.was_taken gate.new ≡ G.was_taken gate.old }
+    {
+        if !self.offer(gate) {
+            return Ok(false);
+        }
+        self.feed(alloc)?;
+        while self.make(alloc, at)? {
+            if !self.offer(gate) {
+                return Ok(false);
+            }
+        }
+        Ok(true)
+    }
+
+    /// Puts what was given back, where something was: whether nothing is left to be put.
+    fn offer<G: Gate>(&mut self, gate: &mut G) -> bool
+        ensures offers { Offers result self.old self.new (G.was_put gate.old) (G.was_put gate.new) }
+        ensures none_taken { G.was_taken gate.new ≡ G.was_taken gate.old }
+    {
+        let Some(event) = self.offered.take() else {
+            return true;
+        };
+        match gate.put(event) {
+            Ok(()) => true,
+            Err(back) => {
+                self.offered = Some(back);
+                false
+            }
+        }
+    }
+
+    /// The decoder takes what was read. Where memory runs out it stays.
+    fn feed(&mut self, alloc: Global) -> Result<(), AllocError>
+        ensures ok { OnOk result (FeedsPiece D.made self.old self.new) }
+        ensures err { OnErr result (self.new ≡ self.old) }
+        ensures limit { self.new.limit ≡ self.old.limit }
+        ensures source { D.source self.new.decoder ≡ D.source self.old.decoder }
+    {
+        self.decoder.feed(alloc, self.piece.as_slice())?;
+        self.piece.clear();
+        Ok(())
+    }
+
+    /// Makes the next event, to be put: whether there is one.
+    fn make(&mut self, alloc: Global, at: u64) -> Result<bool, LinkFault>
+        requires put { self.old.offered ≡ None }
+        requires fed { self.old.piece ≡ [] }
+        ensures makes { MakesNext D.made D.are_all D.to_make result self.old self.new }
+        ensures limit { self.new.limit ≡ self.old.limit }
+        ensures source { D.source self.new.decoder ≡ D.source self.old.decoder }
+    {
+        match self.decoder.make(alloc, at)? {
+            Some(event) => {
+                self.offered = Some(event);
+                Ok(true)
+            }
+            None => Ok(false),
+        }
+    }
+}

@@ -1,0 +1,273 @@
+//! The writer of a link.
+
+ghost use Rattle.std.specs.Prelude.{◌≡◌, ◌≤◌, ◌+◌, ◌-◌, ◌++◌, ◌∷◌, ◌||◌, not, nat_lt, ℕ, List, [], None, Err, length};
+ghost use Rattle.std.specs.Prelude.{true, false, IfOk, OnOk, OnErr, MatchResult};
+ghost use Rattle.gate_events.specs.Seen.{link_out_seen};
+ghost use Rattle.link_io.specs.Limits.{refusal, limit_after};
+ghost use Rattle.link_io.specs.Writing.{bytes_told, Joins, TakesList, Refills, Sends, Writes};
+ghost use Rattle.link_io.specs.declared.link_fault.LinkFault.{LinkFault as Fault};
+
+use crate::gate::Gate;
+use crate::limit::Limit;
+use crate::link_fault::LinkFault;
+use gate_events::{LinkOut, closes_link};
+use std::alloc::{AllocError, Global};
+use std::io::Write;
+use std::marker::Model;
+
+/// The most lists that are taken before they are written.
+const MOST_LISTS: u32 = 64;
+
+/// So many bytes are enough to be written: behind them no further list is taken.
+const ENOUGH_BYTES: usize = 16_384;
+
+/// What a step of a writer did.
+#[derive(Clone, Copy, Debug, PartialEq, Eq)]
+pub struct Wrote {
+    /// How many bytes went out.
+    pub bytes: u64,
+    /// Whether a list was taken, in this step or in those before it that failed for want of memory.
+    pub taken: bool,
+    /// Whether this link's `Close` stood in one of these lists.
+    pub closed: bool,
+}
+
+/// Writes what a link is told onto its stream. What other links are told it passes over.
+///
+/// Contracts see the bytes that were taken and not yet written, and what is still to be told of the lists taken.
+#[derive(Debug, Drop)]
+pub struct BatchWriter {
+    number: u16,
+    link: u64,
+    /// A list that was taken, and how much of it is joined.
+    held: Vec<LinkOut>,
+    joined: usize,
+    /// What is to be written, but for the rest of the list.
+    pending: Vec<u8>,
+    is_taken: bool,
+    is_closing: bool,
+    limit: Limit,
+}
+
+impl Model for BatchWriter {
+    ghost use Rattle.std.specs.Prelude.{◌≤◌, length, map, drop};
+    ghost use Rattle.gate_events.specs.Seen.{link_out_seen};
+    ghost use Rattle.link_io.specs.Writing.{WriterState};
+
+    ghost Value = { WriterState };
+
+    ghost view = { λ w. record {
+      number = w.number;
+      link = w.link;
+      bytes = w.pending.items;
+      held = map link_out_seen (drop w.joined w.held.items);
+      is_taken = w.is_taken;
+      is_closing = w.is_closing;
+      limit = w.limit;
+    } };
+
+    ghost invariant = { λ w. w.joined ≤ length w.held.items };
+}
+
+impl BatchWriter {
+    /// The writer of a link of the client or port of this number. At the step of number `steps`, 1 or more, they are
+    /// used up. Takes no memory.
+    pub fn new(alloc: Global, number: u16, link: u64, steps: u64) -> BatchWriter
+        requires from_one { 1 ≤ steps }
+        ensures { result ≡ record {
+          number = number;
+          link = link;
+          bytes = [];
+          held = [];
+          is_taken = false;
+          is_closing = false;
+          limit = record { left = steps - 1; over = None };
+        } }
+    {
+        BatchWriter {
+            number,
+            link,
+            held: Vec::new(alloc),
+            joined: 0,
+            pending: Vec::new(alloc),
+            is_taken: false,
+            is_closing: false,
+            limit: Limit::new(steps),
+        }
+    }
+
+    /// The number of its client or port. Takes no memory.
+    pub fn number(&self) -> u16
+        ensures { result ≡ self.now.number }
+    {
+        self.number
+    }
+
+    /// Takes the lists that lie there, and writes what they tell this link. Up to 64 are taken, none behind 16,384
+    /// bytes or behind one that closes this link.
+    ///
+    /// `WriteFailed` where a write fails or takes no byte: of what was to be written the first bytes went out.
+    /// `StepLimit` at the last step, without a write. After `NoMemory` nothing was written in the step: what was taken
+    /// is kept, and the next step goes on with it. After any other fault each step answers the same and does nothing.
+    pub fn step<W: Write, G: Gate>(
+        &mut self,
+        alloc: Global,
+        stream: &mut W,
+        gate: &mut G,
+    ) -> Result<Wrote, LinkFault>
+        ensures writes { refusal self.old.limit ≡ None → Writes result self.old self.new
+            (G.was_taken gate.old) (G.was_taken gate.new) (W.contents stream.old) (W.contents stream.new) }
+        ensures refused { (fault : Fault) → refusal self.old.limit ≡ Some fault
+            → (result ≡ Err fault) × (stream.new ≡ stream.old) × (gate.new ≡ gate.old) }
+        ensures limit { self.new.limit ≡ limit_after self.old.limit result }
+        ensures none_put { G.was_put gate.new ≡ G.was_put gate.old }
+    {
+        self.limit.begin()?;
+        match self.write_lists(alloc, stream, gate) {
+            Ok(wrote) => Ok(wrote),
+            Err(fault) => {
+                self.limit.fail(fault);
+                Err(fault)
+            }
+        }
+    }
+
+    /// The same, of a link that goes on.
+    fn write_lists<W: Write, G: Gate>(
+        &mut self,
+        alloc: Global,
+        stream: &mut W,
+        gate: &mut G,
+    ) -> Result<Wrote, LinkFault>
+        ensures writes { Writes result self.old self.new
+            (G.was_taken gate.old) (G.was_taken gate.new) (W.contents stream.old) (W.contents stream.new) }
+        ensures limit { self.new.limit ≡ self.old.limit }
+        ensures none_put { G.was_put gate.new ≡ G.was_put gate.old }
+    {
+        self.refill(alloc, gate)?;
+        write_out(stream, self.pending.as_slice())?;
+        Ok(self.told())
+    }
+
+    /// What is to be told of a step that wrote all.
+    fn told(&mut self) -> Wrote
+        requires { self.old.held ≡ [] }
+        ensures wrote { result ≡ record {
+          bytes = length self.old.bytes;
+          taken = self.old.is_taken;
+          closed = self.old.is_closing;
+        } }
+        ensures left { self.new ≡ record self.old { bytes = []; is_taken = false; is_closing = false } }
+    {
+        let wrote = Wrote {
+            bytes: self.pending.len() as u64,
+            taken: self.is_taken,
+            closed: self.is_closing,
+        };
+        self.pending.clear();
+        self.is_taken = false;
+        self.is_closing = false;
+        wrote
+    }
+
+    /// Takes lists, and joins what they tell this link.
+    fn refill<G: Gate>(&mut self, alloc: Global, gate: &mut G) -> Result<(), AllocError>
+        ensures refills { Refills self.old self.new (G.was_taken gate.old) (G.was_taken gate.new) }
+        ensures joined { OnOk result (self.new.held ≡ []) }
+        ensures none_put { G.was_put gate.new ≡ G.was_put gate.old }
+    {
+        self.join(alloc)?;
+        for _ in 0..MOST_LISTS {
+            if self.has_enough() {
+                break;
+            }
+            if !self.take_list(gate) {
+                break;
+            }
+            self.join(alloc)?;
+        }
+        Ok(())
+    }
+
+    /// Whether no further list is to be taken before what there is is written.
+    fn has_enough(&self) -> bool
+        ensures { self.now.is_closing ≡ true → result ≡ true }
+    {
+        self.is_closing || self.pending.len() >= ENOUGH_BYTES
+    }
+
+    /// Takes a list, where there is one.
+    fn take_list<G: Gate>(&mut self, gate: &mut G) -> bool
+        requires { self.old.held ≡ [] }
+        ensures takes { TakesList result self.old self.new (G.was_taken gate.old) (G.was_taken gate.new) }
+        ensures none_put { G.was_put gate.new ≡ G.was_put gate.old }
+    {
+        let Some(outs) = gate.take() else {
+            return false;
+        };
+        self.is_taken = true;
+        self.is_closing = self.is_closing || closes_link(Some(self.link), outs.as_slice());
+        self.held = outs;
+        self.joined = 0;
+        true
+    }
+
+    /// Joins what is left of the list that is held. Where memory runs out the rest stays.
+    fn join(&mut self, alloc: Global) -> Result<(), AllocError>
+        ensures joins { Joins self.old self.new }
+        ensures joined { OnOk result (self.new.held ≡ []) }
+    {
+        while self.join_next(alloc)? {}
+        Ok(())
+    }
+
+    /// Joins what is next in the list that is held, where there is something. One growth.
+    fn join_next(&mut self, _alloc: Global) -> Result<bool, AllocError>
+        ensures joins { Joins self.old self.new }
+        ensures none { IfOk result (λ more. more ≡ false → self.new.held ≡ []) }
+        ensures next { IfOk result (λ more. more ≡ true → length self.old.held ≡ length self.new.held + 1) }
+    {
+        if self.joined == self.held.len() {
+            return Ok(false);
+        }
+        append_told(&mut self.pending, self.link, &self.held[self.joined])?;
+        self.joined += 1;
+        Ok(true)
+    }
+}
+
+/// Appends what a link is told to be written, where it is this link.
+fn append_told(bytes: &mut Vec<u8>, link: u64, out: &LinkOut) -> Result<(), AllocError>
+    ensures ok { OnOk result (bytes.new.items ≡ bytes.old.items ++ bytes_told link (link_out_seen out.now)) }
+    ensures err { OnErr result (bytes.new.items ≡ bytes.old.items) }
+{
+    match out {
+        LinkOut::Write {
+            link: to,
+            bytes: told,
+        } => {
+            if *to == link {
+                return bytes.extend_from_slice(told.as_slice());
+            }
+            Ok(())
+        }
+        LinkOut::Close { .. } => Ok(()),
+    }
+}
+
+/// Writes all of these bytes. A write that takes none of some failed.
+fn write_out<W: Write>(stream: &mut W, bytes: &[u8]) -> Result<(), LinkFault>
+    ensures { Sends result bytes.now (W.contents stream.old) (W.contents stream.new) }
+{
+    let mut rest = bytes;
+    while !rest.is_empty() {
+        match stream.write(rest) {
+            Ok(0) | Err(_) => return Err(LinkFault::WriteFailed),
+            Ok(count) => {
+                let (_, left) = rest.split_at(count);
+                rest = left;
+            }
+        }
+    }
+    Ok(())
+}
