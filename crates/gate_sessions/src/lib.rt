@@ -7,7 +7,6 @@
 mod client_bodies;
 mod client_line;
 mod client_lines;
-mod issued_report;
 mod laws;
 mod port_line;
 mod port_lines;
@@ -18,10 +17,10 @@ pub use client_line::ClientLine;
 pub use client_lines::{
     client_close, client_frame, client_gone, client_issue, client_tick, client_up,
 };
-pub use issued_report::IssuedReport;
 pub use laws::issues_are_what_is_reported;
 pub use port_line::PortLine;
 pub use port_lines::{
     port_close, port_fail, port_gone, port_packet, port_send, port_tick, port_up,
 };
 pub use port_messages::port_send_all;
+pub use session_writing::IssuedReport;
