@@ -16,4 +16,4 @@ mod writing;
 
 pub use frame_fault::FrameFault;
 pub use framer::Framer;
-pub use writing::frame;
+pub use writing::{frame, frame_of_text};

@@ -1,2 +1,4 @@
+mod Issuing
 mod Logons
+mod Resends
 mod Turns

@@ -29,6 +29,7 @@ pub fn answer(
 ) -> Result<(), AllocError>
     requires quiet { made session.now draft.old ≡ quiet (made session.now draft.old).state }
     requires given { (made session.now draft.old).state.given ≡ session.now.given }
+    requires silent { (draft.old.resends ≡ None) × (draft.old.outs.items ≡ []) }
     requires expected { draft.old.expected < 2 ^ 61 }
     requires row { RowFits m.now (length session.now.given) row }
     ensures { OnOk result (made session.now draft.new
@@ -54,7 +55,7 @@ pub fn answer(
         Row::TooLow => too_low(alloc, draft, session, session.expected(), numbered(m), at),
         Row::LoggedOut => draft.log_out_silently(alloc, session, at),
         Row::GapWithResend(Taken::SentAgain { from, to }) => {
-            draft.send_again(alloc, session, from, to, at)?;
+            draft.send_again(session, from, to, at);
             ask_unless_waiting(alloc, draft, session, numbered(m), at)
         }
         Row::GapWithResend(taken) => {
@@ -63,7 +64,7 @@ pub fn answer(
         }
         Row::Gap => ask_unless_waiting(alloc, draft, session, numbered(m), at),
         Row::Taken(Taken::SentAgain { from, to }) => {
-            draft.send_again(alloc, session, from, to, at)?;
+            draft.send_again(session, from, to, at);
             draft.grow(session, at);
             Ok(())
         }
@@ -166,7 +167,7 @@ fn unsupported(
         ≡ perform at (made session.now draft.old) (SayUnsupported (table.unsupported_body m.now))) }
 {
     let body = unsupported_body(alloc, m)?;
-    draft.say_kept(alloc, session, Kind::BusinessReject, body, at)
+    draft.say_kept(session, Kind::BusinessReject, body, at)
 }
 
 /// A Logout for a number that is too low.

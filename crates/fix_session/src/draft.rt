@@ -2,15 +2,25 @@
 
 ghost use Rattle.session_law.specs.Table as table;
 ghost use Rattle.std.specs.Prelude.{max, fold, ◌≤◌, ◌≡◌, ◌+◌, ◌<◌, ◌^◌, ◌∷◌, ◌++◌, [], length, IfOk, OnErr, OnOk, Some};
-ghost use Rattle.std.specs.Prelude.{None, true, false, if◌then◌else◌};
+ghost use Rattle.std.specs.Prelude.{None, nat_le, true, false, if◌then◌else◌};
+ghost use Rattle.session_law.specs.Session.{on_written};
 
 use crate::session::Session;
 use fix_fields::Fields;
 use fix_types::AppMsg;
-use session_law::{Frame, Kept, Kind, Logged, Out, Phase};
+use session_law::{Frame, Kind, Logged, Out, Phase};
 use session_reading::application_of;
-use session_writing::{append_resend, ask_body, echo_body, reject_body, text_body};
+use session_writing::{KeptBodies, ask_body, echo_body, printed_fields, reject_body, text_body};
 use std::alloc::{AllocError, Global};
+
+/// Numbers that are sent again, from one to another, at a moment.
+#[derive(Clone, Copy, Debug)]
+pub struct Resend {
+    pub from: u64,
+    pub to: u64,
+    /// In milliseconds since 1970.
+    pub at: u64,
+}
 
 /// What a call gives, as far as it is made.
 #[derive(Debug, Drop)]
@@ -21,7 +31,9 @@ pub struct Draft {
     /// Whether both numbers begin at 1 again, with nothing kept.
     pub resets: bool,
     /// What the numbers that it takes are given to.
-    pub slots: Vec<Option<Kept>>,
+    pub slots: KeptBodies,
+    /// The numbers that are sent again before all else, where some are asked for.
+    pub resends: Option<Resend>,
     pub outs: Vec<Out>,
     /// The message, where it is delivered to the application.
     pub app: Option<AppMsg>,
@@ -31,7 +43,7 @@ impl Draft {
     ghost use Rattle.session_law.specs.Runs.{at_moment, heard};
     ghost use Rattle.session_law.specs.Table.{is_logged_on};
     ghost use Rattle.session_law.specs.Session.{quiet, logged, reset, Logon, perform, numbered, said, kept, next_out};
-    ghost use Rattle.session_law.specs.Session.{on_written, Given, Say, Shut, Grow, Expect, Slot, AskAgain, Test};
+    ghost use Rattle.session_law.specs.Session.{Given, Say, Shut, Grow, Expect, Slot, AskAgain, Test};
     ghost use Rattle.session_law.specs.Session.{Deliver, sent_again};
     ghost use Rattle.session_law.specs.Formats.{application_refusal};
     ghost use Rattle.session_law.specs.Table.{reject_act, log_out, log_out_silently};
@@ -42,7 +54,8 @@ impl Draft {
     pub fn at(alloc: Global, session: &Session, at: u64) -> Draft
         ensures made { made session.now result ≡ quiet (at_moment at session.now) }
         ensures fresh { result.resets ≡ false }
-        ensures none { result.slots.items ≡ [] }
+        ensures none { result.slots ≡ [] }
+        ensures silent { (result.resends ≡ None) × (result.outs.items ≡ []) }
         ensures expected { result.expected ≤ 10 ^ 18 }
     {
         Draft {
@@ -50,7 +63,8 @@ impl Draft {
             expected: session.expected(),
             latest: session.latest().max(at),
             resets: false,
-            slots: Vec::new(alloc),
+            slots: KeptBodies::new(alloc),
+            resends: None,
             outs: Vec::new(alloc),
             app: None,
         }
@@ -60,7 +74,8 @@ impl Draft {
     pub fn heard_at(alloc: Global, session: &Session, at: u64) -> Draft
         ensures made { made session.now result ≡ quiet (heard (at_moment at session.now)) }
         ensures fresh { result.resets ≡ false }
-        ensures none { result.slots.items ≡ [] }
+        ensures none { result.slots ≡ [] }
+        ensures silent { (result.resends ≡ None) × (result.outs.items ≡ []) }
         ensures expected { result.expected ≤ 10 ^ 18 }
     {
         let mut draft = Draft::at(alloc, session, at);
@@ -98,7 +113,8 @@ impl Draft {
             expected: first_number(resets, session.expected()),
             latest,
             resets,
-            slots: Vec::new(alloc),
+            slots: KeptBodies::new(alloc),
+            resends: None,
             outs: Vec::new(alloc),
             app: None,
         }
@@ -116,47 +132,9 @@ impl Draft {
         (before + self.slots.len()) as u64 + 1
     }
 
-    /// A body takes a number and is kept. It is written where the client is logged on.
-    pub fn issue(
-        &mut self,
-        alloc: Global,
-        session: &Session,
-        kind: Kind,
-        body: Fields,
-        at: u64,
-    ) -> Result<(), AllocError>
-        ensures { OnOk result (made session.now self.new
-            ≡ kept at (is_logged_on self.old.phase) kind body (made session.now self.old)) }
-    {
-        match self.phase {
-            Phase::LoggedOn(on) => {
-                let number = self.next_number(session);
-                let copy = body.copied(alloc)?;
-                self.slots.push(Some(Kept { kind, body, at }))?;
-                self.outs.push(Out::Write(Frame {
-                    number,
-                    kind,
-                    body: copy,
-                    at,
-                    first: None,
-                }))?;
-                self.phase = Phase::LoggedOn(Logged {
-                    written: self.latest,
-                    ..on
-                });
-                Ok(())
-            }
-            _ => {
-                self.slots.push(Some(Kept { kind, body, at }))?;
-                Ok(())
-            }
-        }
-    }
-
     /// A frame under the next number, whose body is kept.
     pub fn say_kept(
         &mut self,
-        alloc: Global,
         session: &Session,
         kind: Kind,
         body: Fields,
@@ -165,12 +143,11 @@ impl Draft {
         ensures { OnOk result (made session.now self.new ≡ kept at true kind body (made session.now self.old)) }
     {
         let number = self.next_number(session);
-        let copy = body.copied(alloc)?;
-        self.slots.push(Some(Kept { kind, body, at }))?;
+        self.slots.keep(kind, printed_fields(&body), at)?;
         self.outs.push(Out::Write(Frame {
             number,
             kind,
-            body: copy,
+            body,
             at,
             first: None,
         }))?;
@@ -189,7 +166,7 @@ impl Draft {
         ensures { OnOk result (made session.now self.new ≡ said at kind body (made session.now self.old)) }
     {
         let number = self.next_number(session);
-        self.slots.push(None)?;
+        self.slots.fill()?;
         self.outs.push(Out::Write(Frame {
             number,
             kind,
@@ -321,27 +298,17 @@ impl Draft {
         Ok(())
     }
 
-    /// Numbers sent again, where nothing else is written yet.
-    pub fn send_again(
-        &mut self,
-        alloc: Global,
-        session: &Session,
-        from: u64,
-        to: u64,
-        at: u64,
-    ) -> Result<(), AllocError>
+    /// Numbers sent again, where nothing else is written yet. Takes no memory.
+    pub fn send_again(&mut self, session: &Session, from: u64, to: u64, at: u64)
         requires given { (made session.now self.old).state.given ≡ session.now.given }
+        requires silent { (self.old.resends ≡ None) × (self.old.outs.items ≡ []) }
         requires from { 1 ≤ from }
         requires to { to ≤ length session.now.given }
-        ensures { OnOk result (made session.now self.new
-            ≡ sent_again at (made session.now self.old) (Some (record { from = from; to = to }))) }
+        ensures { made session.now self.new
+            ≡ sent_again at (made session.now self.old) (Some (record { from = from; to = to })) }
     {
-        let before = self.outs.len();
-        append_resend(alloc, &mut self.outs, session.given(), from, to, at)?;
-        if self.outs.len() > before {
-            self.mark_written();
-        }
-        Ok(())
+        self.resends = Some(Resend { from, to, at });
+        self.phase = phase_resent(self.phase, self.latest, from, to);
     }
 
     /// A frame was written now.
@@ -355,6 +322,16 @@ impl Draft {
                 ..on
             });
         }
+    }
+}
+
+/// How a client stands where numbers were sent again now, if there were any.
+fn phase_resent(phase: Phase, now: u64, from: u64, to: u64) -> Phase
+    ensures { result ≡ (if nat_le from to then on_written now phase else phase) }
+{
+    match phase {
+        Phase::LoggedOn(on) if from <= to => Phase::LoggedOn(Logged { written: now, ..on }),
+        other => other,
     }
 }
 

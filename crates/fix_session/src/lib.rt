@@ -15,5 +15,5 @@ mod logon;
 mod session;
 mod ticks;
 
-pub use session::{Session, SessionTurn};
-pub use session_writing::SessionOut;
+pub use session::{IssuedTurn, Session, SessionTurn};
+pub use session_writing::{IssuedReport, SessionOut};

@@ -1,20 +1,24 @@
 //! The session and its calls.
 
-ghost use Rattle.std.specs.Prelude.{◌≡◌, ◌≤◌, ◌<◌, ◌+◌, ◌^◌, ◌∷◌, [], List, ℕ, length, nat_le, if◌then◌else◌, IfOk};
+ghost use Rattle.std.specs.Prelude.{◌≡◌, ◌≤◌, ◌<◌, ◌+◌, ◌^◌, ◌∷◌, ◌++◌, [], List, map, ℕ, length, nat_le, if◌then◌else◌, IfOk};
 ghost use Rattle.std.specs.Prelude.{OnErr, OnOk, Some, None};
-ghost use Rattle.fix_fields.specs.Field.{Message};
+ghost use Rattle.session_law.specs.Session.{on_written};
+ghost use Rattle.session_law.specs.Table.{is_logged_on};
 
 use crate::answer::answer;
-use crate::draft::Draft;
+use crate::draft::{Draft, Resend};
 use crate::issues::{body_of, kind_of};
 use crate::judge::{judge, judge_logon};
 use crate::logon::answer_logon;
 use crate::ticks::do_due;
 use fix_fields::{Fields, Text};
 use fix_types::{AppBody, AppMsg};
-use session_law::{Frame, Kept, Kind, Phase};
+use session_law::{Kind, Logged, Phase};
 use session_reading::due_at;
-use session_writing::{SessionOut, fields_of_frame, written};
+use session_writing::{
+    FrameHead, IssuedReport, KeptBodies, SessionOut, append_written, issued_outs, printed_fields,
+    report_of_body,
+};
 use std::alloc::{AllocError, Global};
 use std::marker::Model;
 
@@ -27,7 +31,7 @@ pub struct Session {
     /// The number that is expected next: at most one above a number of 18 digits.
     expected: u64,
     /// What each number from 1 was given to: a body that is kept, or a frame that is gap filled.
-    given: Vec<Option<Kept>>,
+    given: KeptBodies,
     /// The latest moment of all calls.
     latest: u64,
 }
@@ -43,7 +47,7 @@ impl Model for Session {
       client = s.client;
       phase = s.phase;
       expected = s.expected;
-      given = s.given.items;
+      given = s.given;
       latest = s.latest;
     } };
 
@@ -59,6 +63,15 @@ pub struct SessionTurn {
     pub app: Option<AppMsg>,
 }
 
+/// What issuing a body gives.
+#[derive(Debug, Drop)]
+pub struct IssuedTurn {
+    /// What goes to the link: its frame, where the client is logged on.
+    pub turn: SessionTurn,
+    /// The body as it was issued, written or not.
+    pub report: IssuedReport,
+}
+
 impl Session {
     ghost use Rattle.session_law.specs.Session.{next_out, new_session, quiet, Given, fresh};
     ghost use Rattle.session_law.specs.Runs.{SessionHistory, Leaves, turn_after, step, Call, OnLink, OnMessage, OnTick};
@@ -72,7 +85,9 @@ impl Session {
     ghost use Rattle.session_law.specs.Frames.{frame_fields};
     ghost use Rattle.fix_stamp.specs.Stamp.{stamp_text};
     ghost use Rattle.fix_fields.specs.Field.{IsValue};
-    ghost use Rattle.fix_session.specs.Made.{made};
+    ghost use Rattle.session_law.specs.Frames.{told_of_out};
+    ghost use Rattle.session_writing.specs.Written.{told_bytes};
+    ghost use Rattle.fix_session.specs.Made.{made, resent_outs};
     ghost use Rattle.session_law.specs.Bounds.{MovesLittle};
 
     /// A session of a client with the gateway, by their names: no link, and number 1 on both sides.
@@ -85,7 +100,7 @@ impl Session {
             client,
             phase: Phase::Down,
             expected: 1,
-            given: Vec::new(alloc),
+            given: KeptBodies::new(alloc),
             latest: 0,
         }
     }
@@ -107,15 +122,18 @@ impl Session {
         self.expected()
     }
 
-    /// Issues a body: it takes a number and is kept, and is written where the client is logged on.
+    /// Issues a body: it takes a number and is kept, and is written where the client is logged on. Its text is made
+    /// once: the frame and what is kept are copies of it.
     pub fn issue(
         &mut self,
         alloc: Global,
         body: &AppBody,
         at: u64,
-    ) -> Result<SessionTurn, AllocError>
-        ensures turn { IfOk result (λ turn. Tells self.old.gate self.old.client turn
+    ) -> Result<IssuedTurn, AllocError>
+        ensures turn { IfOk result (λ issued. Tells self.old.gate self.old.client issued.turn
             (turn_after self.old at (call_of_body body.now))) }
+        ensures report { IfOk result (λ issued. issued.report ≡ frame_fields stamp_text self.old.gate self.old.client
+            (fresh (next_out self.old) (issues.issued_kind body.now) (issues.issued_body body.now) at)) }
         ensures leaves { OnOk result ((gate client : List ℕ) (h : SessionHistory) → Leaves gate client h self.old
             → Leaves gate client (turn_after self.old at (call_of_body body.now) ∷ h) self.new) }
         ensures headline { OnOk result ((gate client : List ℕ) (h : SessionHistory) → Leaves gate client h self.old
@@ -124,27 +142,7 @@ impl Session {
         ensures err { OnErr result (self.new ≡ self.old) }
     {
         let fields = body_of(alloc, body)?;
-        self.issue_step(alloc, kind_of(body), fields, at)
-    }
-
-    /// The fields from MsgType (35) on of the frame that `issue` numbers next with this body, written or not.
-    pub fn issued_fields(
-        &self,
-        alloc: Global,
-        body: &AppBody,
-        at: u64,
-    ) -> Result<Fields, AllocError>
-        ensures { IfOk result (λ fields. fields ≡ frame_fields stamp_text self.now.gate self.now.client
-            (fresh (next_out self.now) (issues.issued_kind body.now) (issues.issued_body body.now) at)) }
-    {
-        let frame = Frame {
-            number: self.last() + 1,
-            kind: kind_of(body),
-            body: body_of(alloc, body)?,
-            at,
-            first: None,
-        };
-        fields_of_frame(alloc, self.gate(), self.client(), &frame)
+        self.issue_step(alloc, kind_of(body), &fields, at)
     }
 
     /// A frame of the client.
@@ -242,10 +240,10 @@ impl Session {
         self.given.len() as u64
     }
 
-    pub(crate) fn given(&self) -> &[Option<Kept>]
+    pub(crate) fn given(&self) -> &KeptBodies
         ensures { result.now ≡ self.now.given }
     {
-        self.given.as_slice()
+        &self.given
     }
 
     /// Issues a body: it takes a number and is kept, and is written where the client is logged on.
@@ -253,15 +251,48 @@ impl Session {
         &mut self,
         alloc: Global,
         kind: Kind,
-        body: Fields,
+        body: &Fields,
         at: u64,
-    ) -> Result<SessionTurn, AllocError>
-        ensures meets { IfOk result (λ turn. Meets self.old (step self.old at (Issue kind body)) turn self.new) }
+    ) -> Result<IssuedTurn, AllocError>
+        ensures meets { IfOk result (λ issued. Meets self.old (step self.old at (Issue kind body.now)) issued.turn
+            self.new) }
+        ensures report { IfOk result (λ issued. issued.report ≡ frame_fields stamp_text self.old.gate self.old.client
+            (fresh (next_out self.old) kind body.now at)) }
         ensures err { OnErr result (self.new ≡ self.old) }
     {
-        let mut draft = Draft::at(alloc, self, at);
-        draft.issue(alloc, self, kind, body, at)?;
-        self.take(alloc, draft)
+        let report = self.next_report(alloc, kind, body, at)?;
+        let outs = issued_outs(alloc, self.phase, &report)?;
+        self.given.keep(kind, printed_fields(body), at)?;
+        self.latest = self.latest.max(at);
+        self.phase = phase_issued(self.phase, self.latest);
+        let turn = SessionTurn { outs, app: None };
+        Ok(IssuedTurn { turn, report })
+    }
+
+    /// The report of a body under the next number.
+    fn next_report(
+        &self,
+        alloc: Global,
+        kind: Kind,
+        body: &Fields,
+        at: u64,
+    ) -> Result<IssuedReport, AllocError>
+        ensures { IfOk result (λ report. report ≡ frame_fields stamp_text self.now.gate self.now.client
+            (fresh (next_out self.now) kind body.now at)) }
+    {
+        let head = FrameHead {
+            number: self.last() + 1,
+            kind,
+            at,
+            first: None,
+        };
+        report_of_body(
+            alloc,
+            self.gate(),
+            self.client(),
+            head,
+            printed_fields(body),
+        )
     }
 
     /// A frame of the client. Where it is judged, nothing changes; what it brings is made, and then taken over whole.
@@ -332,13 +363,8 @@ impl Session {
         ensures ok { IfOk result (λ turn. Meets self.old (made self.old draft) turn self.new) }
         ensures err { OnErr result (self.new ≡ self.old) }
     {
-        let outs = written(alloc, self.gate(), self.client(), draft.outs.as_slice())?;
-        let mut slots = draft.slots;
-        self.given.reserve(slots.len())?;
-        if draft.resets {
-            self.given.clear();
-        }
-        self.given.append(&mut slots).unwrap();
+        let outs = self.drafted_outs(alloc, &draft)?;
+        self.given.give(alloc, draft.resets, draft.slots)?;
         self.phase = draft.phase;
         self.expected = draft.expected;
         self.latest = draft.latest;
@@ -346,6 +372,42 @@ impl Session {
             outs,
             app: draft.app,
         })
+    }
+
+    /// What a draft has made for the link, in bytes.
+    fn drafted_outs(&self, alloc: Global, draft: &Draft) -> Result<Vec<SessionOut>, AllocError>
+        ensures { IfOk result (λ outs. map told_bytes outs.items
+            ≡ map (told_of_out self.now.gate self.now.client) (made self.now draft.now).outs) }
+    {
+        let mut outs = Vec::new(alloc);
+        self.append_again(alloc, &mut outs, draft.resends)?;
+        append_written(
+            alloc,
+            &mut outs,
+            self.gate(),
+            self.client(),
+            draft.outs.as_slice(),
+        )?;
+        Ok(outs)
+    }
+
+    /// Appends the numbers that are sent again, where some are asked for.
+    fn append_again(
+        &self,
+        alloc: Global,
+        outs: &mut Vec<SessionOut>,
+        resends: Option<Resend>,
+    ) -> Result<(), AllocError>
+        ensures { OnOk result (map told_bytes outs.new.items ≡ map told_bytes outs.old.items
+            ++ map (told_of_out self.now.gate self.now.client) (resent_outs self.now.given resends)) }
+    {
+        match resends {
+            None => Ok(()),
+            Some(Resend { from, to, at }) => {
+                let given = &self.given;
+                given.append_resend(alloc, outs, self.gate(), self.client(), from, to, at)
+            }
+        }
     }
 
     /// Time passes: silence of either side brings what is due.
@@ -357,5 +419,15 @@ impl Session {
         let due = due_at(self.phase, draft.latest);
         do_due(alloc, &mut draft, self, due, at)?;
         self.take(alloc, draft)
+    }
+}
+
+/// How a client stands where a body was issued now: it was written where the client is logged on.
+fn phase_issued(phase: Phase, now: u64) -> Phase
+    ensures { result ≡ (if is_logged_on phase then on_written now phase else phase) }
+{
+    match phase {
+        Phase::LoggedOn(on) => Phase::LoggedOn(Logged { written: now, ..on }),
+        other => other,
     }
 }

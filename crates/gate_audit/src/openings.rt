@@ -48,7 +48,8 @@ impl Openings {
             → read.HasTokenNumbers (reverse (map (said_to client) reports.now) ++ all) → ⊥ }
     {
         for report in reports {
-            self.hear(alloc, client, report.fields())?;
+            let fields = report.to_fields(alloc)?;
+            self.hear(alloc, client, &fields)?;
         }
         Ok(())
     }

@@ -37,7 +37,7 @@ fn copy_reports(
     ensures { IfOk result (λ u. to.new.items ≡ to.old.items ++ reports.now) }
 {
     for report in reports {
-        to.push(report.fields().copied(alloc)?)?;
+        to.push(report.to_fields(alloc)?)?;
     }
     Ok(())
 }

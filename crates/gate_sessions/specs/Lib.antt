@@ -1,6 +1,5 @@
 pub mod Leaving
 pub mod Lines
-pub mod Longest
 pub use Rattle.fix_fields.specs.Field
 pub use Rattle.fix_types.specs.Application
 pub use Rattle.gate_law.specs.Sessions
@@ -9,6 +8,7 @@ pub use Rattle.order_law.specs.Messages
 pub use Rattle.ouch_codec.specs.Inbound
 pub use Rattle.session_law.specs.Frames
 pub use Rattle.session_law.specs.Runs
+pub use Rattle.session_writing.specs.Longest
 pub use Rattle.session_writing.specs.Written
 pub use Rattle.soup_session.specs.Calls
 pub use Rattle.soup_session.specs.Table

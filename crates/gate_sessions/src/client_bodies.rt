@@ -13,16 +13,15 @@ ghost use Rattle.gate_sessions.specs.Lines.{ClientsLeave, ClientLinks, called, c
 
 use crate::client_line::ClientLine;
 use crate::client_lines::client_issue;
-use crate::issued_report::IssuedReport;
-use fix_session::SessionTurn;
+use fix_session::{IssuedTurn, SessionTurn};
 use fix_types::AppBody;
-use session_writing::SessionOut;
+use session_writing::{IssuedReport, SessionOut};
 use std::alloc::{AllocError, Global};
 
 /// What comes of bodies that are issued to one client.
 #[derive(Debug, Drop)]
 pub struct Issues {
-    /// Of each body, in order, the fields from MsgType (35) on of its frame, be the frame written or not.
+    /// Each body, in order, as it was issued, be its frame written or not: the fields from MsgType (35) on.
     pub reports: Vec<IssuedReport>,
     /// What goes to the client's link, in order.
     pub outs: Vec<SessionOut>,
@@ -62,7 +61,7 @@ pub fn client_issue_all(
     Ok(all)
 }
 
-/// Reports a body, and then issues it.
+/// Issues a body, and takes over what is reported of it and what goes to the link.
 fn issue_one(
     lines: &mut Vec<ClientLine>,
     alloc: Global,
@@ -84,25 +83,10 @@ fn issue_one(
     ensures links { (links : ℕ → Option ℕ) → ClientLinks links lines.old.items → ClientLinks links lines.new.items }
     ensures length { length lines.new.items ≡ length lines.old.items }
 {
-    let report = report_next(lines.as_slice(), alloc, place, body, at)?;
+    let IssuedTurn { turn, report } = client_issue(lines, alloc, place, body, at)?;
     all.reports.push(report)?;
-    let mut outs = outs_of(client_issue(lines, alloc, place, body, at)?);
+    let mut outs = outs_of(turn);
     all.outs.append(&mut outs)
-}
-
-/// The report of the body that is issued next.
-fn report_next(
-    lines: &[ClientLine],
-    alloc: Global,
-    place: usize,
-    body: &AppBody,
-    at: u64,
-) -> Result<IssuedReport, AllocError>
-    requires place { place < length lines.now }
-    ensures { IfOk result (λ report. (s : Settings) (calls : ℕ → List Timed) → ClientsLeave s calls lines.now
-        → report_issued s (place + 1) (calls (place + 1)) (issue_call at body.now) ≡ report ∷ []) }
-{
-    lines[place].report(alloc, body, at)
 }
 
 /// What goes to the link: an issued body brings no message of the client.

@@ -6,9 +6,8 @@ ghost use Rattle.gate_law.specs.Settings.{Settings, client_name};
 ghost use Rattle.gate_law.specs.Sessions.{client_answer, report_issued};
 ghost use Rattle.gate_sessions.specs.Leaving.{ClientLeaves, IsClientAnswer, expected_in, issue_call};
 
-use crate::issued_report::IssuedReport;
 use fix_fields::{Fields, Text};
-use fix_session::{Session, SessionTurn};
+use fix_session::{IssuedTurn, Session, SessionTurn};
 use fix_types::AppBody;
 use std::alloc::{AllocError, Global};
 
@@ -99,37 +98,20 @@ impl ClientLine {
         alloc: Global,
         body: &AppBody,
         at: u64,
-    ) -> Result<SessionTurn, AllocError>
+    ) -> Result<IssuedTurn, AllocError>
         ensures leaves { OnOk result ((s : Settings) (c : ℕ) (calls : List Timed)
             → ClientLeaves s c calls self.old.session
             → ClientLeaves s c (issue_call at body.now ∷ calls) self.new.session) }
-        ensures answers { IfOk result (λ turn. (s : Settings) (c : ℕ) (calls : List Timed)
+        ensures answers { IfOk result (λ issued. (s : Settings) (c : ℕ) (calls : List Timed)
             → ClientLeaves s c calls self.old.session
-            → IsClientAnswer s c (client_answer s c calls (issue_call at body.now)) turn) }
+            → IsClientAnswer s c (client_answer s c calls (issue_call at body.now)) issued.turn) }
+        ensures report { IfOk result (λ issued. (s : Settings) (c : ℕ) (calls : List Timed)
+            → ClientLeaves s c calls self.old.session
+            → report_issued s c calls (issue_call at body.now) ≡ issued.report ∷ []) }
         ensures link { self.new.link ≡ self.old.link }
         ensures err { OnErr result (self.new ≡ self.old) }
     {
         self.session.issue(alloc, body, at)
-    }
-
-    /// The fields from MsgType (35) on of the frame that `issues` makes of this body, written or not.
-    pub fn report(&self, alloc: Global, body: &AppBody, at: u64) -> Result<IssuedReport, AllocError>
-        ensures { IfOk result (λ report. (s : Settings) (c : ℕ) (calls : List Timed)
-            → ClientLeaves s c calls self.now.session
-            → report_issued s c calls (issue_call at body.now) ≡ report ∷ []) }
-    {
-        let fields = self.next_fields(alloc, body, at)?;
-        let report = within_limit(fields)?;
-        Ok(report)
-    }
-
-    /// The fields, from MsgType (35) on, of the body that is issued next.
-    fn next_fields(&self, alloc: Global, body: &AppBody, at: u64) -> Result<Fields, AllocError>
-        ensures { IfOk result (λ fields. (s : Settings) (c : ℕ) (calls : List Timed)
-            → ClientLeaves s c calls self.now.session
-            → report_issued s c calls (issue_call at body.now) ≡ fields ∷ []) }
-    {
-        self.session.issued_fields(alloc, body, at)
     }
 
     /// The number that is expected of the client's next frame (MsgSeqNum, 34), from 1.
@@ -140,16 +122,5 @@ impl ClientLine {
             → result ≡ expected_in s c calls }
     {
         self.session.next_in()
-    }
-}
-
-/// The report of these fields; where they print in more than `IssuedReport::LONGEST` bytes it is answered as want of
-/// memory. No report does, since its longest texts are those of a frame of 8,192 bytes at most; that isn't proved.
-fn within_limit(fields: Fields) -> Result<IssuedReport, AllocError>
-    ensures { IfOk result (λ report. report ≡ fields) }
-{
-    match IssuedReport::of(fields) {
-        Some(report) => Ok(report),
-        None => Err(AllocError),
     }
 }

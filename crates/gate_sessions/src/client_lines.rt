@@ -1,16 +1,16 @@
 //! Calls on the client's line at a place.
 
-ghost use Rattle.std.specs.Prelude.{◌≡◌, ◌<◌, ◌+◌, ℕ, List, ◌∷◌, Option, Some, None, IfOk, OnOk, OnErr, length};
+ghost use Rattle.std.specs.Prelude.{◌≡◌, ◌<◌, ◌+◌, ℕ, List, [], ◌∷◌, Option, Some, None, IfOk, OnOk, OnErr, length};
 ghost use Rattle.std.specs.Prelude.{slice_get, slice_set, true, false};
 ghost use Rattle.session_law.specs.Runs.{Timed, OnLink, OnMessage, OnTick};
 ghost use Rattle.gate_law.specs.Settings.{Settings};
-ghost use Rattle.gate_law.specs.Sessions.{client_answer};
+ghost use Rattle.gate_law.specs.Sessions.{client_answer, report_issued};
 ghost use Rattle.gate_sessions.specs.Leaving.{ClientLeaves, IsClientAnswer, issue_call};
 ghost use Rattle.gate_sessions.specs.Lines.{ClientsLeave, ClientLinks, called, link_set};
 
 use crate::client_line::ClientLine;
 use fix_fields::Fields;
-use fix_session::SessionTurn;
+use fix_session::{IssuedTurn, SessionTurn};
 use fix_types::AppBody;
 use std::alloc::{AllocError, Global};
 
@@ -97,14 +97,17 @@ pub fn client_issue(
     place: usize,
     body: &AppBody,
     at: u64,
-) -> Result<SessionTurn, AllocError>
+) -> Result<IssuedTurn, AllocError>
     requires place { place < length lines.old.items }
     ensures leave { OnOk result ((s : Settings) (calls : ℕ → List Timed) → ClientsLeave s calls lines.old.items
         → ClientsLeave s (called (place + 1) (issue_call at body.now) calls) lines.new.items) }
-    ensures answers { IfOk result (λ turn. (s : Settings) (calls : ℕ → List Timed)
+    ensures answers { IfOk result (λ issued. (s : Settings) (calls : ℕ → List Timed)
         → ClientsLeave s calls lines.old.items
         → IsClientAnswer s (place + 1) (client_answer s (place + 1) (calls (place + 1))
-        (issue_call at body.now)) turn) }
+        (issue_call at body.now)) issued.turn) }
+    ensures report { IfOk result (λ issued. (s : Settings) (calls : ℕ → List Timed)
+        → ClientsLeave s calls lines.old.items
+        → report_issued s (place + 1) (calls (place + 1)) (issue_call at body.now) ≡ issued.report ∷ []) }
     ensures links { (links : ℕ → Option ℕ) → ClientLinks links lines.old.items → ClientLinks links lines.new.items }
     ensures length { length lines.new.items ≡ length lines.old.items }
 {

@@ -7,7 +7,6 @@
 mod client_bodies;
 mod client_line;
 mod client_lines;
-mod issued_report;
 mod laws;
 mod port_line;
 mod port_lines;
@@ -18,7 +17,6 @@ pub use client_line::ClientLine;
 pub use client_lines::{
     client_close, client_frame, client_gone, client_issue, client_tick, client_up,
 };
-pub use issued_report::IssuedReport;
 pub use laws::issues_are_what_is_reported;
 pub use port_line::PortLine;
 pub use port_lines::{
@@ -26,3 +24,4 @@ pub use port_lines::{
     ports_undo,
 };
 pub use port_messages::port_send_all;
+pub use session_writing::IssuedReport;

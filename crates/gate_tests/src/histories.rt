@@ -7,6 +7,7 @@ use fix_fields::{Fields, split};
 use gate_audit::audit;
 use gate_core::{Batch, ClientNumber, Event, IssuedReport, PortNumber};
 use gate_journal::History;
+use session_writing::{PrintedFields, printed_fields};
 use std::alloc::Global;
 use std::test::Fail;
 
@@ -72,7 +73,9 @@ fn told(alloc: Global, client: ClientNumber, reports: &[&[u8]]) -> Result<Batch,
 
 /// A report of these fields.
 fn issued(alloc: Global, report: &[u8]) -> Result<IssuedReport, Fail> {
-    match IssuedReport::of(fields(alloc, report)?) {
+    let mut printed = PrintedFields::with_capacity(alloc, report.len())?;
+    printed.append_text(printed_fields(&fields(alloc, report)?))?;
+    match IssuedReport::of(printed) {
         Some(report) => Ok(report),
         None => Err(Fail::new("a report is too long")),
     }

@@ -83,11 +83,11 @@ impl Conversation {
             Err(TextFault::NoMemory) => return Err(AllocError),
             Err(TextFault::Refused(_)) => return Ok(false),
         };
-        let turn = match self.session.issue(alloc, &body, self.at) {
-            Ok(turn) => turn,
+        let issued = match self.session.issue(alloc, &body, self.at) {
+            Ok(issued) => issued,
             Err(_) => self.session.issue(alloc, &body, self.at)?,
         };
-        show_turn(alloc, &mut self.shown, &turn, self.is_whole)?;
+        show_turn(alloc, &mut self.shown, &issued.turn, self.is_whole)?;
         Ok(true)
     }
 

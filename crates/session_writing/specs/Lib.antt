@@ -1,5 +1,12 @@
+pub mod Printed
+pub mod Heads
+pub mod Keeping
+pub mod Longest
 pub mod Written
 pub use Rattle.fix_fields.specs.Field
 pub use Rattle.fix_stamp.specs.Stamp
 pub use Rattle.session_law.specs.Frames
 pub use Rattle.session_law.specs.Messages
+pub use Rattle.fix_fields.specs.Reading
+pub use Rattle.session_law.specs.Session
+pub use Rattle.session_law.specs.Table

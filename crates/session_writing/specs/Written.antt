@@ -1,8 +1,15 @@
 -- What the link is told by an output in bytes.
-use Rattle.session_law.specs.Frames.{ToldLink, Bytes, Closed}
+use Rattle.std.specs.Prelude.{ℕ, List, map}
+use Rattle.session_law.specs.declared.frame.Frame.{Frame}
+use Rattle.session_law.specs.declared.frame.Out.TheVariants.{Write}
+use Rattle.session_law.specs.Frames.{ToldLink, Bytes, Closed, told_of_out}
 use Rattle.session_writing.specs.declared.output.SessionOut.{SessionOut}
 use Rattle.session_writing.specs.declared.output.SessionOut.TheVariants as outs
 
 abbrev pub told_bytes : SessionOut → ToldLink
 told_bytes (outs.Frame bytes) = Bytes bytes.items
 told_bytes outs.Close = Closed
+
+-- and by frames, between these two
+abbrev pub told_frames : List ℕ → List ℕ → List Frame → List ToldLink
+told_frames gate client frames = map (told_of_out gate client) (map Write frames)

@@ -4,12 +4,20 @@
 #![tactic(auto)]
 
 mod bodies;
+mod head;
+mod issued_report;
+mod kept;
 mod output;
+mod place;
+mod printed;
 mod resend;
 
 pub use bodies::{
     ask_body, echo_body, logon_body, push_number, reject_body, text_body, too_low_body,
     unsupported_body,
 };
-pub use output::{SessionOut, fields_of_frame, written};
-pub use resend::append_resend;
+pub use head::FrameHead;
+pub use issued_report::{IssuedReport, issued_outs, report_of_body};
+pub use kept::KeptBodies;
+pub use output::{SessionOut, append_written};
+pub use printed::{PrintedFields, printed_fields};

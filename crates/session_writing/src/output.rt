@@ -3,18 +3,24 @@
 //! Source: FIX 4.4 Volume 2, "Standard Message Header".
 
 ghost use Rattle.std.specs.Prelude.{◌≡◌, ◌++◌, ◌∷◌, [], IfOk, OnOk, map, codes, take};
-ghost use Rattle.fix_fields.specs.Field.{IsValue};
+ghost use Rattle.fix_fields.specs.Field.{IsValue, Message, field};
 ghost use Rattle.fix_stamp.specs.Stamp.{stamp_text};
 ghost use Rattle.session_law.specs.Frames.{again_fields, frame_bytes, frame_fields, issue_fields};
 ghost use Rattle.session_law.specs.Frames.{kind_text as text_of_kind, is_issued as is_issued_kind, told_of_out};
+ghost use Rattle.session_law.specs.Messages.{number_as_field};
+ghost use Rattle.session_writing.specs.Heads.{frame_with};
+ghost use Rattle.session_writing.specs.Printed.{PrintsFields, fields_in};
 ghost use Rattle.session_writing.specs.Written.{told_bytes};
 
-use crate::bodies::push_number;
-use fix_fields::Fields;
-use fix_framing::frame;
+use crate::head::FrameHead;
+use crate::printed::{PrintedFields, printed_fields};
+use fix_framing::frame_of_text;
 use fix_stamp::stamp;
 use session_law::{Frame, Kind, Out};
 use std::alloc::{AllocError, Global};
+
+/// How many bytes a header and TransactTime (60) take at most, where the names have 60 bytes.
+const ROUND_A_BODY: usize = 192;
 
 /// What a session gives its link.
 #[derive(Debug, Drop)]
@@ -25,22 +31,23 @@ pub enum SessionOut {
     Close,
 }
 
-/// The outputs as bytes, in their order, between the gateway and a client of these names.
-pub fn written(
+/// Appends the outputs as bytes, in their order, between the gateway and a client of these names.
+pub fn append_written(
     alloc: Global,
+    all: &mut Vec<SessionOut>,
     gate: &[u8],
     client: &[u8],
     outs: &[Out],
-) -> Result<Vec<SessionOut>, AllocError>
+) -> Result<(), AllocError>
     requires gate { IsValue gate.now }
     requires client { IsValue client.now }
-    ensures { IfOk result (λ all. map told_bytes all.items ≡ map (told_of_out gate.now client.now) outs.now) }
+    ensures { OnOk result (map told_bytes all.new.items
+        ≡ map told_bytes all.old.items ++ map (told_of_out gate.now client.now) outs.now) }
 {
-    let mut all = Vec::with_capacity(alloc, outs.len())?;
     for out in outs {
         all.push(written_out(alloc, gate, client, out)?)?;
     }
-    Ok(all)
+    Ok(())
 }
 
 /// One output as bytes.
@@ -71,35 +78,77 @@ fn written_frame(
     requires client { IsValue client.now }
     ensures { IfOk result (λ bytes. bytes.items ≡ frame_bytes gate.now client.now told.now) }
 {
-    let fields = fields_of_frame(alloc, gate, client, told)?;
-    frame(alloc, &fields)
+    let head = FrameHead {
+        number: told.number,
+        kind: told.kind,
+        at: told.at,
+        first: told.first,
+    };
+    frame_of_body(alloc, gate, client, head, printed_fields(&told.body))
 }
 
-/// The fields of a frame, from MsgType (35) on: the header, the body, and the moment of its issue behind a report.
-pub fn fields_of_frame(
+/// The bytes of a frame whose body is the fields of this text. Two growths.
+pub(crate) fn frame_of_body(
     alloc: Global,
     gate: &[u8],
     client: &[u8],
-    frame: &Frame,
-) -> Result<Fields, AllocError>
+    head: FrameHead,
+    body: &[u8],
+) -> Result<Vec<u8>, AllocError>
     requires gate { IsValue gate.now }
     requires client { IsValue client.now }
-    ensures { IfOk result (λ fields. fields ≡ frame_fields stamp_text gate.now client.now frame.now) }
+    requires body { PrintsFields body.now }
+    ensures { IfOk result (λ bytes. bytes.items
+        ≡ frame_bytes gate.now client.now (frame_with head (fields_in body.now))) }
 {
-    let mut fields = Fields::with_capacity(alloc, 32, 320)?;
-    fields.push(35, kind_text(frame.kind))?;
-    fields.push(49, gate)?;
-    fields.push(56, client)?;
-    push_number(&mut fields, 34, frame.number)?;
-    fields.push(52, &stamp(frame.at))?;
-    push_again(&mut fields, frame.first)?;
-    fields.append(alloc, &frame.body)?;
-    push_issue(&mut fields, frame)?;
+    let printed = printed_frame(alloc, gate, client, head, body)?;
+    frame_of_text(alloc, printed.text())
+}
+
+/// The fields of a frame from MsgType (35) on, as they are printed: the header, the fields of this text, and the moment
+/// of its issue behind a report. One growth, where the names have 60 bytes at most.
+pub(crate) fn printed_frame(
+    alloc: Global,
+    gate: &[u8],
+    client: &[u8],
+    head: FrameHead,
+    body: &[u8],
+) -> Result<PrintedFields, AllocError>
+    requires gate { IsValue gate.now }
+    requires client { IsValue client.now }
+    requires body { PrintsFields body.now }
+    ensures { IfOk result (λ printed. printed
+        ≡ frame_fields stamp_text gate.now client.now (frame_with head (fields_in body.now))) }
+{
+    let mut fields = PrintedFields::with_capacity(alloc, ROUND_A_BODY + body.len())?;
+    push_header(&mut fields, gate, client, head)?;
+    push_again(&mut fields, head.first)?;
+    fields.append_text(body)?;
+    push_issue(&mut fields, head)?;
     Ok(fields)
 }
 
+/// Adds the header of every frame.
+fn push_header(
+    fields: &mut PrintedFields,
+    gate: &[u8],
+    client: &[u8],
+    head: FrameHead,
+) -> Result<(), AllocError>
+    requires gate { IsValue gate.now }
+    requires client { IsValue client.now }
+    ensures { OnOk result (fields.new ≡ fields.old ++ field 35 (text_of_kind head.kind) ∷ field 49 gate.now
+        ∷ field 56 client.now ∷ number_as_field 34 head.number ∷ field 52 (stamp_text head.at) ∷ []) }
+{
+    fields.push(35, kind_text(head.kind))?;
+    fields.push(49, gate)?;
+    fields.push(56, client)?;
+    fields.push_number(34, head.number)?;
+    fields.push(52, &stamp(head.at))
+}
+
 /// Adds PossDupFlag (43) and OrigSendingTime (122), where a frame is sent again.
-fn push_again(fields: &mut Fields, first: Option<u64>) -> Result<(), AllocError>
+fn push_again(fields: &mut PrintedFields, first: Option<u64>) -> Result<(), AllocError>
     ensures { OnOk result (fields.new ≡ fields.old ++ again_fields stamp_text first) }
 {
     match first {
@@ -112,11 +161,12 @@ fn push_again(fields: &mut Fields, first: Option<u64>) -> Result<(), AllocError>
 }
 
 /// Adds TransactTime (60) to what was issued: the moment of its issue.
-fn push_issue(fields: &mut Fields, frame: &Frame) -> Result<(), AllocError>
-    ensures { OnOk result (fields.new ≡ fields.old ++ issue_fields stamp_text frame.now) }
+fn push_issue(fields: &mut PrintedFields, head: FrameHead) -> Result<(), AllocError>
+    ensures { (body : Message) → OnOk result (fields.new
+        ≡ fields.old ++ issue_fields stamp_text (frame_with head body)) }
 {
-    if is_issued(frame.kind) {
-        fields.push(60, &stamp(frame.first.unwrap_or(frame.at)))
+    if is_issued(head.kind) {
+        fields.push(60, &stamp(head.first.unwrap_or(head.at)))
     } else {
         Ok(())
     }

@@ -1,104 +1,129 @@
 //! Numbers sent again: bodies with their numbers, and one gap fill for each run of others.
 
-ghost use Rattle.std.specs.Prelude.{◌≡◌, ◌≤◌, ◌+◌, ◌<◌, ◌^◌, ◌∷◌, ◌++◌, [], length, map, IfOk, OnOk, Some, None, ◌-◌};
-ghost use Rattle.std.specs.Prelude.{drop, take};
-ghost use Rattle.fix_fields.specs.Field.{field};
+ghost use Rattle.std.specs.Prelude.{◌≡◌, ◌<◌, ◌≤◌, ◌+◌, ◌^◌, ◌∷◌, ◌++◌, [], length, map, OnOk, IfOk, codes, slice_range};
+ghost use Rattle.fix_fields.specs.Field.{IsValue, field};
 ghost use Rattle.session_law.specs.Messages.{number_as_field};
+ghost use Rattle.session_law.specs.Frames.{frame_bytes};
 ghost use Rattle.session_law.specs.Session as law;
-ghost use Rattle.session_law.specs.declared.frame.Out.TheVariants.{Write};
+ghost use Rattle.session_writing.specs.Keeping.{ArePlaces, slots_at};
+ghost use Rattle.session_writing.specs.Printed.{PrintsFields, fields_in};
+ghost use Rattle.session_writing.specs.Heads.{frame_with};
+ghost use Rattle.session_writing.specs.Written.{told_bytes, told_frames};
 
-use crate::bodies::push_number;
-use fix_fields::Fields;
-use session_law::{Frame, Kept, Kind, Out};
+use crate::head::FrameHead;
+use crate::output::{SessionOut, frame_of_body};
+use crate::place::KeptPlace;
+use crate::printed::PrintedFields;
+use session_law::Kind;
 use std::alloc::{AllocError, Global};
 
-/// Appends the numbers of these slots again, the first of which has this number.
-fn append_resent(
+/// Appends the numbers of these places in a text again, the first of which has this number.
+pub(crate) fn append_resent(
     alloc: Global,
-    outs: &mut Vec<Out>,
-    slots: &[Option<Kept>],
+    outs: &mut Vec<SessionOut>,
+    gate: &[u8],
+    client: &[u8],
+    text: &[u8],
+    places: &[KeptPlace],
     first: u64,
     at: u64,
 ) -> Result<(), AllocError>
-    requires { first + length slots.now < 2 ^ 64 }
-    ensures { OnOk result (outs.new.items ≡ outs.old.items ++ map Write (law.resent at first first slots.now)) }
+    requires gate { IsValue gate.now }
+    requires client { IsValue client.now }
+    requires places { ArePlaces text.now places.now }
+    requires room { first + length places.now < 2 ^ 64 }
+    ensures { OnOk result (map told_bytes outs.new.items ≡ map told_bytes outs.old.items
+        ++ told_frames gate.now client.now (law.resent at first first (slots_at text.now places.now))) }
 {
     let mut start = first;
     let mut number = first;
-    for slot in slots {
-        if let Some(kept) = slot {
-            append_gap(alloc, outs, start, number, at)?;
-            append_again(alloc, outs, number, kept, at)?;
+    for place in places {
+        if let KeptPlace::Body {
+            kind,
+            start: from,
+            end,
+            at: issued,
+        } = *place
+        {
+            append_gap(alloc, outs, gate, client, start, number, at)?;
+            let head = FrameHead {
+                number,
+                kind,
+                at,
+                first: Some(issued),
+            };
+            append_frame(alloc, outs, gate, client, head, part_of(text, from, end))?;
             start = number + 1;
         }
         number += 1;
     }
-    append_gap(alloc, outs, start, number, at)
+    append_gap(alloc, outs, gate, client, start, number, at)
 }
 
 /// Appends a gap fill from a number to before another, where there are numbers between.
 fn append_gap(
     alloc: Global,
-    outs: &mut Vec<Out>,
+    outs: &mut Vec<SessionOut>,
+    gate: &[u8],
+    client: &[u8],
     start: u64,
     next: u64,
     at: u64,
 ) -> Result<(), AllocError>
-    ensures { OnOk result (outs.new.items ≡ outs.old.items ++ map Write (law.gap at start next)) }
+    requires gate { IsValue gate.now }
+    requires client { IsValue client.now }
+    ensures { OnOk result (map told_bytes outs.new.items ≡ map told_bytes outs.old.items
+        ++ told_frames gate.now client.now (law.gap at start next)) }
 {
     if start < next {
-        let mut body = Fields::new(alloc);
-        push_number(&mut body, 36, next)?;
-        body.push(123, b"Y")?;
-        outs.push(Out::Write(Frame {
+        let body = gap_body(alloc, next)?;
+        let head = FrameHead {
             number: start,
             kind: Kind::SequenceReset,
-            body,
             at,
             first: Some(at),
-        }))?;
+        };
+        append_frame(alloc, outs, gate, client, head, body.text())
+    } else {
+        Ok(())
     }
-    Ok(())
 }
 
-/// Appends a kept body with its number.
-fn append_again(
-    alloc: Global,
-    outs: &mut Vec<Out>,
-    number: u64,
-    kept: &Kept,
-    at: u64,
-) -> Result<(), AllocError>
-    ensures { OnOk result (outs.new.items ≡ outs.old.items ++ Write (law.again at number kept.now) ∷ []) }
+/// What stands in a text from one place to another.
+fn part_of(text: &[u8], start: usize, end: usize) -> &[u8]
+    requires ordered { start ≤ end }
+    requires ends { end ≤ length text.now }
+    ensures { result.now ≡ slice_range text.now start end }
 {
-    let body = kept.body.copied(alloc)?;
-    outs.push(Out::Write(Frame {
-        number,
-        kind: kept.kind,
-        body,
-        at,
-        first: Some(kept.at),
-    }))?;
-    Ok(())
+    &text[start..end]
 }
 
-/// Appends the numbers from one to another again. There is no number past the last that was given.
-pub fn append_resend(
-    alloc: Global,
-    outs: &mut Vec<Out>,
-    given: &[Option<Kept>],
-    from: u64,
-    to: u64,
-    at: u64,
-) -> Result<(), AllocError>
-    requires from { 1 ≤ from }
-    requires to { to ≤ length given.now }
-    ensures { OnOk result (outs.new.items ≡ outs.old.items ++ map Write (law.resend at given.now from to)) }
+/// What a gap fill says: the number that comes next, and that it fills a gap.
+fn gap_body(alloc: Global, next: u64) -> Result<PrintedFields, AllocError>
+    ensures { IfOk result (λ body. body ≡ number_as_field 36 next ∷ field 123 (codes "Y") ∷ []) }
 {
-    if from > to {
-        return Ok(());
-    }
-    let (_, behind) = given.split_at(from as usize - 1);
-    let (slots, _) = behind.split_at((to + 1 - from) as usize);
-    append_resent(alloc, outs, slots, from, at)
+    let mut body = PrintedFields::with_capacity(alloc, 32)?;
+    body.push_number(36, next)?;
+    body.push(123, b"Y")?;
+    Ok(body)
+}
+
+/// Appends a frame whose body is the fields of this text.
+fn append_frame(
+    alloc: Global,
+    outs: &mut Vec<SessionOut>,
+    gate: &[u8],
+    client: &[u8],
+    head: FrameHead,
+    body: &[u8],
+) -> Result<(), AllocError>
+    requires gate { IsValue gate.now }
+    requires client { IsValue client.now }
+    requires body { PrintsFields body.now }
+    ensures { OnOk result (map told_bytes outs.new.items ≡ map told_bytes outs.old.items
+        ++ told_frames gate.now client.now (frame_with head (fields_in body.now) ∷ [])) }
+{
+    let bytes = frame_of_body(alloc, gate, client, head, body)?;
+    outs.push(SessionOut::Frame(bytes))?;
+    Ok(())
 }

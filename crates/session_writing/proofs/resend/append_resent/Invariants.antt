@@ -1,11 +1,12 @@
 use Rattle.std.proofs.Common.{◌≡◌, ◌+◌, ◌++◌, map, drop}
 use Rattle.session_law.specs.Session as law
-use Rattle.session_law.specs.declared.frame.Out.TheVariants.{Write}
+use Rattle.session_writing.specs.Keeping.{slots_at}
+use Rattle.session_writing.specs.Written.{told_bytes, told_frames}
 use Rattle.session_writing.proofs.resend.append_resent.Given as goal
 
 -- what is appended so far, and what is left, are all
-abbrev pub invariant-loop-slot : goal.invariant-loop-slot
-invariant-loop-slot l = record {
-  number : l.number ≡ l.fn.first + l.slot-index;
-  told : l.outs.items ++ map Write (law.resent l.at l.start l.number (drop l.slot-index l.slots)) ≡ l.fn.outs.items ++ map Write (law.resent l.at l.fn.first l.fn.first l.slots);
+abbrev pub invariant-loop-place : goal.invariant-loop-place
+invariant-loop-place l = record {
+  number : l.number ≡ l.fn.first + l.place-index;
+  told : map told_bytes l.outs.items ++ told_frames l.gate l.client (law.resent l.at l.start l.number (slots_at l.text (drop l.place-index l.places))) ≡ map told_bytes l.fn.outs.items ++ told_frames l.gate l.client (law.resent l.at l.fn.first l.fn.first (slots_at l.text l.places));
 }

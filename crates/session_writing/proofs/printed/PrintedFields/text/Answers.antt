@@ -1,0 +1,18 @@
+use Rattle.std.proofs.Common.{List, ℕ, ap, ◌∙◌, sym, subst}
+use Rattle.fix_fields.specs.Field.{Field, AreFields, fields_text}
+use Rattle.session_writing.specs.Printed.{PrintsFields, fields_in}
+use Rattle.session_writing.proofs.Printing.{spelled-in}
+use Rattle.session_writing.proofs.printed.PrintedFields.text.Goals as goal
+
+pub returns-clause-text : goal.returns-clause-text
+returns-clause-text c =
+    c.as_slice.ensures.value ∙ sym (spelled-in c.self.inside.text.items c.self.invariant).spelled ∙ ap (λ (fs : List Field). fields_text fs) c.self.view_is
+
+pub returns-clause-fields : goal.returns-clause-fields
+returns-clause-fields c = subst (λ (fs : List Field). AreFields fs) c.self.view_is (spelled-in c.self.inside.text.items c.self.invariant).fields
+
+pub returns-clause-prints : goal.returns-clause-prints
+returns-clause-prints c = subst (λ (l : List ℕ). PrintsFields l) (sym c.as_slice.ensures.value) c.self.invariant
+
+pub returns-clause-same : goal.returns-clause-same
+returns-clause-same c = ap (λ (l : List ℕ). fields_in l) c.as_slice.ensures.value ∙ c.self.view_is

@@ -1,0 +1,120 @@
+//! A report or reject as it was issued.
+
+ghost use Rattle.std.specs.Prelude.{◌≡◌, ◌≤◌, ◌↔◌, ◌∷◌, [], ℕ, List, length, map, IfOk, IsSome, IfSome};
+ghost use Rattle.std.specs.Prelude.{if◌then◌else◌};
+ghost use Rattle.fix_fields.specs.Field.{IsValue, fields_text};
+ghost use Rattle.fix_stamp.specs.Stamp.{stamp_text};
+ghost use Rattle.session_law.specs.Frames.{frame_fields, told_of_out};
+ghost use Rattle.session_law.specs.Table.{is_logged_on};
+ghost use Rattle.session_law.specs.declared.frame.Frame.{Frame};
+ghost use Rattle.session_law.specs.declared.frame.Out.TheVariants.{Write};
+ghost use Rattle.session_writing.specs.Heads.{frame_with};
+ghost use Rattle.session_writing.specs.Longest.{longest_report};
+ghost use Rattle.session_writing.specs.Printed.{PrintsFields, fields_in};
+ghost use Rattle.session_writing.specs.Written.{told_bytes};
+
+use crate::head::FrameHead;
+use crate::output::{SessionOut, printed_frame};
+use crate::printed::PrintedFields;
+use fix_fields::Fields;
+use fix_framing::frame_of_text;
+use session_law::Phase;
+use std::alloc::{AllocError, Global};
+use std::marker::Model;
+
+/// A report or reject as it was issued: its fields from MsgType (35) on, as they are printed, in at most
+/// `IssuedReport::LONGEST` bytes. Contracts see the fields.
+///
+/// Source: FIX 4.4 Volume 4, "Execution Report" and "Order Cancel Reject"; the limit is the gateway's own.
+#[derive(Debug, Drop)]
+pub struct IssuedReport {
+    printed: PrintedFields,
+}
+
+impl Model for IssuedReport {
+    ghost use Rattle.std.specs.Prelude.{List, length, ◌≤◌};
+    ghost use Rattle.fix_fields.specs.Field.{Field, fields_text};
+    ghost use Rattle.session_writing.specs.Longest.{longest_report};
+
+    ghost Value = { List Field };
+
+    ghost view = { λ report. report.printed };
+
+    ghost invariant = { λ report. length (fields_text report.printed) ≤ longest_report };
+}
+
+impl IssuedReport {
+    /// The most bytes in which a report prints: fewer than 2^20.
+    pub const LONGEST: usize = 1_048_575;
+
+    /// The report of these fields; `None` where they print in more than `IssuedReport::LONGEST` bytes. Takes no memory.
+    pub fn of(printed: PrintedFields) -> Option<IssuedReport>
+        ensures in_limit { IsSome result ↔ (length (fields_text printed) ≤ longest_report) }
+        ensures value { IfSome result (λ report. report ≡ printed) }
+    {
+        if printed.text().len() > IssuedReport::LONGEST {
+            return None;
+        }
+        Some(IssuedReport { printed })
+    }
+
+    /// Its text, as it was written from MsgType (35) to before CheckSum (10), or would have been. Takes no memory.
+    pub fn text(&self) -> &[u8]
+        ensures text { result.now ≡ fields_text self.now }
+        ensures in_limit { length result.now ≤ longest_report }
+    {
+        self.printed.text()
+    }
+
+    /// Its fields, in order. Two growths.
+    pub fn to_fields(&self, alloc: Global) -> Result<Fields, AllocError>
+        ensures fields { IfOk result (λ fields. fields ≡ self.now) }
+        ensures in_limit { IfOk result (λ fields. length (fields_text fields) ≤ longest_report) }
+    {
+        self.printed.to_fields(alloc)
+    }
+}
+
+/// The report of a body that is issued, whose fields are this text, between the gateway and a client of these names.
+/// One growth, where the names have 60 bytes at most.
+///
+/// Where it prints in more than `IssuedReport::LONGEST` bytes it is answered as want of memory. No report does, since
+/// its longest texts are those of a frame of 8,192 bytes at most; that isn't proved.
+pub fn report_of_body(
+    alloc: Global,
+    gate: &[u8],
+    client: &[u8],
+    head: FrameHead,
+    body: &[u8],
+) -> Result<IssuedReport, AllocError>
+    requires gate { IsValue gate.now }
+    requires client { IsValue client.now }
+    requires body { PrintsFields body.now }
+    ensures { IfOk result (λ report. report
+        ≡ frame_fields stamp_text gate.now client.now (frame_with head (fields_in body.now))) }
+{
+    let printed = printed_frame(alloc, gate, client, head, body)?;
+    match IssuedReport::of(printed) {
+        Some(report) => Ok(report),
+        None => Err(AllocError),
+    }
+}
+
+/// What goes to the link of a report: its frame where the client is logged on, nothing elsewhere. Two growths.
+pub fn issued_outs(
+    alloc: Global,
+    phase: Phase,
+    report: &IssuedReport,
+) -> Result<Vec<SessionOut>, AllocError>
+    ensures { IfOk result (λ outs. (gate client : List ℕ) (f : Frame)
+        → report.now ≡ frame_fields stamp_text gate client f → map told_bytes outs.items
+        ≡ map (told_of_out gate client) (if is_logged_on phase then Write f ∷ [] else [])) }
+{
+    match phase {
+        Phase::LoggedOn(_) => {
+            let bytes = frame_of_text(alloc, report.text())?;
+            Ok(vec![in alloc; SessionOut::Frame(bytes)]?)
+        }
+        Phase::Down | Phase::AwaitingLogon(_) => Ok(Vec::new(alloc)),
+    }
+}

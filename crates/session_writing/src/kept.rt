@@ -1,0 +1,229 @@
+//! What is kept of the numbers that a session gave.
+
+ghost use Rattle.std.specs.Prelude.{◌≡◌, ◌<◌, ◌+◌, ◌-◌, ◌^◌, ◌++◌, ◌∷◌, [], length, map, min, take, drop, IfOk, OnOk, OnErr};
+ghost use Rattle.std.specs.Prelude.{Some, None, true, if◌then◌else◌, vec_len, vec_capacity};
+ghost use Rattle.fix_fields.specs.Field.{IsValue};
+ghost use Rattle.session_law.specs.Session as law;
+ghost use Rattle.session_writing.specs.Written.{told_bytes, told_frames};
+ghost use Rattle.session_writing.specs.Printed.{PrintsFields, fields_in};
+ghost use Rattle.session_writing.specs.Keeping.{is_within, place_further};
+ghost use Rattle.std.specs.List.{list_all};
+
+use crate::output::SessionOut;
+use crate::place::KeptPlace;
+use crate::resend::append_resent;
+use session_law::Kind;
+use std::alloc::{AllocError, Global};
+use std::marker::Model;
+
+/// What each number from 1 was given to: a body that is kept, or a frame that is gap filled where it is asked for
+/// again. Contracts see the list of both.
+///
+/// The text of all kept bodies lies in one buffer, as it was written, beside a list of their places.
+#[derive(Debug, Drop)]
+pub struct KeptBodies {
+    text: Vec<u8>,
+    places: Vec<KeptPlace>,
+}
+
+impl Model for KeptBodies {
+    ghost use Rattle.std.specs.Prelude.{List};
+    ghost use Rattle.session_law.specs.Session.{Slot};
+    ghost use Rattle.session_writing.specs.Keeping.{ArePlaces, slots_at};
+
+    ghost Value = { List Slot };
+
+    ghost view = { λ k. slots_at k.text.items k.places.items };
+
+    ghost invariant = { λ k. ArePlaces k.text.items k.places.items };
+}
+
+impl KeptBodies {
+    /// No number was given. Takes no memory.
+    pub fn new(alloc: Global) -> KeptBodies
+        ensures { result ≡ [] }
+    {
+        KeptBodies {
+            text: Vec::new(alloc),
+            places: Vec::new(alloc),
+        }
+    }
+
+    /// How many numbers were given.
+    pub fn len(&self) -> usize
+        ensures number { result ≡ length self.now }
+        ensures room { result < 2 ^ 63 }
+    {
+        self.places.len()
+    }
+
+    /// The next number was given to the body whose fields are this text, which was first sent, or issued, at this
+    /// moment. `AllocError` leaves all as it was. Two growths at most.
+    pub fn keep(&mut self, kind: Kind, body: &[u8], at: u64) -> Result<(), AllocError>
+        requires { PrintsFields body.now }
+        ensures ok { OnOk result (self.new
+            ≡ self.old ++ Some (record { kind = kind; body = fields_in body.now; at = at }) ∷ []) }
+        ensures err { OnErr result (self.new ≡ self.old) }
+    {
+        let start = self.text.len();
+        self.places.reserve(1)?;
+        self.text.extend_from_slice(body)?;
+        let end = self.text.len();
+        push_place(
+            &mut self.places,
+            KeptPlace::Body {
+                kind,
+                start,
+                end,
+                at,
+            },
+        );
+        Ok(())
+    }
+
+    /// The next number was given to a frame that is gap filled. `AllocError` leaves all as it was. One growth at most.
+    pub fn fill(&mut self) -> Result<(), AllocError>
+        ensures ok { OnOk result (self.new ≡ self.old ++ None ∷ []) }
+        ensures err { OnErr result (self.new ≡ self.old) }
+    {
+        self.places.push(KeptPlace::Filled)?;
+        Ok(())
+    }
+
+    /// The next numbers were given to these; they are the first ones where numbers begin anew. `AllocError` leaves all
+    /// as it was. Three growths at most.
+    pub fn give(&mut self, alloc: Global, begins: bool, more: KeptBodies) -> Result<(), AllocError>
+        ensures ok { OnOk result (self.new ≡ (if begins then [] else self.old) ++ more) }
+        ensures err { OnErr result (self.new ≡ self.old) }
+    {
+        if begins {
+            *self = more;
+            return Ok(());
+        }
+        self.append(alloc, &more)
+    }
+
+    /// The next numbers were given to these.
+    fn append(&mut self, alloc: Global, more: &KeptBodies) -> Result<(), AllocError>
+        ensures ok { OnOk result (self.new ≡ self.old ++ more.now) }
+        ensures err { OnErr result (self.new ≡ self.old) }
+    {
+        let shift = self.text.len();
+        let size = more.text.len();
+        let mut places = further_on(alloc, more.places.as_slice(), size, shift)?;
+        self.places.reserve(places.len())?;
+        self.text.extend_from_slice(more.text.as_slice())?;
+        self.places.append(&mut places).unwrap();
+        Ok(())
+    }
+
+    /// Appends the numbers from one to another again, of those that were given, between the gateway and a client of
+    /// these names: kept bodies with their numbers, and one gap fill for each run of others.
+    ///
+    /// Source: FIX 4.4 Volume 2, "Message Recovery".
+    pub fn append_resend(
+        &self,
+        alloc: Global,
+        outs: &mut Vec<SessionOut>,
+        gate: &[u8],
+        client: &[u8],
+        from: u64,
+        to: u64,
+        at: u64,
+    ) -> Result<(), AllocError>
+        requires gate { IsValue gate.now }
+        requires client { IsValue client.now }
+        ensures { OnOk result (map told_bytes outs.new.items ≡ map told_bytes outs.old.items
+            ++ told_frames gate.now client.now (law.resend at self.now from to)) }
+    {
+        let places = between(self.places.as_slice(), from, to);
+        append_resent(
+            alloc,
+            outs,
+            gate,
+            client,
+            self.text.as_slice(),
+            places,
+            from,
+            at,
+        )
+    }
+}
+
+/// Appends a place, where there is room for it.
+fn push_place(places: &mut Vec<KeptPlace>, place: KeptPlace)
+    requires { vec_len places.old < vec_capacity places.old }
+    ensures { places.new.items ≡ places.old.items ++ place ∷ [] }
+{
+    places.push(place).unwrap();
+}
+
+/// These places so much further on, in a text of this size behind them. One growth.
+fn further_on(
+    alloc: Global,
+    places: &[KeptPlace],
+    size: usize,
+    shift: usize,
+) -> Result<Vec<KeptPlace>, AllocError>
+    requires within { list_all (is_within size) places.now ≡ true }
+    requires room { shift + size < 2 ^ 64 }
+    ensures { IfOk result (λ all. all.items ≡ map (place_further shift) places.now) }
+{
+    let mut all = Vec::with_capacity(alloc, places.len())?;
+    for place in places {
+        all.push(one_further_on(*place, size, shift))?;
+    }
+    Ok(all)
+}
+
+/// This place so much further on.
+fn one_further_on(place: KeptPlace, size: usize, shift: usize) -> KeptPlace
+    requires within { is_within size place ≡ true }
+    requires room { shift + size < 2 ^ 64 }
+    ensures { result ≡ place_further shift place }
+{
+    match place {
+        KeptPlace::Filled => KeptPlace::Filled,
+        KeptPlace::Body {
+            kind,
+            start,
+            end,
+            at,
+        } => KeptPlace::Body {
+            kind,
+            start: shift + start,
+            end: shift + end,
+            at,
+        },
+    }
+}
+
+/// The places of the numbers from one to another, of those that were given.
+fn between(places: &[KeptPlace], from: u64, to: u64) -> &[KeptPlace]
+    ensures asked { result.now ≡ take (to + 1 - from) (drop (from - 1) places.now) }
+    ensures room { from + length result.now < 2 ^ 64 }
+{
+    let (_, behind) = places.split_at(at_most(from.saturating_sub(1), places.len()));
+    let (asked, _) = behind.split_at(how_many(from, to, behind.len()));
+    asked
+}
+
+/// So many, and no more than there are.
+fn at_most(wanted: u64, there: usize) -> usize
+    ensures { result ≡ min wanted there }
+{
+    wanted.min(there as u64) as usize
+}
+
+/// How many numbers there are from one to another, and no more than there are.
+fn how_many(from: u64, to: u64, there: usize) -> usize
+    ensures { result ≡ min (to + 1 - from) there }
+{
+    if to < from {
+        0
+    } else if to - from < there as u64 {
+        (to - from) as usize + 1
+    } else {
+        there
+    }
+}
