@@ -1,4 +1,4 @@
-use Rattle.std.proofs.Common.{◌≡◌, ◌<◌, List, length, slice_set, sym, ap, ◌∙◌, subst}
+use Rattle.std.proofs.Common.{◌<◌, List, length, slice_set, sym, ap, ◌∙◌, subst}
 use Rattle.undo_list.specs.declared.list.Was.{Was}
 use Rattle.undo_list.specs.Undoing.{Undoable, settled_of}
 use Rattle.undo_list.proofs.Putting.{changed-once}
