@@ -6,6 +6,7 @@
 
 mod answering;
 mod change;
+mod copying;
 mod earlier;
 mod order;
 mod progress;
