@@ -1,0 +1,90 @@
+//! A gate that keeps what it was given.
+
+ghost use Rattle.std.specs.Prelude.{◌≡◌, map, IfOk};
+ghost use Rattle.gate_events.specs.Seen.{link_out_seen};
+
+use link_io::{Event, Gate, LinkOut};
+use std::alloc::{AllocError, Global};
+use std::sync::Wait;
+
+/// A gate that keeps the events that were put and the lists that were taken. It gives each event back where it is full.
+#[derive(Drop)]
+pub struct Kept {
+    alloc: Global,
+    pub events: Vec<Event>,
+    pub is_full: bool,
+    /// The lists that lie there, the last one first.
+    pub lists: Vec<Vec<LinkOut>>,
+    pub given: Vec<Vec<LinkOut>>,
+}
+
+impl Kept {
+    /// Nothing was put, and nothing lies there.
+    pub fn new(alloc: Global) -> Kept {
+        Kept {
+            alloc,
+            events: Vec::new(alloc),
+            is_full: false,
+            lists: Vec::new(alloc),
+            given: Vec::new(alloc),
+        }
+    }
+}
+
+impl Gate for Kept {
+    ghost use Rattle.std.specs.Prelude.{map};
+    ghost use Rattle.gate_events.specs.Seen.{event_seen, link_out_seen};
+
+    ghost was_put = { λ g. map event_seen g.events.items };
+
+    ghost was_taken = { λ g. map (λ v. map link_out_seen v.items) g.given.items };
+
+    fn put(&mut self, event: Event) -> Result<(), Event> {
+        if self.is_full {
+            return Err(event);
+        }
+        match self.events.push(event) {
+            Ok(()) => Ok(()),
+            Err(refused) => Err(refused.value),
+        }
+    }
+
+    fn take(&mut self) -> Option<Vec<LinkOut>> {
+        let list = self.lists.pop()?;
+        let Ok(copy) = copy_of(self.alloc, list.as_slice()) else {
+            return None;
+        };
+        match self.given.push(copy) {
+            Ok(()) => Some(list),
+            Err(_) => None,
+        }
+    }
+
+    fn turn<R: Wait>(&mut self, _rt: &R, _alloc: Global) -> Result<u32, AllocError> {
+        Ok(0)
+    }
+}
+
+/// A copy of a list.
+fn copy_of(alloc: Global, list: &[LinkOut]) -> Result<Vec<LinkOut>, AllocError>
+    ensures { IfOk result (λ copy. map link_out_seen copy.items ≡ map link_out_seen list.now) }
+{
+    let mut copy = Vec::new(alloc);
+    for out in list {
+        copy.push(copy_of_out(alloc, out)?)?;
+    }
+    Ok(copy)
+}
+
+/// A copy of one of what links are told.
+fn copy_of_out(alloc: Global, out: &LinkOut) -> Result<LinkOut, AllocError>
+    ensures { IfOk result (λ copy. link_out_seen copy ≡ link_out_seen out.now) }
+{
+    match out {
+        LinkOut::Write { link, bytes } => Ok(LinkOut::Write {
+            link: *link,
+            bytes: Vec::from_slice(alloc, bytes.as_slice())?,
+        }),
+        LinkOut::Close { link } => Ok(LinkOut::Close { link: *link }),
+    }
+}

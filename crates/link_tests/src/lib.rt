@@ -1,0 +1,13 @@
+//! Tests of the public calls of `link_io`. Nothing else stands here.
+//!
+//! Expected bytes are typed in from FIX 4.4 Volume 1, "Message Format", and SoupBinTCP 3.00, "Logical Packets".
+#![tactic(auto)]
+
+#[cfg(test)]
+mod gates;
+#[cfg(test)]
+mod readers;
+#[cfg(test)]
+mod streams;
+#[cfg(test)]
+mod writers;

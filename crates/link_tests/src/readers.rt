@@ -1,0 +1,208 @@
+//! Readers of links.
+
+ghost use Rattle.std.specs.Prelude.{◌≤◌};
+
+use super::gates::Kept;
+use super::streams::{Endless, Pieces};
+use link_io::{ClientNumber, ClientReader, Event, LinkFault, PortNumber, PortReader, Progress};
+use std::alloc::{AllocError, Global};
+use std::process::Abort;
+use std::test::Fail;
+
+/// A heartbeat without a header, as a frame.
+const HEARTBEAT: &[u8; 26] = b"8=FIX.4.4\x019=5\x0135=0\x0110=163\x01";
+
+/// It twice, with a byte between that is no frame's.
+const TWO: &[u8; 53] =
+    b"8=FIX.4.4\x019=5\x0135=0\x0110=163\x01x8=FIX.4.4\x019=5\x0135=0\x0110=163\x01";
+
+/// It and behind it a head that announces a frame of 8,193 bytes, and one of 8,192.
+const TOO_LONG: &[u8; 43] = b"8=FIX.4.4\x019=5\x0135=0\x0110=163\x018=FIX.4.4\x019=8169\x01";
+
+const LONGEST: &[u8; 43] = b"8=FIX.4.4\x019=5\x0135=0\x0110=163\x018=FIX.4.4\x019=8168\x01";
+
+fn client_reader(alloc: Global, steps: u64) -> ClientReader
+    requires { 1 ≤ steps }
+{
+    ClientReader::new(alloc, ClientNumber::new(2), 7, steps)
+}
+
+fn port_reader(alloc: Global, steps: u64) -> PortReader
+    requires { 1 ≤ steps }
+{
+    PortReader::new(alloc, PortNumber::new(3), 7, steps)
+}
+
+fn pieces(rest: &[u8], size: usize, reads_left: usize) -> Pieces<'_> {
+    Pieces {
+        rest,
+        size,
+        reads_left,
+    }
+}
+
+/// The events as bytes: of each its number, its link, its moment, and its frame's text or its packet's type and
+/// payload.
+fn told(alloc: Global, events: &[Event]) -> Result<Vec<u8>, AllocError> {
+    let mut bytes = Vec::new(alloc);
+    for event in events {
+        tell(&mut bytes, event)?;
+    }
+    Ok(bytes)
+}
+
+fn tell(bytes: &mut Vec<u8>, event: &Event) -> Result<(), AllocError> {
+    match event {
+        Event::ClientMessage {
+            client,
+            link,
+            at,
+            frame,
+        } => {
+            bytes.extend_from_slice(&client.number().to_be_bytes())?;
+            bytes.extend_from_slice(&link.to_be_bytes())?;
+            bytes.extend_from_slice(&at.to_be_bytes())?;
+            bytes.extend_from_slice(frame.fields().text())
+        }
+        Event::PortPacket {
+            port,
+            link,
+            at,
+            packet,
+        } => {
+            bytes.extend_from_slice(&port.number().to_be_bytes())?;
+            bytes.extend_from_slice(&link.to_be_bytes())?;
+            bytes.extend_from_slice(&at.to_be_bytes())?;
+            bytes.extend_from_slice(&[packet.kind])?;
+            bytes.extend_from_slice(packet.payload.as_slice())
+        }
+        _ => bytes.extend_from_slice(b"other"),
+    }
+}
+
+/// One heartbeat of client 2 on link 7 at moment 5.
+const FROM_CLIENT: &[u8; 44] =
+    b"\x00\x02\x00\x00\x00\x00\x00\x00\x00\x07\x00\x00\x00\x00\x00\x00\x00\x058=FIX.4.4\x019=5\x0135=0\x0110=163\x01";
+
+/// One heartbeat of port 3 on link 7 at moment 5.
+const FROM_PORT: &[u8; 19] =
+    b"\x00\x03\x00\x00\x00\x00\x00\x00\x00\x07\x00\x00\x00\x00\x00\x00\x00\x05H";
+
+#[test]
+fn frames_are_put_however_the_stream_is_read(rt: HostRuntime) -> Result<(), Fail> {
+    for size in [1, 25, 26, 27, 4_096] {
+        let mut gate = Kept::new(rt.alloc());
+        let mut stream = pieces(TWO, size, 100);
+        let mut reader = client_reader(rt.alloc(), 100);
+        for _ in 0..54 {
+            if reader.step(rt.alloc(), &mut stream, &mut gate, 5)? == Progress::Ended {
+                break;
+            }
+        }
+        let events = told(rt.alloc(), gate.events.as_slice())?;
+        let expected = [FROM_CLIENT.as_slice(), FROM_CLIENT.as_slice()].concat(rt.alloc())?;
+        assert_eq!(rt; events.as_slice(), expected.as_slice());
+    }
+    Ok(())
+}
+
+#[test]
+fn a_head_of_too_long_a_frame(rt: HostRuntime) -> Result<(), Fail> {
+    let mut gate = Kept::new(rt.alloc());
+    let mut reader = client_reader(rt.alloc(), 100);
+    for _ in 0..2 {
+        let mut stream = pieces(TOO_LONG, 4_096, 100);
+        let done = reader.step(rt.alloc(), &mut stream, &mut gate, 5);
+        assert_eq!(rt; done, Err(LinkFault::Malformed));
+    }
+    let events = told(rt.alloc(), gate.events.as_slice())?;
+    assert_eq!(rt; events.as_slice(), FROM_CLIENT.as_slice());
+    let mut gate = Kept::new(rt.alloc());
+    let mut reader = client_reader(rt.alloc(), 100);
+    let mut stream = pieces(LONGEST, 4_096, 100);
+    let done = reader.step(rt.alloc(), &mut stream, &mut gate, 5);
+    assert_eq!(rt; done, Ok(Progress::Read(43)));
+    let done = reader.step(rt.alloc(), &mut stream, &mut gate, 5);
+    assert_eq!(rt; done, Ok(Progress::Ended));
+    let events = told(rt.alloc(), gate.events.as_slice())?;
+    assert_eq!(rt; events.as_slice(), FROM_CLIENT.as_slice());
+    Ok(())
+}
+
+#[test]
+fn an_empty_packet_and_one_before_it(rt: HostRuntime) -> Result<(), Fail> {
+    for (stream, expected) in [
+        (b"\x00\x00".as_slice(), b"".as_slice()),
+        (b"\x00\x01H\x00\x00".as_slice(), FROM_PORT.as_slice()),
+    ] {
+        let mut gate = Kept::new(rt.alloc());
+        let mut stream = pieces(stream, 4_096, 100);
+        let mut reader = port_reader(rt.alloc(), 100);
+        for _ in 0..2 {
+            let done = reader.step(rt.alloc(), &mut stream, &mut gate, 5);
+            assert_eq!(rt; done, Err(LinkFault::Malformed));
+        }
+        let events = told(rt.alloc(), gate.events.as_slice())?;
+        assert_eq!(rt; events.as_slice(), expected);
+    }
+    Ok(())
+}
+
+#[test]
+fn a_reader_that_fails_at_each_read(rt: HostRuntime) -> Result<(), Fail> {
+    for reads in 0..HEARTBEAT.len() + 1 {
+        let mut gate = Kept::new(rt.alloc());
+        let mut stream = pieces(HEARTBEAT, 1, reads);
+        let mut reader = client_reader(rt.alloc(), 100);
+        for _ in 0..reads {
+            let done = reader.step(rt.alloc(), &mut stream, &mut gate, 5);
+            assert_eq!(rt; done, Ok(Progress::Read(1)));
+        }
+        for _ in 0..2 {
+            let done = reader.step(rt.alloc(), &mut stream, &mut gate, 5);
+            assert_eq!(rt; done, Err(LinkFault::ReadFailed));
+        }
+        assert_eq!(rt; gate.events.len(), usize::from(reads == HEARTBEAT.len()));
+    }
+    Ok(())
+}
+
+#[test]
+fn an_event_that_is_given_back_is_put_next(rt: HostRuntime) -> Result<(), Fail> {
+    let mut gate = Kept::new(rt.alloc());
+    gate.is_full = true;
+    let mut stream = pieces(TWO, 4_096, 1);
+    let mut reader = client_reader(rt.alloc(), 100);
+    for at in 5..10 {
+        let done = reader.step(rt.alloc(), &mut stream, &mut gate, at);
+        assert_eq!(rt; done, Ok(Progress::Held));
+        assert_eq!(rt; stream.reads_left, 0);
+    }
+    gate.is_full = false;
+    let done = reader.step(rt.alloc(), &mut stream, &mut gate, 5);
+    assert_eq!(rt; done, Err(LinkFault::ReadFailed));
+    let events = told(rt.alloc(), gate.events.as_slice())?;
+    let expected = [FROM_CLIENT.as_slice(), FROM_CLIENT.as_slice()].concat(rt.alloc())?;
+    assert_eq!(rt; events.as_slice(), expected.as_slice());
+    Ok(())
+}
+
+#[test]
+fn a_stream_without_end_ends_at_the_limit(rt: HostRuntime) -> Result<(), Fail> {
+    let mut gate = Kept::new(rt.alloc());
+    let mut stream = Endless {
+        byte: b'x',
+        reads: 0,
+    };
+    let mut reader = client_reader(rt.alloc(), 10_000);
+    for _ in 1..10_000 {
+        let done = reader.step(rt.alloc(), &mut stream, &mut gate, 5);
+        assert_eq!(rt; done, Ok(Progress::Read(1)));
+    }
+    for _ in 0..2 {
+        let done = reader.step(rt.alloc(), &mut stream, &mut gate, 5);
+        assert_eq!(rt; done, Err(LinkFault::StepLimit));
+        assert_eq!(rt; stream.reads, 9_999);
+    }
+    Ok(())
+}

@@ -1,0 +1,71 @@
+//! Readers and writers that fail.
+
+use std::io::{self, ErrorKind, Read, Write};
+
+/// A reader that gives so many bytes a read of what it has, and fails at its read of this number, from 0.
+#[derive(Drop)]
+pub struct Pieces<'a> {
+    pub rest: &'a [u8],
+    pub size: usize,
+    pub reads_left: usize,
+}
+
+impl<'a> Read for Pieces<'a> {
+    fn read(&mut self, buf: &mut [u8]) -> io::Result<usize> {
+        if self.reads_left == 0 {
+            return Err(io::Error::from(ErrorKind::ConnectionReset));
+        }
+        self.reads_left -= 1;
+        let count = self.size.min(self.rest.len()).min(buf.len());
+        let (first, rest) = self.rest.split_at(count);
+        let (places, _) = buf.split_at_mut(count);
+        places.copy_from_slice(first);
+        self.rest = rest;
+        Ok(count)
+    }
+}
+
+/// A reader that gives one byte for ever.
+#[derive(Drop)]
+pub struct Endless {
+    pub byte: u8,
+    pub reads: u64,
+}
+
+impl Read for Endless {
+    fn read(&mut self, buf: &mut [u8]) -> io::Result<usize> {
+        self.reads = self.reads.saturating_add(1);
+        match buf {
+            [place, ..] => {
+                *place = self.byte;
+                Ok(1)
+            }
+            [] => Ok(0),
+        }
+    }
+}
+
+/// A writer that takes so many bytes a write, and fails at the write of this number, from 0.
+#[derive(Drop)]
+pub struct Torn {
+    pub taken: Vec<u8>,
+    pub size: usize,
+    pub writes_left: usize,
+}
+
+impl Write for Torn {
+    fn write(&mut self, buf: &[u8]) -> io::Result<usize> {
+        if self.writes_left == 0 {
+            return Err(io::Error::from(ErrorKind::BrokenPipe));
+        }
+        self.writes_left -= 1;
+        let count = self.size.min(buf.len());
+        let (first, _) = buf.split_at(count);
+        self.taken.extend_from_slice(first)?;
+        Ok(count)
+    }
+
+    fn flush(&mut self) -> io::Result<()> {
+        Ok(())
+    }
+}
