@@ -4,7 +4,7 @@ use Rattle.std.proofs.lemmas.Bool.Decides.{nat_tests}
 use Rattle.std.proofs.lemmas.List.{length-append}
 use Rattle.gate_law.specs.Events.{LinkOut}
 use Rattle.gate_events.specs.Links.{is_link_closed}
-use Rattle.core.specs.Result.{IsErrAnd}
+use Rattle.std.specs.Result.{IsErrAnd}
 use Rattle.std.specs.Io.KnownBytes.{Appends}
 use Rattle.std.proofs.KnownBytes.{Appends-nil}
 use Rattle.link_io.specs.declared.limit.Limit.{Limit}

@@ -76,9 +76,28 @@ abbrev pub Gave : {D : Type 0} → (D → List ℕ → List law.Event → Type 0
 Gave made read put r =
     (taken : List ℕ) × (read ≡ taken ++ r.piece) × made r.decoder taken (put ++ offered_list r.offered)
 
--- of what was put and then given back, what was given back before comes first: the same event
-abbrev pub ComesFirst : (before : Option law.Event) → (put : List law.Event) → (after : Option law.Event) → Type 0
-ComesFirst before put after = (more : List law.Event) × (put ++ offered_list after ≡ offered_list before ++ more)
+-- the moment of an event, in milliseconds
+abbrev pub event_moment : law.Event → ℕ
+event_moment (law.ClientUp client link at) = at
+event_moment (law.ClientMessage client link at frame) = at
+event_moment (law.ClientGone client link at) = at
+event_moment (law.ClientTick client at) = at
+event_moment (law.PortUp port link at) = at
+event_moment (law.PortPacket port link at packet) = at
+event_moment (law.PortGone port link at) = at
+event_moment (law.PortTick port at) = at
+
+-- each has this moment
+abbrev pub AreAt : ℕ → List law.Event → Type 0
+AreAt at [] = Unit {0}
+AreAt at (event ∷ events) = (event_moment event ≡ at) × AreAt at events
+
+-- Of what was put and then given back, what was given back before comes first: the same event. All behind it have the
+-- moment of this step.
+abbrev pub ComesFirst : (at : ℕ) → (before : Option law.Event) → (put : List law.Event) → (after : Option law.Event)
+    → Type 0
+ComesFirst at before put after =
+    (more : List law.Event) × (put ++ offered_list after ≡ offered_list before ++ more) × AreAt at more
 
 -- these bytes were read, and these events were put
 abbrev pub Goes : {D : Type 0} → (D → List ℕ → List law.Event → Type 0) → (read : List ℕ) → (put : List law.Event)
@@ -136,22 +155,22 @@ SaysPut made are_all (Err WriteFailed) put old new = ⊥
 SaysPut made are_all (Err StepLimit) put old new = ⊥
 
 -- events were put
-pub record HasPut {D : Type 0} (made : D → List ℕ → List law.Event → Type 0) (old new : Reading D)
+pub record HasPut {D : Type 0} (made : D → List ℕ → List law.Event → Type 0) (at : ℕ) (old new : Reading D)
     (put_old put_new : List law.Event)
     : Type 0 where
   pub put : List law.Event
   pub puts : put_new ≡ put_old ++ put
   pub goes : Goes made [] put old new
-  pub first : ComesFirst old.offered put new.offered
+  pub first : ComesFirst at old.offered put new.offered
 
 -- the same, with what the answer says
 pub record Puts {D : Type 0} (made : D → List ℕ → List law.Event → Type 0) (are_all : D → Bool → List ℕ
     → List law.Event → Type 0)
-    (answer : Result Bool LinkFault) (old new : Reading D) (put_old put_new : List law.Event) : Type 0 where
+    (at : ℕ) (answer : Result Bool LinkFault) (old new : Reading D) (put_old put_new : List law.Event) : Type 0 where
   pub put : List law.Event
   pub puts : put_new ≡ put_old ++ put
   pub goes : Goes made [] put old new
-  pub first : ComesFirst old.offered put new.offered
+  pub first : ComesFirst at old.offered put new.offered
   pub says : SaysPut made are_all answer put old new
 
 -- what a step says
@@ -174,7 +193,7 @@ SaysRead made are_all (Err StepLimit) read put old new left_new = ⊥
 -- a step of a reader whose link goes on
 pub record Reads {D : Type 0} (made : D → List ℕ → List law.Event → Type 0) (are_all : D → Bool → List ℕ
     → List law.Event → Type 0)
-    (answer : Result Progress LinkFault) (old new : Reading D) (put_old put_new : List law.Event)
+    (at : ℕ) (answer : Result Progress LinkFault) (old new : Reading D) (put_old put_new : List law.Event)
     (left_old left_new : Option (List ℕ)) : Type 0 where
   pub read : List ℕ
   pub put : List law.Event
@@ -182,5 +201,5 @@ pub record Reads {D : Type 0} (made : D → List ℕ → List law.Event → Type
   pub consumes : Consumes left_old left_new read
   pub puts : put_new ≡ put_old ++ put
   pub goes : Goes made read put old new
-  pub first : ComesFirst old.offered put new.offered
+  pub first : ComesFirst at old.offered put new.offered
   pub says : SaysRead made are_all answer read put old new left_new

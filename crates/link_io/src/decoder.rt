@@ -8,9 +8,10 @@ use std::alloc::{AllocError, Global};
 ///
 /// Contracts see whose they are, and what was made of which bytes.
 pub trait Decoder: Drop {
-    ghost use Rattle.std.specs.Prelude.{◌≡◌, ◌++◌, ℕ, List, Bool, OnOk, OnErr};
+    ghost use Rattle.std.specs.Prelude.{◌≡◌, ◌++◌, ℕ, List, Bool, OnOk, OnErr, IfOk, IfSome};
     ghost use Rattle.gate_law.specs.Events as law;
-    ghost use Rattle.link_io.specs.Reading.{Feeds, Makes};
+    ghost use Rattle.link_io.specs.Reading.{Feeds, Makes, event_moment};
+    ghost use Rattle.gate_events.specs.Seen.{event_seen};
 
     // The number of the client or port, and of the link.
     ghost source: { Self → ℕ × ℕ };
@@ -34,5 +35,6 @@ pub trait Decoder: Drop {
     /// none can follow, `NoMemory` where memory ran out: the same is made next time.
     fn make(&mut self, alloc: Global, at: u64) -> Result<Option<Event>, LinkFault>
         ensures makes { Makes made are_all to_make result self.old self.new }
+        ensures moment { IfOk result (λ next. IfSome next (λ event. event_moment (event_seen event) ≡ at)) }
         ensures source { source self.new ≡ source self.old };
 }

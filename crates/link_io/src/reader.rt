@@ -2,7 +2,7 @@
 
 ghost use Rattle.std.specs.Prelude.{◌≡◌, ◌≤◌, ◌-◌, None, Some, Err, true, false, [], ◌++◌, OnOk, OnErr, IfOk};
 ghost use Rattle.link_io.specs.Limits.{refusal, limit_after};
-ghost use Rattle.link_io.specs.Reading.{FeedsPiece, Gave, MakesNext, Offers, Puts, Reads};
+ghost use Rattle.link_io.specs.Reading.{AreAt, offered_list, FeedsPiece, Gave, MakesNext, Offers, Puts, Reads};
 ghost use Rattle.link_io.specs.Decoding.{MadeOfFrames, MadeOfPackets};
 ghost use Rattle.link_io.specs.declared.link_fault.LinkFault.{LinkFault as Fault};
 
@@ -109,7 +109,7 @@ impl<D: Decoder> Reader<D> {
         gate: &mut G,
         at: u64,
     ) -> Result<Progress, LinkFault>
-        ensures reads { refusal self.old.limit ≡ None → Reads D.made D.are_all result self.old self.new
+        ensures reads { refusal self.old.limit ≡ None → Reads D.made D.are_all at result self.old self.new
             (G.was_put gate.old) (G.was_put gate.new) (R.remaining stream.old) (R.remaining stream.new) }
         ensures refused { (fault : Fault) → refusal self.old.limit ≡ Some fault
             → (result ≡ Err fault) × (stream.new ≡ stream.old) × (gate.new ≡ gate.old) }
@@ -135,7 +135,7 @@ impl<D: Decoder> Reader<D> {
         gate: &mut G,
         at: u64,
     ) -> Result<Progress, LinkFault>
-        ensures reads { Reads D.made D.are_all result self.old self.new
+        ensures reads { Reads D.made D.are_all at result self.old self.new
             (G.was_put gate.old) (G.was_put gate.new) (R.remaining stream.old) (R.remaining stream.new) }
         ensures limit { self.new.limit ≡ self.old.limit }
         ensures source { D.source self.new.decoder ≡ D.source self.old.decoder }
@@ -156,7 +156,7 @@ impl<D: Decoder> Reader<D> {
 
     /// Puts what was given back and what can be made of what was read: whether all was taken.
     fn put_all<G: Gate>(&mut self, alloc: Global, gate: &mut G, at: u64) -> Result<bool, LinkFault>
-        ensures puts { Puts D.made D.are_all result self.old self.new (G.was_put gate.old) (G.was_put gate.new) }
+        ensures puts { Puts D.made D.are_all at result self.old self.new (G.was_put gate.old) (G.was_put gate.new) }
         ensures limit { self.new.limit ≡ self.old.limit }
         ensures source { D.source self.new.decoder ≡ D.source self.old.decoder }
         ensures none_taken { G.was_taken gate.new ≡ G.was_taken gate.old }
@@ -207,6 +207,7 @@ impl<D: Decoder> Reader<D> {
         requires put { self.old.offered ≡ None }
         requires fed { self.old.piece ≡ [] }
         ensures makes { MakesNext D.made D.are_all D.to_make result self.old self.new }
+        ensures moment { AreAt at (offered_list self.new.offered) }
         ensures limit { self.new.limit ≡ self.old.limit }
         ensures source { D.source self.new.decoder ≡ D.source self.old.decoder }
     {

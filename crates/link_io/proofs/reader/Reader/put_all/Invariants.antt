@@ -4,7 +4,7 @@ use Rattle.link_io.proofs.reader.Reader.put_all.Given as goal
 
 abbrev pub invariant-loop-self : goal.invariant-loop-self
 invariant-loop-self g l = record {
-  put : HasPut g.D.Decoder.made l.fn.self l.self (g.G.Gate.was_put l.fn.gate) (g.G.Gate.was_put l.gate);
+  put : HasPut g.D.Decoder.made l.at l.fn.self l.self (g.G.Gate.was_put l.fn.gate) (g.G.Gate.was_put l.gate);
   offered : l.self.offered ≡ None;
   piece : l.self.piece ≡ [];
   limit : l.self.limit ≡ l.fn.self.limit;
