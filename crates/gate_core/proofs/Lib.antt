@@ -17,3 +17,4 @@ mod Stepping
 mod Settled
 pub mod Histories
 mod Naming
+mod OrdersSettled

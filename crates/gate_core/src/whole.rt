@@ -70,6 +70,7 @@ impl Core {
         if self.events == MOST_EVENTS {
             return Ok(Batch::empty(alloc));
         }
+        self.parts.orders.settle();
         self.events += 1;
         self.parts.event(alloc, event)
     }

@@ -1,3 +1,4 @@
 mod Turns
 mod Histories
 mod Addressed
+pub mod Standing

@@ -177,14 +177,14 @@ kept-as a b p q order xs ys same_kept same_port same = rw (same_kept, same_port,
 
 pub handled-as : (old new : OrderCoreState) (port : ℕ) (heard : Result Outbound DecodeRefusal) (turn : MarketTurn) (out : MarketOut) (table : TableState) (kept : List KeptMessage)
     → GivesMarket (market_step old.table port heard) turn table → ChangesAny old.table port heard turn.changed → out.client ≡ turn.client → out.bodies.items ≡ turn.bodies.items
-    → new ≡ record { table = table; kept = kept } → kept ≡ left_after port heard turn.changed old.kept → MeetsHandled old port heard out new
-handled-as old new port heard turn out table kept gives changes client bodies is leaves = record {
+    → new.table ≡ table → new.kept ≡ kept → kept ≡ left_after port heard turn.changed old.kept → MeetsHandled old port heard out new
+handled-as old new port heard turn out table kept gives changes client bodies is_table is_kept leaves = record {
   turn = turn;
-  gives = subst (λ (c : OrderCoreState). GivesMarket (market_step old.table port heard) turn c.table) (sym is) gives;
+  gives = subst (λ (s : TableState). GivesMarket (market_step old.table port heard) turn s) (sym is_table) gives;
   changes = changes;
   client = client;
   bodies = bodies;
-  kept = ap (λ (c : OrderCoreState). c.kept) is ∙ leaves;
+  kept = is_kept ∙ leaves;
 }
 
 -- before the first turn

@@ -8,9 +8,23 @@ use Rattle.outstanding.specs.Kept.{KeptMessage}
 use Rattle.outstanding.specs.KeptInTurns.{KeepsOutstanding}
 
 -- the table of orders, and the messages that ports were asked and haven't answered
+pub record CoreParts : Type 0 where
+  pub table : TableState
+  pub kept : List KeptMessage
+
+-- both now, and as they were settled
 pub record OrderCoreState : Type 0 where
   pub table : TableState
   pub kept : List KeptMessage
+  pub settled : CoreParts
+
+-- from now on put back to how it is now
+abbrev pub core_settled : OrderCoreState → OrderCoreState
+core_settled c = record c { settled = record { table = c.table; kept = c.kept } }
+
+-- put back to how it was settled
+abbrev pub core_put_back : OrderCoreState → OrderCoreState
+core_put_back c = record c { table = c.settled.table; kept = c.settled.kept }
 
 -- how many clients there are
 abbrev pub core_clients : OrderCoreState → ℕ

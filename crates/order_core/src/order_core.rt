@@ -18,6 +18,9 @@ use std::marker::Model;
 /// The orders of all clients, and what the ports were asked of them and haven't answered.
 ///
 /// Clients are numbered from 1, in the order of their terms. OrderIDs, ExecIDs and token numbers each count from 1.
+/// `undo` puts back what was there at the last `settle`, and takes no memory: so where a step that this is part of
+/// can't be finished, be it for want of memory elsewhere, the order level is as before it. What is changed is kept
+/// beside what it became until the next `settle`.
 #[derive(Debug, Drop)]
 pub struct OrderCore {
     ledger: OrderLedger,
@@ -29,7 +32,11 @@ impl Model for OrderCore {
 
     ghost Value = { state.OrderCoreState };
 
-    ghost view = { λ c. record { table = c.ledger; kept = c.asked.messages } };
+    ghost view = { λ c. record {
+      table = c.ledger.now;
+      kept = c.asked.messages;
+      settled = record { table = c.ledger.settled; kept = c.asked.settled };
+    } };
 }
 
 impl OrderCore {
@@ -40,7 +47,7 @@ impl OrderCore {
     ghost use Rattle.to_market.specs.TermsSeen.{terms_seen};
     ghost use Rattle.order_core.specs.Meets.{MeetsClient, MeetsPayload};
     ghost use Rattle.order_core.specs.State.{IsAfterTurns, core_clients, IsCoreClient, core_numbers, CoreHasRoom};
-    ghost use Rattle.order_core.specs.State.{CoreKeeps};
+    ghost use Rattle.order_core.specs.State.{CoreKeeps, core_put_back, core_settled};
     ghost use Rattle.order_core.specs.Turns.{OfCall, client_turn};
 
     /// The order level of these clients, with no orders.
@@ -48,6 +55,7 @@ impl OrderCore {
         ensures clients { IfOk result (λ core. core_clients core ≡ length terms.now) }
         ensures issued { IfOk result (λ core. core_numbers core ≡ 0) }
         ensures after { IfOk result (λ core. IsAfterTurns (map terms_seen terms.now) [] core) }
+        ensures settled { IfOk result (λ core. core_put_back core ≡ core) }
     {
         Ok(OrderCore {
             ledger: OrderLedger::new(alloc, terms)?,
@@ -79,6 +87,7 @@ impl OrderCore {
             → length before < 2 ^ 58 → IsAfterTurns terms before self.old
             → Headline terms (client_turn client message.now port out ∷ before)) }
         ensures keeps { CoreKeeps self.old self.new }
+        ensures settled { self.new.settled ≡ self.old.settled }
         ensures err { OnErr result (self.new ≡ self.old) }
     {
         self.client_step(alloc, client, message, port)
@@ -107,6 +116,7 @@ impl OrderCore {
             → length before < 2 ^ 58 → IsAfterTurns terms before self.old → Headline terms (turn ∷ before)) }
         ensures nobody { IfOk result (λ out. out.bodies.items ≡ [] → out.client ≡ None) }
         ensures keeps { CoreKeeps self.old self.new }
+        ensures settled { self.new.settled ≡ self.old.settled }
         ensures err { OnErr result (self.new ≡ self.old) }
     {
         self.market_step(alloc, port, &decode(payload))
@@ -142,6 +152,24 @@ impl OrderCore {
         }
     }
 
+    /// From now on the order level is put back to how it is now: to be called before each step of whatever it is part
+    /// of. Takes no memory.
+    pub fn settle(&mut self)
+        ensures { self.new ≡ core_settled self.old }
+    {
+        self.ledger.settle();
+        self.asked.settle();
+    }
+
+    /// Puts the order level back to how it was settled: orders, tokens, ClOrdIDs that were used, numbers, and what is
+    /// outstanding. Takes no memory.
+    pub fn undo(&mut self)
+        ensures { self.new ≡ core_put_back self.old }
+    {
+        self.ledger.undo();
+        self.asked.undo();
+    }
+
     /// The step of a client's message: on the ledger, and then what it asks is kept.
     fn client_step(
         &mut self,
@@ -154,6 +182,7 @@ impl OrderCore {
         requires room { CoreHasRoom self.old }
         ensures meets { IfOk result (λ out. MeetsClient self.old client message.now (port_seen port) out self.new) }
         ensures keeps { CoreKeeps self.old self.new }
+        ensures settled { self.new.settled ≡ self.old.settled }
         ensures err { OnErr result (self.new ≡ self.old) }
     {
         self.asked.reserve(2)?;
@@ -178,6 +207,7 @@ impl OrderCore {
         ensures meets { MeetsPayload self.old port heard.now result self.new }
         ensures nobody { IfOk result (λ out. out.bodies.items ≡ [] → out.client ≡ None) }
         ensures keeps { CoreKeeps self.old self.new }
+        ensures settled { self.new.settled ≡ self.old.settled }
         ensures err { OnErr result (self.new ≡ self.old) }
     {
         let turn = self.ledger.market(alloc, port, heard)?;
@@ -206,7 +236,8 @@ fn drop_answered(
     heard: &Result<Outbound, DecodeRefusal>,
     changed: Option<ChangedOrder>,
 )
-    ensures { asked.new.messages ≡ left_after port heard.now changed asked.old.messages }
+    ensures left { asked.new.messages ≡ left_after port heard.now changed asked.old.messages }
+    ensures settled { asked.new.settled ≡ asked.old.settled }
 {
     if let Some(changed) = changed
         && let Ok(message) = heard

@@ -57,6 +57,7 @@ pub fn step(core: &mut OrderCore, alloc: Global, event: &Event) -> Result<Outcom
         → length before < 2 ^ 58 → IsAfterTurns terms before core.old
         → Headline terms (turn_of_outcome event.now outcome ∷ before)) }
     ensures keeps { CoreKeeps core.old core.new }
+    ensures settled { core.new.settled ≡ core.old.settled }
     ensures err { OnErr result (core.new ≡ core.old) }
 {
     match event {
@@ -87,6 +88,7 @@ fn client_outcome(
         → length before < 2 ^ 58 → IsAfterTurns terms before core.old
         → Headline terms (outcome_turn (Came client (message_fields message.now) (port_seen port)) outcome ∷ before)) }
     ensures keeps { CoreKeeps core.old core.new }
+    ensures settled { core.new.settled ≡ core.old.settled }
     ensures err { OnErr result (core.new ≡ core.old) }
 {
     let out = core.client(alloc, client, message, port)?;
@@ -113,6 +115,7 @@ fn market_outcome(
         → length before < 2 ^ 58 → IsAfterTurns terms before core.old
         → Headline terms (outcome_turn (Heard port (decoded payload.now)) outcome ∷ before)) }
     ensures keeps { CoreKeeps core.old core.new }
+    ensures settled { core.new.settled ≡ core.old.settled }
     ensures err { OnErr result (core.new ≡ core.old) }
 {
     match core.market(alloc, port, payload) {
@@ -152,6 +155,7 @@ pub fn run(
     let mut core = OrderCore::new(alloc, terms)?;
     let mut outcomes = Vec::new(alloc);
     for event in events {
+        core.settle();
         let outcome = step(&mut core, alloc, event)?;
         outcomes.push(outcome)?;
     }

@@ -11,7 +11,7 @@ use Rattle.order_law.specs.Life.{is_closed}
 use Rattle.order_law.specs.Reading.{is_report}
 use Rattle.order_law.specs.Told.{told_of_entry}
 use Rattle.order_machine.specs.OrderRecord.{OrderRecord}
-use Rattle.order_machine.specs.Table.{TableState, by_number, has_number, put}
+use Rattle.order_machine.specs.Table.{GivenToken, TableState, by_number, has_number, put}
 use Rattle.order_machine.specs.Machine.{GivenByEvent, market_step, silent}
 use Rattle.order_machine.proofs.Executed.{count-more}
 use Rattle.order_machine.proofs.Lists.{found-passes}
@@ -40,13 +40,15 @@ pub silent-changes : (old : TableState) (port : ℕ) (m : Result Outbound Decode
 silent-changes old port m changed nothing is = subst (λ (x : Option ChangedOrder). ChangesAny old port m x) (sym nothing) (ap (λ (g : GivenByEvent). g.state) is)
 
 -- where an order is changed, and its client told
-module _ (old : TableState) (port : ℕ) (m : Result Outbound DecodeRefusal) (order_id client : ℕ) (h : Heard) (turn : MarketTurn) (told : OrderIsTold old port m order_id client h) (held : Held) where
-  pub told-meets : ((o : OrderRecord) → by_number old (decimal order_id) ≡ Some o → held ≡ record { orders = put (changed_by h.change o) old.orders; tokens = old.tokens })
+module _ (old : TableState) (port : ℕ) (m : Result Outbound DecodeRefusal) (order_id client : ℕ) (h : Heard) (turn : MarketTurn) (told : OrderIsTold old port m order_id client h) (was held : Held) (same_orders : was.orders ≡ old.orders) (same_tokens : was.tokens ≡ old.tokens) where
+  pub told-meets : ((o : OrderRecord) → by_number old (decimal order_id) ≡ Some o → held ≡ record was { orders = put (changed_by h.change o) was.orders })
       → client_seen turn.client ≡ (told_of_entry told.order.new (map body_fields h.bodies.items)).client → turn.bodies.items ≡ h.bodies.items
       → GivesMarket (market_step old port m) turn (record old { orders = held.orders; tokens = held.tokens; exec_ids = old.exec_ids + count_by is_report (map body_fields h.bodies.items) })
   told-meets changed of_client same = record {
     state =
         ap (λ (x : Held). record old { orders = x.orders; tokens = x.tokens; exec_ids = old.exec_ids + count_by is_report (map body_fields h.bodies.items) }) (changed told.order told.found)
+        ∙ ap (λ (os : List OrderRecord). record old { orders = put (changed_by h.change told.order) os; tokens = was.tokens; exec_ids = old.exec_ids + count_by is_report (map body_fields h.bodies.items) }) same_orders
+        ∙ ap (λ (ts : List GivenToken). record old { orders = put (changed_by h.change told.order) old.orders; tokens = ts; exec_ids = old.exec_ids + count_by is_report (map body_fields h.bodies.items) }) same_tokens
         ∙ ap (λ (g : GivenByEvent). g.state) (sym told.gives);
     client = of_client ∙ ap (λ (g : GivenByEvent). g.client) (sym told.gives);
     bodies = ap (map body_fields) same ∙ ap (λ (g : GivenByEvent). g.bodies) (sym told.gives);
@@ -55,7 +57,7 @@ module _ (old : TableState) (port : ℕ) (m : Result Outbound DecodeRefusal) (or
 
   -- and it is the one that is changed
   pub told-changes : (closed : Bool)
-      → ((o : OrderRecord) → by_number old (decimal order_id) ≡ Some o → held ≡ record { orders = put (changed_by h.change o) old.orders; tokens = old.tokens })
+      → ((o : OrderRecord) → by_number old (decimal order_id) ≡ Some o → held ≡ record was { orders = put (changed_by h.change o) was.orders })
       → ((o : OrderRecord) → with_number held order_id ≡ Some o → closed ≡ is_closed o.stage)
       → ChangesOrder old port m (record { order_id = order_id; is_closed = closed })
   told-changes closed changed closes =
@@ -66,6 +68,7 @@ module _ (old : TableState) (port : ℕ) (m : Result Outbound DecodeRefusal) (or
       let was : find (has_number now.new.order) old.orders ≡ Some told.order = ap (λ (k : List ℕ). find (has_number k) old.orders) number ∙ told.found in
       let here : with_number held order_id ≡ Some now =
       ap (λ (x : Held). with_number x order_id) (changed told.order told.found)
+      ∙ ap (λ (os : List OrderRecord). find (has_number (decimal order_id)) (put now os)) same_orders
       ∙ ap (λ (k : List ℕ). find (has_number k) (put now old.orders)) (sym number)
       ∙ number-put_own now old.orders told.order was in
       record {

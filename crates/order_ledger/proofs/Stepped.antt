@@ -22,6 +22,10 @@ use Rattle.client_requests.specs.declared.sender.Sender.{Sender}
 use Rattle.new_orders.specs.Turns.{IsEntering, numbered_on, with_order}
 use Rattle.order_ledger.specs.declared.turns.ClientTurn.{ClientTurn}
 use Rattle.order_ledger.specs.Meets.{GoByNumbers, MeetsFields}
+use Rattle.order_ledger.specs.State.{LedgerState}
+
+pub now-is : {x y : LedgerState} → x ≡ y → x.now ≡ y.now
+now-is same = ap (λ (s : LedgerState). s.now) same
 
 -- what is asked of what a step gives
 abbrev AsksOf : TableState → ℕ → ClientTurn → GivenByEvent → Type 0
@@ -70,6 +74,13 @@ refused_new-meets old client m port turn new body is told nothing state = ended-
 abbrev with_table : TableState → ℕ → Message → Held → TableState
 with_table old client m held = record (with_used client m old) { orders = held.orders; tokens = held.tokens; exec_ids = old.exec_ids + 1 }
 
+-- the same, by its lists
+with-lists : (old : TableState) (client : ℕ) (m : Message) (orders us : List OrderRecord) (tokens ts : List GivenToken) → orders ≡ us → tokens ≡ ts
+    → record (with_used client m old) { orders = orders; tokens = tokens; exec_ids = old.exec_ids + 1 } ≡ record (with_used client m old) { orders = us; tokens = ts; exec_ids = old.exec_ids + 1 }
+with-lists old client m orders us tokens ts same_orders same_tokens =
+    ap (λ (os : List OrderRecord). record (with_used client m old) { orders = os; tokens = tokens; exec_ids = old.exec_ids + 1 }) same_orders
+    ∙ ap (λ (gs : List GivenToken). record (with_used client m old) { orders = us; tokens = gs; exec_ids = old.exec_ids + 1 }) same_tokens
+
 module _ (old : TableState) (sender : Sender) (m : Message) (turn : ClientTurn) (new : TableState) (order_id : ℕ) (body : AppBody) (told : turn.bodies.items ≡ body ∷ []) (numbered_as : turn.order_id ≡ order_id) where
   pub entering-meets : (o : OrderRecord) (given : GivenToken) → IsEntering old sender m order_id o given body turn.asks.items → new ≡ with_order (used_by sender.client m) o given old
       → MeetsFields old sender.client m (port_seen sender.port) turn new
@@ -78,23 +89,25 @@ module _ (old : TableState) (sender : Sender) (m : Message) (turn : ClientTurn) 
       (is.gives ∙ ap (λ (s : TableState). tells s sender.client (body_fields body ∷ []) is.asked) (sym state))
       told (subst (λ (k : ℕ). AreOf k is.asked) (sym numbered_as) is.of_asked) is.says
 
-  module _ (numbered : GoByNumbers old) (held : Held) (state : new ≡ with_table old sender.client m held) where
+  module _ (numbered : GoByNumbers old) (was held : Held) (same_orders : was.orders ≡ old.orders) (same_tokens : was.tokens ≡ old.tokens) (state : new ≡ with_table old sender.client m held) where
     pub cancelling-meets : (c : Cancelling) → IsCancelling old sender m order_id c body turn.asks.items
-        → ((o : OrderRecord) → by_number old (decimal order_id) ≡ Some o → held ≡ record { orders = put (at o o.replace (Some (cancel_seen o.new.client order_id c))) old.orders; tokens = old.tokens })
+        → ((o : OrderRecord) → by_number old (decimal order_id) ≡ Some o → held ≡ changed (at o o.replace (Some (cancel_seen o.new.client order_id c))) was)
         → MeetsFields old sender.client m (port_seen sender.port) turn new
     cancelling-meets c is is_changed =
         let found : by_number old (decimal order_id) ≡ Some is.order = ap (by_number old) (sym is.of_order) ∙ numbered sender.client _ is.order is.named in
         given-meets old sender.client m (port_seen sender.port) turn new body is.asked
-        (is.gives ∙ ap (λ (s : TableState). tells s sender.client (body_fields body ∷ []) is.asked) (sym (state ∙ ap (with_table old sender.client m) (is_changed is.order found))))
+        (is.gives ∙ ap (λ (s : TableState). tells s sender.client (body_fields body ∷ []) is.asked) (sym (state ∙ ap (with_table old sender.client m) (is_changed is.order found)
+        ∙ with-lists old sender.client m _ (put (at is.order is.order.replace (Some (cancel_seen is.order.new.client order_id c))) old.orders) _ old.tokens (ap (put (at is.order is.order.replace (Some (cancel_seen is.order.new.client order_id c)))) same_orders) same_tokens)))
         told (subst (λ (k : ℕ). AreOf k is.asked) (sym numbered_as) is.of_asked) is.says
 
     pub replacing-meets : (r : Replacing) (given : GivenToken) → IsReplacing old sender m order_id r given body turn.asks.items
-        → ((o : OrderRecord) → by_number old (decimal order_id) ≡ Some o → held ≡ record { orders = put (at o (Some (replace_seen o.new.client order_id r)) o.cancel) old.orders; tokens = given ∷ old.tokens })
+        → ((o : OrderRecord) → by_number old (decimal order_id) ≡ Some o → held ≡ record was { orders = put (at o (Some (replace_seen o.new.client order_id r)) o.cancel) was.orders; tokens = given ∷ was.tokens })
         → MeetsFields old sender.client m (port_seen sender.port) turn new
     replacing-meets r given is is_changed =
         let found : by_number old (decimal order_id) ≡ Some is.order = ap (by_number old) (sym is.of_order) ∙ numbered sender.client _ is.order is.named in
         given-meets old sender.client m (port_seen sender.port) turn new body is.asked
-        (is.gives ∙ ap (λ (s : TableState). tells s sender.client (body_fields body ∷ []) is.asked) (sym (state ∙ ap (with_table old sender.client m) (is_changed is.order found))))
+        (is.gives ∙ ap (λ (s : TableState). tells s sender.client (body_fields body ∷ []) is.asked) (sym (state ∙ ap (with_table old sender.client m) (is_changed is.order found)
+        ∙ with-lists old sender.client m _ (put (at is.order (Some (replace_seen is.order.new.client order_id r)) is.order.cancel) old.orders) _ (given ∷ old.tokens) (ap (put (at is.order (Some (replace_seen is.order.new.client order_id r)) is.order.cancel)) same_orders) (ap (λ (ts : List GivenToken). given ∷ ts) same_tokens))))
         told (subst (λ (k : ℕ). AreOf k is.asked) (sym numbered_as) is.of_asked) is.says
 
 -- ---- tokens
@@ -109,7 +122,7 @@ same-tokens h k order_id f accepted unknown = by_order (with_number h order_id) 
     by_order (Some o) e = ap (λ (x : Held). length x.tokens) (accepted o e)
 
 -- a replace takes one
-pub one_token : (h k : Held) (order_id : ℕ) (given : GivenToken) (f : OrderRecord → OrderRecord) → ((o : OrderRecord) → with_number h order_id ≡ Some o → k ≡ record { orders = put (f o) h.orders; tokens = given ∷ h.tokens })
+pub one_token : (h k : Held) (order_id : ℕ) (given : GivenToken) (f : OrderRecord → OrderRecord) → ((o : OrderRecord) → with_number h order_id ≡ Some o → k ≡ record h { orders = put (f o) h.orders; tokens = given ∷ h.tokens })
     → (with_number h order_id ≡ None → k ≡ h) → length k.tokens ≤ length h.tokens + 1
 one_token h k order_id given f accepted unknown = by_order (with_number h order_id) refl
   where

@@ -2,6 +2,11 @@
 use Rattle.std.specs.Prelude.{◌≡◌, ℕ, ◌+◌, ◌<◌, ◌≤◌, ◌^◌, length}
 use Rattle.order_machine.specs.Table.{TableState}
 
+-- the table now, and as it was settled
+pub record LedgerState : Type 0 where
+  pub now : TableState
+  pub settled : TableState
+
 -- how many clients there are
 abbrev pub clients : TableState → ℕ
 clients s = length s.terms

@@ -15,35 +15,51 @@ use order_table::Table;
 use std::alloc::{AllocError, Global};
 use std::marker::Model;
 use to_market::{ClientTerms, PortState};
+use undo_list::UndoList;
 
 /// The orders of all clients, the ClOrdIDs that they used, and the numbers that were given.
 ///
 /// Clients are numbered from 1, in the order of their terms. OrderIDs, ExecIDs and token numbers each count from 1.
+/// Contracts see it as it is now and as it was settled: `undo` puts back what was there at the last `settle`, and the
+/// ledger with no orders where there was none.
 #[derive(Debug, Drop)]
 pub struct OrderLedger {
     terms: Vec<ClientTerms>,
     table: Table,
-    used: Vec<UsedId>,
+    used: UndoList<UsedId>,
     /// How many new orders came: the last OrderID given.
     order_ids: u64,
     /// How many reports were issued: the last ExecID given.
     exec_ids: u64,
+    /// Both numbers as they were settled.
+    settled_order_ids: u64,
+    settled_exec_ids: u64,
 }
 
 impl Model for OrderLedger {
     ghost use Rattle.std.specs.Prelude.{map};
-    ghost use Rattle.order_machine.specs.Table as record_of;
+    ghost use Rattle.order_ledger.specs.State as state;
     ghost use Rattle.to_market.specs.TermsSeen.{terms_seen};
 
-    ghost Value = { record_of.TableState };
+    ghost Value = { state.LedgerState };
 
     ghost view = { λ c. record {
-      terms = map terms_seen c.terms.items;
-      orders = c.table.orders;
-      tokens = c.table.tokens;
-      used = c.used.items;
-      order_ids = c.order_ids;
-      exec_ids = c.exec_ids;
+      now = record {
+        terms = map terms_seen c.terms.items;
+        orders = c.table.orders;
+        tokens = c.table.tokens;
+        used = c.used.now;
+        order_ids = c.order_ids;
+        exec_ids = c.exec_ids;
+      };
+      settled = record {
+        terms = map terms_seen c.terms.items;
+        orders = c.table.settled.orders;
+        tokens = c.table.settled.tokens;
+        used = c.used.settled;
+        order_ids = c.settled_order_ids;
+        exec_ids = c.settled_exec_ids;
+      };
     } };
 }
 
@@ -59,28 +75,32 @@ impl OrderLedger {
 
     /// The ledger of these clients, with no orders.
     pub fn new(alloc: Global, terms: &[ClientTerms]) -> Result<OrderLedger, AllocError>
-        ensures { IfOk result (λ ledger. ledger ≡ table_without_orders (map terms_seen terms.now)) }
+        ensures now { IfOk result (λ ledger. ledger.now ≡ table_without_orders (map terms_seen terms.now)) }
+        ensures settled { IfOk result (λ ledger. ledger.settled ≡ ledger.now) }
     {
         Ok(OrderLedger {
             terms: Vec::from_slice(alloc, terms)?,
             table: Table::new(alloc),
-            used: Vec::new(alloc),
+            used: UndoList::new(alloc),
             order_ids: 0,
             exec_ids: 0,
+            settled_order_ids: 0,
+            settled_exec_ids: 0,
         })
     }
 
     /// The number of a client's port, from 1.
     pub fn port_of(&self, client: u16) -> u16
-        requires { IsClient self.now client }
-        ensures { result ≡ (terms_of self.now.terms client).port }
+        requires { IsClient self.now.now client }
+        ensures { result ≡ (terms_of self.now.now.terms client).port }
     {
         terms_at(&self.terms, client).port
     }
 
     /// The number of the client of the order that a token of a port leads to, from 1.
     pub fn client_of_token(&self, port: u16, token: &[u8]) -> Option<u16>
-        ensures { result ≡ option_map (λ (o : OrderRecord). o.new.client) (record_by_token self.now port token.now) }
+        ensures { result
+            ≡ option_map (λ (o : OrderRecord). o.new.client) (record_by_token self.now.now port token.now) }
     {
         match self.table.by_token(port, token) {
             None => None,
@@ -102,11 +122,13 @@ impl OrderLedger {
         message: &AppMsg,
         port: PortState,
     ) -> Result<ClientTurn, AllocError>
-        requires client { IsClient self.old client }
-        requires room { HasRoom self.old }
-        ensures meets { IfOk result (λ turn. MeetsMessage self.old client message.now (port_seen port) turn self.new) }
+        requires client { IsClient self.old.now client }
+        requires room { HasRoom self.old.now }
+        ensures meets { IfOk result (λ turn. MeetsMessage self.old.now client message.now (port_seen port) turn
+            self.new.now) }
         ensures few { IfOk result (λ turn. length turn.asks.items ≤ 2) }
-        ensures keeps { Keeps self.old self.new }
+        ensures keeps { Keeps self.old.now self.new.now }
+        ensures settled { self.new.settled ≡ self.old.settled }
         ensures err { OnErr result (self.new ≡ self.old) }
     {
         match message {
@@ -114,6 +136,26 @@ impl OrderLedger {
             AppMsg::Cancel(request) => self.cancel(alloc, client, request, port),
             AppMsg::Replace(request) => self.replace(alloc, client, request, port),
         }
+    }
+
+    /// From now on the ledger is put back to how it is now. Takes no memory.
+    pub fn settle(&mut self)
+        ensures { self.new ≡ record self.old { settled = self.old.now } }
+    {
+        self.table.settle();
+        self.used.settle();
+        self.settled_order_ids = self.order_ids;
+        self.settled_exec_ids = self.exec_ids;
+    }
+
+    /// Puts the ledger back to how it was settled. Takes no memory.
+    pub fn undo(&mut self)
+        ensures { self.new ≡ record self.old { now = self.old.settled } }
+    {
+        self.table.undo();
+        self.used.undo();
+        self.order_ids = self.settled_order_ids;
+        self.exec_ids = self.settled_exec_ids;
     }
 }
 

@@ -1,6 +1,6 @@
 //! The ids that clients have used.
 
-ghost use Rattle.std.specs.Prelude.{◌≡◌, ◌<◌, ◌++◌, ◌∷◌, [], vec_len, vec_capacity};
+ghost use Rattle.std.specs.Prelude.{◌≡◌};
 ghost use Rattle.order_machine.specs.Table as table;
 ghost use Rattle.order_ledger.specs.Fingerprint.{fingerprint_of, mixed};
 
@@ -76,12 +76,4 @@ fn is_same_id(fingerprint: u64, client: u16, cl_ord_id: &ClOrdId, used: &UsedId)
 {
     used.fingerprint == fingerprint
         && (used.client == client && used.cl_ord_id.as_slice() == cl_ord_id.as_slice())
-}
-
-/// Adds a used id, where there is room for it.
-pub fn push_used(used: &mut Vec<UsedId>, id: UsedId)
-    requires { vec_len used.old < vec_capacity used.old }
-    ensures { used.new.items ≡ used.old.items ++ id ∷ [] }
-{
-    let _ = used.push(id);
 }

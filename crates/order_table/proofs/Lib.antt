@@ -1,3 +1,4 @@
 pub mod Newest
 pub mod Counted
+mod Standing
 mod StillOpen

@@ -1,14 +1,28 @@
 -- What the table holds, and what is found in it: `order_machine`'s words over the two lists.
-use Rattle.std.specs.Prelude.{◌≡◌, ◌<◌, ℕ, ◌+◌, ◌-◌, nat_le, Bool, List, length, reverse, Option, option_and_then}
-use Rattle.std.specs.Prelude.{option_to_list, decimal, slice_get, slice_index, if◌then◌else◌}
-use Rattle.std.specs.List.{count_by, find, position_or_len}
+use Rattle.std.specs.Prelude.{◌≡◌, ◌<◌, ℕ, ◌+◌, ◌-◌, nat_le, Bool, true, List, length, reverse, Option}
+use Rattle.std.specs.Prelude.{option_and_then, option_to_list, decimal, slice_get, slice_index, if◌then◌else◌}
+use Rattle.std.specs.List.{count_by, find, list_all, position_or_len}
 use Rattle.order_machine.specs.OrderRecord.{OrderRecord}
 use Rattle.order_machine.specs.Table.{GivenToken, has_number, is_named, is_replacement_of, is_token, open_count, put}
 
 -- the newest first
+pub record Lists : Type 0 where
+  pub orders : List OrderRecord
+  pub tokens : List GivenToken
+
+-- the lists now, and as they were settled
 pub record Held : Type 0 where
   pub orders : List OrderRecord
   pub tokens : List GivenToken
+  pub settled : Lists
+
+-- from now on put back to how it is now
+abbrev pub settled_now : Held → Held
+settled_now h = record h { settled = record { orders = h.orders; tokens = h.tokens } }
+
+-- put back to how it was settled
+abbrev pub put_back : Held → Held
+put_back h = record h { orders = h.settled.orders; tokens = h.settled.tokens }
 
 abbrev pub with_number : Held → ℕ → Option OrderRecord
 with_number h order_id = find (has_number (decimal order_id)) h.orders
@@ -36,6 +50,11 @@ one_if b = if b then 1 else 0
 -- What stands at a client's number is how many orders of the client aren't closed.
 abbrev pub AreOpenCounts : List ℕ → List OrderRecord → Type 0
 AreOpenCounts counts orders = (client : ℕ) → slice_index counts client ≡ open_count orders client
+
+-- what holds of the lists with their counts, now and as they were settled
+pub record IsCounted (tokens : List GivenToken) (counts : List ℕ) (orders : List OrderRecord) : Type 0 where
+  pub had : list_all (is_counted tokens) orders ≡ true
+  pub by_client : AreOpenCounts counts orders
 
 -- what a place is to the newest that passes
 pub record IsNewest {A : Type 0} (test : A → Bool) (xs : List A) (place : ℕ) : Type 0 where

@@ -1,12 +1,10 @@
 //! The list of orders, and the list of tokens that were given.
 
-ghost use Rattle.std.specs.Prelude.{◌≡◌, ◌<◌, ◌++◌, ◌∷◌, ◌&&◌, [], true, not, decimal, vec_len, vec_capacity, IfOk};
-ghost use Rattle.std.specs.Prelude.{OnErr};
-ghost use Rattle.std.specs.List.{count_by, list_all};
+ghost use Rattle.std.specs.Prelude.{◌≡◌, ◌<◌, true, not, decimal};
+ghost use Rattle.std.specs.List.{count_by};
 ghost use Rattle.order_law.specs.Life.{is_closed};
 ghost use Rattle.order_machine.specs.Table as table;
-ghost use Rattle.orders.specs.Changes.{Fits, changed_by};
-ghost use Rattle.order_table.specs.Held.{AreOpenCounts, is_counted};
+ghost use Rattle.order_table.specs.Held.{IsCounted};
 
 use crate::open_counts::OpenCounts;
 use crate::places::{named_place, place_of, token_place};
@@ -14,6 +12,7 @@ use order_law::Stage;
 use orders::{Cancelling, Change, Order, Replacing};
 use std::alloc::{AllocError, Global};
 use std::marker::Model;
+use undo_list::UndoList;
 
 /// A token that was given for an order.
 #[derive(Debug, Drop)]
@@ -42,15 +41,16 @@ impl Model for GivenToken {
     } };
 }
 
-/// The accepted orders and the tokens that were given. Contracts see the newest first.
+/// The accepted orders and the tokens that were given. Contracts see the newest first, now and as they were settled:
+/// `undo` puts back what was there at the last `settle`, and no orders where there was none.
 #[derive(Debug, Drop)]
 pub struct Table {
-    orders: Vec<Order>,
-    tokens: Vec<GivenToken>,
+    orders: UndoList<Order>,
+    tokens: UndoList<GivenToken>,
     /// How many orders of each client aren't closed.
     open_counts: OpenCounts,
-    ghost counted: { list_all (is_counted tokens.items) orders.items ≡ true },
-    ghost open_counted: { AreOpenCounts open_counts orders.items },
+    ghost counted: { IsCounted tokens.now open_counts.now orders.now },
+    ghost settled_counted: { IsCounted tokens.settled open_counts.settled orders.settled },
 }
 
 impl Model for Table {
@@ -59,7 +59,11 @@ impl Model for Table {
 
     ghost Value = { held.Held };
 
-    ghost view = { λ t. record { orders = reverse t.orders.items; tokens = reverse t.tokens.items } };
+    ghost view = { λ t. record {
+      orders = reverse t.orders.now;
+      tokens = reverse t.tokens.now;
+      settled = record { orders = reverse t.orders.settled; tokens = reverse t.tokens.settled };
+    } };
 }
 
 impl Table {
@@ -72,17 +76,18 @@ impl Table {
     ghost use Rattle.order_machine.specs.OrderRecord.{at};
     ghost use Rattle.order_machine.specs.Table.{is_replacement_of, open_count, put};
     ghost use Rattle.orders.specs.Changes.{Fits, changed_by};
-    ghost use Rattle.order_table.specs.Held.{changed, found, found_by_id, with_number};
+    ghost use Rattle.order_table.specs.Held.{changed, found, found_by_id, put_back, settled_now, with_number};
     ghost use Rattle.orders.specs.Seen.{cancel_seen, replace_seen};
 
     /// No orders and no tokens. Takes no memory.
     pub fn new(alloc: Global) -> Table
         ensures orders { result.orders ≡ [] }
         ensures tokens { result.tokens ≡ [] }
+        ensures settled { result.settled ≡ record { orders = []; tokens = [] } }
     {
         Table {
-            orders: Vec::new(alloc),
-            tokens: Vec::new(alloc),
+            orders: UndoList::new(alloc),
+            tokens: UndoList::new(alloc),
             open_counts: OpenCounts::new(alloc),
         }
     }
@@ -92,15 +97,17 @@ impl Table {
     pub fn add(&mut self, order: Order, given: GivenToken) -> Result<(), AllocError>
         requires { length order.tokens + length (option_to_list order.replace) ≤ 1 }
         ensures added { IfOk result (λ nothing. self.new
-            ≡ record { orders = order ∷ self.old.orders; tokens = given ∷ self.old.tokens }) }
+            ≡ record self.old { orders = order ∷ self.old.orders; tokens = given ∷ self.old.tokens }) }
+        ensures settled { self.new.settled ≡ self.old.settled }
         ensures err { OnErr result (self.new ≡ self.old) }
     {
         let client = client_of(&order);
         let is_open = is_open(&order);
         self.open_counts.make_room(client)?;
-        self.tokens.reserve(1)?;
-        self.orders.push(order)?;
-        push_token(&mut self.tokens, given);
+        self.tokens.reserve_push()?;
+        self.orders.reserve_push()?;
+        self.tokens.push(given);
+        self.orders.push(order);
         self.open_counts.count_in(client, is_open);
         Ok(())
     }
@@ -109,7 +116,7 @@ impl Table {
     pub fn token_count(&self) -> usize
         ensures { result ≡ length self.now.tokens }
     {
-        self.tokens.len()
+        self.tokens.as_slice().len()
     }
 
     /// How many orders of a client aren't closed. No order is looked at.
@@ -124,9 +131,9 @@ impl Table {
         ensures { MatchOption result (found self.now port token.now ≡ None)
             (λ order. found self.now port token.now ≡ Some order.now) }
     {
-        match token_place(&self.tokens, port, token) {
+        match token_place(self.tokens.as_slice(), port, token) {
             None => None,
-            Some(place) => self.by_number(self.tokens[place].order_id),
+            Some(place) => self.by_number(self.tokens.item_at(place).order_id),
         }
     }
 
@@ -135,9 +142,9 @@ impl Table {
         ensures { MatchOption result (with_number self.now order_id ≡ None)
             (λ order. with_number self.now order_id ≡ Some order.now) }
     {
-        match place_of(&self.orders, order_id) {
+        match place_of(self.orders.as_slice(), order_id) {
             None => None,
-            Some(place) => Some(&self.orders[place]),
+            Some(place) => Some(self.orders.item_at(place)),
         }
     }
 
@@ -147,9 +154,9 @@ impl Table {
         ensures { MatchOption result (found_by_id self.now client id.now ≡ None)
             (λ order. found_by_id self.now client id.now ≡ Some order.now) }
     {
-        match named_place(&self.orders, client, id) {
+        match named_place(self.orders.as_slice(), client, id) {
             None => None,
-            Some(place) => Some(&self.orders[place]),
+            Some(place) => Some(self.orders.item_at(place)),
         }
     }
 
@@ -157,21 +164,28 @@ impl Table {
     pub fn replace_count(&self, order_id: u64) -> usize
         ensures { result ≡ count_by (is_replacement_of (decimal order_id)) self.now.tokens }
     {
-        count_replacements(&self.tokens, order_id)
+        count_replacements(self.tokens.as_slice(), order_id)
     }
 
     /// The order with an OrderID, as a message of the market changes it, which fits it. Where no order has it, nothing
     /// changes. `AllocError` leaves the table as it was.
-    pub fn apply(&mut self, order_id: u64, change: Change) -> Result<(), AllocError>
+    pub fn apply(&mut self, alloc: Global, order_id: u64, change: Change) -> Result<(), AllocError>
         requires { (o : record_of.OrderRecord) → with_number self.old order_id ≡ Some o → Fits change o }
         ensures changed { IfOk result (λ nothing. (o : record_of.OrderRecord) → with_number self.old order_id ≡ Some o
             → self.new ≡ changed (changed_by change o) self.old) }
         ensures unknown { with_number self.old order_id ≡ None → self.new ≡ self.old }
+        ensures settled { self.new.settled ≡ self.old.settled }
         ensures err { OnErr result (self.new ≡ self.old) }
     {
-        if let Some(place) = place_of(&self.orders, order_id) {
-            let client = client_of(&self.orders[place]);
-            let has_closed = apply_to(&mut self.orders[place], change)?;
+        if let Some(place) = place_of(self.orders.as_slice(), order_id) {
+            let was = self.orders.item_at(place);
+            let client = client_of(was);
+            let was_open = is_open(was);
+            let order = was.changed(alloc, change)?;
+            let has_closed = was_open && !is_open(&order);
+            self.orders.reserve_change()?;
+            self.open_counts.reserve()?;
+            self.orders.change(place, order);
             self.open_counts.count_off(client, has_closed);
         }
         Ok(())
@@ -193,6 +207,7 @@ impl Table {
     /// order has the OrderID, nothing changes. `AllocError` leaves the table as it was.
     pub fn accept_replace(
         &mut self,
+        alloc: Global,
         order_id: u64,
         replacing: Replacing,
         given: GivenToken,
@@ -201,41 +216,65 @@ impl Table {
         requires of_order { given.order ≡ decimal order_id }
         requires is_replacement { given.is_replacement ≡ true }
         ensures accepted { IfOk result (λ nothing. (o : record_of.OrderRecord) → with_number self.old order_id ≡ Some o
-            → self.new ≡ record {
+            → self.new ≡ record self.old {
               orders = put (at o
                   (Some (replace_seen o.new.client order_id replacing)) o.cancel) self.old.orders;
               tokens = given
                   ∷ self.old.tokens;
             }) }
         ensures unknown { with_number self.old order_id ≡ None → self.new ≡ self.old }
+        ensures settled { self.new.settled ≡ self.old.settled }
         ensures err { OnErr result (self.new ≡ self.old) }
     {
-        self.tokens.reserve(1)?;
-        if let Some(place) = place_of(&self.orders, order_id) {
-            push_token(&mut self.tokens, given);
-            self.orders[place].accept_replace(replacing);
+        if let Some(place) = place_of(self.orders.as_slice(), order_id) {
+            let order = self.orders.item_at(place).with_replace(alloc, replacing)?;
+            self.tokens.reserve_push()?;
+            self.orders.reserve_change()?;
+            self.tokens.push(given);
+            self.orders.change(place, order);
         }
         Ok(())
     }
 
-    /// A cancel of the order with an OrderID is pending. Where no order has it, nothing changes.
-    pub fn accept_cancel(&mut self, order_id: u64, cancelling: Cancelling)
-        ensures accepted { (o : record_of.OrderRecord) → with_number self.old order_id ≡ Some o
-            → self.new ≡ changed (at o o.replace (Some (cancel_seen o.new.client order_id cancelling))) self.old }
+    /// A cancel of the order with an OrderID is pending. Where no order has it, nothing changes. `AllocError` leaves
+    /// the table as it was.
+    pub fn accept_cancel(
+        &mut self,
+        alloc: Global,
+        order_id: u64,
+        cancelling: Cancelling,
+    ) -> Result<(), AllocError>
+        ensures accepted { IfOk result (λ nothing. (o : record_of.OrderRecord) → with_number self.old order_id ≡ Some o
+            → self.new ≡ changed (at o o.replace (Some (cancel_seen o.new.client order_id cancelling))) self.old) }
         ensures unknown { with_number self.old order_id ≡ None → self.new ≡ self.old }
+        ensures settled { self.new.settled ≡ self.old.settled }
+        ensures err { OnErr result (self.new ≡ self.old) }
     {
-        if let Some(place) = place_of(&self.orders, order_id) {
-            self.orders[place].accept_cancel(cancelling);
+        if let Some(place) = place_of(self.orders.as_slice(), order_id) {
+            let order = self.orders.item_at(place).with_cancel(alloc, cancelling)?;
+            self.orders.reserve_change()?;
+            self.orders.change(place, order);
         }
+        Ok(())
     }
-}
 
-/// Adds a token, where there is room for it.
-fn push_token(tokens: &mut Vec<GivenToken>, given: GivenToken)
-    requires { vec_len tokens.old < vec_capacity tokens.old }
-    ensures { tokens.new.items ≡ tokens.old.items ++ given ∷ [] }
-{
-    let _ = tokens.push(given);
+    /// From now on the table is put back to how it is now. Takes no memory.
+    pub fn settle(&mut self)
+        ensures { self.new ≡ settled_now self.old }
+    {
+        self.orders.settle();
+        self.tokens.settle();
+        self.open_counts.settle();
+    }
+
+    /// Puts the table back to how it was settled. Takes no memory.
+    pub fn undo(&mut self)
+        ensures { self.new ≡ put_back self.old }
+    {
+        self.orders.undo();
+        self.tokens.undo();
+        self.open_counts.undo();
+    }
 }
 
 /// The number of an order's client.
@@ -250,19 +289,6 @@ fn is_open(order: &Order) -> bool
     ensures { result ≡ not (is_closed order.now.stage) }
 {
     order.progress.stage != Stage::Closed
-}
-
-/// Changes an order, and says whether that closed it.
-fn apply_to(order: &mut Order, change: Change) -> Result<bool, AllocError>
-    requires { Fits change order.old }
-    ensures changed { IfOk result (λ has_closed. order.new ≡ changed_by change order.old) }
-    ensures closes { IfOk result (λ has_closed. has_closed
-        ≡ (not (is_closed order.old.stage) && is_closed order.new.stage)) }
-    ensures err { OnErr result (order.new ≡ order.old) }
-{
-    let was_open = is_open(order);
-    order.apply(change)?;
-    Ok(was_open && !is_open(order))
 }
 
 /// How many tokens replaces of an order were given, of these.

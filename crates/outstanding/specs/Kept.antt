@@ -17,9 +17,10 @@ pub record KeptMessage : Type 0 where
   pub order : List ℕ
   pub bytes : List ℕ
 
--- the messages, the oldest first, and for how many more there is room
+-- the messages, the oldest first, now and as they were settled, and for how many more there is room
 pub record HeldMessages : Type 0 where
   pub messages : List KeptMessage
+  pub settled : List KeptMessage
   pub room : ℕ
 
 -- a message of an order, as a port is asked it

@@ -1,4 +1,5 @@
 pub mod Kept
+pub mod Marks
 pub mod Keeping
 pub mod KeptInTurns
 pub use Rattle.ouch_codec.specs.Inbound

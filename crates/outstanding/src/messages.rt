@@ -1,16 +1,17 @@
 //! The list of messages.
 
-ghost use Rattle.std.specs.Prelude.{◌≡◌, ◌+◌, ◌≤◌, ◌<◌, ◌++◌, ◌∷◌, [], List, map, decimal, length, vec_len};
-ghost use Rattle.std.specs.Prelude.{vec_capacity, IfOk, OnErr};
+ghost use Rattle.std.specs.Prelude.{◌≡◌, ◌+◌, ◌≤◌, ◌<◌, ◌++◌, ◌∷◌, [], false, List, map, filter, decimal, length};
+ghost use Rattle.std.specs.Prelude.{vec_len, vec_capacity, IfOk, OnErr};
 ghost use Rattle.ouch_codec.specs.Inbound.{inbound_bytes};
 ghost use Rattle.outstanding.specs.Kept.{bytes_on, is_answered_by, kept_from, left_by, seen};
+ghost use Rattle.outstanding.specs.Marks.{asked_of, is_unanswered, marked_by, unanswered, unmarked};
 
 use crate::answering::answers;
 use ouch_codec::{Inbound, Outbound};
 use std::alloc::{AllocError, Global};
 use std::marker::Model;
 
-/// A message that a port was asked and hasn't answered.
+/// A message that a port was asked.
 #[derive(Clone, Copy, Debug)]
 pub struct AskedMessage {
     /// The number of its port, from 1.
@@ -19,22 +20,33 @@ pub struct AskedMessage {
     pub order_id: u64,
     /// What the port was sent, or is to be sent.
     pub message: Inbound,
+    /// It was answered since the messages were settled.
+    pub is_answered: bool,
 }
 
-/// What the ports were asked and haven't answered, the oldest first.
+/// What the ports were asked and haven't answered, the oldest first. Contracts see it as it is now and as it was
+/// settled: `undo` puts back what was there at the last `settle`, and no messages where there was none.
 #[derive(Debug, Drop)]
 pub struct AskedMessages {
     messages: Vec<AskedMessage>,
+    /// How many there were when they were settled.
+    count: usize,
+    /// Some may be answered since.
+    has_answered: bool,
+    ghost within: { count ≤ length messages.items },
+    ghost none_answered: { has_answered ≡ false → filter is_unanswered messages.items ≡ messages.items },
 }
 
 impl Model for AskedMessages {
-    ghost use Rattle.std.specs.Prelude.{◌-◌, map, vec_len, vec_capacity};
+    ghost use Rattle.std.specs.Prelude.{◌-◌, map, take, vec_len, vec_capacity};
     ghost use Rattle.outstanding.specs.Kept as kept;
+    ghost use Rattle.outstanding.specs.Marks.{unanswered};
 
     ghost Value = { kept.HeldMessages };
 
     ghost view = { λ a. record {
-      messages = map kept.seen a.messages.items;
+      messages = unanswered a.messages.items;
+      settled = map kept.seen (take a.count a.messages.items);
       room = vec_capacity a.messages - vec_len a.messages;
     } };
 }
@@ -42,10 +54,13 @@ impl Model for AskedMessages {
 impl AskedMessages {
     /// No messages. Takes no memory.
     pub fn new(alloc: Global) -> AskedMessages
-        ensures { result.messages ≡ [] }
+        ensures messages { result.messages ≡ [] }
+        ensures settled { result.settled ≡ [] }
     {
         AskedMessages {
             messages: Vec::new(alloc),
+            count: 0,
+            has_answered: false,
         }
     }
 
@@ -53,6 +68,7 @@ impl AskedMessages {
     pub fn reserve(&mut self, more: usize) -> Result<(), AllocError>
         ensures room { IfOk result (λ nothing. more ≤ self.new.room) }
         ensures same { self.new.messages ≡ self.old.messages }
+        ensures settled { self.new.settled ≡ self.old.settled }
     {
         self.messages.reserve(more)
     }
@@ -62,6 +78,7 @@ impl AskedMessages {
     pub fn push(&mut self, port: u16, order_id: u64, messages: &[Inbound]) -> Result<(), AllocError>
         ensures pushed { IfOk result (λ nothing. self.new.messages
             ≡ self.old.messages ++ kept_from port (decimal order_id) messages.now) }
+        ensures settled { self.new.settled ≡ self.old.settled }
         ensures err { OnErr result (self.new.messages ≡ self.old.messages) }
     {
         self.reserve(messages.len())?;
@@ -72,7 +89,8 @@ impl AskedMessages {
     /// The same, where there is room: it takes no memory.
     pub fn push_reserved(&mut self, port: u16, order_id: u64, messages: &[Inbound])
         requires { length messages.now ≤ self.old.room }
-        ensures { self.new.messages ≡ self.old.messages ++ kept_from port (decimal order_id) messages.now }
+        ensures pushed { self.new.messages ≡ self.old.messages ++ kept_from port (decimal order_id) messages.now }
+        ensures settled { self.new.settled ≡ self.old.settled }
     {
         push_each(&mut self.messages, port, order_id, messages);
     }
@@ -82,9 +100,33 @@ impl AskedMessages {
     ///
     /// Source: OUCH 4.2, "Outbound Messages".
     pub fn answer(&mut self, port: u16, heard: &Outbound, order_id: u64, is_closed: bool)
-        ensures { self.new.messages ≡ left_by port heard.now (decimal order_id) is_closed self.old.messages }
+        ensures left { self.new.messages ≡ left_by port heard.now (decimal order_id) is_closed self.old.messages }
+        ensures settled { self.new.settled ≡ self.old.settled }
     {
-        self.messages.retain(|asked| !is_answered(asked, port, heard, order_id, is_closed));
+        self.has_answered = true;
+        mark(&mut self.messages, port, heard, order_id, is_closed);
+    }
+
+    /// From now on the messages are put back to those of now. Takes no memory.
+    pub fn settle(&mut self)
+        ensures messages { self.new.messages ≡ self.old.messages }
+        ensures settled { self.new.settled ≡ self.old.messages }
+    {
+        if self.has_answered {
+            drop_answered(&mut self.messages);
+        }
+        self.has_answered = false;
+        self.count = self.messages.len();
+    }
+
+    /// Puts the messages back to those that were settled. Takes no memory.
+    pub fn undo(&mut self)
+        ensures messages { self.new.messages ≡ self.old.settled }
+        ensures settled { self.new.settled ≡ self.old.settled }
+    {
+        self.messages.truncate(self.count);
+        unmark(&mut self.messages);
+        self.has_answered = false;
     }
 
     /// Copies of a port's own messages, in the order in which it was asked them.
@@ -100,15 +142,69 @@ impl AskedMessages {
 /// Puts messages of one order behind the others, where there is room.
 fn push_each(kept: &mut Vec<AskedMessage>, port: u16, order_id: u64, messages: &[Inbound])
     requires { vec_len kept.old + length messages.now ≤ vec_capacity kept.old }
-    ensures { map seen kept.new.items ≡ map seen kept.old.items ++ kept_from port (decimal order_id) messages.now }
+    ensures { kept.new.items ≡ kept.old.items ++ map (asked_of port order_id) messages.now }
 {
     for message in messages {
         kept.push_reserved(AskedMessage {
             port,
             order_id,
             message: *message,
+            is_answered: false,
         });
     }
+}
+
+/// Marks those that a message from the market on a port answers, or whose order it closes.
+fn mark(
+    messages: &mut Vec<AskedMessage>,
+    port: u16,
+    heard: &Outbound,
+    order_id: u64,
+    is_closed: bool,
+)
+    ensures { messages.new.items
+        ≡ map (marked_by (is_answered_by port heard.now (decimal order_id) is_closed)) messages.old.items }
+{
+    for asked in messages.iter_mut() {
+        mark_one(asked, port, heard, order_id, is_closed);
+    }
+}
+
+/// Marks one that it answers, or whose order it closes.
+fn mark_one(asked: &mut AskedMessage, port: u16, heard: &Outbound, order_id: u64, is_closed: bool)
+    ensures { asked.new ≡ marked_by (is_answered_by port heard.now (decimal order_id) is_closed) asked.old }
+{
+    asked.is_answered = asked.is_answered || is_answered(asked, port, heard, order_id, is_closed);
+}
+
+/// Marks none.
+fn unmark(messages: &mut Vec<AskedMessage>)
+    ensures { messages.new.items ≡ map unmarked messages.old.items }
+{
+    for asked in messages.iter_mut() {
+        unmark_one(asked);
+    }
+}
+
+/// Takes the mark away.
+fn unmark_one(asked: &mut AskedMessage)
+    ensures { asked.new ≡ unmarked asked.old }
+{
+    asked.is_answered = false;
+}
+
+/// Takes out those that are answered.
+fn drop_answered(messages: &mut Vec<AskedMessage>)
+    ensures { messages.new.items ≡ filter is_unanswered messages.old.items }
+{
+    messages.retain(|asked| is_unanswered(asked));
+}
+
+/// Whether it isn't answered.
+fn is_unanswered(asked: &AskedMessage) -> bool
+    ensures { result ≡ is_unanswered asked.now }
+{
+    !asked.is_answered
 }
 
 /// Whether a message from the market on a port answers one that is kept, or closes its order.
@@ -125,13 +221,13 @@ fn is_answered(
         && (answers(heard, &asked.message) || (is_closed && asked.order_id == order_id))
 }
 
-/// Copies of the messages of one port, in order.
+/// Copies of the messages of one port that aren't answered, in order.
 fn copies_on(alloc: Global, kept: &[AskedMessage], port: u16) -> Result<Vec<Inbound>, AllocError>
-    ensures { IfOk result (λ messages. map inbound_bytes messages.items ≡ bytes_on port (map seen kept.now)) }
+    ensures { IfOk result (λ messages. map inbound_bytes messages.items ≡ bytes_on port (unanswered kept.now)) }
 {
     let mut messages = Vec::new(alloc);
     for asked in kept {
-        if asked.port == port {
+        if is_unanswered(asked) && asked.port == port {
             messages.push(asked.message)?;
         }
     }

@@ -34,11 +34,12 @@ impl OrderLedger {
         port: u16,
         heard: &Result<Outbound, DecodeRefusal>,
     ) -> Result<MarketTurn, MarketError>
-        requires room { HasRoom self.old }
-        ensures meets { MeetsMarket self.old (market_step self.old port heard.now) result self.new }
-        ensures changed { IfOk result (λ turn. ChangesAny self.old port heard.now turn.changed) }
+        requires room { HasRoom self.old.now }
+        ensures meets { MeetsMarket self.old.now (market_step self.old.now port heard.now) result self.new.now }
+        ensures changed { IfOk result (λ turn. ChangesAny self.old.now port heard.now turn.changed) }
         ensures nobody { IfOk result (λ turn. turn.bodies.items ≡ [] → turn.client ≡ None) }
-        ensures keeps { Keeps self.old self.new }
+        ensures keeps { Keeps self.old.now self.new.now }
+        ensures settled { self.new.settled ≡ self.old.settled }
         ensures err { OnErr result (self.new ≡ self.old) }
     {
         match hear(alloc, self.exec_ids, &self.table, port, heard)? {
@@ -51,7 +52,7 @@ impl OrderLedger {
             } => {
                 let reports = report_count(&heard.bodies);
                 let client = told_client(client, &heard.bodies);
-                self.table.apply(order_id, heard.change)?;
+                self.table.apply(alloc, order_id, heard.change)?;
                 self.exec_ids += reports as u64;
                 let is_closed = self.table.is_closed(order_id);
                 Ok(MarketTurn {

@@ -7,7 +7,7 @@ ghost use Rattle.to_market.specs.PortsSeen.{port_seen};
 use super::requests::one_body;
 use super::{OrderLedger, terms_at};
 use crate::turns::ClientTurn;
-use crate::used_ids::{UsedId, is_used, push_used};
+use crate::used_ids::{UsedId, is_used};
 use client_requests::Sender;
 use fix_types::{AppBody, NewOrder};
 use fix_values::ClOrdId;
@@ -31,12 +31,13 @@ impl OrderLedger {
         order: &NewOrder,
         port: PortState,
     ) -> Result<ClientTurn, AllocError>
-        requires client { IsClient self.old client }
-        requires room { HasRoom self.old }
-        ensures meets { IfOk result (λ turn. MeetsFields self.old client (new_order_fields order.now)
-            (port_seen port) turn self.new) }
+        requires client { IsClient self.old.now client }
+        requires room { HasRoom self.old.now }
+        ensures meets { IfOk result (λ turn. MeetsFields self.old.now client (new_order_fields order.now)
+            (port_seen port) turn self.new.now) }
         ensures few { IfOk result (λ turn. length turn.asks.items ≤ 2) }
-        ensures keeps { Keeps self.old self.new }
+        ensures keeps { Keeps self.old.now self.new.now }
+        ensures settled { self.new.settled ≡ self.old.settled }
         ensures err { OnErr result (self.new ≡ self.old) }
     {
         let terms = terms_at(&self.terms, client);
@@ -46,7 +47,7 @@ impl OrderLedger {
             port,
         };
         let id = &order.cl_ord_id;
-        let is_duplicate = is_used(&self.used, client, id);
+        let is_duplicate = is_used(self.used.as_slice(), client, id);
         let (order_ids, exec_ids) = (self.order_ids, self.exec_ids);
         match on_new_order(
             alloc,
@@ -76,21 +77,23 @@ impl OrderLedger {
         id: &ClOrdId,
         body: AppBody,
     ) -> Result<ClientTurn, AllocError>
-        requires { HasRoom self.old }
+        requires { HasRoom self.old.now }
         ensures bodies { IfOk result (λ turn. turn.bodies.items ≡ body ∷ []) }
         ensures asks { IfOk result (λ turn. turn.asks.items ≡ []) }
         ensures order_id { IfOk result (λ turn. turn.order_id ≡ 0) }
-        ensures used { IfOk result (λ turn. self.new ≡ record self.old {
-          used = self.old.used ++ record { client = client; id = id.now } ∷ [];
-          order_ids = self.old.order_ids + 1;
-          exec_ids = self.old.exec_ids + 1;
+        ensures used { IfOk result (λ turn. self.new.now ≡ record self.old.now {
+          used = self.old.now.used ++ record { client = client; id = id.now } ∷ [];
+          order_ids = self.old.now.order_ids + 1;
+          exec_ids = self.old.now.exec_ids + 1;
         }) }
-        ensures keeps { Keeps self.old self.new }
+        ensures keeps { Keeps self.old.now self.new.now }
+        ensures settled { self.new.settled ≡ self.old.settled }
         ensures err { OnErr result (self.new ≡ self.old) }
     {
         let bodies = one_body(alloc, body)?;
         let cl_ord_id = ClOrdId::copied(alloc, id.as_slice())?;
-        self.used.push(UsedId::new(client, cl_ord_id))?;
+        self.used.reserve_push()?;
+        self.used.push(UsedId::new(client, cl_ord_id));
         self.order_ids += 1;
         self.exec_ids += 1;
         Ok(ClientTurn {
@@ -112,13 +115,14 @@ impl OrderLedger {
         body: AppBody,
         asks: Vec<Inbound>,
     ) -> Result<ClientTurn, AllocError>
-        requires room { HasRoom self.old }
-        requires is { IsEntering self.old sender.now
+        requires room { HasRoom self.old.now }
+        requires is { IsEntering self.old.now sender.now
             (new_order_fields message.now) order_id order given body asks.items }
-        ensures meets { IfOk result (λ turn. MeetsFields self.old sender.now.client (new_order_fields message.now)
-            (port_seen sender.now.port) turn self.new) }
+        ensures meets { IfOk result (λ turn. MeetsFields self.old.now sender.now.client (new_order_fields message.now)
+            (port_seen sender.now.port) turn self.new.now) }
         ensures few { IfOk result (λ turn. length turn.asks.items ≤ 2) }
-        ensures keeps { Keeps self.old self.new }
+        ensures keeps { Keeps self.old.now self.new.now }
+        ensures settled { self.new.settled ≡ self.old.settled }
         ensures err { OnErr result (self.new ≡ self.old) }
     {
         let bodies = one_body(alloc, body)?;
@@ -133,15 +137,16 @@ impl OrderLedger {
 
     /// Keeps an accepted new order with its token, and its ClOrdID as used: one OrderID and one report more were given.
     fn keep(&mut self, order: Order, given: GivenToken, id: UsedId) -> Result<(), AllocError>
-        requires room { HasRoom self.old }
+        requires room { HasRoom self.old.now }
         requires fresh { length order.tokens + length (option_to_list order.replace) ≤ 1 }
-        ensures kept { IfOk result (λ nothing. self.new ≡ with_order id order given self.old) }
-        ensures keeps { Keeps self.old self.new }
+        ensures kept { IfOk result (λ nothing. self.new.now ≡ with_order id order given self.old.now) }
+        ensures keeps { Keeps self.old.now self.new.now }
+        ensures settled { self.new.settled ≡ self.old.settled }
         ensures err { OnErr result (self.new ≡ self.old) }
     {
-        self.used.reserve(1)?;
+        self.used.reserve_push()?;
         self.table.add(order, given)?;
-        push_used(&mut self.used, id);
+        self.used.push(id);
         self.order_ids += 1;
         self.exec_ids += 1;
         Ok(())

@@ -7,7 +7,7 @@ ghost use Rattle.to_market.specs.PortsSeen.{port_seen};
 
 use super::{OrderLedger, terms_at};
 use crate::turns::ClientTurn;
-use crate::used_ids::{UsedId, is_used, push_used};
+use crate::used_ids::{UsedId, is_used};
 use client_requests::{CancelTurn, ReplaceTurn, Sender, on_cancel, on_replace};
 use fix_types::{AppBody, CancelRequest, ReplaceRequest};
 use fix_values::ClOrdId;
@@ -30,12 +30,13 @@ impl OrderLedger {
         request: &CancelRequest,
         port: PortState,
     ) -> Result<ClientTurn, AllocError>
-        requires client { IsClient self.old client }
-        requires room { HasRoom self.old }
-        ensures meets { IfOk result (λ turn. GoByNumbers self.old
-            → MeetsFields self.old client (cancel_request_fields request.now) (port_seen port) turn self.new) }
+        requires client { IsClient self.old.now client }
+        requires room { HasRoom self.old.now }
+        ensures meets { IfOk result (λ turn. GoByNumbers self.old.now
+            → MeetsFields self.old.now client (cancel_request_fields request.now) (port_seen port) turn self.new.now) }
         ensures few { IfOk result (λ turn. length turn.asks.items ≤ 2) }
-        ensures keeps { Keeps self.old self.new }
+        ensures keeps { Keeps self.old.now self.new.now }
+        ensures settled { self.new.settled ≡ self.old.settled }
         ensures err { OnErr result (self.new ≡ self.old) }
     {
         let terms = terms_at(&self.terms, client);
@@ -45,7 +46,7 @@ impl OrderLedger {
             port,
         };
         let own_id = &request.cl_ord_id;
-        let is_duplicate = is_used(&self.used, client, own_id);
+        let is_duplicate = is_used(self.used.as_slice(), client, own_id);
         let issued = self.exec_ids;
         match on_cancel(alloc, issued, &self.table, &sender, is_duplicate, request)? {
             CancelTurn::Refused(body) => self.refuse_request(alloc, client, own_id, body),
@@ -66,12 +67,13 @@ impl OrderLedger {
         request: &ReplaceRequest,
         port: PortState,
     ) -> Result<ClientTurn, AllocError>
-        requires client { IsClient self.old client }
-        requires room { HasRoom self.old }
-        ensures meets { IfOk result (λ turn. GoByNumbers self.old
-            → MeetsFields self.old client (replace_request_fields request.now) (port_seen port) turn self.new) }
+        requires client { IsClient self.old.now client }
+        requires room { HasRoom self.old.now }
+        ensures meets { IfOk result (λ turn. GoByNumbers self.old.now
+            → MeetsFields self.old.now client (replace_request_fields request.now) (port_seen port) turn self.new.now) }
         ensures few { IfOk result (λ turn. length turn.asks.items ≤ 2) }
-        ensures keeps { Keeps self.old self.new }
+        ensures keeps { Keeps self.old.now self.new.now }
+        ensures settled { self.new.settled ≡ self.old.settled }
         ensures err { OnErr result (self.new ≡ self.old) }
     {
         let terms = terms_at(&self.terms, client);
@@ -81,7 +83,7 @@ impl OrderLedger {
             port,
         };
         let id = &request.cl_ord_id;
-        let is_duplicate = is_used(&self.used, client, id);
+        let is_duplicate = is_used(self.used.as_slice(), client, id);
         let issued = self.exec_ids;
         match on_replace(alloc, issued, &self.table, &sender, is_duplicate, request)? {
             ReplaceTurn::Refused(body) => self.refuse_request(alloc, client, id, body),
@@ -110,13 +112,15 @@ impl OrderLedger {
         ensures bodies { IfOk result (λ turn. turn.bodies.items ≡ body ∷ []) }
         ensures asks { IfOk result (λ turn. turn.asks.items ≡ []) }
         ensures order_id { IfOk result (λ turn. turn.order_id ≡ 0) }
-        ensures used { IfOk result (λ turn. self.new
-            ≡ record self.old { used = self.old.used ++ record { client = client; id = id.now } ∷ [] }) }
+        ensures used { IfOk result (λ turn. self.new.now
+            ≡ record self.old.now { used = self.old.now.used ++ record { client = client; id = id.now } ∷ [] }) }
+        ensures settled { self.new.settled ≡ self.old.settled }
         ensures err { OnErr result (self.new ≡ self.old) }
     {
         let bodies = one_body(alloc, body)?;
         let cl_ord_id = ClOrdId::copied(alloc, id.as_slice())?;
-        self.used.push(UsedId::new(client, cl_ord_id))?;
+        self.used.reserve_push()?;
+        self.used.push(UsedId::new(client, cl_ord_id));
         Ok(ClientTurn {
             bodies,
             order_id: 0,
@@ -135,21 +139,23 @@ impl OrderLedger {
         body: AppBody,
         asks: Vec<Inbound>,
     ) -> Result<ClientTurn, AllocError>
-        requires room { HasRoom self.old }
-        requires is { IsCancelling self.old sender.now
+        requires room { HasRoom self.old.now }
+        requires is { IsCancelling self.old.now sender.now
             (cancel_request_fields request.now) order_id cancelling body asks.items }
-        ensures meets { IfOk result (λ turn. GoByNumbers self.old
-            → MeetsFields self.old sender.now.client (cancel_request_fields request.now)
-            (port_seen sender.now.port) turn self.new) }
+        ensures meets { IfOk result (λ turn. GoByNumbers self.old.now
+            → MeetsFields self.old.now sender.now.client (cancel_request_fields request.now)
+            (port_seen sender.now.port) turn self.new.now) }
         ensures few { IfOk result (λ turn. length turn.asks.items ≤ 2) }
-        ensures keeps { Keeps self.old self.new }
+        ensures keeps { Keeps self.old.now self.new.now }
+        ensures settled { self.new.settled ≡ self.old.settled }
         ensures err { OnErr result (self.new ≡ self.old) }
     {
         let bodies = one_body(alloc, body)?;
         let cl_ord_id = ClOrdId::copied(alloc, request.cl_ord_id.as_slice())?;
         let client = sender.client;
-        self.used.push(UsedId::new(client, cl_ord_id))?;
-        self.table.accept_cancel(order_id, cancelling);
+        self.used.reserve_push()?;
+        self.table.accept_cancel(alloc, order_id, cancelling)?;
+        self.used.push(UsedId::new(client, cl_ord_id));
         self.exec_ids += 1;
         Ok(ClientTurn {
             bodies,
@@ -170,22 +176,24 @@ impl OrderLedger {
         body: AppBody,
         asks: Vec<Inbound>,
     ) -> Result<ClientTurn, AllocError>
-        requires room { HasRoom self.old }
-        requires is { IsReplacing self.old sender.now
+        requires room { HasRoom self.old.now }
+        requires is { IsReplacing self.old.now sender.now
             (replace_request_fields request.now) order_id replacing given body asks.items }
-        ensures meets { IfOk result (λ turn. GoByNumbers self.old
-            → MeetsFields self.old sender.now.client (replace_request_fields request.now)
-            (port_seen sender.now.port) turn self.new) }
+        ensures meets { IfOk result (λ turn. GoByNumbers self.old.now
+            → MeetsFields self.old.now sender.now.client (replace_request_fields request.now)
+            (port_seen sender.now.port) turn self.new.now) }
         ensures few { IfOk result (λ turn. length turn.asks.items ≤ 2) }
-        ensures keeps { Keeps self.old self.new }
+        ensures keeps { Keeps self.old.now self.new.now }
+        ensures settled { self.new.settled ≡ self.old.settled }
         ensures err { OnErr result (self.new ≡ self.old) }
     {
         let bodies = one_body(alloc, body)?;
         let cl_ord_id = ClOrdId::copied(alloc, request.cl_ord_id.as_slice())?;
         let client = sender.client;
-        self.used.reserve(1)?;
-        self.table.accept_replace(order_id, replacing, given)?;
-        push_used(&mut self.used, UsedId::new(client, cl_ord_id));
+        self.used.reserve_push()?;
+        self.table
+            .accept_replace(alloc, order_id, replacing, given)?;
+        self.used.push(UsedId::new(client, cl_ord_id));
         self.exec_ids += 1;
         Ok(ClientTurn {
             bodies,

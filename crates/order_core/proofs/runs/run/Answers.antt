@@ -1,10 +1,11 @@
-use Rattle.std.proofs.Common.{◌<◌, ◌^◌, [], length, take, map, sym, subst, ap, ◌∙◌, arith, take_all, length-append, length-take-le}
+use Rattle.std.proofs.Common.{◌≡◌, ◌<◌, ◌^◌, [], length, take, map, sym, subst, ap, ◌∙◌, arith, take_all, length-append, length-take-le}
 use Rattle.order_law.specs.History.{OrderHistory}
 use Rattle.order_machine.proofs.Running.{headline-of}
-use Rattle.order_core.specs.State.{IsAfterTurns}
+use Rattle.order_core.specs.State.{OrderCoreState, IsAfterTurns, core_clients, core_numbers}
 use Rattle.order_core.specs.Runs.{run_history, is_known_client}
 use Rattle.to_market.specs.TermsSeen.{terms_seen}
 use Rattle.order_core.proofs.Histories.{history-more, length-onto, passes-at}
+use Rattle.order_core.proofs.Standing.{after-by_parts}
 use Rattle.order_core.proofs.Turns.{parts-of}
 use Rattle.order_core.proofs.runs.run.Goals as goal
 
@@ -18,10 +19,12 @@ loop-event-init c = record {
 
 pub step-requires-clause-client : goal.step-requires-clause-client
 step-requires-clause-client c =
-    rw c.loop-event.invariant.clients (passes-at (is_known_client (length c.args.terms.now)) c.args.events.now c.loop-event.event-index c.event-item.result c.requires.clients c.loop-event-test.true c.event-item.is)
+    rw (ap core_clients c.settle.ensures ∙ c.loop-event.invariant.clients) (passes-at (is_known_client (length c.args.terms.now)) c.args.events.now c.loop-event.event-index c.event-item.result c.requires.clients c.loop-event-test.true c.event-item.is)
 
 pub step-requires-clause-room : goal.step-requires-clause-room
-step-requires-clause-room c = omega (arith, c.loop-event.invariant.issued, c.requires.short, c.loop-event-test.true)
+step-requires-clause-room c =
+    let still : core_numbers c.settle.new.self ≡ core_numbers c.loop-event.core = ap core_numbers c.settle.ensures in
+    omega (arith, c.loop-event.invariant.issued, still, c.requires.short, c.loop-event-test.true)
 
 pub loop-event-preserved : goal.loop-event-preserved
 loop-event-preserved c = record {
@@ -30,10 +33,14 @@ loop-event-preserved c = record {
       let short : length before < 2 ^ 58 = omega (arith, length-onto (take c.loop-event.event-index c.args.events.now) c.loop-event.outcomes.items [], length-take-le c.loop-event.event-index c.args.events.now (omega arith), c.requires.short) in
       rw c.in_ok-push.ensures.items (subst (λ (h : OrderHistory). IsAfterTurns (map terms_seen c.args.terms.now) h c.step.new.core)
       (sym (history-more c.args.events.now c.loop-event.outcomes.items c.loop-event.event-index c.event-item.result c.in_ok-outcome.outcome c.loop-event-test.true c.event-item.is c.loop-event.invariant.same))
-      (c.in_ok-outcome.ensures.after (map terms_seen c.args.terms.now) before short c.loop-event.invariant.after));
+      (c.in_ok-outcome.ensures.after (map terms_seen c.args.terms.now) before short
+      (after-by_parts (map terms_seen c.args.terms.now) before c.loop-event.core c.settle.new.self
+      (ap (λ (o : OrderCoreState). o.table) (sym c.settle.ensures)) (ap (λ (o : OrderCoreState). o.kept) (sym c.settle.ensures)) c.loop-event.invariant.after)));
   same = rw (c.in_ok-push.ensures.items, length-append) (omega (arith, c.loop-event.invariant.same));
-  clients = c.step.ensures.keeps.clients ∙ c.loop-event.invariant.clients;
-  issued = omega (arith, c.step.ensures.keeps.issued, c.loop-event.invariant.issued);
+  clients = c.step.ensures.keeps.clients ∙ ap core_clients c.settle.ensures ∙ c.loop-event.invariant.clients;
+  issued =
+      let still : core_numbers c.settle.new.self ≡ core_numbers c.loop-event.core = ap core_numbers c.settle.ensures in
+      omega (arith, c.step.ensures.keeps.issued, still, c.loop-event.invariant.issued);
 }
 
 pub returns-clause-exact : goal.returns-clause-exact

@@ -10,5 +10,5 @@ pub returns-clause-meets : goal.returns-clause-meets
 returns-clause-meets c =
     let out : MarketOut = record { client = c.in_ok-turn.turn.client; bodies = c.in_ok-turn.turn.bodies } in
     subst (λ (old : OrderCoreState). MeetsHandled old c.args.port c.args.heard.now out (the_view (record { ledger = c.market.new.self; asked = c.drop_answered.new.asked }))) c.self.view_is
-    (handled-as (the_view c.self.inside) (the_view (record { ledger = c.market.new.self; asked = c.drop_answered.new.asked })) c.args.port c.args.heard.now c.in_ok-turn.turn out c.market.new.self c.drop_answered.new.asked.messages
-    c.in_ok-turn.ensures.meets c.in_ok-turn.ensures.changed refl refl refl c.drop_answered.ensures)
+    (handled-as (the_view c.self.inside) (the_view (record { ledger = c.market.new.self; asked = c.drop_answered.new.asked })) c.args.port c.args.heard.now c.in_ok-turn.turn out c.market.new.self.now c.drop_answered.new.asked.messages
+    c.in_ok-turn.ensures.meets c.in_ok-turn.ensures.changed refl refl refl refl c.drop_answered.ensures.left)

@@ -8,4 +8,4 @@ use Rattle.order_core.proofs.order_core.OrderCore.new.Goals as goal
 pub returns-clause-after : goal.returns-clause-after
 returns-clause-after c =
     empty-after (map terms_seen c.args.terms.now) (the_view (record { ledger = c.in_ok-new.field-0; asked = c.new-2.result }))
-    c.in_ok-new.ensures c.new-2.ensures nothing-is_kept
+    c.in_ok-new.ensures.now c.new-2.ensures.messages nothing-is_kept

@@ -1,41 +1,48 @@
-use Rattle.std.proofs.Common.{rules, ◌≡◌, List, None, decimal, refl, reverse, ap, ◌∙◌, arith, slice_get, slice_set}
+use Rattle.std.proofs.Common.{rules, ◌≡◌, ◌<◌, ℕ, List, [], ◌∷◌, ◌++◌, length, None, decimal, refl, reverse, sym, subst, ap, ◌∙◌, arith, slice_get, slice_set}
 use Rattle.std.specs.Prelude.{Some}
-use Rattle.std.specs.List.{find}
+use Rattle.std.specs.List.{find, list_all, count_by}
 use Rattle.order_machine.specs.OrderRecord.{OrderRecord, at}
-use Rattle.order_machine.specs.Table.{has_number}
+use Rattle.order_machine.specs.Table.{GivenToken, has_number, is_replacement_of, put}
 use Rattle.order_table.specs.Held.{Held, IsNewest, changed, with_number}
-use Rattle.orders.specs.Seen.{cancel_seen}
-use Rattle.order_table.proofs.Newest.{at-place, change-newest, newest-there}
-use Rattle.order_table.proofs.Counted.{kept, own-number}
-use Rattle.order_table.proofs.StillOpen.{as-open}
+use Rattle.orders.specs.Seen.{cancel_seen, replace_seen}
+use Rattle.orders.specs.Changes.{Fits, changed_by}
+use Rattle.order_table.proofs.Newest.{count-reverse, newest-there}
+use Rattle.order_table.proofs.Counted.{all-at, change-few, change-new, counted-few, kept, own-number, own-token, replacing}
+use Rattle.order_table.proofs.Standing.{changed-value, replaced-value, on-err, same-counted, same-value}
+use Rattle.order_table.proofs.StillOpen.{as-open, counted-off, was-counted}
 use Rattle.order_table.proofs.table.Table.accept_cancel.Goals as goal
 
-pub invariant_of-self-inside : goal.invariant_of-self-inside
-invariant_of-self-inside c =
-    let os = c.self.inside.orders.items in
+pub invariant_of-self-inside-in-Some : goal.invariant_of-self-inside-in-Some
+invariant_of-self-inside-in-Some c =
+    let os = c.self.inside.orders.now in
     let newest : IsNewest (has_number (decimal c.args.order_id)) os c.in-Some.place = (search rules) in
-    let was = c.index_mut.result.now in
-    let here : slice_get os c.in-Some.place ≡ Some was = at-place (has_number (decimal c.args.order_id)) os c.in-Some.place was was newest c.index_mut.ensures.value refl in
-    let now : c.accept_cancel.new.self ≡ at was was.replace (Some (cancel_seen was.new.client c.args.order_id c.args.cancelling)) =
-    c.accept_cancel.ensures c.args.order_id (own-number (decimal c.args.order_id) os c.in-Some.place was newest here) in (
-      kept c.self.inside.tokens.items os c.in-Some.place was c.accept_cancel.new.self c.self.inside.counted here (ap (λ (x : OrderRecord). x.new) now) (rw now (omega arith)),
-      (as-open c.self.inside.open_counts os c.in-Some.place was c.accept_cancel.new.self c.self.inside.open_counted here (ap (λ (x : OrderRecord). x.new) now) (ap (λ (x : OrderRecord). x.stage) now), tt),
+    let was = c.item_at.result.now in
+    let now : c.in_ok-order.order ≡ at was was.replace (Some (cancel_seen was.new.client c.args.order_id c.args.cancelling)) =
+    c.in_ok-order.ensures c.args.order_id (own-number (decimal c.args.order_id) os c.in-Some.place was newest c.item_at.ensures) in
+    let written : c.change.new.self.now ≡ slice_set os c.in-Some.place c.in_ok-order.order = c.change.ensures.now ∙ ap (λ (xs : List OrderRecord). slice_set xs c.in-Some.place c.in_ok-order.order) c.in_ok-reserve_change.ensures.now in (
+      same-counted refl refl written (record {
+        had = kept c.self.inside.tokens.now os c.in-Some.place was c.in_ok-order.order c.self.inside.counted.had c.item_at.ensures (ap (λ (x : OrderRecord). x.new) now) (rw now (omega arith));
+        by_client = as-open c.self.inside.open_counts.now os c.in-Some.place was c.in_ok-order.order c.self.inside.counted.by_client c.item_at.ensures (ap (λ (x : OrderRecord). x.new) now) (ap (λ (x : OrderRecord). x.stage) now);
+      }),
+      (same-counted refl refl (c.change.ensures.settled ∙ c.in_ok-reserve_change.ensures.settled) c.self.inside.settled_counted, tt),
     )
 
-pub returns-in-Some-clause-accepted : goal.returns-in-Some-clause-accepted
-returns-in-Some-clause-accepted c = λ o found.
-    let os = c.self.inside.orders.items in
-    let is_found : find (has_number (decimal c.args.order_id)) (reverse os) ≡ Some o = ap (λ (h : Held). with_number h c.args.order_id) c.self.view_is ∙ found in
+pub returns-in_ok-reserve_change-clause-accepted : goal.returns-in_ok-reserve_change-clause-accepted
+returns-in_ok-reserve_change-clause-accepted c = λ o found.
+    let os = c.self.inside.orders.now in
     let newest : IsNewest (has_number (decimal c.args.order_id)) os c.in-Some.place = (search rules) in
-    let was = c.index_mut.result.now in
-    let here : slice_get os c.in-Some.place ≡ Some was = at-place (has_number (decimal c.args.order_id)) os c.in-Some.place was was newest c.index_mut.ensures.value refl in
-    let now = c.accept_cancel.ensures c.args.order_id (own-number (decimal c.args.order_id) os c.in-Some.place was newest here) in
-    ap (λ (x : OrderRecord). record { orders = reverse (slice_set os c.in-Some.place x); tokens = reverse c.self.inside.tokens.items }) now
-    ∙ ap (λ (xs : List OrderRecord). record { orders = xs; tokens = reverse c.self.inside.tokens.items })
-    (change-newest (decimal c.args.order_id) os c.in-Some.place was (λ (x : OrderRecord). at x x.replace (Some (cancel_seen x.new.client c.args.order_id c.args.cancelling))) (λ x. refl) newest here o is_found)
+    let is_found : find (has_number (decimal c.args.order_id)) (reverse os) ≡ Some o = ap (λ (h : Held). with_number h c.args.order_id) c.self.view_is ∙ found in
+    let was = c.item_at.result.now in
+    let now : c.in_ok-order.order ≡ at was was.replace (Some (cancel_seen was.new.client c.args.order_id c.args.cancelling)) =
+    c.in_ok-order.ensures c.args.order_id (own-number (decimal c.args.order_id) os c.in-Some.place was newest c.item_at.ensures) in
+    changed-value os c.self.inside.tokens.now c.self.inside.orders.settled c.self.inside.tokens.settled (decimal c.args.order_id) c.in-Some.place was
+    (λ (x : OrderRecord). at x x.replace (Some (cancel_seen x.new.client c.args.order_id c.args.cancelling))) (λ x. refl) newest c.item_at.ensures o is_found
+    c.change.new.self.now c.change.new.self.settled c.in_ok-order.order now (c.change.ensures.now ∙ ap (λ (xs : List OrderRecord). slice_set xs c.in-Some.place c.in_ok-order.order) c.in_ok-reserve_change.ensures.now) (c.change.ensures.settled ∙ c.in_ok-reserve_change.ensures.settled)
     ∙ ap (changed (at o o.replace (Some (cancel_seen o.new.client c.args.order_id c.args.cancelling)))) c.self.view_is
 
-pub returns-in-Some-clause-unknown : goal.returns-in-Some-clause-unknown
-returns-in-Some-clause-unknown c = λ none.
-    let is_none : find (has_number (decimal c.args.order_id)) (reverse c.self.inside.orders.items) ≡ None = ap (λ (h : Held). with_number h c.args.order_id) c.self.view_is ∙ none in
-    absurd (newest-there (has_number (decimal c.args.order_id)) c.self.inside.orders.items c.in-Some.place (search rules) is_none)
+pub returns-in_err-reserve_change-clause-err : goal.returns-in_err-reserve_change-clause-err
+returns-in_err-reserve_change-clause-err c =
+    on-err c.from_residual-in_err-reserve_change.result
+    (same-value c.self.inside.orders.now c.self.inside.tokens.now c.self.inside.orders.settled c.self.inside.tokens.settled c.reserve_change.new.self.now c.self.inside.tokens.now c.reserve_change.new.self.settled c.self.inside.tokens.settled
+    c.reserve_change.ensures.now refl c.reserve_change.ensures.settled refl
+    ∙ c.self.view_is)

@@ -1,63 +1,72 @@
-use Rattle.std.proofs.Common.{rules, ◌≡◌, ℕ, List, [], ◌∷◌, ◌++◌, sym, None, decimal, refl, reverse, ap, ◌∙◌, arith, slice_get, slice_set}
+use Rattle.std.proofs.Common.{rules, ◌≡◌, ◌<◌, ℕ, List, [], ◌∷◌, ◌++◌, length, None, decimal, refl, reverse, sym, subst, ap, ◌∙◌, arith, slice_get, slice_set}
 use Rattle.std.specs.Prelude.{Some}
-use Rattle.std.specs.List.{find, list_all}
+use Rattle.std.specs.List.{find, list_all, count_by}
 use Rattle.order_machine.specs.OrderRecord.{OrderRecord, at}
 use Rattle.order_machine.specs.Table.{GivenToken, has_number, is_replacement_of, put}
-use Rattle.std.proofs.lemmas.List.{reverse-append}
-use Rattle.std.specs.List.{count_by}
-use Rattle.order_table.specs.Held.{Held, IsNewest, is_counted, with_number}
-use Rattle.orders.specs.Seen.{replace_seen}
-use Rattle.order_table.proofs.Newest.{at-place, change-newest, newest-there}
-use Rattle.order_table.proofs.Counted.{all-at, counted-few, own-number, own-token, replacing}
-use Rattle.order_table.proofs.Newest.{count-reverse}
-use Rattle.order_table.proofs.StillOpen.{as-open}
+use Rattle.order_table.specs.Held.{Held, IsNewest, is_counted, changed, with_number}
+use Rattle.orders.specs.Seen.{cancel_seen, replace_seen}
+use Rattle.orders.specs.Changes.{Fits, changed_by}
+use Rattle.order_table.proofs.Newest.{count-reverse, newest-there}
+use Rattle.order_table.proofs.Counted.{all-at, change-few, change-new, counted-few, kept, own-number, own-token, replacing}
+use Rattle.order_table.proofs.Standing.{changed-value, replaced-value, on-err, same-counted, same-value}
+use Rattle.order_table.proofs.StillOpen.{as-open, counted-off, was-counted}
 use Rattle.order_table.proofs.table.Table.accept_replace.Goals as goal
 
-pub accept_replace-requires : goal.accept_replace-requires
-accept_replace-requires c =
-    let os = c.self.inside.orders.items in
+pub with_replace-requires : goal.with_replace-requires
+with_replace-requires c =
+    let os = c.self.inside.orders.now in
     let newest : IsNewest (has_number (decimal c.args.order_id)) os c.in-Some.place = (search rules) in
-    let was = c.index_mut.result.now in
-    let here : slice_get os c.in-Some.place ≡ Some was = at-place (has_number (decimal c.args.order_id)) os c.in-Some.place was was newest c.index_mut.ensures.value refl in
-    let few = counted-few c.self.inside.tokens.items was (all-at (is_counted c.self.inside.tokens.items) os c.in-Some.place was c.self.inside.counted here) in
-    let own : count_by (is_replacement_of was.new.order) c.self.inside.tokens.items ≡ count_by (is_replacement_of (decimal c.args.order_id)) c.args.self.now.tokens =
-    ap (λ (order : List ℕ). count_by (is_replacement_of order) c.self.inside.tokens.items) (own-number (decimal c.args.order_id) os c.in-Some.place was newest here)
-    ∙ sym (count-reverse (is_replacement_of (decimal c.args.order_id)) c.self.inside.tokens.items)
+    let was = c.item_at.result.now in
+    let few = counted-few c.self.inside.tokens.now was (all-at (is_counted c.self.inside.tokens.now) os c.in-Some.place was c.self.inside.counted.had c.item_at.ensures) in
+    let own : count_by (is_replacement_of was.new.order) c.self.inside.tokens.now ≡ count_by (is_replacement_of (decimal c.args.order_id)) c.args.self.now.tokens =
+    ap (λ (order : List ℕ). count_by (is_replacement_of order) c.self.inside.tokens.now) (own-number (decimal c.args.order_id) os c.in-Some.place was newest c.item_at.ensures)
+    ∙ sym (count-reverse (is_replacement_of (decimal c.args.order_id)) c.self.inside.tokens.now)
     ∙ ap (λ (h : Held). count_by (is_replacement_of (decimal c.args.order_id)) h.tokens) c.self.view_is in
     let room = c.requires.room in
     omega (arith, few, own, room)
 
 pub invariant_of-self-inside-in-Some : goal.invariant_of-self-inside-in-Some
 invariant_of-self-inside-in-Some c =
-    let os = c.self.inside.orders.items in
+    let os = c.self.inside.orders.now in
     let newest : IsNewest (has_number (decimal c.args.order_id)) os c.in-Some.place = (search rules) in
-    let was = c.index_mut.result.now in
-    let here : slice_get os c.in-Some.place ≡ Some was = at-place (has_number (decimal c.args.order_id)) os c.in-Some.place was was newest c.index_mut.ensures.value refl in
-    let now : c.accept_replace.new.self ≡ at was (Some (replace_seen was.new.client c.args.order_id c.args.replacing)) was.cancel =
-    c.accept_replace.ensures c.args.order_id (own-number (decimal c.args.order_id) os c.in-Some.place was newest here) in (
-      ap (λ (ts : List GivenToken). list_all (is_counted ts) (slice_set os c.in-Some.place c.accept_replace.new.self)) (c.push_token.ensures ∙ ap (λ (ts : List GivenToken). ts ++ c.args.given ∷ []) c.in_ok-reserve.ensures.items)
-          ∙ replacing c.self.inside.tokens.items c.args.given os c.in-Some.place was c.accept_replace.new.self c.self.inside.counted here (ap (λ (x : OrderRecord). x.new) now)
-          (own-token (decimal c.args.order_id) c.args.given was (own-number (decimal c.args.order_id) os c.in-Some.place was newest here) c.requires.of_order c.requires.is_replacement) (rw now (omega arith)),
-      (as-open c.self.inside.open_counts os c.in-Some.place was c.accept_replace.new.self c.self.inside.open_counted here (ap (λ (x : OrderRecord). x.new) now) (ap (λ (x : OrderRecord). x.stage) now), tt),
+    let was = c.item_at.result.now in
+    let now : c.in_ok-order.order ≡ at was (Some (replace_seen was.new.client c.args.order_id c.args.replacing)) was.cancel =
+    c.in_ok-order.ensures c.args.order_id (own-number (decimal c.args.order_id) os c.in-Some.place was newest c.item_at.ensures) in
+    let written : c.change.new.self.now ≡ slice_set os c.in-Some.place c.in_ok-order.order = c.change.ensures.now ∙ ap (λ (xs : List OrderRecord). slice_set xs c.in-Some.place c.in_ok-order.order) c.in_ok-reserve_change.ensures.now in
+    let pushed : c.push.new.self.now ≡ c.self.inside.tokens.now ++ c.args.given ∷ [] = c.push.ensures.now ∙ ap (λ (ts : List GivenToken). ts ++ c.args.given ∷ []) c.in_ok-reserve_push.ensures.now in (
+      same-counted pushed refl written (record {
+        had =
+            replacing c.self.inside.tokens.now c.args.given os c.in-Some.place was c.in_ok-order.order c.self.inside.counted.had c.item_at.ensures (ap (λ (x : OrderRecord). x.new) now)
+            (own-token (decimal c.args.order_id) c.args.given was (own-number (decimal c.args.order_id) os c.in-Some.place was newest c.item_at.ensures) c.requires.of_order c.requires.is_replacement) (rw now (omega arith));
+        by_client = as-open c.self.inside.open_counts.now os c.in-Some.place was c.in_ok-order.order c.self.inside.counted.by_client c.item_at.ensures (ap (λ (x : OrderRecord). x.new) now) (ap (λ (x : OrderRecord). x.stage) now);
+      }),
+      (same-counted (c.push.ensures.settled ∙ c.in_ok-reserve_push.ensures.settled) refl (c.change.ensures.settled ∙ c.in_ok-reserve_change.ensures.settled) c.self.inside.settled_counted, tt),
     )
 
-pub returns-in-Some-clause-accepted : goal.returns-in-Some-clause-accepted
-returns-in-Some-clause-accepted c = λ o found.
-    let os = c.self.inside.orders.items in
-    let is_found : find (has_number (decimal c.args.order_id)) (reverse os) ≡ Some o = ap (λ (h : Held). with_number h c.args.order_id) c.self.view_is ∙ found in
+pub returns-in_ok-reserve_change-clause-accepted : goal.returns-in_ok-reserve_change-clause-accepted
+returns-in_ok-reserve_change-clause-accepted c = λ o found.
+    let os = c.self.inside.orders.now in
     let newest : IsNewest (has_number (decimal c.args.order_id)) os c.in-Some.place = (search rules) in
-    let was = c.index_mut.result.now in
-    let here : slice_get os c.in-Some.place ≡ Some was = at-place (has_number (decimal c.args.order_id)) os c.in-Some.place was was newest c.index_mut.ensures.value refl in
-    let now = c.accept_replace.ensures c.args.order_id (own-number (decimal c.args.order_id) os c.in-Some.place was newest here) in
-    let tokens : reverse c.push_token.new.tokens.items ≡ c.args.given ∷ reverse c.self.inside.tokens.items =
-    ap reverse (c.push_token.ensures ∙ ap (λ (ts : List GivenToken). ts ++ c.args.given ∷ []) c.in_ok-reserve.ensures.items) ∙ reverse-append c.self.inside.tokens.items (c.args.given ∷ []) in
-    ap (λ (x : OrderRecord). record { orders = reverse (slice_set os c.in-Some.place x); tokens = reverse c.push_token.new.tokens.items }) now
-    ∙ ap (λ (ts : List GivenToken). record { orders = reverse (slice_set os c.in-Some.place (at was (Some (replace_seen was.new.client c.args.order_id c.args.replacing)) was.cancel)); tokens = ts }) tokens
-    ∙ ap (λ (xs : List OrderRecord). record { orders = xs; tokens = c.args.given ∷ reverse c.self.inside.tokens.items })
-    (change-newest (decimal c.args.order_id) os c.in-Some.place was (λ (x : OrderRecord). at x (Some (replace_seen x.new.client c.args.order_id c.args.replacing)) x.cancel) (λ x. refl) newest here o is_found)
-    ∙ ap (λ (h : Held). record { orders = put (at o (Some (replace_seen o.new.client c.args.order_id c.args.replacing)) o.cancel) h.orders; tokens = c.args.given ∷ h.tokens }) c.self.view_is
+    let is_found : find (has_number (decimal c.args.order_id)) (reverse os) ≡ Some o = ap (λ (h : Held). with_number h c.args.order_id) c.self.view_is ∙ found in
+    let was = c.item_at.result.now in
+    let now : c.in_ok-order.order ≡ at was (Some (replace_seen was.new.client c.args.order_id c.args.replacing)) was.cancel =
+    c.in_ok-order.ensures c.args.order_id (own-number (decimal c.args.order_id) os c.in-Some.place was newest c.item_at.ensures) in
+    replaced-value os c.self.inside.tokens.now c.self.inside.orders.settled c.self.inside.tokens.settled (decimal c.args.order_id) c.in-Some.place was
+    (λ (x : OrderRecord). at x (Some (replace_seen x.new.client c.args.order_id c.args.replacing)) x.cancel) (λ x. refl) newest c.item_at.ensures o is_found
+    c.change.new.self.now c.change.new.self.settled c.in_ok-order.order now (c.change.ensures.now ∙ ap (λ (xs : List OrderRecord). slice_set xs c.in-Some.place c.in_ok-order.order) c.in_ok-reserve_change.ensures.now) (c.change.ensures.settled ∙ c.in_ok-reserve_change.ensures.settled)
+    c.args.given c.push.new.self.now c.push.new.self.settled (c.push.ensures.now ∙ ap (λ (ts : List GivenToken). ts ++ c.args.given ∷ []) c.in_ok-reserve_push.ensures.now) (c.push.ensures.settled ∙ c.in_ok-reserve_push.ensures.settled)
+    ∙ ap (λ (h : Held). record h { orders = put (at o (Some (replace_seen o.new.client c.args.order_id c.args.replacing)) o.cancel) h.orders; tokens = c.args.given ∷ h.tokens }) c.self.view_is
 
-pub returns-in-Some-clause-unknown : goal.returns-in-Some-clause-unknown
-returns-in-Some-clause-unknown c = λ none.
-    let is_none : find (has_number (decimal c.args.order_id)) (reverse c.self.inside.orders.items) ≡ None = ap (λ (h : Held). with_number h c.args.order_id) c.self.view_is ∙ none in
-    absurd (newest-there (has_number (decimal c.args.order_id)) c.self.inside.orders.items c.in-Some.place (search rules) is_none)
+pub returns-in_err-reserve_push-clause-err : goal.returns-in_err-reserve_push-clause-err
+returns-in_err-reserve_push-clause-err c =
+    on-err c.from_residual-in_err-reserve_push.result
+    (same-value c.self.inside.orders.now c.self.inside.tokens.now c.self.inside.orders.settled c.self.inside.tokens.settled c.self.inside.orders.now c.reserve_push.new.self.now c.self.inside.orders.settled c.reserve_push.new.self.settled
+    refl c.reserve_push.ensures.now refl c.reserve_push.ensures.settled
+    ∙ c.self.view_is)
+
+pub returns-in_err-reserve_change-clause-err : goal.returns-in_err-reserve_change-clause-err
+returns-in_err-reserve_change-clause-err c =
+    on-err c.from_residual-in_err-reserve_change.result
+    (same-value c.self.inside.orders.now c.self.inside.tokens.now c.self.inside.orders.settled c.self.inside.tokens.settled c.reserve_change.new.self.now c.reserve_push.new.self.now c.reserve_change.new.self.settled c.reserve_push.new.self.settled
+    c.reserve_change.ensures.now c.in_ok-reserve_push.ensures.now c.reserve_change.ensures.settled c.in_ok-reserve_push.ensures.settled
+    ∙ c.self.view_is)

@@ -1,23 +1,24 @@
-use Rattle.std.proofs.Common.{◌≡◌, ◌∷◌, ◌++◌, [], List, sym, ap, ◌∙◌}
-use Rattle.std.specs.List.{list_all}
+use Rattle.std.proofs.Common.{◌≡◌, ℕ, ◌∷◌, ◌++◌, [], List, refl, ap, ◌∙◌}
 use Rattle.order_machine.specs.OrderRecord.{OrderRecord}
-use Rattle.order_machine.specs.Table.{GivenToken, open_count}
-use Rattle.order_table.specs.Held.{is_counted}
+use Rattle.order_machine.specs.Table.{GivenToken}
 use Rattle.order_table.proofs.Counted.{added}
+use Rattle.order_table.proofs.Standing.{same-counted}
 use Rattle.order_table.proofs.StillOpen.{counted-in}
 use Rattle.order_table.proofs.table.Table.add.Goals as goal
 
 pub invariant_of-self-inside-2 : goal.invariant_of-self-inside-2
 invariant_of-self-inside-2 c =
-    let tokens : c.push_token.new.tokens.items ≡ c.self.inside.tokens.items ++ c.args.given ∷ [] = c.push_token.ensures ∙ ap (λ (ts : List GivenToken). ts ++ c.args.given ∷ []) c.in_ok-reserve.ensures.items in (
-      ap (λ (ts : List GivenToken). list_all (is_counted ts) c.push.new.self.items) tokens
-          ∙ ap (λ (os : List OrderRecord). list_all (is_counted (c.self.inside.tokens.items ++ c.args.given ∷ [])) os) c.in_ok-push.ensures.items
-          ∙ added c.self.inside.tokens.items c.args.given c.self.inside.orders.items c.args.order c.self.inside.counted c.requires,
+    let tokens : c.push.new.self.now ≡ c.self.inside.tokens.now ++ c.args.given ∷ [] = c.push.ensures.now ∙ ap (λ (ts : List GivenToken). ts ++ c.args.given ∷ []) c.in_ok-reserve_push.ensures.now in
+    let orders : c.push-2.new.self.now ≡ c.self.inside.orders.now ++ c.args.order ∷ [] = c.push-2.ensures.now ∙ ap (λ (os : List OrderRecord). os ++ c.args.order ∷ []) c.in_ok-reserve_push-2.ensures.now in (
+      same-counted tokens refl orders (record {
+        had = added c.self.inside.tokens.now c.args.given c.self.inside.orders.now c.args.order c.self.inside.counted.had c.requires;
+        by_client =
+            counted-in c.make_room.new.self.now c.count_in.new.self.now c.self.inside.orders.now c.args.order c.client_of-client.result c.is_open-is_open.result
+            (λ other. c.in_ok-make_room.ensures.same other ∙ c.self.inside.counted.by_client other) c.count_in.ensures.now c.client_of-client.ensures c.is_open-is_open.ensures;
+      }),
       (
-        λ client.
-            counted-in c.make_room.new.self c.count_in.new.self c.self.inside.orders.items c.args.order c.client_of-client.result c.is_open-is_open.result
-            (λ other. c.in_ok-make_room.ensures.same other ∙ c.self.inside.open_counted other) c.count_in.ensures c.client_of-client.ensures c.is_open-is_open.ensures client
-            ∙ sym (ap (λ (os : List OrderRecord). open_count os client) c.in_ok-push.ensures.items),
+        same-counted (c.push.ensures.settled ∙ c.in_ok-reserve_push.ensures.settled) (c.count_in.ensures.settled ∙ c.in_ok-make_room.ensures.settled)
+            (c.push-2.ensures.settled ∙ c.in_ok-reserve_push-2.ensures.settled) c.self.inside.settled_counted,
         tt,
       ),
     )

@@ -1,14 +1,23 @@
-use Rattle.std.proofs.Common.{rules, ap, ◌∙◌, decimal}
-use Rattle.std.specs.Prelude.{Bool, map, not}
-use Rattle.std.proofs.lemmas.Fn.{filter_same}
+use Rattle.std.proofs.Common.{rules, ◌≡◌, ◌≤◌, ◌++◌, Bool, true, false, List, length, map, take, filter, decimal, sym, ap, ◌∙◌, arith, length-append}
+use Rattle.std.specs.Prelude.{vec_len, not}
+use Rattle.std.proofs.lemmas.List.{length-map, take-append-le, take-take, take_all}
 use Rattle.outstanding.specs.declared.messages.AskedMessage.{AskedMessage}
-use Rattle.outstanding.specs.Kept.{HeldMessages, KeptMessage, is_answered_by, left_by, seen}
-use Rattle.outstanding.proofs.Holding.{seen-filter}
+use Rattle.outstanding.specs.Kept.{HeldMessages, KeptMessage, is_answered_by, kept_from, left_by, seen}
+use Rattle.outstanding.specs.Marks.{asked_of, is_unanswered, marked_by, unanswered, unmarked}
+use Rattle.outstanding.proofs.Marks.{marks-answer, marks-keep, none-marked, none-pushed, unanswered-pushed, unanswered-twice, unmarked-all, unmarked-seen}
 use Rattle.outstanding.proofs.messages.AskedMessages.answer.Goals as goal
 
-pub returns : goal.returns
-returns c =
-    let test : KeptMessage → Bool = λ k. not (is_answered_by c.args.port c.args.heard.now (decimal c.args.order_id) c.args.is_closed k) in
-    ap (map seen) (filter_same _ (λ (a : AskedMessage). test (seen a)) _ (λ x b f k. search rules) _ _ c.retain.ensures.filtered)
-    ∙ seen-filter test c.self.inside.messages.items
+pub invariant_of-self-inside : goal.invariant_of-self-inside
+invariant_of-self-inside c = (rw (c.mark.ensures, length-map) (omega (arith, c.self.inside.within)), (λ none. absurd (cc), tt))
+
+pub returns-clause-left : goal.returns-clause-left
+returns-clause-left c =
+    ap unanswered c.mark.ensures
+    ∙ marks-answer (is_answered_by c.args.port c.args.heard.now (decimal c.args.order_id) c.args.is_closed) c.self.inside.messages.items
     ∙ ap (λ (h : HeldMessages). left_by c.args.port c.args.heard.now (decimal c.args.order_id) c.args.is_closed h.messages) c.self.view_is
+
+pub returns-clause-settled : goal.returns-clause-settled
+returns-clause-settled c =
+    ap (λ (qs : List AskedMessage). map seen (take c.self.inside.count qs)) c.mark.ensures
+    ∙ marks-keep (is_answered_by c.args.port c.args.heard.now (decimal c.args.order_id) c.args.is_closed) c.self.inside.count c.self.inside.messages.items
+    ∙ ap (λ (h : HeldMessages). h.settled) c.self.view_is
