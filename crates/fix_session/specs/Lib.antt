@@ -1,3 +1,4 @@
+pub mod Held
 pub mod Made
 pub mod Meets
 pub mod Issues

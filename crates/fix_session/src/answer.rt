@@ -27,14 +27,14 @@ pub fn answer(
     row: Row,
     at: u64,
 ) -> Result<(), AllocError>
-    requires quiet { made session.now draft.old ≡ quiet (made session.now draft.old).state }
-    requires given { (made session.now draft.old).state.given ≡ session.now.given }
+    requires quiet { made session.now.session draft.old ≡ quiet (made session.now.session draft.old).state }
+    requires given { (made session.now.session draft.old).state.given ≡ session.now.session.given }
     requires silent { (draft.old.resends ≡ None) × (draft.old.outs.items ≡ []) }
     requires expected { draft.old.expected < 2 ^ 61 }
-    requires row { RowFits m.now (length session.now.given) row }
-    ensures { OnOk result (made session.now draft.new
-        ≡ answered at (made session.now draft.old).state
-        (row_answer session.now m.now (table.message_number m.now) session.now.expected row)) }
+    requires row { RowFits m.now (length session.now.session.given) row }
+    ensures { OnOk result (made session.now.session draft.new
+        ≡ answered at (made session.now.session draft.old).state
+        (row_answer session.now.session m.now (table.message_number m.now) session.now.session.expected row)) }
 {
     match row {
         Row::NumberMissing => draft.log_out(alloc, session, b"MsgSeqNum missing", at),
@@ -84,8 +84,8 @@ fn names_wrong(
     tag: u32,
     at: u64,
 ) -> Result<(), AllocError>
-    ensures { OnOk result (made session.now draft.new
-        ≡ fold (perform at) (made session.now draft.old)
+    ensures { OnOk result (made session.now.session draft.new
+        ≡ fold (perform at) (made session.now.session draft.old)
         (table.reject_act m.now tag 9 ∷ table.log_out (codes "CompID problem"))) }
 {
     let reason = SessionRejectReason::CompIdProblem.number();
@@ -101,8 +101,8 @@ fn ask_unless_waiting(
     received: u64,
     at: u64,
 ) -> Result<(), AllocError>
-    ensures { OnOk result (made session.now draft.new
-        ≡ fold (perform at) (made session.now draft.old) (table.ask_again session.now received)) }
+    ensures { OnOk result (made session.now.session draft.new
+        ≡ fold (perform at) (made session.now.session draft.old) (table.ask_again session.now.session received)) }
 {
     if session.is_waiting() {
         Ok(())
@@ -120,9 +120,9 @@ fn act(
     taken: Taken,
     at: u64,
 ) -> Result<(), AllocError>
-    requires { TakenFits m.now (length session.now.given) taken }
-    ensures { OnOk result (made session.now draft.new
-        ≡ fold (perform at) (made session.now draft.old) (taken_answer m.now taken).acts) }
+    requires { TakenFits m.now (length session.now.session.given) taken }
+    ensures { OnOk result (made session.now.session draft.new
+        ≡ fold (perform at) (made session.now.session draft.old) (taken_answer m.now taken).acts) }
 {
     match taken {
         Taken::Nothing => Ok(()),
@@ -148,8 +148,8 @@ fn echo(
     m: &Fields,
     at: u64,
 ) -> Result<(), AllocError>
-    ensures { OnOk result (made session.now draft.new
-        ≡ perform at (made session.now draft.old) (Say Heartbeat (tags.field 112 (tags.text 112 m.now) ∷ []))) }
+    ensures { OnOk result (made session.now.session draft.new
+        ≡ perform at (made session.now.session draft.old) (Say Heartbeat (tags.field 112 (tags.text 112 m.now) ∷ []))) }
 {
     let body = echo_body(alloc, text(m, 112))?;
     draft.say(session, Kind::Heartbeat, body, at)
@@ -163,8 +163,8 @@ fn unsupported(
     m: &Fields,
     at: u64,
 ) -> Result<(), AllocError>
-    ensures { OnOk result (made session.now draft.new
-        ≡ perform at (made session.now draft.old) (SayUnsupported (table.unsupported_body m.now))) }
+    ensures { OnOk result (made session.now.session draft.new
+        ≡ perform at (made session.now.session draft.old) (SayUnsupported (table.unsupported_body m.now))) }
 {
     let body = unsupported_body(alloc, m)?;
     draft.say_kept(session, Kind::BusinessReject, body, at)
@@ -179,8 +179,8 @@ pub fn too_low(
     received: u64,
     at: u64,
 ) -> Result<(), AllocError>
-    ensures { OnOk result (made session.now draft.new
-        ≡ fold (perform at) (made session.now draft.old) (table.too_low expected received)) }
+    ensures { OnOk result (made session.now.session draft.new
+        ≡ fold (perform at) (made session.now.session draft.old) (table.too_low expected received)) }
 {
     let body = too_low_body(alloc, expected, received)?;
     draft.say(session, Kind::Logout, body, at)?;

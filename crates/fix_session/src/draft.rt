@@ -52,7 +52,7 @@ impl Draft {
 
     /// Nothing yet, at this moment.
     pub fn at(alloc: Global, session: &Session, at: u64) -> Draft
-        ensures made { made session.now result ≡ quiet (at_moment at session.now) }
+        ensures made { made session.now.session result ≡ quiet (at_moment at session.now.session) }
         ensures fresh { result.resets ≡ false }
         ensures none { result.slots ≡ [] }
         ensures silent { (result.resends ≡ None) × (result.outs.items ≡ []) }
@@ -72,7 +72,7 @@ impl Draft {
 
     /// Nothing yet, at this moment, with a frame received.
     pub fn heard_at(alloc: Global, session: &Session, at: u64) -> Draft
-        ensures made { made session.now result ≡ quiet (heard (at_moment at session.now)) }
+        ensures made { made session.now.session result ≡ quiet (heard (at_moment at session.now.session)) }
         ensures fresh { result.resets ≡ false }
         ensures none { result.slots ≡ [] }
         ensures silent { (result.resends ≡ None) × (result.outs.items ≡ []) }
@@ -98,7 +98,8 @@ impl Draft {
         at: u64,
     ) -> Draft
         ensures made { (l : Logon) → l.interval ≡ interval → l.resets ≡ resets
-            → made session.now result ≡ quiet (logged l (reset resets (heard (at_moment at session.now)))) }
+            → made session.now.session result
+            ≡ quiet (logged l (reset resets (heard (at_moment at session.now.session)))) }
         ensures expected { result.expected ≤ 10 ^ 18 }
     {
         let latest = session.latest().max(at);
@@ -122,7 +123,7 @@ impl Draft {
 
     /// The number of the next frame or body.
     fn next_number(&self, session: &Session) -> u64
-        ensures { result ≡ next_out (made session.now self.now).state }
+        ensures { result ≡ next_out (made session.now.session self.now).state }
     {
         let before = if self.resets {
             0
@@ -140,7 +141,8 @@ impl Draft {
         body: Fields,
         at: u64,
     ) -> Result<(), AllocError>
-        ensures { OnOk result (made session.now self.new ≡ kept at true kind body (made session.now self.old)) }
+        ensures { OnOk result (made session.now.session self.new
+            ≡ kept at true kind body (made session.now.session self.old)) }
     {
         let number = self.next_number(session);
         self.slots.keep(kind, printed_fields(&body), at)?;
@@ -163,7 +165,8 @@ impl Draft {
         body: Fields,
         at: u64,
     ) -> Result<(), AllocError>
-        ensures { OnOk result (made session.now self.new ≡ said at kind body (made session.now self.old)) }
+        ensures { OnOk result (made session.now.session self.new
+            ≡ said at kind body (made session.now.session self.old)) }
     {
         let number = self.next_number(session);
         self.slots.fill()?;
@@ -180,7 +183,8 @@ impl Draft {
 
     /// The session closes its link.
     pub fn shut(&mut self, session: &Session, at: u64) -> Result<(), AllocError>
-        ensures { OnOk result (made session.now self.new ≡ perform at (made session.now self.old) Shut) }
+        ensures { OnOk result (made session.now.session self.new
+            ≡ perform at (made session.now.session self.old) Shut) }
     {
         self.outs.push(Out::Close)?;
         self.phase = Phase::Down;
@@ -190,14 +194,14 @@ impl Draft {
     /// The expected number grows by 1.
     pub fn grow(&mut self, session: &Session, at: u64)
         requires { self.old.expected < 2 ^ 61 }
-        ensures { made session.now self.new ≡ perform at (made session.now self.old) Grow }
+        ensures { made session.now.session self.new ≡ perform at (made session.now.session self.old) Grow }
     {
         self.expected += 1;
     }
 
     /// The expected number is this now.
     pub fn expect(&mut self, session: &Session, number: u64, at: u64)
-        ensures { made session.now self.new ≡ perform at (made session.now self.old) (Expect number) }
+        ensures { made session.now.session self.new ≡ perform at (made session.now.session self.old) (Expect number) }
     {
         self.expected = number;
     }
@@ -212,8 +216,8 @@ impl Draft {
         reason: u8,
         at: u64,
     ) -> Result<(), AllocError>
-        ensures { OnOk result (made session.now self.new
-            ≡ perform at (made session.now self.old) (reject_act m.now tag reason)) }
+        ensures { OnOk result (made session.now.session self.new
+            ≡ perform at (made session.now.session self.old) (reject_act m.now tag reason)) }
     {
         let body = reject_body(alloc, m, tag, reason)?;
         self.say(session, Kind::Reject, body, at)
@@ -228,8 +232,8 @@ impl Draft {
         at: u64,
     ) -> Result<(), AllocError>
         requires { IsValue why.now }
-        ensures { OnOk result (made session.now self.new
-            ≡ fold (perform at) (made session.now self.old) (log_out why.now)) }
+        ensures { OnOk result (made session.now.session self.new
+            ≡ fold (perform at) (made session.now.session self.old) (log_out why.now)) }
     {
         let body = text_body(alloc, why)?;
         self.say(session, Kind::Logout, body, at)?;
@@ -243,8 +247,8 @@ impl Draft {
         session: &Session,
         at: u64,
     ) -> Result<(), AllocError>
-        ensures { OnOk result (made session.now self.new
-            ≡ fold (perform at) (made session.now self.old) log_out_silently) }
+        ensures { OnOk result (made session.now.session self.new
+            ≡ fold (perform at) (made session.now.session self.old) log_out_silently) }
     {
         self.say(session, Kind::Logout, Fields::new(alloc), at)?;
         self.shut(session, at)
@@ -258,7 +262,8 @@ impl Draft {
         number: u64,
         at: u64,
     ) -> Result<(), AllocError>
-        ensures { OnOk result (made session.now self.new ≡ perform at (made session.now self.old) (AskAgain number)) }
+        ensures { OnOk result (made session.now.session self.new
+            ≡ perform at (made session.now.session self.old) (AskAgain number)) }
     {
         let body = ask_body(alloc, self.expected)?;
         self.say(session, Kind::ResendRequest, body, at)?;
@@ -273,7 +278,8 @@ impl Draft {
 
     /// A TestRequest after silence.
     pub fn test(&mut self, alloc: Global, session: &Session, at: u64) -> Result<(), AllocError>
-        ensures { OnOk result (made session.now self.new ≡ perform at (made session.now self.old) Test) }
+        ensures { OnOk result (made session.now.session self.new
+            ≡ perform at (made session.now.session self.old) Test) }
     {
         let body = echo_body(alloc, b"TEST")?;
         self.say(session, Kind::TestRequest, body, at)?;
@@ -292,7 +298,8 @@ impl Draft {
         at: u64,
     ) -> Result<(), AllocError>
         requires { application_refusal m.now ≡ None }
-        ensures { OnOk result (made session.now self.new ≡ perform at (made session.now self.old) (Deliver m.now)) }
+        ensures { OnOk result (made session.now.session self.new
+            ≡ perform at (made session.now.session self.old) (Deliver m.now)) }
     {
         self.app = Some(application_of(alloc, m)?);
         Ok(())
@@ -300,12 +307,12 @@ impl Draft {
 
     /// Numbers sent again, where nothing else is written yet. Takes no memory.
     pub fn send_again(&mut self, session: &Session, from: u64, to: u64, at: u64)
-        requires given { (made session.now self.old).state.given ≡ session.now.given }
+        requires given { (made session.now.session self.old).state.given ≡ session.now.session.given }
         requires silent { (self.old.resends ≡ None) × (self.old.outs.items ≡ []) }
         requires from { 1 ≤ from }
-        requires to { to ≤ length session.now.given }
-        ensures { made session.now self.new
-            ≡ sent_again at (made session.now self.old) (Some (record { from = from; to = to })) }
+        requires to { to ≤ length session.now.session.given }
+        ensures { made session.now.session self.new
+            ≡ sent_again at (made session.now.session self.old) (Some (record { from = from; to = to })) }
     {
         self.resends = Some(Resend { from, to, at });
         self.phase = phase_resent(self.phase, self.latest, from, to);

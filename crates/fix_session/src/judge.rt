@@ -17,17 +17,17 @@ use session_reading::{
 
 /// Whether a message's names (49, 56) are the client's and the gateway's.
 fn is_from_client(session: &Session, m: &Fields) -> bool
-    ensures { result ≡ table.is_from_client session.now m.now }
+    ensures { result ≡ table.is_from_client session.now.session m.now }
 {
     is(m, 49, session.client()) && is(m, 56, session.gate())
 }
 
 /// The line that a message of a client that is logged on meets.
 pub fn judge(session: &Session, m: &Fields) -> Row
-    ensures answer { answer_by (table.logged_on_rows session.now m.now
-        (table.message_number m.now) session.now.expected)
-        ≡ row_answer session.now m.now (table.message_number m.now) session.now.expected result }
-    ensures fits { RowFits m.now (length session.now.given) result }
+    ensures answer { answer_by (table.logged_on_rows session.now.session m.now
+        (table.message_number m.now) session.now.session.expected)
+        ≡ row_answer session.now.session m.now (table.message_number m.now) session.now.session.expected result }
+    ensures fits { RowFits m.now (length session.now.session.given) result }
 {
     let received = numbered(m);
     let expected = session.expected();
@@ -55,12 +55,13 @@ pub fn judge(session: &Session, m: &Fields) -> Row
 
 /// A number above the expected one.
 fn judge_high(session: &Session, m: &Fields) -> Row
-    ensures fits { RowFits m.now (length session.now.given) result }
-    ensures answer { row_answer session.now m.now (table.message_number m.now) session.now.expected result
+    ensures fits { RowFits m.now (length session.now.session.given) result }
+    ensures answer { row_answer session.now.session m.now (table.message_number m.now)
+        session.now.session.expected result
         ≡ (if table.is_type (codes "5") m.now then table.acts table.log_out_silently
-        else (if table.is_type (codes "2") m.now then with_acts (resend_answer (length session.now.given) m.now)
-        (ask_again session.now (table.message_number m.now))
-        else table.acts (ask_again session.now (table.message_number m.now)))) }
+        else (if table.is_type (codes "2") m.now then with_acts (resend_answer (length session.now.session.given) m.now)
+        (ask_again session.now.session (table.message_number m.now))
+        else table.acts (ask_again session.now.session (table.message_number m.now)))) }
 {
     if is_type(m, b"5") {
         return Row::LoggedOut;
@@ -86,7 +87,7 @@ pub enum LogonRow {
 
 /// Whether it is a Logon that may be answered.
 fn is_logon(session: &Session, m: &Fields) -> bool
-    ensures { result ≡ table.is_logon session.now m.now }
+    ensures { result ≡ table.is_logon session.now.session m.now }
 {
     is_type(m, b"A")
         && (is_from_client(session, m)
@@ -97,8 +98,8 @@ fn is_logon(session: &Session, m: &Fields) -> bool
 
 /// The line that a message of a link that isn't logged on meets.
 pub fn judge_logon(session: &Session, m: &Fields) -> LogonRow
-    ensures { answer_by (table.logon_rows session.now m.now (table.message_number m.now)
-        (if table.resets m.now then 1 else session.now.expected))
+    ensures { answer_by (table.logon_rows session.now.session m.now (table.message_number m.now)
+        (if table.resets m.now then 1 else session.now.session.expected))
         ≡ logon_answer m.now (table.message_number m.now) result }
 {
     if !is_logon(session, m) {

@@ -26,8 +26,9 @@ pub fn answer_logon(
     row: LogonRow,
     at: u64,
 ) -> Result<Draft, AllocError>
-    ensures { IfOk result (λ draft. made session.now draft
-        ≡ answered at (heard (at_moment at session.now)) (logon_answer m.now (table.message_number m.now) row)) }
+    ensures { IfOk result (λ draft. made session.now.session draft
+        ≡ answered at (heard (at_moment at session.now.session))
+        (logon_answer m.now (table.message_number m.now) row)) }
 {
     match row {
         LogonRow::NotAnswered => {
@@ -62,8 +63,8 @@ fn open(
     resets: bool,
     at: u64,
 ) -> Result<Draft, AllocError>
-    ensures opened { IfOk result (λ draft. made session.now draft
-        ≡ logon_opened at (heard (at_moment at session.now))
+    ensures opened { IfOk result (λ draft. made session.now.session draft
+        ≡ logon_opened at (heard (at_moment at session.now.session))
         (Some (record { interval_text = tags.text 108 m.now; interval = interval; resets = resets }))) }
     ensures expected { IfOk result (λ draft. draft.expected ≤ 10 ^ 18) }
 {

@@ -1,7 +1,7 @@
 //! The session and its calls.
 
-ghost use Rattle.std.specs.Prelude.{◌≡◌, ◌≤◌, ◌<◌, ◌+◌, ◌^◌, ◌∷◌, ◌++◌, [], List, map, ℕ, length, nat_le, if◌then◌else◌, IfOk};
-ghost use Rattle.std.specs.Prelude.{OnErr, OnOk, Some, None};
+ghost use Rattle.std.specs.Prelude.{◌≡◌, ◌≤◌, ◌<◌, ◌+◌, ◌^◌, ◌∷◌, ◌++◌, [], List, map, ℕ, length, nat_le};
+ghost use Rattle.std.specs.Prelude.{if◌then◌else◌, IfOk, OnErr, OnOk, Some, None};
 ghost use Rattle.session_law.specs.Session.{on_written};
 ghost use Rattle.session_law.specs.Table.{is_logged_on};
 
@@ -16,13 +16,16 @@ use fix_types::{AppBody, AppMsg};
 use session_law::{Kind, Logged, Phase};
 use session_reading::due_at;
 use session_writing::{
-    FrameHead, IssuedReport, KeptBodies, SessionOut, append_written, issued_outs, printed_fields,
-    report_of_body,
+    FrameHead, IssuedReport, KeptBodies, SessionOut, UndoBodies, append_written, issued_outs,
+    printed_fields, report_of_body,
 };
 use std::alloc::{AllocError, Global};
 use std::marker::Model;
 
 /// The gateway's end of a FIX session: numbers, what is kept of them, and how it stands to its link.
+///
+/// After an error, which is always that memory ran out, the session is as it was. `settle` and `undo` put calls back
+/// that succeeded: no call but these two changes how it was when it was settled.
 #[derive(Debug, Drop)]
 pub struct Session {
     gate: Text,
@@ -30,28 +33,49 @@ pub struct Session {
     phase: Phase,
     /// The number that is expected next: at most one above a number of 18 digits.
     expected: u64,
-    /// What each number from 1 was given to: a body that is kept, or a frame that is gap filled.
-    given: KeptBodies,
+    /// What each number from 1 was given to: a body that is kept, or a frame that is gap filled; and how that was when
+    /// it was settled last.
+    given: UndoBodies,
     /// The latest moment of all calls.
+    latest: u64,
+    /// The rest of how it was when it was settled last.
+    settled: Settled,
+}
+
+/// How a session was when it was settled, but for its names, which stay, and what numbers were given to.
+#[derive(Clone, Copy, Debug)]
+struct Settled {
+    phase: Phase,
+    expected: u64,
     latest: u64,
 }
 
 impl Model for Session {
-    ghost use Rattle.session_law.specs.Session as law;
+    ghost use Rattle.fix_session.specs.Held.{SessionHeld};
     ghost use Rattle.std.specs.Prelude.{◌≤◌, ◌^◌};
 
-    ghost Value = { law.State };
+    ghost Value = { SessionHeld };
 
     ghost view = { λ s. record {
-      gate = s.gate;
-      client = s.client;
-      phase = s.phase;
-      expected = s.expected;
-      given = s.given;
-      latest = s.latest;
+      session = record {
+        gate = s.gate;
+        client = s.client;
+        phase = s.phase;
+        expected = s.expected;
+        given = s.given.given;
+        latest = s.latest;
+      };
+      settled = record {
+        gate = s.gate;
+        client = s.client;
+        phase = s.settled.phase;
+        expected = s.settled.expected;
+        given = s.given.settled;
+        latest = s.settled.latest;
+      };
     } };
 
-    ghost invariant = { λ s. s.expected ≤ 10 ^ 18 };
+    ghost invariant = { λ s. (s.expected ≤ 10 ^ 18) × (s.settled.expected ≤ 10 ^ 18) };
 }
 
 /// What a call gives.
@@ -93,21 +117,54 @@ impl Session {
     /// A session of a client with the gateway, by their names: no link, and number 1 on both sides.
     #[tactic(auto, unfolding(session_law::specs::Runs::Leaves))]
     pub fn new(alloc: Global, gate: Text, client: Text) -> Session
-        ensures leaves { Leaves gate client [] result }
+        ensures leaves { Leaves gate client [] result.session }
+        ensures settled { result.settled ≡ result.session }
     {
         Session {
             gate,
             client,
             phase: Phase::Down,
             expected: 1,
-            given: KeptBodies::new(alloc),
+            given: UndoBodies::new(alloc),
             latest: 0,
+            settled: Settled {
+                phase: Phase::Down,
+                expected: 1,
+                latest: 0,
+            },
         }
+    }
+
+    /// It can be put back to how it is now. Takes no memory.
+    pub fn settle(&mut self)
+        ensures { self.new ≡ record self.old { settled = self.old.session } }
+    {
+        self.settled = Settled {
+            phase: self.phase,
+            expected: self.expected,
+            latest: self.latest,
+        };
+        self.given.settle();
+    }
+
+    /// It is as it was when it was settled last, before that as it was at first. Takes no memory.
+    pub fn undo(&mut self)
+        ensures { self.new ≡ record self.old { session = self.old.settled } }
+    {
+        let Settled {
+            phase,
+            expected,
+            latest,
+        } = self.settled;
+        self.phase = phase;
+        self.expected = expected;
+        self.latest = latest;
+        self.given.undo();
     }
 
     /// The number of the next frame or issued body.
     pub fn next_out(&self) -> u64
-        ensures { (gate client : List ℕ) (h : SessionHistory) → Leaves gate client h self.now
+        ensures { (gate client : List ℕ) (h : SessionHistory) → Leaves gate client h self.now.session
             → result ≡ length (given h) + 1 }
     {
         self.last() + 1
@@ -115,7 +172,7 @@ impl Session {
 
     /// The number that is expected of the client.
     pub fn next_in(&self) -> u64
-        ensures number { (gate client : List ℕ) (h : SessionHistory) → Leaves gate client h self.now
+        ensures number { (gate client : List ℕ) (h : SessionHistory) → Leaves gate client h self.now.session
             → result ≡ expected gate client h }
         ensures small { result ≤ 10 ^ 18 }
     {
@@ -130,15 +187,19 @@ impl Session {
         body: &AppBody,
         at: u64,
     ) -> Result<IssuedTurn, AllocError>
-        ensures turn { IfOk result (λ issued. Tells self.old.gate self.old.client issued.turn
-            (turn_after self.old at (call_of_body body.now))) }
-        ensures report { IfOk result (λ issued. issued.report ≡ frame_fields stamp_text self.old.gate self.old.client
-            (fresh (next_out self.old) (issues.issued_kind body.now) (issues.issued_body body.now) at)) }
-        ensures leaves { OnOk result ((gate client : List ℕ) (h : SessionHistory) → Leaves gate client h self.old
-            → Leaves gate client (turn_after self.old at (call_of_body body.now) ∷ h) self.new) }
-        ensures headline { OnOk result ((gate client : List ℕ) (h : SessionHistory) → Leaves gate client h self.old
-            → SessionHeadline (turn_after self.old at (call_of_body body.now) ∷ h)) }
-        ensures numbers { OnOk result (MovesLittle 1 self.old self.new) }
+        ensures turn { IfOk result (λ issued. Tells self.old.session.gate self.old.session.client issued.turn
+            (turn_after self.old.session at (call_of_body body.now))) }
+        ensures report { IfOk result (λ issued. issued.report
+            ≡ frame_fields stamp_text self.old.session.gate self.old.session.client
+            (fresh (next_out self.old.session) (issues.issued_kind body.now) (issues.issued_body body.now) at)) }
+        ensures leaves { OnOk result ((gate client : List ℕ) (h : SessionHistory)
+            → Leaves gate client h self.old.session
+            → Leaves gate client (turn_after self.old.session at (call_of_body body.now) ∷ h) self.new.session) }
+        ensures headline { OnOk result ((gate client : List ℕ) (h : SessionHistory)
+            → Leaves gate client h self.old.session
+            → SessionHeadline (turn_after self.old.session at (call_of_body body.now) ∷ h)) }
+        ensures numbers { OnOk result (MovesLittle 1 self.old.session self.new.session) }
+        ensures settled { self.new.settled ≡ self.old.settled }
         ensures err { OnErr result (self.new ≡ self.old) }
     {
         let fields = body_of(alloc, body)?;
@@ -152,13 +213,16 @@ impl Session {
         m: &Fields,
         at: u64,
     ) -> Result<SessionTurn, AllocError>
-        ensures turn { IfOk result (λ turn. Tells self.old.gate self.old.client turn
-            (turn_after self.old at (OnMessage m.now))) }
-        ensures leaves { OnOk result ((gate client : List ℕ) (h : SessionHistory) → Leaves gate client h self.old
-            → Leaves gate client (turn_after self.old at (OnMessage m.now) ∷ h) self.new) }
-        ensures headline { OnOk result ((gate client : List ℕ) (h : SessionHistory) → Leaves gate client h self.old
-            → SessionHeadline (turn_after self.old at (OnMessage m.now) ∷ h)) }
-        ensures numbers { OnOk result (MovesLittle 2 self.old self.new) }
+        ensures turn { IfOk result (λ turn. Tells self.old.session.gate self.old.session.client turn
+            (turn_after self.old.session at (OnMessage m.now))) }
+        ensures leaves { OnOk result ((gate client : List ℕ) (h : SessionHistory)
+            → Leaves gate client h self.old.session
+            → Leaves gate client (turn_after self.old.session at (OnMessage m.now) ∷ h) self.new.session) }
+        ensures headline { OnOk result ((gate client : List ℕ) (h : SessionHistory)
+            → Leaves gate client h self.old.session
+            → SessionHeadline (turn_after self.old.session at (OnMessage m.now) ∷ h)) }
+        ensures numbers { OnOk result (MovesLittle 2 self.old.session self.new.session) }
+        ensures settled { self.new.settled ≡ self.old.settled }
         ensures err { OnErr result (self.new ≡ self.old) }
     {
         self.message_step(alloc, m, at)
@@ -166,12 +230,16 @@ impl Session {
 
     /// Time passes.
     pub fn on_tick(&mut self, alloc: Global, at: u64) -> Result<SessionTurn, AllocError>
-        ensures turn { IfOk result (λ turn. Tells self.old.gate self.old.client turn (turn_after self.old at OnTick)) }
-        ensures leaves { OnOk result ((gate client : List ℕ) (h : SessionHistory) → Leaves gate client h self.old
-            → Leaves gate client (turn_after self.old at OnTick ∷ h) self.new) }
-        ensures headline { OnOk result ((gate client : List ℕ) (h : SessionHistory) → Leaves gate client h self.old
-            → SessionHeadline (turn_after self.old at OnTick ∷ h)) }
-        ensures numbers { OnOk result (MovesLittle 1 self.old self.new) }
+        ensures turn { IfOk result (λ turn. Tells self.old.session.gate self.old.session.client turn
+            (turn_after self.old.session at OnTick)) }
+        ensures leaves { OnOk result ((gate client : List ℕ) (h : SessionHistory)
+            → Leaves gate client h self.old.session
+            → Leaves gate client (turn_after self.old.session at OnTick ∷ h) self.new.session) }
+        ensures headline { OnOk result ((gate client : List ℕ) (h : SessionHistory)
+            → Leaves gate client h self.old.session
+            → SessionHeadline (turn_after self.old.session at OnTick ∷ h)) }
+        ensures numbers { OnOk result (MovesLittle 1 self.old.session self.new.session) }
+        ensures settled { self.new.settled ≡ self.old.settled }
         ensures err { OnErr result (self.new ≡ self.old) }
     {
         self.tick_step(alloc, at)
@@ -179,38 +247,42 @@ impl Session {
 
     /// The link came up, or went. It takes no memory.
     pub fn on_link(&mut self, alloc: Global, up: bool, at: u64) -> SessionTurn
-        ensures turn { Tells self.old.gate self.old.client result (turn_after self.old at (OnLink up)) }
-        ensures leaves { (gate client : List ℕ) (h : SessionHistory) → Leaves gate client h self.old
-            → Leaves gate client (turn_after self.old at (OnLink up) ∷ h) self.new }
-        ensures headline { (gate client : List ℕ) (h : SessionHistory) → Leaves gate client h self.old
-            → SessionHeadline (turn_after self.old at (OnLink up) ∷ h) }
-        ensures numbers { MovesLittle 0 self.old self.new }
+        ensures turn { Tells self.old.session.gate self.old.session.client result
+            (turn_after self.old.session at (OnLink up)) }
+        ensures leaves { (gate client : List ℕ) (h : SessionHistory)
+            → Leaves gate client h self.old.session
+            → Leaves gate client (turn_after self.old.session at (OnLink up) ∷ h) self.new.session }
+        ensures headline { (gate client : List ℕ) (h : SessionHistory)
+            → Leaves gate client h self.old.session
+            → SessionHeadline (turn_after self.old.session at (OnLink up) ∷ h) }
+        ensures numbers { MovesLittle 0 self.old.session self.new.session }
+        ensures settled { self.new.settled ≡ self.old.settled }
     {
         self.link_step(alloc, up, at)
     }
 
     pub(crate) fn phase(&self) -> Phase
-        ensures { result ≡ self.now.phase }
+        ensures { result ≡ self.now.session.phase }
     {
         self.phase
     }
 
     pub(crate) fn expected(&self) -> u64
-        ensures number { result ≡ self.now.expected }
+        ensures number { result ≡ self.now.session.expected }
         ensures small { result ≤ 10 ^ 18 }
     {
         self.expected
     }
 
     pub(crate) fn latest(&self) -> u64
-        ensures { result ≡ self.now.latest }
+        ensures { result ≡ self.now.session.latest }
     {
         self.latest
     }
 
     /// Whether a ResendRequest waits for its numbers.
     pub(crate) fn is_waiting(&self) -> bool
-        ensures { result ≡ nat_le self.now.expected (asked_number self.now.phase) }
+        ensures { result ≡ nat_le self.now.session.expected (asked_number self.now.session.phase) }
     {
         match self.phase {
             Phase::LoggedOn(on) => self.expected <= on.asked,
@@ -219,14 +291,14 @@ impl Session {
     }
 
     pub(crate) fn gate(&self) -> &[u8]
-        ensures text { result.now ≡ self.now.gate }
+        ensures text { result.now ≡ self.now.session.gate }
         ensures inside { IsValue result.now }
     {
         self.gate.as_slice()
     }
 
     pub(crate) fn client(&self) -> &[u8]
-        ensures text { result.now ≡ self.now.client }
+        ensures text { result.now ≡ self.now.session.client }
         ensures inside { IsValue result.now }
     {
         self.client.as_slice()
@@ -234,16 +306,16 @@ impl Session {
 
     /// The last number that was given, 0 where none was.
     pub(crate) fn last(&self) -> u64
-        ensures number { result ≡ length self.now.given }
+        ensures number { result ≡ length self.now.session.given }
         ensures room { result < 2 ^ 63 }
     {
-        self.given.len() as u64
+        self.given.given().len() as u64
     }
 
     pub(crate) fn given(&self) -> &KeptBodies
-        ensures { result.now ≡ self.now.given }
+        ensures { result.now ≡ self.now.session.given }
     {
-        &self.given
+        self.given.given()
     }
 
     /// Issues a body: it takes a number and is kept, and is written where the client is logged on.
@@ -254,10 +326,12 @@ impl Session {
         body: &Fields,
         at: u64,
     ) -> Result<IssuedTurn, AllocError>
-        ensures meets { IfOk result (λ issued. Meets self.old (step self.old at (Issue kind body.now)) issued.turn
-            self.new) }
-        ensures report { IfOk result (λ issued. issued.report ≡ frame_fields stamp_text self.old.gate self.old.client
-            (fresh (next_out self.old) kind body.now at)) }
+        ensures meets { IfOk result (λ issued. Meets self.old.session
+            (step self.old.session at (Issue kind body.now)) issued.turn self.new.session) }
+        ensures report { IfOk result (λ issued. issued.report
+            ≡ frame_fields stamp_text self.old.session.gate self.old.session.client
+            (fresh (next_out self.old.session) kind body.now at)) }
+        ensures settled { self.new.settled ≡ self.old.settled }
         ensures err { OnErr result (self.new ≡ self.old) }
     {
         let report = self.next_report(alloc, kind, body, at)?;
@@ -277,8 +351,8 @@ impl Session {
         body: &Fields,
         at: u64,
     ) -> Result<IssuedReport, AllocError>
-        ensures { IfOk result (λ report. report ≡ frame_fields stamp_text self.now.gate self.now.client
-            (fresh (next_out self.now) kind body.now at)) }
+        ensures { IfOk result (λ report. report ≡ frame_fields stamp_text self.now.session.gate self.now.session.client
+            (fresh (next_out self.now.session) kind body.now at)) }
     {
         let head = FrameHead {
             number: self.last() + 1,
@@ -302,7 +376,9 @@ impl Session {
         m: &Fields,
         at: u64,
     ) -> Result<SessionTurn, AllocError>
-        ensures meets { IfOk result (λ turn. Meets self.old (step self.old at (OnMessage m.now)) turn self.new) }
+        ensures meets { IfOk result (λ turn. Meets self.old.session
+            (step self.old.session at (OnMessage m.now)) turn self.new.session) }
+        ensures settled { self.new.settled ≡ self.old.settled }
         ensures err { OnErr result (self.new ≡ self.old) }
     {
         match self.phase {
@@ -317,10 +393,11 @@ impl Session {
 
     /// A frame of a link that isn't logged on.
     fn on_first(&mut self, alloc: Global, m: &Fields, at: u64) -> Result<SessionTurn, AllocError>
-        requires expected { self.old.expected ≤ 10 ^ 18 }
-        ensures meets { IfOk result (λ turn. Meets self.old (by_rows at (heard (at_moment at self.old))
-            (logon_rows self.old m.now (message_number m.now)
-            (if resets m.now then 1 else self.old.expected))) turn self.new) }
+        requires expected { self.old.session.expected ≤ 10 ^ 18 }
+        ensures meets { IfOk result (λ turn. Meets self.old.session (by_rows at (heard (at_moment at self.old.session))
+            (logon_rows self.old.session m.now (message_number m.now)
+            (if resets m.now then 1 else self.old.session.expected))) turn self.new.session) }
+        ensures settled { self.new.settled ≡ self.old.settled }
         ensures err { OnErr result (self.new ≡ self.old) }
     {
         let row = judge_logon(self, m);
@@ -330,9 +407,11 @@ impl Session {
 
     /// A frame of a client that is logged on.
     fn on_next(&mut self, alloc: Global, m: &Fields, at: u64) -> Result<SessionTurn, AllocError>
-        requires expected { self.old.expected ≤ 10 ^ 18 }
-        ensures meets { IfOk result (λ turn. Meets self.old (by_rows at (heard (at_moment at self.old))
-            (logged_on_rows self.old m.now (message_number m.now) self.old.expected)) turn self.new) }
+        requires expected { self.old.session.expected ≤ 10 ^ 18 }
+        ensures meets { IfOk result (λ turn. Meets self.old.session (by_rows at (heard (at_moment at self.old.session))
+            (logged_on_rows self.old.session m.now (message_number m.now) self.old.session.expected))
+            turn self.new.session) }
+        ensures settled { self.new.settled ≡ self.old.settled }
         ensures err { OnErr result (self.new ≡ self.old) }
     {
         let row = judge(self, m);
@@ -343,7 +422,8 @@ impl Session {
 
     /// The link came up, or went.
     fn link_step(&mut self, alloc: Global, up: bool, at: u64) -> SessionTurn
-        ensures meets { Meets self.old (step self.old at (OnLink up)) result self.new }
+        ensures meets { Meets self.old.session (step self.old.session at (OnLink up)) result self.new.session }
+        ensures settled { self.new.settled ≡ self.old.settled }
     {
         self.latest = self.latest.max(at);
         self.phase = if up {
@@ -360,7 +440,8 @@ impl Session {
     /// Takes over what a draft has made, all of it or nothing.
     fn take(&mut self, alloc: Global, draft: Draft) -> Result<SessionTurn, AllocError>
         requires expected { draft.expected ≤ 10 ^ 18 }
-        ensures ok { IfOk result (λ turn. Meets self.old (made self.old draft) turn self.new) }
+        ensures ok { IfOk result (λ turn. Meets self.old.session (made self.old.session draft) turn self.new.session) }
+        ensures settled { self.new.settled ≡ self.old.settled }
         ensures err { OnErr result (self.new ≡ self.old) }
     {
         let outs = self.drafted_outs(alloc, &draft)?;
@@ -377,7 +458,7 @@ impl Session {
     /// What a draft has made for the link, in bytes.
     fn drafted_outs(&self, alloc: Global, draft: &Draft) -> Result<Vec<SessionOut>, AllocError>
         ensures { IfOk result (λ outs. map told_bytes outs.items
-            ≡ map (told_of_out self.now.gate self.now.client) (made self.now draft.now).outs) }
+            ≡ map (told_of_out self.now.session.gate self.now.session.client) (made self.now.session draft.now).outs) }
     {
         let mut outs = Vec::new(alloc);
         self.append_again(alloc, &mut outs, draft.resends)?;
@@ -399,12 +480,13 @@ impl Session {
         resends: Option<Resend>,
     ) -> Result<(), AllocError>
         ensures { OnOk result (map told_bytes outs.new.items ≡ map told_bytes outs.old.items
-            ++ map (told_of_out self.now.gate self.now.client) (resent_outs self.now.given resends)) }
+            ++ map (told_of_out self.now.session.gate self.now.session.client)
+            (resent_outs self.now.session.given resends)) }
     {
         match resends {
             None => Ok(()),
             Some(Resend { from, to, at }) => {
-                let given = &self.given;
+                let given = self.given.given();
                 given.append_resend(alloc, outs, self.gate(), self.client(), from, to, at)
             }
         }
@@ -412,7 +494,9 @@ impl Session {
 
     /// Time passes: silence of either side brings what is due.
     fn tick_step(&mut self, alloc: Global, at: u64) -> Result<SessionTurn, AllocError>
-        ensures meets { IfOk result (λ turn. Meets self.old (step self.old at OnTick) turn self.new) }
+        ensures meets { IfOk result (λ turn. Meets self.old.session (step self.old.session at OnTick) turn
+            self.new.session) }
+        ensures settled { self.new.settled ≡ self.old.settled }
         ensures err { OnErr result (self.new ≡ self.old) }
     {
         let mut draft = Draft::at(alloc, self, at);

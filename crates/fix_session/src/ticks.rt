@@ -20,9 +20,9 @@ pub fn do_due(
     due: Due,
     at: u64,
 ) -> Result<(), AllocError>
-    requires quiet { made session.now draft.old ≡ quiet (made session.now draft.old).state }
-    ensures { OnOk result (made session.now draft.new
-        ≡ answered at (made session.now draft.old).state (due_answer due)) }
+    requires quiet { made session.now.session draft.old ≡ quiet (made session.now.session draft.old).state }
+    ensures { OnOk result (made session.now.session draft.new
+        ≡ answered at (made session.now.session draft.old).state (due_answer due)) }
 {
     match due {
         Due::Nothing => Ok(()),

@@ -1,9 +1,9 @@
 -- What is kept stays kept behind other text, and is as it was further on.
-use Rattle.std.proofs.Common.{◌≡◌, ℕ, zero, suc, ◌+◌, ◌-◌, ◌<◌, ◌≤◌, Bool, true, false, List, [], ◌∷◌, ◌++◌, length, get_or, take, drop, map, refl, sym, ap, ◌∙◌, arith, Some, min}
+use Rattle.std.proofs.Common.{◌≡◌, ℕ, zero, suc, ◌+◌, ◌-◌, ◌<◌, ◌≤◌, Bool, true, false, List, [], ◌∷◌, ◌++◌, length, get_or, take, drop, map, refl, sym, subst, ap, ◌∙◌, arith, Some, min}
 use Rattle.std.specs.Prelude.{slice_range, nat_le, ◌&&◌}
 use Rattle.std.specs.List.{list_all}
-use Rattle.std.proofs.lemmas.List.{take-append-le, drop-append-le, length-append, length-drop, map-append, take_all, take-map, drop-map}
-use Rattle.std.proofs.lemmas.List.Folds.{list_all-append, list_all_at}
+use Rattle.std.proofs.lemmas.List.{take-append-le, drop-append-le, length-append, length-drop, map-append, take_all, take-map, drop-map, take-append-drop, length-take-le}
+use Rattle.std.proofs.lemmas.List.Folds.{list_all-append, list_all_at, list_all_more}
 use Rattle.fix_fields.specs.Field.{Message}
 use Rattle.fix_fields.proofs.Tags.{and_parts, le_test, le_true}
 use Rattle.session_law.specs.declared.kind.Kind.{Kind}
@@ -157,15 +157,18 @@ one-kept-at text body after kept room all kind at start end are prints s e t r a
 
 -- ---- one of them
 
-pub one-place : (text : List ℕ) (kept : List KeptPlace) (i : ℕ) (d k : KeptPlace) → ArePlaces text kept → i < length kept → get_or kept i d ≡ k → is_place text k ≡ true
-one-place text kept i d k h lt e = by_test (is_place text (get_or kept i d)) refl
+all-at : {A : Type 0} (p : A → Bool) (xs : List A) (i : ℕ) (d : A) → list_all p xs ≡ true → i < length xs → p (get_or xs i d) ≡ true
+all-at p xs i d h lt = by_test (p (get_or xs i d)) refl
   where
-    by_test : (b : Bool) → is_place text (get_or kept i d) ≡ b → is_place text k ≡ true
-    by_test true found = ap (is_place text) (sym e) ∙ found
-    by_test false found = absurd (falses (sym (list_all_at (is_place text) kept i d lt found) ∙ h))
+    by_test : (b : Bool) → p (get_or xs i d) ≡ b → p (get_or xs i d) ≡ true
+    by_test true found = found
+    by_test false found = absurd (falses (sym (list_all_at p xs i d lt found) ∙ h))
       where
         falses : ◌≡◌ {A = Bool} false true → ⊥
         falses q = cc
+
+pub one-place : (text : List ℕ) (kept : List KeptPlace) (i : ℕ) (d k : KeptPlace) → ArePlaces text kept → i < length kept → get_or kept i d ≡ k → is_place text k ≡ true
+one-place text kept i d k h lt e = ap (is_place text) (sym e) ∙ all-at (is_place text) kept i d h lt
 
 -- ---- some of them
 
@@ -184,3 +187,81 @@ some-places text kept n m are = all-take (is_place text) n (drop m kept) (all-dr
 
 pub some-slots : (text : List ℕ) (kept : List KeptPlace) (n m : ℕ) → slots_at text (take n (drop m kept)) ≡ take n (drop m (slots_at text kept))
 some-slots text kept n m = sym (take-map (slot_at text) n (drop m kept)) ∙ ap (λ (ss : List Slot). take n ss) (sym (drop-map (slot_at text) m kept))
+
+-- ---- cut off
+
+-- in a longer text
+wider : (a b : ℕ) (k : KeptPlace) → a ≤ b → is_within a k ≡ true → is_within b k ≡ true
+wider a b places.Filled le h = refl
+wider a b (places.Body kind start end at) le h =
+    let p = and_parts (nat_le start end) (nat_le end a) h in
+    let ends : end ≤ b = omega (arith, le_true end a p.1, le) in
+    rw (p.0, le_test end b ends) refl
+
+all-wider : (a b : ℕ) (kept : List KeptPlace) → a ≤ b → list_all (is_within a) kept ≡ true → list_all (is_within b) kept ≡ true
+all-wider a b [] le h = refl
+all-wider a b (k ∷ kept) le h =
+    let p = and_parts (is_within a k) (list_all (is_within a) kept) h in
+    rw (wider a b k le p.0, all-wider a b kept le p.1) refl
+
+-- all places before number i are within the end so far, which is in the text
+abbrev pub AllEnd : List KeptPlace → ℕ → ℕ → Type 0
+AllEnd kept i end = (size : ℕ) → list_all (is_within size) kept ≡ true → (list_all (is_within end) (take i kept) ≡ true) × (end ≤ size)
+
+-- and with one place more
+pub ends-more : (kept : List KeptPlace) (i before end : ℕ) (d : KeptPlace) → i < length kept → AllEnd kept i before → before ≤ end
+    → ((size : ℕ) → is_within size (get_or kept i d) ≡ true → is_within end (get_or kept i d) ≡ true)
+    → ((size : ℕ) → is_within size (get_or kept i d) ≡ true → before ≤ size → end ≤ size)
+    → AllEnd kept (i + 1) end
+ends-more kept i before end d lt so_far least within most = λ size all.
+    let this = all-at (is_within size) kept i d all lt in
+    let those = so_far size all in
+    (list_all_more (is_within end) kept i d lt ∙ rw (all-wider before end (take i kept) least those.0, within size this) refl, most size this those.1)
+
+-- a place in a text that goes on, and is in its front
+front-place : (text more : List ℕ) (k : KeptPlace) → is_place (text ++ more) k ≡ true → is_within (length text) k ≡ true → is_place text k ≡ true
+front-place text more places.Filled h w = refl
+front-place text more (places.Body kind start end at) h w =
+    let q = and_parts (nat_le start end) (nat_le end (length text)) w in
+    let ordered = le_true start end q.0 in
+    let ends = le_true end (length text) q.1 in
+    is-place text kind start end at (record {
+      ordered = ordered;
+      ends = ends;
+      prints = ap prints_fields (sym (range-append text more start end ordered ends)) ∙ (place-is (text ++ more) kind start end at h).prints;
+    })
+
+front-places : (text more : List ℕ) (kept : List KeptPlace) → ArePlaces (text ++ more) kept → list_all (is_within (length text)) kept ≡ true → ArePlaces text kept
+front-places text more [] h w = refl
+front-places text more (k ∷ kept) h w =
+    let p = and_parts (is_place (text ++ more) k) (list_all (is_place (text ++ more)) kept) h in
+    let q = and_parts (is_within (length text) k) (list_all (is_within (length text)) kept) w in
+    rw (front-place text more k p.0 q.0, front-places text more kept p.1 q.1) refl
+
+front-kept : (text more : List ℕ) (kept : List KeptPlace) → ArePlaces (text ++ more) kept → list_all (is_within (length text)) kept ≡ true → AreKept text kept (slots_at (text ++ more) kept)
+front-kept text more kept are within =
+    let places = front-places text more kept are within in
+    record { view = sym (slots-append text more kept places); places = places }
+
+-- as many places as are left, in as much of the text as has them
+first-kept : (text : List ℕ) (kept : List KeptPlace) (count size : ℕ) → ArePlaces text kept → size ≤ length text → list_all (is_within size) (take count kept) ≡ true
+    → AreKept (take size text) (take count kept) (take count (slots_at text kept))
+first-kept text kept count size are inside within =
+    let left = take count kept in
+    let whole : take size text ++ drop size text ≡ text = take-append-drop size text in
+    let long : length (take size text) ≡ size = length-take-le size text inside in
+    let there = subst (λ (t : List ℕ). ArePlaces t left) (sym whole) (all-take (is_place text) count kept are) in
+    let front = front-kept (take size text) (drop size text) left there (subst (λ (n : ℕ). list_all (is_within n) left ≡ true) (sym long) within) in
+    record {
+      view = front.view ∙ ap (λ (t : List ℕ). slots_at t left) whole ∙ sym (take-map (slot_at text) count kept);
+      places = front.places;
+    }
+
+-- the same, of what the code has
+pub cut-kept : (text after : List ℕ) (kept left : List KeptPlace) (count size : ℕ) → ArePlaces text kept → left ≡ take count kept → after ≡ take size text
+    → ((n : ℕ) → list_all (is_within n) left ≡ true → (list_all (is_within size) left ≡ true) × (size ≤ n))
+    → AreKept after left (take count (slots_at text kept))
+cut-kept text after kept left count size are l a ends =
+    let all = ends (length text) (subst (λ (ks : List KeptPlace). list_all (is_within (length text)) ks ≡ true) (sym l) (all-take (is_within (length text)) count kept (all-within text kept are))) in
+    let within = subst (λ (ks : List KeptPlace). list_all (is_within size) ks ≡ true) l all.0 in
+    rw (a, l) (first-kept text kept count size are all.1 within)

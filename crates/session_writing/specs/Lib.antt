@@ -2,6 +2,7 @@ pub mod Printed
 pub mod Heads
 pub mod Keeping
 pub mod Longest
+pub mod Undoing
 pub mod Written
 pub use Rattle.fix_fields.specs.Field
 pub use Rattle.fix_stamp.specs.Stamp

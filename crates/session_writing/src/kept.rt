@@ -1,7 +1,7 @@
 //! What is kept of the numbers that a session gave.
 
-ghost use Rattle.std.specs.Prelude.{◌≡◌, ◌<◌, ◌+◌, ◌-◌, ◌^◌, ◌++◌, ◌∷◌, [], length, map, min, take, drop, IfOk, OnOk, OnErr};
-ghost use Rattle.std.specs.Prelude.{Some, None, true, if◌then◌else◌, vec_len, vec_capacity};
+ghost use Rattle.std.specs.Prelude.{◌≡◌, ◌<◌, ◌≤◌, ◌+◌, ◌-◌, ◌^◌, ◌++◌, ◌∷◌, [], length, map, min, take, drop};
+ghost use Rattle.std.specs.Prelude.{ℕ, Some, None, true, IfOk, OnOk, OnErr, vec_len, vec_capacity};
 ghost use Rattle.fix_fields.specs.Field.{IsValue};
 ghost use Rattle.session_law.specs.Session as law;
 ghost use Rattle.session_writing.specs.Written.{told_bytes, told_frames};
@@ -90,21 +90,8 @@ impl KeptBodies {
         Ok(())
     }
 
-    /// The next numbers were given to these; they are the first ones where numbers begin anew. `AllocError` leaves all
-    /// as it was. Three growths at most.
-    pub fn give(&mut self, alloc: Global, begins: bool, more: KeptBodies) -> Result<(), AllocError>
-        ensures ok { OnOk result (self.new ≡ (if begins then [] else self.old) ++ more) }
-        ensures err { OnErr result (self.new ≡ self.old) }
-    {
-        if begins {
-            *self = more;
-            return Ok(());
-        }
-        self.append(alloc, &more)
-    }
-
-    /// The next numbers were given to these.
-    fn append(&mut self, alloc: Global, more: &KeptBodies) -> Result<(), AllocError>
+    /// The next numbers were given to these. `AllocError` leaves all as it was. Three growths at most.
+    pub fn append(&mut self, alloc: Global, more: &KeptBodies) -> Result<(), AllocError>
         ensures ok { OnOk result (self.new ≡ self.old ++ more.now) }
         ensures err { OnErr result (self.new ≡ self.old) }
     {
@@ -115,6 +102,19 @@ impl KeptBodies {
         self.text.extend_from_slice(more.text.as_slice())?;
         self.places.append(&mut places).unwrap();
         Ok(())
+    }
+
+    /// Only the first numbers are left, so many of them, and the text up to where the last of their bodies ends. Takes
+    /// no memory, and a moment for each number that is left, if any goes.
+    pub fn cut(&mut self, count: usize)
+        ensures { self.new ≡ take count self.old }
+    {
+        if self.places.len() <= count {
+            return;
+        }
+        self.places.truncate(count);
+        let size = end_of(self.places.as_slice());
+        self.text.truncate(size);
     }
 
     /// Appends the numbers from one to another again, of those that were given, between the gateway and a client of
@@ -156,6 +156,30 @@ fn push_place(places: &mut Vec<KeptPlace>, place: KeptPlace)
     ensures { places.new.items ≡ places.old.items ++ place ∷ [] }
 {
     places.push(place).unwrap();
+}
+
+/// Where the last of these places ends in their text.
+fn end_of(places: &[KeptPlace]) -> usize
+    ensures { (size : ℕ) → list_all (is_within size) places.now ≡ true
+        → (list_all (is_within result) places.now ≡ true) × (result ≤ size) }
+{
+    let mut end = 0;
+    for place in places {
+        end = further_end(*place, end);
+    }
+    end
+}
+
+/// Where a place ends in its text, and no less than this.
+fn further_end(place: KeptPlace, least: usize) -> usize
+    ensures least { least ≤ result }
+    ensures within { (size : ℕ) → is_within size place ≡ true → is_within result place ≡ true }
+    ensures most { (size : ℕ) → is_within size place ≡ true → least ≤ size → result ≤ size }
+{
+    match place {
+        KeptPlace::Filled => least,
+        KeptPlace::Body { end, .. } => end.max(least),
+    }
 }
 
 /// These places so much further on, in a text of this size behind them. One growth.

@@ -11,6 +11,7 @@ mod output;
 mod place;
 mod printed;
 mod resend;
+mod undo_bodies;
 
 pub use bodies::{
     ask_body, echo_body, logon_body, push_number, reject_body, text_body, too_low_body,
@@ -21,3 +22,4 @@ pub use issued_report::{IssuedReport, issued_outs, report_of_body};
 pub use kept::KeptBodies;
 pub use output::{SessionOut, append_written};
 pub use printed::{PrintedFields, printed_fields};
+pub use undo_bodies::UndoBodies;

@@ -13,24 +13,24 @@ use Rattle.fix_session.proofs.Turns.{tells, one-more, one-more-headline}
 use Rattle.fix_session.proofs.session.Session.issue.Goals as goal
 
 -- the step's answer is the issued body's
-meets : (c : goal.After-drop-fields-inside-2) → IfOk c.issue_step.result (λ issued. Meets c.args.self.now (step c.args.self.now c.args.at (call_of_body c.args.body.now)) issued.turn c.issue_step.new.self)
+meets : (c : goal.After-drop-fields-inside-2) → IfOk c.issue_step.result (λ issued. Meets c.args.self.now.session (step c.args.self.now.session c.args.at (call_of_body c.args.body.now)) issued.turn c.issue_step.new.self.session)
 meets c =
     let same : Issue c.kind_of.result c.in_ok-fields.fields ≡ call_of_body c.args.body.now =
     ap (λ (k : Kind). Issue k c.in_ok-fields.fields) c.kind_of.ensures ∙ ap (λ (b : Message). Issue (issued_kind c.args.body.now) b) c.in_ok-fields.ensures in
-    subst (λ (call : Call). IfOk c.issue_step.result (λ issued. Meets c.args.self.now (step c.args.self.now c.args.at call) issued.turn c.issue_step.new.self)) same c.issue_step.ensures.meets
+    subst (λ (call : Call). IfOk c.issue_step.result (λ issued. Meets c.args.self.now.session (step c.args.self.now.session c.args.at call) issued.turn c.issue_step.new.self.session)) same c.issue_step.ensures.meets
 
 pub returns-clause-turn : goal.returns-clause-turn
-returns-clause-turn c = IfOk-weaker c.issue_step.result _ _ (λ issued m. tells c.args.self.now c.args.at (call_of_body c.args.body.now) issued.turn c.issue_step.new.self m) (meets c)
+returns-clause-turn c = IfOk-weaker c.issue_step.result _ _ (λ issued m. tells c.args.self.now.session c.args.at (call_of_body c.args.body.now) issued.turn c.issue_step.new.self.session m) (meets c)
 
 pub returns-clause-report : goal.returns-clause-report
 returns-clause-report c =
-    let s = c.args.self.now in
+    let s = c.args.self.now.session in
     IfOk-weaker c.issue_step.result _ _ (λ issued is. is
     ∙ ap (λ (k : Kind). frame_fields stamp_text s.gate s.client (fresh (next_out s) k c.in_ok-fields.fields c.args.at)) c.kind_of.ensures
     ∙ ap (λ (b : Message). frame_fields stamp_text s.gate s.client (fresh (next_out s) (issued_kind c.args.body.now) b c.args.at)) c.in_ok-fields.ensures) c.issue_step.ensures.report
 
 pub returns-clause-leaves : goal.returns-clause-leaves
-returns-clause-leaves c = IfOk-weaker c.issue_step.result _ _ (λ issued m gate client h. one-more gate client h c.args.self.now c.args.at (call_of_body c.args.body.now) issued.turn c.issue_step.new.self m) (meets c)
+returns-clause-leaves c = IfOk-weaker c.issue_step.result _ _ (λ issued m gate client h. one-more gate client h c.args.self.now.session c.args.at (call_of_body c.args.body.now) issued.turn c.issue_step.new.self.session m) (meets c)
 
 pub returns-clause-headline : goal.returns-clause-headline
-returns-clause-headline c = IfOk-weaker c.issue_step.result _ _ (λ issued m gate client h. one-more-headline gate client h c.args.self.now c.args.at (call_of_body c.args.body.now) issued.turn c.issue_step.new.self m) (meets c)
+returns-clause-headline c = IfOk-weaker c.issue_step.result _ _ (λ issued m gate client h. one-more-headline gate client h c.args.self.now.session c.args.at (call_of_body c.args.body.now) issued.turn c.issue_step.new.self.session m) (meets c)

@@ -3,4 +3,4 @@ use Rattle.session_law.proofs.Expects.{Leaves-expected}
 use Rattle.fix_session.proofs.session.Session.next_in.Goals as goal
 
 pub returns-clause-number : goal.returns-clause-number
-returns-clause-number c = λ gate client h leaves. c.expected.ensures.number ∙ Leaves-expected gate client h c.args.self.now leaves
+returns-clause-number c = λ gate client h leaves. c.expected.ensures.number ∙ Leaves-expected gate client h c.args.self.now.session leaves

@@ -6,7 +6,7 @@ use Rattle.fix_session.proofs.session.Session.on_first.Goals as goal
 
 pub take-requires : goal.take-requires
 take-requires c =
-    let s = c.args.self.now in
+    let s = c.args.self.now.session in
     let begun = heard (at_moment c.args.at s) in
     let little = (logon-little s c.args.at c.args.m.now).expected in
     let same = ap (λ (g : Given). g.state.expected) c.in_ok-draft.ensures ∙ ap (λ (a : Answer). (answered c.args.at begun a).state.expected) (sym c.judge_logon-row.ensures) in

@@ -8,7 +8,7 @@ use Rattle.fix_session.proofs.session.Session.on_next.Goals as goal
 
 pub take-requires : goal.take-requires
 take-requires c =
-    let s = c.args.self.now in
+    let s = c.args.self.now.session in
     let m = c.args.m.now in
     let begun = heard (at_moment c.args.at s) in
     let row = row_answer s m (message_number m) s.expected c.judge-row.result in
