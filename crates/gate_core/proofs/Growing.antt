@@ -2,7 +2,7 @@
 use Rattle.std.proofs.Common.{◌≡◌, ◌+◌, ◌≤◌, ℕ, length, refl, sym, ◌∙◌, subst, arith}
 use Rattle.gate_sessions.specs.Lines.{NextWithin}
 use Rattle.gate_core.specs.declared.parts.Parts.{Parts}
-use Rattle.gate_core.specs.Steps.{Grows, PortsStaySettled}
+use Rattle.gate_core.specs.Steps.{ClientsStaySettled, Grows, PortsStaySettled}
 
 pub ports-grow : (old new : Parts) → length new.ports.items ≡ length old.ports.items → ((n : ℕ) → NextWithin n old.ports.items → NextWithin n new.ports.items)
     → PortsStaySettled old new
@@ -14,7 +14,9 @@ ports-grow old new count next settled same_clients same_client_ports same_orders
   served = rw same_orders refl;
   issued = rw same_orders (omega arith);
   next = λ n within. (let same : n + 0 ≡ n = omega arith in subst (λ (k : ℕ). NextWithin k new.ports.items) (sym same) (next n within));
+  clients_settled = rw same_clients (λ was kept. kept);
   ports_settled = settled;
+  orders_settled = rw same_orders refl;
 }
 
 -- one step and then another
@@ -26,22 +28,26 @@ grows-then a b c d x y z first second = record {
   served = second.served ∙ first.served;
   issued = omega (arith, first.issued, second.issued);
   next = λ n within. (let same : (n + b) + d ≡ n + (b + d) = omega arith in subst (λ (k : ℕ). NextWithin k z.ports.items) same (second.next (n + b) (first.next n within)));
+  clients_settled = λ was kept. second.clients_settled was (first.clients_settled was kept);
   ports_settled = λ was kept. second.ports_settled was (first.ports_settled was kept);
+  orders_settled = second.orders_settled ∙ first.orders_settled;
 }
 
 -- lines of both sides that keep the next numbers
 pub lines-grow : (old new : Parts) → length new.clients.items ≡ length old.clients.items → length new.ports.items ≡ length old.ports.items
     → ((n : ℕ) → NextWithin n old.ports.items → NextWithin n new.ports.items)
-    → PortsStaySettled old new
+    → ClientsStaySettled old new → PortsStaySettled old new
     → new.client_ports ≡ old.client_ports → new.orders ≡ old.orders → Grows 0 0 old new
-lines-grow old new clients ports next settled same_client_ports same_orders = record {
+lines-grow old new clients ports next clients_settled ports_settled same_client_ports same_orders = record {
   clients = clients;
   ports = ports;
   client_ports = rw same_client_ports refl;
   served = rw same_orders refl;
   issued = rw same_orders (omega arith);
   next = λ n within. (let same : n + 0 ≡ n = omega arith in subst (λ (k : ℕ). NextWithin k new.ports.items) (sym same) (next n within));
-  ports_settled = settled;
+  clients_settled = clients_settled;
+  ports_settled = ports_settled;
+  orders_settled = rw same_orders refl;
 }
 
 -- what gives few numbers gives no more than many
@@ -53,7 +59,9 @@ grows-within few many packets old new most grows = record {
   served = grows.served;
   issued = omega (arith, grows.issued, most);
   next = grows.next;
+  clients_settled = grows.clients_settled;
   ports_settled = grows.ports_settled;
+  orders_settled = grows.orders_settled;
 }
 
 -- no event gives more numbers than three, or brings more than one packet
@@ -65,5 +73,7 @@ grows-most numbers packets old new few one grows = record {
   served = grows.served;
   issued = omega (arith, grows.issued, few);
   next = λ n within i line at. omega (arith, grows.next n within i line at, one);
+  clients_settled = grows.clients_settled;
   ports_settled = grows.ports_settled;
+  orders_settled = grows.orders_settled;
 }

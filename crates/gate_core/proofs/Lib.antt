@@ -17,4 +17,5 @@ mod Stepping
 mod Settled
 pub mod Histories
 mod Naming
-mod OrdersSettled
+mod Fields
+mod Standing

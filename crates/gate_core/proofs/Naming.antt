@@ -18,7 +18,7 @@ use Rattle.gate_law.specs.After.{lists_after, is_within_day, lists, most_events,
 use Rattle.gate_law.specs.Due.{Gives, client_named, port_named, reports_of, to_client_of, to_port_of}
 use Rattle.gate_law.specs.Promises.{IsAmong, Targets, by_token, client_target, port_target}
 use Rattle.gate_law.specs.Holds.{Holds, OfTurn}
-use Rattle.gate_core.specs.Core.{CoreState, IsAfter}
+use Rattle.gate_core.proofs.Fields.{CoreFields, FieldsAfter}
 use Rattle.gate_core.specs.State.{ArePartsOf}
 use Rattle.gate_core.specs.Targets.{client_for, payloads_client, port_for}
 use Rattle.gate_core.proofs.ClientEvents.{no-client-lines, no-port-lines, not-stepped-outcome}
@@ -140,6 +140,5 @@ turns-few few s (t ∷ before) = by_limit (is_within_day before) refl (turns-few
         omega (arith, at_most, count)
     by_limit false e rest = subst (λ (w : Bool). length (if w then lists_after s t.event t.batch (lists s before) else lists s before).turns ≤ most_events) (sym e) rest
 
-pub parts-of : (s : Settings) (h : History) (c : CoreState) → IsAfter s h c → ArePartsOf s (lists s h) c.parts
-unfolding IsAfter
+pub parts-of : (s : Settings) (h : History) (c : CoreFields) → FieldsAfter s h c → ArePartsOf s (lists s h) c.parts
 parts-of s h c is = is.parts

@@ -101,5 +101,7 @@ packets-grow packets old new count next settled same_clients same_client_ports s
   served = rw same_orders refl;
   issued = rw same_orders (omega arith);
   next = next;
+  clients_settled = rw same_clients (λ was kept. kept);
   ports_settled = settled;
+  orders_settled = rw same_orders refl;
 }

@@ -13,7 +13,8 @@ use Rattle.gate_law.specs.Due.{Gives}
 use Rattle.gate_law.specs.Promises.{Asks}
 use Rattle.gate_law.specs.Holds.{Holds, IsRun}
 use Rattle.gate_core.specs.declared.parts.Parts.{Parts}
-use Rattle.gate_core.specs.Core.{CoreState, IsAfter, stepped}
+use Rattle.gate_core.specs.Core.{stepped}
+use Rattle.gate_core.proofs.Fields.{CoreFields, FieldsAfter}
 use Rattle.gate_core.specs.State.{AreAmong, HasNumbers, IsShaped, ArePartsOf}
 use Rattle.gate_core.specs.Steps.{Grows, Ready, Stepped}
 
@@ -88,9 +89,8 @@ more-count h t events e is = by_test (is_within_day (t ∷ h)) refl
 abbrev pub PastKeeps : Type 0
 PastKeeps = (s : Settings) (h : History) (e : Event) → is_within_day h ≡ false → Holds s h → Holds s (record { event = e; batch = empty } ∷ h)
 
-pub past-step : (s : Settings) (h : History) (c : CoreState) (e : Event) (b : Batch) → PastKeeps → c.events ≡ most_events → b ≡ empty → IsAfter s h c
-    → (let t : Turn = record { event = e; batch = b } in IsAfter s (t ∷ h) c × Holds s (t ∷ h))
-unfolding IsAfter
+pub past-step : (s : Settings) (h : History) (c : CoreFields) (e : Event) (b : Batch) → PastKeeps → c.events ≡ most_events → b ≡ empty → FieldsAfter s h c
+    → (let t : Turn = record { event = e; batch = b } in FieldsAfter s (t ∷ h) c × Holds s (t ∷ h))
 past-step s h c e b keeps limit none is =
     let t : Turn = record { event = e; batch = b } in
     let past = at-limit h (sym limit ∙ is.count) in
@@ -115,10 +115,9 @@ AreLinked = (s : Settings) (h : History) → IsRun s h → (p : ℕ) → is_open
 abbrev pub AreFewTurns : Type 0
 AreFewTurns = (s : Settings) (h : History) → length (order_turns s h) ≤ length h
 
-pub next-step : (s : Settings) (h : History) (c new : CoreState) (e : Event) (b : Batch) → StepKeeps → AreLinked → AreFewTurns → (c.events ≡ most_events → ⊥) → IsAfter s h c
+pub next-step : (s : Settings) (h : History) (c new : CoreFields) (e : Event) (b : Batch) → StepKeeps → AreLinked → AreFewTurns → (c.events ≡ most_events → ⊥) → FieldsAfter s h c
     → ((v : Lists) → Ready s v c.parts → Stepped s e b v new.parts) → new.events ≡ c.events + 1
-    → (let t : Turn = record { event = e; batch = b } in IsAfter s (t ∷ h) new × Holds s (t ∷ h))
-unfolding IsAfter
+    → (let t : Turn = record { event = e; batch = b } in FieldsAfter s (t ∷ h) new × Holds s (t ∷ h))
 next-step s h c new e b keeps linked few other is steps one_more =
     let t : Turn = record { event = e; batch = b } in
     let within = below-limit h c.events is.count other in
@@ -138,10 +137,8 @@ next-step s h c new e b keeps linked few other is steps one_more =
 
 -- ---- the first state, and what is known of every one
 
-pub first-state : (s : Settings) (c : CoreState) → ((t : Settings) → Headline (terms t) [] → Holds t []) → ArePartsOf s (lists s []) c.parts → c.events ≡ 0 → IsAfter s [] c
-unfolding IsAfter
+pub first-state : (s : Settings) (c : CoreFields) → ((t : Settings) → Headline (terms t) [] → Holds t []) → ArePartsOf s (lists s []) c.parts → c.events ≡ 0 → FieldsAfter s [] c
 first-state s c first parts none = record { holds = first s tt; parts = parts; count = none }
 
-pub holds-of : (s : Settings) (h : History) (c : CoreState) → IsAfter s h c → Holds s h
-unfolding IsAfter
+pub holds-of : (s : Settings) (h : History) (c : CoreFields) → FieldsAfter s h c → Holds s h
 holds-of s h c is = is.holds

@@ -31,7 +31,7 @@ use Rattle.gate_law.specs.Due.{Gives}
 use Rattle.gate_law.specs.Promises.{Asks}
 use Rattle.gate_sessions.specs.declared.client_bodies.Issues.{Issues}
 use Rattle.gate_sessions.specs.Lines.{NextWithin}
-use Rattle.gate_sessions.specs.Lines.{PortStands, PortsSettledAs}
+use Rattle.gate_sessions.specs.Lines.{ClientStands, ClientsSettledAs, PortStands, PortsSettledAs}
 use Rattle.gate_core.specs.declared.parts.Parts.{Parts}
 use Rattle.gate_core.specs.declared.parts.client_messages.Asked.{Asked}
 use Rattle.gate_core.specs.declared.parts.port_payloads.Judged.{Judged}
@@ -53,11 +53,15 @@ pub record Stepped (s : Settings) (e : Event) (b : Batch) (v : Lists) (g : Parts
   pub orders : Headline (terms s) v.turns → Headline (terms s) (lists_after s e b v).turns
   pub parts : ArePartsOf s (lists_after s e b v) g
 
--- a port's line is put back to what it was before
+-- each line is put back to what it was put back to before
+abbrev pub ClientsStaySettled : Parts → Parts → Type 0
+ClientsStaySettled old new = (was : ℕ → ClientStands) → ClientsSettledAs was old.clients.items → ClientsSettledAs was new.clients.items
+
 abbrev pub PortsStaySettled : Parts → Parts → Type 0
 PortsStaySettled old new = (was : ℕ → PortStands) → PortsSettledAs was old.ports.items → PortsSettledAs was new.ports.items
 
--- A step gives at most so many numbers, and a port wants one packet more at most: whatever its result is.
+-- A step gives at most so many numbers, and a port wants one packet more at most; what the parts are put back to stays.
+-- All of it whatever the result is.
 pub record Grows (numbers packets : ℕ) (old new : Parts) : Type 0 where
   pub clients : length new.clients.items ≡ length old.clients.items
   pub ports : length new.ports.items ≡ length old.ports.items
@@ -65,7 +69,9 @@ pub record Grows (numbers packets : ℕ) (old new : Parts) : Type 0 where
   pub served : core.core_clients new.orders ≡ core.core_clients old.orders
   pub issued : core.core_numbers new.orders ≤ core.core_numbers old.orders + numbers
   pub next : (n : ℕ) → NextWithin n old.ports.items → NextWithin (n + packets) new.ports.items
+  pub clients_settled : ClientsStaySettled old new
   pub ports_settled : PortsStaySettled old new
+  pub orders_settled : new.orders.settled ≡ old.orders.settled
 
 -- ---- a message that a client's session delivered
 

@@ -9,6 +9,7 @@ mod new;
 mod port_links;
 mod port_packets;
 mod port_payloads;
+mod settling;
 
 ghost use Rattle.std.specs.Prelude.{◌≡◌, ◌<◌, ◌+◌, ◌&&◌, nat_le, is_some, IfSome};
 

@@ -1,6 +1,6 @@
 //! The value, and the call that steps it.
 
-ghost use Rattle.std.specs.Prelude.{[], ◌∷◌, ◌≡◌, IfOk};
+ghost use Rattle.std.specs.Prelude.{[], ◌∷◌, ◌≡◌, IfOk, OnErr};
 
 use crate::parts::Parts;
 use crate::targets::Targets;
@@ -15,21 +15,29 @@ const MOST_EVENTS: u64 = 1 << 48;
 /// Sessions of clients, orders and sessions of ports, stepped by events on one thread.
 ///
 /// It reads no clock and no link: moments come with the events, and what links are told stands in their batches.
+/// Contracts see how it stands, and how it stood before the last step.
 #[derive(Debug, Drop)]
 pub struct Core {
     parts: Parts,
     /// How many events were stepped.
     events: u64,
+    /// How many were before the last step.
+    settled_events: u64,
 }
 
 impl Model for Core {
     ghost use Rattle.gate_core.specs.Core.{CoreState, IsSound};
+    ghost use Rattle.gate_core.specs.State.{parts_now, parts_settled};
 
     ghost Value = { CoreState };
 
-    ghost view = { λ c. record { parts = c.parts; events = c.events } };
+    ghost view = { λ c. record {
+      now = record { parts = parts_now c.parts; events = c.events };
+      settled = record { parts = parts_settled c.parts; events = c.settled_events };
+    } };
 
-    ghost invariant = { λ c. IsSound (record { parts = c.parts; events = c.events }) };
+    ghost invariant = { λ c. IsSound (record { parts = parts_now c.parts; events = c.events })
+        × IsSound (record { parts = parts_settled c.parts; events = c.settled_events }) };
 }
 
 impl Core {
@@ -47,18 +55,22 @@ impl Core {
     /// The core of these settings before the first event.
     pub fn new(alloc: Global, settings: &Settings) -> Result<Core, AllocError>
         ensures after { IfOk result (λ core. IsAfter settings.now [] core) }
+        ensures settled { IfOk result (λ core. core.settled ≡ core.now) }
     {
+        let mut parts = Parts::new(alloc, settings)?;
+        parts.settle();
         Ok(Core {
-            parts: Parts::new(alloc, settings)?,
+            parts,
             events: 0,
+            settled_events: 0,
         })
     }
 
     /// Steps an event, and gives its batch.
     ///
     /// An event of a client or port that the settings don't have, or of a link that isn't the current one, gives an
-    /// empty batch and changes nothing; so does any event past the first 2^48. After an `AllocError` the core isn't
-    /// to be used again: a part of what the event brings may have been done.
+    /// empty batch and changes nothing; so does any event past the first 2^48. `AllocError` leaves the core as it was:
+    /// the event may be stepped again, or another one.
     ///
     /// Source: FIX 4.4 Volumes 2 and 4; OUCH 4.2; SoupBinTCP 3.00.
     pub fn step(&mut self, alloc: Global, event: &Event) -> Result<Batch, AllocError>
@@ -66,11 +78,52 @@ impl Core {
             → IsAfter s (turn_of event.now batch ∷ before) self.new) }
         ensures holds { IfOk result (λ batch. (s : law.Settings) (before : History) → IsAfter s before self.old
             → Holds s (turn_of event.now batch ∷ before)) }
+        ensures err { OnErr result (self.new.now ≡ self.old.now) }
+        ensures settled { self.new.settled ≡ self.old.now }
+    {
+        self.settle();
+        match self.advance(alloc, event) {
+            Ok(batch) => Ok(batch),
+            Err(error) => {
+                self.undo();
+                Err(error)
+            }
+        }
+    }
+
+    /// Puts the core back to how it stood before the last step, be it that the step was made or refused: every session
+    /// with its link, every order, number and message that is outstanding. A second call changes nothing. Takes no
+    /// memory.
+    ///
+    /// So who can't keep a step's batch for want of memory makes the step again later.
+    pub fn undo(&mut self)
+        ensures now { self.new.now ≡ self.old.settled }
+        ensures settled { self.new.settled ≡ self.old.settled }
+    {
+        self.parts.undo();
+        self.events = self.settled_events;
+    }
+
+    /// From now on the core can be put back to how it stands now.
+    fn settle(&mut self)
+        ensures now { self.new.now ≡ self.old.now }
+        ensures settled { self.new.settled ≡ self.old.now }
+    {
+        self.parts.settle();
+        self.settled_events = self.events;
+    }
+
+    /// Steps an event. Where memory runs out a part of what the event brings may have been done.
+    fn advance(&mut self, alloc: Global, event: &Event) -> Result<Batch, AllocError>
+        ensures after { IfOk result (λ batch. (s : law.Settings) (before : History) → IsAfter s before self.old
+            → IsAfter s (turn_of event.now batch ∷ before) self.new) }
+        ensures holds { IfOk result (λ batch. (s : law.Settings) (before : History) → IsAfter s before self.old
+            → Holds s (turn_of event.now batch ∷ before)) }
+        ensures settled { self.new.settled ≡ self.old.settled }
     {
         if self.events == MOST_EVENTS {
             return Ok(Batch::empty(alloc));
         }
-        self.parts.orders.settle();
         self.events += 1;
         self.parts.event(alloc, event)
     }

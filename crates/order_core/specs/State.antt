@@ -18,6 +18,13 @@ pub record OrderCoreState : Type 0 where
   pub kept : List KeptMessage
   pub settled : CoreParts
 
+-- the parts as they are now, and a core that is put back to how it is
+abbrev pub core_now : OrderCoreState → CoreParts
+core_now c = record { table = c.table; kept = c.kept }
+
+abbrev pub core_of : CoreParts → OrderCoreState
+core_of parts = record { table = parts.table; kept = parts.kept; settled = parts }
+
 -- from now on put back to how it is now
 abbrev pub core_settled : OrderCoreState → OrderCoreState
 core_settled c = record c { settled = record { table = c.table; kept = c.kept } }

@@ -2,7 +2,7 @@ use Rattle.std.proofs.Common.{length, take, sym, subst, ap, arith, take_all, len
 use Rattle.gate_law.specs.Events.{History}
 use Rattle.gate_core.specs.Core.{IsAfter, history}
 use Rattle.gate_core.proofs.Histories.{history-more}
-use Rattle.gate_core.proofs.Stepping.{holds-of}
+use Rattle.gate_core.proofs.Fields.{after-now}
 use Rattle.gate_core.proofs.runs.run_all.Goals as goal
 
 pub loop-event-init : goal.loop-event-init
@@ -24,4 +24,4 @@ loop-event-preserved c = record {
 pub returns-clause-holds : goal.returns-clause-holds
 returns-clause-holds c =
     let after = rw (take_all c.loop-event.event-index c.args.events.now (omega arith)) at c.loop-event.invariant.after in
-    holds-of c.args.settings.now (history c.args.events.now c.loop-event.batches.items) c.loop-event.core after
+    (after-now c.args.settings.now (history c.args.events.now c.loop-event.batches.items) c.loop-event.core after).holds

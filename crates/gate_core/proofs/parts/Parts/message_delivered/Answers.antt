@@ -19,11 +19,11 @@ use Rattle.gate_core.proofs.parts.Parts.message_delivered.Goals as goal
 
 pub returns-in_err-port_out-clause-grows : goal.returns-in_err-port_out-clause-grows
 returns-in_err-port_out-clause-grows c =
-    grows-then 3 0 0 0 _ _ _ c.ask.ensures.grows (lines-grow c.ask.new.self _ c.told_client.ensures.length c.told_port.ensures.length c.told_port.ensures.next c.told_port.ensures.settled refl refl)
+    grows-then 3 0 0 0 _ _ _ c.ask.ensures.grows (lines-grow c.ask.new.self _ c.told_client.ensures.length c.told_port.ensures.length c.told_port.ensures.next c.told_client.ensures.settled c.told_port.ensures.settled refl refl)
 
 pub returns-clause-grows : goal.returns-clause-grows
 returns-clause-grows c =
-    grows-then 3 0 0 0 _ _ _ c.ask.ensures.grows (lines-grow c.ask.new.self _ c.told_client.ensures.length c.told_port.ensures.length c.told_port.ensures.next c.told_port.ensures.settled refl refl)
+    grows-then 3 0 0 0 _ _ _ c.ask.ensures.grows (lines-grow c.ask.new.self _ c.told_client.ensures.length c.told_port.ensures.length c.told_port.ensures.next c.told_client.ensures.settled c.told_port.ensures.settled refl refl)
 
 pub returns-clause-step : goal.returns-clause-step
 returns-clause-step c s v link frame heard =

@@ -1,0 +1,47 @@
+-- The core by its fields, for the proofs: its parts themselves, and how many events were stepped.
+use Rattle.std.proofs.Common.{◌≡◌, ℕ, subst, sym}
+use Rattle.gate_law.specs.Settings.{Settings}
+use Rattle.gate_law.specs.Events.{History}
+use Rattle.gate_law.specs.After.{lists}
+use Rattle.gate_law.specs.Holds.{Holds}
+use Rattle.gate_core.specs.declared.parts.Parts.{Parts}
+use Rattle.gate_core.specs.Core.{After, CoreStands, CoreState, IsAfter, stepped}
+use Rattle.gate_core.specs.State.{ArePartsOf, parts_now}
+use Rattle.gate_core.proofs.Standing.{parts-stand, stand-parts}
+
+pub record CoreFields : Type 0 where
+  pub parts : Parts
+  pub events : ℕ
+
+-- the fields are what these turns leave
+pub record FieldsAfter (s : Settings) (h : History) (c : CoreFields) : Type 0 where
+  pub holds : Holds s h
+  pub parts : ArePartsOf s (lists s h) c.parts
+  pub count : c.events ≡ stepped h
+
+-- how they stand
+abbrev pub stands : CoreFields → CoreStands
+stands c = record { parts = parts_now c.parts; events = c.events }
+
+pub fields-stand : (s : Settings) (h : History) (c : CoreFields) → FieldsAfter s h c → After s h (stands c)
+fields-stand s h c after = record { holds = after.holds; parts = parts-stand s (lists s h) c.parts after.parts; count = after.count }
+
+pub stand-fields : (s : Settings) (h : History) (c : CoreFields) → After s h (stands c) → FieldsAfter s h c
+stand-fields s h c after = record { holds = after.holds; parts = stand-parts s (lists s h) c.parts after.parts; count = after.count }
+
+-- which turns a core is after is seen of how it stands now
+pub after-now : (s : Settings) (h : History) (c : CoreState) → IsAfter s h c → After s h c.now
+unfolding IsAfter
+after-now s h c after = after
+
+pub now-after : (s : Settings) (h : History) (c : CoreState) → After s h c.now → IsAfter s h c
+unfolding IsAfter
+now-after s h c after = after
+
+-- so it is the same of another that stands as it does
+pub after-same : (s : Settings) (h : History) (c d : CoreState) → d.now ≡ c.now → IsAfter s h c → IsAfter s h d
+after-same s h c d same after = now-after s h d (subst (After s h) (sym same) (after-now s h c after))
+
+-- the fields of a core that is seen so
+pub fields-of : (s : Settings) (h : History) (f : CoreFields) (settled : CoreStands) (c : CoreState) → record { now = stands f; settled = settled } ≡ c → IsAfter s h c → FieldsAfter s h f
+fields-of s h f settled c seen after = stand-fields s h f (after-now s h (record { now = stands f; settled = settled }) (subst (IsAfter s h) (sym seen) after))
