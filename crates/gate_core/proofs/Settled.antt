@@ -68,11 +68,11 @@ among-more count ports new p client is_on is more among =
 
 -- lines are still those of sessions that had no call
 pub clients-more : (s : Settings) (lines new : List ClientLine) (line : ClientLine) (client : ClientSettings) → slice_get s.clients (length lines) ≡ Some client
-    → ((c : ℕ) → client_name s c ≡ client.comp → ClientLeaves s c [] line.session) → new ≡ lines ++ line ∷ []
+    → ((c : ℕ) → client_name s c ≡ client.comp → ClientLeaves s c [] line.session.session) → new ≡ lines ++ line ∷ []
     → ClientsLeave s (λ c. []) lines → ClientsLeave s (λ c. []) new
 clients-more s lines new line client at leaves more leave =
     subst (ClientsLeave s (λ c. [])) (sym more)
-    (each-and-one (λ i l. ClientLeaves s (i + 1) [] l.session) lines line leave (leaves (length lines + 1) (name-at s (length lines) client at)))
+    (each-and-one (λ i l. ClientLeaves s (i + 1) [] l.session.session) lines line leave (leaves (length lines + 1) (name-at s (length lines) client at)))
 
 -- and still have no link
 pub client-links-more : (lines new : List ClientLine) (line : ClientLine) → line.link ≡ None → new ≡ lines ++ line ∷ [] → ClientLinks (λ c. None) lines → ClientLinks (λ c. None) new

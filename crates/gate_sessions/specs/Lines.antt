@@ -3,6 +3,7 @@ use Rattle.std.specs.Prelude.{◌≡◌, ℕ, ◌+◌, ◌≤◌, ◌==◌, List
 use Rattle.soup_session.specs.Table as port
 use Rattle.soup_session.specs.declared.machine.Port.{Port}
 use Rattle.soup_session.specs.Calls.{IsUp, next_of}
+use Rattle.session_law.specs.Session.{State}
 use Rattle.session_law.specs.Runs.{Timed}
 use Rattle.gate_law.specs.Settings.{Settings}
 use Rattle.gate_sessions.specs.declared.client_line.ClientLine.{ClientLine}
@@ -12,7 +13,7 @@ use Rattle.gate_sessions.specs.Leaving.{ClientLeaves, PortLeaves}
 -- each client's session is what its calls leave
 abbrev pub ClientsLeave : Settings → (ℕ → List Timed) → List ClientLine → Type 0
 ClientsLeave s calls lines = (i : ℕ) (line : ClientLine) → slice_get lines i ≡ Some line
-    → ClientLeaves s (i + 1) (calls (i + 1)) line.session
+    → ClientLeaves s (i + 1) (calls (i + 1)) line.session.session
 
 abbrev pub ClientLinks : (ℕ → Option ℕ) → List ClientLine → Type 0
 ClientLinks links lines = (i : ℕ) (line : ClientLine) → slice_get lines i ≡ Some line → line.link ≡ links (i + 1)
@@ -46,7 +47,24 @@ NextWithin n lines = (i : ℕ) (line : PortLine) → slice_get lines i ≡ Some 
 abbrev pub IsUpAt : ℕ → List PortLine → Type 0
 IsUpAt place lines = (line : PortLine) → slice_get lines place ≡ Some line → IsUp line.session.port
 
--- how a port's line stands: its link, and what its session keeps
+-- how a client's line stands: its link, and what its session keeps
+pub record ClientStands : Type 0 where
+  pub link : Option ℕ
+  pub session : State
+
+abbrev pub client_now : ClientLine → ClientStands
+client_now line = record { link = line.link; session = line.session.session }
+
+-- how it stood when it was settled last
+abbrev pub client_settled : ClientLine → ClientStands
+client_settled line = record { link = line.settled_link; session = line.session.settled }
+
+-- each client's line was settled so
+abbrev pub ClientsSettledAs : (ℕ → ClientStands) → List ClientLine → Type 0
+ClientsSettledAs was lines = (i : ℕ) (line : ClientLine) → slice_get lines i ≡ Some line
+    → client_settled line ≡ was (i + 1)
+
+-- and a port's
 pub record PortStands : Type 0 where
   pub link : Option ℕ
   pub port : Port

@@ -10,6 +10,7 @@ ghost use Rattle.gate_law.specs.Settings.{Settings, client_name};
 ghost use Rattle.gate_law.specs.Sessions.{client_answer, client_outs, client_reports, issues, report_issued};
 ghost use Rattle.gate_sessions.specs.Leaving.{issue_call};
 ghost use Rattle.gate_sessions.specs.Lines.{ClientsLeave, ClientLinks, called, called_all};
+ghost use Rattle.gate_sessions.specs.Lines.{ClientStands, ClientsSettledAs};
 
 use crate::client_line::ClientLine;
 use crate::client_lines::client_issue;
@@ -49,6 +50,8 @@ pub fn client_issue_all(
     ensures bodies { IfOk result (λ all. (s : Settings) (calls : ℕ → List Timed) → ClientsLeave s calls lines.old.items
         → map body_of all.reports.items ≡ map body_fields bodies.now) }
     ensures links { (links : ℕ → Option ℕ) → ClientLinks links lines.old.items → ClientLinks links lines.new.items }
+    ensures settled { (was : ℕ → ClientStands) → ClientsSettledAs was lines.old.items
+        → ClientsSettledAs was lines.new.items }
     ensures length { length lines.new.items ≡ length lines.old.items }
 {
     let mut all = Issues {
@@ -81,6 +84,8 @@ fn issue_one(
         → all.new.reports.items ≡ all.old.reports.items
         ++ report_issued s (place + 1) (calls (place + 1)) (issue_call at body.now)) }
     ensures links { (links : ℕ → Option ℕ) → ClientLinks links lines.old.items → ClientLinks links lines.new.items }
+    ensures settled { (was : ℕ → ClientStands) → ClientsSettledAs was lines.old.items
+        → ClientsSettledAs was lines.new.items }
     ensures length { length lines.new.items ≡ length lines.old.items }
 {
     let IssuedTurn { turn, report } = client_issue(lines, alloc, place, body, at)?;

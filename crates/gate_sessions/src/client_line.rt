@@ -5,6 +5,7 @@ ghost use Rattle.session_law.specs.Runs.{Timed, OnLink, OnMessage, OnTick};
 ghost use Rattle.gate_law.specs.Settings.{Settings, client_name};
 ghost use Rattle.gate_law.specs.Sessions.{client_answer, report_issued};
 ghost use Rattle.gate_sessions.specs.Leaving.{ClientLeaves, IsClientAnswer, expected_in, issue_call};
+ghost use Rattle.gate_sessions.specs.Lines.{client_now, client_settled};
 
 use fix_fields::{Fields, Text};
 use fix_session::{IssuedTurn, Session, SessionTurn};
@@ -16,26 +17,49 @@ use std::alloc::{AllocError, Global};
 pub struct ClientLine {
     pub link: Option<u64>,
     pub session: Session,
+    /// The link when the line was settled last.
+    pub settled_link: Option<u64>,
 }
 
 impl ClientLine {
     /// A line with no link, of a session that has had no call.
     pub fn new(alloc: Global, gate: Text, client: Text) -> ClientLine
         ensures leaves { (s : Settings) (c : ℕ) → s.comp ≡ gate → client_name s c ≡ client
-            → ClientLeaves s c [] result.session }
+            → ClientLeaves s c [] result.session.session }
         ensures link { result.link ≡ None }
+        ensures settled { client_settled result ≡ client_now result }
     {
         ClientLine {
             link: None,
             session: Session::new(alloc, gate, client),
+            settled_link: None,
         }
+    }
+
+    /// It can be put back to how it is now.
+    pub fn settle(&mut self)
+        ensures now { client_now self.new ≡ client_now self.old }
+        ensures settled { client_settled self.new ≡ client_now self.old }
+    {
+        self.settled_link = self.link;
+        self.session.settle();
+    }
+
+    /// It is as it was when it was settled last.
+    pub fn undo(&mut self)
+        ensures now { client_now self.new ≡ client_settled self.old }
+        ensures settled { client_settled self.new ≡ client_settled self.old }
+    {
+        self.link = self.settled_link;
+        self.session.undo();
     }
 
     /// A link is current from now on.
     pub fn up(&mut self, alloc: Global, link: u64, at: u64)
-        ensures leaves { (s : Settings) (c : ℕ) (calls : List Timed) → ClientLeaves s c calls self.old.session
-            → ClientLeaves s c ((at, OnLink true) ∷ calls) self.new.session }
+        ensures leaves { (s : Settings) (c : ℕ) (calls : List Timed) → ClientLeaves s c calls self.old.session.session
+            → ClientLeaves s c ((at, OnLink true) ∷ calls) self.new.session.session }
         ensures link { self.new.link ≡ Some link }
+        ensures settled { client_settled self.new ≡ client_settled self.old }
     {
         self.link = Some(link);
         let _turn = self.session.on_link(alloc, true, at);
@@ -43,9 +67,10 @@ impl ClientLine {
 
     /// The current link is gone.
     pub fn gone(&mut self, alloc: Global, at: u64)
-        ensures leaves { (s : Settings) (c : ℕ) (calls : List Timed) → ClientLeaves s c calls self.old.session
-            → ClientLeaves s c ((at, OnLink false) ∷ calls) self.new.session }
+        ensures leaves { (s : Settings) (c : ℕ) (calls : List Timed) → ClientLeaves s c calls self.old.session.session
+            → ClientLeaves s c ((at, OnLink false) ∷ calls) self.new.session.session }
         ensures link { self.new.link ≡ None }
+        ensures settled { client_settled self.new ≡ client_settled self.old }
     {
         self.link = None;
         let _turn = self.session.on_link(alloc, false, at);
@@ -55,6 +80,7 @@ impl ClientLine {
     pub fn close(&mut self)
         ensures session { self.new.session ≡ self.old.session }
         ensures link { self.new.link ≡ None }
+        ensures settled { client_settled self.new ≡ client_settled self.old }
     {
         self.link = None;
     }
@@ -67,12 +93,13 @@ impl ClientLine {
         at: u64,
     ) -> Result<SessionTurn, AllocError>
         ensures leaves { OnOk result ((s : Settings) (c : ℕ) (calls : List Timed)
-            → ClientLeaves s c calls self.old.session
-            → ClientLeaves s c ((at, OnMessage frame.now) ∷ calls) self.new.session) }
+            → ClientLeaves s c calls self.old.session.session
+            → ClientLeaves s c ((at, OnMessage frame.now) ∷ calls) self.new.session.session) }
         ensures answers { IfOk result (λ turn. (s : Settings) (c : ℕ) (calls : List Timed)
-            → ClientLeaves s c calls self.old.session
+            → ClientLeaves s c calls self.old.session.session
             → IsClientAnswer s c (client_answer s c calls (at, OnMessage frame.now)) turn) }
         ensures link { self.new.link ≡ self.old.link }
+        ensures settled { client_settled self.new ≡ client_settled self.old }
         ensures err { OnErr result (self.new ≡ self.old) }
     {
         self.session.on_message(alloc, frame, at)
@@ -81,12 +108,13 @@ impl ClientLine {
     /// Time passes.
     pub fn tick(&mut self, alloc: Global, at: u64) -> Result<SessionTurn, AllocError>
         ensures leaves { OnOk result ((s : Settings) (c : ℕ) (calls : List Timed)
-            → ClientLeaves s c calls self.old.session
-            → ClientLeaves s c ((at, OnTick) ∷ calls) self.new.session) }
+            → ClientLeaves s c calls self.old.session.session
+            → ClientLeaves s c ((at, OnTick) ∷ calls) self.new.session.session) }
         ensures answers { IfOk result (λ turn. (s : Settings) (c : ℕ) (calls : List Timed)
-            → ClientLeaves s c calls self.old.session
+            → ClientLeaves s c calls self.old.session.session
             → IsClientAnswer s c (client_answer s c calls (at, OnTick)) turn) }
         ensures link { self.new.link ≡ self.old.link }
+        ensures settled { client_settled self.new ≡ client_settled self.old }
         ensures err { OnErr result (self.new ≡ self.old) }
     {
         self.session.on_tick(alloc, at)
@@ -100,15 +128,16 @@ impl ClientLine {
         at: u64,
     ) -> Result<IssuedTurn, AllocError>
         ensures leaves { OnOk result ((s : Settings) (c : ℕ) (calls : List Timed)
-            → ClientLeaves s c calls self.old.session
-            → ClientLeaves s c (issue_call at body.now ∷ calls) self.new.session) }
+            → ClientLeaves s c calls self.old.session.session
+            → ClientLeaves s c (issue_call at body.now ∷ calls) self.new.session.session) }
         ensures answers { IfOk result (λ issued. (s : Settings) (c : ℕ) (calls : List Timed)
-            → ClientLeaves s c calls self.old.session
+            → ClientLeaves s c calls self.old.session.session
             → IsClientAnswer s c (client_answer s c calls (issue_call at body.now)) issued.turn) }
         ensures report { IfOk result (λ issued. (s : Settings) (c : ℕ) (calls : List Timed)
-            → ClientLeaves s c calls self.old.session
+            → ClientLeaves s c calls self.old.session.session
             → report_issued s c calls (issue_call at body.now) ≡ issued.report ∷ []) }
         ensures link { self.new.link ≡ self.old.link }
+        ensures settled { client_settled self.new ≡ client_settled self.old }
         ensures err { OnErr result (self.new ≡ self.old) }
     {
         self.session.issue(alloc, body, at)
@@ -118,7 +147,7 @@ impl ClientLine {
     ///
     /// Source: FIX 4.4 Volume 2, "Message Recovery".
     pub fn next_in(&self) -> u64
-        ensures { (s : Settings) (c : ℕ) (calls : List Timed) → ClientLeaves s c calls self.now.session
+        ensures { (s : Settings) (c : ℕ) (calls : List Timed) → ClientLeaves s c calls self.now.session.session
             → result ≡ expected_in s c calls }
     {
         self.session.next_in()

@@ -1,12 +1,13 @@
 //! Calls on the client's line at a place.
 
 ghost use Rattle.std.specs.Prelude.{◌≡◌, ◌<◌, ◌+◌, ℕ, List, [], ◌∷◌, Option, Some, None, IfOk, OnOk, OnErr, length};
-ghost use Rattle.std.specs.Prelude.{slice_get, slice_set, true, false};
+ghost use Rattle.std.specs.Prelude.{map, slice_get, slice_set, true, false};
 ghost use Rattle.session_law.specs.Runs.{Timed, OnLink, OnMessage, OnTick};
 ghost use Rattle.gate_law.specs.Settings.{Settings};
 ghost use Rattle.gate_law.specs.Sessions.{client_answer, report_issued};
 ghost use Rattle.gate_sessions.specs.Leaving.{ClientLeaves, IsClientAnswer, issue_call};
 ghost use Rattle.gate_sessions.specs.Lines.{ClientsLeave, ClientLinks, called, link_set};
+ghost use Rattle.gate_sessions.specs.Lines.{ClientStands, ClientsSettledAs, client_now, client_settled};
 
 use crate::client_line::ClientLine;
 use fix_fields::Fields;
@@ -21,6 +22,8 @@ pub fn client_up(lines: &mut Vec<ClientLine>, alloc: Global, place: usize, link:
         → ClientsLeave s (called (place + 1) (at, OnLink true) calls) lines.new.items }
     ensures links { (links : ℕ → Option ℕ) → ClientLinks links lines.old.items
         → ClientLinks (link_set (place + 1) (Some link) links) lines.new.items }
+    ensures settled { (was : ℕ → ClientStands) → ClientsSettledAs was lines.old.items
+        → ClientsSettledAs was lines.new.items }
     ensures length { length lines.new.items ≡ length lines.old.items }
 {
     lines[place].up(alloc, link, at);
@@ -33,6 +36,8 @@ pub fn client_gone(lines: &mut Vec<ClientLine>, alloc: Global, place: usize, at:
         → ClientsLeave s (called (place + 1) (at, OnLink false) calls) lines.new.items }
     ensures links { (links : ℕ → Option ℕ) → ClientLinks links lines.old.items
         → ClientLinks (link_set (place + 1) None links) lines.new.items }
+    ensures settled { (was : ℕ → ClientStands) → ClientsSettledAs was lines.old.items
+        → ClientsSettledAs was lines.new.items }
     ensures length { length lines.new.items ≡ length lines.old.items }
 {
     lines[place].gone(alloc, at);
@@ -45,6 +50,8 @@ pub fn client_close(lines: &mut Vec<ClientLine>, place: usize)
         → ClientsLeave s calls lines.new.items }
     ensures links { (links : ℕ → Option ℕ) → ClientLinks links lines.old.items
         → ClientLinks (link_set (place + 1) None links) lines.new.items }
+    ensures settled { (was : ℕ → ClientStands) → ClientsSettledAs was lines.old.items
+        → ClientsSettledAs was lines.new.items }
     ensures length { length lines.new.items ≡ length lines.old.items }
 {
     lines[place].close();
@@ -66,6 +73,8 @@ pub fn client_frame(
         → IsClientAnswer s (place + 1) (client_answer s (place + 1) (calls (place + 1))
         (at, OnMessage frame.now)) turn) }
     ensures links { (links : ℕ → Option ℕ) → ClientLinks links lines.old.items → ClientLinks links lines.new.items }
+    ensures settled { (was : ℕ → ClientStands) → ClientsSettledAs was lines.old.items
+        → ClientsSettledAs was lines.new.items }
     ensures length { length lines.new.items ≡ length lines.old.items }
 {
     lines[place].frame(alloc, frame, at)
@@ -85,6 +94,8 @@ pub fn client_tick(
         → ClientsLeave s calls lines.old.items
         → IsClientAnswer s (place + 1) (client_answer s (place + 1) (calls (place + 1)) (at, OnTick)) turn) }
     ensures links { (links : ℕ → Option ℕ) → ClientLinks links lines.old.items → ClientLinks links lines.new.items }
+    ensures settled { (was : ℕ → ClientStands) → ClientsSettledAs was lines.old.items
+        → ClientsSettledAs was lines.new.items }
     ensures length { length lines.new.items ≡ length lines.old.items }
 {
     lines[place].tick(alloc, at)
@@ -109,7 +120,29 @@ pub fn client_issue(
         → ClientsLeave s calls lines.old.items
         → report_issued s (place + 1) (calls (place + 1)) (issue_call at body.now) ≡ issued.report ∷ []) }
     ensures links { (links : ℕ → Option ℕ) → ClientLinks links lines.old.items → ClientLinks links lines.new.items }
+    ensures settled { (was : ℕ → ClientStands) → ClientsSettledAs was lines.old.items
+        → ClientsSettledAs was lines.new.items }
     ensures length { length lines.new.items ≡ length lines.old.items }
 {
     lines[place].issue(alloc, body, at)
+}
+
+/// Each line can be put back to how it is now. Takes no memory.
+pub fn clients_settle(lines: &mut [ClientLine])
+    ensures now { map client_now lines.new ≡ map client_now lines.old }
+    ensures settled { map client_settled lines.new ≡ map client_now lines.old }
+{
+    for line in lines.iter_mut() {
+        line.settle();
+    }
+}
+
+/// Each line is as it was when it was settled last. Takes no memory.
+pub fn clients_undo(lines: &mut [ClientLine])
+    ensures now { map client_now lines.new ≡ map client_settled lines.old }
+    ensures settled { map client_settled lines.new ≡ map client_settled lines.old }
+{
+    for line in lines.iter_mut() {
+        line.undo();
+    }
 }

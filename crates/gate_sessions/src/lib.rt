@@ -15,7 +15,8 @@ mod port_messages;
 pub use client_bodies::{Issues, client_issue_all};
 pub use client_line::ClientLine;
 pub use client_lines::{
-    client_close, client_frame, client_gone, client_issue, client_tick, client_up,
+    client_close, client_frame, client_gone, client_issue, client_tick, client_up, clients_settle,
+    clients_undo,
 };
 pub use laws::issues_are_what_is_reported;
 pub use port_line::PortLine;

@@ -55,7 +55,7 @@ fn client_line(
 ) -> Result<ClientLine, AllocError>
     requires { IsNamed client.now }
     ensures leaves { IfOk result (λ line. (c : ℕ) → client_name settings.now c ≡ client.now.comp
-        → ClientLeaves settings.now c [] line.session) }
+        → ClientLeaves settings.now c [] line.session.session) }
     ensures link { IfOk result (λ line. line.link ≡ None) }
 {
     let gate = Text::copied(alloc, settings.comp())?;

@@ -32,11 +32,15 @@ loop-body-preserved c =
       reports = λ s calls k. reported-more s n calls before call c.loop-body.all.reports.items c.issue_one.new.all.reports.items (so_far.reports s calls k) (this.reports s (called_all n before calls) (so_far.leave s calls k))
           ∙ ap (λ (cs : List Timed). client_reports s n (calls n) cs) (sym more);
       links = λ links k. c.issue_one.ensures.links links (so_far.links links k);
+      settled = λ was k. c.issue_one.ensures.settled was (so_far.settled was k);
       length = c.issue_one.ensures.length ∙ so_far.length;
     }
 
 pub returns-in_err-issue_one-clause-links : goal.returns-in_err-issue_one-clause-links
 returns-in_err-issue_one-clause-links c = λ links k. c.issue_one.ensures.links links (c.loop-body.invariant.links links k)
+
+pub returns-in_err-issue_one-clause-settled : goal.returns-in_err-issue_one-clause-settled
+returns-in_err-issue_one-clause-settled c = λ was k. c.issue_one.ensures.settled was (c.loop-body.invariant.settled was k)
 
 pub returns-clause-bodies : goal.returns-clause-bodies
 returns-clause-bodies c =

@@ -5,7 +5,7 @@ use Rattle.session_law.specs.Frames.{told_of_out}
 use Rattle.session_writing.specs.Written.{told_bytes}
 use Rattle.gate_law.specs.Settings.{Settings, client_name}
 use Rattle.gate_law.specs.Sessions.{client_outs, client_reports, issues}
-use Rattle.gate_sessions.specs.Lines.{ClientsLeave, ClientLinks, called_all}
+use Rattle.gate_sessions.specs.Lines.{ClientStands, ClientsSettledAs, ClientsLeave, ClientLinks, called_all}
 use Rattle.gate_sessions.proofs.client_bodies.client_issue_all.Given as goal
 
 -- the clauses, of the bodies so far
@@ -18,5 +18,6 @@ invariant-loop-body l = record {
   reports : (s : Settings) (calls : ℕ → List Timed) → ClientsLeave s calls l.fn.lines.items
       → l.all.reports.items ≡ client_reports s (l.place + 1) (calls (l.place + 1)) (issues l.at (map body_fields (take l.body-index l.bodies)));
   links : (links : ℕ → Option ℕ) → ClientLinks links l.fn.lines.items → ClientLinks links l.lines.items;
+  settled : (was : ℕ → ClientStands) → ClientsSettledAs was l.fn.lines.items → ClientsSettledAs was l.lines.items;
   length : length l.lines.items ≡ length l.fn.lines.items;
 }
