@@ -7,7 +7,7 @@ ghost use Rattle.soup_session.specs.Table.{PortCall};
 ghost use Rattle.gate_law.specs.Settings.{Settings};
 ghost use Rattle.gate_law.specs.Sessions.{to_port};
 ghost use Rattle.gate_sessions.specs.Lines.{ClientsLeave, ClientLinks, PortsLeave, PortLinks, NextWithin};
-ghost use Rattle.gate_sessions.specs.Lines.{PortStands, PortsSettledAs};
+ghost use Rattle.gate_sessions.specs.Lines.{ClientStands, ClientsSettledAs, PortStands, PortsSettledAs};
 ghost use Rattle.gate_events.specs.Seen.{link_out_seen};
 ghost use Rattle.gate_events.specs.Links.{outs_told_on, unlinked};
 
@@ -34,6 +34,8 @@ pub fn told_client(
         → ClientsLeave s calls lines.new.items }
     ensures links { IfOk result (λ outs. (links : ℕ → Option ℕ) → ClientLinks links lines.old.items
         → ClientLinks (unlinked (place + 1) (map link_out_seen outs.items) links) lines.new.items) }
+    ensures settled { (was : ℕ → ClientStands) → ClientsSettledAs was lines.old.items
+        → ClientsSettledAs was lines.new.items }
     ensures length { length lines.new.items ≡ length lines.old.items }
 {
     let link = lines[place].link;
@@ -80,6 +82,8 @@ fn close_client(lines: &mut Vec<ClientLine>, place: usize, outs: &[LinkOut])
         → ClientsLeave s calls lines.new.items }
     ensures links { (links : ℕ → Option ℕ) → ClientLinks links lines.old.items
         → ClientLinks (unlinked (place + 1) (map link_out_seen outs.now) links) lines.new.items }
+    ensures settled { (was : ℕ → ClientStands) → ClientsSettledAs was lines.old.items
+        → ClientsSettledAs was lines.new.items }
     ensures length { length lines.new.items ≡ length lines.old.items }
 {
     if closes_link(lines[place].link, outs) {
