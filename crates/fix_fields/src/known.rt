@@ -1,8 +1,6 @@
 //! The fields of a text that is known to be fields: nothing of it is tested.
 
-ghost use Rattle.std.specs.Prelude.{◌≡◌, ◌≤◌, ◌<◌, ◌+◌, length, drop, IfOk, is_some, true};
-ghost use Rattle.std.specs.List.{prefix_len};
-ghost use Rattle.fix_fields.specs.Field.{is_inside};
+ghost use Rattle.std.specs.Prelude.{◌≡◌, ◌≤◌, length, IfOk, is_some, true};
 ghost use Rattle.fix_fields.specs.Front.{HasField, IsFront, IsTagAt};
 ghost use Rattle.fix_fields.specs.Reading.{fields_of};
 ghost use Rattle.fix_fields.specs.Spans.{AreSpans};
@@ -55,10 +53,14 @@ pub(crate) fn known_front(text: &[u8], at: usize) -> Span
 {
     let place = known_tag(text, at);
     let start = place.end + 1;
+    let mut end = start;
+    while text[end] != SOH {
+        end += 1;
+    }
     Span {
         tag: place.tag,
         start,
-        end: known_soh(text, start),
+        end,
     }
 }
 
@@ -74,16 +76,4 @@ fn known_tag(text: &[u8], at: usize) -> TagPlace
         end += 1;
     }
     TagPlace { tag, end }
-}
-
-/// Where the first SOH stands from `start` on, where one is known to.
-fn known_soh(text: &[u8], start: usize) -> usize
-    requires { start + prefix_len is_inside (drop start text.now) < length text.now }
-    ensures { result ≡ start + prefix_len is_inside (drop start text.now) }
-{
-    let mut end = start;
-    while text[end] != SOH {
-        end += 1;
-    }
-    end
 }
