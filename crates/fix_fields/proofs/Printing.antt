@@ -5,7 +5,6 @@ use Rattle.std.specs.List.{list_all}
 use Rattle.std.proofs.lemmas.List.Folds.{list_all-append}
 use Rattle.std.proofs.lemmas.Grind.{flat_map-append}
 use Rattle.fix_fields.specs.Field.{Field, AreFields, is_field, is_inside, field_text, fields_text}
-use Rattle.fix_fields.specs.Reading.{fields_of}
 use Rattle.fix_fields.proofs.Reading.{AreFieldsOf, fields_of-is, fields_of-known}
 use Rattle.fix_fields.proofs.Tags.{le_test}
 use Rattle.fix_fields.specs.Printed.{PrintsFields, prints_fields, fields_in}

@@ -1,5 +1,5 @@
 -- Tags at their places in a text.
-use Rattle.std.proofs.Common.{◌≡◌, ◌≢◌, ℕ, ◌+◌, ◌-◌, ◌*◌, ◌<◌, ◌≤◌, true, false, List, [], ◌∷◌, ◌++◌, length, get_or, take, drop, refl, sym, ap, ◌∙◌, arith, decimal}
+use Rattle.std.proofs.Common.{◌≡◌, ◌≢◌, ℕ, ◌+◌, ◌-◌, ◌*◌, ◌<◌, ◌≤◌, true, false, List, ◌++◌, length, get_or, take, drop, refl, sym, ap, ◌∙◌, arith, decimal}
 use Rattle.std.specs.Char.{is_ascii_digit}
 use Rattle.std.specs.List.{list_all, prefix_len}
 use Rattle.std.proofs.lemmas.Fmt.{decimal_nonempty, length-decimal-le, digits_value-decimal}
@@ -11,7 +11,6 @@ use Rattle.std.proofs.lemmas.Str.Parse.{digits_value_short}
 use Rattle.decimal_digits.specs.Digits.{number_of}
 use Rattle.decimal_digits.proofs.Numbers.{own, all_digits_more, digit_range, number_of_more, number_of-take-le}
 use Rattle.fix_fields.specs.Field.{Field, is_field, is_inside, field_text}
-use Rattle.fix_fields.specs.declared.span.Span.{Span}
 use Rattle.fix_fields.specs.declared.span.TagPlace.{TagPlace}
 use Rattle.fix_fields.specs.Front.{IsFront, HasField, AreDigits, IsTagAt, digits_from}
 use Rattle.fix_fields.proofs.Tags.{front, found, inside_false, no_end, tag_text, tag-number_of, list_all-prefix_len}

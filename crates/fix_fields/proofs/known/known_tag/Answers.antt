@@ -1,6 +1,4 @@
-use Rattle.std.proofs.Common.{arith, refl, ap, ◌+◌, ◌-◌, ◌*◌, ◌<◌, ◌≡◌, get_or, take, drop}
-use Rattle.decimal_digits.specs.Digits.{number_of}
-use Rattle.fix_fields.specs.Front.{digits_from}
+use Rattle.std.proofs.Common.{arith, refl, ◌+◌, ◌-◌, ◌*◌, ◌≡◌, get_or}
 use Rattle.fix_fields.proofs.TagPlaces.{known_there, digit_there, not_equals, one_more_known, known_tag_at}
 use Rattle.fix_fields.proofs.known.known_tag.Goals as goal
 
