@@ -5,8 +5,9 @@ ghost use Rattle.std.specs.Prelude.{List, ◌≡◌, ◌≤◌, length, IfOk, Ma
 ghost use Rattle.fix_fields.specs.Field.{Field, fields_text, first_value};
 ghost use Rattle.fix_fields.specs.Reading.{fields_of};
 
-use crate::fields::{Fields, split};
+use crate::fields::Fields;
 use crate::front::front_of;
+use crate::known::known_front;
 use std::alloc::{AllocError, Global};
 
 /// The fields that a text is, lent: the text stays where it lies, and a value is found by looking through it. It takes
@@ -59,7 +60,7 @@ impl<'a> FieldsView<'a> {
     pub fn to_fields(&self, alloc: Global) -> Result<Fields, AllocError>
         ensures { IfOk result (λ fields. fields ≡ lent_fields self.now) }
     {
-        Ok(split(alloc, self.text)?.unwrap())
+        Fields::known(alloc, self.text)
     }
 }
 
@@ -85,9 +86,7 @@ fn first_of(text: &[u8], tag: u32) -> Option<&[u8]>
 {
     let mut at = 0;
     while at < text.len() {
-        let Some(span) = front_of(text, at) else {
-            return None;
-        };
+        let span = known_front(text, at);
         if span.tag == tag {
             return Some(&text[span.start..span.end]);
         }

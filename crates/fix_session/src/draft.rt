@@ -6,11 +6,11 @@ ghost use Rattle.std.specs.Prelude.{None, nat_le, true, false, if◌then◌else�
 ghost use Rattle.session_law.specs.Session.{on_written};
 
 use crate::session::Session;
-use fix_fields::Fields;
+use fix_fields::{Fields, printed_fields};
 use fix_types::AppMsg;
 use session_law::{Frame, Kind, Logged, Out, Phase};
 use session_reading::application_of;
-use session_writing::{KeptBodies, ask_body, echo_body, printed_fields, reject_body, text_body};
+use session_writing::{KeptBodies, ask_body, echo_body, reject_body, text_body};
 use std::alloc::{AllocError, Global};
 
 /// Numbers that are sent again, from one to another, at a moment.

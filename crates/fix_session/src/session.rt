@@ -11,13 +11,13 @@ use crate::issues::{body_of, kind_of};
 use crate::judge::{judge, judge_logon};
 use crate::logon::answer_logon;
 use crate::ticks::do_due;
-use fix_fields::{Fields, Text};
+use fix_fields::{Fields, Text, printed_fields};
 use fix_types::{AppBody, AppMsg};
 use session_law::{Kind, Logged, Phase};
 use session_reading::due_at;
 use session_writing::{
     FrameHead, IssuedReport, KeptBodies, SessionOut, UndoBodies, append_written, issued_outs,
-    printed_fields, report_of_body,
+    report_of_body,
 };
 use std::alloc::{AllocError, Global};
 use std::marker::Model;

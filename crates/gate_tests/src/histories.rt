@@ -3,11 +3,10 @@
 use crate::events::{packet, port_up};
 use crate::served::settings;
 use audit_lines::audit_text;
-use fix_fields::{Fields, split};
+use fix_fields::{Fields, PrintedFields, printed_fields, split};
 use gate_audit::audit;
 use gate_core::{Batch, ClientNumber, Event, IssuedReport, PortNumber};
 use gate_journal::History;
-use session_writing::{PrintedFields, printed_fields};
 use std::alloc::Global;
 use std::test::Fail;
 

@@ -5,13 +5,13 @@ use Rattle.std.specs.List.{list_all}
 use Rattle.std.proofs.lemmas.List.{take-append-le, drop-append-le, length-append, length-drop, map-append, take_all, take-map, drop-map, take-append-drop, length-take-le}
 use Rattle.std.proofs.lemmas.List.Folds.{list_all-append, list_all_at, list_all_more}
 use Rattle.fix_fields.specs.Field.{Message}
+use Rattle.fix_fields.specs.Printed.{PrintsFields, fields_in, prints_fields}
 use Rattle.fix_fields.proofs.Tags.{and_parts, le_test, le_true}
 use Rattle.session_law.specs.declared.kind.Kind.{Kind}
 use Rattle.session_law.specs.declared.frame.Kept.{Kept}
 use Rattle.session_law.specs.Session.{Slot}
 use Rattle.session_writing.specs.declared.place.KeptPlace.{KeptPlace}
 use Rattle.session_writing.specs.declared.place.KeptPlace.TheVariants as places
-use Rattle.session_writing.specs.Printed.{PrintsFields, fields_in, prints_fields}
 use Rattle.session_writing.specs.Keeping.{slot_at, slots_at, is_within, prints_at, is_place, ArePlaces, place_further}
 
 -- ---- behind a text

@@ -4,7 +4,7 @@ use Rattle.std.specs.List.{list_all}
 use Rattle.session_law.specs.Session.{Slot}
 use Rattle.session_writing.specs.declared.place.KeptPlace.{KeptPlace}
 use Rattle.session_writing.specs.declared.place.KeptPlace.TheVariants as places
-use Rattle.session_writing.specs.Printed.{fields_in, prints_fields}
+use Rattle.fix_fields.specs.Printed.{fields_in, prints_fields}
 
 -- what a number was given to, by its place in this text
 abbrev pub slot_at : List ℕ → KeptPlace → Slot

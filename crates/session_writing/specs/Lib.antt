@@ -1,4 +1,3 @@
-pub mod Printed
 pub mod Heads
 pub mod Keeping
 pub mod Longest
@@ -8,6 +7,7 @@ pub use Rattle.fix_fields.specs.Field
 pub use Rattle.fix_stamp.specs.Stamp
 pub use Rattle.session_law.specs.Frames
 pub use Rattle.session_law.specs.Messages
+pub use Rattle.fix_fields.specs.Printed
 pub use Rattle.fix_fields.specs.Reading
 pub use Rattle.session_law.specs.Session
 pub use Rattle.session_law.specs.Table

@@ -3,6 +3,7 @@
 ghost use Rattle.std.specs.Prelude.{◌≡◌, ◌≤◌, ◌↔◌, ◌∷◌, [], ℕ, List, length, map, IfOk, IsSome, IfSome};
 ghost use Rattle.std.specs.Prelude.{if◌then◌else◌};
 ghost use Rattle.fix_fields.specs.Field.{IsValue, fields_text};
+ghost use Rattle.fix_fields.specs.Printed.{PrintsFields, fields_in};
 ghost use Rattle.fix_stamp.specs.Stamp.{stamp_text};
 ghost use Rattle.session_law.specs.Frames.{frame_fields, told_of_out};
 ghost use Rattle.session_law.specs.Table.{is_logged_on};
@@ -10,13 +11,11 @@ ghost use Rattle.session_law.specs.declared.frame.Frame.{Frame};
 ghost use Rattle.session_law.specs.declared.frame.Out.TheVariants.{Write};
 ghost use Rattle.session_writing.specs.Heads.{frame_with};
 ghost use Rattle.session_writing.specs.Longest.{longest_report};
-ghost use Rattle.session_writing.specs.Printed.{PrintsFields, fields_in};
 ghost use Rattle.session_writing.specs.Written.{told_bytes};
 
 use crate::head::FrameHead;
 use crate::output::{SessionOut, printed_frame};
-use crate::printed::PrintedFields;
-use fix_fields::Fields;
+use fix_fields::{Fields, PrintedFields};
 use fix_framing::frame_of_text;
 use session_law::Phase;
 use std::alloc::{AllocError, Global};

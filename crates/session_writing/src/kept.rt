@@ -3,9 +3,9 @@
 ghost use Rattle.std.specs.Prelude.{◌≡◌, ◌<◌, ◌≤◌, ◌+◌, ◌-◌, ◌^◌, ◌++◌, ◌∷◌, [], length, map, min, take, drop};
 ghost use Rattle.std.specs.Prelude.{ℕ, Some, None, true, IfOk, OnOk, OnErr, vec_len, vec_capacity};
 ghost use Rattle.fix_fields.specs.Field.{IsValue};
+ghost use Rattle.fix_fields.specs.Printed.{PrintsFields, fields_in};
 ghost use Rattle.session_law.specs.Session as law;
 ghost use Rattle.session_writing.specs.Written.{told_bytes, told_frames};
-ghost use Rattle.session_writing.specs.Printed.{PrintsFields, fields_in};
 ghost use Rattle.session_writing.specs.Keeping.{is_within, place_further};
 ghost use Rattle.std.specs.List.{list_all};
 

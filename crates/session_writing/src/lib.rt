@@ -9,7 +9,6 @@ mod issued_report;
 mod kept;
 mod output;
 mod place;
-mod printed;
 mod resend;
 mod undo_bodies;
 
@@ -21,5 +20,4 @@ pub use head::FrameHead;
 pub use issued_report::{IssuedReport, issued_outs, report_of_body};
 pub use kept::KeptBodies;
 pub use output::{SessionOut, append_written};
-pub use printed::{PrintedFields, printed_fields};
 pub use undo_bodies::UndoBodies;

@@ -2,18 +2,18 @@
 
 ghost use Rattle.std.specs.Prelude.{◌≡◌, ◌<◌, ◌≤◌, ◌+◌, ◌^◌, ◌∷◌, ◌++◌, [], length, map, OnOk, IfOk, codes, slice_range};
 ghost use Rattle.fix_fields.specs.Field.{IsValue, field};
+ghost use Rattle.fix_fields.specs.Printed.{PrintsFields, fields_in};
 ghost use Rattle.session_law.specs.Messages.{number_as_field};
 ghost use Rattle.session_law.specs.Frames.{frame_bytes};
 ghost use Rattle.session_law.specs.Session as law;
 ghost use Rattle.session_writing.specs.Keeping.{ArePlaces, slots_at};
-ghost use Rattle.session_writing.specs.Printed.{PrintsFields, fields_in};
 ghost use Rattle.session_writing.specs.Heads.{frame_with};
 ghost use Rattle.session_writing.specs.Written.{told_bytes, told_frames};
 
 use crate::head::FrameHead;
 use crate::output::{SessionOut, frame_of_body};
 use crate::place::KeptPlace;
-use crate::printed::PrintedFields;
+use fix_fields::PrintedFields;
 use session_law::Kind;
 use std::alloc::{AllocError, Global};
 

@@ -1,17 +1,20 @@
-use Rattle.std.proofs.Common.{arith, sym, rules}
-use Rattle.fix_fields.proofs.Reading.{fields_of-found}
-use Rattle.fix_fields.proofs.Splitting.{first_remaining, first_more, first_found, first_end, none_stands}
+use Rattle.std.proofs.Common.{arith, sym, rules, []}
+use Rattle.std.specs.Prelude.{unwrap_or}
+use Rattle.fix_fields.specs.Reading.{fields_of}
+use Rattle.fix_fields.proofs.Reading.{fields_of-found, fields_of-known}
+use Rattle.fix_fields.proofs.Splitting.{field_ahead, first_remaining, first_more, first_found, first_end}
 use Rattle.fix_fields.proofs.view.first_of.Goals as goal
 
-pub returns-in_default : goal.returns-in_default
-returns-in_default c = λ fields e.
-    let found = fields_of-found c.args.text.now fields e in
-    absurd (none_stands c.args.text.now c.loop-at.at c.loop-at-test.true (first_remaining c.args.tag c.args.text.now c.loop-at.at c.loop-at.invariant.ahead) c.in_default.ensures fields found.fields found.spelled)
+pub known_front-span-requires : goal.known_front-span-requires
+known_front-span-requires c =
+    let text = c.args.text.now in
+    let known = fields_of-known text c.requires in
+    field_ahead text c.loop-at.at (unwrap_or (fields_of text) []) c.loop-at-test.true known.fields known.spelled (first_remaining c.args.tag text c.loop-at.at c.loop-at.invariant.ahead)
 
 pub loop-at-preserved : goal.loop-at-preserved
 loop-at-preserved c = record {
-  within = omega (arith, c.in-Some.ensures.ends);
-  ahead = first_more c.args.tag c.args.text.now c.loop-at.at c.in-Some.span c.loop-at-test.true c.in-Some.ensures (search rules) c.loop-at.invariant.ahead;
+  within = omega (arith, c.known_front-span.ensures.ends);
+  ahead = first_more c.args.tag c.args.text.now c.loop-at.at c.known_front-span.result c.loop-at-test.true c.known_front-span.ensures (search rules) c.loop-at.invariant.ahead;
 }
 
 pub returns : goal.returns
@@ -22,4 +25,4 @@ returns c = λ fields e.
 pub returns-then-span-tag : goal.returns-then-span-tag
 returns-then-span-tag c = λ fields e.
     let found = fields_of-found c.args.text.now fields e in
-    sym (first_found c.args.tag c.args.text.now c.loop-at.at c.in-Some.span c.loop-at-test.true c.in-Some.ensures (search rules) c.loop-at.invariant.ahead fields found.fields found.spelled)
+    sym (first_found c.args.tag c.args.text.now c.loop-at.at c.known_front-span.result c.loop-at-test.true c.known_front-span.ensures (search rules) c.loop-at.invariant.ahead fields found.fields found.spelled)

@@ -1,10 +1,10 @@
 use Rattle.std.proofs.Common.{List, ◌++◌, ◌∷◌, [], ap, ◌∙◌}
 use Rattle.fix_fields.specs.Field.{Field, field}
+use Rattle.fix_fields.specs.Printed.{fields_in}
 use Rattle.fix_stamp.specs.Stamp.{stamp_text}
 use Rattle.session_law.specs.Messages.{number_as_field}
 use Rattle.session_law.specs.Frames.{again_fields, issue_fields, kind_text}
 use Rattle.session_writing.specs.Heads.{frame_with}
-use Rattle.session_writing.specs.Printed.{fields_in}
 use Rattle.session_writing.proofs.output.printed_frame.Goals as goal
 
 pub returns : goal.returns

@@ -2,7 +2,7 @@ use Rattle.std.proofs.Common.{◌≡◌, ◌<◌, ℕ, List, length, get_or, sub
 use Rattle.session_law.specs.declared.kind.Kind.{Kind}
 use Rattle.session_writing.specs.declared.place.KeptPlace.{KeptPlace}
 use Rattle.session_writing.specs.declared.place.KeptPlace.TheVariants as places
-use Rattle.session_writing.specs.Printed.{PrintsFields}
+use Rattle.fix_fields.specs.Printed.{PrintsFields}
 use Rattle.session_writing.specs.Keeping.{ArePlaces}
 use Rattle.session_writing.proofs.Keeping.{StandsAt, one-place, place-is}
 use Rattle.session_writing.proofs.resend.append_resent.Goals as goal

@@ -1,8 +1,8 @@
 use Rattle.std.proofs.Common.{List, ℕ, ap, ◌∙◌, sym, subst}
 use Rattle.fix_fields.specs.Field.{Field, AreFields, fields_text}
-use Rattle.session_writing.specs.Printed.{PrintsFields, fields_in}
-use Rattle.session_writing.proofs.Printing.{spelled-in}
-use Rattle.session_writing.proofs.printed.PrintedFields.text.Goals as goal
+use Rattle.fix_fields.specs.Printed.{PrintsFields, fields_in}
+use Rattle.fix_fields.proofs.Printing.{spelled-in}
+use Rattle.fix_fields.proofs.printed.PrintedFields.text.Goals as goal
 
 pub returns-clause-text : goal.returns-clause-text
 returns-clause-text c =

@@ -1,8 +1,8 @@
 use Rattle.std.proofs.Common.{ap, ◌∙◌, List, ℕ, arith}
 use Rattle.std.specs.List.{list_all}
 use Rattle.fix_fields.specs.Field.{is_inside}
-use Rattle.session_writing.proofs.Digits.{inside-decimal}
-use Rattle.session_writing.proofs.printed.PrintedFields.push_number.Goals as goal
+use Rattle.fix_fields.proofs.Decimals.{inside-decimal}
+use Rattle.fix_fields.proofs.printed.PrintedFields.push_number.Goals as goal
 
 pub push-requires-clause-value : goal.push-requires-clause-value
 push-requires-clause-value c = ap (λ (l : List ℕ). list_all is_inside l) (c.as_bytes.ensures.value ∙ c.format.ensures.text) ∙ inside-decimal c.args.number (omega arith)

@@ -1,6 +1,6 @@
 use Rattle.std.proofs.Common.{sym}
-use Rattle.session_writing.proofs.Printing.{printed-is}
-use Rattle.session_writing.proofs.printed.printed_fields.Goals as goal
+use Rattle.fix_fields.proofs.Printing.{printed-is}
+use Rattle.fix_fields.proofs.printed.printed_fields.Goals as goal
 
 pub returns-clause-prints : goal.returns-clause-prints
 returns-clause-prints c = (printed-is c.text.result.now c.args.fields.now c.text.ensures.fields (sym c.text.ensures.text)).prints

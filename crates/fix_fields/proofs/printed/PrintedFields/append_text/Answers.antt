@@ -1,8 +1,8 @@
 use Rattle.std.proofs.Common.{◌≡◌, List, ℕ, ◌++◌, ap, ◌∙◌}
 use Rattle.fix_fields.specs.Field.{Field}
-use Rattle.session_writing.specs.Printed.{PrintsFields, fields_in}
-use Rattle.session_writing.proofs.Printing.{IsPrinted, printed-both}
-use Rattle.session_writing.proofs.printed.PrintedFields.append_text.Goals as goal
+use Rattle.fix_fields.specs.Printed.{PrintsFields, fields_in}
+use Rattle.fix_fields.proofs.Printing.{IsPrinted, printed-both}
+use Rattle.fix_fields.proofs.printed.PrintedFields.append_text.Goals as goal
 
 -- the text after the write
 written : (text more after : List ℕ) → PrintsFields text → PrintsFields more → after ≡ text ++ more → IsPrinted after (fields_in text ++ fields_in more)

@@ -1,10 +1,10 @@
-use Rattle.std.proofs.Common.{◌≡◌, ◌≤◌, List, ℕ, ◌++◌, ◌∷◌, [], length, decimal, true, ap, ◌∙◌, subst, sym, arith}
+use Rattle.std.proofs.Common.{◌≡◌, ◌≤◌, List, ℕ, ◌++◌, ◌∷◌, [], length, decimal, true, ap, ◌∙◌, arith}
 use Rattle.std.specs.List.{list_all}
 use Rattle.std.proofs.lemmas.Fmt.{length-decimal-le}
 use Rattle.fix_fields.specs.Field.{Field, is_inside}
-use Rattle.session_writing.specs.Printed.{PrintsFields, fields_in}
-use Rattle.session_writing.proofs.Printing.{IsPrinted, printed-field}
-use Rattle.session_writing.proofs.printed.PrintedFields.push.Goals as goal
+use Rattle.fix_fields.specs.Printed.{PrintsFields, fields_in}
+use Rattle.fix_fields.proofs.Printing.{IsPrinted, printed-field}
+use Rattle.fix_fields.proofs.printed.PrintedFields.push.Goals as goal
 
 pub append_field-requires : goal.append_field-requires
 append_field-requires c =

@@ -1,7 +1,7 @@
 use Rattle.std.proofs.Common.{List, ℕ, ap, ◌∙◌, subst, sym}
-use Rattle.session_writing.specs.Printed.{PrintsFields, fields_in}
-use Rattle.session_writing.proofs.Printing.{printed-none}
-use Rattle.session_writing.proofs.printed.PrintedFields.with_capacity.Goals as goal
+use Rattle.fix_fields.specs.Printed.{PrintsFields, fields_in}
+use Rattle.fix_fields.proofs.Printing.{printed-none}
+use Rattle.fix_fields.proofs.printed.PrintedFields.with_capacity.Goals as goal
 
 pub invariant_of-result : goal.invariant_of-result
 invariant_of-result c = subst (λ (l : List ℕ). PrintsFields l) (sym c.in_ok-text.ensures.items) printed-none.prints

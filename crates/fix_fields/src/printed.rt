@@ -1,11 +1,11 @@
 //! Fields as they are printed.
 
-ghost use Rattle.std.specs.Prelude.{◌≡◌, ◌≤◌, ◌++◌, ◌∷◌, [], length, IfOk, OnOk, OnErr};
-ghost use Rattle.fix_fields.specs.Field.{AreFields, IsTag, IsValue, fields_text};
-ghost use Rattle.session_law.specs.Messages.{number_as_field};
-ghost use Rattle.session_writing.specs.Printed.{PrintsFields, fields_in};
+ghost use Rattle.std.specs.Prelude.{◌≡◌, ◌++◌, ◌∷◌, [], IfOk, OnOk, OnErr, decimal};
+ghost use Rattle.fix_fields.specs.Field.{AreFields, IsTag, IsValue, fields_text, field};
+ghost use Rattle.fix_fields.specs.Printed.{PrintsFields, fields_in};
 
-use fix_fields::{Fields, SOH, split};
+use crate::fields::Fields;
+use crate::written::append_field;
 use itoa::Buffer;
 use std::alloc::{AllocError, Global};
 use std::marker::Model;
@@ -20,7 +20,7 @@ pub struct PrintedFields {
 impl Model for PrintedFields {
     ghost use Rattle.std.specs.Prelude.{List};
     ghost use Rattle.fix_fields.specs.Field.{Field};
-    ghost use Rattle.session_writing.specs.Printed.{PrintsFields, fields_in};
+    ghost use Rattle.fix_fields.specs.Printed.{PrintsFields, fields_in};
 
     ghost Value = { List Field };
 
@@ -54,7 +54,7 @@ impl PrintedFields {
     /// Adds a number in decimal. `AllocError` leaves the fields as they were. One growth at most.
     pub fn push_number(&mut self, tag: u32, number: u64) -> Result<(), AllocError>
         requires tag { IsTag tag }
-        ensures ok { OnOk result (self.new ≡ self.old ++ number_as_field tag number ∷ []) }
+        ensures ok { OnOk result (self.new ≡ self.old ++ field tag (decimal number) ∷ []) }
         ensures err { OnErr result (self.new ≡ self.old) }
     {
         let mut buffer = Buffer::new();
@@ -85,10 +85,8 @@ impl PrintedFields {
     pub fn to_fields(&self, alloc: Global) -> Result<Fields, AllocError>
         ensures { IfOk result (λ fields. fields ≡ self.now) }
     {
-        match split(alloc, self.text())? {
-            Some(fields) => Ok(fields),
-            None => Ok(Fields::new(alloc)),
-        }
+        let fields = Fields::known(alloc, self.text())?;
+        Ok(fields)
     }
 }
 
@@ -99,18 +97,4 @@ pub fn printed_fields(fields: &Fields) -> &[u8]
     ensures same { fields_in result.now ≡ fields.now }
 {
     fields.text()
-}
-
-/// Appends a field to a text: all of it, or nothing where memory runs out. One growth at most.
-fn append_field(text: &mut Vec<u8>, tag: &[u8], value: &[u8]) -> Result<(), AllocError>
-    requires { length tag.now ≤ 9 }
-    ensures ok { OnOk result (text.new.items ≡ text.old.items ++ (tag.now ++ 61 ∷ (value.now ++ 1 ∷ []))) }
-    ensures err { OnErr result (text.new.items ≡ text.old.items) }
-{
-    text.reserve(tag.len() + value.len() + 2)?;
-    text.extend_from_slice(tag)?;
-    text.push(b'=')?;
-    text.extend_from_slice(value)?;
-    text.push(SOH)?;
-    Ok(())
 }

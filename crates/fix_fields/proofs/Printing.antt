@@ -1,23 +1,18 @@
 -- Texts that are fields, one behind another.
-use Rattle.std.proofs.Common.{◌≡◌, ℕ, Bool, true, false, List, [], ◌∷◌, ◌++◌, refl, sym, ap, ◌∙◌, append-nil, decimal}
-use Rattle.std.specs.Prelude.{Option, Some, None, is_some, unwrap_or, nat_le, ◌&&◌, ◌≤◌}
+use Rattle.std.proofs.Common.{◌≡◌, ℕ, true, List, [], ◌∷◌, ◌++◌, refl, ap, ◌∙◌, append-nil, decimal}
+use Rattle.std.specs.Prelude.{Option, is_some, unwrap_or, ◌≤◌}
 use Rattle.std.specs.List.{list_all}
 use Rattle.std.proofs.lemmas.List.Folds.{list_all-append}
 use Rattle.std.proofs.lemmas.Grind.{flat_map-append}
 use Rattle.fix_fields.specs.Field.{Field, AreFields, is_field, is_inside, field_text, fields_text}
-use Rattle.fix_fields.specs.Reading.{fields_of}
-use Rattle.fix_fields.proofs.Reading.{AreFieldsOf, fields_of-found, fields_of-is}
+use Rattle.fix_fields.proofs.Reading.{AreFieldsOf, fields_of-is, fields_of-known}
 use Rattle.fix_fields.proofs.Tags.{le_test}
-use Rattle.session_writing.specs.Printed.{PrintsFields, prints_fields, fields_in}
+use Rattle.fix_fields.specs.Printed.{PrintsFields, prints_fields, fields_in}
 
 -- a text that is fields is what its fields print as
 pub spelled-in : (text : List ℕ) → PrintsFields text → AreFieldsOf text (fields_in text)
 unfolding prints_fields fields_in
-spelled-in text is = by_found (fields_of text) refl is
-  where
-    by_found : (found : Option (List Field)) → fields_of text ≡ found → is_some found ≡ true → AreFieldsOf text (unwrap_or found [])
-    by_found None e h = absurd (cc)
-    by_found (Some fs) e h = fields_of-found text fs e
+spelled-in text is = fields_of-known text is
 
 -- and what prints as a text is its fields
 pub record IsPrinted (text : List ℕ) (fs : List Field) : Type 0 where

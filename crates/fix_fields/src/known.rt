@@ -1,0 +1,79 @@
+//! The fields of a text that is known to be fields: nothing of it is tested.
+
+ghost use Rattle.std.specs.Prelude.{◌≡◌, ◌≤◌, length, IfOk, is_some, true};
+ghost use Rattle.fix_fields.specs.Front.{HasField, IsFront, IsTagAt};
+ghost use Rattle.fix_fields.specs.Reading.{fields_of};
+ghost use Rattle.fix_fields.specs.Spans.{AreSpans};
+
+use crate::span::{Span, TagPlace};
+use crate::text::SOH;
+use std::alloc::{AllocError, Global};
+
+/// The places of all fields of a text that is fields. One growth.
+pub(crate) fn places_of(alloc: Global, text: &[u8]) -> Result<Vec<Span>, AllocError>
+    requires { is_some (fields_of text.now) ≡ true }
+    ensures { IfOk result (λ spans. AreSpans text.now spans.items) }
+{
+    let mut spans = Vec::with_capacity(alloc, soh_count(text))?;
+    let mut at = 0;
+    while at < text.len() {
+        let span = known_front(text, at);
+        spans.push(span)?;
+        at = span.end + 1;
+    }
+    Ok(spans)
+}
+
+/// How many fields end in a text. One byte counts those of 255 bytes, so that sixteen are counted at once.
+pub(crate) fn soh_count(text: &[u8]) -> usize {
+    let mut count = 0usize;
+    for part in text.chunks(255) {
+        count = count.saturating_add(usize::from(soh_count_of_part(part)));
+    }
+    count
+}
+
+/// How many fields end in 255 bytes at most.
+fn soh_count_of_part(part: &[u8]) -> u8
+    requires { length part.now ≤ 255 }
+{
+    let mut count = 0u8;
+    for byte in part {
+        if *byte == SOH {
+            count += 1;
+        }
+    }
+    count
+}
+
+/// The field that is known to be written from `at` on, and where its value stands.
+pub(crate) fn known_front(text: &[u8], at: usize) -> Span
+    requires { HasField text.now at }
+    ensures { IsFront text.now at result }
+{
+    let place = known_tag(text, at);
+    let start = place.end + 1;
+    let mut end = start;
+    while text[end] != SOH {
+        end += 1;
+    }
+    Span {
+        tag: place.tag,
+        start,
+        end,
+    }
+}
+
+/// The tag that is known to be written from `at` on.
+fn known_tag(text: &[u8], at: usize) -> TagPlace
+    requires { HasField text.now at }
+    ensures { IsTagAt text.now at result }
+{
+    let mut tag = 0u32;
+    let mut end = at;
+    while text[end] != b'=' {
+        tag = tag * 10 + u32::from(text[end] - b'0');
+        end += 1;
+    }
+    TagPlace { tag, end }
+}
