@@ -1,7 +1,7 @@
 //! What is kept of the numbers that a session gave, and how it is put back.
 
 ghost use Rattle.std.specs.Prelude.{◌≡◌, ◌++◌, ◌∷◌, [], Some, OnOk, OnErr, if◌then◌else◌};
-ghost use Rattle.session_writing.specs.Printed.{PrintsFields, fields_in};
+ghost use Rattle.fix_fields.specs.Printed.{PrintsFields, fields_in};
 
 use crate::kept::KeptBodies;
 use session_law::Kind;
