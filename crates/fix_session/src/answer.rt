@@ -52,7 +52,7 @@ pub fn answer(
         }
         Row::Rejected { reason } => draft.reject(alloc, session, m, 36, reason, at),
         Row::Passed => Ok(()),
-        Row::TooLow => too_low(alloc, draft, session, session.expected(), numbered(m), at),
+        Row::TooLow => too_low(alloc, draft, session, session.next_in(), numbered(m), at),
         Row::LoggedOut => draft.log_out_silently(alloc, session, at),
         Row::GapWithResend(Taken::SentAgain { from, to }) => {
             draft.send_again(session, from, to, at);

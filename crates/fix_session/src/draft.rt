@@ -60,7 +60,7 @@ impl Draft {
     {
         Draft {
             phase: session.phase(),
-            expected: session.expected(),
+            expected: session.next_in(),
             latest: session.latest().max(at),
             resets: false,
             slots: KeptBodies::new(alloc),
@@ -111,7 +111,7 @@ impl Draft {
                 tested: false,
                 asked: 0,
             }),
-            expected: first_number(resets, session.expected()),
+            expected: first_number(resets, session.next_in()),
             latest,
             resets,
             slots: KeptBodies::new(alloc),
@@ -125,12 +125,8 @@ impl Draft {
     fn next_number(&self, session: &Session) -> u64
         ensures { result ≡ next_out (made session.now.session self.now).state }
     {
-        let before = if self.resets {
-            0
-        } else {
-            session.given().len()
-        };
-        (before + self.slots.len()) as u64 + 1
+        let before = if self.resets { 0 } else { session.last() };
+        before + self.slots.len() as u64 + 1
     }
 
     /// A frame under the next number, whose body is kept.

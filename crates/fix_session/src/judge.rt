@@ -30,7 +30,7 @@ pub fn judge(session: &Session, m: &Fields) -> Row
     ensures fits { RowFits m.now (length session.now.session.given) result }
 {
     let received = numbered(m);
-    let expected = session.expected();
+    let expected = session.next_in();
     if received == 0 {
         return Row::NumberMissing;
     }
@@ -111,7 +111,7 @@ pub fn judge_logon(session: &Session, m: &Fields) -> LogonRow
         return LogonRow::NotAnswered;
     }
     let received = numbered(m);
-    let expected = first_number(resets, session.expected());
+    let expected = first_number(resets, session.next_in());
     if received < expected {
         return LogonRow::TooLow { expected };
     }

@@ -16,8 +16,7 @@ use fix_types::{AppBody, AppMsg};
 use session_law::{Kind, Logged, Phase};
 use session_reading::due_at;
 use session_writing::{
-    FrameHead, IssuedReport, KeptBodies, SessionOut, UndoBodies, append_written, issued_outs,
-    report_of_body,
+    FrameHead, IssuedReport, SessionOut, UndoBodies, append_written, issued_outs, report_of_body,
 };
 use std::alloc::{AllocError, Global};
 use std::marker::Model;
@@ -172,11 +171,12 @@ impl Session {
 
     /// The number that is expected of the client.
     pub fn next_in(&self) -> u64
+        ensures now { result ≡ self.now.session.expected }
         ensures number { (gate client : List ℕ) (h : SessionHistory) → Leaves gate client h self.now.session
             → result ≡ expected gate client h }
         ensures small { result ≤ 10 ^ 18 }
     {
-        self.expected()
+        self.expected
     }
 
     /// Issues a body: it takes a number and is kept, and is written where the client is logged on. Its text is made
@@ -267,13 +267,6 @@ impl Session {
         self.phase
     }
 
-    pub(crate) fn expected(&self) -> u64
-        ensures number { result ≡ self.now.session.expected }
-        ensures small { result ≤ 10 ^ 18 }
-    {
-        self.expected
-    }
-
     pub(crate) fn latest(&self) -> u64
         ensures { result ≡ self.now.session.latest }
     {
@@ -310,12 +303,6 @@ impl Session {
         ensures room { result < 2 ^ 63 }
     {
         self.given.given().len() as u64
-    }
-
-    pub(crate) fn given(&self) -> &KeptBodies
-        ensures { result.now ≡ self.now.session.given }
-    {
-        self.given.given()
     }
 
     /// Issues a body: it takes a number and is kept, and is written where the client is logged on.
