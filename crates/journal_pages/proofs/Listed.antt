@@ -9,8 +9,9 @@ use Rattle.journal_pages.specs.declared.fault.PageFault.TheVariants as faults
 use Rattle.journal_pages.specs.declared.place.Place.{Place}
 use Rattle.journal_pages.specs.declared.place.Place.TheVariants.{PageStart}
 use Rattle.journal_pages.specs.Record.{Record, Front, Stands, Refused, front, is_sound, record_bytes, records_by_looks, records_in, records_of_front, size_of}
+use Rattle.journal_pages.specs.Ordered.{AreSound, order_fault}
 use Rattle.journal_pages.specs.Page.{fault_at, fault_by_looks, fault_of_front, is_page, page_fault, page_head, page_records, place_after, records_fault, unless}
-use Rattle.journal_pages.proofs.Spelled.{AreBytes, AreBytes-behind, front-spelled}
+use Rattle.journal_pages.proofs.Spelled.{AreBytes, AreBytes-behind, front-sound, front-spelled}
 use Rattle.journal_pages.proofs.Written.{written-stands}
 
 same-records : (f : Front) (g h : ℕ → List Record) → ((n : ℕ) → 1 ≤ n → g n ≡ h n) → records_of_front f g ≡ records_of_front f h
@@ -54,9 +55,9 @@ written-listed r rest source link at sound =
 
 -- ---- those of a page
 
-unless-none : (one other : Option PageFault) → unless one other ≡ None → other ≡ None
-unless-none None other e = e
-unless-none (Some fault) other e = let no : ⊥ = cc in absurd no
+both-none : (one other : Option PageFault) → unless one other ≡ None → (one ≡ None) × (other ≡ None)
+both-none None other e = (refl, e)
+both-none (Some fault) other e = let no : ⊥ = cc in absurd no
 
 -- records with which nothing is wrong, written one behind another, are their bytes
 spelled-front : (looks : ℕ) (place : Place) (bytes : List ℕ) → AreBytes bytes
@@ -65,7 +66,7 @@ spelled-front : (looks : ℕ) (place : Place) (bytes : List ℕ) → AreBytes by
     → flat_map record_bytes (records_of_front f (λ size. records_by_looks looks (drop size bytes))) ≡ bytes
 spelled-front looks place bytes below behind (Refused fault) is e = let no : ⊥ = cc in absurd no
 spelled-front looks place bytes below behind (Stands r) is e =
-    ap (λ (l : List ℕ). record_bytes r ++ l) (behind (place_after place r) (size_of r) (omega arith) (unless-none (fault_at place r) _ e))
+    ap (λ (l : List ℕ). record_bytes r ++ l) (behind (place_after place r) (size_of r) (omega arith) ((both-none (fault_at place r) _ e).1))
     ∙ sym (front-spelled bytes r below is)
 
 spelled : (looks : ℕ) (place : Place) (bytes : List ℕ) → AreBytes bytes → length bytes ≤ looks → fault_by_looks looks place bytes ≡ None → flat_map record_bytes (records_by_looks looks bytes) ≡ bytes
@@ -78,6 +79,40 @@ spelled (suc looks) place (b ∷ bytes) below few e =
     let left = length-drop n (b ∷ bytes) in
     spelled looks later (drop n (b ∷ bytes)) (AreBytes-behind n (b ∷ bytes) below) (omega (arith, left, some, few)) none)
     (front (b ∷ bytes)) refl e
+
+-- and they stand in order
+ordered-front : (looks : ℕ) (place : Place) (bytes : List ℕ)
+    → ((later : Place) (n : ℕ) → 1 ≤ n → fault_by_looks looks later (drop n bytes) ≡ None → order_fault later (records_by_looks looks (drop n bytes)) ≡ None)
+    → (f : Front) → fault_of_front f place (λ later size. fault_by_looks looks later (drop size bytes)) ≡ None
+    → order_fault place (records_of_front f (λ size. records_by_looks looks (drop size bytes))) ≡ None
+ordered-front looks place bytes behind (Refused fault) e = let no : ⊥ = cc in absurd no
+ordered-front looks place bytes behind (Stands r) e =
+    let both = both-none (fault_at place r) (fault_by_looks looks (place_after place r) (drop (size_of r) bytes)) e in
+    rw both.0 (behind (place_after place r) (size_of r) (omega arith) both.1)
+
+ordered : (looks : ℕ) (place : Place) (bytes : List ℕ) → length bytes ≤ looks → fault_by_looks looks place bytes ≡ None → order_fault place (records_by_looks looks bytes) ≡ None
+ordered zero place bytes few e = refl
+ordered (suc looks) place [] few e = refl
+ordered (suc looks) place (b ∷ bytes) few e =
+    ordered-front looks place (b ∷ bytes)
+    (λ later n some none.
+    let left = length-drop n (b ∷ bytes) in
+    ordered looks later (drop n (b ∷ bytes)) (omega (arith, left, some, few)) none)
+    (front (b ∷ bytes)) e
+
+-- what is read as a record has what its kind has
+sound-front : (looks : ℕ) (bytes : List ℕ) → ((n : ℕ) → AreSound (records_by_looks looks (drop n bytes))) → (f : Front) → front bytes ≡ f
+    → AreSound (records_of_front f (λ size. records_by_looks looks (drop size bytes)))
+sound-front looks bytes behind (Refused fault) is = tt
+sound-front looks bytes behind (Stands r) is = (front-sound bytes r is, behind (size_of r))
+
+all-sound : (looks : ℕ) (bytes : List ℕ) → AreSound (records_by_looks looks bytes)
+all-sound zero bytes = tt
+all-sound (suc looks) [] = tt
+all-sound (suc looks) (b ∷ bytes) = sound-front looks (b ∷ bytes) (λ n. all-sound looks (drop n (b ∷ bytes))) (front (b ∷ bytes)) refl
+
+pub page-sound : (text : List ℕ) → AreSound (page_records text)
+page-sound text = all-sound (length (drop 4 text)) (drop 4 text)
 
 none-of : (o : Option PageFault) → is_none o ≡ true → o ≡ None
 none-of None e = refl
@@ -107,3 +142,6 @@ page-spelled text below e =
     let both = page-parts text e in
     sym (take-append-drop 4 text) ∙ ap (λ (l : List ℕ). l ++ drop 4 text) both.0
     ∙ ap (λ (l : List ℕ). page_head ++ l) (sym (spelled (length (drop 4 text)) PageStart (drop 4 text) (AreBytes-behind 4 text below) (omega arith) both.1))
+
+pub page-ordered : (text : List ℕ) → is_page text ≡ true → order_fault PageStart (page_records text) ≡ None
+page-ordered text e = ordered (length (drop 4 text)) PageStart (drop 4 text) (omega arith) (page-parts text e).1

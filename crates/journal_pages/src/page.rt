@@ -25,7 +25,9 @@ pub struct Page {
 }
 
 impl Page {
+    ghost use Rattle.journal_pages.specs.Ordered.{AreSound, order_fault};
     ghost use Rattle.journal_pages.specs.Seen.{records_ahead};
+    ghost use Rattle.journal_pages.specs.declared.place.Place.TheVariants.{PageStart};
 
     /// The page that a text is. Records are judged one after another, each for `CutShort`, `Kind`, `Payload` and
     /// `Order`, in this order; the first that is found is given. `NoMemory` says nothing of the text: one growth.
@@ -39,11 +41,13 @@ impl Page {
         })
     }
 
-    /// Its records, one by one, lent where they lie: all of them, so that written one behind another they are the page.
-    /// Takes no memory.
+    /// Its records, one by one, lent where they lie: all of them, so that written one behind another they are the page,
+    /// and in its order. Takes no memory.
     pub fn records(&self) -> Records<'_>
         ensures records { records_ahead result ≡ page_records self.now.bytes }
         ensures whole { self.now.bytes ≡ page_head ++ flat_map record_bytes (records_ahead result) }
+        ensures ordered { order_fault PageStart (records_ahead result) ≡ None }
+        ensures sound { AreSound (records_ahead result) }
     {
         let text = self.bytes.as_slice();
         is_spelled(text);

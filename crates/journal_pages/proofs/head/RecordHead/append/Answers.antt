@@ -1,4 +1,4 @@
-use Rattle.std.proofs.Common.{◌≡◌, List, ℕ, ◌++◌, ap, ◌∙◌, arith, length-append}
+use Rattle.std.proofs.Common.{List, ℕ, ◌++◌, ap, ◌∙◌, arith, length-append}
 use Rattle.journal_pages.proofs.head.RecordHead.append.Goals as goal
 
 pub returns-clause-ok : goal.returns-clause-ok

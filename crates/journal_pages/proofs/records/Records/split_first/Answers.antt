@@ -1,4 +1,4 @@
-use Rattle.std.proofs.Common.{◌≡◌, List, ℕ, ◌∷◌, sym, ap, ◌∙◌, arith}
+use Rattle.std.proofs.Common.{List, ℕ, ◌∷◌, sym, ap, ◌∙◌, arith}
 use Rattle.journal_pages.specs.Record.{records_in}
 use Rattle.journal_pages.specs.Seen.{record_seen}
 use Rattle.journal_pages.proofs.Listed.{no-more, one-more}
