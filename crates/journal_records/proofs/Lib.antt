@@ -1,2 +1,0 @@
-mod Begins
-mod Rows
