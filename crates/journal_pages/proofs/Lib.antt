@@ -1,2 +1,5 @@
 mod Faults
 mod Written
+mod Spelled
+mod Listed
+mod Put

@@ -11,7 +11,7 @@ use Rattle.journal_pages.specs.declared.fault.PageFault.TheVariants as faults
 use Rattle.journal_pages.specs.declared.place.Place.{Place}
 use Rattle.journal_pages.specs.declared.place.Place.TheVariants.{PageStart, BetweenBatches, InBatch}
 use Rattle.journal_pages.specs.declared.place.Batch.{Batch}
-use Rattle.journal_pages.specs.Record.{Record, Front, Stands, Refused, front, size_of}
+use Rattle.journal_pages.specs.Record.{Record, Front, Stands, Refused, front, records_in, size_of}
 
 -- ---- the order of kinds
 
@@ -123,3 +123,7 @@ page_fault text =
 
 abbrev pub is_page : List ℕ → Bool
 is_page text = is_none (page_fault text)
+
+-- the records of a page
+abbrev pub page_records : List ℕ → List Record
+page_records text = records_in (drop 4 text)

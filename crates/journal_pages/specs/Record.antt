@@ -1,8 +1,8 @@
 -- A record of the journal, and what its bytes are. The format is the gateway's own, version 1: no public standard has
 -- one. What a text and a packet are is said by FIX 4.4 Volume 1, "FIX Tag=Value Syntax", and SoupBinTCP 3.00, "Logical
 -- Packets".
-use Rattle.std.specs.Prelude.{ℕ, ◌+◌, ◌==◌, Bool, true, false, not, ◌&&◌, nat_lt, nat_le, List, [], ◌∷◌, ◌++◌, length}
-use Rattle.std.specs.Prelude.{take, drop, Option, Some, None, is_some, if◌then◌else◌, slice_index}
+use Rattle.std.specs.Prelude.{ℕ, zero, suc, ◌+◌, ◌==◌, Bool, true, false, not, ◌&&◌, nat_lt, nat_le, List, [], ◌∷◌}
+use Rattle.std.specs.Prelude.{◌++◌, length, take, drop, Option, Some, None, is_some, if◌then◌else◌, slice_index}
 use Rattle.std.specs.Int.{w16, w32, w64, to_be_bytes, from_be_bytes}
 use Rattle.fix_fields.specs.Reading.{fields_of}
 use Rattle.journal_pages.specs.declared.kind.RecordKind.{RecordKind}
@@ -142,13 +142,30 @@ pub data Front : Type 0 where
   Stands : (r : Record) → Front
   Refused : (fault : PageFault) → Front
 
-abbrev of_kind : Option RecordKind → List ℕ → Front
-of_kind None bytes = Refused faults.Kind
-of_kind (Some kind) bytes = if is_sound (read_as kind bytes) then Stands (read_as kind bytes)
+abbrev pub front_of_kind : Option RecordKind → List ℕ → Front
+front_of_kind None bytes = Refused faults.Kind
+front_of_kind (Some kind) bytes = if is_sound (read_as kind bytes) then Stands (read_as kind bytes)
     else Refused faults.Payload
 
 -- A record that is cut short is refused first, then its kind, then what it has.
 abbrev pub front : List ℕ → Front
 front bytes = if nat_lt (length bytes) head_size then Refused faults.CutShort
     else if is_cut bytes then Refused faults.CutShort
-    else of_kind (kind_numbered (slice_index bytes 0)) bytes
+    else front_of_kind (kind_numbered (slice_index bytes 0)) bytes
+
+-- ---- records one behind another
+
+abbrev pub records_of_front : Front → (ℕ → List Record) → List Record
+records_of_front (Refused fault) behind = []
+records_of_front (Stands r) behind = r ∷ behind (size_of r)
+
+-- Each record takes some bytes, so that as many looks as there are bytes are enough.
+abbrev pub records_by_looks : ℕ → List ℕ → List Record
+records_by_looks zero bytes = []
+records_by_looks (suc looks) [] = []
+records_by_looks (suc looks) (b ∷ bytes) =
+    records_of_front (front (b ∷ bytes)) (λ size. records_by_looks looks (drop size (b ∷ bytes)))
+
+-- the records that stand one behind another in some bytes, up to the first that can't be read
+abbrev pub records_in : List ℕ → List Record
+records_in bytes = records_by_looks (length bytes) bytes

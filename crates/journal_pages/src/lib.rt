@@ -9,15 +9,21 @@
 
 mod bytes;
 mod fault;
+mod head;
 mod kind;
 mod laws;
 mod page;
 mod place;
+mod reading;
+mod records;
 mod view;
 
 pub use bytes::PageBytes;
 pub use fault::PageFault;
+pub use head::RecordHead;
 pub use kind::RecordKind;
-pub use laws::written_records_are_read;
+pub use laws::{written_lists_are_read, written_records_are_read};
 pub use page::Page;
-pub use view::{RecordView, front};
+pub use reading::front;
+pub use records::Records;
+pub use view::RecordView;

@@ -1,13 +1,16 @@
 //! A page.
 
-ghost use Rattle.std.specs.Prelude.{◌≡◌, ◌⊎◌, Some, None, MatchResult, true, length, drop};
-ghost use Rattle.journal_pages.specs.Page.{is_page, page_fault};
+ghost use Rattle.std.specs.Prelude.{◌≡◌, ◌++◌, ◌⊎◌, Some, None, MatchResult, true, length, drop};
+ghost use Rattle.std.specs.List.{flat_map};
+ghost use Rattle.journal_pages.specs.Page.{is_page, page_fault, page_head, page_records};
+ghost use Rattle.journal_pages.specs.Record.{record_bytes};
 ghost use Rattle.journal_pages.specs.declared.fault.PageFault.TheVariants.{NoMemory};
 
 use crate::bytes::PageBytes;
 use crate::fault::PageFault;
 use crate::place::Place;
-use crate::view::{HEAD, front};
+use crate::reading::{HEAD, front};
+use crate::records::Records;
 use std::alloc::{AllocError, Global};
 use wire_law::WholeWire;
 
@@ -22,6 +25,10 @@ pub struct Page {
 }
 
 impl Page {
+    ghost use Rattle.journal_pages.specs.Ordered.{AreSound, order_fault};
+    ghost use Rattle.journal_pages.specs.Seen.{records_ahead};
+    ghost use Rattle.journal_pages.specs.declared.place.Place.TheVariants.{PageStart};
+
     /// The page that a text is. Records are judged one after another, each for `CutShort`, `Kind`, `Payload` and
     /// `Order`, in this order; the first that is found is given. `NoMemory` says nothing of the text: one growth.
     pub fn read(alloc: Global, text: &[u8]) -> Result<Page, PageFault>
@@ -32,6 +39,20 @@ impl Page {
         Ok(Page {
             bytes: PageBytes::of(alloc, text)?,
         })
+    }
+
+    /// Its records, one by one, lent where they lie: all of them, so that written one behind another they are the page,
+    /// and in its order. Takes no memory.
+    pub fn records(&self) -> Records<'_>
+        ensures records { records_ahead result ≡ page_records self.now.bytes }
+        ensures whole { self.now.bytes ≡ page_head ++ flat_map record_bytes (records_ahead result) }
+        ensures ordered { order_fault PageStart (records_ahead result) ≡ None }
+        ensures sound { AreSound (records_ahead result) }
+    {
+        let text = self.bytes.as_slice();
+        is_spelled(text);
+        let (_, records) = text.split_at(PAGE_HEAD.len());
+        Records::of(records)
     }
 }
 
@@ -58,6 +79,12 @@ impl WholeWire for Page {
         }
     }
 }
+
+/// A page is its head and its records, written one behind another. It does nothing: its contract says it.
+fn is_spelled(text: &[u8])
+    requires { is_page text.now ≡ true }
+    ensures { text.now ≡ page_head ++ flat_map record_bytes (page_records text.now) }
+{}
 
 /// Nothing, where a text is a page; else the first thing that is wrong with it. Takes no memory.
 fn judge(text: &[u8]) -> Result<(), PageFault>

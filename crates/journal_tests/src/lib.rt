@@ -5,3 +5,5 @@
 
 #[cfg(test)]
 mod pages;
+#[cfg(test)]
+mod refused;
