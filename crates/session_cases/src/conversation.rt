@@ -11,6 +11,8 @@ use std::alloc::{AllocError, Global};
 use wire_law::TextWire;
 
 /// A conversation with one session, and what its last step showed.
+///
+/// Each call is made and put back first, so what a step shows also says that nothing was left of that.
 #[derive(Drop)]
 pub struct Conversation {
     session: Session,
@@ -60,12 +62,18 @@ impl Conversation {
     }
 
     fn link(&mut self, alloc: Global, is_up: bool) -> Result<(), AllocError> {
+        self.session.settle();
+        let _put_back = self.session.on_link(alloc, is_up, self.at);
+        self.session.undo();
         let turn = self.session.on_link(alloc, is_up, self.at);
         show_turn(alloc, &mut self.shown, &turn, self.is_whole)
     }
 
     /// Time passes. A call that wants for memory is made again: it has to have left the session as it was.
     fn tick(&mut self, alloc: Global) -> Result<(), AllocError> {
+        self.session.settle();
+        let _put_back = self.session.on_tick(alloc, self.at);
+        self.session.undo();
         let turn = match self.session.on_tick(alloc, self.at) {
             Ok(turn) => turn,
             Err(_) => self.session.on_tick(alloc, self.at)?,
@@ -83,6 +91,9 @@ impl Conversation {
             Err(TextFault::NoMemory) => return Err(AllocError),
             Err(TextFault::Refused(_)) => return Ok(false),
         };
+        self.session.settle();
+        let _put_back = self.session.issue(alloc, &body, self.at);
+        self.session.undo();
         let issued = match self.session.issue(alloc, &body, self.at) {
             Ok(issued) => issued,
             Err(_) => self.session.issue(alloc, &body, self.at)?,
@@ -103,6 +114,9 @@ impl Conversation {
 
     /// A message comes, and again where memory is wanting.
     fn message(&mut self, alloc: Global, message: &Fields) -> Result<(), AllocError> {
+        self.session.settle();
+        let _put_back = self.session.on_message(alloc, message, self.at);
+        self.session.undo();
         let turn = match self.session.on_message(alloc, message, self.at) {
             Ok(turn) => turn,
             Err(_) => self.session.on_message(alloc, message, self.at)?,
