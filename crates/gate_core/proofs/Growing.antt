@@ -77,3 +77,9 @@ grows-most numbers packets old new few one grows = record {
   ports_settled = grows.ports_settled;
   orders_settled = grows.orders_settled;
 }
+
+-- a step that changes the lines of clients alone
+pub clients-grow : (old new : Parts) → length new.clients.items ≡ length old.clients.items → ClientsStaySettled old new
+    → new.ports ≡ old.ports → new.client_ports ≡ old.client_ports → new.orders ≡ old.orders → Grows 0 0 old new
+clients-grow old new count settled same_ports same_client_ports same_orders =
+    lines-grow old new count (rw same_ports refl) (rw same_ports (λ n within. within)) settled (rw same_ports (λ was kept. kept)) same_client_ports same_orders

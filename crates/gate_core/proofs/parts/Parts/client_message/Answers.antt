@@ -1,4 +1,4 @@
-use Rattle.std.proofs.Common.{◌≡◌, ◌+◌, ◌∷◌, [], ℕ, Some, None, true, refl, sym, ◌∙◌, subst}
+use Rattle.std.proofs.Common.{◌≡◌, ◌+◌, ◌∷◌, [], ℕ, Some, None, true, refl, sym, ◌∙◌, subst, arith}
 use Rattle.std.specs.Prelude.{◌&&◌}
 use Rattle.std.proofs.lemmas.Result.{IfOk-weaker}
 use Rattle.session_law.specs.Runs.{OnMessage}
@@ -8,6 +8,7 @@ use Rattle.gate_law.specs.Events.{ClientMessage, is_the_number}
 use Rattle.gate_core.specs.declared.parts.Parts.{Parts}
 use Rattle.gate_events.specs.Seen.{batch_seen}
 use Rattle.gate_core.specs.Steps.{AfterFrame, Stepped}
+use Rattle.gate_core.proofs.Growing.{clients-grow, grows-then, grows-within}
 use Rattle.gate_core.proofs.Parted.{clients-parts}
 use Rattle.gate_core.proofs.parts.Parts.client_message.Goals as goal
 
@@ -54,3 +55,14 @@ returns-in-None-clause-step c =
     (subst (λ (m : Message). Stepped s (ClientMessage n c.args.link c.args.at m) (batch_seen b) v c.no_message_delivered.new.self) c.fields.ensures.fields
     (step s v c.args.link c.args.at c.fields.result.now heard)))
     c.no_message_delivered.ensures.step
+
+pub returns-in-Some-app-clause-grows : goal.returns-in-Some-app-clause-grows
+returns-in-Some-app-clause-grows c =
+    let mid : Parts = record { clients = c.client_frame.new.lines; ports = c.args.self.now.ports; client_ports = c.args.self.now.client_ports; orders = c.args.self.now.orders } in
+    grows-then 0 0 3 0 c.args.self.now mid _ (clients-grow c.args.self.now mid c.client_frame.ensures.length c.client_frame.ensures.settled refl refl refl) c.message_delivered.ensures.grows
+
+pub returns-in-None-clause-grows : goal.returns-in-None-clause-grows
+returns-in-None-clause-grows c =
+    let mid : Parts = record { clients = c.client_frame.new.lines; ports = c.args.self.now.ports; client_ports = c.args.self.now.client_ports; orders = c.args.self.now.orders } in
+    grows-within 0 3 0 c.args.self.now _ (omega arith)
+    (grows-then 0 0 0 0 c.args.self.now mid _ (clients-grow c.args.self.now mid c.client_frame.ensures.length c.client_frame.ensures.settled refl refl refl) c.no_message_delivered.ensures.grows)

@@ -12,6 +12,7 @@ use Rattle.gate_core.specs.Steps.{Stepped}
 use Rattle.gate_events.specs.Batches.{batch_of}
 use Rattle.gate_core.proofs.Told.{client-told}
 use Rattle.gate_core.proofs.ClientLinks.{client-tick}
+use Rattle.gate_core.proofs.Growing.{clients-grow}
 use Rattle.gate_core.proofs.parts.Parts.client_tick.Goals as goal
 
 pub returns-clause-step : goal.returns-clause-step
@@ -37,3 +38,11 @@ returns-clause-step c s v ready =
     (c.told_client.ensures.leave s (called n (c.args.at, OnTick) v.client_calls) (c.in_ok-client_tick.ensures.leave s v.client_calls ready.parts.clients))
     (c.in_ok-outs.ensures.links v.client_link links)
     (c.told_client.ensures.length ∙ c.client_tick.ensures.length) refl refl refl))
+
+pub returns-in_err-outs-clause-grows : goal.returns-in_err-outs-clause-grows
+returns-in_err-outs-clause-grows c =
+    clients-grow c.args.self.now _ (c.told_client.ensures.length ∙ c.client_tick.ensures.length) (λ was kept. c.told_client.ensures.settled was (c.client_tick.ensures.settled was kept)) refl refl refl
+
+pub returns-clause-grows : goal.returns-clause-grows
+returns-clause-grows c =
+    clients-grow c.args.self.now _ (c.told_client.ensures.length ∙ c.client_tick.ensures.length) (λ was kept. c.told_client.ensures.settled was (c.client_tick.ensures.settled was kept)) refl refl refl

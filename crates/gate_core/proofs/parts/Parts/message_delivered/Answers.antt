@@ -12,10 +12,14 @@ use Rattle.gate_events.specs.Links.{unlinked}
 use Rattle.gate_events.specs.Seen.{link_out_seen}
 use Rattle.gate_core.specs.Steps.{IsAsked, Ready, Stepped, after_turn, orders_turn_of}
 use Rattle.gate_events.specs.Batches.{batch_of}
-use Rattle.gate_core.proofs.Growing.{grows-then, lines-grow}
+use Rattle.gate_core.proofs.Growing.{clients-grow, grows-then, lines-grow}
 use Rattle.gate_core.proofs.Messages.{asked-step}
 use Rattle.gate_law.proofs.Messages.{reads-sends}
 use Rattle.gate_core.proofs.parts.Parts.message_delivered.Goals as goal
+
+pub returns-in_err-client_out-clause-grows : goal.returns-in_err-client_out-clause-grows
+returns-in_err-client_out-clause-grows c =
+    grows-then 3 0 0 0 _ _ _ c.ask.ensures.grows (clients-grow c.ask.new.self _ c.told_client.ensures.length c.told_client.ensures.settled refl refl refl)
 
 pub returns-in_err-port_out-clause-grows : goal.returns-in_err-port_out-clause-grows
 returns-in_err-port_out-clause-grows c =

@@ -11,10 +11,14 @@ use Rattle.gate_events.specs.Links.{outs_told_on}
 use Rattle.gate_events.specs.Seen.{link_out_seen}
 use Rattle.gate_events.specs.Batches.{batch_of}
 use Rattle.gate_core.specs.Steps.{Stepped, heard_turn}
-use Rattle.gate_core.proofs.Growing.{grows-then, lines-grow}
+use Rattle.gate_core.proofs.Growing.{clients-grow, grows-then, lines-grow}
 use Rattle.gate_core.proofs.Payloads.{told-step}
 use Rattle.gate_law.proofs.Messages.{reads-after}
 use Rattle.gate_core.proofs.parts.Parts.tell.Goals as goal
+
+pub returns-in_err-client_out-clause-grows : goal.returns-in_err-client_out-clause-grows
+returns-in_err-client_out-clause-grows c =
+    grows-then 0 0 0 0 _ _ _ c.issue.ensures.grows (clients-grow c.issue.new.self _ c.told_client.ensures.length c.told_client.ensures.settled refl refl refl)
 
 pub returns-in_err-port_out-clause-grows : goal.returns-in_err-port_out-clause-grows
 returns-in_err-port_out-clause-grows c =
