@@ -1,5 +1,5 @@
 -- How the parts stand: the same is known of it as of the parts.
-use Rattle.std.proofs.Common.{◌≡◌, ℕ, zero, suc, ◌+◌, ◌-◌, ◌*◌, ◌≤◌, List, [], ◌∷◌, map, length, get_or, Option, Some, None, refl, sym, ap, ◌∙◌, subst, arith}
+use Rattle.std.proofs.Common.{◌≡◌, ℕ, zero, suc, ◌+◌, ◌-◌, ◌≤◌, List, [], ◌∷◌, map, length, get_or, Option, Some, None, refl, sym, ap, ◌∙◌, subst, arith}
 use Rattle.std.proofs.lemmas.List.{length-map}
 use Rattle.std.proofs.lemmas.Option.{get_or_from_slice_get, same_Some, slice_get-map}
 use Rattle.std.specs.Prelude.{option_map, slice_get}
@@ -8,12 +8,10 @@ use Rattle.order_core.specs.State.{core_now, core_of}
 use Rattle.order_core.proofs.Standing.{after-by_parts}
 use Rattle.gate_law.specs.Settings.{Settings, terms}
 use Rattle.gate_law.specs.Lists.{Lists}
-use Rattle.gate_sessions.specs.declared.client_line.ClientLine.{ClientLine}
-use Rattle.gate_sessions.specs.declared.port_line.PortLine.{PortLine}
 use Rattle.gate_sessions.specs.Leaving.{ClientLeaves, PortLeaves}
-use Rattle.gate_sessions.specs.Lines.{ClientStands, PortStands, client_now, client_settled, port_now, port_settled}
+use Rattle.gate_sessions.specs.Lines.{client_now, client_settled, port_now, port_settled}
 use Rattle.gate_core.specs.declared.parts.Parts.{Parts}
-use Rattle.gate_core.specs.State.{AreAmong, ArePartsOf, AreSound, HasNumbers, IsShaped, PartsStand, StandAfter, parts_now, parts_settled}
+use Rattle.gate_core.specs.State.{AreAmong, ArePartsOf, AreSound, HasNumbers, IsShaped, StandAfter, parts_now, parts_settled}
 use Rattle.gate_core.specs.Steps.{Grows}
 
 -- ---- lists and what is seen of each of their elements

@@ -1,4 +1,4 @@
-use Rattle.std.proofs.Common.{ℕ, length, sym, ◌∙◌, subst}
+use Rattle.std.proofs.Common.{ℕ, sym, ◌∙◌, subst}
 use Rattle.gate_core.specs.State.{AreAmong}
 use Rattle.gate_core.proofs.parts.Parts.new.Goals as goal
 

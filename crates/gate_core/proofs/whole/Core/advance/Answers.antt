@@ -1,9 +1,9 @@
-use Rattle.std.proofs.Common.{◌+◌, ◌∷◌, ℕ, refl, sym, ap, ◌∙◌}
+use Rattle.std.proofs.Common.{◌+◌, ◌∷◌, refl, sym, ap, ◌∙◌, arith}
 use Rattle.std.proofs.lemmas.Result.{IfOk-weaker}
 use Rattle.gate_events.specs.Seen.{batch_seen, event_seen}
-use Rattle.gate_core.specs.Core.{After, CoreState, CoreStands, turn_of}
+use Rattle.gate_core.specs.Core.{CoreState, CoreStands, turn_of}
 use Rattle.gate_core.specs.State.{PartsStand, parts_settled}
-use Rattle.gate_core.proofs.Fields.{CoreFields, FieldsAfter, fields-of, fields-stand, now-after, after-same}
+use Rattle.gate_core.proofs.Fields.{CoreFields, fields-of, fields-stand, now-after, after-same}
 use Rattle.gate_core.proofs.Standing.{parts-sound, sound-numbers, sound-shaped, stays-settled}
 use Rattle.gate_core.proofs.Stepping.{next-step, numbers-still, past-step, shaped-still, still-few}
 use Rattle.soup_session.proofs.Closes.{ends_by_close}
@@ -31,10 +31,14 @@ returns-then-self-eq-MOST_EVENTS-clause-holds c s before is =
 pub event-requires-clause-shaped : goal.event-requires-clause-shaped
 event-requires-clause-shaped c = sound-shaped c.self.inside.events c.self.inside.parts c.self.invariant.0.parts
 
+pub event-requires-clause-next : goal.event-requires-clause-next
+event-requires-clause-next c i line at =
+    omega (arith, (sound-numbers c.self.inside.events c.self.inside.parts c.self.invariant.0.parts).next i line at, c.self.invariant.0.few)
+
 pub invariant_of-self : goal.invariant_of-self
 invariant_of-self c =
     let grows = c.event.ensures.grows in
-    let shaped = shaped-still 3 1 _ _ grows (event-requires-clause-shaped c) in
+    let shaped = shaped-still 3 1 _ _ grows (sound-shaped c.self.inside.events c.self.inside.parts c.self.invariant.0.parts) in
     let numbers = numbers-still c.self.inside.events _ _ grows (sound-numbers c.self.inside.events c.self.inside.parts c.self.invariant.0.parts) in (
       record { few = still-few c.self.inside.events c.self.invariant.0.few c.if-self-eq-MOST_EVENTS.false; parts = parts-sound (c.self.inside.events + 1) c.event.new.self shaped numbers },
       record { few = c.self.invariant.1.few; parts = rw (stays-settled 3 1 c.self.inside.parts c.event.new.self grows) c.self.invariant.1.parts },

@@ -1,4 +1,3 @@
-use Rattle.std.proofs.Common.{sym, subst}
 use Rattle.gate_law.specs.After.{lists}
 use Rattle.gate_core.proofs.Fields.{fields-of}
 use Rattle.gate_core.proofs.Naming.{parts-of}
