@@ -55,9 +55,10 @@ pub record ClientStands : Type 0 where
 abbrev pub client_now : ClientLine → ClientStands
 client_now line = record { link = line.link; session = line.session.session }
 
--- how it stood when it was settled last
+-- how it stood when it was settled last: as now, where nothing came since
 abbrev pub client_settled : ClientLine → ClientStands
-client_settled line = record { link = line.settled_link; session = line.session.settled }
+client_settled line = if line.is_touched then record { link = line.settled_link; session = line.session.settled }
+    else client_now line
 
 -- each client's line was settled so
 abbrev pub ClientsSettledAs : (ℕ → ClientStands) → List ClientLine → Type 0

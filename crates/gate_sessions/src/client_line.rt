@@ -17,8 +17,10 @@ use std::alloc::{AllocError, Global};
 pub struct ClientLine {
     pub link: Option<u64>,
     pub session: Session,
-    /// The link when the line was settled last.
+    /// The link when the line was settled, where something came since.
     pub settled_link: Option<u64>,
+    /// Something came since the line was settled last.
+    pub is_touched: bool,
 }
 
 impl ClientLine {
@@ -33,6 +35,7 @@ impl ClientLine {
             link: None,
             session: Session::new(alloc, gate, client),
             settled_link: None,
+            is_touched: false,
         }
     }
 
@@ -41,8 +44,7 @@ impl ClientLine {
         ensures now { client_now self.new ≡ client_now self.old }
         ensures settled { client_settled self.new ≡ client_now self.old }
     {
-        self.settled_link = self.link;
-        self.session.settle();
+        self.is_touched = false;
     }
 
     /// It is as it was when it was settled last.
@@ -50,8 +52,24 @@ impl ClientLine {
         ensures now { client_now self.new ≡ client_settled self.old }
         ensures settled { client_settled self.new ≡ client_settled self.old }
     {
-        self.link = self.settled_link;
-        self.session.undo();
+        if self.is_touched {
+            self.link = self.settled_link;
+            self.session.undo();
+        }
+    }
+
+    /// Something comes: what it was before is kept, unless something came since it was settled.
+    fn touch(&mut self)
+        ensures session { self.new.session.session ≡ self.old.session.session }
+        ensures link { self.new.link ≡ self.old.link }
+        ensures settled { client_settled self.new ≡ client_settled self.old }
+        ensures touched { self.new.is_touched ≡ true }
+    {
+        if !self.is_touched {
+            self.settled_link = self.link;
+            self.session.settle();
+            self.is_touched = true;
+        }
     }
 
     /// A link is current from now on.
@@ -61,6 +79,7 @@ impl ClientLine {
         ensures link { self.new.link ≡ Some link }
         ensures settled { client_settled self.new ≡ client_settled self.old }
     {
+        self.touch();
         self.link = Some(link);
         let _turn = self.session.on_link(alloc, true, at);
     }
@@ -72,16 +91,18 @@ impl ClientLine {
         ensures link { self.new.link ≡ None }
         ensures settled { client_settled self.new ≡ client_settled self.old }
     {
+        self.touch();
         self.link = None;
         let _turn = self.session.on_link(alloc, false, at);
     }
 
     /// The core closed the current link.
     pub fn close(&mut self)
-        ensures session { self.new.session ≡ self.old.session }
+        ensures session { self.new.session.session ≡ self.old.session.session }
         ensures link { self.new.link ≡ None }
         ensures settled { client_settled self.new ≡ client_settled self.old }
     {
+        self.touch();
         self.link = None;
     }
 
@@ -100,8 +121,9 @@ impl ClientLine {
             → IsClientAnswer s c (client_answer s c calls (at, OnMessage frame.now)) turn) }
         ensures link { self.new.link ≡ self.old.link }
         ensures settled { client_settled self.new ≡ client_settled self.old }
-        ensures err { OnErr result (self.new ≡ self.old) }
+        ensures err { OnErr result (client_now self.new ≡ client_now self.old) }
     {
+        self.touch();
         self.session.on_message(alloc, frame, at)
     }
 
@@ -115,8 +137,9 @@ impl ClientLine {
             → IsClientAnswer s c (client_answer s c calls (at, OnTick)) turn) }
         ensures link { self.new.link ≡ self.old.link }
         ensures settled { client_settled self.new ≡ client_settled self.old }
-        ensures err { OnErr result (self.new ≡ self.old) }
+        ensures err { OnErr result (client_now self.new ≡ client_now self.old) }
     {
+        self.touch();
         self.session.on_tick(alloc, at)
     }
 
@@ -138,8 +161,9 @@ impl ClientLine {
             → report_issued s c calls (issue_call at body.now) ≡ issued.report ∷ []) }
         ensures link { self.new.link ≡ self.old.link }
         ensures settled { client_settled self.new ≡ client_settled self.old }
-        ensures err { OnErr result (self.new ≡ self.old) }
+        ensures err { OnErr result (client_now self.new ≡ client_now self.old) }
     {
+        self.touch();
         self.session.issue(alloc, body, at)
     }
 

@@ -6,12 +6,12 @@ use Rattle.gate_sessions.proofs.client_line.ClientLine.issue.Goals as goal
 
 pub returns-clause-leaves : goal.returns-clause-leaves
 unfolding issue_call
-returns-clause-leaves c = IfOk-weaker c.issue.result _ _ (λ issued l s k calls. client-more s k calls c.args.self.now.session.session c.args.at (call_of_body c.args.body.now) c.issue.new.self.session l) c.issue.ensures.leaves
+returns-clause-leaves c = IfOk-weaker c.issue.result _ _ (λ issued l s k calls. client-more s k calls c.args.self.now.session.session c.args.at (call_of_body c.args.body.now) c.issue.new.self.session l) (rw c.touch.ensures.session at c.issue.ensures.leaves)
 
 pub returns-clause-answers : goal.returns-clause-answers
 unfolding issue_call
-returns-clause-answers c = IfOk-weaker c.issue.result _ _ (λ issued t s k calls. client-answers s k calls c.args.self.now.session.session c.args.at (call_of_body c.args.body.now) issued.turn t) c.issue.ensures.turn
+returns-clause-answers c = IfOk-weaker c.issue.result _ _ (λ issued t s k calls. client-answers s k calls c.args.self.now.session.session c.args.at (call_of_body c.args.body.now) issued.turn t) (rw c.touch.ensures.session at c.issue.ensures.turn)
 
 pub returns-clause-report : goal.returns-clause-report
 unfolding issue_call
-returns-clause-report c = IfOk-weaker c.issue.result _ _ (λ issued e s k calls. client-reports s k calls c.args.self.now.session.session c.args.at (issued_kind c.args.body.now) (issued_body c.args.body.now) issued.report e) c.issue.ensures.report
+returns-clause-report c = IfOk-weaker c.issue.result _ _ (λ issued e s k calls. client-reports s k calls c.args.self.now.session.session c.args.at (issued_kind c.args.body.now) (issued_body c.args.body.now) issued.report e) (rw c.touch.ensures.session at c.issue.ensures.report)

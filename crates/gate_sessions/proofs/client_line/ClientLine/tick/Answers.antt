@@ -4,7 +4,7 @@ use Rattle.gate_sessions.proofs.Clients.{client-answers, client-more}
 use Rattle.gate_sessions.proofs.client_line.ClientLine.tick.Goals as goal
 
 pub returns-clause-leaves : goal.returns-clause-leaves
-returns-clause-leaves c = IfOk-weaker c.on_tick.result _ _ (λ turn l s k calls. client-more s k calls c.args.self.now.session.session c.args.at OnTick c.on_tick.new.self.session l) c.on_tick.ensures.leaves
+returns-clause-leaves c = IfOk-weaker c.on_tick.result _ _ (λ turn l s k calls. client-more s k calls c.args.self.now.session.session c.args.at OnTick c.on_tick.new.self.session l) (rw c.touch.ensures.session at c.on_tick.ensures.leaves)
 
 pub returns-clause-answers : goal.returns-clause-answers
-returns-clause-answers c = IfOk-weaker c.on_tick.result _ _ (λ turn t s k calls. client-answers s k calls c.args.self.now.session.session c.args.at OnTick turn t) c.on_tick.ensures.turn
+returns-clause-answers c = IfOk-weaker c.on_tick.result _ _ (λ turn t s k calls. client-answers s k calls c.args.self.now.session.session c.args.at OnTick turn t) (rw c.touch.ensures.session at c.on_tick.ensures.turn)
