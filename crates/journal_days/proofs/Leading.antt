@@ -12,7 +12,7 @@ use Rattle.journal_pages.specs.Page.{fault_at, is_page, page_fault, page_records
 use Rattle.journal_pages.proofs.Further.{goes-on, one-record}
 use Rattle.journal_pages.proofs.Listed.{both-none, page-long, page-made, page-parts, written-alone, written-front}
 use Rattle.journal_days.specs.Cut.{has_room, page_with, record_text, with_records, with_text}
-use Rattle.journal_days.specs.Day.{day_fault, day_records, end_fault, fault_from, next_number, numbered, page_fault_in_day}
+use Rattle.journal_days.specs.Day.{day_fault, day_records, end_fault, fault_from, page_behind, at_page, page_fault_in_day}
 use Rattle.journal_days.proofs.Cutting.{text-is}
 use Rattle.journal_days.proofs.Places.{behind-both, less-behind, less-fault, order-both}
 
@@ -147,7 +147,7 @@ all-more p pages q (r ∷ rs) l good none =
 
 -- ---- a day
 
-none-is : (n : ℕ) (o : Option PageFault) (later : Option (ℕ × PageFault)) → numbered n o later ≡ None → (o ≡ None) × (later ≡ None)
+none-is : (n : ℕ) (o : Option PageFault) (later : Option (ℕ × PageFault)) → at_page n o later ≡ None → (o ≡ None) × (later ≡ None)
 none-is n None later e = (refl, e)
 none-is n (Some fault) later e = let no : ⊥ = cc in absurd no
 
@@ -171,7 +171,7 @@ day-leads n p page [] e =
 day-leads n p page (next ∷ pages) e =
     let both = none-is n (page_fault_in_day false p page) _ e in
     let parts = in-parts false p page both.0 in
-    (parts.0, parts.1, day-leads (next_number n) (place_behind p (page_records page)) next pages both.1)
+    (parts.0, parts.1, day-leads (page_behind n) (place_behind p (page_records page)) next pages both.1)
 
 whole-in : (last : Bool) (p : Place) (page : List ℕ) → page_fault page ≡ None → order_fault p (page_records page) ≡ None → end_fault last (place_behind p (page_records page)) ≡ None
     → page_fault_in_day last p page ≡ None
@@ -181,10 +181,10 @@ whole-in last p page own order end =
 
 leads-day : (n : ℕ) (p : Place) (pages : List (List ℕ)) → Leads p pages BetweenBatches → fault_from n p pages ≡ None
 leads-day n p [] l = refl
-leads-day n p (page ∷ []) l = ap (λ (f : Option PageFault). numbered n f None) (whole-in true p page l.0 l.1 (ap (end_fault true) l.2))
+leads-day n p (page ∷ []) l = ap (λ (f : Option PageFault). at_page n f None) (whole-in true p page l.0 l.1 (ap (end_fault true) l.2))
 leads-day n p (page ∷ next ∷ pages) l =
-    ap (λ (f : Option PageFault). numbered n f (fault_from (next_number n) (place_behind p (page_records page)) (next ∷ pages))) (whole-in false p page l.0 l.1 refl)
-    ∙ leads-day (next_number n) (place_behind p (page_records page)) (next ∷ pages) l.2
+    ap (λ (f : Option PageFault). at_page n f (fault_from (page_behind n) (place_behind p (page_records page)) (next ∷ pages))) (whole-in false p page l.0 l.1 refl)
+    ∙ leads-day (page_behind n) (place_behind p (page_records page)) (next ∷ pages) l.2
 
 leads-of : (pages : List (List ℕ)) → day_fault pages ≡ None → Leads BetweenBatches pages BetweenBatches
 leads-of [] e = refl

@@ -26,15 +26,15 @@ pub fn judge_day(pages: &[Vec<u8>]) -> Result<(), (u32, PageFault)>
             Ok(later) => place = later,
             Err(fault) => return Err((number, fault)),
         }
-        number = next_number(number);
+        number = page_behind(number);
         rest = behind;
     }
     Ok(())
 }
 
 /// The number of the page behind one of this number; there is none behind the last number.
-fn next_number(number: u32) -> u32
-    ensures { result ≡ spec.next_number number }
+fn page_behind(number: u32) -> u32
+    ensures { result ≡ spec.page_behind number }
 {
     number.saturating_add(1)
 }
@@ -48,15 +48,15 @@ fn judge_in_day(page: &[u8], place: Place, is_last: bool) -> Result<Place, PageF
 {
     judge(page)?;
     let later = place_of(page_records(page), place)?;
-    if is_last && !is_between(&later) {
+    if is_last && !has_no_batch(&later) {
         return Err(PageFault::Order);
     }
     Ok(later)
 }
 
 /// Whether no batch is open.
-fn is_between(place: &Place) -> bool
-    ensures { result ≡ spec.is_between place.now }
+fn has_no_batch(place: &Place) -> bool
+    ensures { result ≡ spec.has_no_batch place.now }
 {
     matches!(place, Place::BetweenBatches)
 }
