@@ -36,7 +36,7 @@ look place (x ∷ bytes) some =
 pub refused-fault : (place : Place) (bytes : List ℕ) (fault : PageFault) → 1 ≤ length bytes → front bytes ≡ Refused fault → records_fault place bytes ≡ Some fault
 refused-fault place bytes fault some e = look place bytes some ∙ ap (λ (f : Front). fault_of_front f place (λ later size. records_fault later (drop size bytes))) e
 
-stood : (place : Place) (bytes : List ℕ) (r : Record) → 1 ≤ length bytes → front bytes ≡ Stands r
+pub stood : (place : Place) (bytes : List ℕ) (r : Record) → 1 ≤ length bytes → front bytes ≡ Stands r
     → records_fault place bytes ≡ unless (fault_at place r) (records_fault (place_after place r) (drop (size_of r) bytes))
 stood place bytes r some e = look place bytes some ∙ ap (λ (f : Front). fault_of_front f place (λ later size. records_fault later (drop size bytes))) e
 

@@ -1,5 +1,6 @@
 mod Faults
 mod Written
 mod Spelled
-mod Listed
+pub mod Listed
+pub mod Further
 mod Put

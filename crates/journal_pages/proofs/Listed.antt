@@ -1,7 +1,8 @@
 -- The records of some bytes, one at a time; those of a page are the page.
-use Rattle.std.proofs.Common.{◌≡◌, ◌<◌, ◌≤◌, ◌^◌, ℕ, zero, suc, ◌+◌, true, false, Bool, Option, Some, None, List, [], ◌∷◌, ◌++◌, length, take, drop, refl, sym, ap, ◌∙◌, arith, length-drop}
+use Rattle.std.proofs.Common.{◌≡◌, ◌<◌, ◌≤◌, ◌^◌, ℕ, zero, suc, ◌+◌, true, false, Bool, Option, Some, None, List, [], ◌∷◌, ◌++◌, length, take, drop, refl, sym, ap, ◌∙◌, arith, append-nil, length-drop}
 use Rattle.std.specs.List.{flat_map}
 use Rattle.std.specs.Prelude.{◌==◌, not, bytes_eq, is_none, if◌then◌else◌}
+use Rattle.std.proofs.lemmas.Bool.Decides.{nat_tests}
 use Rattle.std.proofs.lemmas.List.{drop_at, length-take, take-append-drop}
 use Rattle.std.proofs.lemmas.Slice.Eq.{bytes_eq-Decides}
 use Rattle.journal_pages.specs.declared.fault.PageFault.{PageFault}
@@ -55,7 +56,7 @@ written-listed r rest source link at sound =
 
 -- ---- those of a page
 
-both-none : (one other : Option PageFault) → unless one other ≡ None → (one ≡ None) × (other ≡ None)
+pub both-none : (one other : Option PageFault) → unless one other ≡ None → (one ≡ None) × (other ≡ None)
 both-none None other e = (refl, e)
 both-none (Some fault) other e = let no : ⊥ = cc in absurd no
 
@@ -126,7 +127,7 @@ parts true false o e = (refl, e)
 same-text : (a b : List ℕ) → bytes_eq a b ≡ true → a ≡ b
 same-text a b e = grind (arith, bytes_eq-Decides)
 
-page-parts : (text : List ℕ) → is_page text ≡ true → (take 4 text ≡ page_head) × (records_fault PageStart (drop 4 text) ≡ None)
+pub page-parts : (text : List ℕ) → is_page text ≡ true → (take 4 text ≡ page_head) × (records_fault PageStart (drop 4 text) ≡ None)
 page-parts text e =
     let both = parts (bytes_eq (take 4 text) page_head) (length text == 4) (records_fault PageStart (drop 4 text)) (none-of (page_fault text) e) in
     (same-text (take 4 text) page_head both.0, both.1)
@@ -145,3 +146,20 @@ page-spelled text below e =
 
 pub page-ordered : (text : List ℕ) → is_page text ≡ true → order_fault PageStart (page_records text) ≡ None
 page-ordered text e = ordered (length (drop 4 text)) PageStart (drop 4 text) (omega arith) (page-parts text e).1
+
+-- ---- a page by its parts
+
+-- a record's bytes alone
+pub written-front : (r : Record) → r.source < 2 ^ 16 → r.link < 2 ^ 64 → r.at < 2 ^ 64 → is_sound r ≡ true → front (record_bytes r) ≡ Stands r
+written-front r source link at sound = ap front (sym (append-nil (record_bytes r))) ∙ written-stands r [] source link at sound
+
+pub written-alone : (r : Record) → r.source < 2 ^ 16 → r.link < 2 ^ 64 → r.at < 2 ^ 64 → is_sound r ≡ true → records_in (record_bytes r) ≡ r ∷ []
+written-alone r source link at sound = ap records_in (sym (append-nil (record_bytes r))) ∙ written-listed r [] source link at sound
+
+longer : (n : ℕ) → 5 ≤ n → (n == 4) ≡ false
+longer n some = grind (arith, nat_tests)
+
+pub page-made : (text : List ℕ) → take 4 text ≡ page_head → 5 ≤ length text → records_fault PageStart (drop 4 text) ≡ None → page_fault text ≡ None
+page-made text head some none =
+    let is : (length text == 4) ≡ false = longer (length text) some in
+    rw (head, is) none

@@ -65,7 +65,7 @@ kind-stood (Some k) bytes r e =
     let both = of_sound (is_sound (read_as k bytes)) (read_as k bytes) r e in
     (k, refl, record { sound = subst (λ (x : Record). is_sound x ≡ true) both.1 both.0; reading = both.1 })
 
-uncut : (a b : Bool) (f : Front) (r : Record) → (if a then Refused faults.CutShort else if b then Refused faults.CutShort else f) ≡ Stands r → (b ≡ false) × (f ≡ Stands r)
+pub uncut : (a b : Bool) (f : Front) (r : Record) → (if a then Refused faults.CutShort else if b then Refused faults.CutShort else f) ≡ Stands r → (b ≡ false) × (f ≡ Stands r)
 uncut true b f r e = let no : ⊥ = cc in absurd no
 uncut false true f r e = let no : ⊥ = cc in absurd no
 uncut false false f r e = (refl, e)
@@ -103,7 +103,7 @@ read-spelled k bs below long whole first =
     let from1 = part-before 2 1 bs (to_be_bytes w16 r.source) (to_be_bytes w64 r.link ++ (to_be_bytes w64 r.at ++ (to_be_bytes w32 (length r.payload) ++ (r.payload ++ rest)))) (two 1 bs below (omega (arith, long))) from3 in
     pieces r rest ∙ ap (λ (l : List ℕ). kind_number k ∷ l) from1 ∙ ap (λ b. b ∷ drop 1 bs) (sym first) ∙ sym (drop_more bs 0 0 (omega (arith, long)))
 
-within : (bs : List ℕ) (size : ℕ) → nat_lt (length bs) size ≡ false → size ≤ length bs
+pub within : (bs : List ℕ) (size : ℕ) → nat_lt (length bs) size ≡ false → size ≤ length bs
 within bs size e = grind (arith, nat_tests)
 
 pub front-sound : (bs : List ℕ) (r : Record) → front bs ≡ Stands r → is_sound r ≡ true
@@ -117,3 +117,12 @@ front-spelled bs r below e =
     let long : 23 ≤ length bs = omega (arith, whole) in
     sym (subst (λ (x : Record). record_bytes x ++ drop (size_of x) bs ≡ bs) found.2.reading
     (read-spelled found.0 bs below long whole (number-of (slice_index bs 0) found.0 found.1)))
+
+pub front-size : (bs : List ℕ) (r : Record) → front bs ≡ Stands r → size_of r ≤ length bs
+front-size bs r e =
+    let stood = uncut (nat_lt (length bs) 23) (is_cut bs) (front_of_kind (kind_numbered (slice_index bs 0)) bs) r e in
+    let found = kind-stood (kind_numbered (slice_index bs 0)) bs r stood.1 in
+    let whole : 23 + payload_size bs ≤ length bs = within bs (23 + payload_size bs) stood.0 in
+    subst (λ (x : Record). size_of x ≤ length bs) found.2.reading
+    (let size : length (read_as found.0 bs).payload ≡ payload_size bs = length-take-le (payload_size bs) (drop 23 bs) (omega (arith, whole, length-drop 23 bs)) in
+    omega (arith, size, whole))

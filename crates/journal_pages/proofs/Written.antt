@@ -41,7 +41,7 @@ small-size r sound =
     ltb-true (length r.payload) payload_limit
     (and_parts (nat_lt (length r.payload) payload_limit) (payload_fits r.kind r.payload && (source_fits r.kind r.source && link_fits r.kind r.link)) sound).0
 
-same-record : (k : RecordKind) (source link at : ℕ) (payload : List ℕ) (a b c : ℕ) (p : List ℕ) → a ≡ source → b ≡ link → c ≡ at → p ≡ payload
+pub same-record : (k : RecordKind) (source link at : ℕ) (payload : List ℕ) (a b c : ℕ) (p : List ℕ) → a ≡ source → b ≡ link → c ≡ at → p ≡ payload
     → (let one : Record = record { kind = k; source = a; link = b; at = c; payload = p }
     in let other : Record = record { kind = k; source = source; link = link; at = at; payload = payload } in one ≡ other)
 same-record k source link at payload a b c p e f g h = cc

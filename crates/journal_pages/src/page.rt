@@ -87,7 +87,7 @@ fn is_spelled(text: &[u8])
 {}
 
 /// Nothing, where a text is a page; else the first thing that is wrong with it. Takes no memory.
-fn judge(text: &[u8]) -> Result<(), PageFault>
+pub fn judge(text: &[u8]) -> Result<(), PageFault>
     ensures { MatchResult result (λ nothing. page_fault text.now ≡ None)
         (λ fault. page_fault text.now ≡ Some fault) }
 {

@@ -1,0 +1,65 @@
+-- How records are cut into pages, and pages cut back. The format is the gateway's own, version 1.
+use Rattle.std.specs.Prelude.{◌≡◌, ℕ, ◌+◌, Bool, List, [], ◌∷◌, ◌++◌, length, take, map, nat_le, if◌then◌else◌, Vec}
+use Rattle.std.specs.declared.alloc.Global.{Global}
+use Rattle.journal_pages.specs.Page.{page_head}
+use Rattle.journal_pages.specs.Record.{Record, record_bytes}
+
+-- the bytes of each page
+abbrev pub texts : List (Vec ℕ Global) → List (List ℕ)
+texts pages = map (λ page. page.items) pages
+
+-- the bytes of a record, of which callers need no more
+unfoldable pub record_text : Record → List ℕ
+record_text r = record_bytes r
+
+-- ---- records into pages
+
+-- a page has at most so many bytes, but for one with a single record
+abbrev pub page_limit : ℕ
+page_limit = 65_536
+
+-- a page has room for a record of so many bytes
+abbrev pub has_room : List ℕ → ℕ → Bool
+has_room page size = nat_le (length page + size) page_limit
+
+-- a page with one record
+abbrev pub page_with : List ℕ → List ℕ
+page_with text = page_head ++ text
+
+-- a record behind the last page, which is this one
+abbrev pub last_with : List ℕ → List ℕ → List (List ℕ)
+last_with last text = if has_room last (length text) then (last ++ text) ∷ [] else last ∷ page_with text ∷ []
+
+-- One record more: a new page begins where it would carry the last one past the limit.
+abbrev pub with_text : List (List ℕ) → List ℕ → List (List ℕ)
+with_text [] text = page_with text ∷ []
+with_text (page ∷ []) text = last_with page text
+with_text (page ∷ next ∷ pages) text = page ∷ with_text (next ∷ pages) text
+
+-- records more, one by one
+abbrev pub with_records : List (List ℕ) → List Record → List (List ℕ)
+with_records pages [] = pages
+with_records pages (r ∷ rs) = with_records (with_text pages (record_text r)) rs
+
+-- ---- pages cut back
+
+-- how many bytes the last page has, 0 where there is none
+abbrev pub last_size : List (List ℕ) → ℕ
+last_size [] = 0
+last_size (page ∷ []) = length page
+last_size (page ∷ next ∷ pages) = last_size (next ∷ pages)
+
+-- so many bytes of the last page
+abbrev pub last_cut : ℕ → List (List ℕ) → List (List ℕ)
+last_cut bytes [] = []
+last_cut bytes (page ∷ []) = take bytes page ∷ []
+last_cut bytes (page ∷ next ∷ pages) = page ∷ last_cut bytes (next ∷ pages)
+
+-- the first pages, and so many bytes of the last of them
+abbrev pub cut_back : ℕ → ℕ → List (List ℕ) → List (List ℕ)
+cut_back count bytes pages = last_cut bytes (take count pages)
+
+-- pages are what they were, with records more behind
+pub record IsMoreOf (before now : List (List ℕ)) : Type 0 where
+  pub records : List Record
+  pub same : now ≡ with_records before records

@@ -1,0 +1,7 @@
+pub mod Cut
+pub mod Day
+pub mod Left
+pub use Rattle.journal_pages.specs.Ordered
+pub use Rattle.journal_pages.specs.Page
+pub use Rattle.journal_pages.specs.Record
+pub use Rattle.journal_pages.specs.Seen

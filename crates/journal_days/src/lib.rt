@@ -1,0 +1,18 @@
+//! The journal's pages of a day, one behind another: records are written into them and read across them.
+//!
+//! A page takes records as long as it has at most 65,536 bytes with them; the next record begins a new one. A page may
+//! begin and end inside a batch. Pages that were stored or sent are read again where they are such pages, however they
+//! were cut.
+//!
+//! The format is the gateway's own, version 1.
+#![tactic(auto)]
+
+mod day;
+mod laws;
+mod pages;
+mod records;
+
+pub use day::judge_day;
+pub use laws::days_go_on;
+pub use pages::{DayPages, PagesMark};
+pub use records::DayRecords;

@@ -1,0 +1,228 @@
+//! Pages that records are written into.
+
+ghost use Rattle.std.specs.Prelude.{◌≡◌, ◌+◌, ◌<◌, ◌++◌, ◌∷◌, [], List, length, vec_len, vec_capacity};
+ghost use Rattle.std.specs.Prelude.{IfOk, OnOk, OnErr};
+ghost use Rattle.journal_pages.specs.Record.{Record, payload_limit};
+ghost use Rattle.journal_pages.specs.Seen.{record_of};
+ghost use Rattle.journal_days.specs.Cut as spec;
+ghost use Rattle.journal_days.specs.Cut.{cut_back, last_cut, page_with, record_text, texts, with_records, with_text};
+
+use journal_pages::RecordHead;
+use std::alloc::{AllocError, Global};
+use std::marker::Model;
+
+/// What a page begins with: the journal's name and version.
+const PAGE_HEAD: &[u8; 4] = b"GJ01";
+
+/// How many bytes stand before a record's payload.
+const HEAD: usize = 23;
+
+/// A page has at most so many bytes, but for one with a single record.
+const PAGE_LIMIT: usize = 65_536;
+
+/// Where pages end: how many there are, and how many bytes the last one has.
+#[derive(Clone, Copy, Debug)]
+pub struct PagesMark {
+    pub pages: usize,
+    pub bytes: usize,
+}
+
+/// The journal's pages, the oldest first. Contracts see the bytes of each.
+#[derive(Debug, Drop)]
+pub struct DayPages {
+    pages: Vec<Vec<u8>>,
+}
+
+impl Model for DayPages {
+    ghost use Rattle.std.specs.Prelude.{List, ℕ};
+    ghost use Rattle.journal_days.specs.Cut.{texts};
+
+    ghost Value = { List (List ℕ) };
+
+    ghost view = { λ d. texts d.pages.items };
+}
+
+impl DayPages {
+    /// No pages. Takes no memory.
+    pub fn new(alloc: Global) -> DayPages
+        ensures { result ≡ [] }
+    {
+        DayPages {
+            pages: Vec::new(alloc),
+        }
+    }
+
+    /// These pages, copied. A growth for each, and one more.
+    pub fn copied(alloc: Global, pages: &[Vec<u8>]) -> Result<DayPages, AllocError>
+        ensures { IfOk result (λ copy. copy ≡ texts pages.now) }
+    {
+        let mut copies = Vec::with_capacity(alloc, pages.len())?;
+        for page in pages {
+            push_page(&mut copies, Vec::from_slice(alloc, page.as_slice())?)?;
+        }
+        Ok(DayPages { pages: copies })
+    }
+
+    /// One record more, of this head and a payload in two pieces, one behind the other: in the last page where it has
+    /// room, else in a new one. `AllocError` leaves the pages as they were. Two growths at most.
+    pub fn append(&mut self, head: &RecordHead, front: &[u8], back: &[u8]) -> Result<(), AllocError>
+        requires { length front.now + length back.now < payload_limit }
+        ensures ok { OnOk result (self.new
+            ≡ with_text self.old (record_text (record_of head.now (front.now ++ back.now)))) }
+        ensures err { OnErr result (self.new ≡ self.old) }
+    {
+        append_record(&mut self.pages, head, front, back)
+    }
+
+    /// The bytes of each page, the oldest first.
+    pub fn as_slice(&self) -> &[Vec<u8>]
+        ensures { texts result.now ≡ self.now }
+    {
+        &self.pages
+    }
+
+    /// Where the pages end now: `undo` brings them back to it, whatever records came behind. Takes no memory.
+    pub fn mark(&self) -> PagesMark
+        ensures { (rs : List Record) → cut_back result.pages result.bytes (with_records self.now rs) ≡ self.now }
+    {
+        PagesMark {
+            pages: self.pages.len(),
+            bytes: last_size(&self.pages),
+        }
+    }
+
+    /// Leaves so many pages, and so many bytes of the last one. Takes no memory.
+    pub fn undo(&mut self, mark: PagesMark)
+        ensures { self.new ≡ cut_back mark.pages mark.bytes self.old }
+    {
+        self.pages.truncate(mark.pages);
+        cut_last(&mut self.pages, mark.bytes);
+    }
+}
+
+/// How many bytes the last page has, 0 where there is none.
+fn last_size(pages: &[Vec<u8>]) -> usize
+    ensures { result ≡ spec.last_size (texts pages.now) }
+{
+    match pages.last() {
+        Some(last) => last.as_slice().len(),
+        None => 0,
+    }
+}
+
+/// Leaves so many bytes of the last page.
+fn cut_last(pages: &mut Vec<Vec<u8>>, bytes: usize)
+    ensures { texts pages.new.items ≡ last_cut bytes (texts pages.old.items) }
+{
+    let Some(mut last) = pages.pop() else {
+        return;
+    };
+    last.truncate(bytes);
+    pages.push_reserved(last);
+}
+
+/// One record more behind these pages.
+fn append_record(
+    pages: &mut Vec<Vec<u8>>,
+    head: &RecordHead,
+    front: &[u8],
+    back: &[u8],
+) -> Result<(), AllocError>
+    requires { length front.now + length back.now < payload_limit }
+    ensures ok { OnOk result (texts pages.new.items
+        ≡ with_text (texts pages.old.items) (record_text (record_of head.now (front.now ++ back.now)))) }
+    ensures err { OnErr result (texts pages.new.items ≡ texts pages.old.items) }
+{
+    let size = HEAD + front.len() + back.len();
+    match pages.pop() {
+        None => begin_page(pages, head, front, back),
+        Some(last) if has_room(&last, size) => append_behind(pages, last, head, front, back),
+        Some(last) => {
+            pages.push_reserved(last);
+            begin_page(pages, head, front, back)
+        }
+    }
+}
+
+/// Whether a record of this size goes into a page.
+fn has_room(page: &[u8], size: usize) -> bool
+    ensures { result ≡ spec.has_room page.now size }
+{
+    size <= PAGE_LIMIT && page.len() <= PAGE_LIMIT - size
+}
+
+/// One record more in a page that was taken from behind these, and is put back there.
+fn append_behind(
+    pages: &mut Vec<Vec<u8>>,
+    mut last: Vec<u8>,
+    head: &RecordHead,
+    front: &[u8],
+    back: &[u8],
+) -> Result<(), AllocError>
+    requires room { vec_len pages.old < vec_capacity pages.old }
+    requires limit { length front.now + length back.now < payload_limit }
+    ensures ok { OnOk result (texts pages.new.items ≡ texts pages.old.items
+        ++ (last.items ++ record_text (record_of head.now (front.now ++ back.now))) ∷ []) }
+    ensures err { OnErr result (texts pages.new.items ≡ texts pages.old.items ++ last.items ∷ []) }
+{
+    let appended = append_text(&mut last, head, front, back);
+    pages.push_reserved(last);
+    appended
+}
+
+/// A new page with one record.
+fn begin_page(
+    pages: &mut Vec<Vec<u8>>,
+    head: &RecordHead,
+    front: &[u8],
+    back: &[u8],
+) -> Result<(), AllocError>
+    requires { length front.now + length back.now < payload_limit }
+    ensures ok { OnOk result (texts pages.new.items ≡ texts pages.old.items
+        ++ page_with (record_text (record_of head.now (front.now ++ back.now))) ∷ []) }
+    ensures err { OnErr result (texts pages.new.items ≡ texts pages.old.items) }
+{
+    let page = page_of(*pages.allocator(), head, front, back)?;
+    push_page(pages, page)
+}
+
+/// One page more.
+fn push_page(pages: &mut Vec<Vec<u8>>, page: Vec<u8>) -> Result<(), AllocError>
+    ensures ok { OnOk result (texts pages.new.items ≡ texts pages.old.items ++ page.items ∷ []) }
+    ensures err { OnErr result (texts pages.new.items ≡ texts pages.old.items) }
+{
+    pages.push(page)?;
+    Ok(())
+}
+
+/// A page of one record, with room for more.
+fn page_of(
+    alloc: Global,
+    head: &RecordHead,
+    front: &[u8],
+    back: &[u8],
+) -> Result<Vec<u8>, AllocError>
+    requires { length front.now + length back.now < payload_limit }
+    ensures { IfOk result (λ page. page.items
+        ≡ page_with (record_text (record_of head.now (front.now ++ back.now)))) }
+{
+    let mut page = Vec::with_capacity(alloc, PAGE_LIMIT)?;
+    page.extend_from_slice(PAGE_HEAD)?;
+    append_text(&mut page, head, front, back)?;
+    Ok(page)
+}
+
+/// One record more in a page.
+fn append_text(
+    page: &mut Vec<u8>,
+    head: &RecordHead,
+    front: &[u8],
+    back: &[u8],
+) -> Result<(), AllocError>
+    requires { length front.now + length back.now < payload_limit }
+    ensures ok { OnOk result (page.new.items
+        ≡ page.old.items ++ record_text (record_of head.now (front.now ++ back.now))) }
+    ensures err { OnErr result (page.new.items ≡ page.old.items) }
+{
+    head.append(page, front, back)
+}
