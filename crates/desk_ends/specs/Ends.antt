@@ -1,5 +1,5 @@
 -- What an end that has finished tells, and when it is the one that a desk's name names. (Own.)
-use Rattle.std.specs.Prelude.{◌≡◌, ℕ, Some, slice_get, List}
+use Rattle.std.specs.Prelude.{◌≡◌, ℕ, Option, Some, None, slice_get, List}
 use Rattle.rtrb.specs.Ring.{all_sent, received}
 use Rattle.gate_events.specs.Sources.{events_from}
 use Rattle.desk_ends.specs.Rings.{NamedInlet, NamedOutlet, Done, put_at, took_at, finished_ring, consumer_ring}
@@ -13,6 +13,11 @@ done_of at (Took to c) = took_at at to (received c)
 abbrev pub position_of : Done → ℕ
 position_of (put_at at source events) = at
 position_of (took_at at to lists) = at
+
+-- an inlet's position
+abbrev pub inlet_of : Done → Option ℕ
+inlet_of (put_at at source events) = Some at
+inlet_of (took_at at to lists) = None
 
 -- The end is that of the ring at this position, and what an inlet put is all of its source.
 abbrev pub IsNamed : List NamedInlet → List NamedOutlet → ℕ → FinishedEnd → Type 0

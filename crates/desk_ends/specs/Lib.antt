@@ -1,3 +1,4 @@
 pub mod Rings
+pub mod Seats
 pub mod Ends
 pub use Rattle.gate_events.specs.Sources

@@ -41,7 +41,7 @@ impl<K: DeskName> Inlet<K> {
     ghost use Rattle.std.specs.Prelude.{◌≡◌, ◌<◌, ◌+◌, ◌≤◌, ◌++◌, [], ◌∷◌, Some, true, IfSome, IfErr, IsOk, OnOk, slice_get};
     ghost use Rattle.rtrb.specs.Ring.{sent, known_free};
     ghost use Rattle.gate_events.specs.Sources.{is_from};
-    ghost use Rattle.desk_ends.specs.Rings.{producer_ring, put_at};
+    ghost use Rattle.desk_ends.specs.Rings.{NamedInlet, producer_ring, put_at};
 
     /// The end of a ring through which nothing went yet, at its position.
     pub fn new(at: usize, source: Source, producer: Producer<Event>) -> Inlet<K>
@@ -66,7 +66,8 @@ impl<K: DeskName> Inlet<K> {
 
     /// Whose events it puts.
     pub fn source(&self) -> Source
-        ensures { result ≡ self.now.source }
+        ensures value { result ≡ self.now.source }
+        ensures named { (name : NamedInlet) → slice_get K.inlets self.now.at ≡ Some name → result ≡ name.source }
     {
         self.source
     }

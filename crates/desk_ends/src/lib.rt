@@ -11,8 +11,12 @@ mod finished;
 mod inlet;
 mod name;
 mod outlet;
+mod seat;
+mod way;
 
 pub use finished::{Finished, FinishedEnd};
 pub use inlet::Inlet;
 pub use name::DeskName;
 pub use outlet::Outlet;
+pub use seat::Seat;
+pub use way::Way;

@@ -36,7 +36,7 @@ impl<K: DeskName> Model for Outlet<K> {
 impl<K: DeskName> Outlet<K> {
     ghost use Rattle.std.specs.Prelude.{◌≡◌, ◌<◌, ◌++◌, [], ◌∷◌, Some, IfSome, IfNone, IsSome, length, slice_get};
     ghost use Rattle.rtrb.specs.Ring.{received, known_items};
-    ghost use Rattle.desk_ends.specs.Rings.{consumer_ring, took_at};
+    ghost use Rattle.desk_ends.specs.Rings.{NamedOutlet, consumer_ring, took_at};
 
     /// The end of a ring through which nothing went yet, at its position.
     pub fn new(at: usize, to: Recipient, consumer: Consumer<Told>) -> Outlet<K>
@@ -61,7 +61,8 @@ impl<K: DeskName> Outlet<K> {
 
     /// Whose links its lists are for.
     pub fn recipient(&self) -> Recipient
-        ensures { result ≡ self.now.to }
+        ensures value { result ≡ self.now.to }
+        ensures named { (name : NamedOutlet) → slice_get K.outlets self.now.at ≡ Some name → result ≡ name.to }
     {
         self.to
     }

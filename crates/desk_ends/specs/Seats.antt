@@ -1,0 +1,68 @@
+-- What contracts see of the ends that the desk keeps: a seat gives the events of an inlet's ring, by a way lists go into
+-- an outlet's ring. (Own.)
+use Rattle.std.specs.Prelude.{◌≡◌, ◌≢◌, ℕ, ◌<◌, ◌≤◌, ◌⊎◌, Bool, true, false, Option, Some, slice_get, length, List, [], ◌∷◌, ◌++◌}
+use mathlib.Core.List.{IsPrefix}
+use Rattle.gate_law.specs.Events.{LinkOut}
+use Rattle.gate_events.specs.declared.event.Event.{Event}
+use Rattle.gate_events.specs.Sources.{events_from}
+use Rattle.desk_ends.specs.Rings.{NamedInlet, NamedOutlet, Done, put_at, took_at}
+
+-- a seat: every event that it gave, and those that it knows to lie in the ring
+pub record SeatState : Type 0 where
+  pub name : NamedInlet
+  pub gave : List Event
+  pub known : List Event
+
+-- a way: every list that went into the ring, for how many more it knows room, and whether it is cut: then a list for
+-- its recipient went into no ring, and none goes in any more
+pub record WayState : Type 0 where
+  pub name : NamedOutlet
+  pub sent : List (List LinkOut)
+  pub free : ℕ
+  pub cut : Bool
+
+abbrev pub seat_name : SeatState → NamedInlet
+seat_name a = a.name
+
+abbrev pub way_name : WayState → NamedOutlet
+way_name w = w.name
+
+-- a seat that looked may know of more events
+abbrev pub SeatLooked : SeatState → SeatState → Type 0
+SeatLooked a b = (b.name ≡ a.name) × (b.gave ≡ a.gave) × IsPrefix a.known b.known
+
+-- a seat that gave this event
+abbrev pub SeatGave : Event → SeatState → SeatState → Type 0
+SeatGave e a b = (b.name ≡ a.name) × (b.gave ≡ a.gave ++ e ∷ []) × (a.known ≡ e ∷ b.known)
+
+-- a way that looked may know of more room
+abbrev pub WayLooked : WayState → WayState → Type 0
+WayLooked w v = (v.name ≡ w.name) × (v.sent ≡ w.sent) × (v.cut ≡ w.cut) × (w.free ≤ v.free)
+
+-- Lists were for a way. It took them, or it is cut and took none; it isn't cut by them where it knew of room, nor where
+-- there were none.
+pub record WaySent (lists : List (List LinkOut)) (w v : WayState) : Type 0 where
+  pub name : v.name ≡ w.name
+  pub whole : v.cut ≡ false → (w.cut ≡ false) × (v.sent ≡ w.sent ++ lists)
+  pub lost : v.cut ≡ true → v.sent ≡ w.sent
+  pub stays : ((0 < w.free) ⊎ (lists ≡ [])) → v.cut ≡ w.cut
+
+-- each seat looked or stayed as it is
+pub record SeatsLooked (old new : List SeatState) : Type 0 where
+  pub count : length new ≡ length old
+  pub each : (k : ℕ) (a : SeatState) → slice_get old k ≡ Some a → (b : SeatState) × (slice_get new k ≡ Some b) × SeatLooked a b
+
+-- no seat but the one at this place changed
+abbrev pub SeatsStayBut : Option ℕ → List SeatState → List SeatState → Type 0
+SeatsStayBut place old new = (k : ℕ) → place ≢ Some k → slice_get new k ≡ slice_get old k
+
+pub record WaysLooked (old new : List WayState) : Type 0 where
+  pub count : length new ≡ length old
+  pub each : (d : ℕ) (w : WayState) → slice_get old d ≡ Some w → (v : WayState) × (slice_get new d ≡ Some v) × WayLooked w v
+
+-- What an end that has finished says is what the desk's end of its ring knows: an inlet put what came out and what is
+-- known to lie there still, and an outlet took a beginning of what went in.
+abbrev pub IsTold : Done → List SeatState → List WayState → Type 0
+IsTold (put_at k source events) seats ways = (a : SeatState) × (slice_get seats k ≡ Some a) × (a.name.source ≡ source)
+    × (a.gave ++ a.known ≡ events) × (events_from source events ≡ events)
+IsTold (took_at d to lists) seats ways = (w : WayState) × (slice_get ways d ≡ Some w) × (w.name.to ≡ to) × IsPrefix lists w.sent

@@ -1,0 +1,90 @@
+//! The desk's end of an inlet's ring.
+
+use gate_events::{Event, Source};
+use rtrb::{Consumer, Finished};
+use std::marker::Model;
+
+/// The desk's end of an inlet's ring, by which it gives the events that were put. Contracts see its ring and whose
+/// events go through it, what it gave, and what it knows to lie in the ring.
+#[derive(Drop)]
+pub struct Seat {
+    source: Source,
+    consumer: Consumer<Event>,
+}
+
+impl Model for Seat {
+    ghost use Rattle.rtrb.specs.Ring.{received, known_items};
+    ghost use Rattle.desk_ends.specs.Rings.{consumer_ring};
+    ghost use Rattle.desk_ends.specs.Seats.{SeatState};
+
+    ghost Value = { SeatState };
+
+    ghost view = { λ s. record {
+      name = record { source = s.source; ring = consumer_ring s.consumer };
+      gave = received s.consumer;
+      known = known_items s.consumer;
+    } };
+}
+
+impl Seat {
+    ghost use Rattle.std.specs.Prelude.{◌≡◌, ◌<◌, ◌↔◌, ◌++◌, Some, IsTrue, length, slice_get};
+    ghost use Rattle.rtrb.specs.Ring.{all_sent, received, known_items};
+    ghost use Rattle.desk_ends.specs.Rings.{consumer_ring, finished_ring};
+    ghost use Rattle.desk_ends.specs.Seats.{SeatGave, SeatLooked};
+
+    /// The end of a ring through which the events of a source go.
+    pub fn new(source: Source, consumer: Consumer<Event>) -> Seat
+        ensures name { result.name ≡ record { source = source; ring = consumer_ring consumer } }
+        ensures events { (result.gave ≡ received consumer) × (result.known ≡ known_items consumer) }
+    {
+        Seat { source, consumer }
+    }
+
+    /// Whose events it gives.
+    pub fn source(&self) -> Source
+        ensures { result ≡ self.now.name.source }
+    {
+        self.source
+    }
+
+    /// Whether it knows of no event, after a look into the ring where it knew of none.
+    pub fn is_empty(&mut self) -> bool
+        ensures looked { SeatLooked self.old self.new }
+        ensures value { IsTrue result ↔ (length self.new.known ≡ 0) }
+    {
+        self.consumer.is_empty()
+    }
+
+    /// How many events it knows to lie in the ring, without a look.
+    pub fn known(&self) -> usize
+        ensures { result ≡ length self.now.known }
+    {
+        self.consumer.cached_slots()
+    }
+
+    /// The first event that it knows of.
+    pub fn front(&self) -> &Event
+        requires some { 0 < length self.now.known }
+        ensures { slice_get self.now.known 0 ≡ Some result.now }
+    {
+        self.consumer.peek_known()
+    }
+
+    /// Gives the first event that it knows of.
+    pub fn pop(&mut self) -> Event
+        requires some { 0 < length self.old.known }
+        ensures { SeatGave result self.old self.new }
+    {
+        self.consumer.pop_known()
+    }
+
+    /// Looks into the ring of an inlet that has finished: what it knows of then is all that is left.
+    pub(crate) fn look_after(&mut self, finished: &mut Finished<Event>)
+        requires own { finished_ring finished.old ≡ self.old.name.ring }
+        ensures looked { SeatLooked self.old self.new }
+        ensures finished { (finished_ring finished.new ≡ finished_ring finished.old) × (all_sent finished.new ≡ all_sent finished.old) }
+        ensures all { self.new.gave ++ self.new.known ≡ all_sent finished.old }
+    {
+        self.consumer.slots_after(finished);
+    }
+}
