@@ -1,7 +1,7 @@
 -- The newest item that passes a test, in a list that has the oldest first; where it can stand at one place alone.
 use Rattle.std.proofs.Common.{◌≡◌, ℕ, zero, suc, ◌+◌, ◌-◌, ◌<◌, ◌≤◌, Bool, true, false, List, [], ◌∷◌, ◌++◌, length, reverse, refl, sym, ap, ◌∙◌, arith, cond, true≢false, get_or, slice_get}
-use Rattle.std.specs.Prelude.{Option, Some, None, if◌then◌else◌, nat_lt}
-use Rattle.std.specs.List.{find, position, position_or_len}
+use Rattle.std.specs.Prelude.{Option, Some, None, if◌then◌else◌, nat_lt, ◌||◌}
+use Rattle.std.specs.List.{find, list_any, position, position_or_len}
 use Rattle.std.proofs.lemmas.Bool.Decides.{nat_tests}
 use Rattle.std.proofs.lemmas.List.{get_or-reverse, reverse-append}
 use Rattle.std.proofs.lemmas.List.Folds.{find_at}
@@ -141,3 +141,55 @@ only-newest {A = A} test xs place a only at h = record {
 
 pub found-at : {A : Type 0} (test : A → Bool) (xs : List A) (place : ℕ) (d : A) → IsNewest test xs place → find test (reverse xs) ≡ Some (get_or xs place d)
 found-at test xs place d newest = newest.newest ∙ slice_get-get_or xs place d newest.inside
+
+-- ---- whether any item passes
+
+pub newest-there : {A : Type 0} (test : A → Bool) (xs : List A) (place : ℕ) → IsNewest test xs place → find test (reverse xs) ≡ None → ⊥
+newest-there test [] place newest none = absurd (omega (arith, newest.inside))
+newest-there test (x ∷ xs) place newest none = let at = slice_get-get_or (x ∷ xs) place x newest.inside in let found = newest.newest in cc
+
+find-parts : {A : Type 0} (test : A → Bool) (ys : List A) (x : A) → find test (ys ++ x ∷ []) ≡ None → (find test ys ≡ None) × (test x ≡ false)
+find-parts {A = A} test [] x none = by_test (test x) none
+  where
+    by_test : (b : Bool) → ◌≡◌ {A = Option A} (cond b (Some x) None) None → (find test [] ≡ None) × (b ≡ false)
+    by_test true e = absurd (cc)
+    by_test false e = (refl, refl)
+find-parts {A = A} test (y ∷ ys) x none = by_test (test y) (find-parts test ys x) none
+  where
+    by_test : (b : Bool) → (find test (ys ++ x ∷ []) ≡ None → (find test ys ≡ None) × (test x ≡ false)) → ◌≡◌ {A = Option A} (cond b (Some y) (find test (ys ++ x ∷ []))) None → (◌≡◌ {A = Option A} (cond b (Some y) (find test ys)) None) × (test x ≡ false)
+    by_test true rest e = absurd (cc)
+    by_test false rest e = rest e
+
+find-whole : {A : Type 0} (test : A → Bool) (ys : List A) (x : A) → find test ys ≡ None → test x ≡ false → find test (ys ++ x ∷ []) ≡ None
+find-whole {A = A} test [] x none fails = by_test (test x) fails
+  where
+    by_test : (b : Bool) → b ≡ false → ◌≡◌ {A = Option A} (cond b (Some x) None) None
+    by_test true e = absurd (true≢false e)
+    by_test false e = refl
+find-whole {A = A} test (y ∷ ys) x none fails = by_test (test y) (λ e. find-whole test ys x e fails) none
+  where
+    by_test : (b : Bool) → (find test ys ≡ None → find test (ys ++ x ∷ []) ≡ None) → ◌≡◌ {A = Option A} (cond b (Some y) (find test ys)) None → ◌≡◌ {A = Option A} (cond b (Some y) (find test (ys ++ x ∷ []))) None
+    by_test true rest e = absurd (cc)
+    by_test false rest e = rest e
+
+pub none-any : {A : Type 0} (test : A → Bool) (xs : List A) → find test (reverse xs) ≡ None → list_any test xs ≡ false
+none-any test [] none = refl
+none-any test (x ∷ xs) none =
+    let parts = find-parts test (reverse xs) x (sym (ap (find test) (reverse-append (x ∷ []) xs)) ∙ none) in
+    ap (λ b. b || list_any test xs) parts.1 ∙ none-any test xs parts.0
+
+any-none : {A : Type 0} (test : A → Bool) (xs : List A) → list_any test xs ≡ false → find test (reverse xs) ≡ None
+any-none test [] fails = refl
+any-none {A = A} test (x ∷ xs) fails =
+    ap (find test) (reverse-append (x ∷ []) xs) ∙ find-whole test (reverse xs) x (any-none test xs (by_first (test x) fails).1) (by_first (test x) fails).0
+  where
+    by_first : (b : Bool) → (b || list_any test xs) ≡ false → (b ≡ false) × (list_any test xs ≡ false)
+    by_first true e = absurd (true≢false e)
+    by_first false e = (refl, e)
+
+pub newest-any : {A : Type 0} (test : A → Bool) (xs : List A) (place : ℕ) → IsNewest test xs place → list_any test xs ≡ true
+newest-any test xs place newest = by_any (list_any test xs) refl
+  where
+    by_any : (b : Bool) → list_any test xs ≡ b → b ≡ true
+    by_any true e = refl
+    by_any false e = absurd (newest-there test xs place newest (any-none test xs e))

@@ -2,7 +2,7 @@
 
 ghost use Rattle.std.specs.Prelude.{◌≡◌, ◌≤◌, ◌+◌, ℕ, List, true, false, None, Some, [], IfOk, OnOk, reverse, slice_get};
 ghost use Rattle.std.specs.Prelude.{MatchOption};
-ghost use Rattle.std.specs.List.{find};
+ghost use Rattle.std.specs.List.{find, list_any};
 ghost use Rattle.undo_list.specs.Undoing.{IsWithin};
 ghost use Rattle.hint_index.specs.Hints.{Covered, Covers, LeadsTo, LedBy, hint_of};
 ghost use Rattle.hint_index.specs.Newest.{IsNewest, OnlyAt};
@@ -85,6 +85,17 @@ impl<K: Eq + Hash + Drop, S: BuildHasher + Drop> HintIndex<K, S> {
             (λ place. IsNewest (Q.sought query.now) items.now place) }
     {
         place_by(self.hints.get(key).copied(), items, query)
+    }
+
+    /// Whether an item that is looked for is there, by a key that each such item has. Takes no memory.
+    pub fn contains<T, Q: Sought<T>>(&self, items: &[T], key: &K, query: &Q) -> bool
+        requires { LedBy (hint_of K.eq self.now key.now) (Q.sought query.now) items.now }
+        ensures { result ≡ list_any (Q.sought query.now) items.now }
+    {
+        match self.place_of(items, key, query) {
+            None => false,
+            Some(_) => true,
+        }
     }
 }
 
