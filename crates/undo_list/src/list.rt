@@ -1,7 +1,8 @@
 //! The list.
 
 ghost use Rattle.std.specs.Prelude.{◌≡◌, ◌≤◌, ◌<◌, ◌^◌, ◌++◌, ◌∷◌, [], length, slice_get, slice_set};
-ghost use Rattle.std.specs.Prelude.{Some, OnOk, vec_len, vec_capacity};
+ghost use Rattle.std.specs.Prelude.{Some, OnOk, true, vec_len, vec_capacity};
+ghost use Rattle.undo_list.specs.Undoing.{IsWithin};
 
 use std::alloc::{AllocError, Global};
 use std::marker::Model;
@@ -67,6 +68,13 @@ impl<T: Drop> UndoList<T> {
         ensures { slice_get self.now.now place ≡ Some result.now }
     {
         &self.items[place]
+    }
+
+    /// Whether nothing was changed but at the end since it was settled: what stood there then stands there now.
+    pub fn is_still(&self) -> bool
+        ensures { result ≡ true → IsWithin self.now.settled self.now.now }
+    {
+        self.changed.is_empty()
     }
 
     /// Makes room for one item more. Nothing else changes, be there memory or not.

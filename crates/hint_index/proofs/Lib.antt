@@ -1,0 +1,4 @@
+pub mod Keys
+pub mod Newest
+pub mod Noting
+pub mod Standing

@@ -1,0 +1,5 @@
+pub mod Newest
+pub mod Hints
+pub mod TextKeys
+pub mod KeyLaws
+pub use Rattle.undo_list.specs.Undoing

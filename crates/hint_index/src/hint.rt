@@ -1,0 +1,9 @@
+//! What an index says of a key.
+
+/// A place where an item with a key may stand.
+#[derive(Clone, Copy, Debug)]
+pub struct Hint {
+    pub place: usize,
+    /// It stands nowhere else.
+    pub is_only: bool,
+}

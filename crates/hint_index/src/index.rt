@@ -1,0 +1,155 @@
+//! The index.
+
+ghost use Rattle.std.specs.Prelude.{◌≡◌, ◌≤◌, ◌+◌, ℕ, List, true, false, None, Some, [], IfOk, OnOk, reverse, slice_get};
+ghost use Rattle.std.specs.Prelude.{MatchOption};
+ghost use Rattle.std.specs.List.{find, list_any};
+ghost use Rattle.undo_list.specs.Undoing.{IsWithin};
+ghost use Rattle.hint_index.specs.Hints.{Covered, Covers, LeadsTo, LedBy, hint_of};
+ghost use Rattle.hint_index.specs.Newest.{IsNewest, OnlyAt};
+
+use crate::found::{newest, only};
+use crate::hint::Hint;
+use crate::keyed::{Keyed, Sought};
+use indexmap::IndexMap;
+use std::alloc::{AllocError, Global};
+use std::hash::{BuildHasher, BuildHasherDefault, FoldHasher, Hash};
+use std::marker::Model;
+use undo_list::UndoList;
+
+/// Of each key that was noted, a hint where the items with it may stand. Contracts see the keys with their hints, and
+/// for how many keys more there is room; of the hasher they see nothing.
+#[derive(Debug, Drop)]
+pub struct HintIndex<K: Eq + Hash + Drop, S: BuildHasher + Drop = BuildHasherDefault<FoldHasher>> {
+    hints: IndexMap<K, Hint, S>,
+}
+
+impl<K: Eq + Hash + Drop, S: BuildHasher + Drop> Model for HintIndex<K, S> {
+    ghost use Rattle.indexmap.specs.IndexMap.{spare};
+    ghost use Rattle.hint_index.specs.Hints.{Hints};
+
+    ghost Value = { Hints K };
+
+    ghost view = { λ i. record { entries = i.hints.entries; room = spare i.hints } };
+}
+
+impl<K: Eq + Hash + Drop> HintIndex<K> {
+    /// No keys, with the fixed seed. Takes no memory.
+    pub fn new(alloc: Global) -> HintIndex<K>
+        ensures { result.entries ≡ [] }
+    {
+        HintIndex {
+            hints: IndexMap::new(alloc),
+        }
+    }
+}
+
+impl<K: Eq + Hash + Drop, S: BuildHasher + Drop> HintIndex<K, S> {
+    /// No keys, with a hasher. Takes no memory.
+    pub fn with_hasher(alloc: Global, hasher: S) -> HintIndex<K, S>
+        ensures { result.entries ≡ [] }
+    {
+        HintIndex {
+            hints: IndexMap::with_hasher(alloc, hasher),
+        }
+    }
+
+    /// Makes room for so many keys more. No hint changes, be there memory or not.
+    pub fn reserve(&mut self, count: usize) -> Result<(), AllocError>
+        ensures room { OnOk result (count ≤ self.new.room) }
+        ensures entries { self.new.entries ≡ self.old.entries }
+    {
+        self.hints.reserve(count)
+    }
+
+    /// Notes that an item with a key stands at a place of a list, or is to stand there before the next look-up. There
+    /// is room for a key. Takes no memory.
+    ///
+    /// Items that are there, and those that the list is put back to, are led to as before.
+    pub fn note<T: Keyed<K> + Drop>(&mut self, list: &UndoList<T>, key: K, place: usize)
+        requires room { 1 ≤ self.old.room }
+        ensures leads { LeadsTo (hint_of K.eq self.new key) place }
+        ensures keeps { (k : K) → LeadsTo (hint_of K.eq self.old k) place → LeadsTo (hint_of K.eq self.new k) place }
+        ensures covered { Covered K.eq T.has self.old list.now → Covered K.eq T.has self.new list.now }
+        ensures room_left { self.old.room ≤ self.new.room + 1 }
+    {
+        let hint = self.hints.get(&key).copied();
+        let is_only = is_only(hint, list.as_slice(), list.is_still(), &key, place);
+        let _ = self.hints.insert(key, Hint { place, is_only });
+    }
+
+    /// The place of the newest item that is looked for, by a key that each such item has. Takes no memory.
+    pub fn place_of<T, Q: Sought<T>>(&self, items: &[T], key: &K, query: &Q) -> Option<usize>
+        requires { LedBy (hint_of K.eq self.now key.now) (Q.sought query.now) items.now }
+        ensures { MatchOption result
+            (find (Q.sought query.now) (reverse items.now) ≡ None)
+            (λ place. IsNewest (Q.sought query.now) items.now place) }
+    {
+        place_by(self.hints.get(key).copied(), items, query)
+    }
+
+    /// Whether an item that is looked for is there, by a key that each such item has. Takes no memory.
+    pub fn contains<T, Q: Sought<T>>(&self, items: &[T], key: &K, query: &Q) -> bool
+        requires { LedBy (hint_of K.eq self.now key.now) (Q.sought query.now) items.now }
+        ensures { result ≡ list_any (Q.sought query.now) items.now }
+    {
+        match self.place_of(items, key, query) {
+            None => false,
+            Some(_) => true,
+        }
+    }
+}
+
+/// The place of the newest item that is looked for, to which a hint leads.
+fn place_by<T, Q: Sought<T>>(hint: Option<Hint>, items: &[T], query: &Q) -> Option<usize>
+    requires { LedBy hint (Q.sought query.now) items.now }
+    ensures { MatchOption result
+        (find (Q.sought query.now) (reverse items.now) ≡ None)
+        (λ place. IsNewest (Q.sought query.now) items.now place) }
+{
+    match hint {
+        None => None,
+        Some(hint) => {
+            if hint.is_only {
+                only(items, hint.place, query)
+            } else {
+                newest(items, query)
+            }
+        }
+    }
+}
+
+/// Whether no item has a key but one at a place: none of these, and none that these are put back to.
+fn is_only<K: Eq + Hash, T: Keyed<K>>(
+    hint: Option<Hint>,
+    items: &[T],
+    is_still: bool,
+    key: &K,
+    place: usize,
+) -> bool
+    ensures any { result ≡ true → (xs : List T) → (is_still ≡ true → IsWithin xs items.now)
+        → LedBy hint (T.has key.now) xs → OnlyAt place (T.has key.now) xs }
+    ensures now { result ≡ true → LedBy hint (T.has key.now) items.now → OnlyAt place (T.has key.now) items.now }
+{
+    match hint {
+        None => true,
+        Some(hint) => {
+            if hint.place == place {
+                hint.is_only
+            } else {
+                is_still && (hint.is_only && !has_at(items, hint.place, key))
+            }
+        }
+    }
+}
+
+/// Whether the item at a place has a key.
+fn has_at<K: Eq + Hash, T: Keyed<K>>(items: &[T], place: usize, key: &K) -> bool
+    ensures no { result ≡ false → (item : T) → slice_get items.now place ≡ Some item
+        → T.has key.now item ≡ false }
+{
+    if place < items.len() {
+        items[place].has_key(key)
+    } else {
+        false
+    }
+}
