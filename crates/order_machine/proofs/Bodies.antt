@@ -68,20 +68,6 @@ module _ (n : ℕ) (o : Occasion) (s : Shown) where
   pub average-in : first_value 6 (report n o s) ≡ Some (price_text (average_of s.value s.executed))
   average-in = to_kinds 6 refl refl refl ∙ (to_terms 6 refl refl ∙ to_back 6 refl refl)
 
-  pub old_id-in : first_value 41 (report n o s) ≡ old_id
-  old_id-in = by_request old_id
-    where
-      nothing : (x : Option (List ℕ)) → first_value 41 kinds_on ≡ None
-      nothing x = to_terms 41 refl refl ∙ (to_back 41 refl refl ∙ at_end o.why)
-        where
-          at_end : (w : Option (List ℕ)) → first_value 41 (optional 58 w ++ []) ≡ None
-          at_end None = refl
-          at_end (Some v) = refl
-
-      by_request : (x : Option (List ℕ)) → first_value 41 (optional 41 x ++ ref_on) ≡ x
-      by_request (Some v) = refl
-      by_request None = skip 41 19 o.broken kinds_on refl ∙ nothing None
-
 -- what a report states is what its order shows
 pub stated-in : (n : ℕ) (o : Occasion) (s : Shown) → stated (report n o s) ≡ record { side = s.side; symbol = s.symbol; cumulated = decimal s.executed; leaves = decimal s.leaves; average = price_text (average_of s.value s.executed); total = decimal s.total; status = status_of s }
 stated-in n o s = rw (side-in n o s, symbol-in n o s, executed-in n o s, leaves-in n o s, average-in n o s, total-in n o s, status-in n o s) refl

@@ -33,9 +33,6 @@ module _ (P : List ℕ → Type 0) where
   abbrev pub OfShown : Shown → Type 0
   OfShown s = P s.id × Each OfRequest s.pending
 
-  report-id : (n : ℕ) (o : Occasion) (s : Shown) → P (unwrap_or (option_map (λ (q : Entry). text 11 q.message) o.request) s.id) → HasId (report n o s)
-  report-id n o s p = p
-
   too_late-ids : (s : Shown) (qs : List Entry) → Each OfRequest qs → Each HasId (told.each_too_late s qs)
   too_late-ids s [] each = tt
   too_late-ids s (q ∷ qs) each = (each.0, too_late-ids s qs each.1)

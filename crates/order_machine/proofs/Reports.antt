@@ -66,12 +66,6 @@ new-Reads n shares price o sent waits live small small_total reads =
       refused_so = rw (own, reads.refused_so) refl;
     }
 
--- a request that isn't this one stays pending
-cancel-stays : (id : List ℕ) (c : Option Cancelling) → ((x : Cancelling) → c ≡ Some x → bytes_eq (text 11 x.request.message) id ≡ false)
-    → (o : OrderRecord) → filter (λ (q : Request). not (bytes_eq q.id id)) (chained (record o { replace = None; cancel = c })).pending ≡ (chained (record o { replace = None; cancel = c })).pending
-cancel-stays id None apart o = refl
-cancel-stays id (Some c) apart o = let other = apart c refl in rw other refl
-
 -- 150=5: a replace is answered, and the order goes by its id
 pub replaced-Reads : (n : ℕ) (m : Replaced) (q : Entry) (o : OrderRecord) (sent : List Message) → o.stage ≡ Working → o.is_refused ≡ false → o.replace ≡ Some q
     → ((c : Cancelling) → o.cancel ≡ Some c → bytes_eq (text 11 c.request.message) (text 11 q.message) ≡ false)
