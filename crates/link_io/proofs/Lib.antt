@@ -1,5 +1,5 @@
 mod Refilling
 mod Sending
-mod Going
+pub mod Going
 mod Framing
 mod Packeting

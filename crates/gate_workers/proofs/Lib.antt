@@ -1,0 +1,2 @@
+mod Run
+mod Ticking

@@ -1,0 +1,307 @@
+-- Steps of a reader and of a writer, one after another.
+use Rattle.std.proofs.Common.{◌≡◌, ◌≢◌, ℕ, ◌++◌, Bool, true, false, List, [], ◌∷◌, Option, Some, None, Result, Ok, Err, refl, sym, ◌∙◌, ap, subst, append_assoc, append-nil}
+use Rattle.std.specs.Prelude.{◌||◌, ◌==◌, if◌then◌else◌, is_some}
+use Rattle.std.proofs.KnownBytes.{Consumes-nil, Consumes-trans, Appends-nil, Appends-trans}
+use Rattle.std.specs.Io.KnownBytes.{Appends}
+use Rattle.std.proofs.lemmas.Grind.{flat_map-append}
+use Rattle.std.proofs.lemmas.List.Folds.{list_any-append}
+use Rattle.gate_law.specs.Events as law
+use Rattle.gate_events.specs.Links.{is_link_closed}
+use Rattle.link_io.specs.declared.link_fault.LinkFault.{LinkFault}
+use Rattle.link_io.specs.declared.link_fault.LinkFault.TheVariants.{ReadFailed, WriteFailed, Malformed, StepLimit, NoMemory}
+use Rattle.link_io.specs.declared.progress.Progress.{Progress}
+use Rattle.link_io.specs.declared.progress.Progress.TheVariants.{Ended}
+use Rattle.link_io.specs.declared.writer.Wrote.{Wrote}
+use Rattle.link_io.specs.declared.limit.Limit.{Limit}
+use Rattle.link_io.specs.Limits.{end_after, end_by, limit_after, refusal}
+use Rattle.link_io.specs.Reading.{Reading, Gave, Reads}
+use Rattle.link_io.specs.Writing.{WriterState, Writes, do_close, link_bytes, lists_bytes, unwritten}
+use Rattle.link_io.proofs.Going.{goes_none, goes_again}
+use Rattle.gate_workers.specs.ReadersWork.{EndsWith, HasRead, HasReadAll, ReadsLink}
+use Rattle.gate_workers.specs.WritersWork.{HasWritten, TellsEnd, WritesLink}
+use Rattle.gate_workers.specs.declared.writer.WriterEnd.{WriterEnd}
+
+-- a link that goes on is refused a step only where its steps are used up
+pub used_up : (limit : Limit) (f : LinkFault) → limit.over ≡ None → refusal limit ≡ Some f → f ≡ StepLimit
+used_up limit f none e = by_left (limit.left == 0) (rw none at e)
+  where
+    by_left : (b : Bool) → (if b then Some StepLimit else None) ≡ Some f → f ≡ StepLimit
+    by_left true e = cc
+    by_left false e = absurd (cc)
+
+-- the link is over, or memory ran out
+pub over-not_memory : (fault : LinkFault) → is_some (end_by fault) ≡ true → fault ≢ NoMemory
+over-not_memory NoMemory e = absurd (cc)
+over-not_memory ReadFailed e = λ same. cc
+over-not_memory WriteFailed e = λ same. cc
+over-not_memory Malformed e = λ same. cc
+over-not_memory StepLimit e = λ same. cc
+
+pub not_over-memory : (fault : LinkFault) → is_some (end_by fault) ≡ false → fault ≡ NoMemory
+not_over-memory NoMemory e = refl
+not_over-memory ReadFailed e = absurd (cc)
+not_over-memory WriteFailed e = absurd (cc)
+not_over-memory Malformed e = absurd (cc)
+not_over-memory StepLimit e = absurd (cc)
+
+-- a step that answered something wasn't refused
+pub ok-goes_on : {A : Type 0} (limit : Limit) (r : Result A LinkFault) (x : A) → r ≡ Ok x → ((f : LinkFault) → refusal limit ≡ Some f → r ≡ Err f) → refusal limit ≡ None
+ok-goes_on limit r x e refused = by_refusal (refusal limit) refl
+  where
+    by_refusal : (z : Option LinkFault) → refusal limit ≡ z → refusal limit ≡ None
+    by_refusal None q = q
+    by_refusal (Some f) q = absurd (let w = sym e ∙ refused f q in cc)
+
+-- nor was one in which memory ran out
+pub memory-goes_on : {A : Type 0} (limit : Limit) (r : Result A LinkFault) → limit.over ≡ None → r ≡ Err NoMemory → ((f : LinkFault) → refusal limit ≡ Some f → r ≡ Err f) → refusal limit ≡ None
+memory-goes_on limit r none e refused = by_refusal (refusal limit) refl
+  where
+    by_refusal : (z : Option LinkFault) → refusal limit ≡ z → refusal limit ≡ None
+    by_refusal None q = q
+    by_refusal (Some f) q = absurd (let w = sym e ∙ (refused f q ∙ ap (λ (f : LinkFault). Err f) (used_up limit f none q)) in cc)
+
+-- the link goes on
+pub limit-goes_on : {A : Type 0} (limit new : Limit) (r : Result A LinkFault) → end_after r ≡ None → refusal limit ≡ None → new ≡ limit_after limit r → new.over ≡ None
+limit-goes_on limit new r ends goes e = ap (λ (l : Limit). l.over) e ∙ rw (goes, ends) refl
+
+-- ---- a reader
+
+module _ {D : Type 0} (made : D → List ℕ → List law.Event → Type 0) (are_all : D → Bool → List ℕ → List law.Event → Type 0) where
+  pub read_none : (a : Reading D) (x : List law.Event) (l : Option (List ℕ)) → HasRead made a a x x l l
+  read_none a x l = record { read = []; put = []; consumes = Consumes-nil l; puts = sym (append-nil x); goes = goes_none made are_all 0 a }
+
+  pub read_more : (at : ℕ) (answer : Result Progress LinkFault) (a b c : Reading D) (x y z : List law.Event) (l m n : Option (List ℕ))
+      → HasRead made a b x y l m → Reads made are_all at answer b c y z m n → HasRead made a c x z l n
+  read_more at answer a b c x y z l m n h s = record {
+    read = h.read ++ s.read;
+    put = h.put ++ s.put;
+    consumes = Consumes-trans l m n h.read s.read h.consumes s.consumes;
+    puts = s.puts ∙ (ap (λ (w : List law.Event). w ++ s.put) h.puts ∙ append_assoc x h.put s.put);
+    goes = goes_again made are_all at a b c h.read s.read h.put s.put h.goes s.goes;
+  }
+
+  -- a step and a turn
+  pub read_step : (at : ℕ) (answer : Result Progress LinkFault) (a b c : Reading D) (x y z w : List law.Event) (l m n : Option (List ℕ))
+      → HasRead made a b x y l m → (refusal b.limit ≡ None → Reads made are_all at answer b c y z m n) → refusal b.limit ≡ None → w ≡ z → HasRead made a c x w l n
+  read_step at answer a b c x y z w l m n h reads goes same =
+      subst (λ (v : List law.Event). HasRead made a c x v l n) (sym same) (read_more at answer a b c x y z l m n h (reads goes))
+
+  module _ (IsOf : D → Type 0) where
+    -- with the last step, whose reader this is
+    pub read_over : (at : ℕ) (answer : Result Progress LinkFault) (end : Result Unit LinkFault) (a b c : Reading D) (x y z : List law.Event) (l m n : Option (List ℕ))
+        → HasRead made a b x y l m → (s : Reads made are_all at answer b c y z m n) → IsOf c.decoder
+        → ((before : List ℕ) (events : List law.Event) → Gave made before events b → EndsWith are_all end (before ++ s.read) (events ++ s.put) c.decoder n)
+        → HasReadAll made are_all IsOf end a x z l n
+    read_over at answer end a b c x y z l m n h s own ends = record {
+      read = h.read ++ s.read;
+      put = h.put ++ s.put;
+      consumes = Consumes-trans l m n h.read s.read h.consumes s.consumes;
+      puts = s.puts ∙ (ap (λ (w : List law.Event). w ++ s.put) h.puts ∙ append_assoc x h.put s.put);
+      reading = c;
+      is_of = own;
+      goes = goes_again made are_all at a b c h.read s.read h.put s.put h.goes s.goes;
+      ends = λ before events gave.
+          subst (λ (r : List ℕ). EndsWith are_all end r (events ++ (h.put ++ s.put)) c.decoder n) (append_assoc before h.read s.read)
+          (subst (λ (p : List law.Event). EndsWith are_all end ((before ++ h.read) ++ s.read) p c.decoder n) (append_assoc events h.put s.put)
+          (ends (before ++ h.read) (events ++ h.put) (h.goes before events gave)));
+    }
+
+    pub read_to_end : (at : ℕ) (a b c : Reading D) (x y z : List law.Event) (l m n : Option (List ℕ))
+        → HasRead made a b x y l m → Reads made are_all at (Ok Ended) b c y z m n → IsOf c.decoder → HasReadAll made are_all IsOf (Ok tt) a x z l n
+    read_to_end at a b c x y z l m n h s own = read_over at (Ok Ended) (Ok tt) a b c x y z l m n h s own (λ before events gave.
+        (s.says.1, subst (λ (r : List ℕ). are_all c.decoder false (before ++ r) (events ++ s.put)) (sym s.says.0) (s.says.2 before events gave)))
+
+    -- at a fault
+    pub read_to_fault : (at : ℕ) (fault : LinkFault) (a b c : Reading D) (x y z : List law.Event) (l m n : Option (List ℕ))
+        → fault ≢ NoMemory → HasRead made a b x y l m → Reads made are_all at (Err fault) b c y z m n → IsOf c.decoder → HasReadAll made are_all IsOf (Err fault) a x z l n
+    read_to_fault at ReadFailed a b c x y z l m n not h s own = read_over at (Err ReadFailed) (Err ReadFailed) a b c x y z l m n h s own (λ before events gave.
+        subst (λ (r : List ℕ). are_all c.decoder false (before ++ r) (events ++ s.put)) (sym s.says.0) (s.says.1 before events gave))
+    read_to_fault at Malformed a b c x y z l m n not h s own = read_over at (Err Malformed) (Err Malformed) a b c x y z l m n h s own s.says
+    read_to_fault at NoMemory a b c x y z l m n not h s own = absurd (not refl)
+    read_to_fault at WriteFailed a b c x y z l m n not h s own = absurd s.says
+    read_to_fault at StepLimit a b c x y z l m n not h s own = absurd s.says
+
+    -- the steps are used up
+    pub read_to_limit : (a b : Reading D) (x y : List law.Event) (l m : Option (List ℕ)) → HasRead made a b x y l m → IsOf b.decoder
+        → HasReadAll made are_all IsOf (Err StepLimit) a x y l m
+    read_to_limit a b x y l m h own = record {
+      read = h.read;
+      put = h.put;
+      consumes = h.consumes;
+      puts = h.puts;
+      reading = b;
+      is_of = own;
+      goes = h.goes;
+      ends = λ before events gave. tt;
+    }
+
+    -- by whichever
+    pub read_fault : (at : ℕ) (fault : LinkFault) (a b c : Reading D) (x y z : List law.Event) (l m n : Option (List ℕ)) → fault ≢ NoMemory → b.limit.over ≡ None
+        → HasRead made a b x y l m
+        → (refusal b.limit ≡ None → Reads made are_all at (Err fault) b c y z m n)
+        → ((f : LinkFault) → refusal b.limit ≡ Some f → (fault ≡ f) × (n ≡ m) × (z ≡ y))
+        → IsOf b.decoder → IsOf c.decoder → HasReadAll made are_all IsOf (Err fault) a x z l n
+    read_fault at fault a b c x y z l m n not none h reads refused own own_too = by_refusal (refusal b.limit) refl
+      where
+        by_refusal : (r : Option LinkFault) → refusal b.limit ≡ r → HasReadAll made are_all IsOf (Err fault) a x z l n
+        by_refusal None e = read_to_fault at fault a b c x y z l m n not h (reads e) own_too
+        by_refusal (Some f) e =
+            let same = refused f e in
+            let is_limit : fault ≡ StepLimit = same.0 ∙ used_up b.limit f none e in
+            subst (λ (f : LinkFault). HasReadAll made are_all IsOf (Err f) a x z l n) (sym is_limit)
+            (subst (λ (n : Option (List ℕ)). HasReadAll made are_all IsOf (Err StepLimit) a x z l n) (sym same.1)
+            (subst (λ (z : List law.Event). HasReadAll made are_all IsOf (Err StepLimit) a x z l m) (sym same.2) (read_to_limit a b x y l m h own)))
+
+  -- said otherwise whose reader it is
+  pub read-of : (IsOf IsOther : D → Type 0) (answer : Result Unit LinkFault) (a : Reading D) (x y : List law.Event) (l m : Option (List ℕ)) → ((d : D) → IsOf d → IsOther d)
+      → HasReadAll made are_all IsOf answer a x y l m → HasReadAll made are_all IsOther answer a x y l m
+  read-of IsOf IsOther answer a x y l m other h = record {
+    read = h.read;
+    put = h.put;
+    consumes = h.consumes;
+    puts = h.puts;
+    reading = h.reading;
+    is_of = other h.reading.decoder h.is_of;
+    goes = h.goes;
+    ends = h.ends;
+  }
+
+  -- from the beginning of a link to its end
+  pub whole_link : (IsOf : D → Type 0) (up gone : ℕ → law.Event) (answer : Result Unit LinkFault) (began ended : ℕ) (a : Reading D) (x y z w : List law.Event) (l m : Option (List ℕ))
+      → Gave made [] [] a → y ≡ x ++ up began ∷ [] → HasReadAll made are_all IsOf answer a y z l m → w ≡ z ++ gone ended ∷ []
+      → ReadsLink made are_all IsOf up gone answer x w l m
+  whole_link IsOf up gone answer began ended a x y z w l m fresh first h last = record {
+    read = h.read;
+    events = h.put;
+    began = began;
+    ended = ended;
+    puts = last ∙ ap (λ (v : List law.Event). v ++ gone ended ∷ []) (h.puts ∙ (ap (λ (v : List law.Event). v ++ h.put) first ∙ append_assoc x (up began ∷ []) h.put));
+    consumes = h.consumes;
+    reading = h.reading;
+    is_of = h.is_of;
+    gave = h.goes [] [] fresh;
+    ends = h.ends [] [] fresh;
+  }
+
+-- ---- a writer
+
+pub written_none : (a : WriterState) (x : List (List law.LinkOut)) (l : Option (List ℕ)) → a.is_closing ≡ false → HasWritten a a x x l l
+written_none a x l still = record {
+  taken = [];
+  written = [];
+  takes = sym (append-nil x);
+  appends = Appends-nil l;
+  whole = append-nil (unwritten a);
+  link = refl;
+  is_closing = still;
+}
+
+-- what both steps took and wrote
+both-whole : (old : List ℕ) (link : ℕ) (t s : List (List law.LinkOut)) (w v u r : List ℕ)
+    → old ++ lists_bytes link t ≡ w ++ u → u ++ lists_bytes link s ≡ v ++ r → old ++ lists_bytes link (t ++ s) ≡ (w ++ v) ++ r
+both-whole old link t s w v u r first second =
+    ap (λ (bs : List ℕ). old ++ bs) (flat_map-append (link_bytes link) t s)
+    ∙ (sym (append_assoc old (lists_bytes link t) (lists_bytes link s))
+    ∙ (ap (λ (bs : List ℕ). bs ++ lists_bytes link s) first
+    ∙ (append_assoc w u (lists_bytes link s) ∙ (ap (λ (bs : List ℕ). w ++ bs) second ∙ sym (append_assoc w v r)))))
+
+both-close : (link : ℕ) (t s : List (List law.LinkOut)) → do_close link (t ++ s) ≡ (do_close link t || do_close link s)
+both-close link t s = list_any-append (is_link_closed (Some link)) t s
+
+module _ (answer : Result Wrote LinkFault) (a b c : WriterState) (x y z : List (List law.LinkOut)) (l m n : Option (List ℕ)) (h : HasWritten a b x y l m) (s : Writes answer b c y z m n) where
+  abbrev taken : List (List law.LinkOut)
+  taken = h.taken ++ s.taken
+
+  abbrev written : List ℕ
+  written = h.written ++ s.written
+
+  takes : z ≡ x ++ taken
+  takes = s.takes ∙ (ap (λ (w : List (List law.LinkOut)). w ++ s.taken) h.takes ∙ append_assoc x h.taken s.taken)
+
+  appends : Appends l n written
+  appends = Appends-trans l m n h.written s.written h.appends s.appends
+
+  whole : unwritten a ++ lists_bytes a.link taken ≡ written ++ s.rest
+  whole = both-whole (unwritten a) a.link h.taken s.taken h.written s.written (unwritten b) s.rest h.whole
+      (subst (λ (k : ℕ). unwritten b ++ lists_bytes k s.taken ≡ s.written ++ s.rest) h.link s.whole)
+
+  closes : (b.is_closing || do_close b.link s.taken) ≡ do_close a.link taken
+  closes =
+      ap (λ (k : ℕ). b.is_closing || do_close k s.taken) h.link
+      ∙ (ap (λ (w : Bool). w || do_close a.link s.taken) h.is_closing ∙ sym (both-close a.link h.taken s.taken))
+
+  -- goes on: of what was to be written this is left
+  pub written_more : s.rest ≡ unwritten c → c.is_closing ≡ do_close a.link taken → HasWritten a c x z l n
+  written_more left closing = record {
+    taken = taken;
+    written = written;
+    takes = takes;
+    appends = appends;
+    whole = whole ∙ ap (λ (r : List ℕ). written ++ r) left;
+    link = s.link ∙ h.link;
+    is_closing = closing;
+  }
+
+  -- ends
+  pub written_over : (end : Result WriterEnd LinkFault) → unwritten a ≡ [] → TellsEnd end (do_close a.link taken) s.rest → WritesLink a.link end x z l n
+  written_over end fresh tells = record {
+    taken = taken;
+    written = written;
+    rest = s.rest;
+    takes = takes;
+    appends = appends;
+    whole = ap (λ (u : List ℕ). u ++ lists_bytes a.link taken) (sym fresh) ∙ whole;
+    tells = tells;
+  }
+
+module _ (a b c : WriterState) (x y z : List (List law.LinkOut)) (l m n : Option (List ℕ)) (h : HasWritten a b x y l m) where
+  -- it wrote all, and the link isn't closed
+  pub wrote_more : (w : Wrote) → Writes (Ok w) b c y z m n → w.closed ≡ false → HasWritten a c x z l n
+  wrote_more w s still = written_more (Ok w) a b c x y z l m n h s
+      (let (none, bytes, taken, closed, empty, untold, unclosed) = s.tells in none ∙ sym empty)
+      (let (none, bytes, taken, closed, empty, untold, unclosed) = s.tells in unclosed ∙ (sym still ∙ (closed ∙ closes (Ok w) a b c x y z l m n h s)))
+
+  -- memory ran out
+  pub wrote_nothing : Writes (Err NoMemory) b c y z m n → HasWritten a c x z l n
+  wrote_nothing s = written_more (Err NoMemory) a b c x y z l m n h s
+      (let (none, left, taken, closing) = s.tells in sym (left ∙ ap (λ (w : List ℕ). w ++ s.rest) none))
+      (let (none, left, taken, closing) = s.tells in closing ∙ closes (Err NoMemory) a b c x y z l m n h s)
+
+  pub wrote_last : (w : Wrote) (end : WriterEnd) → Writes (Ok w) b c y z m n → unwritten a ≡ [] → TellsEnd (Ok end) w.closed [] → WritesLink a.link (Ok end) x z l n
+  wrote_last w end s fresh tells = written_over (Ok w) a b c x y z l m n h s (Ok end) fresh
+      (let (none, bytes, taken, closed, empty, untold, unclosed) = s.tells in
+      subst (λ (r : List ℕ). TellsEnd (Ok end) (do_close a.link (h.taken ++ s.taken)) r) (sym none)
+      (subst (λ (k : Bool). TellsEnd (Ok end) k []) (closed ∙ closes (Ok w) a b c x y z l m n h s) tells))
+
+  wrote_to_fault : (fault : LinkFault) → fault ≢ NoMemory → Writes (Err fault) b c y z m n → unwritten a ≡ [] → WritesLink a.link (Err fault) x z l n
+  wrote_to_fault WriteFailed not s fresh = written_over (Err WriteFailed) a b c x y z l m n h s (Err WriteFailed) fresh s.tells
+  wrote_to_fault NoMemory not s fresh = absurd (not refl)
+  wrote_to_fault ReadFailed not s fresh = absurd s.tells
+  wrote_to_fault Malformed not s fresh = absurd s.tells
+  wrote_to_fault StepLimit not s fresh = absurd s.tells
+
+  wrote_to_limit : unwritten a ≡ [] → WritesLink a.link (Err StepLimit) x y l m
+  wrote_to_limit fresh = record {
+    taken = h.taken;
+    written = h.written;
+    rest = unwritten b;
+    takes = h.takes;
+    appends = h.appends;
+    whole = ap (λ (u : List ℕ). u ++ lists_bytes a.link h.taken) (sym fresh) ∙ h.whole;
+    tells = tt;
+  }
+
+  pub wrote_fault : (fault : LinkFault) → fault ≢ NoMemory → b.limit.over ≡ None → unwritten a ≡ []
+      → (refusal b.limit ≡ None → Writes (Err fault) b c y z m n)
+      → ((f : LinkFault) → refusal b.limit ≡ Some f → (fault ≡ f) × (n ≡ m) × (z ≡ y))
+      → WritesLink a.link (Err fault) x z l n
+  wrote_fault fault not none fresh writes refused = by_refusal (refusal b.limit) refl
+    where
+      by_refusal : (r : Option LinkFault) → refusal b.limit ≡ r → WritesLink a.link (Err fault) x z l n
+      by_refusal None e = wrote_to_fault fault not (writes e) fresh
+      by_refusal (Some f) e =
+          let same = refused f e in
+          let is_limit : fault ≡ StepLimit = same.0 ∙ used_up b.limit f none e in
+          subst (λ (f : LinkFault). WritesLink a.link (Err f) x z l n) (sym is_limit)
+          (subst (λ (n : Option (List ℕ)). WritesLink a.link (Err StepLimit) x z l n) (sym same.1)
+          (subst (λ (z : List (List law.LinkOut)). WritesLink a.link (Err StepLimit) x z l m) (sym same.2) (wrote_to_limit fresh)))

@@ -1,0 +1,6 @@
+pub mod ReadersWork
+pub mod WritersWork
+pub mod TickersWork
+pub use Rattle.link_io.specs.Reading
+pub use Rattle.link_io.specs.Decoding
+pub use Rattle.link_io.specs.Writing

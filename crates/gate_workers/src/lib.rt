@@ -1,0 +1,18 @@
+//! The workers of a link and the ticker: each a call that a thread of its own makes, over any gate, stream and clock.
+//! It returns when its link, or the day, is over.
+//!
+//! A reader puts the event that its link is up, the events of its stream, and the event that the link is gone. A
+//! writer writes what its link is told, until the link is closed or it is stopped. The ticker has time pass.
+#![tactic(auto)]
+
+mod clock;
+mod ending;
+mod reader;
+mod ticks;
+mod writer;
+
+pub use clock::Clock;
+pub use link_io::{Gate, LinkFault};
+pub use reader::{client_reader, port_reader};
+pub use ticks::ticker;
+pub use writer::{WriterEnd, client_writer, port_writer};

@@ -1,0 +1,133 @@
+//! The worker that reads a link.
+
+ghost use Rattle.std.specs.Prelude.{◌≡◌, ◌≤◌, ◌++◌, ◌∷◌, [], ℕ};
+ghost use Rattle.gate_law.specs.Events as law;
+ghost use Rattle.gate_events.specs.Seen.{event_seen};
+ghost use Rattle.link_io.specs.Decoding.{AreAllOfFrames, AreAllOfPackets, FramesOfLink, MadeOfFrames, MadeOfPackets};
+ghost use Rattle.link_io.specs.Decoding.{PacketsOfLink};
+ghost use Rattle.gate_workers.specs.ReadersWork.{HasReadAll, ReadsLink};
+
+use crate::clock::Clock;
+use crate::ending::ends_link;
+use gate_events::{ClientNumber, Event, PortNumber};
+use link_io::{ClientReader, Decoder, Gate, LinkFault, PortReader, Progress, Reader};
+use std::alloc::Global;
+use std::io::Read;
+use std::sync::Wait;
+
+/// Reads a link of this client until it is over: puts that it is up, what its stream brings, and that it is gone. It
+/// has the core stepped after each of them, and pauses where the gate gave an event back or memory ran out.
+///
+/// `Ok` at the end of the stream. `ReadFailed` where a read failed, `Malformed` where too long a frame is announced:
+/// what stood whole before it is put. `StepLimit` at the step of number `steps`, 1 or more.
+pub fn client_reader<R: Wait, S: Read, G: Gate, C: Clock>(
+    rt: &R,
+    alloc: Global,
+    client: ClientNumber,
+    link: u64,
+    steps: u64,
+    stream: &mut S,
+    gate: &mut G,
+    clock: &mut C,
+) -> Result<(), LinkFault>
+    requires from_one { 1 ≤ steps }
+    ensures reads { ReadsLink MadeOfFrames AreAllOfFrames
+        (λ (f : FramesOfLink). (f.client ≡ client) × (f.link ≡ link))
+        (law.ClientUp client link) (law.ClientGone client link) result
+        (G.was_put gate.old) (G.was_put gate.new) (S.remaining stream.old) (S.remaining stream.new) }
+    ensures none_taken { G.was_taken gate.new ≡ G.was_taken gate.old }
+{
+    let at = clock.now_ms();
+    put(rt, alloc, Event::ClientUp { client, link, at }, gate, clock);
+    let mut reader = ClientReader::new(alloc, client, link, steps);
+    let end = read_all(rt, alloc, &mut reader, stream, gate, clock);
+    let at = clock.now_ms();
+    put(
+        rt,
+        alloc,
+        Event::ClientGone { client, link, at },
+        gate,
+        clock,
+    );
+    end
+}
+
+/// Reads a link of this port until it is over, as `client_reader` does. `Malformed` comes at an empty packet.
+pub fn port_reader<R: Wait, S: Read, G: Gate, C: Clock>(
+    rt: &R,
+    alloc: Global,
+    port: PortNumber,
+    link: u64,
+    steps: u64,
+    stream: &mut S,
+    gate: &mut G,
+    clock: &mut C,
+) -> Result<(), LinkFault>
+    requires from_one { 1 ≤ steps }
+    ensures reads { ReadsLink MadeOfPackets AreAllOfPackets
+        (λ (p : PacketsOfLink). (p.port ≡ port) × (p.link ≡ link))
+        (law.PortUp port link) (law.PortGone port link) result
+        (G.was_put gate.old) (G.was_put gate.new) (S.remaining stream.old) (S.remaining stream.new) }
+    ensures none_taken { G.was_taken gate.new ≡ G.was_taken gate.old }
+{
+    let at = clock.now_ms();
+    put(rt, alloc, Event::PortUp { port, link, at }, gate, clock);
+    let mut reader = PortReader::new(alloc, port, link, steps);
+    let end = read_all(rt, alloc, &mut reader, stream, gate, clock);
+    let at = clock.now_ms();
+    put(rt, alloc, Event::PortGone { port, link, at }, gate, clock);
+    end
+}
+
+/// Steps a reader until its link is over.
+fn read_all<R: Wait, D: Decoder, S: Read, G: Gate, C: Clock>(
+    rt: &R,
+    alloc: Global,
+    reader: &mut Reader<D>,
+    stream: &mut S,
+    gate: &mut G,
+    clock: &mut C,
+) -> Result<(), LinkFault>
+    requires goes_on { reader.old.limit.over ≡ None }
+    ensures reads { HasReadAll D.made D.are_all (λ d. D.source d ≡ D.source reader.old.decoder) result reader.old
+        (G.was_put gate.old) (G.was_put gate.new) (S.remaining stream.old) (S.remaining stream.new) }
+    ensures none_taken { G.was_taken gate.new ≡ G.was_taken gate.old }
+{
+    for _ in rt.forever() {
+        let at = clock.now_ms();
+        let done = reader.step(alloc, stream, gate, at);
+        let _ = gate.turn(rt, alloc);
+        match done {
+            Ok(progress) => match progress {
+                Progress::Read(_) => {}
+                Progress::Ended => return Ok(()),
+                Progress::Held => clock.pause(),
+            },
+            Err(fault) => {
+                if ends_link(fault) {
+                    return Err(fault);
+                }
+                clock.pause();
+            }
+        }
+    }
+    unreachable!()
+}
+
+/// Puts an event, as soon as there is room for it.
+fn put<R: Wait, G: Gate, C: Clock>(rt: &R, alloc: Global, event: Event, gate: &mut G, clock: &mut C)
+    ensures put { G.was_put gate.new ≡ G.was_put gate.old ++ event_seen event ∷ [] }
+    ensures none_taken { G.was_taken gate.new ≡ G.was_taken gate.old }
+{
+    let mut waiting = event;
+    for _ in rt.forever() {
+        let done = gate.put(waiting);
+        let _ = gate.turn(rt, alloc);
+        match done {
+            Ok(()) => return,
+            Err(back) => waiting = back,
+        }
+        clock.pause();
+    }
+    unreachable!()
+}

@@ -1,0 +1,69 @@
+//! The worker that has time pass.
+
+ghost use Rattle.std.specs.Prelude.{◌≡◌, ℕ};
+ghost use Rattle.gate_events.specs.Seen.{event_seen};
+ghost use Rattle.gate_workers.specs.TickersWork.{MayPut, PutsTicks};
+
+use crate::clock::Clock;
+use gate_events::{ClientNumber, Event, PortNumber};
+use link_io::Gate;
+use std::alloc::Global;
+use std::sync::Wait;
+use std::sync::atomic::{AtomicBool, Ordering};
+
+/// Puts a tick for each client and each port, from 1 to so many, has the core stepped after each, and pauses, again and
+/// again until `stop` is set. A tick that is given back is let go: the next round brings a later one.
+pub fn ticker<R: Wait, G: Gate, C: Clock>(
+    rt: &R,
+    alloc: Global,
+    clients: u16,
+    ports: u16,
+    gate: &mut G,
+    clock: &mut C,
+    stop: &AtomicBool,
+)
+    ensures ticks { PutsTicks clients ports (G.was_put gate.old) (G.was_put gate.new) }
+    ensures none_taken { G.was_taken gate.new ≡ G.was_taken gate.old }
+{
+    for _ in rt.forever() {
+        if stop.load(Ordering::SeqCst) {
+            return;
+        }
+        let at = clock.now_ms();
+        tick_clients(rt, alloc, clients, at, gate);
+        tick_ports(rt, alloc, ports, at, gate);
+        clock.pause();
+    }
+    unreachable!()
+}
+
+/// A tick of this moment for each client.
+fn tick_clients<R: Wait, G: Gate>(rt: &R, alloc: Global, clients: u16, at: u64, gate: &mut G)
+    ensures ticks { (ports : ℕ) → PutsTicks clients ports (G.was_put gate.old) (G.was_put gate.new) }
+    ensures none_taken { G.was_taken gate.new ≡ G.was_taken gate.old }
+{
+    for i in 0..clients {
+        let client = ClientNumber::new(i + 1);
+        tick(rt, alloc, Event::ClientTick { client, at }, gate);
+    }
+}
+
+/// A tick of this moment for each port.
+fn tick_ports<R: Wait, G: Gate>(rt: &R, alloc: Global, ports: u16, at: u64, gate: &mut G)
+    ensures ticks { (clients : ℕ) → PutsTicks clients ports (G.was_put gate.old) (G.was_put gate.new) }
+    ensures none_taken { G.was_taken gate.new ≡ G.was_taken gate.old }
+{
+    for i in 0..ports {
+        let port = PortNumber::new(i + 1);
+        tick(rt, alloc, Event::PortTick { port, at }, gate);
+    }
+}
+
+/// Puts an event, where there is room for it, and has the core stepped.
+fn tick<R: Wait, G: Gate>(rt: &R, alloc: Global, event: Event, gate: &mut G)
+    ensures put { MayPut (event_seen event) (G.was_put gate.old) (G.was_put gate.new) }
+    ensures none_taken { G.was_taken gate.new ≡ G.was_taken gate.old }
+{
+    let _ = gate.put(event);
+    let _ = gate.turn(rt, alloc);
+}
