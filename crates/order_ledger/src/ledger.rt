@@ -9,13 +9,12 @@ ghost use Rattle.order_law.specs.History.{terms_of};
 ghost use Rattle.to_market.specs.TermsSeen.{terms_seen};
 
 use crate::turns::ClientTurn;
-use crate::used_ids::UsedId;
+use crate::used_ids::UsedIds;
 use fix_types::AppMsg;
 use order_table::Table;
 use std::alloc::{AllocError, Global};
 use std::marker::Model;
 use to_market::{ClientTerms, PortState};
-use undo_list::UndoList;
 
 /// The orders of all clients, the ClOrdIDs that they used, and the numbers that were given.
 ///
@@ -26,7 +25,7 @@ use undo_list::UndoList;
 pub struct OrderLedger {
     terms: Vec<ClientTerms>,
     table: Table,
-    used: UndoList<UsedId>,
+    used: UsedIds,
     /// How many new orders came: the last OrderID given.
     order_ids: u64,
     /// How many reports were issued: the last ExecID given.
@@ -81,7 +80,7 @@ impl OrderLedger {
         Ok(OrderLedger {
             terms: Vec::from_slice(alloc, terms)?,
             table: Table::new(alloc),
-            used: UndoList::new(alloc),
+            used: UsedIds::new(alloc),
             order_ids: 0,
             exec_ids: 0,
             settled_order_ids: 0,

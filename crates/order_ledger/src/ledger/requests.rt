@@ -7,7 +7,7 @@ ghost use Rattle.to_market.specs.PortsSeen.{port_seen};
 
 use super::{OrderLedger, terms_at};
 use crate::turns::ClientTurn;
-use crate::used_ids::{UsedId, is_used};
+use crate::used_ids::UsedId;
 use client_requests::{CancelTurn, ReplaceTurn, Sender, on_cancel, on_replace};
 use fix_types::{AppBody, CancelRequest, ReplaceRequest};
 use fix_values::ClOrdId;
@@ -46,7 +46,7 @@ impl OrderLedger {
             port,
         };
         let own_id = &request.cl_ord_id;
-        let is_duplicate = is_used(self.used.as_slice(), client, own_id);
+        let is_duplicate = self.used.is_used(client, own_id);
         let issued = self.exec_ids;
         match on_cancel(alloc, issued, &self.table, &sender, is_duplicate, request)? {
             CancelTurn::Refused(body) => self.refuse_request(alloc, client, own_id, body),
@@ -83,7 +83,7 @@ impl OrderLedger {
             port,
         };
         let id = &request.cl_ord_id;
-        let is_duplicate = is_used(self.used.as_slice(), client, id);
+        let is_duplicate = self.used.is_used(client, id);
         let issued = self.exec_ids;
         match on_replace(alloc, issued, &self.table, &sender, is_duplicate, request)? {
             ReplaceTurn::Refused(body) => self.refuse_request(alloc, client, id, body),
