@@ -119,6 +119,25 @@ fn payloads_beside_those_of_a_kind(rt: HostRuntime) -> Result<(), Fail> {
     Ok(())
 }
 
+/// A message of 8,192 bytes is one, of 8,193 it isn't; a write has fewer than 2^20 bytes.
+#[test]
+fn the_longest_payloads(rt: HostRuntime) -> Result<(), Fail> {
+    let alloc = rt.alloc();
+    let mut message = vec![in alloc; b'a'; 8_193]?;
+    message[0] = b'1';
+    message[1] = b'=';
+    message[8_191] = 1;
+    assert!(rt; alone(alloc, 2, 1, 1, &message[..8_192])?.is_none());
+    message[8_191] = b'a';
+    message[8_192] = 1;
+    assert!(rt; alone(alloc, 2, 1, 1, message.as_slice())? == Some(PageFault::Payload));
+    assert!(rt; alone(alloc, 9, 1, 0, message.as_slice())?.is_none());
+    let written = vec![in alloc; 0u8; 1_048_576]?;
+    assert!(rt; alone(alloc, 10, 1, 1, written.as_slice())? == Some(PageFault::Payload));
+    assert!(rt; alone(alloc, 10, 1, 1, &written[..1_048_575])?.is_none());
+    Ok(())
+}
+
 /// Behind an event: another moment, a second client, a second port, and kinds that can't come there.
 #[test]
 fn what_a_batch_has(rt: HostRuntime) -> Result<(), Fail> {
