@@ -1,0 +1,57 @@
+-- What becomes of lists whose elements changed.
+use Rattle.std.proofs.Common.{◌≡◌, ◌≢◌, ℕ, zero, suc, ◌<◌, List, [], ◌∷◌, ◌++◌, length, map, Some, slice_get, refl, ap, sym, ◌∙◌, subst, arith, inl, inr, append_assoc}
+use Rattle.std.proofs.lemmas.Bool.Decides.{eqb_tells}
+use Rattle.std.proofs.lemmas.Option.{slice_get_within}
+use Rattle.std.proofs.lemmas.List.{append-nil}
+use mathlib.Core.List.{IsPrefix}
+use Rattle.desk_ends.proofs.Places.{get-inside, get-same}
+use Rattle.desk_side.specs.Side.{ChangesAt}
+
+-- what is the same of each element is the same of all
+pub each-same : {A B : Type 0} (f : A → B) (xs ys : List A) → length ys ≡ length xs
+    → ((k : ℕ) (x : A) → slice_get xs k ≡ Some x → (y : A) × (slice_get ys k ≡ Some y) × (f y ≡ f x))
+    → map f ys ≡ map f xs
+each-same f [] [] len each = refl
+each-same f [] (y ∷ ys) len each = absurd (omega arith)
+each-same f (x ∷ xs) [] len each = absurd (omega arith)
+each-same f (x ∷ xs) (y ∷ ys) len each =
+    let r = each zero x refl in
+    let same : y ≡ r.0 = cc (r.1) in
+    let rest = each-same f xs ys (omega arith) (λ j z at. each (suc j) z at) in
+    cc (same, r.2, rest)
+
+-- one changed, and so each did as Q says
+pub each-change : {A : Type 0} (i : ℕ) (P Q : A → A → Type 0) (xs ys : List A) → ChangesAt i P xs ys
+    → ((x y : A) → slice_get xs i ≡ Some x → P x y → Q x y) → ((x : A) → Q x x)
+    → (k : ℕ) (x : A) → slice_get xs k ≡ Some x → (y : A) × (slice_get ys k ≡ Some y) × Q x y
+each-change {A} i P Q xs ys ch there stays k x at =
+    elim (eqb_tells k i) [
+      | inl q ↦ (
+          let here : slice_get xs i ≡ Some x = rw (← q.1) at in
+          let r = ch.there x here in
+          (r.0, rw (q.1) r.1, there x r.0 here r.2)
+          )
+      | inr q ↦ (x, ch.others k q.1 ∙ at, stays x)
+    ]
+
+-- what stands there now came of something
+pub was : {A : Type 0} (xs ys : List A) (k : ℕ) (y : A) → length ys ≡ length xs → slice_get ys k ≡ Some y → (x : A) × (slice_get xs k ≡ Some x)
+was xs ys k y len at = get-inside xs k (omega (arith, slice_get_within ys k y at, len))
+
+-- and what holds of what it came to holds of it
+pub come-to : {A : Type 0} (P : A → A → Type 0) (xs ys : List A) → length ys ≡ length xs
+    → ((k : ℕ) (x : A) → slice_get xs k ≡ Some x → (y : A) × (slice_get ys k ≡ Some y) × P x y)
+    → (k : ℕ) (y : A) → slice_get ys k ≡ Some y → (x : A) × (slice_get xs k ≡ Some x) × P x y
+come-to {A} P xs ys len each k y at =
+    let x = was xs ys k y len at in
+    let r = each k x.0 x.1 in
+    (x.0, x.1, subst (λ (z : A). P x.0 z) (get-same ys k r.0 y r.1 at) r.2)
+
+pub prefix-same : {A : Type 0} (xs : List A) → IsPrefix xs xs
+prefix-same xs = ([], append-nil xs)
+
+pub prefix-more : {A : Type 0} (xs ys zs : List A) → IsPrefix xs ys → IsPrefix xs (ys ++ zs)
+prefix-more xs ys zs p = (p.0 ++ zs, sym (append_assoc xs p.0 zs) ∙ ap (λ w. w ++ zs) p.1)
+
+pub prefix-trans : {A : Type 0} (xs ys zs : List A) → IsPrefix xs ys → IsPrefix ys zs → IsPrefix xs zs
+prefix-trans xs ys zs p q = (p.0 ++ q.0, sym (append_assoc xs p.0 q.0) ∙ (ap (λ w. w ++ q.0) p.1 ∙ q.1))

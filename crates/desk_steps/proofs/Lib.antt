@@ -1,0 +1,5 @@
+mod Keeping
+mod OneMore
+mod Cutting
+mod Comparing
+mod Draining
