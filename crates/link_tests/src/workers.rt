@@ -1,5 +1,7 @@
 //! Workers of links, and the ticker.
 
+ghost use Rattle.std.specs.Prelude.{◌≤◌};
+
 use super::gates::Kept;
 use super::streams::{Pieces, Torn};
 use gate_workers::{
@@ -92,7 +94,8 @@ fn told(alloc: Global, events: &[Event]) -> Result<Vec<u8>, AllocError> {
     for event in events {
         let (letter, number) = letter_of(event);
         words.push(letter)?;
-        words.push(b'0'.wrapping_add(number as u8))?;
+        let [_, low] = number.to_be_bytes();
+        words.push(b'0'.wrapping_add(low))?;
     }
     Ok(words)
 }
