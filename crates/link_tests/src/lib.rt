@@ -1,4 +1,4 @@
-//! Tests of the public calls of `link_io` and `gate_workers`. Nothing else stands here.
+//! Tests of the public calls of `link_io`. Nothing else stands here.
 //!
 //! Expected bytes are typed in from FIX 4.4 Volume 1, "Message Format", and SoupBinTCP 3.00, "Logical Packets".
 #![tactic(auto)]
@@ -9,7 +9,5 @@ mod gates;
 mod readers;
 #[cfg(test)]
 mod streams;
-#[cfg(test)]
-mod workers;
 #[cfg(test)]
 mod writers;
