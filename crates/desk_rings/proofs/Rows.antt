@@ -1,21 +1,14 @@
 -- One ring more, and one end handed out.
-use Rattle.std.proofs.Common.{◌≡◌, ℕ, zero, suc, false, Some, slice_get, ◌<◌, ◌+◌, ◌++◌, List, [], ◌∷◌, length, map, take, get_or, refl, ap, sym, ◌∙◌, arith, length-append, drop, subst, add-one}
+use Rattle.std.proofs.Common.{◌≡◌, ℕ, zero, suc, Some, slice_get, ◌<◌, ◌+◌, ◌++◌, List, [], ◌∷◌, length, map, take, get_or, ap, sym, ◌∙◌, arith, drop, subst, add-one}
 use Rattle.std.specs.Prelude.{All}
-use Rattle.std.specs.Global.{Global}
 use Rattle.std.proofs.lemmas.List.{map-append, take_more}
 use Rattle.std.proofs.lemmas.List.Elements.{All-append}
-use Rattle.rtrb.specs.Ring.{IsPair}
-use Rattle.rtrb.specs.declared.producer.Producer.{Producer}
-use Rattle.rtrb.specs.declared.consumer.Consumer.{Consumer}
-use Rattle.rtrb.specs.declared.AnyItems.{AnyItems}
-use Rattle.gate_events.specs.declared.event.Event.{Event}
 use Rattle.gate_events.specs.declared.source.Source.{Source}
 use Rattle.gate_events.specs.declared.source.Recipient.{Recipient}
-use Rattle.desk_ends.specs.Rings.{producer_ring, consumer_ring}
+use Rattle.desk_ends.specs.Seats.{SeatState, WayState, seat_name, way_name}
 use Rattle.desk_rings.specs.declared.rings.EventRing.{EventRing}
 use Rattle.desk_rings.specs.declared.rings.ToldRing.{ToldRing}
-use Rattle.desk_rings.specs.declared.rings.Way.{Way}
-use Rattle.desk_rings.specs.Made.{IsFreshEvents, IsFreshLists, IsFreshWay, IsUnreadEnd, MadeEvents, MadeLists, consumed_ring, inlet_name, outlet_name, way_name}
+use Rattle.desk_rings.specs.Made.{IsFreshEvents, IsFreshLists, IsFreshSeat, IsFreshWay, MadeEvents, MadeLists, inlet_name, outlet_name}
 
 all-one : {A : Type 0} (P : A → Type 0) (y : A) → P y → All P (y ∷ [])
 all-one P y h zero d lt = h
@@ -24,32 +17,27 @@ all-one P y h (suc k) d lt = absurd (omega arith)
 one-more : {A B : Type 0} (f : A → B) (xs : List A) (y : A) (ys : List B) (z : B) → map f xs ≡ ys → f y ≡ z → map f (xs ++ y ∷ []) ≡ ys ++ z ∷ []
 one-more f xs y ys z are is = map-append f xs (y ∷ []) ∙ cc (are, is)
 
-same-ring : {T : Type 0} (p : Producer T Global AnyItems) (c : Consumer T Global AnyItems) → IsPair p c → producer_ring p ≡ consumer_ring c
-same-ring p c h = cc
-
 sources-more : {X : Type 0} (xs : List X) (i : ℕ) (x : X) → i < length xs → x ≡ get_or xs i x → take i xs ++ x ∷ [] ≡ take (i + 1) xs
 sources-more xs i x inside is = ap (λ y. take i xs ++ y ∷ []) is ∙ sym (take_more xs i x inside)
 
-pub events-more : (sources : List Source) (i : ℕ) (source : Source) (rings : List EventRing) (ends : List (Consumer Event Global AnyItems))
-    (p : Producer Event Global AnyItems) (c : Consumer Event Global AnyItems)
-    → i < length sources → source ≡ get_or sources i source → MadeEvents (take i sources) rings ends → IsPair p c
-    → IsFreshEvents (record { source = source; producer = p }) → IsUnreadEnd c
-    → MadeEvents (take (i + 1) sources) (rings ++ record { source = source; producer = p } ∷ []) (ends ++ c ∷ [])
-events-more sources i source rings ends p c inside is made pair fresh unread =
-    let ring : EventRing = record { source = source; producer = p } in
-    record {
-      sources_are = one-more (λ (r : EventRing). r.source) rings ring (take i sources) source made.sources_are refl ∙ sources-more sources i source inside is;
-      pairs = one-more (λ (r : EventRing). producer_ring r.producer) rings ring (map consumed_ring ends) (consumer_ring c) made.pairs (same-ring p c pair) ∙ sym (map-append consumed_ring ends (c ∷ []));
-      fresh = All-append IsFreshEvents rings (ring ∷ []) made.fresh (all-one IsFreshEvents ring fresh);
-      unread = All-append IsUnreadEnd ends (c ∷ []) made.unread (all-one IsUnreadEnd c unread);
-    }
+pub events-more : (sources : List Source) (i : ℕ) (source : Source) (rings : List EventRing) (seats : List SeatState)
+    (ring : EventRing) (seat : SeatState)
+    → i < length sources → source ≡ get_or sources i source → MadeEvents (take i sources) rings seats
+    → ring.source ≡ source → inlet_name ring ≡ seat_name seat → IsFreshEvents ring → IsFreshSeat seat
+    → MadeEvents (take (i + 1) sources) (rings ++ ring ∷ []) (seats ++ seat ∷ [])
+events-more sources i source rings seats ring seat inside is made own name fresh unread = record {
+  sources_are = one-more (λ (r : EventRing). r.source) rings ring (take i sources) source made.sources_are own ∙ sources-more sources i source inside is;
+  names = one-more inlet_name rings ring (map seat_name seats) (seat_name seat) made.names name ∙ sym (map-append seat_name seats (seat ∷ []));
+  fresh = All-append IsFreshEvents rings (ring ∷ []) made.fresh (all-one IsFreshEvents ring fresh);
+  unread = All-append IsFreshSeat seats (seat ∷ []) made.unread (all-one IsFreshSeat seat unread);
+}
 
-pub lists-more : (recipients : List Recipient) (i : ℕ) (to : Recipient) (ways : List Way) (rings : List ToldRing) (way : Way) (ring : ToldRing)
+pub lists-more : (recipients : List Recipient) (i : ℕ) (to : Recipient) (ways : List WayState) (rings : List ToldRing) (way : WayState) (ring : ToldRing)
     → i < length recipients → to ≡ get_or recipients i to → MadeLists (take i recipients) ways rings
-    → way.to ≡ to → way_name way ≡ outlet_name ring → IsFreshWay way → IsFreshLists ring
+    → way.name.to ≡ to → way_name way ≡ outlet_name ring → IsFreshWay way → IsFreshLists ring
     → MadeLists (take (i + 1) recipients) (ways ++ way ∷ []) (rings ++ ring ∷ [])
 lists-more recipients i to ways rings way ring inside is made own name fresh unread = record {
-  recipients_are = one-more (λ (w : Way). w.to) ways way (take i recipients) to made.recipients_are own ∙ sources-more recipients i to inside is;
+  recipients_are = one-more (λ (w : WayState). w.name.to) ways way (take i recipients) to made.recipients_are own ∙ sources-more recipients i to inside is;
   names = one-more way_name ways way (map outlet_name rings) (outlet_name ring) made.names name ∙ sym (map-append outlet_name rings (ring ∷ []));
   fresh = All-append IsFreshWay ways (way ∷ []) made.fresh (all-one IsFreshWay way fresh);
   unread = All-append IsFreshLists rings (ring ∷ []) made.unread (all-one IsFreshLists ring unread);

@@ -8,4 +8,4 @@ mod rings;
 
 pub use handing::{inlets_of, outlets_of};
 pub use making::{RING, event_rings, told_rings};
-pub use rings::{EventRing, ToldRing, Way};
+pub use rings::{EventRing, ToldRing};

@@ -1,11 +1,12 @@
 //! Rings, made in a row.
 
-ghost use Rattle.std.specs.Prelude.{◌≡◌, All, IfOk, false, map};
+ghost use Rattle.std.specs.Prelude.{IfOk};
 ghost use Rattle.desk_rings.specs.Made.{MadeEvents, MadeLists};
 
-use crate::rings::{EventRing, ToldRing, Way};
-use gate_events::{Event, Recipient, Source};
-use rtrb::{Consumer, RingBuffer};
+use crate::rings::{EventRing, ToldRing};
+use desk_ends::{Seat, Way};
+use gate_events::{Recipient, Source};
+use rtrb::RingBuffer;
 use std::alloc::{AllocError, Global};
 use std::collections::VecDeque;
 
@@ -16,20 +17,20 @@ pub const RING: usize = 1_024;
 pub fn event_rings(
     alloc: Global,
     sources: &[Source],
-) -> Result<(VecDeque<EventRing>, Vec<Consumer<Event>>), AllocError>
+) -> Result<(VecDeque<EventRing>, Vec<Seat>), AllocError>
     ensures { IfOk result (λ r. MadeEvents sources.now r.0.items r.1.items) }
 {
     let mut rings = VecDeque::new(alloc);
-    let mut consumers = Vec::new(alloc);
+    let mut seats = Vec::new(alloc);
     for source in sources {
         let (producer, consumer) = RingBuffer::new(alloc, RING)?;
         rings.push_back(EventRing {
             source: *source,
             producer,
         })?;
-        consumers.push(consumer)?;
+        seats.push(Seat::new(*source, consumer))?;
     }
-    Ok((rings, consumers))
+    Ok((rings, seats))
 }
 
 /// A ring for each recipient, in order, the desk's end of each beside the other.
@@ -43,11 +44,7 @@ pub fn told_rings(
     let mut rings = VecDeque::new(alloc);
     for to in recipients {
         let (producer, consumer) = RingBuffer::new(alloc, RING)?;
-        ways.push(Way {
-            to: *to,
-            producer,
-            cut: false,
-        })?;
+        ways.push(Way::new(*to, producer))?;
         rings.push_back(ToldRing { to: *to, consumer })?;
     }
     Ok((ways, rings))

@@ -1,4 +1,4 @@
-//! The ends of rings that aren't handed out yet, and those that the desk keeps.
+//! The ends of rings that aren't handed out yet.
 
 use gate_events::{Event, Recipient, Source, Told};
 use rtrb::{Consumer, Producer};
@@ -15,13 +15,4 @@ pub struct EventRing {
 pub struct ToldRing {
     pub to: Recipient,
     pub consumer: Consumer<Told>,
-}
-
-/// The desk's own end of the ring to a recipient.
-#[derive(Drop)]
-pub struct Way {
-    pub to: Recipient,
-    pub producer: Producer<Told>,
-    /// Whether a list for this recipient stands in the history alone. From then on each later one does.
-    pub cut: bool,
 }

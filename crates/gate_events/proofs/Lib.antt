@@ -1,1 +1,2 @@
 mod Closing
+mod Sources

@@ -12,6 +12,7 @@ mod links;
 mod number;
 mod parts;
 mod source;
+mod telling;
 mod told;
 
 pub use batch::{Batch, LinkOut};
@@ -23,4 +24,5 @@ pub use links::{only_outs, told_client, told_port};
 pub use number::{ClientNumber, PortNumber};
 pub use soup_session::PortFault;
 pub use source::{Recipient, Source};
+pub use telling::told_lists;
 pub use told::Told;

@@ -1,11 +1,9 @@
 //! Events with their batches, in order.
 
-ghost use Rattle.std.specs.Prelude.{◌≡◌, ◌<◌, ◌++◌, ◌∷◌, [], IfOk, vec_len, vec_capacity};
-ghost use Rattle.gate_events.specs.Seen.{batch_seen};
-ghost use Rattle.gate_events.specs.Sources.{told_to, unless_empty};
+ghost use Rattle.std.specs.Prelude.{◌≡◌, ◌<◌, ◌++◌, ◌∷◌, [], vec_len, vec_capacity};
 
 use gate_core::{Batch, Event};
-use gate_events::{Recipient, Source, Told};
+use gate_events::{Recipient, Source, Told, told_lists};
 use std::alloc::{AllocError, Global};
 use std::marker::Model;
 
@@ -89,30 +87,8 @@ impl History {
     pub fn to(&self, alloc: Global, recipient: Recipient) -> Result<Vec<Told>, AllocError>
         ensures { IfOk result (λ lists. lists.items ≡ lists_kept recipient self.now) }
     {
-        let mut lists = Vec::new(alloc);
-        for batch in &self.batches {
-            keep_told(&mut lists, alloc, batch, &recipient)?;
-        }
-        Ok(lists)
+        told_lists(alloc, &self.batches, recipient)
     }
-}
-
-/// A list more, where the batch tells the recipient something.
-fn keep_told(
-    lists: &mut Vec<Told>,
-    alloc: Global,
-    batch: &Batch,
-    recipient: &Recipient,
-) -> Result<(), AllocError>
-    ensures { IfOk result (λ nothing. lists.new.items
-        ≡ lists.old.items ++ unless_empty (told_to recipient.now (batch_seen batch.now))) }
-{
-    let told = batch.told(*recipient);
-    if told.is_empty() {
-        return Ok(());
-    }
-    lists.push(Told::copied(alloc, told)?)?;
-    Ok(())
 }
 
 /// Adds a batch, where there is room for it.

@@ -5,14 +5,14 @@ use Rattle.std.specs.Prelude.{if◌then◌else◌, ◌&&◌, ◌⊎◌}
 use Rattle.fix_types.specs.declared.application.AppMsg.{AppMsg}
 use Rattle.soup_packets.specs.declared.packet.Packet.{Packet}
 use Rattle.soup_session.specs.Table as port
-use Rattle.session_law.specs.Runs.{Timed, OnLink, OnMessage}
+use Rattle.session_law.specs.Runs.{Timed, OnMessage}
 use Rattle.fix_fields.specs.Field.{Message}
 use Rattle.order_law.specs.Messages.{body_of}
 use Rattle.order_law.specs.History as history
 use Rattle.gate_law.specs.Settings.{Settings}
 use Rattle.gate_law.specs.Events.{Event, ClientUp, ClientMessage, ClientGone, ClientTick, PortUp, PortPacket, PortGone, PortTick, Batch, History, Turn, is_the_number}
 use Rattle.gate_law.specs.Lists.{Lists, client_called_all, port_called_all, client_called, port_called, turned}
-use Rattle.gate_law.specs.Sessions.{report_issued, client_reports, client_answer, port_answer}
+use Rattle.gate_law.specs.Sessions.{report_issued, client_answer, port_answer}
 use Rattle.gate_law.specs.Outcome.{LinkMove, Stays, Comes, Goes, Refused, Outcome, nothing, outcome, is_stepped, bodies, by_app, by_payload, client_up, port_up, of_client, of_port}
 use Rattle.gate_law.specs.After.{lists_after, links_closed, with_outcome, client_moved, port_moved, lists, order_turns, is_within_day}
 use Rattle.gate_law.specs.Due.{Gives, client_named, reports_of}
@@ -63,13 +63,6 @@ Tells s e b v o = TellsNothing s v o ⊎ TellsTurn e b o
 tells-if : (s : Settings) (e : Event) (b : Batch) (v : Lists) (c : Bool) (x y : Outcome) → Tells s e b v x → Tells s e b v y → Tells s e b v (if c then x else y)
 tells-if s e b v true x y p q = p
 tells-if s e b v false x y p q = q
-
-tells-nothing : (s : Settings) (e : Event) (b : Batch) (v : Lists) → Tells s e b v nothing
-tells-nothing s e b v = inl (refl, refl)
-
-one-quiet : (s : Settings) (client at : ℕ) (before : List Timed) (is_up : Bool) → client_reports s client before ((at, OnLink is_up) ∷ []) ≡ []
-unfolding report_issued
-one-quiet s client at before is_up = refl
 
 tells-client-up : (s : Settings) (client link at : ℕ) (b : Batch) (v : Lists) (current : Option ℕ) → Tells s (ClientUp client link at) b v (client_up client link at current)
 unfolding report_issued

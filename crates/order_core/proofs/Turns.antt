@@ -49,11 +49,6 @@ pub parts-of : (terms : List Terms) (h : OrderHistory) (c : OrderCoreState) → 
 unfolding IsAfterTurns
 parts-of terms h c after = after
 
--- from its parts
-pub from-parts : (terms : List Terms) (h : OrderHistory) (c : OrderCoreState) → TurnsLeave terms h c.table → KeepsOutstanding terms h c.kept → IsAfterTurns terms h c
-unfolding IsAfterTurns
-from-parts terms h c leaves keeps = (leaves, keeps)
-
 -- ---- a client's call
 
 module _ (terms : List Terms) (before : OrderHistory) (old : OrderCoreState) (client : ℕ) (message : AppMsg) (port : PortState) (out : CoreOut) (new : OrderCoreState) where

@@ -13,7 +13,8 @@ use Rattle.order_machine.proofs.Texts.{eq-is, eq-true}
 use Rattle.orders.specs.Changes.{changed_by, replaced_as}
 use Rattle.orders.specs.declared.change.Change.{Change}
 use Rattle.orders.specs.declared.change.Change.TheVariants as changes
-use Rattle.order_table.specs.Held.{IsNewest, is_counted}
+use Rattle.hint_index.specs.Newest.{IsNewest}
+use Rattle.order_table.specs.Held.{is_counted}
 
 within : (m n : ℕ) → m ≤ n → nat_le m n ≡ true
 within m n few = grind (arith, nat_tests)

@@ -9,7 +9,8 @@ use Rattle.std.proofs.lemmas.List.Recursion.{is_position_or_len}
 use Rattle.std.proofs.lemmas.Option.{slice_get-get_or, slice_get_past}
 use Rattle.order_machine.specs.OrderRecord.{OrderRecord}
 use Rattle.order_machine.specs.Table.{has_number, put}
-use Rattle.order_table.specs.Held.{IsNewest}
+use Rattle.hint_index.proofs.Newest.{length-reverse}
+use Rattle.hint_index.specs.Newest.{IsNewest}
 use Rattle.order_law.specs.History.{Entry}
 use Rattle.order_machine.proofs.Executed.{count-more}
 use Rattle.order_machine.proofs.Lists.{count-push, found-passes}
@@ -25,21 +26,6 @@ number-test m n m_small n_small = by_test (m == n) refl
     by_test false e = sym (eq-other (decimal m) (decimal n) (λ same. (let alike : m ≡ n = decimal-same m n (omega arith) (omega arith) same in let on : (m == n) ≡ true = eq-eqb m n alike in let x : true ≡ false = sym on ∙ e in cc)))
 
 -- ---- lists from their ends
-
-length-push : {A : Type 0} (xs : List A) (x : A) → length (xs ++ x ∷ []) ≡ suc (length xs)
-length-push [] x = refl
-length-push (a ∷ xs) x = ap suc (length-push xs x)
-
-pub length-reverse : {A : Type 0} (xs : List A) → length (reverse xs) ≡ length xs
-length-reverse [] = refl
-length-reverse (x ∷ xs) = ap length (reverse-append (x ∷ []) xs) ∙ length-push (reverse xs) x ∙ ap suc (length-reverse xs)
-
-pub get-reverse : {A : Type 0} (xs : List A) (k : ℕ) → k < length xs → slice_get (reverse xs) k ≡ slice_get xs (length xs - 1 - k)
-get-reverse [] k inside = absurd (omega arith)
-get-reverse (x ∷ xs) k inside =
-    slice_get-get_or (reverse (x ∷ xs)) k x (omega (arith, length-reverse (x ∷ xs)))
-    ∙ ap Some (get_or-reverse (x ∷ xs) k x inside)
-    ∙ sym (slice_get-get_or (x ∷ xs) (length (x ∷ xs) - 1 - k) x (omega arith))
 
 set-last : {A : Type 0} (xs : List A) (y x : A) → slice_set (xs ++ y ∷ []) (length xs) x ≡ xs ++ x ∷ []
 set-last [] y x = refl
@@ -92,40 +78,6 @@ put-in p (o ∷ os) = by_number (has_number p.new.order o) (put-in p os)
 
 put-place : (p : OrderRecord) (os : List OrderRecord) → put p os ≡ slice_set os (position_or_len (has_number p.new.order) os) p
 put-place p os = put-in p os ∙ ap (λ n. slice_set os n p) (place_in-is (has_number p.new.order) os)
-
-within : (m n : ℕ) → nat_lt m n ≡ true → m < n
-within m n h = grind (arith, nat_tests)
-
-past : (m n : ℕ) → nat_lt m n ≡ false → n ≤ m
-past m n h = grind (arith, nat_tests)
-
-pub newest-at : {A : Type 0} (test : A → Bool) (xs : List A) (k : ℕ) → position test (reverse xs) ≡ Some k → (k < length xs) × IsNewest test xs (length xs - 1 - k)
-newest-at {A = A} test xs k e = by_test (nat_lt (position_or_len test (reverse xs)) (length (reverse xs))) refl e
-  where
-    by_test : (b : Bool) → nat_lt (position_or_len test (reverse xs)) (length (reverse xs)) ≡ b → ◌≡◌ {A = Option ℕ} (if b then Some (position_or_len test (reverse xs)) else None) (Some k) → (k < length xs) × IsNewest test xs (length xs - 1 - k)
-    by_test true h same =
-        let at : position_or_len test (reverse xs) ≡ k = cc in
-        let few : k < length xs = omega (arith, within (position_or_len test (reverse xs)) (length (reverse xs)) h, at, length-reverse xs) in (
-          few,
-          record {
-            inside = omega (arith, few);
-            newest = find_at test (reverse xs) ∙ ap (slice_get (reverse xs)) at ∙ get-reverse xs k few;
-            at_end = omega (arith, at, few);
-          },
-        )
-    by_test false h same = absurd (cc)
-
-pub newest-none : {A : Type 0} (test : A → Bool) (xs : List A) → position test (reverse xs) ≡ None → find test (reverse xs) ≡ None
-newest-none {A = A} test xs e = by_test (nat_lt (position_or_len test (reverse xs)) (length (reverse xs))) refl e
-  where
-    by_test : (b : Bool) → nat_lt (position_or_len test (reverse xs)) (length (reverse xs)) ≡ b → ◌≡◌ {A = Option ℕ} (if b then Some (position_or_len test (reverse xs)) else None) None → find test (reverse xs) ≡ None
-    by_test true h same = absurd (cc)
-    by_test false h same = find_at test (reverse xs) ∙ slice_get_past (reverse xs) (position_or_len test (reverse xs)) (past (position_or_len test (reverse xs)) (length (reverse xs)) h)
-
--- a place is of a test that something passes
-pub newest-there : {A : Type 0} (test : A → Bool) (xs : List A) (place : ℕ) → IsNewest test xs place → find test (reverse xs) ≡ None → ⊥
-newest-there test [] place newest none = absurd (omega (arith, newest.inside))
-newest-there test (x ∷ xs) place newest none = let at = slice_get-get_or (x ∷ xs) place x newest.inside in let found = newest.newest in cc
 
 -- an order with the number, written at the place
 pub put-newest : (order : List ℕ) (xs : List OrderRecord) (place : ℕ) (p : OrderRecord) → IsNewest (has_number order) xs place → p.new.order ≡ order → put p (reverse xs) ≡ reverse (slice_set xs place p)

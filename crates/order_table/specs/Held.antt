@@ -1,7 +1,7 @@
 -- What the table holds, and what is found in it: `order_machine`'s words over the two lists.
-use Rattle.std.specs.Prelude.{◌≡◌, ◌<◌, ℕ, ◌+◌, ◌-◌, nat_le, Bool, true, List, length, reverse, Option}
-use Rattle.std.specs.Prelude.{option_and_then, option_to_list, decimal, slice_get, slice_index, if◌then◌else◌}
-use Rattle.std.specs.List.{count_by, find, list_all, position_or_len}
+use Rattle.std.specs.Prelude.{◌≡◌, ℕ, ◌+◌, nat_le, Bool, true, List, length, Option}
+use Rattle.std.specs.Prelude.{option_and_then, option_to_list, decimal, slice_index, if◌then◌else◌}
+use Rattle.std.specs.List.{count_by, find, list_all}
 use Rattle.order_machine.specs.OrderRecord.{OrderRecord}
 use Rattle.order_machine.specs.Table.{GivenToken, has_number, is_named, is_replacement_of, is_token, open_count, put}
 
@@ -55,9 +55,3 @@ AreOpenCounts counts orders = (client : ℕ) → slice_index counts client ≡ o
 pub record IsCounted (tokens : List GivenToken) (counts : List ℕ) (orders : List OrderRecord) : Type 0 where
   pub had : list_all (is_counted tokens) orders ≡ true
   pub by_client : AreOpenCounts counts orders
-
--- what a place is to the newest that passes
-pub record IsNewest {A : Type 0} (test : A → Bool) (xs : List A) (place : ℕ) : Type 0 where
-  pub inside : place < length xs
-  pub newest : find test (reverse xs) ≡ slice_get xs place
-  pub at_end : position_or_len test (reverse xs) ≡ length xs - 1 - place

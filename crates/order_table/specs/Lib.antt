@@ -1,4 +1,9 @@
 pub mod Held
+pub mod Keys
+pub mod KeyLaws
+pub mod Names
+pub mod Rooms
+pub mod TokenKeys
 pub use Rattle.order_law.specs.Chain
 pub use Rattle.order_law.specs.Life
 pub use Rattle.order_machine.specs.OrderRecord

@@ -3,8 +3,11 @@
 //! It knows nothing of messages from the market and of reports. Contracts see it as `order_machine`'s table.
 #![tactic(auto)]
 
+mod keys;
 mod open_counts;
-mod places;
+mod order_list;
 mod table;
+mod token_key;
+mod token_list;
 
 pub use table::{GivenToken, Table};

@@ -6,13 +6,15 @@ ghost use Rattle.order_law.specs.Life.{is_closed};
 ghost use Rattle.order_machine.specs.Table as table;
 ghost use Rattle.order_table.specs.Held.{IsCounted};
 
+use crate::keys::NameKey;
 use crate::open_counts::OpenCounts;
-use crate::places::{named_place, place_of, token_place};
+use crate::order_list::OrderList;
+use crate::token_list::TokenList;
 use order_law::Stage;
 use orders::{Cancelling, Change, Order, Replacing};
 use std::alloc::{AllocError, Global};
+use std::hash::{BuildHasher, BuildHasherDefault, FoldHasher};
 use std::marker::Model;
-use undo_list::UndoList;
 
 /// A token that was given for an order.
 #[derive(Debug, Drop)]
@@ -43,17 +45,19 @@ impl Model for GivenToken {
 
 /// The accepted orders and the tokens that were given. Contracts see the newest first, now and as they were settled:
 /// `undo` puts back what was there at the last `settle`, and no orders where there was none.
+///
+/// Orders and tokens are found by indexes over any hasher, which changes nothing but how fast they are found.
 #[derive(Debug, Drop)]
-pub struct Table {
-    orders: UndoList<Order>,
-    tokens: UndoList<GivenToken>,
+pub struct Table<S: BuildHasher + Drop = BuildHasherDefault<FoldHasher>> {
+    orders: OrderList<S>,
+    tokens: TokenList<S>,
     /// How many orders of each client aren't closed.
     open_counts: OpenCounts,
     ghost counted: { IsCounted tokens.now open_counts.now orders.now },
     ghost settled_counted: { IsCounted tokens.settled open_counts.settled orders.settled },
 }
 
-impl Model for Table {
+impl<S: BuildHasher + Drop> Model for Table<S> {
     ghost use Rattle.std.specs.Prelude.{reverse};
     ghost use Rattle.order_table.specs.Held as held;
 
@@ -67,6 +71,42 @@ impl Model for Table {
 }
 
 impl Table {
+    ghost use Rattle.std.specs.Prelude.{[]};
+
+    /// No orders and no tokens, with the fixed seed. Takes no memory.
+    pub fn new(alloc: Global) -> Table
+        ensures orders { result.orders ≡ [] }
+        ensures tokens { result.tokens ≡ [] }
+        ensures settled { result.settled ≡ record { orders = []; tokens = [] } }
+    {
+        Table {
+            orders: OrderList::new(alloc),
+            tokens: TokenList::new(alloc),
+            open_counts: OpenCounts::new(alloc),
+        }
+    }
+}
+
+impl<S: BuildHasher + Clone + Drop> Table<S> {
+    ghost use Rattle.std.specs.Prelude.{[], IfOk};
+
+    /// No orders and no tokens, with a hasher.
+    pub fn with_hasher(alloc: Global, hasher: S) -> Result<Table<S>, AllocError>
+        ensures orders { IfOk result (λ table. table.orders ≡ []) }
+        ensures tokens { IfOk result (λ table. table.tokens ≡ []) }
+        ensures settled { IfOk result (λ table. table.settled ≡ record { orders = []; tokens = [] }) }
+    {
+        let names = hasher.clone()?;
+        let texts = hasher.clone()?;
+        Ok(Table {
+            orders: OrderList::with_hashers(alloc, hasher, names),
+            tokens: TokenList::with_hasher(alloc, texts),
+            open_counts: OpenCounts::new(alloc),
+        })
+    }
+}
+
+impl<S: BuildHasher + Drop> Table<S> {
     ghost use Rattle.std.specs.Prelude.{◌≤◌, ◌+◌, [], ◌∷◌, IfOk, OnErr, MatchOption, Some, None, decimal, length};
     ghost use Rattle.std.specs.Prelude.{option_to_list};
     ghost use Rattle.std.specs.List.{count_by};
@@ -78,19 +118,6 @@ impl Table {
     ghost use Rattle.orders.specs.Changes.{Fits, changed_by};
     ghost use Rattle.order_table.specs.Held.{changed, found, found_by_id, put_back, settled_now, with_number};
     ghost use Rattle.orders.specs.Seen.{cancel_seen, replace_seen};
-
-    /// No orders and no tokens. Takes no memory.
-    pub fn new(alloc: Global) -> Table
-        ensures orders { result.orders ≡ [] }
-        ensures tokens { result.tokens ≡ [] }
-        ensures settled { result.settled ≡ record { orders = []; tokens = [] } }
-    {
-        Table {
-            orders: UndoList::new(alloc),
-            tokens: UndoList::new(alloc),
-            open_counts: OpenCounts::new(alloc),
-        }
-    }
 
     /// One order more, which has had one token and has no pending replace, and the token that it was given.
     /// `AllocError` leaves the table as it was.
@@ -131,7 +158,7 @@ impl Table {
         ensures { MatchOption result (found self.now port token.now ≡ None)
             (λ order. found self.now port token.now ≡ Some order.now) }
     {
-        match token_place(self.tokens.as_slice(), port, token) {
+        match self.tokens.token_place(port, token) {
             None => None,
             Some(place) => self.by_number(self.tokens.item_at(place).order_id),
         }
@@ -142,7 +169,7 @@ impl Table {
         ensures { MatchOption result (with_number self.now order_id ≡ None)
             (λ order. with_number self.now order_id ≡ Some order.now) }
     {
-        match place_of(self.orders.as_slice(), order_id) {
+        match self.orders.place_of(order_id) {
             None => None,
             Some(place) => Some(self.orders.item_at(place)),
         }
@@ -154,7 +181,7 @@ impl Table {
         ensures { MatchOption result (found_by_id self.now client id.now ≡ None)
             (λ order. found_by_id self.now client id.now ≡ Some order.now) }
     {
-        match named_place(self.orders.as_slice(), client, id) {
+        match self.orders.named_place(client, id) {
             None => None,
             Some(place) => Some(self.orders.item_at(place)),
         }
@@ -177,7 +204,7 @@ impl Table {
         ensures settled { self.new.settled ≡ self.old.settled }
         ensures err { OnErr result (self.new ≡ self.old) }
     {
-        if let Some(place) = place_of(self.orders.as_slice(), order_id) {
+        if let Some(place) = self.orders.place_of(order_id) {
             let was = self.orders.item_at(place);
             let client = client_of(was);
             let was_open = is_open(was);
@@ -226,12 +253,14 @@ impl Table {
         ensures settled { self.new.settled ≡ self.old.settled }
         ensures err { OnErr result (self.new ≡ self.old) }
     {
-        if let Some(place) = place_of(self.orders.as_slice(), order_id) {
-            let order = self.orders.item_at(place).with_replace(alloc, replacing)?;
+        if let Some(place) = self.orders.place_of(order_id) {
+            let was = self.orders.item_at(place);
+            let name = NameKey::of(client_of(was), replacing.message.cl_ord_id.as_slice());
+            let order = was.with_replace(alloc, replacing)?;
             self.tokens.reserve_push()?;
             self.orders.reserve_change()?;
             self.tokens.push(given);
-            self.orders.change(place, order);
+            self.orders.change_named(place, order, name);
         }
         Ok(())
     }
@@ -250,10 +279,12 @@ impl Table {
         ensures settled { self.new.settled ≡ self.old.settled }
         ensures err { OnErr result (self.new ≡ self.old) }
     {
-        if let Some(place) = place_of(self.orders.as_slice(), order_id) {
-            let order = self.orders.item_at(place).with_cancel(alloc, cancelling)?;
+        if let Some(place) = self.orders.place_of(order_id) {
+            let was = self.orders.item_at(place);
+            let name = NameKey::of(client_of(was), cancelling.message.cl_ord_id.as_slice());
+            let order = was.with_cancel(alloc, cancelling)?;
             self.orders.reserve_change()?;
-            self.orders.change(place, order);
+            self.orders.change_named(place, order, name);
         }
         Ok(())
     }

@@ -1,11 +1,11 @@
 -- What the code keeps, by its fields and by its bytes.
-use Rattle.std.proofs.Common.{◌≡◌, ℕ, ◌<◌, ◌^◌, Bool, true, false, List, [], ◌∷◌, map, refl, sym, ap, ◌∙◌, arith, decimal, bytes_eq, eq-eqb, eqb-true}
-use Rattle.std.specs.Prelude.{◌==◌, ◌&&◌, ◌||◌, filter, if◌then◌else◌}
+use Rattle.std.proofs.Common.{◌≡◌, ℕ, ◌<◌, ◌^◌, Bool, true, false, List, refl, sym, ap, ◌∙◌, arith, decimal, bytes_eq, eq-eqb, eqb-true}
+use Rattle.std.specs.Prelude.{◌==◌, ◌&&◌, ◌||◌}
 use Rattle.ouch_codec.specs.declared.outbound.Outbound.{Outbound}
 use Rattle.order_law.specs.History.{Said, answers}
 use Rattle.order_machine.proofs.Texts.{decimal-same, eq-other, eq-true}
 use Rattle.outstanding.specs.declared.messages.AskedMessage.{AskedMessage}
-use Rattle.outstanding.specs.Kept.{KeptMessage, is_answered_by, asked_by_fields, seen}
+use Rattle.outstanding.specs.Kept.{is_answered_by, asked_by_fields, seen}
 use Rattle.outstanding.proofs.Saying.{said_in-written}
 
 pub number-test : (m n : ℕ) → m < 2 ^ 64 → n < 2 ^ 64 → (m == n) ≡ bytes_eq (decimal m) (decimal n)
@@ -30,14 +30,3 @@ is-closing p x c y e f g = rw (e, f, g) refl
 
 pub is-neither : (p x c y : Bool) → p ≡ true → x ≡ false → c ≡ false → (p && (x || (c && y))) ≡ false
 is-neither p x c y e f g = rw (e, f, g) refl
-
-seen-passed : (test : KeptMessage → Bool) (asked : AskedMessage) (rest : List AskedMessage) (others : List KeptMessage) → map seen rest ≡ others
-    → (b : Bool) → map seen (if b then asked ∷ rest else rest) ≡ (if b then seen asked ∷ others else others)
-seen-passed test asked rest others e true = ap (λ (ks : List KeptMessage). seen asked ∷ ks) e
-seen-passed test asked rest others e false = e
-
--- what passes a test is seen as what is seen and passes it
-pub seen-filter : (test : KeptMessage → Bool) (messages : List AskedMessage) → map seen (filter (λ (a : AskedMessage). test (seen a)) messages) ≡ filter test (map seen messages)
-seen-filter test [] = refl
-seen-filter test (a ∷ messages) =
-    seen-passed test a (filter (λ (b : AskedMessage). test (seen b)) messages) (filter test (map seen messages)) (seen-filter test messages) (test (seen a))

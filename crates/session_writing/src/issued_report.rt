@@ -2,7 +2,7 @@
 
 ghost use Rattle.std.specs.Prelude.{◌≡◌, ◌≤◌, ◌↔◌, ◌∷◌, [], ℕ, List, length, map, IfOk, IsSome, IfSome};
 ghost use Rattle.std.specs.Prelude.{if◌then◌else◌};
-ghost use Rattle.fix_fields.specs.Field.{IsValue, fields_text};
+ghost use Rattle.fix_fields.specs.Field.{AreFields, IsValue, fields_text};
 ghost use Rattle.fix_fields.specs.Printed.{PrintsFields, fields_in};
 ghost use Rattle.fix_stamp.specs.Stamp.{stamp_text};
 ghost use Rattle.session_law.specs.Frames.{frame_fields, told_of_out};
@@ -60,6 +60,7 @@ impl IssuedReport {
     /// Its text, as it was written from MsgType (35) to before CheckSum (10), or would have been. Takes no memory.
     pub fn text(&self) -> &[u8]
         ensures text { result.now ≡ fields_text self.now }
+        ensures fields { AreFields self.now }
         ensures in_limit { length result.now ≤ longest_report }
     {
         self.printed.text()

@@ -1,4 +1,4 @@
-use Rattle.std.proofs.Common.{◌≡◌, ◌∙◌, ℕ, ◌+◌, ◌∷◌, length, map, drop, sym, ap, arith, length-append, suc, []}
+use Rattle.std.proofs.Common.{◌≡◌, ◌∙◌, ◌+◌, ◌∷◌, length, map, drop, sym, ap, arith, length-append, suc, []}
 use Rattle.std.specs.Prelude.{All}
 use Rattle.desk_ends.specs.Rings.{Putting}
 use Rattle.desk_rings.specs.Made.{IsFreshEvents, inlet_name}

@@ -7,7 +7,7 @@ use Rattle.order_table.proofs.StillOpen.{counted-in}
 use Rattle.order_table.proofs.table.Table.add.Goals as goal
 
 pub invariant_of-self-inside-2 : goal.invariant_of-self-inside-2
-invariant_of-self-inside-2 c =
+invariant_of-self-inside-2 g c =
     let tokens : c.push.new.self.now ≡ c.self.inside.tokens.now ++ c.args.given ∷ [] = c.push.ensures.now ∙ ap (λ (ts : List GivenToken). ts ++ c.args.given ∷ []) c.in_ok-reserve_push.ensures.now in
     let orders : c.push-2.new.self.now ≡ c.self.inside.orders.now ++ c.args.order ∷ [] = c.push-2.ensures.now ∙ ap (λ (os : List OrderRecord). os ++ c.args.order ∷ []) c.in_ok-reserve_push-2.ensures.now in (
       same-counted tokens refl orders (record {

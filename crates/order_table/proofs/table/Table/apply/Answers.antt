@@ -1,25 +1,36 @@
-use Rattle.std.proofs.Common.{rules, ◌≡◌, ℕ, List, decimal, refl, reverse, sym, ap, ◌∙◌, slice_index, slice_set}
+use Rattle.std.proofs.Common.{rules, ◌≡◌, ℕ, List, decimal, refl, reverse, sym, ap, ◌∙◌, slice_get, slice_index, slice_set, subst}
 use Rattle.std.specs.Prelude.{Some}
 use Rattle.std.proofs.lemmas.Result.{IfOk-from_err}
 use Rattle.std.specs.List.{find}
 use Rattle.order_machine.specs.OrderRecord.{OrderRecord}
 use Rattle.order_machine.specs.Table.{has_number}
-use Rattle.order_table.specs.Held.{Held, IsNewest, changed, with_number}
+use Rattle.hint_index.specs.Newest.{IsNewest}
+use Rattle.order_table.specs.Held.{Held, changed, with_number}
 use Rattle.orders.specs.Changes.{Fits, changed_by}
 use Rattle.order_table.proofs.Counted.{change-few, change-new, kept}
+use Rattle.order_table.proofs.Named.{change-names, same-item}
+use Rattle.order_table.specs.Names.{KeepsNames}
 use Rattle.order_table.proofs.Standing.{changed-value, on-err, same-counted, same-value}
 use Rattle.order_table.proofs.StillOpen.{counted-off, was-counted}
 use Rattle.order_table.proofs.table.Table.apply.Goals as goal
 
 pub changed-requires : goal.changed-requires
-changed-requires c =
+changed-requires g c =
     let os = c.self.inside.orders.now in
     let newest : IsNewest (has_number (decimal c.args.order_id)) os c.in-Some.place = (search rules) in
     let was = c.item_at-was.result.now in
     c.requires was (sym (ap (λ (h : Held). with_number h c.args.order_id) c.self.view_is) ∙ newest.newest ∙ c.item_at-was.ensures)
 
+pub change-requires-clause-names : goal.change-requires-clause-names
+change-requires-clause-names g c = λ w at_place.
+    let os = c.self.inside.orders.now in
+    let was = c.item_at-was.result.now in
+    let same : was ≡ w = same-item os c.in-Some.place was w c.item_at-was.ensures (sym (ap (λ (xs : List OrderRecord). slice_get xs c.in-Some.place) c.in_ok-reserve_change.ensures.now) ∙ at_place) in
+    let now : c.in_ok-order.order ≡ changed_by c.args.change was = c.in_ok-order.ensures in
+    subst (λ (x : OrderRecord). KeepsNames x c.in_ok-order.order) same (subst (λ (y : OrderRecord). KeepsNames was y) (sym now) (change-names c.args.change was))
+
 pub count_off-requires-clause-counted : goal.count_off-requires-clause-counted
-count_off-requires-clause-counted c = λ closes.
+count_off-requires-clause-counted g c = λ closes.
     let os = c.self.inside.orders.now in
     let newest : IsNewest (has_number (decimal c.args.order_id)) os c.in-Some.place = (search rules) in
     let was = c.item_at-was.result.now in
@@ -27,7 +38,7 @@ count_off-requires-clause-counted c = λ closes.
     c.client_of-client.ensures (search rules) closes
 
 pub invariant_of-self-inside-in-Some : goal.invariant_of-self-inside-in-Some
-invariant_of-self-inside-in-Some c =
+invariant_of-self-inside-in-Some g c =
     let os = c.self.inside.orders.now in
     let newest : IsNewest (has_number (decimal c.args.order_id)) os c.in-Some.place = (search rules) in
     let was = c.item_at-was.result.now in
@@ -46,7 +57,7 @@ invariant_of-self-inside-in-Some c =
     )
 
 pub returns-in_ok-reserve-clause-changed : goal.returns-in_ok-reserve-clause-changed
-returns-in_ok-reserve-clause-changed c = λ o found.
+returns-in_ok-reserve-clause-changed g c = λ o found.
     let os = c.self.inside.orders.now in
     let newest : IsNewest (has_number (decimal c.args.order_id)) os c.in-Some.place = (search rules) in
     let is_found : find (has_number (decimal c.args.order_id)) (reverse os) ≡ Some o = ap (λ (h : Held). with_number h c.args.order_id) c.self.view_is ∙ found in
@@ -58,18 +69,18 @@ returns-in_ok-reserve-clause-changed c = λ o found.
     ∙ ap (changed (changed_by c.args.change o)) c.self.view_is
 
 pub returns-in_err-reserve_change-clause-err : goal.returns-in_err-reserve_change-clause-err
-returns-in_err-reserve_change-clause-err c =
+returns-in_err-reserve_change-clause-err g c =
     on-err c.from_residual-in_err-reserve_change.result
     (same-value c.self.inside.orders.now c.self.inside.tokens.now c.self.inside.orders.settled c.self.inside.tokens.settled c.reserve_change.new.self.now c.self.inside.tokens.now c.reserve_change.new.self.settled c.self.inside.tokens.settled
     c.reserve_change.ensures.now refl c.reserve_change.ensures.settled refl
     ∙ c.self.view_is)
 
 pub returns-in_err-reserve-clause-err : goal.returns-in_err-reserve-clause-err
-returns-in_err-reserve-clause-err c =
+returns-in_err-reserve-clause-err g c =
     on-err c.from_residual-in_err-reserve.result
     (same-value c.self.inside.orders.now c.self.inside.tokens.now c.self.inside.orders.settled c.self.inside.tokens.settled c.reserve_change.new.self.now c.self.inside.tokens.now c.reserve_change.new.self.settled c.self.inside.tokens.settled
     c.in_ok-reserve_change.ensures.now refl c.in_ok-reserve_change.ensures.settled refl
     ∙ c.self.view_is)
 
 pub returns-in_err-reserve-clause-changed : goal.returns-in_err-reserve-clause-changed
-returns-in_err-reserve-clause-changed c = IfOk-from_err c.from_residual-in_err-reserve.result _ (search rules)
+returns-in_err-reserve-clause-changed g c = IfOk-from_err c.from_residual-in_err-reserve.result _ (search rules)

@@ -1,0 +1,38 @@
+-- What a history over pages keeps.
+use Rattle.std.specs.Prelude.{ℕ, List, [], ◌∷◌}
+use Rattle.gate_law.specs.Events.{Batch, History, Turn}
+use Rattle.gate_events.specs.declared.event.Event.{Event}
+use Rattle.gate_events.specs.Seen.{event_seen}
+use Rattle.journal_days.specs.Day.{day_records}
+use Rattle.journal_records.specs.Days.{batches_in, events_in}
+
+-- events and the batches that they gave, the oldest first, and the bytes of the pages that say them
+pub record DayKept : Type 0 where
+  pub events : List Event
+  pub batches : List Batch
+  pub pages : List (List ℕ)
+
+-- what pages say
+abbrev pub kept_in : List (List ℕ) → DayKept
+kept_in pages = record {
+  events = events_in (day_records pages);
+  batches = batches_in (day_records pages);
+  pages = pages;
+}
+
+abbrev pub nothing_kept : DayKept
+nothing_kept = record { events = []; batches = []; pages = [] }
+
+-- an event with its batch
+abbrev pub turn : Event → Batch → Turn
+turn e b = record { event = event_seen e; batch = b }
+
+-- events with their batches, the newest first, after the turns before
+abbrev pub turns_onto : List Event → List Batch → History → History
+turns_onto [] batches before = before
+turns_onto (e ∷ events) [] before = before
+turns_onto (e ∷ events) (b ∷ batches) before = turns_onto events batches (turn e b ∷ before)
+
+-- the same as the core's law has it: each event with its batch, the newest first
+abbrev pub turns : DayKept → History
+turns h = turns_onto h.events h.batches []

@@ -1,0 +1,3 @@
+pub mod Moves
+mod Arranging
+mod Telling

@@ -1,0 +1,249 @@
+-- What goes to which way.
+use Rattle.std.proofs.Common.{◌≡◌, ◌≢◌, ℕ, suc, ◌<◌, ◌≤◌, ◌+◌, ◌-◌, Bool, true, false, nat_le, List, [], length, Option, Some, None, slice_get, slice_set, refl, ap, sym, ◌∙◌, subst, arith, inl, inr, ◌⊎◌}
+use Rattle.std.proofs.lemmas.Bool.Decides.{eqb_tells, leb_tells}
+use Rattle.std.proofs.lemmas.List.{append-nil}
+use Rattle.std.proofs.lemmas.Option.{slice_get_within}
+use Rattle.gate_law.specs.Events.{LinkOut, is_the_number}
+use Rattle.gate_events.specs.declared.source.Recipient.{Recipient}
+use Rattle.gate_events.specs.declared.source.Recipient.TheVariants as recipients
+use Rattle.gate_events.specs.Sources.{unless_empty}
+use Rattle.desk_ends.specs.Seats.{SeatState, WayState, WayLooked, WaySent, WaysLooked}
+use Rattle.desk_ends.proofs.Places.{get-same, get-set-same}
+use Rattle.desk_side.specs.declared.said.Said.{Said}
+use Rattle.desk_side.specs.Said.{said_to}
+use Rattle.desk_side.specs.Places.{client_place, is_aimed, port_place, recipient_at}
+use Rattle.desk_side.specs.Side.{ChangesAt, HaveRoom, IsHeld, Tells}
+use Rattle.desk_side.proofs.Moves.{come-to}
+
+-- ---- seats and ways by themselves
+
+pub knows-some : (a : SeatState) (empty : Bool) → (length a.known ≡ 0 → empty ≡ true) → empty ≡ false → 0 < length a.known
+knows-some a empty is isnt =
+    elim (eqb_tells (length a.known) 0) [
+      | inl q ↦ absurd (cc (is q.1, isnt))
+      | inr q ↦ omega (arith, q.1)
+    ]
+
+-- a way that nothing is for stays as it is
+pub way-stays : (w : WayState) → WaySent [] w w
+way-stays w = record {
+  name = refl;
+  whole = λ isnt. (isnt, sym (append-nil w.sent));
+  lost = λ so. refl;
+  stays = λ either. refl;
+}
+
+-- a way that isn't full has room, or is cut
+room-by : (v : WayState) (full : Bool) → ((v.cut ≡ false) × (v.free ≡ 0) → full ≡ true) → full ≡ false → (cut : Bool) → v.cut ≡ cut → (v.cut ≡ true) ⊎ (0 < v.free)
+room-by v full is isnt true cut = inl cut
+room-by v full is isnt false cut =
+    elim (eqb_tells v.free 0) [
+      | inl q ↦ absurd (cc (is (cut, q.1), isnt))
+      | inr q ↦ inr (omega (arith, q.1))
+    ]
+
+pub has-room : (ways : List WayState) (i d : ℕ) (v w : WayState) (full : Bool) → i < length ways → d ≡ i → slice_get (slice_set ways i v) d ≡ Some w
+    → ((v.cut ≡ false) × (v.free ≡ 0) → full ≡ true) → full ≡ false → (w.cut ≡ true) ⊎ (0 < w.free)
+has-room ways i d v w full inside place at is isnt =
+    let same : v ≡ w = get-same (slice_set ways i v) i v w (get-set-same ways i v inside) (rw place at at) in
+    subst (λ (z : WayState). (z.cut ≡ true) ⊎ (0 < z.free)) same (room-by v full is isnt v.cut refl)
+
+keeps-room : (w v : WayState) → WayLooked w v → (w.cut ≡ true) ⊎ (0 < w.free) → (v.cut ≡ true) ⊎ (0 < v.free)
+keeps-room w v l (inl cut) = inl (l.2 ∙ cut)
+keeps-room w v l (inr free) = inr (omega (arith, l.3, free))
+
+-- ---- places
+
+le-true : (m n : ℕ) → m ≤ n → nat_le m n ≡ true
+le-true m n h = elim (leb_tells m n) [ inl q ↦ q.0 | inr q ↦ absurd (omega (arith, h, q.1)) ]
+
+client-place-is : (clients d : ℕ) (o : Option ℕ) → d < clients → o ≡ Some (d + 1) → client_place clients o ≡ Some d
+client-place-is clients d o inside is =
+    let back : (d + 1) - 1 ≡ d = omega arith in
+    rw (is, le-true 1 (d + 1) (omega arith), le-true (d + 1) clients (omega (arith, inside)), back) refl
+
+port-place-is : (clients ports d : ℕ) (o : Option ℕ) → clients ≤ d → d < clients + ports → o ≡ Some ((d - clients) + 1) → port_place clients ports o ≡ Some d
+port-place-is clients ports d o behind inside is =
+    let back : clients + (((d - clients) + 1) - 1) ≡ d = omega (arith, behind) in
+    rw (is, le-true 1 ((d - clients) + 1) (omega arith), le-true ((d - clients) + 1) ports (omega (arith, behind, inside)), back) refl
+
+client-place-was : (clients d : ℕ) (o : Option ℕ) → client_place clients o ≡ Some d → (o ≡ Some (d + 1)) × (d < clients)
+client-place-was clients d None is = absurd (cc is)
+client-place-was clients d (Some n) is =
+    elim (leb_tells 1 n) [
+      | inl p ↦ elim (leb_tells n clients) [
+        | inl q ↦ (
+            let one : Some (n - 1) ≡ Some d = rw (p.0, q.0) at is in
+            let place : n - 1 ≡ d = cc one in
+            let number : n ≡ d + 1 = omega (arith, p.1, place) in
+            (ap Some number, omega (arith, q.1, number))
+            )
+        | inr q ↦ (let none : None ≡ Some d = rw (p.0, q.0) at is in absurd (cc none))
+      ]
+      | inr p ↦ (let none : None ≡ Some d = rw (p.0) at is in absurd (cc none))
+    ]
+
+port-place-was : (clients ports d : ℕ) (o : Option ℕ) → port_place clients ports o ≡ Some d → (o ≡ Some ((d - clients) + 1)) × (clients ≤ d) × (d < clients + ports)
+port-place-was clients ports d None is = absurd (cc is)
+port-place-was clients ports d (Some n) is =
+    elim (leb_tells 1 n) [
+      | inl p ↦ elim (leb_tells n ports) [
+        | inl q ↦ (
+            let one : Some (clients + (n - 1)) ≡ Some d = rw (p.0, q.0) at is in
+            let place : clients + (n - 1) ≡ d = cc one in
+            let number : n ≡ (d - clients) + 1 = omega (arith, p.1, place) in
+            (ap Some number, omega (arith, place), omega (arith, p.1, q.1, place))
+            )
+        | inr q ↦ (let none : None ≡ Some d = rw (p.0, q.0) at is in absurd (cc none))
+      ]
+      | inr p ↦ (let none : None ≡ Some d = rw (p.0) at is in absurd (cc none))
+    ]
+
+-- ---- whom a place is for
+
+recipient-client : (clients d : ℕ) → d < clients → recipient_at clients d ≡ recipients.Client (d + 1)
+recipient-client clients d h = rw (le-true (suc d) clients (omega (arith, h))) refl
+
+recipient-port : (clients d : ℕ) → clients ≤ d → recipient_at clients d ≡ recipients.Port ((d - clients) + 1)
+recipient-port clients d h =
+    elim (leb_tells (suc d) clients) [
+      | inl q ↦ absurd (omega (arith, h, q.1))
+      | inr q ↦ rw (q.0) refl
+    ]
+
+number-is : (n : ℕ) (o : Option ℕ) → o ≡ Some n → is_the_number n o ≡ true
+number-is n o is = rw is (elim (eqb_tells n n) [ inl q ↦ q.0 | inr q ↦ absurd (q.1 refl) ])
+
+number-was : (n : ℕ) (o : Option ℕ) → is_the_number n o ≡ true → o ≡ Some n
+number-was n None is = absurd (cc is)
+number-was n (Some m) is = elim (eqb_tells m n) [ inl q ↦ ap Some q.1 | inr q ↦ absurd (cc (is, q.0)) ]
+
+aimed-client : (clients d : ℕ) (client port : Option ℕ) (to : Recipient) → to ≡ recipient_at clients d → d < clients → is_aimed client port to ≡ is_the_number (d + 1) client
+aimed-client clients d client port to is h = ap (is_aimed client port) (is ∙ recipient-client clients d h)
+
+aimed-port : (clients d : ℕ) (client port : Option ℕ) (to : Recipient) → to ≡ recipient_at clients d → clients ≤ d → is_aimed client port to ≡ is_the_number ((d - clients) + 1) port
+aimed-port clients d client port to is h = ap (is_aimed client port) (is ∙ recipient-port clients d h)
+
+-- ---- room
+
+module _ (clients ports : ℕ) (client port : Option ℕ) (new : List WayState)
+    (names : (d : ℕ) (w : WayState) → slice_get new d ≡ Some w → w.name.to ≡ recipient_at clients d) (count : length new ≡ clients + ports) where
+  pub have-room : (mid : List WayState) → WaysLooked mid new
+      → ((d : ℕ) (w : WayState) → client_place clients client ≡ Some d → slice_get mid d ≡ Some w → (w.cut ≡ true) ⊎ (0 < w.free))
+      → ((d : ℕ) (w : WayState) → port_place clients ports port ≡ Some d → slice_get new d ≡ Some w → (w.cut ≡ true) ⊎ (0 < w.free))
+      → HaveRoom client port new
+  have-room mid looked first second d w at aim =
+      elim (leb_tells (suc d) clients) [
+        | inl q ↦ (
+            let inside : d < clients = omega (arith, q.1) in
+            let is : client ≡ Some (d + 1) = number-was (d + 1) client (sym (aimed-client clients d client port w.name.to (names d w at) inside) ∙ aim) in
+            let v = come-to WayLooked mid new looked.count looked.each d w at in
+            keeps-room v.0 w v.2 (first d v.0 (client-place-is clients d client inside is) v.1)
+            )
+        | inr q ↦ (
+            let behind : clients ≤ d = omega (arith, q.1) in
+            let inside : d < clients + ports = omega (arith, slice_get_within new d w at, count) in
+            let is : port ≡ Some ((d - clients) + 1) = number-was ((d - clients) + 1) port (sym (aimed-port clients d client port w.name.to (names d w at) behind) ∙ aim) in
+            second d w (port-place-is clients ports d port behind inside is) at
+            )
+      ]
+
+  pub client-held : (d : ℕ) (w : WayState) → client_place clients client ≡ Some d → slice_get new d ≡ Some w → w.cut ≡ false → w.free ≡ 0 → IsHeld client port new
+  client-held d w place at cut free =
+      let was = client-place-was clients d client place in
+      (d, w, at, aimed-client clients d client port w.name.to (names d w at) was.1 ∙ number-is (d + 1) client was.0, cut, free)
+
+  pub port-held : (d : ℕ) (w : WayState) → port_place clients ports port ≡ Some d → slice_get new d ≡ Some w → w.cut ≡ false → w.free ≡ 0 → IsHeld client port new
+  port-held d w place at cut free =
+      let was = port-place-was clients ports d port place in
+      (d, w, at, aimed-port clients d client port w.name.to (names d w at) was.1 ∙ number-is ((d - clients) + 1) port was.0, cut, free)
+
+-- ---- lists
+
+-- what becomes of the way at a place, and of each other
+at-place : (place : Option ℕ) (lists : List (List LinkOut)) (old new : List WayState)
+    → ((d : ℕ) → place ≡ Some d → ChangesAt d (WaySent lists) old new) → (place ≡ None → new ≡ old)
+    → (d : ℕ) (w : WayState) → slice_get old d ≡ Some w → place ≡ Some d → (v : WayState) × (slice_get new d ≡ Some v) × WaySent lists w v
+at-place place lists old new there nowhere d w at is = (there d is).there w at
+
+off-place : (place : Option ℕ) (lists : List (List LinkOut)) (old new : List WayState)
+    → ((d : ℕ) → place ≡ Some d → ChangesAt d (WaySent lists) old new) → (place ≡ None → new ≡ old)
+    → (d : ℕ) (w : WayState) → slice_get old d ≡ Some w → place ≢ Some d → slice_get new d ≡ Some w
+off-place None lists old new there nowhere d w at not = ap (λ (z : List WayState). slice_get z d) (nowhere refl) ∙ at
+off-place (Some i) lists old new there nowhere d w at not = (there i refl).others d (λ e. not (ap Some (sym e))) ∙ at
+
+count-place : (place : Option ℕ) (lists : List (List LinkOut)) (old new : List WayState)
+    → ((d : ℕ) → place ≡ Some d → ChangesAt d (WaySent lists) old new) → (place ≡ None → new ≡ old) → length new ≡ length old
+count-place None lists old new there nowhere = ap length (nowhere refl)
+count-place (Some i) lists old new there nowhere = (there i refl).count
+
+-- what is said to whom
+said-client : (n : ℕ) (s : Said) → s.client ≡ Some n → said_to (recipients.Client n) s ≡ s.client_told
+said-client n s is = rw (number-is n s.client is) refl
+
+said-port : (n : ℕ) (s : Said) → s.port ≡ Some n → said_to (recipients.Port n) s ≡ s.port_told
+said-port n s is = rw (number-is n s.port is) refl
+
+not-client : (n : ℕ) (s : Said) → is_the_number n s.client ≡ false → said_to (recipients.Client n) s ≡ []
+not-client n s isnt = rw isnt refl
+
+not-port : (n : ℕ) (s : Said) → is_the_number n s.port ≡ false → said_to (recipients.Port n) s ≡ []
+not-port n s isnt = rw isnt refl
+
+module _ (clients ports : ℕ) (said : Said) (old mid new : List WayState)
+    (names : (d : ℕ) (w : WayState) → slice_get old d ≡ Some w → w.name.to ≡ recipient_at clients d)
+    (first : (d : ℕ) → client_place clients said.client ≡ Some d → ChangesAt d (WaySent (unless_empty said.client_told)) old mid)
+    (first-none : client_place clients said.client ≡ None → mid ≡ old)
+    (second : (d : ℕ) → port_place clients ports said.port ≡ Some d → ChangesAt d (WaySent (unless_empty said.port_told)) mid new)
+    (second-none : port_place clients ports said.port ≡ None → new ≡ mid) (count : length old ≡ clients + ports) where
+  abbrev Sent : Recipient → ℕ → WayState → Type 0
+  Sent to d w = (v : WayState) × (slice_get new d ≡ Some v) × WaySent (unless_empty (said_to to said)) w v
+
+  to-client : (d : ℕ) (w : WayState) → slice_get old d ≡ Some w → d < clients → (b : Bool) → is_the_number (d + 1) said.client ≡ b → Sent (recipients.Client (d + 1)) d w
+  to-client d w at inside true is =
+      let own : said.client ≡ Some (d + 1) = number-was (d + 1) said.client is in
+      let v = at-place (client_place clients said.client) (unless_empty said.client_told) old mid first first-none d w at (client-place-is clients d said.client inside own) in (
+        v.0,
+        off-place (port_place clients ports said.port) (unless_empty said.port_told) mid new second second-none d v.0 v.1 (λ e. absurd (omega (arith, inside, (port-place-was clients ports d said.port e).1))),
+        subst (λ (z : List LinkOut). WaySent (unless_empty z) w v.0) (sym (said-client (d + 1) said own)) v.2,
+      )
+  to-client d w at inside false is =
+      let stays = off-place (client_place clients said.client) (unless_empty said.client_told) old mid first first-none d w at (λ e. absurd (cc (number-is (d + 1) said.client (client-place-was clients d said.client e).0, is))) in (
+        w,
+        off-place (port_place clients ports said.port) (unless_empty said.port_told) mid new second second-none d w stays (λ e. absurd (omega (arith, inside, (port-place-was clients ports d said.port e).1))),
+        subst (λ (z : List LinkOut). WaySent (unless_empty z) w w) (sym (not-client (d + 1) said is)) (way-stays w),
+      )
+
+  to-port-by : (d : ℕ) (w : WayState) → clients ≤ d → d < clients + ports → slice_get mid d ≡ Some w → (b : Bool) → is_the_number ((d - clients) + 1) said.port ≡ b → Sent (recipients.Port ((d - clients) + 1)) d w
+  to-port-by d w behind inside stays true is =
+      let own : said.port ≡ Some ((d - clients) + 1) = number-was ((d - clients) + 1) said.port is in
+      let v = at-place (port_place clients ports said.port) (unless_empty said.port_told) mid new second second-none d w stays (port-place-is clients ports d said.port behind inside own) in
+      (v.0, v.1, subst (λ (z : List LinkOut). WaySent (unless_empty z) w v.0) (sym (said-port ((d - clients) + 1) said own)) v.2)
+  to-port-by d w behind inside stays false is = (
+    w,
+    off-place (port_place clients ports said.port) (unless_empty said.port_told) mid new second second-none d w stays (λ e. absurd (cc (number-is ((d - clients) + 1) said.port (port-place-was clients ports d said.port e).0, is))),
+    subst (λ (z : List LinkOut). WaySent (unless_empty z) w w) (sym (not-port ((d - clients) + 1) said is)) (way-stays w),
+  )
+
+  to-port : (d : ℕ) (w : WayState) → slice_get old d ≡ Some w → clients ≤ d → Sent (recipients.Port ((d - clients) + 1)) d w
+  to-port d w at behind =
+      let inside : d < clients + ports = omega (arith, slice_get_within old d w at, count) in
+      let stays = off-place (client_place clients said.client) (unless_empty said.client_told) old mid first first-none d w at (λ e. absurd (omega (arith, behind, (client-place-was clients d said.client e).1))) in
+      to-port-by d w behind inside stays (is_the_number ((d - clients) + 1) said.port) refl
+
+  pub tells : Tells said old new
+  tells = record {
+    count = count-place (port_place clients ports said.port) (unless_empty said.port_told) mid new second second-none
+        ∙ count-place (client_place clients said.client) (unless_empty said.client_told) old mid first first-none;
+    each = λ d w at.
+        elim (leb_tells (suc d) clients) [
+          | inl q ↦ (
+              let inside : d < clients = omega (arith, q.1) in
+              subst (λ (to : Recipient). Sent to d w) (sym (names d w at ∙ recipient-client clients d inside)) (to-client d w at inside (is_the_number (d + 1) said.client) refl)
+              )
+          | inr q ↦ (
+              let behind : clients ≤ d = omega (arith, q.1) in
+              subst (λ (to : Recipient). Sent to d w) (sym (names d w at ∙ recipient-port clients d behind)) (to-port d w at behind)
+              )
+        ];
+  }

@@ -1,0 +1,7 @@
+pub mod Said
+pub mod Places
+pub mod Side
+pub mod Opened
+pub use Rattle.desk_ends.specs.Seats
+pub use Rattle.desk_rings.specs.Made
+pub use Rattle.gate_events.specs.Seen

@@ -1,0 +1,15 @@
+-- What a batch tells, apart from the batch. (Own.)
+use Rattle.std.specs.Prelude.{◌≡◌, List, [], if◌then◌else◌}
+use Rattle.gate_law.specs.Events.{Batch, LinkOut, is_the_number}
+use Rattle.gate_events.specs.declared.source.Recipient.{Recipient}
+use Rattle.gate_events.specs.declared.source.Recipient.TheVariants as recipients
+use Rattle.desk_side.specs.declared.said.Said.{Said}
+
+-- it is what this batch tells
+abbrev pub IsSaid : Batch → Said → Type 0
+IsSaid b s = (s.client ≡ b.client) × (s.client_told ≡ b.client_out) × (s.port ≡ b.port) × (s.port_told ≡ b.port_out)
+
+-- what one link is told
+abbrev pub said_to : Recipient → Said → List LinkOut
+said_to (recipients.Client n) s = if is_the_number n s.client then s.client_told else []
+said_to (recipients.Port n) s = if is_the_number n s.port then s.port_told else []

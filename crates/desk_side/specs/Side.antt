@@ -1,0 +1,43 @@
+-- What contracts see of the desk's side of its rings, and what its calls make of it. (Own.)
+use Rattle.std.specs.Prelude.{◌≡◌, ◌≢◌, ℕ, ◌+◌, ◌<◌, ◌⊎◌, Bool, true, false, Option, Some, slice_get, length, List}
+use Rattle.gate_events.specs.Sources.{unless_empty}
+use Rattle.desk_ends.specs.Seats.{SeatState, WayState, WaySent}
+use Rattle.desk_side.specs.declared.said.Said.{Said}
+use Rattle.desk_side.specs.Said.{said_to}
+use Rattle.desk_side.specs.Places.{is_aimed, recipient_at, source_at}
+
+-- its seats and ways, by position
+pub record SideState : Type 0 where
+  pub clients : ℕ
+  pub ports : ℕ
+  pub seats : List SeatState
+  pub ways : List WayState
+
+-- there is a seat for each client, each port and the clock, and a way for each client and each port, in this order
+pub record IsArranged (s : SideState) : Type 0 where
+  pub sources : (k : ℕ) (a : SeatState) → slice_get s.seats k ≡ Some a → a.name.source ≡ source_at s.clients s.ports k
+  pub seat_count : length s.seats ≡ s.clients + s.ports + 1
+  pub recipients : (d : ℕ) (w : WayState) → slice_get s.ways d ≡ Some w → w.name.to ≡ recipient_at s.clients d
+  pub way_count : length s.ways ≡ s.clients + s.ports
+
+-- one element changed as P says, and the others stayed
+pub record ChangesAt {A : Type 0} (i : ℕ) (P : A → A → Type 0) (old new : List A) : Type 0 where
+  pub count : length new ≡ length old
+  pub others : (k : ℕ) → k ≢ i → slice_get new k ≡ slice_get old k
+  pub there : (x : A) → slice_get old i ≡ Some x → (y : A) × (slice_get new i ≡ Some y) × P x y
+
+-- each way whose recipient is told something took it, or was cut
+pub record Tells (said : Said) (old new : List WayState) : Type 0 where
+  pub count : length new ≡ length old
+  pub each : (d : ℕ) (w : WayState) → slice_get old d ≡ Some w
+      → (v : WayState) × (slice_get new d ≡ Some v) × WaySent (unless_empty (said_to w.name.to said)) w v
+
+-- the ways of this client and of this port know of room, or are cut
+abbrev pub HaveRoom : Option ℕ → Option ℕ → List WayState → Type 0
+HaveRoom client port ways = (d : ℕ) (w : WayState) → slice_get ways d ≡ Some w → is_aimed client port w.name.to ≡ true
+    → (w.cut ≡ true) ⊎ (0 < w.free)
+
+-- one of them isn't cut and knows of none
+abbrev pub IsHeld : Option ℕ → Option ℕ → List WayState → Type 0
+IsHeld client port ways = (d : ℕ) × (w : WayState) × (slice_get ways d ≡ Some w) × (is_aimed client port w.name.to ≡ true)
+    × (w.cut ≡ false) × (w.free ≡ 0)

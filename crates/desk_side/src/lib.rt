@@ -1,0 +1,14 @@
+//! The desk's side of its rings: events come out of those of the inlets, and lists go into those of the outlets.
+//!
+//! Nothing is stepped here, and no call takes memory but `Said::of`.
+#![tactic(auto)]
+
+mod opening;
+mod places;
+mod said;
+mod side;
+mod slots;
+
+pub use opening::open_side;
+pub use said::Said;
+pub use side::Side;

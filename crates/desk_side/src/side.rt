@@ -1,0 +1,175 @@
+//! All rings of a desk, from the desk's side.
+
+ghost use Rattle.std.specs.Prelude.{◌≡◌};
+
+use crate::places::{client_number, place_of_client, place_of_port, port_number};
+use crate::said::Said;
+use crate::slots::{is_empty_at, is_full_at, pop_at, send_at};
+use desk_ends::{DeskName, Finished, Seat, Way};
+use gate_events::{Event, Source, Told};
+use std::marker::Model;
+
+/// All rings of a desk, from the desk's side: a seat for each client, each port and the clock, and a way for each
+/// client and each port. Contracts see them by position.
+#[derive(Drop)]
+pub struct Side {
+    clients: usize,
+    ports: usize,
+    seats: Vec<Seat>,
+    ways: Vec<Way>,
+    /// A bit for each way into whose ring a list went since they were taken, by position.
+    rung: u128,
+}
+
+impl Model for Side {
+    ghost use Rattle.desk_side.specs.Side.{SideState, IsArranged};
+
+    ghost Value = { SideState };
+
+    ghost view = { λ s. record { clients = s.clients; ports = s.ports; seats = s.seats.items; ways = s.ways.items } };
+
+    ghost invariant = { λ s. IsArranged (record { clients = s.clients; ports = s.ports; seats = s.seats.items; ways = s.ways.items }) };
+}
+
+impl Side {
+    ghost use Rattle.std.specs.Prelude.{◌≡◌, ◌<◌, ℕ, true, false, Some, length, map, slice_get};
+    ghost use Rattle.desk_ends.specs.Seats.{SeatState, SeatGave, SeatLooked, SeatsLooked, SeatsStayBut, WaysLooked, IsTold, seat_name, way_name};
+    ghost use Rattle.desk_ends.specs.Ends.{inlet_of};
+    ghost use Rattle.desk_side.specs.Side.{ChangesAt, HaveRoom, IsArranged, IsHeld, Tells};
+
+    /// These seats and ways, for so many clients and ports.
+    pub fn new(clients: usize, ports: usize, seats: Vec<Seat>, ways: Vec<Way>) -> Side
+        requires arranged { IsArranged (record { clients = clients; ports = ports; seats = seats.items; ways = ways.items }) }
+        ensures { result ≡ record { clients = clients; ports = ports; seats = seats.items; ways = ways.items } }
+    {
+        Side {
+            clients,
+            ports,
+            seats,
+            ways,
+            rung: 0,
+        }
+    }
+
+    /// How many inlets there are.
+    pub fn inlets(&self) -> usize
+        ensures { result ≡ length self.now.seats }
+    {
+        self.seats.len()
+    }
+
+    /// Whose events come out of an inlet's ring.
+    pub fn source(&self, place: usize) -> Source
+        requires inside { place < length self.now.seats }
+        ensures { (a : SeatState) → slice_get self.now.seats place ≡ Some a → a.name.source ≡ result }
+    {
+        self.seats[place].source()
+    }
+
+    /// Whether no event is known in an inlet's ring, after a look.
+    pub fn is_empty(&mut self, place: usize) -> bool
+        requires inside { place < length self.old.seats }
+        ensures seats { ChangesAt place SeatLooked self.old.seats self.new.seats }
+        ensures ways { self.new.ways ≡ self.old.ways }
+        ensures counts { (self.new.clients ≡ self.old.clients) × (self.new.ports ≡ self.old.ports) }
+        ensures none { result ≡ true → (a : SeatState) → slice_get self.new.seats place ≡ Some a → length a.known ≡ 0 }
+        ensures some { result ≡ false → (a : SeatState) → slice_get self.new.seats place ≡ Some a → 0 < length a.known }
+    {
+        is_empty_at(&mut self.seats, place)
+    }
+
+    /// How many events are known in an inlet's ring, without a look.
+    pub fn known(&self, place: usize) -> usize
+        requires inside { place < length self.now.seats }
+        ensures { (a : SeatState) → slice_get self.now.seats place ≡ Some a → result ≡ length a.known }
+    {
+        self.seats[place].known()
+    }
+
+    /// The first event of an inlet's ring.
+    pub fn front(&self, place: usize) -> &Event
+        requires inside { place < length self.now.seats }
+        requires some { (a : SeatState) → slice_get self.now.seats place ≡ Some a → 0 < length a.known }
+        ensures { (a : SeatState) → slice_get self.now.seats place ≡ Some a → slice_get a.known 0 ≡ Some result.now }
+    {
+        self.seats[place].front()
+    }
+
+    /// The first event comes out of an inlet's ring.
+    pub fn pop(&mut self, place: usize) -> Event
+        requires inside { place < length self.old.seats }
+        requires some { (a : SeatState) → slice_get self.old.seats place ≡ Some a → 0 < length a.known }
+        ensures seats { ChangesAt place (SeatGave result) self.old.seats self.new.seats }
+        ensures ways { self.new.ways ≡ self.old.ways }
+        ensures counts { (self.new.clients ≡ self.old.clients) × (self.new.ports ≡ self.old.ports) }
+    {
+        pop_at(&mut self.seats, place)
+    }
+
+    /// Whether lists for this client and for this port would find room, after a look. A list for a cut way needs none.
+    pub fn has_room(&mut self, client: Option<u16>, port: Option<u16>) -> bool
+        ensures seats { self.new.seats ≡ self.old.seats }
+        ensures ways { WaysLooked self.old.ways self.new.ways }
+        ensures counts { (self.new.clients ≡ self.old.clients) × (self.new.ports ≡ self.old.ports) }
+        ensures room { result ≡ true → HaveRoom client port self.new.ways }
+        ensures full { result ≡ false → IsHeld client port self.new.ways }
+    {
+        let client = place_of_client(self.clients, client);
+        let port = place_of_port(self.clients, self.ports, port);
+        if is_full_at(&mut self.ways, client) {
+            return false;
+        }
+        !is_full_at(&mut self.ways, port)
+    }
+
+    /// What was said goes into the rings of those whom it is for. Where there is no room for it, the way is cut.
+    pub fn tell(&mut self, said: Said)
+        ensures seats { self.new.seats ≡ self.old.seats }
+        ensures ways { Tells said self.old.ways self.new.ways }
+        ensures counts { (self.new.clients ≡ self.old.clients) × (self.new.ports ≡ self.old.ports) }
+    {
+        let Said {
+            client,
+            client_told,
+            port,
+            port_told,
+        } = said;
+        let client = place_of_client(self.clients, client_number(client));
+        let port = place_of_port(self.clients, self.ports, port_number(port));
+        self.rung |= bit(client, &client_told) | bit(port, &port_told);
+        send_at(&mut self.ways, client, client_told);
+        send_at(&mut self.ways, port, port_told);
+    }
+
+    /// The ways to which something was told since the last call: a bit for each, by position.
+    pub fn take_rung(&mut self) -> u128
+        ensures { self.new ≡ self.old }
+    {
+        let rung = self.rung;
+        self.rung = 0;
+        rung
+    }
+
+    /// Compares an end that has finished with the desk's own end of its ring: of an inlet's, all that is left is known
+    /// then.
+    pub fn compare<K: DeskName>(&mut self, finished: &mut Finished<K>)
+        requires seats { map seat_name self.old.seats ≡ K.inlets }
+        requires ways { map way_name self.old.ways ≡ K.outlets }
+        ensures same { finished.new ≡ finished.old }
+        ensures seats { SeatsLooked self.old.seats self.new.seats }
+        ensures others { SeatsStayBut (inlet_of finished.old) self.old.seats self.new.seats }
+        ensures ways { WaysLooked self.old.ways self.new.ways }
+        ensures counts { (self.new.clients ≡ self.old.clients) × (self.new.ports ≡ self.old.ports) }
+        ensures told { IsTold finished.old self.new.seats self.new.ways }
+    {
+        finished.compare(&mut self.seats, &mut self.ways);
+    }
+}
+
+/// The bit of a place, where there is something in a list for it.
+fn bit(place: Option<usize>, told: &Told) -> u128 {
+    match place {
+        Some(place) if place < 128 && !told.as_slice().is_empty() => 1u128 << place,
+        _ => 0,
+    }
+}

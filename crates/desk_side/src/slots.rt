@@ -1,0 +1,55 @@
+//! Calls on the seat or the way at a place.
+
+ghost use Rattle.std.specs.Prelude.{◌≡◌, ◌<◌, ◌⊎◌, ℕ, true, false, Some, None, length, slice_get, IfSome};
+ghost use Rattle.gate_events.specs.Sources.{unless_empty};
+ghost use Rattle.desk_ends.specs.Seats.{SeatState, SeatGave, SeatLooked, WayState, WaySent, WaysLooked};
+ghost use Rattle.desk_side.specs.Side.{ChangesAt};
+
+use desk_ends::{Seat, Way};
+use gate_events::{Event, Told};
+
+/// Whether the seat knows of no event, after a look.
+pub(crate) fn is_empty_at(seats: &mut Vec<Seat>, place: usize) -> bool
+    requires inside { place < length seats.old.items }
+    ensures looked { ChangesAt place SeatLooked seats.old.items seats.new.items }
+    ensures none { result ≡ true → (a : SeatState) → slice_get seats.new.items place ≡ Some a → length a.known ≡ 0 }
+    ensures some { result ≡ false → (a : SeatState) → slice_get seats.new.items place ≡ Some a → 0 < length a.known }
+{
+    seats[place].is_empty()
+}
+
+/// The seat gives its first event.
+pub(crate) fn pop_at(seats: &mut Vec<Seat>, place: usize) -> Event
+    requires inside { place < length seats.old.items }
+    requires some { (a : SeatState) → slice_get seats.old.items place ≡ Some a → 0 < length a.known }
+    ensures { ChangesAt place (SeatGave result) seats.old.items seats.new.items }
+{
+    seats[place].pop()
+}
+
+/// Whether the way at this place, if there is one, isn't cut and knows of no room, after a look.
+pub(crate) fn is_full_at(ways: &mut Vec<Way>, place: Option<usize>) -> bool
+    requires inside { IfSome place (λ d. d < length ways.old.items) }
+    ensures looked { WaysLooked ways.old.items ways.new.items }
+    ensures full { result ≡ true → (d : ℕ) × (w : WayState) × (place ≡ Some d) × (slice_get ways.new.items d ≡ Some w)
+        × (w.cut ≡ false) × (w.free ≡ 0) }
+    ensures room { result ≡ false → (d : ℕ) (w : WayState) → place ≡ Some d → slice_get ways.new.items d ≡ Some w
+        → (w.cut ≡ true) ⊎ (0 < w.free) }
+{
+    let Some(place) = place else {
+        return false;
+    };
+    ways[place].is_full()
+}
+
+/// A list goes into the ring of the way at this place, if there is one.
+pub(crate) fn send_at(ways: &mut Vec<Way>, place: Option<usize>, told: Told)
+    requires inside { IfSome place (λ d. d < length ways.old.items) }
+    ensures at { (d : ℕ) → place ≡ Some d → ChangesAt d (WaySent (unless_empty told)) ways.old.items ways.new.items }
+    ensures nowhere { place ≡ None → ways.new.items ≡ ways.old.items }
+{
+    let Some(place) = place else {
+        return;
+    };
+    ways[place].send(told);
+}

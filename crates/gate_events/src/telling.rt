@@ -1,0 +1,43 @@
+//! What batches told one link.
+
+ghost use Rattle.std.specs.Prelude.{◌≡◌, ◌++◌, IfOk, map};
+ghost use Rattle.gate_events.specs.Seen.{batch_seen};
+ghost use Rattle.gate_events.specs.Sources.{lists_to, told_to, unless_empty};
+
+use crate::batch::Batch;
+use crate::source::Recipient;
+use crate::told::Told;
+use std::alloc::{AllocError, Global};
+
+/// What batches told one link, in order, once more: a list for each batch that told it something.
+pub fn told_lists(
+    alloc: Global,
+    batches: &[Batch],
+    recipient: Recipient,
+) -> Result<Vec<Told>, AllocError>
+    ensures { IfOk result (λ lists. lists.items ≡ lists_to recipient (map batch_seen batches.now)) }
+{
+    let mut lists = Vec::new(alloc);
+    for batch in batches {
+        keep_told(&mut lists, alloc, batch, &recipient)?;
+    }
+    Ok(lists)
+}
+
+/// A list more, where the batch tells the recipient something.
+fn keep_told(
+    lists: &mut Vec<Told>,
+    alloc: Global,
+    batch: &Batch,
+    recipient: &Recipient,
+) -> Result<(), AllocError>
+    ensures { IfOk result (λ nothing. lists.new.items
+        ≡ lists.old.items ++ unless_empty (told_to recipient.now (batch_seen batch.now))) }
+{
+    let told = batch.told(*recipient);
+    if told.is_empty() {
+        return Ok(());
+    }
+    lists.push(Told::copied(alloc, told)?)?;
+    Ok(())
+}

@@ -1,0 +1,9 @@
+mod Back
+pub mod Fits
+pub mod InOrder
+mod Listing
+mod More
+mod Parting
+pub mod Rows
+pub mod Said
+mod Told

@@ -1,0 +1,200 @@
+-- Orders and tokens are led to by their keys.
+use Rattle.std.proofs.Common.{◌≡◌, ℕ, zero, suc, ◌<◌, ◌-◌, ◌^◌, Bool, true, false, List, [], ◌∷◌, length, refl, sym, ap, ◌∙◌, arith, decimal, subst, slice_get, eq-eqb, eqb-true, true≢false, ◌⊎◌, inl, inr}
+use Rattle.std.specs.Prelude.{◌||◌, ◌&&◌, ◌==◌, not, Option, Some, None, bytes_eq, nat_eq, filter, if◌then◌else◌}
+use Rattle.std.specs.Cmp.Lexicographic.{bytes_decides}
+use Rattle.std.specs.List.{list_any}
+use Rattle.std.specs.Str.Parse.{digits_value}
+use Rattle.std.proofs.lemmas.Bool.{and_parts}
+use Rattle.fix_fields.specs.Field.{text}
+use Rattle.hint_index.proofs.Keys.{key-of-same}
+use Rattle.hint_index.specs.declared.hint.Hint.{Hint}
+use Rattle.hint_index.specs.Hints.{Hints, LeadsTo, hint_of}
+use Rattle.order_law.specs.Chain.{goes_by}
+use Rattle.order_law.specs.History.{Entry, token_of}
+use Rattle.order_machine.proofs.Texts.{eq-is, number-decimal}
+use Rattle.order_machine.specs.OrderRecord.{Cancelling, OrderRecord, at, chained, filled, gone, live_token, over_if, put_in_book, reduced, renamed, still_after, unasked, with_tokens, with_trade}
+use Rattle.order_machine.specs.Table.{GivenToken, has_number, is_named, is_token}
+use Rattle.orders.specs.Changes.{changed_by, replaced_as}
+use Rattle.orders.specs.declared.change.Change.{Change}
+use Rattle.orders.specs.declared.change.Change.TheVariants as changes
+use Rattle.order_table.specs.declared.keys.NameKey.{NameKey}
+use Rattle.order_table.specs.declared.keys.NumberKey.{NumberKey}
+use Rattle.order_table.specs.declared.token_key.TokenKey.{TokenKey}
+use Rattle.order_table.specs.Keys.{has_name_key, has_number_key, has_token_key, is_key_of_cancel, is_key_of_replace, name_key, same_name, same_number}
+use Rattle.order_table.specs.KeyLaws.{same-name-is, same-token-is}
+use Rattle.order_table.specs.Names.{KeepsNames, KeepsNamesBut}
+use Rattle.order_table.specs.TokenKeys.{same_token_key, token_key}
+use Rattle.order_table.proofs.Counted.{change-new}
+
+-- ---- tests
+
+never : {P : Type 0} → false ≡ true → P
+never e = absurd (true≢false (sym e))
+
+or-right : (p q : Bool) → q ≡ true → (p || q) ≡ true
+or-right true q e = refl
+or-right false q e = e
+
+or-false : (p : Bool) → (p || false) ≡ true → p ≡ true
+or-false true e = refl
+or-false false e = e
+
+pub or-elim : {P : Type 0} (a b : Bool) → (a ≡ true → P) → (b ≡ true → P) → (a || b) ≡ true → P
+or-elim true b f g e = f refl
+or-elim false b f g e = g e
+
+or-more : (a b p q : Bool) → (a ≡ true → p ≡ true) → (b ≡ true → q ≡ true) → (a || b) ≡ true → (p || q) ≡ true
+or-more a b p q f g e = or-elim a b (λ t. ap (λ c. c || q) (f t)) (λ t. or-right p q (g t)) e
+
+-- ---- numbers
+
+pub number-key : (n : ℕ) (o : OrderRecord) → n < 2 ^ 64 → has_number (decimal n) o ≡ true → has_number_key (record { number = n }) o ≡ true
+number-key n o small t = eq-eqb n (digits_value 10 o.new.order) (sym (ap (digits_value 10) (eq-is o.new.order (decimal n) t) ∙ number-decimal n (omega (arith, small))))
+
+pub number-leads : (h : Hints NumberKey) (o : OrderRecord) (n place : ℕ) → n < 2 ^ 64 → decimal n ≡ o.new.order → LeadsTo (hint_of same_number h (record { number = n })) place
+    → (k : NumberKey) → has_number_key k o ≡ true → LeadsTo (hint_of same_number h k) place
+number-leads h o n place small writes led k t =
+    let same : k.number ≡ n = eqb-true k.number (digits_value 10 o.new.order) t ∙ ap (digits_value 10) (sym writes) ∙ number-decimal n (omega (arith, small)) in
+    subst (λ (m : ℕ). LeadsTo (hint_of same_number h (record { number = m })) place) (sym same) led
+
+-- ---- names
+
+hit : (client : ℕ) (id : List ℕ) (c : ℕ) (own : List ℕ) → c ≡ client → bytes_eq own id ≡ true → same_name (name_key client id) (name_key c own) ≡ true
+hit client id c own whose t = key-of-same client c id own (sym whose) (sym (eq-is own id t))
+
+pending-key : (client : ℕ) (id : List ℕ) (c : ℕ) (o : OrderRecord) (r : Option Entry) (x : Option Cancelling) → c ≡ client → list_any (λ q. bytes_eq q.id id) (chained (at o r x)).pending ≡ true
+    → (is_key_of_replace (name_key client id) c r || is_key_of_cancel (name_key client id) c x) ≡ true
+pending-key client id c o None None whose t = never t
+pending-key client id c o (Some q) None whose t = or-more (bytes_eq (text 11 q.message) id) false (same_name (name_key client id) (name_key c (text 11 q.message))) false (hit client id c (text 11 q.message) whose) (λ e. e) t
+pending-key client id c o None (Some x) whose t = hit client id c (text 11 x.request.message) whose (or-false (bytes_eq (text 11 x.request.message) id) t)
+pending-key client id c o (Some q) (Some x) whose t =
+    or-more (bytes_eq (text 11 q.message) id) (bytes_eq (text 11 x.request.message) id || false) (same_name (name_key client id) (name_key c (text 11 q.message))) (same_name (name_key client id) (name_key c (text 11 x.request.message)))
+    (hit client id c (text 11 q.message) whose) (λ e. hit client id c (text 11 x.request.message) whose (or-false (bytes_eq (text 11 x.request.message) id) e)) t
+
+pub named-key : (client : ℕ) (id : List ℕ) (o : OrderRecord) → is_named client id o ≡ true → has_name_key (name_key client id) o ≡ true
+named-key client id o t =
+    let parts = and_parts (o.new.client == client) (goes_by id (chained o)) t in
+    let whose : o.new.client ≡ client = eqb-true o.new.client client parts.0 in
+    or-more (bytes_eq o.id id) (list_any (λ q. bytes_eq q.id id) (chained o).pending)
+    (same_name (name_key client id) (name_key o.new.client o.id)) (is_key_of_replace (name_key client id) o.new.client o.replace || is_key_of_cancel (name_key client id) o.new.client o.cancel)
+    (hit client id o.new.client o.id whose) (pending-key client id o.new.client o o.replace o.cancel whose) parts.1
+
+-- a client's order, each of whose keys is noted: its own id, and those of its pending requests
+pub name-leads : (h : Hints NameKey) (client : ℕ) (id : List ℕ) (replace : Option Entry) (cancel : Option Cancelling) (place : ℕ) → LeadsTo (hint_of same_name h (name_key client id)) place
+    → ((k : NameKey) → is_key_of_replace k client replace ≡ true → LeadsTo (hint_of same_name h k) place)
+    → ((k : NameKey) → is_key_of_cancel k client cancel ≡ true → LeadsTo (hint_of same_name h k) place)
+    → (k : NameKey) → (same_name k (name_key client id) || (is_key_of_replace k client replace || is_key_of_cancel k client cancel)) ≡ true → LeadsTo (hint_of same_name h k) place
+name-leads h client id replace cancel place own by_replace by_cancel k t =
+    or-elim (same_name k (name_key client id)) (is_key_of_replace k client replace || is_key_of_cancel k client cancel)
+    (λ e. subst (λ (q : NameKey). LeadsTo (hint_of same_name h q) place) (sym (same-name-is k (name_key client id) e)) own)
+    (or-elim (is_key_of_replace k client replace) (is_key_of_cancel k client cancel) (by_replace k) (by_cancel k)) t
+
+-- ---- what a message of the market leaves of them
+
+fewer : (p q r s t : Bool) → (s ≡ true → q ≡ true) → (t ≡ true → r ≡ true) → (p || (s || t)) ≡ true → (p || (q || r)) ≡ true
+fewer p q r s t f g e = or-more p (s || t) p (q || r) (λ x. x) (or-more s t q r f g) e
+
+still-key : (k : NameKey) (c : ℕ) (is_answered : List ℕ → Bool) (x : Option Cancelling) → is_key_of_cancel k c (still_after is_answered x) ≡ true → is_key_of_cancel k c x ≡ true
+still-key k c is_answered None t = t
+still-key k c is_answered (Some y) t = by_tokens (filter (λ token. not (is_answered token)) y.tokens) t
+  where
+    by_tokens : (tokens : List (List ℕ)) → is_key_of_cancel k c (with_tokens y.request tokens) ≡ true → is_key_of_cancel k c (Some y) ≡ true
+    by_tokens [] e = never e
+    by_tokens (token ∷ tokens) e = e
+
+-- with no other requests pending
+unasked-names : (k : NameKey) (o : OrderRecord) → has_name_key k (unasked o) ≡ true → has_name_key k o ≡ true
+unasked-names k o t = fewer (same_name k (name_key o.new.client o.id)) (is_key_of_replace k o.new.client o.replace) (is_key_of_cancel k o.new.client o.cancel) false false never never t
+
+over-names : (b : Bool) (k : NameKey) (o : OrderRecord) → has_name_key k (over_if b o) ≡ true → has_name_key k o ≡ true
+over-names true k o t = unasked-names k o t
+over-names false k o t = t
+
+-- under the id of its replace
+renamed-names : (k : NameKey) (c : ℕ) (own id : List ℕ) (t u : Bool) → (t ≡ true → u ≡ true) → (same_name k (name_key c id) || (false || t)) ≡ true → (same_name k (name_key c own) || (same_name k (name_key c id) || u)) ≡ true
+renamed-names k c own id t u f e = or-right (same_name k (name_key c own)) (same_name k (name_key c id) || u) (or-more (same_name k (name_key c id)) t (same_name k (name_key c id)) u (λ x. x) f e)
+
+replaced-names : (k : NameKey) (shares price : ℕ) (is_dead : Bool) (o : OrderRecord) (q : Option Entry) → o.replace ≡ q → has_name_key k (replaced_as shares price is_dead o q) ≡ true → has_name_key k o ≡ true
+replaced-names k shares price is_dead o None same t = t
+replaced-names k shares price is_dead o (Some q) same t =
+    let left = over-names is_dead k (at (put_in_book shares price (renamed (token_of q) q o)) None (still_after (bytes_eq (live_token o)) o.cancel)) t in
+    ap (λ (r : Option Entry). same_name k (name_key o.new.client o.id) || (is_key_of_replace k o.new.client r || is_key_of_cancel k o.new.client o.cancel)) same
+    ∙ renamed-names k o.new.client o.id (text 11 q.message) (is_key_of_cancel k o.new.client (still_after (bytes_eq (live_token o)) o.cancel)) (is_key_of_cancel k o.new.client o.cancel)
+    (still-key k o.new.client (bytes_eq (live_token o)) o.cancel) left
+
+change-keys : (change : Change) (o : OrderRecord) (k : NameKey) → has_name_key k (changed_by change o) ≡ true → has_name_key k o ≡ true
+change-keys (changes.Opened shares price is_dead) o k t = over-names is_dead k (put_in_book shares price o) t
+change-keys (changes.Replaced shares price is_dead) o k t = replaced-names k shares price is_dead o o.replace refl t
+change-keys (changes.Canceled shares) o k t = by_rest (o.unfilled - shares == 0) t
+  where
+    by_rest : (b : Bool) → has_name_key k (if b then unasked (gone o) else reduced shares o) ≡ true → has_name_key k o ≡ true
+    by_rest true e = unasked-names k (gone o) e
+    by_rest false e = e
+change-keys (changes.Traded d) o k t = by_rest (o.unfilled - d.trade.shares == 0) t
+  where
+    by_rest : (b : Bool) → has_name_key k (if b then unasked (filled d.number d.trade o) else with_trade d.number d.trade o) ≡ true → has_name_key k o ≡ true
+    by_rest true e = unasked-names k (filled d.number d.trade o) e
+    by_rest false e = e
+change-keys (changes.Broken d) o k t = t
+change-keys changes.Refused o k t = unasked-names k o t
+change-keys (changes.NotReplaced token) o k t =
+    fewer (same_name k (name_key o.new.client o.id)) (is_key_of_replace k o.new.client o.replace) (is_key_of_cancel k o.new.client o.cancel) false (is_key_of_cancel k o.new.client (still_after (bytes_eq token) o.cancel))
+    never (still-key k o.new.client (bytes_eq token) o.cancel) t
+change-keys (changes.NotCanceled token) o k t =
+    fewer (same_name k (name_key o.new.client o.id)) (is_key_of_replace k o.new.client o.replace) (is_key_of_cancel k o.new.client o.cancel) (is_key_of_replace k o.new.client o.replace) (is_key_of_cancel k o.new.client (still_after (bytes_eq token) o.cancel))
+    (λ e. e) (still-key k o.new.client (bytes_eq token) o.cancel) t
+
+pub change-names : (change : Change) (o : OrderRecord) → KeepsNames o (changed_by change o)
+change-names change o = record { asked = change-new change o; names = change-keys change o }
+
+-- a request more
+pub replace-names : (o : OrderRecord) (q : Entry) → KeepsNamesBut (name_key o.new.client (text 11 q.message)) o (at o (Some q) o.cancel)
+replace-names o q = record {
+  asked = refl;
+  names = λ k t. or-elim (same_name k (name_key o.new.client o.id)) (is_key_of_replace k o.new.client (Some q) || is_key_of_cancel k o.new.client o.cancel)
+      (λ e. inl (ap (λ b. b || (is_key_of_replace k o.new.client o.replace || is_key_of_cancel k o.new.client o.cancel)) e))
+      (or-elim (is_key_of_replace k o.new.client (Some q)) (is_key_of_cancel k o.new.client o.cancel) (λ e. inr (same-name-is k (name_key o.new.client (text 11 q.message)) e))
+      (λ e. inl (or-right (same_name k (name_key o.new.client o.id)) (is_key_of_replace k o.new.client o.replace || is_key_of_cancel k o.new.client o.cancel) (or-right (is_key_of_replace k o.new.client o.replace) (is_key_of_cancel k o.new.client o.cancel) e)))) t;
+}
+
+pub cancel-names : (o : OrderRecord) (x : Cancelling) → KeepsNamesBut (name_key o.new.client (text 11 x.request.message)) o (at o o.replace (Some x))
+cancel-names o x = record {
+  asked = refl;
+  names = λ k t. or-elim (same_name k (name_key o.new.client o.id)) (is_key_of_replace k o.new.client o.replace || is_key_of_cancel k o.new.client (Some x))
+      (λ e. inl (ap (λ b. b || (is_key_of_replace k o.new.client o.replace || is_key_of_cancel k o.new.client o.cancel)) e))
+      (or-elim (is_key_of_replace k o.new.client o.replace) (is_key_of_cancel k o.new.client (Some x))
+      (λ e. inl (or-right (same_name k (name_key o.new.client o.id)) (is_key_of_replace k o.new.client o.replace || is_key_of_cancel k o.new.client o.cancel) (ap (λ b. b || is_key_of_cancel k o.new.client o.cancel) e)))
+      (λ e. inr (same-name-is k (name_key o.new.client (text 11 x.request.message)) e))) t;
+}
+
+-- ---- tokens
+
+pub token-key : (port : ℕ) (token : List ℕ) (g : GivenToken) → is_token port token g ≡ true → has_token_key (token_key port token) g ≡ true
+token-key port token g t =
+    let parts = and_parts (g.port == port) (bytes_eq g.text token) t in
+    ap (λ (p : ℕ). same_token_key (token_key port token) (token_key p g.text)) (eqb-true g.port port parts.0)
+    ∙ ap (λ (text : List ℕ). same_token_key (token_key port token) (token_key port text)) (eq-is g.text token parts.1)
+    ∙ itself (token_key port token)
+  where
+    itself : (k : TokenKey) → same_token_key k k ≡ true
+    itself k = λ j. eq-eqb k.port k.port refl j && (bytes_decides k.text k.text).1 refl j
+
+pub token-leads : (h : Hints TokenKey) (g : GivenToken) (place : ℕ) → LeadsTo (hint_of same_token_key h (token_key g.port g.text)) place → (k : TokenKey) → has_token_key k g ≡ true
+    → LeadsTo (hint_of same_token_key h k) place
+token-leads h g place led k t = subst (λ (q : TokenKey). LeadsTo (hint_of same_token_key h q) place) (sym (same-token-is k (token_key g.port g.text) t)) led
+
+-- ---- what stands at a place
+
+pub item-at : {A : Type 0} (xs : List A) (i : ℕ) → i < length xs → (x : A) × (slice_get xs i ≡ Some x)
+item-at [] i inside = absurd (omega (arith, inside))
+item-at (x ∷ xs) zero inside = (x, refl)
+item-at (x ∷ xs) (suc i) inside = item-at xs i (omega (arith, inside))
+
+pub same-item : {A : Type 0} (xs : List A) (i : ℕ) (x y : A) → slice_get xs i ≡ Some x → slice_get xs i ≡ Some y → x ≡ y
+same-item xs i x y first second = cc
+
+-- by a key that led there, or by the one that was noted
+pub led-by-either : {A : Type 0} (hint : NameKey → Option Hint) (has : NameKey → A → Bool) (name : NameKey) (place : ℕ) (was : A) → ((k : NameKey) → has k was ≡ true → LeadsTo (hint k) place) → LeadsTo (hint name) place
+    → (k : NameKey) → (has k was ≡ true) ⊎ (k ≡ name) → LeadsTo (hint k) place
+led-by-either hint has name place was led own k (inl t) = led k t
+led-by-either hint has name place was led own k (inr same) = subst (λ (q : NameKey). LeadsTo (hint q) place) (sym same) own

@@ -1,0 +1,45 @@
+-- By what keys the indexes lead to orders and to tokens. A key says no more than where to look: what is found is
+-- compared itself.
+use Rattle.std.specs.Prelude.{ℕ, Bool, false, ◌||◌, List, Option, Some, None, nat_eq}
+use Rattle.std.specs.Str.Parse.{digits_value}
+use Rattle.fix_fields.specs.Field.{text}
+use Rattle.hint_index.specs.TextKeys.{same_key, text_key}
+use Rattle.order_law.specs.History.{Entry}
+use Rattle.order_machine.specs.OrderRecord.{Cancelling, OrderRecord}
+use Rattle.order_machine.specs.Table.{GivenToken}
+use Rattle.order_table.specs.declared.keys.NameKey.{NameKey}
+use Rattle.order_table.specs.declared.keys.NumberKey.{NumberKey}
+use Rattle.order_table.specs.declared.token_key.TokenKey.{TokenKey}
+use Rattle.order_table.specs.TokenKeys.{same_token_key, token_key}
+
+abbrev pub same_number : NumberKey → NumberKey → Bool
+same_number x y = nat_eq x.number y.number
+
+abbrev pub same_name : NameKey → NameKey → Bool
+same_name x y = same_key x.key y.key
+
+-- of a client with an id
+abbrev pub name_key : ℕ → List ℕ → NameKey
+name_key client id = record { key = text_key client id }
+
+-- the number that its OrderID writes
+abbrev pub has_number_key : NumberKey → OrderRecord → Bool
+has_number_key k o = nat_eq k.number (digits_value 10 o.new.order)
+
+-- of a client with the id of its pending request
+abbrev pub is_key_of_replace : NameKey → ℕ → Option Entry → Bool
+is_key_of_replace k client None = false
+is_key_of_replace k client (Some q) = same_name k (name_key client (text 11 q.message))
+
+abbrev pub is_key_of_cancel : NameKey → ℕ → Option Cancelling → Bool
+is_key_of_cancel k client None = false
+is_key_of_cancel k client (Some c) = same_name k (name_key client (text 11 c.request.message))
+
+-- its client with an id that it goes by
+abbrev pub has_name_key : NameKey → OrderRecord → Bool
+has_name_key k o = same_name k (name_key o.new.client o.id)
+    || (is_key_of_replace k o.new.client o.replace || is_key_of_cancel k o.new.client o.cancel)
+
+-- its port with its text
+abbrev pub has_token_key : TokenKey → GivenToken → Bool
+has_token_key k g = same_token_key k (token_key g.port g.text)

@@ -1,0 +1,11 @@
+-- Room in a list and in its indexes, as one number.
+use Rattle.std.specs.Prelude.{ℕ, ◌&&◌, nat_le}
+use Rattle.order_table.specs.Held.{one_if}
+
+-- one more of a list and of its index
+abbrev pub room_of_two : ℕ → ℕ → ℕ
+room_of_two list index = one_if (nat_le 1 list && nat_le 1 index)
+
+-- one order more, by its number and by three names
+abbrev pub room_of_order : ℕ → ℕ → ℕ → ℕ
+room_of_order list numbers names = one_if (nat_le 1 list && (nat_le 1 numbers && nat_le 3 names))

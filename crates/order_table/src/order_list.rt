@@ -1,0 +1,233 @@
+//! The list of orders with its indexes.
+
+ghost use Rattle.std.specs.Prelude.{◌≡◌, ◌+◌, ◌≤◌, ◌<◌, ◌^◌, ◌++◌, ◌∷◌, [], ℕ, None, Some, true, decimal, length, reverse};
+ghost use Rattle.std.specs.Prelude.{slice_get, slice_set, MatchOption, IfOk, OnOk};
+ghost use Rattle.std.specs.List.{find};
+ghost use Rattle.hint_index.specs.Hints.{Covered, LeadsTo, hint_of};
+ghost use Rattle.hint_index.specs.Newest.{IsNewest};
+ghost use Rattle.order_table.specs.declared.keys.NameKey.{NameKey as Key};
+ghost use Rattle.order_machine.specs.OrderRecord.{OrderRecord};
+ghost use Rattle.order_machine.specs.Table as table;
+ghost use Rattle.order_table.specs.Keys.{has_name_key, has_number_key, same_name};
+ghost use Rattle.order_table.specs.Names.{KeepsNames, KeepsNamesBut};
+
+use crate::keys::{ByName, ByNumber, NameKey, NumberKey, key_of_cancel, key_of_replace};
+use hint_index::HintIndex;
+use orders::Order;
+use std::alloc::{AllocError, Global};
+use std::hash::{BuildHasher, BuildHasherDefault, FoldHasher};
+use std::marker::Model;
+use undo_list::UndoList;
+
+/// The accepted orders, the oldest first, each found by its number and by the ids that it goes by. Contracts see the
+/// list, now and as it was settled, and for how many orders and changes more there is room.
+#[derive(Debug, Drop)]
+pub(crate) struct OrderList<S: BuildHasher + Drop = BuildHasherDefault<FoldHasher>> {
+    orders: UndoList<Order>,
+    numbers: HintIndex<NumberKey, S>,
+    names: HintIndex<NameKey, S>,
+}
+
+impl<S: BuildHasher + Drop> Model for OrderList<S> {
+    ghost use Rattle.hint_index.specs.Hints.{Covered};
+    ghost use Rattle.order_machine.specs.OrderRecord.{OrderRecord};
+    ghost use Rattle.order_table.specs.Keys.{has_name_key, has_number_key, same_name, same_number};
+    ghost use Rattle.order_table.specs.Rooms.{room_of_order, room_of_two};
+    ghost use Rattle.undo_list.specs.Undoing.{Undoable};
+
+    ghost Value = { Undoable OrderRecord };
+
+    ghost view = { λ l. record {
+      now = l.orders.now;
+      settled = l.orders.settled;
+      pushes = room_of_order l.orders.pushes l.numbers.room l.names.room;
+      changes = room_of_two l.orders.changes l.names.room;
+    } };
+
+    ghost invariant = { λ l. Covered same_number has_number_key l.numbers l.orders
+        × Covered same_name has_name_key l.names l.orders };
+}
+
+impl OrderList {
+    /// No orders, with the fixed seed. Takes no memory.
+    pub fn new(alloc: Global) -> OrderList
+        ensures now { result.now ≡ [] }
+        ensures settled { result.settled ≡ [] }
+    {
+        OrderList {
+            orders: UndoList::new(alloc),
+            numbers: HintIndex::new(alloc),
+            names: HintIndex::new(alloc),
+        }
+    }
+}
+
+impl<S: BuildHasher + Drop> OrderList<S> {
+    /// No orders, with a hasher for each index. Takes no memory.
+    pub fn with_hashers(alloc: Global, numbers: S, names: S) -> OrderList<S>
+        ensures now { result.now ≡ [] }
+        ensures settled { result.settled ≡ [] }
+    {
+        OrderList {
+            orders: UndoList::new(alloc),
+            numbers: HintIndex::with_hasher(alloc, numbers),
+            names: HintIndex::with_hasher(alloc, names),
+        }
+    }
+
+    /// The order at a place.
+    pub fn item_at(&self, place: usize) -> &Order
+        requires { place < length self.now.now }
+        ensures { slice_get self.now.now place ≡ Some result.now }
+    {
+        self.orders.item_at(place)
+    }
+
+    /// How many orders there are.
+    pub fn len(&self) -> usize
+        ensures { result ≡ length self.now.now }
+    {
+        self.orders.as_slice().len()
+    }
+
+    /// The place of the newest order with an OrderID.
+    pub fn place_of(&self, order_id: u64) -> Option<usize>
+        ensures { MatchOption result
+            (find (table.has_number (decimal order_id)) (reverse self.now.now) ≡ None)
+            (λ place. IsNewest (table.has_number (decimal order_id)) self.now.now place) }
+    {
+        let key = NumberKey { number: order_id };
+        self.numbers
+            .place_of(self.orders.as_slice(), &key, &ByNumber { order_id })
+    }
+
+    /// The place of the newest order of a client that goes by a ClOrdID.
+    pub fn named_place(&self, client: u16, id: &[u8]) -> Option<usize>
+        ensures { MatchOption result
+            (find (table.is_named client id.now) (reverse self.now.now) ≡ None)
+            (λ place. IsNewest (table.is_named client id.now) self.now.now place) }
+    {
+        let key = NameKey::of(client, id);
+        self.names
+            .place_of(self.orders.as_slice(), &key, &ByName { client, id })
+    }
+
+    /// Makes room for one order more. Nothing else changes, be there memory or not.
+    pub fn reserve_push(&mut self) -> Result<(), AllocError>
+        ensures room { OnOk result (1 ≤ self.new.pushes) }
+        ensures now { self.new.now ≡ self.old.now }
+        ensures settled { self.new.settled ≡ self.old.settled }
+    {
+        self.orders.reserve_push()?;
+        self.numbers.reserve(1)?;
+        self.names.reserve(3)?;
+        Ok(())
+    }
+
+    /// Makes room for one change more. Nothing else changes, be there memory or not.
+    pub fn reserve_change(&mut self) -> Result<(), AllocError>
+        ensures room { OnOk result (1 ≤ self.new.changes) }
+        ensures now { self.new.now ≡ self.old.now }
+        ensures settled { self.new.settled ≡ self.old.settled }
+    {
+        self.orders.reserve_change()?;
+        self.names.reserve(1)?;
+        Ok(())
+    }
+
+    /// One order more behind the others, for which there is room. Takes no memory.
+    pub fn push(&mut self, order: Order)
+        requires { 1 ≤ self.old.pushes }
+        ensures now { self.new.now ≡ self.old.now ++ order ∷ [] }
+        ensures few { length self.new.now < 2 ^ 64 }
+        ensures settled { self.new.settled ≡ self.old.settled }
+    {
+        let place = self.orders.as_slice().len();
+        let number = order.order_id;
+        self.numbers.note(&self.orders, NumberKey { number }, place);
+        note_names(&mut self.names, &self.orders, &order, place);
+        self.orders.push(order);
+    }
+
+    /// Another order at a place, with the same number, client and no other ids, where there is room for a change.
+    /// Takes no memory.
+    pub fn change(&mut self, place: usize, order: Order)
+        requires inside { place < length self.old.now }
+        requires room { 1 ≤ self.old.changes }
+        requires names { (was : OrderRecord) → slice_get self.old.now place ≡ Some was → KeepsNames was order }
+        ensures now { self.new.now ≡ slice_set self.old.now place order }
+        ensures settled { self.new.settled ≡ self.old.settled }
+    {
+        self.orders.change(place, order);
+    }
+
+    /// Another order at a place, with the same number, client and no other ids but one, where there is room for a
+    /// change. Takes no memory.
+    pub fn change_named(&mut self, place: usize, order: Order, name: NameKey)
+        requires inside { place < length self.old.now }
+        requires room { 1 ≤ self.old.changes }
+        requires names { (was : OrderRecord) → slice_get self.old.now place ≡ Some was
+            → KeepsNamesBut name was order }
+        ensures now { self.new.now ≡ slice_set self.old.now place order }
+        ensures settled { self.new.settled ≡ self.old.settled }
+    {
+        self.names.note(&self.orders, name, place);
+        self.orders.change(place, order);
+    }
+
+    /// From now on the list is put back to how it is now. Takes no memory.
+    pub fn settle(&mut self)
+        ensures now { self.new.now ≡ self.old.now }
+        ensures settled { self.new.settled ≡ self.old.now }
+    {
+        self.orders.settle();
+    }
+
+    /// Puts the list back to how it was settled. Takes no memory.
+    pub fn undo(&mut self)
+        ensures now { self.new.now ≡ self.old.settled }
+        ensures settled { self.new.settled ≡ self.old.settled }
+    {
+        self.orders.undo();
+    }
+}
+
+/// Notes that an order is to stand at a place, by each id that it goes by.
+fn note_names<S: BuildHasher + Drop>(
+    names: &mut HintIndex<NameKey, S>,
+    orders: &UndoList<Order>,
+    order: &Order,
+    place: usize,
+)
+    requires { 3 ≤ names.old.room }
+    ensures covered { Covered same_name has_name_key names.old orders.now
+        → Covered same_name has_name_key names.new orders.now }
+    ensures leads { (k : Key) → has_name_key k order.now ≡ true → LeadsTo (hint_of same_name names.new k) place }
+{
+    let own = NameKey::of(order.client, order.cl_ord_id.as_slice());
+    let replace = key_of_replace(order.client, &order.replace);
+    let cancel = key_of_cancel(order.client, &order.cancel);
+    names.note(orders, own, place);
+    note_some(names, orders, replace, place);
+    note_some(names, orders, cancel, place);
+}
+
+/// Notes that an order is to stand at a place, by a key, if there is one.
+fn note_some<S: BuildHasher + Drop>(
+    names: &mut HintIndex<NameKey, S>,
+    orders: &UndoList<Order>,
+    key: Option<NameKey>,
+    place: usize,
+)
+    requires { 1 ≤ names.old.room }
+    ensures covered { Covered same_name has_name_key names.old orders.now
+        → Covered same_name has_name_key names.new orders.now }
+    ensures keeps { (k : Key) → LeadsTo (hint_of same_name names.old k) place
+        → LeadsTo (hint_of same_name names.new k) place }
+    ensures leads { (k : Key) → key ≡ Some k → LeadsTo (hint_of same_name names.new k) place }
+    ensures room_left { names.old.room ≤ names.new.room + 1 }
+{
+    if let Some(key) = key {
+        names.note(orders, key, place);
+    }
+}

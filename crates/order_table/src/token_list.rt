@@ -1,0 +1,136 @@
+//! The list of tokens with its index.
+
+ghost use Rattle.std.specs.Prelude.{◌≡◌, ◌≤◌, ◌<◌, ◌^◌, ◌++◌, ◌∷◌, [], None, Some, length, reverse};
+ghost use Rattle.std.specs.Prelude.{slice_get, MatchOption, OnOk};
+ghost use Rattle.std.specs.List.{find};
+ghost use Rattle.hint_index.specs.Newest.{IsNewest};
+ghost use Rattle.order_machine.specs.Table as table;
+
+use crate::keys::ByToken;
+use crate::table::GivenToken;
+use crate::token_key::TokenKey;
+use hint_index::HintIndex;
+use std::alloc::{AllocError, Global};
+use std::hash::{BuildHasher, BuildHasherDefault, FoldHasher};
+use std::marker::Model;
+use undo_list::UndoList;
+
+/// The tokens that were given, the oldest first, each found by its port and its text. Contracts see the list, now and
+/// as it was settled, and for how many tokens more there is room.
+#[derive(Debug, Drop)]
+pub(crate) struct TokenList<S: BuildHasher + Drop = BuildHasherDefault<FoldHasher>> {
+    tokens: UndoList<GivenToken>,
+    texts: HintIndex<TokenKey, S>,
+}
+
+impl<S: BuildHasher + Drop> Model for TokenList<S> {
+    ghost use Rattle.hint_index.specs.Hints.{Covered};
+    ghost use Rattle.order_machine.specs.Table as table;
+    ghost use Rattle.order_table.specs.Keys.{has_token_key};
+    ghost use Rattle.order_table.specs.Rooms.{room_of_two};
+    ghost use Rattle.order_table.specs.TokenKeys.{same_token_key};
+    ghost use Rattle.undo_list.specs.Undoing.{Undoable};
+
+    ghost Value = { Undoable table.GivenToken };
+
+    ghost view = { λ l. record {
+      now = l.tokens.now;
+      settled = l.tokens.settled;
+      pushes = room_of_two l.tokens.pushes l.texts.room;
+      changes = l.tokens.changes;
+    } };
+
+    ghost invariant = { λ l. Covered same_token_key has_token_key l.texts l.tokens };
+}
+
+impl TokenList {
+    /// No tokens, with the fixed seed. Takes no memory.
+    pub fn new(alloc: Global) -> TokenList
+        ensures now { result.now ≡ [] }
+        ensures settled { result.settled ≡ [] }
+    {
+        TokenList {
+            tokens: UndoList::new(alloc),
+            texts: HintIndex::new(alloc),
+        }
+    }
+}
+
+impl<S: BuildHasher + Drop> TokenList<S> {
+    /// No tokens, with a hasher. Takes no memory.
+    pub fn with_hasher(alloc: Global, hasher: S) -> TokenList<S>
+        ensures now { result.now ≡ [] }
+        ensures settled { result.settled ≡ [] }
+    {
+        TokenList {
+            tokens: UndoList::new(alloc),
+            texts: HintIndex::with_hasher(alloc, hasher),
+        }
+    }
+
+    /// The tokens, the oldest first.
+    pub fn as_slice(&self) -> &[GivenToken]
+        ensures { result.now ≡ self.now.now }
+    {
+        self.tokens.as_slice()
+    }
+
+    /// The token at a place.
+    pub fn item_at(&self, place: usize) -> &GivenToken
+        requires { place < length self.now.now }
+        ensures { slice_get self.now.now place ≡ Some result.now }
+    {
+        self.tokens.item_at(place)
+    }
+
+    /// The place of the newest token that a port knows by this text.
+    pub fn token_place(&self, port: u16, token: &[u8]) -> Option<usize>
+        ensures { MatchOption result
+            (find (table.is_token port token.now) (reverse self.now.now) ≡ None)
+            (λ place. IsNewest (table.is_token port token.now) self.now.now place) }
+    {
+        let key = TokenKey::of(port, token);
+        self.texts
+            .place_of(self.tokens.as_slice(), &key, &ByToken { port, token })
+    }
+
+    /// Makes room for one token more. Nothing else changes, be there memory or not.
+    pub fn reserve_push(&mut self) -> Result<(), AllocError>
+        ensures room { OnOk result (1 ≤ self.new.pushes) }
+        ensures now { self.new.now ≡ self.old.now }
+        ensures settled { self.new.settled ≡ self.old.settled }
+    {
+        self.tokens.reserve_push()?;
+        self.texts.reserve(1)?;
+        Ok(())
+    }
+
+    /// One token more behind the others, for which there is room. Takes no memory.
+    pub fn push(&mut self, given: GivenToken)
+        requires { 1 ≤ self.old.pushes }
+        ensures now { self.new.now ≡ self.old.now ++ given ∷ [] }
+        ensures few { length self.new.now < 2 ^ 64 }
+        ensures settled { self.new.settled ≡ self.old.settled }
+    {
+        let place = self.tokens.as_slice().len();
+        let key = TokenKey::of(given.port, given.token.as_slice());
+        self.texts.note(&self.tokens, key, place);
+        self.tokens.push(given);
+    }
+
+    /// From now on the list is put back to how it is now. Takes no memory.
+    pub fn settle(&mut self)
+        ensures now { self.new.now ≡ self.old.now }
+        ensures settled { self.new.settled ≡ self.old.now }
+    {
+        self.tokens.settle();
+    }
+
+    /// Puts the list back to how it was settled. Takes no memory.
+    pub fn undo(&mut self)
+        ensures now { self.new.now ≡ self.old.settled }
+        ensures settled { self.new.settled ≡ self.old.settled }
+    {
+        self.tokens.undo();
+    }
+}
