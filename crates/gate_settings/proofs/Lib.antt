@@ -1,2 +1,2 @@
 mod Names
-mod Served
+pub mod Served

@@ -22,7 +22,7 @@ inside-visible (b ∷ bs) h =
     rw (inside b p.0, inside-visible bs p.1) refl
 
 -- a name may be a field's value
-named : (name : List ℕ) → is_name name ≡ true → IsValue name
+pub named : (name : List ℕ) → is_name name ≡ true → IsValue name
 named name h = inside-visible name (and_parts (is_between 1 20 (length name)) (list_all is_visible name) h).1
 
 -- all clients are served
