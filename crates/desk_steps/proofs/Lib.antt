@@ -1,0 +1,6 @@
+mod Recording
+pub mod Keeping
+pub mod OneMore
+mod Cutting
+mod Comparing
+mod Draining
