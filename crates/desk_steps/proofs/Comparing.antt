@@ -15,6 +15,12 @@ pub empty-list : {A : Type 0} (xs : List A) → length xs ≡ 0 → xs ≡ []
 empty-list [] h = refl
 empty-list (x ∷ xs) h = absurd (omega arith)
 
+-- a beginning as long as the whole is the whole
+pub prefix-whole : {A : Type 0} (xs ys : List A) → IsPrefix xs ys → length xs ≡ length ys → xs ≡ ys
+prefix-whole xs ys p len =
+    let none : p.0 ≡ [] = empty-list p.0 (omega (arith, length-append xs p.0, ap length p.1, len)) in
+    sym (append-nil xs) ∙ (ap (λ zs. xs ++ zs) (sym none) ∙ p.1)
+
 prefix-both : {A : Type 0} (xs ys : List A) → IsPrefix xs ys → IsPrefix ys xs → xs ≡ ys
 prefix-both xs ys p q =
     let none : p.0 ≡ [] = empty-list p.0 (omega (arith, length-append xs p.0, length-append ys q.0, ap length p.1, ap length q.1)) in
@@ -103,13 +109,6 @@ seats-twice x y z p q = record {
 
 pub seats-same : (x : List SeatState) → SeatsLooked x x
 seats-same x = record { count = refl; each = λ k a at. (a, at, (refl, refl, prefix-same a.known)) }
-
-pub ways-twice : (x y z : List WayState) → WaysLooked x y → WaysLooked y z → WaysLooked x z
-ways-twice x y z p q = record {
-  count = q.count ∙ p.count;
-  each = λ d w at. let v = p.each d w at in let u = q.each d v.0 v.1 in
-      (u.0, u.1, (u.2.0 ∙ v.2.0, u.2.1 ∙ v.2.1, u.2.2 ∙ v.2.2, omega (arith, v.2.3, u.2.3)));
-}
 
 pub ways-same : (x : List WayState) → WaysLooked x x
 ways-same x = record { count = refl; each = λ d w at. (w, at, (refl, refl, refl, omega arith)) }

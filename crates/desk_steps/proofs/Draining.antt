@@ -23,7 +23,7 @@ use Rattle.desk_steps.specs.Turning.{Drops, Steps}
 use Rattle.desk_side.proofs.Moves.{come-to, each-change, prefix-more, prefix-same, prefix-trans}
 use Rattle.desk_steps.proofs.Keeping.{SameOwn, agrees-kept, drops-agree, way-looks}
 use Rattle.desk_steps.proofs.OneMore.{lists-append, steps-agree}
-use Rattle.desk_steps.proofs.Comparing.{empty-list}
+use Rattle.desk_steps.proofs.Comparing.{empty-list, prefix-whole}
 
 -- ---- the history
 
@@ -129,7 +129,8 @@ settled inlets outlets s t (took_at d to lists) before after on shrinks told non
     let w = told.0 in
     let follows : IsPrefix w.sent (lists_kept w.name.to s.recorded.kept) = (before.to_all d w told.1).0 in
     let old : IsPrefix lists (lists_kept w.name.to s.recorded.kept) = prefix-trans lists w.sent (lists_kept w.name.to s.recorded.kept) told.3 follows in
-    lists-grow to s.recorded t.recorded lists on (subst (λ (z : Recipient). IsPrefix lists (lists_kept z s.recorded.kept)) told.2 old)
+    let begun : IsPrefix lists (lists_kept to t.recorded.kept) = lists-grow to s.recorded t.recorded lists on (subst (λ (z : Recipient). IsPrefix lists (lists_kept z s.recorded.kept)) told.2 old) in
+    (begun, prefix-whole lists (lists_kept to t.recorded.kept) begun)
 
 pub all-settled : (inlets : List NamedInlet) (outlets : List NamedOutlet) (s t : DeskState) (finished : List Done) → Agrees inlets outlets s → Agrees inlets outlets t
     → GoesOn s.recorded t.recorded → Shrinks s.side.seats t.side.seats

@@ -1,4 +1,5 @@
 mod Recording
+mod Turns
 pub mod Keeping
 pub mod OneMore
 mod Cutting

@@ -8,10 +8,12 @@ use Rattle.desk_ends.specs.Rings.{Done, put_at, took_at}
 use Rattle.desk_ends.specs.Ends.{inlet_of}
 use Rattle.desk_ends.specs.Seats.{IsTold, SeatState, WayState}
 
--- the history has just what was put, and what was taken is a beginning of what it tells
+-- The history has just what was put. What was taken is a beginning of what it tells, and the whole where as many lists
+-- were taken.
 abbrev pub IsSettled : Done → Kept → Type 0
 IsSettled (put_at k source events) kept = events_from source kept.events ≡ events
 IsSettled (took_at d to lists) kept = IsPrefix lists (lists_kept to kept)
+    × (length lists ≡ length (lists_kept to kept) → lists ≡ lists_kept to kept)
 
 abbrev pub AreSettled : List Done → Kept → Type 0
 AreSettled finished kept = (i : ℕ) (f : Done) → slice_get finished i ≡ Some f → IsSettled f kept
