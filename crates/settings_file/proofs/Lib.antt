@@ -1,1 +1,2 @@
+mod Keys
 mod Lists

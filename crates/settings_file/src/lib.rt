@@ -8,12 +8,14 @@
 #![tactic(auto)]
 
 mod client;
+mod example;
 mod fault;
 mod keys;
 mod port;
 mod reading;
 mod texts;
 
+pub use example::EXAMPLE;
 pub use fault::SettingsFault;
 pub use gate_settings::Settings;
 pub use reading::{SettingsFile, read};
