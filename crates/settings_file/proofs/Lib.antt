@@ -1,2 +1,2 @@
-mod Keys
 mod Lists
+mod OtherKeys

@@ -1,6 +1,6 @@
 use Rattle.std.proofs.Common.{◌∙◌, ap, sym}
 use Rattle.std.specs.Prelude.{Some, option_map, string_bytes}
-use Rattle.settings_file.proofs.Keys.{other-seen}
+use Rattle.settings_file.proofs.OtherKeys.{other-seen}
 use Rattle.settings_file.proofs.keys.other_in.Goals as goal
 
 pub returns-in-Some : goal.returns-in-Some
