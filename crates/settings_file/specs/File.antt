@@ -1,9 +1,10 @@
 -- What a settings file says, where nothing of it is refused.
-use Rattle.std.specs.Prelude.{ℕ, ◌+◌, ◌-◌, List, [], ◌∷◌, ◌++◌, map, length, replicate, codes, if◌then◌else◌, unwrap_or}
+use Rattle.std.specs.Prelude.{◌≡◌, true, None, ℕ, ◌+◌, ◌-◌, List, [], ◌∷◌, ◌++◌, map, length, replicate, codes, if◌then◌else◌, unwrap_or}
 use Rattle.soup_session.specs.Table as port
 use Rattle.gate_law.specs.Settings.{ClientSettings, Settings}
+use Rattle.gate_law.specs.Limits.{is_served}
 use Rattle.toml.specs.Data.{Data}
-use Rattle.settings_file.specs.Rules.{is_this, tables_at, text_in}
+use Rattle.settings_file.specs.Rules.{is_this, refused, tables_at, text_in}
 
 -- the core's settings; the address of each port and where each client is listened for, in their order
 pub record FileSettings : Type 0 where
@@ -60,3 +61,7 @@ file_settings file =
       addresses = map (text_at (codes "address")) ports;
       listens = map (text_at (codes "listen")) clients;
     }
+
+-- what isn't refused is served by the core
+abbrev pub WhatIsNotRefusedIsServed : Type 0
+WhatIsNotRefusedIsServed = (file : Data) → refused file ≡ None → is_served (file_settings file).settings ≡ true

@@ -1,3 +1,4 @@
 pub mod Rules
 pub mod File
 pub mod Judged
+pub mod Examples
