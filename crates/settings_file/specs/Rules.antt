@@ -10,7 +10,7 @@ use Rattle.std.specs.Char.{is_ascii_digit}
 use Rattle.decimal_digits.specs.Digits.{number_of}
 use Rattle.wire_law.specs.Printable.{is_printable, is_visible}
 use Rattle.gate_law.specs.Limits.{is_between, is_byte_of, is_name}
-use Rattle.toml.specs.Data.{Data, string, integer, float, boolean, datetime, array, table, Items, no_items, item, Members, no_members, member, get, as_str}
+use Rattle.toml.specs.Data.{Data, string, integer, float, boolean, datetime, array, table, Items, no_items, item, Members, no_members, member, get, as_str, as_table}
 
 -- a key, and which texts it may have
 pub record Rule : Type 0 where
@@ -138,8 +138,7 @@ items_in no_items = []
 items_in (item d ds) = d ∷ items_in ds
 
 abbrev pub is_table : Data → Bool
-is_table (table ms) = true
-is_table _ = false
+is_table d = is_some (as_table d)
 
 -- what stands in the array of a key, nothing where there is none
 abbrev pub array_at : Option Data → List Data

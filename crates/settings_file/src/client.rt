@@ -1,17 +1,20 @@
 //! A client's table.
 
-ghost use Rattle.std.specs.Prelude.{◌≡◌, ◌≤◌, ◌+◌, IfOk, length, map, codes, string_bytes};
+ghost use Rattle.std.specs.Prelude.{◌≡◌, ◌≤◌, ◌+◌, true, IfOk, length, map, codes, string_bytes};
+ghost use Rattle.fix_fields.specs.Field.{IsValue};
+ghost use Rattle.to_market.specs.TermsSeen.{terms_seen};
 ghost use Rattle.toml.specs.View.{view};
-ghost use Rattle.settings_file.specs.File.{client_at, first_byte, number_of_name, padded_firm, text_at};
+ghost use Rattle.settings_file.specs.File.{client_at, client_of, first_byte, number_of_name, terms_at, text_at};
 ghost use Rattle.settings_file.specs.Judged.{Judges};
-ghost use Rattle.settings_file.specs.Rules.{refused_client};
+ghost use Rattle.settings_file.specs.Rules as rules;
+ghost use Rattle.settings_file.specs.Rules.{is_letter_of, refused_client};
 
 use crate::fault::{SettingsFault, refusal};
 use crate::keys::first_other;
 use crate::texts::{firm, is_this, letter, own_address, own_name, port_name};
 use fix_fields::Text;
 use gate_settings::{ClientSettings, ClientTerms};
-use std::alloc::Global;
+use std::alloc::{AllocError, Global};
 use toml::Value;
 use wire_law::padded;
 
@@ -57,12 +60,36 @@ pub fn read_client(
     if let Some(key) = first_other(table, &keys) {
         return Err(refusal(alloc, key));
     }
-    let terms = ClientTerms {
-        port: number_of(ports, port),
+    let terms = terms_of(number_of(ports, port), firm, capacity, customer);
+    Ok(entry(alloc, comp, listen, terms)?)
+}
+
+/// The terms of a client with these texts, each of which its rule lets pass.
+fn terms_of(port: u16, firm: &str, capacity: &str, customer: &str) -> ClientTerms
+    requires firm { rules.firm.holds firm.now ≡ true }
+    requires capacity { is_letter_of (codes "APR") capacity.now ≡ true }
+    requires customer { is_letter_of (codes "RN ") customer.now ≡ true }
+    ensures { terms_seen result ≡ terms_at port firm.now capacity.now customer.now }
+{
+    ClientTerms {
+        port,
         firm: padded(firm.as_bytes()),
         capacity: first_of(capacity),
         customer: first_of(customer),
-    };
+    }
+}
+
+/// A copy of the texts of a client, beside its terms.
+fn entry(
+    alloc: Global,
+    comp: &str,
+    listen: &str,
+    terms: ClientTerms,
+) -> Result<ClientEntry, AllocError>
+    requires name { IsValue comp.now }
+    ensures settings { IfOk result (λ client. client.settings ≡ client_of comp.now (terms_seen terms)) }
+    ensures listen { IfOk result (λ client. string_bytes client.listen ≡ listen.now) }
+{
     Ok(ClientEntry {
         settings: ClientSettings {
             comp: Text::copied(alloc, comp.as_bytes())?,

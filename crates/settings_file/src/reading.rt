@@ -1,11 +1,13 @@
 //! The whole file.
 
-ghost use Rattle.std.specs.Prelude.{◌≡◌, IfOk, ◌≤◌, ℕ, List, [], map, length, drop, take, codes, None, Some, string_bytes};
+ghost use Rattle.std.specs.Prelude.{◌≡◌, ◌≤◌, [], map, length, codes, true, is_some, None, Some, IfOk, string_bytes};
+ghost use Rattle.std.specs.List.{list_all};
 ghost use Rattle.std.specs.Str.{IsUtf8};
-ghost use Rattle.toml.specs.Data.{Members, table};
+ghost use Rattle.gate_law.specs.Limits.{is_served};
+ghost use Rattle.toml.specs.Data.{Members, as_table, table};
 ghost use Rattle.toml.specs.Parse.{parse_document};
 ghost use Rattle.toml.specs.View.{view};
-ghost use Rattle.settings_file.specs.File.{client_at, file_settings, login_at, text_at};
+ghost use Rattle.settings_file.specs.File.{WhatIsNotRefusedIsServed, client_at, file_settings, login_at, text_at};
 ghost use Rattle.settings_file.specs.Judged.{Judges};
 ghost use Rattle.settings_file.specs.Rules as rules;
 ghost use Rattle.settings_file.specs.Rules.{refused};
@@ -59,6 +61,8 @@ pub fn read(alloc: Global, text: &[u8]) -> Result<SettingsFile, SettingsFault>
     ensures settings { (ms : Members) → IsUtf8 text.now → parse_document text.now ≡ Some ms
         → IfOk result (λ file. file ≡ file_settings (table ms)) }
     ensures toml { (IsUtf8 text.now → parse_document text.now ≡ None) → Judges (Some (codes "toml")) result }
+    ensures served { IfOk result (λ file. is_served file.settings ≡ true) }
+    ensures law { WhatIsNotRefusedIsServed }
 {
     match toml::table_from_slice(alloc, text) {
         Ok(members) => read_file(alloc, &Value::Table(members)),
@@ -115,7 +119,14 @@ fn tables_at<'a>(file: &'a Value, key: &str) -> &'a [Value]
 fn are_tables(most: usize, tables: &[Value]) -> bool
     ensures { result ≡ rules.are_tables most (map view tables.now) }
 {
-    is_between(1, most, tables.len()) && tables.iter().all(|table| table.is_table())
+    is_between(1, most, tables.len()) && is_each_a_table(tables)
+}
+
+/// Whether each of these is a table.
+fn is_each_a_table(tables: &[Value]) -> bool
+    ensures { result ≡ list_all (λ t. is_some (as_table (view t))) tables.now }
+{
+    tables.iter().all(|table| table.is_table())
 }
 
 /// What the tables of ports say.
