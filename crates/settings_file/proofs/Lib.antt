@@ -1,0 +1,5 @@
+mod Exits
+mod Lists
+mod OtherKeys
+mod Served
+mod Walk
