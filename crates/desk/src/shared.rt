@@ -4,6 +4,7 @@ use crate::desk_value::{Closed, Desk};
 use desk_ends::{DeskName, Finished};
 use desk_steps::Turned;
 use std::alloc::{AllocError, Global};
+use std::sync::atomic::{AtomicBool, Ordering};
 use std::sync::{Mutex, Wait};
 use std::thread::Parker;
 use std::time::Duration;
@@ -15,6 +16,7 @@ use std::time::Duration;
 pub struct Shared<K: DeskName> {
     desk: Mutex<Desk<K>>,
     bells: Vec<Parker>,
+    is_holding: AtomicBool,
 }
 
 impl<K: DeskName> Shared<K> {
@@ -29,6 +31,7 @@ impl<K: DeskName> Shared<K> {
         Shared {
             desk: Mutex::new(desk),
             bells,
+            is_holding: AtomicBool::new(false),
         }
     }
 
@@ -36,6 +39,7 @@ impl<K: DeskName> Shared<K> {
     /// free.
     pub fn turn(&self, rt: &impl Wait, alloc: Global) -> Result<Turned, AllocError> {
         let (turned, rung) = self.turn_locked(rt, alloc)?;
+        self.is_holding.store(turned.held > 0, Ordering::SeqCst);
         self.ring_all(rung);
         Ok(turned)
     }
@@ -60,6 +64,11 @@ impl<K: DeskName> Shared<K> {
             }
             left >>= 1;
         }
+    }
+
+    /// Whether the last turn left events for want of room in outlets. Takes no lock.
+    pub fn is_holding(&self) -> bool {
+        self.is_holding.load(Ordering::SeqCst)
     }
 
     /// Waits until an outlet's bell rings, at most so long; it may wait less. A bell that rang since the last wait ends
@@ -92,7 +101,11 @@ impl<K: DeskName> Shared<K> {
         ensures named { IfOk result (λ closed. AreNamed K.inlets closed.history.events) }
         ensures err { IfErr result (λ e. e.2.items ≡ finished.items) }
     {
-        let Shared { desk, bells } = self;
+        let Shared {
+            desk,
+            bells,
+            is_holding: _,
+        } = self;
         let mut desk = desk.into_inner();
         let mut finished = finished;
         match desk.settle(alloc, &mut finished) {

@@ -5,7 +5,7 @@ use crate::turns::wait_a_second;
 use gate_serving::{LinkEnd, LinkFault, Opened, Opener};
 use std::io;
 use std::io::ErrorKind;
-use std::net::{Net, SocketAddr, TcpListener, TcpStream};
+use std::net::{Net, TcpListener, TcpStream};
 use std::os::fd::OwnedFd;
 use std::sync::atomic::{AtomicBool, Ordering};
 use std::time::{Clock, Duration};
@@ -19,7 +19,7 @@ fn longest_accept() -> Duration {
 #[derive(Drop)]
 pub struct Acceptor<'a, R> {
     rt: &'a R,
-    address: SocketAddr,
+    address: &'a str,
     listener: Option<TcpListener>,
     left: u32,
     is_over: &'a AtomicBool,
@@ -29,7 +29,7 @@ impl<'a, R> Acceptor<'a, R> {
     /// Of so many links at this address, until `is_over` is set. Binds at the first of them. Takes no memory.
     pub fn new(
         rt: &'a R,
-        address: SocketAddr,
+        address: &'a str,
         links: u32,
         is_over: &'a AtomicBool,
     ) -> Acceptor<'a, R> {
@@ -46,7 +46,7 @@ impl<'a, R> Acceptor<'a, R> {
 /// Binds an address; accepts there come back after a while where no peer has come.
 fn bound<R: Net<Listener = TcpListener, Stream = TcpStream>>(
     rt: &R,
-    address: SocketAddr,
+    address: &str,
 ) -> io::Result<TcpListener> {
     let listener = TcpListener::bind(rt, address)?;
     let options = TcpStream::from(OwnedFd::from(listener.try_clone()?));

@@ -4,7 +4,8 @@ use crate::stream::{SocketCloser, SocketReader, SocketWriter, link_of};
 use crate::turns::wait_a_second;
 use gate_serving::{LinkEnd, LinkFault, Opened, Opener};
 use std::io;
-use std::net::{Net, SocketAddr, TcpListener, TcpStream};
+use std::io::ErrorKind;
+use std::net::{Net, TcpListener, TcpStream, ToSocketAddrs};
 use std::sync::atomic::{AtomicBool, Ordering};
 use std::time::{Clock, Duration};
 
@@ -17,7 +18,7 @@ fn longest_connect() -> Duration {
 #[derive(Drop)]
 pub struct Connector<'a, R> {
     rt: &'a R,
-    address: SocketAddr,
+    address: &'a str,
     left: u32,
     is_first: bool,
     is_over: &'a AtomicBool,
@@ -27,7 +28,7 @@ impl<'a, R> Connector<'a, R> {
     /// Of so many links to this address, until `is_over` is set. Takes no memory.
     pub fn new(
         rt: &'a R,
-        address: SocketAddr,
+        address: &'a str,
         links: u32,
         is_over: &'a AtomicBool,
     ) -> Connector<'a, R> {
@@ -41,12 +42,19 @@ impl<'a, R> Connector<'a, R> {
     }
 }
 
-/// A stream to this address.
+/// A stream to this address: a host and a TCP port. Each address of the host is tried in turn.
 fn connected<R: Net<Listener = TcpListener, Stream = TcpStream>>(
     rt: &R,
-    address: &SocketAddr,
+    address: &str,
 ) -> io::Result<TcpStream> {
-    TcpStream::connect_timeout(rt, address, longest_connect())
+    let mut last = io::Error::from(ErrorKind::NotFound);
+    for found in address.to_socket_addrs(rt)? {
+        match TcpStream::connect_timeout(rt, &found, longest_connect()) {
+            Ok(stream) => return Ok(stream),
+            Err(error) => last = error,
+        }
+    }
+    Err(last)
 }
 
 impl<'a, R: Net<Listener = TcpListener, Stream = TcpStream> + Clock> Opener for Connector<'a, R> {
@@ -70,7 +78,7 @@ impl<'a, R: Net<Listener = TcpListener, Stream = TcpStream> + Clock> Opener for 
         }
         self.left -= 1;
         self.is_first = false;
-        let opened = match connected(self.rt, &self.address) {
+        let opened = match connected(self.rt, self.address) {
             Ok(stream) => link_of(self.rt, stream, self.is_over),
             Err(error) => Err(error),
         };
