@@ -7,7 +7,7 @@ use crate::lines::{DeskLine, finish_line, line_of};
 use desk::{Closed, DeskName, Finished, Inlet, Outlet, Parts, Shared, open_desk};
 use desk_gates::InletGate;
 use gate_core::Settings;
-use gate_events::{ClientNumber, Number, PortNumber};
+use gate_events::{ClientNumber, PortNumber};
 use gate_serving::{Closer, Opener, ServeFault, serve};
 use gate_workers::ticker;
 use link_sockets::SystemClock;
@@ -111,7 +111,7 @@ fn ends_of<'a, A: Drop, C: Drop, K: DeskName, R: Wait + time::Clock>(
     let mut outlets = outlets.into_iter();
     let mut clients = Vec::with_capacity(alloc, accepting.len())?;
     for (place, opener) in accepting.into_iter().enumerate() {
-        let Some(peer) = number_at(place) else {
+        let Some(peer) = number_at(place).and_then(ClientNumber::of) else {
             break;
         };
         let (Some(inlet), Some(outlet)) = (inlets.next(), outlets.next()) else {
@@ -121,7 +121,7 @@ fn ends_of<'a, A: Drop, C: Drop, K: DeskName, R: Wait + time::Clock>(
     }
     let mut ports = Vec::with_capacity(alloc, connecting.len())?;
     for (place, opener) in connecting.into_iter().enumerate() {
-        let Some(peer) = number_at(place) else {
+        let Some(peer) = number_at(place).and_then(PortNumber::of) else {
             break;
         };
         let (Some(inlet), Some(outlet)) = (inlets.next(), outlets.next()) else {
@@ -139,10 +139,9 @@ fn ends_of<'a, A: Drop, C: Drop, K: DeskName, R: Wait + time::Clock>(
     })
 }
 
-/// The number of the client or the port at a place, from 0.
-fn number_at<Of>(place: usize) -> Option<Number<Of>> {
-    let number = u16::try_from(place).ok()?;
-    Number::of(number.checked_add(1)?)
+/// The number of what stands at a place, from 0: one more.
+fn number_at(place: usize) -> Option<u16> {
+    u16::try_from(place).ok()?.checked_add(1)
 }
 
 /// Lines that were served, and why they were not served to their end.

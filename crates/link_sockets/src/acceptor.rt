@@ -41,6 +41,23 @@ impl<'a, R> Acceptor<'a, R> {
             is_over,
         }
     }
+
+    /// Of so many links of a listener that is bound already, until `is_over` is set. Takes no memory.
+    pub fn of_listener(
+        rt: &'a R,
+        listener: TcpListener,
+        links: u32,
+        is_over: &'a AtomicBool,
+    ) -> Acceptor<'a, R> {
+        let _ = is_timed(&listener);
+        Acceptor {
+            rt,
+            address: "",
+            listener: Some(listener),
+            left: links,
+            is_over,
+        }
+    }
 }
 
 /// Binds an address; accepts there come back after a while where no peer has come.
@@ -49,9 +66,14 @@ fn bound<R: Net<Listener = TcpListener, Stream = TcpStream>>(
     address: &str,
 ) -> io::Result<TcpListener> {
     let listener = TcpListener::bind(rt, address)?;
-    let options = TcpStream::from(OwnedFd::from(listener.try_clone()?));
-    options.set_read_timeout(Some(longest_accept()))?;
+    is_timed(&listener)?;
     Ok(listener)
+}
+
+/// Has accepts of a listener come back after a while where no peer has come.
+fn is_timed(listener: &TcpListener) -> io::Result<()> {
+    let options = TcpStream::from(OwnedFd::from(listener.try_clone()?));
+    options.set_read_timeout(Some(longest_accept()))
 }
 
 /// The next peer's stream; `None` where the line ends before one comes.

@@ -1,0 +1,91 @@
+//! All of it at once.
+
+use crate::client::trade;
+use crate::fault::DemoFault;
+use crate::market::serve_market;
+use crate::settings::demo_settings;
+use desk::Closed;
+use gateway_run::{RunPlan, run};
+use link_sockets::{Acceptor, Connector};
+use std::alloc::Global;
+use std::net::{Net, TcpListener, TcpStream};
+use std::sync::Wait;
+use std::sync::atomic::AtomicBool;
+use std::thread;
+use std::thread::Threads;
+use std::time::{Clock, Duration};
+
+/// How long a client or the market waits for what is to come.
+fn longest_wait() -> Duration {
+    Duration::from_secs(10)
+}
+
+/// A listener on loopback, and its address.
+fn listener<R: Net<Listener = TcpListener, Stream = TcpStream>>(
+    rt: &R,
+    alloc: Global,
+) -> Result<(TcpListener, String), DemoFault> {
+    let listener = TcpListener::bind(rt, "127.0.0.1:0")?;
+    let port = listener.local_addr()?.port();
+    let address = format!(in alloc; "127.0.0.1:{port}")?;
+    Ok((listener, address))
+}
+
+/// Runs the gateway between two clients and a market until each client's three orders are filled, and gives its history.
+pub fn demo<R>(rt: &R, alloc: Global) -> Result<Closed, DemoFault>
+where
+    R: Threads + Wait + Sync + Clock + Net<Listener = TcpListener, Stream = TcpStream>,
+{
+    let is_over = AtomicBool::new(false);
+    let is_over = &is_over;
+    let (first, first_address) = listener(rt, alloc)?;
+    let (second, second_address) = listener(rt, alloc)?;
+    let (market, market_address) = listener(rt, alloc)?;
+    let plan = RunPlan {
+        clients: vec![in alloc;
+            Acceptor::of_listener(rt, first, 1, is_over),
+            Acceptor::of_listener(rt, second, 1, is_over),
+        ]?,
+        ports: vec![in alloc; Connector::new(rt, &market_address, 1, is_over)]?,
+    };
+    let settings = demo_settings(alloc)?;
+    let first_address = &first_address;
+    let second_address = &second_address;
+    thread::scope(thread::scope_env(), rt, |scope| {
+        let Ok(market) = scope.spawn(move || market_link(alloc, market)) else {
+            return Err(DemoFault::NoThread);
+        };
+        let Ok(one) = scope.spawn(move || client(rt, alloc, b"C1", first_address)) else {
+            return Err(DemoFault::NoThread);
+        };
+        let Ok(two) = scope.spawn(move || client(rt, alloc, b"C2", second_address)) else {
+            return Err(DemoFault::NoThread);
+        };
+        let closed = run(rt, alloc, settings, plan, is_over);
+        one.join(rt)?;
+        two.join(rt)?;
+        market.join(rt)?;
+        Ok(closed?)
+    })
+}
+
+/// Serves the link of the gateway's port.
+fn market_link(alloc: Global, listener: TcpListener) -> Result<(), DemoFault> {
+    let (mut stream, _) = listener.accept()?;
+    stream.set_nodelay(true)?;
+    stream.set_read_timeout(Some(longest_wait()))?;
+    serve_market(alloc, &mut stream)
+}
+
+/// Connects a client, and trades.
+fn client<R: Clock + Net<Listener = TcpListener, Stream = TcpStream>>(
+    rt: &R,
+    alloc: Global,
+    name: &'static [u8],
+    address: &str,
+) -> Result<(), DemoFault> {
+    let stream = TcpStream::connect(rt, address)?;
+    stream.set_nodelay(true)?;
+    stream.set_read_timeout(Some(longest_wait()))?;
+    trade(rt, alloc, name, stream)
+}
