@@ -1,0 +1,4 @@
+mod Found
+mod Lists
+mod OtherKeys
+mod Served

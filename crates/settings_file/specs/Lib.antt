@@ -1,0 +1,4 @@
+pub mod Rules
+pub mod File
+pub mod Judged
+pub mod Examples

@@ -1,0 +1,65 @@
+//! Files that lack a key or have one that isn't known.
+
+use crate::texts::{GOOD, changed, is_refused_by, refused_key};
+use std::test::Fail;
+
+/// Each line of `GOOD` with a key, and its key.
+const LINES: [(&str, &str); 11] = [
+    ("comp = \"GATE\"\n", "comp"),
+    ("name = \"P1\"\n", "name"),
+    ("address = \"10.1.1.5:26400\"\n", "address"),
+    ("user = \"USER01\"\n", "user"),
+    ("password = \"PASSWORD\"\n", "password"),
+    ("comp = \"C1\"\n", "comp"),
+    ("listen = \"0.0.0.0:9001\"\n", "listen"),
+    ("port = \"P1\"\n", "port"),
+    ("firm = \"FIRM\"\n", "firm"),
+    ("capacity = \"A\"\n", "capacity"),
+    ("customer = \"R\"\n", "customer"),
+];
+
+#[test]
+fn each_key_missing(rt: HostRuntime) -> Result<(), Fail> {
+    let alloc = rt.alloc();
+    assert!(rt; refused_key(alloc, GOOD.as_bytes())?.is_none());
+    for (line, key) in LINES {
+        let text = changed(alloc, GOOD, line, "")?;
+        assert!(rt; is_refused_by(alloc, text.as_str(), key)?, "without {line}");
+    }
+    Ok(())
+}
+
+/// Where an unknown key `ab` and a second one `aa` stand: behind `GOOD`'s line.
+const TABLES: [(&str, &str); 3] = [
+    ("comp = \"GATE\"\n", "comp = \"GATE\"\nab = 1\naa = 2\n"),
+    ("name = \"P1\"\n", "name = \"P1\"\nab = 1\naa = 2\n"),
+    ("comp = \"C1\"\n", "comp = \"C1\"\nab = 1\naa = 2\n"),
+];
+
+#[test]
+fn an_unknown_key_in_each_table(rt: HostRuntime) -> Result<(), Fail> {
+    let alloc = rt.alloc();
+    for (line, lines) in TABLES {
+        let text = changed(alloc, GOOD, line, lines)?;
+        assert!(rt; is_refused_by(alloc, text.as_str(), "aa")?, "at {line}");
+    }
+    Ok(())
+}
+
+/// Texts that aren't TOML.
+const NO_TOML: [&[u8]; 4] = [
+    b"comp =\n",
+    b"comp = \"GATE\"\ncomp = \"GATE\"\n",
+    b"comp = \"GATE\n",
+    b"# \xff\n",
+];
+
+#[test]
+fn a_text_that_is_no_toml(rt: HostRuntime) -> Result<(), Fail> {
+    let alloc = rt.alloc();
+    for text in NO_TOML {
+        let key = refused_key(alloc, text)?.ok_or("it is refused")?;
+        assert_eq!(rt; key.as_str(), "toml");
+    }
+    Ok(())
+}
