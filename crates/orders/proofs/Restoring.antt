@@ -1,0 +1,170 @@
+-- An order that goes on from an earlier one is put back to it.
+use Rattle.std.proofs.Common.{◌≡◌, ℕ, ◌≤◌, ◌-◌, Bool, true, false, List, [], ◌∷◌, ◌++◌, length, map, take, drop, reverse, refl, sym, ap, ◌∙◌, arith, true≢false, eq-eqb, ◌⊎◌, inl, inr}
+use Rattle.std.specs.Prelude.{◌&&◌, ◌||◌, ◌==◌, not, nat_le, Option, Some, None, option_map, unwrap_or, if◌then◌else◌, bytes_eq}
+use Rattle.std.proofs.Math.Seq.{take-length, take-append_seam}
+use Rattle.std.proofs.lemmas.Bool.Decides.{nat_tests}
+use Rattle.std.proofs.lemmas.List.{length-reverse, reverse-append, reverse-reverse, take-map}
+use Rattle.order_law.specs.Asks.{total_of}
+use Rattle.order_law.specs.History.{Entry, token_of}
+use Rattle.order_law.specs.Life.{is_waiting}
+use Rattle.order_machine.specs.OrderRecord.{OrderRecord, at, filled, gone, live_token, over_if, put_in_book, reduced, renamed, still_after, unasked, with_trade}
+use Rattle.order_machine.specs.OrderRecord as record_of
+use Rattle.orders.specs.Changes.{changed_by, marks_trades, renames, replaced_as}
+use Rattle.orders.specs.PutBack.{GoesOn, can_have_had, had_before, put_back, with_earlier}
+use Rattle.orders.specs.EarlierTrades.{oldest, told_before, trades_before}
+use Rattle.orders.specs.Seen.{cancel_of, progressed, replace_of, told_seen}
+use Rattle.orders.specs.declared.change.Change.{Change}
+use Rattle.orders.specs.declared.change.Change.TheVariants as changes
+use Rattle.orders.specs.declared.earlier_order.EarlierOrder.{EarlierOrder}
+use Rattle.orders.specs.declared.earlier_trades.EarlierTrades.{EarlierTrades}
+use Rattle.orders.specs.declared.earlier_trades.EarlierTrades.TheVariants.{First, Unmarked}
+use Rattle.orders.specs.declared.order.ToldTrade.{ToldTrade}
+use Rattle.orders.specs.declared.requests.Cancelling.{Cancelling}
+use Rattle.orders.specs.declared.requests.Replacing.{Replacing}
+
+-- ---- lists that have the newest first
+
+-- it is the same, or has one item more
+abbrev pub Grown : {A : Type 0} → List A → List A → Type 0
+Grown {A} xs ys = (ys ≡ xs) ⊎ ((x : A) × (ys ≡ x ∷ xs))
+
+oldest-all : {A : Type 0} (xs : List A) → oldest (length xs) xs ≡ xs
+oldest-all xs = ap (λ n. reverse (take n (reverse xs))) (sym (length-reverse xs)) ∙ ap reverse (take-length (reverse xs)) ∙ reverse-reverse xs
+
+oldest-more : {A : Type 0} (x : A) (xs : List A) → oldest (length xs) (x ∷ xs) ≡ xs
+oldest-more x xs =
+    ap (λ ys. reverse (take (length xs) ys)) (reverse-append (x ∷ []) xs)
+    ∙ ap (λ n. reverse (take n (reverse xs ++ x ∷ []))) (sym (length-reverse xs))
+    ∙ ap reverse (take-append_seam (reverse xs) (x ∷ []))
+    ∙ reverse-reverse xs
+
+pub grown-oldest : {A : Type 0} (xs ys : List A) → Grown xs ys → oldest (length xs) ys ≡ xs
+grown-oldest xs ys (inl same) = ap (oldest (length xs)) same ∙ oldest-all xs
+grown-oldest xs ys (inr (x, more)) = ap (oldest (length xs)) more ∙ oldest-more x xs
+
+behind-same : {A : Type 0} (xs : List A) → (oldest (length (drop 1 xs)) (drop 1 xs) ≡ drop 1 xs) × (length (drop 1 xs) ≤ length (drop 1 xs))
+behind-same xs = (oldest-all (drop 1 xs), omega arith)
+
+behind-all : {A : Type 0} (xs : List A) → (oldest (length (drop 1 xs)) xs ≡ drop 1 xs) × (length (drop 1 xs) ≤ length xs)
+behind-all [] = (refl, omega arith)
+behind-all (x ∷ xs) = (oldest-more x xs, omega arith)
+
+Behind : {A : Type 0} → List A → List A → Type 0
+Behind xs ys = (oldest (length (drop 1 xs)) (drop 1 ys) ≡ drop 1 xs) × (length (drop 1 xs) ≤ length (drop 1 ys))
+
+grown-behind : {A : Type 0} (xs ys : List A) → Grown xs ys → (oldest (length (drop 1 xs)) (drop 1 ys) ≡ drop 1 xs) × (length (drop 1 xs) ≤ length (drop 1 ys))
+grown-behind xs ys (inl same) = rw same (behind-same xs)
+grown-behind xs ys (inr (x, more)) = rw more (behind-all xs)
+
+-- ---- what a change leaves of an order
+
+pub record Leaves (marks named : Bool) (was now : OrderRecord) : Type 0 where
+  pub asked : now.new ≡ was.new
+  pub tokens : Grown was.tokens now.tokens
+  pub id : named ≡ false → now.id ≡ was.id
+  pub trades : marks ≡ false → Grown was.trades now.trades
+
+same : (marks named : Bool) (was now : OrderRecord) → now.new ≡ was.new → now.tokens ≡ was.tokens → now.id ≡ was.id → now.trades ≡ was.trades → Leaves marks named was now
+same marks named was now asked tokens id trades = record { asked = asked; tokens = inl tokens; id = λ e. id; trades = λ e. inl trades }
+
+over : (marks named : Bool) (was now : OrderRecord) (b : Bool) → Leaves marks named was now → Leaves marks named was (over_if b now)
+over marks named was now true l = record { asked = l.asked; tokens = l.tokens; id = l.id; trades = l.trades }
+over marks named was now false l = l
+
+never : {P : Type 0} → true ≡ false → P
+never e = absurd (true≢false e)
+
+replaced : (shares price : ℕ) (is_dead : Bool) (o : OrderRecord) (q : Option Entry) → Leaves false true o (replaced_as shares price is_dead o q)
+replaced shares price is_dead o None = same false true o o refl refl refl refl
+replaced shares price is_dead o (Some q) =
+    over false true o (at (put_in_book shares price (renamed (token_of q) q o)) None (still_after (bytes_eq (live_token o)) o.cancel)) is_dead
+    (record { asked = refl; tokens = inr (token_of q, refl); id = λ e. never e; trades = λ e. inl refl })
+
+pub leaves : (change : Change) (o : OrderRecord) → Leaves (marks_trades change) (renames change) o (changed_by change o)
+leaves (changes.Opened shares price is_dead) o = over false false o (put_in_book shares price o) is_dead (same false false o (put_in_book shares price o) refl refl refl refl)
+leaves (changes.Replaced shares price is_dead) o = replaced shares price is_dead o o.replace
+leaves (changes.Canceled shares) o = by_rest (o.unfilled - shares == 0)
+  where
+    by_rest : (b : Bool) → Leaves false false o (if b then unasked (gone o) else reduced shares o)
+    by_rest true = same false false o (unasked (gone o)) refl refl refl refl
+    by_rest false = same false false o (reduced shares o) refl refl refl refl
+leaves (changes.Traded t) o = by_rest (o.unfilled - t.trade.shares == 0)
+  where
+    by_rest : (b : Bool) → Leaves false false o (if b then unasked (filled t.number t.trade o) else with_trade t.number t.trade o)
+    by_rest true = record { asked = refl; tokens = inl refl; id = λ e. refl; trades = λ e. inr (record { trade = t.trade; number = t.number }, refl) }
+    by_rest false = record { asked = refl; tokens = inl refl; id = λ e. refl; trades = λ e. inr (record { trade = t.trade; number = t.number }, refl) }
+leaves (changes.Broken t) o = record { asked = refl; tokens = inl refl; id = λ e. refl; trades = λ e. never e }
+leaves changes.Refused o = same false false o (changed_by changes.Refused o) refl refl refl refl
+leaves (changes.NotReplaced token) o = same false false o (changed_by (changes.NotReplaced token) o) refl refl refl refl
+leaves (changes.NotCanceled token) o = same false false o (changed_by (changes.NotCanceled token) o) refl refl refl refl
+
+pub goes-on : (marks named : Bool) (was now : OrderRecord) (id : Option (List ℕ)) (trades : EarlierTrades) → Leaves marks named was now → unwrap_or id now.id ≡ was.id → told_before trades now.trades ≡ was.trades
+    → GoesOn id trades was now
+goes-on marks named was now id trades l is_named told = record {
+  asked = l.asked;
+  tokens = (grown-behind was.tokens now.tokens l.tokens).0;
+  as_many = (grown-behind was.tokens now.tokens l.tokens).1;
+  named = is_named;
+  trades = told;
+}
+
+-- as many trades as there were
+pub first-trades : (marks named : Bool) (was now : OrderRecord) (n : ℕ) → Leaves marks named was now → marks ≡ false → n ≡ length was.trades → told_before (First n) now.trades ≡ was.trades
+first-trades marks named was now n l e many = ap (λ k. oldest k now.trades) many ∙ grown-oldest was.trades now.trades (l.trades e)
+
+-- a request more or less
+pub requests-leave : (o : OrderRecord) (replace : Option Entry) (cancel : Option record_of.Cancelling) → Leaves false false o (at o replace cancel)
+requests-leave o replace cancel = same false false o (at o replace cancel) refl refl refl refl
+
+-- ---- what is put back
+
+both : (p q : Bool) → p ≡ true → q ≡ true → (p && q) ≡ true
+both true q e f = f
+both false q e f = e
+
+unless : (p q : Bool) → (p ≡ true → q ≡ true) → (not p || q) ≡ true
+unless true q f = f refl
+unless false q f = refl
+
+within : (m n : ℕ) → m ≤ n → nat_le m n ≡ true
+within m n few = grind (arith, nat_tests)
+
+by-test : (b : Bool) (x y : OrderRecord) → b ≡ true → (if b then x else y) ≡ x
+by-test true x y e = refl
+by-test false x y e = absurd (true≢false (sym e))
+
+pub put-back-is : (e : EarlierOrder) (was now : OrderRecord) → GoesOn e.cl_ord_id e.trades was now → e.earlier_count ≡ length (had_before was) → e.token ∷ had_before was ≡ was.tokens
+    → progressed e.progress was ≡ was → (is_waiting was.stage ≡ true → was.total ≡ total_of was.new.message)
+    → option_map (replace_of was) e.replace ≡ was.replace → option_map (cancel_of was) e.cancel ≡ was.cancel → put_back e now ≡ was
+put-back-is e was now on many tokens progress waiting replace cancel =
+    by-test (can_have_had e now) (with_earlier e now) now
+    (both (nat_le e.earlier_count (length (had_before now))) (not (is_waiting e.progress.stage) || e.progress.total == total_of now.new.message)
+    (within e.earlier_count (length (had_before now)) (let few = on.as_many in omega (arith, many, few)))
+    (unless (is_waiting e.progress.stage) (e.progress.total == total_of now.new.message)
+    (λ w. eq-eqb e.progress.total (total_of now.new.message)
+    (ap (λ (o : OrderRecord). o.total) progress ∙ waiting (sym (ap (λ (o : OrderRecord). is_waiting o.stage) progress) ∙ w) ∙ ap (λ (x : Entry). total_of x.message) (sym on.asked)))))
+    ∙ (λ j. record {
+      new = on.asked j;
+      stage = (progress j).stage;
+      is_refused = (progress j).is_refused;
+      id = on.named j;
+      total = (progress j).total;
+      price = (progress j).price;
+      unfilled = (progress j).unfilled;
+      executed = (progress j).executed;
+      cancelled = (progress j).cancelled;
+      value = (progress j).value;
+      tokens = (ap (λ n. e.token ∷ oldest n (had_before now)) many ∙ ap (λ ts. e.token ∷ ts) on.tokens ∙ tokens) j;
+      trades = on.trades j;
+      replace = (ap (λ (x : Entry). option_map (λ (r : Replacing). record { client = x.client; message = (replace_of now r).message; order = x.order; token = (replace_of now r).token }) e.replace) on.asked ∙ replace) j;
+      cancel = (ap (λ (x : Entry). option_map (λ (c : Cancelling). record { request = record { client = x.client; message = (cancel_of now c).request.message; order = x.order; token = None }; tokens = (cancel_of now c).tokens }) e.cancel) on.asked ∙ cancel) j;
+    })
+
+-- ---- as the fields have it
+
+pub told-of : (trades : EarlierTrades) (ts : List ToldTrade) → reverse (map told_seen (trades_before trades ts)) ≡ told_before trades (reverse (map told_seen ts))
+told-of (First n) ts = ap reverse (sym (take-map told_seen n ts)) ∙ ap (λ xs. reverse (take n xs)) (sym (reverse-reverse (map told_seen ts)))
+told-of (Unmarked unmarked) ts = refl
+
+pub oldest-of : (n : ℕ) (ts : List (List ℕ)) → reverse (take n ts) ≡ oldest n (reverse ts)
+oldest-of n ts = ap (λ xs. reverse (take n xs)) (sym (reverse-reverse ts))
