@@ -109,8 +109,19 @@ goes-on marks named was now id trades l is_named told = record {
 }
 
 -- as many trades as there were
-pub first-trades : (marks named : Bool) (was now : OrderRecord) (n : ℕ) → Leaves marks named was now → marks ≡ false → n ≡ length was.trades → told_before (First n) now.trades ≡ was.trades
-first-trades marks named was now n l e many = ap (λ k. oldest k now.trades) many ∙ grown-oldest was.trades now.trades (l.trades e)
+pub first-trades : (marks named : Bool) (was now : OrderRecord) (earlier : EarlierTrades) → Leaves marks named was now → marks ≡ false → earlier ≡ First (length was.trades) → told_before earlier now.trades ≡ was.trades
+first-trades marks named was now earlier l e many = ap (λ x. told_before x now.trades) many ∙ grown-oldest was.trades now.trades (l.trades e)
+
+-- what marks trades gives no other id
+pub marked-named : (change : Change) → marks_trades change ≡ true → renames change ≡ false
+marked-named (changes.Broken t) e = refl
+marked-named (changes.Opened shares price is_dead) e = refl
+marked-named (changes.Replaced shares price is_dead) e = never (sym e)
+marked-named (changes.Canceled shares) e = refl
+marked-named (changes.Traded t) e = refl
+marked-named changes.Refused e = refl
+marked-named (changes.NotReplaced token) e = refl
+marked-named (changes.NotCanceled token) e = refl
 
 -- a request more or less
 pub requests-leave : (o : OrderRecord) (replace : Option Entry) (cancel : Option record_of.Cancelling) → Leaves false false o (at o replace cancel)
@@ -160,6 +171,9 @@ put-back-is e was now on many tokens progress waiting replace cancel =
       cancel = (ap (λ (x : Entry). option_map (λ (c : Cancelling). record { request = record { client = x.client; message = (cancel_of now c).request.message; order = x.order; token = None }; tokens = (cancel_of now c).tokens }) e.cancel) on.asked ∙ cancel) j;
     })
 
+pub put-back-then : (e : EarlierOrder) (o : OrderRecord) → can_have_had e o ≡ true → put_back e o ≡ with_earlier e o
+put-back-then e o fits = by-test (can_have_had e o) (with_earlier e o) o fits
+
 -- ---- as the fields have it
 
 pub told-of : (trades : EarlierTrades) (ts : List ToldTrade) → reverse (map told_seen (trades_before trades ts)) ≡ told_before trades (reverse (map told_seen ts))
@@ -168,3 +182,9 @@ told-of (Unmarked unmarked) ts = refl
 
 pub oldest-of : (n : ℕ) (ts : List (List ℕ)) → reverse (take n ts) ≡ oldest n (reverse ts)
 oldest-of n ts = ap (λ xs. reverse (take n xs)) (sym (reverse-reverse ts))
+
+pub with-earlier-is : (e : EarlierOrder) (o : OrderRecord) (id : List ℕ) (behind : List (List ℕ)) (trades : List record_of.ToldTrade) (replace : Option Entry) (cancel : Option record_of.Cancelling) → id ≡ unwrap_or e.cl_ord_id o.id
+    → behind ≡ oldest e.earlier_count (had_before o) → trades ≡ told_before e.trades o.trades → replace ≡ option_map (replace_of o) e.replace → cancel ≡ option_map (cancel_of o) e.cancel
+    → record (progressed e.progress o) { id = id; tokens = e.token ∷ behind; trades = trades; replace = replace; cancel = cancel } ≡ with_earlier e o
+with-earlier-is e o id behind trades replace cancel ids tokens told replaces cancels =
+    (λ j. record (progressed e.progress o) { id = ids j; tokens = e.token ∷ tokens j; trades = told j; replace = replaces j; cancel = cancels j })

@@ -34,9 +34,9 @@ put_back e o = if can_have_had e o then with_earlier e o else o
 
 -- One that goes on from an earlier order: it has had its tokens, its ClOrdID was this or is the same, and its trades
 -- were these.
-pub record GoesOn (id : Option (List ℕ)) (trades : EarlierTrades) (was now : OrderRecord) : Type 0 where
+pub record GoesOn (id : Option (List ℕ)) (earlier : EarlierTrades) (was now : OrderRecord) : Type 0 where
   pub asked : now.new ≡ was.new
   pub tokens : oldest (length (had_before was)) (had_before now) ≡ had_before was
   pub as_many : length (had_before was) ≤ length (had_before now)
   pub named : unwrap_or id now.id ≡ was.id
-  pub trades : told_before trades now.trades ≡ was.trades
+  pub trades : told_before earlier now.trades ≡ was.trades

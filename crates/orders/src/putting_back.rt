@@ -1,6 +1,6 @@
 //! How an order is put back to what it had before it was changed.
 
-ghost use Rattle.std.specs.Prelude.{◌≡◌, ℕ, Option, IfOk, length};
+ghost use Rattle.std.specs.Prelude.{◌≡◌, Option, IfOk, length, unwrap_or};
 ghost use Rattle.order_law.specs.declared.stage.Stage.TheVariants.{Waiting};
 ghost use Rattle.order_law.specs.History.{Entry};
 ghost use Rattle.order_machine.specs.OrderRecord.{Cancelling as CancellingRecord, OrderRecord, at};
@@ -50,13 +50,11 @@ impl Order {
         if self.can_have_had(&earlier) {
             self.token = earlier.token;
             self.earlier.truncate(earlier.earlier_count);
-            if let Some(cl_ord_id) = earlier.cl_ord_id {
-                self.cl_ord_id = cl_ord_id;
-            }
+            put_id_back(&mut self.cl_ord_id, earlier.cl_ord_id);
             self.progress = earlier.progress;
             put_trades_back(&mut self.trades, earlier.trades);
-            self.replace = earlier.replace;
-            self.cancel = earlier.cancel;
+            put_request_back(&mut self.replace, earlier.replace);
+            put_request_back(&mut self.cancel, earlier.cancel);
         }
     }
 
@@ -85,7 +83,8 @@ impl Order {
 
     /// As many trades as it has.
     fn trades_so_far(&self) -> EarlierTrades
-        ensures { result ≡ First (length self.now.trades) }
+        ensures trades { result ≡ First (length self.now.trades) }
+        ensures waiting { self.now.stage ≡ Waiting → most_trades result ≡ 0 }
     {
         EarlierTrades::First(self.trades.len())
     }
@@ -98,4 +97,20 @@ impl Order {
             && (earlier.progress.stage != Stage::Waiting
                 || earlier.progress.total == self.first_total)
     }
+}
+
+/// Puts a ClOrdID back to what it was, where it was another. Takes no memory.
+fn put_id_back(cl_ord_id: &mut ClOrdId, earlier: Option<ClOrdId>)
+    ensures { cl_ord_id.new ≡ unwrap_or earlier cl_ord_id.old }
+{
+    if let Some(was) = earlier {
+        *cl_ord_id = was;
+    }
+}
+
+/// Puts a pending request back to what it was. Takes no memory.
+fn put_request_back<T: Drop>(request: &mut Option<T>, earlier: Option<T>)
+    ensures { request.new ≡ earlier }
+{
+    *request = earlier;
 }
