@@ -123,53 +123,11 @@ marked-named changes.Refused e = refl
 marked-named (changes.NotReplaced token) e = refl
 marked-named (changes.NotCanceled token) e = refl
 
--- a request more or less
-pub requests-leave : (o : OrderRecord) (replace : Option Entry) (cancel : Option record_of.Cancelling) → Leaves false false o (at o replace cancel)
-requests-leave o replace cancel = same false false o (at o replace cancel) refl refl refl refl
-
 -- ---- what is put back
-
-both : (p q : Bool) → p ≡ true → q ≡ true → (p && q) ≡ true
-both true q e f = f
-both false q e f = e
-
-unless : (p q : Bool) → (p ≡ true → q ≡ true) → (not p || q) ≡ true
-unless true q f = f refl
-unless false q f = refl
-
-within : (m n : ℕ) → m ≤ n → nat_le m n ≡ true
-within m n few = grind (arith, nat_tests)
 
 by-test : (b : Bool) (x y : OrderRecord) → b ≡ true → (if b then x else y) ≡ x
 by-test true x y e = refl
 by-test false x y e = absurd (true≢false (sym e))
-
-pub put-back-is : (e : EarlierOrder) (was now : OrderRecord) → GoesOn e.cl_ord_id e.trades was now → e.earlier_count ≡ length (had_before was) → e.token ∷ had_before was ≡ was.tokens
-    → progressed e.progress was ≡ was → (is_waiting was.stage ≡ true → was.total ≡ total_of was.new.message)
-    → option_map (replace_of was) e.replace ≡ was.replace → option_map (cancel_of was) e.cancel ≡ was.cancel → put_back e now ≡ was
-put-back-is e was now on many tokens progress waiting replace cancel =
-    by-test (can_have_had e now) (with_earlier e now) now
-    (both (nat_le e.earlier_count (length (had_before now))) (not (is_waiting e.progress.stage) || e.progress.total == total_of now.new.message)
-    (within e.earlier_count (length (had_before now)) (let few = on.as_many in omega (arith, many, few)))
-    (unless (is_waiting e.progress.stage) (e.progress.total == total_of now.new.message)
-    (λ w. eq-eqb e.progress.total (total_of now.new.message)
-    (ap (λ (o : OrderRecord). o.total) progress ∙ waiting (sym (ap (λ (o : OrderRecord). is_waiting o.stage) progress) ∙ w) ∙ ap (λ (x : Entry). total_of x.message) (sym on.asked)))))
-    ∙ (λ j. record {
-      new = on.asked j;
-      stage = (progress j).stage;
-      is_refused = (progress j).is_refused;
-      id = on.named j;
-      total = (progress j).total;
-      price = (progress j).price;
-      unfilled = (progress j).unfilled;
-      executed = (progress j).executed;
-      cancelled = (progress j).cancelled;
-      value = (progress j).value;
-      tokens = (ap (λ n. e.token ∷ oldest n (had_before now)) many ∙ ap (λ ts. e.token ∷ ts) on.tokens ∙ tokens) j;
-      trades = on.trades j;
-      replace = (ap (λ (x : Entry). option_map (λ (r : Replacing). record { client = x.client; message = (replace_of now r).message; order = x.order; token = (replace_of now r).token }) e.replace) on.asked ∙ replace) j;
-      cancel = (ap (λ (x : Entry). option_map (λ (c : Cancelling). record { request = record { client = x.client; message = (cancel_of now c).request.message; order = x.order; token = None }; tokens = (cancel_of now c).tokens }) e.cancel) on.asked ∙ cancel) j;
-    })
 
 pub put-back-then : (e : EarlierOrder) (o : OrderRecord) → can_have_had e o ≡ true → put_back e o ≡ with_earlier e o
 put-back-then e o fits = by-test (can_have_had e o) (with_earlier e o) o fits
