@@ -1,10 +1,11 @@
 -- One change more leaves what was settled.
 use Rattle.std.proofs.Common.{◌≡◌, ℕ, zero, suc, ◌<◌, ◌≤◌, List, [], ◌∷◌, ◌++◌, reverse, take, length, get_or, slice_get, slice_set, refl, sym, ap, ◌∙◌, arith}
-use Rattle.std.specs.Prelude.{Some}
+use Rattle.std.specs.Prelude.{Option, Some}
 use Rattle.std.proofs.lemmas.List.{reverse-append}
 use Rattle.std.proofs.lemmas.Option.{slice_get-get_or, slice_get_within}
 use Rattle.order_machine.specs.OrderRecord.{OrderRecord}
 use Rattle.orders.specs.PutBack.{put_back}
+use Rattle.orders.specs.declared.earlier_order.EarlierOrder.{EarlierOrder}
 use Rattle.undo_list.specs.Undoing.{IsWithin}
 use Rattle.undo_orders.specs.PuttingBack.{changed_at, restored, settled_of}
 use Rattle.undo_orders.specs.declared.list.Was.{Was}
@@ -20,6 +21,19 @@ pub changed-once : (count : ℕ) (ws : List Was) (w : Was) (xs : List OrderRecor
 changed-once count ws w xs x was at back =
     ap (λ (rs : List Was). restored rs (take count (slice_set xs w.place x))) (reverse-append ws (w ∷ []))
     ∙ ap (restored (reverse ws)) (put-back (put_back w.earlier) count xs w.place x was at back)
+
+same-some : {A : Type 0} (a b : A) → ◌≡◌ {A = Option A} (Some a) (Some b) → a ≡ b
+same-some a b e = cc
+
+-- an order at a place is changed: once as it is looked at, and once as it is written
+pub kept : (count : ℕ) (ws vs : List Was) (os : List OrderRecord) (place : ℕ) (earlier : EarlierOrder) (seen was now : OrderRecord) → place < length os → seen ≡ get_or os place seen → was ≡ get_or os place was
+    → (seen ≡ was → put_back earlier now ≡ was) → vs ≡ ws ++ record { place = place; earlier = earlier } ∷ []
+    → settled_of count vs (slice_set os place now) ≡ settled_of count ws os
+kept count ws vs os place earlier seen was now inside is_seen is_was back noted =
+    let at_seen : slice_get os place ≡ Some seen = slice_get-get_or os place seen inside ∙ ap Some (sym is_seen) in
+    let at_was : slice_get os place ≡ Some was = slice_get-get_or os place was inside ∙ ap Some (sym is_was) in
+    let same : seen ≡ was = same-some seen was (sym at_seen ∙ at_was) in
+    ap (λ (zs : List Was). settled_of count zs (slice_set os place now)) noted ∙ changed-once count ws (record { place = place; earlier = earlier }) os now was at_was (back same)
 
 get-taken : {A : Type 0} (n : ℕ) (xs : List A) (i : ℕ) (a : A) → slice_get (take n xs) i ≡ Some a → slice_get xs i ≡ Some a
 get-taken zero xs i a at = absurd (omega (arith, slice_get_within (take 0 xs) i a at))
@@ -49,12 +63,3 @@ none-behind f (x ∷ xs) (suc p) behind = ap (λ ys. x ∷ ys) (none-behind f xs
 
 pub none-back : (w : Was) (xs : List OrderRecord) → length xs ≤ w.place → changed_at (put_back w.earlier) w.place xs ≡ xs
 none-back w xs behind = none-behind (put_back w.earlier) xs w.place behind
-
-length-changed : {A : Type 0} (f : A → A) (xs : List A) (p : ℕ) → length (changed_at f p xs) ≡ length xs
-length-changed f [] p = refl
-length-changed f (x ∷ xs) zero = refl
-length-changed f (x ∷ xs) (suc p) = ap suc (length-changed f xs p)
-
-length-restored : (ws : List Was) (xs : List OrderRecord) → length (restored ws xs) ≡ length xs
-length-restored [] xs = refl
-length-restored (w ∷ ws) xs = length-restored ws (changed_at (put_back w.earlier) w.place xs) ∙ length-changed (put_back w.earlier) xs w.place
