@@ -1,11 +1,17 @@
--- Orders are led to by their keys, after one is changed where it stands and after none is.
-use Rattle.std.proofs.Common.{◌≡◌, ℕ, ◌∙◌, List, refl, sym, ap, slice_get, slice_set, true}
-use Rattle.std.specs.Prelude.{Some, nat_eq}
+-- An order is changed where it stands: what stands there then, and that orders are led to by their keys as before.
+use Rattle.std.proofs.Common.{◌≡◌, ℕ, zero, suc, ◌∙◌, List, [], ◌∷◌, refl, sym, ap, decimal, slice_get, slice_set, true}
+use Rattle.std.specs.Prelude.{Option, Some, None, nat_eq}
 use Rattle.std.specs.Str.Parse.{digits_value}
 use Rattle.hint_index.proofs.Standing.{covered-changed, covered-same}
 use Rattle.hint_index.specs.Hints.{Covered, Hints, LeadsTo, hint_of}
 use Rattle.order_law.specs.History.{Entry}
 use Rattle.order_machine.specs.OrderRecord.{OrderRecord}
+use Rattle.order_machine.specs.OrderRecord as record_of
+use Rattle.fix_types.specs.CancelRequest.{cancel_request_fields}
+use Rattle.fix_types.specs.ReplaceRequest.{replace_request_fields}
+use Rattle.orders.specs.Seen.{cancel_of, cancel_seen, replace_of, replace_seen}
+use Rattle.orders.specs.declared.requests.Cancelling.{Cancelling}
+use Rattle.orders.specs.declared.requests.Replacing.{Replacing}
 use Rattle.undo_list.specs.Undoing.{Undoable}
 use Rattle.order_table.specs.declared.keys.NameKey.{NameKey}
 use Rattle.order_table.specs.declared.keys.NumberKey.{NumberKey}
@@ -29,3 +35,19 @@ led-same numbers names old new now settled led = (
   covered-same same_number has_number_key numbers numbers old new refl now settled led.0,
   covered-same same_name has_name_key names names old new refl now settled led.1,
 )
+
+-- ---- what stands at a place
+
+pub set-item : {A : Type 0} (xs : List A) (i : ℕ) (x y z : A) → slice_get xs i ≡ Some x → slice_get (slice_set xs i y) i ≡ Some z → z ≡ y
+set-item [] i x y z at after = absurd (cc)
+set-item (a ∷ xs) zero x y z at after = cc
+set-item (a ∷ xs) (suc i) x y z at after = set-item xs i x y z at after
+
+-- ---- requests on an order whose number is known
+
+pub replace-as : (o : OrderRecord) (order_id : ℕ) (r : Replacing) → o.new.order ≡ decimal order_id → replace_of o r ≡ replace_seen o.new.client order_id r
+replace-as o order_id r own = ap (λ (order : List ℕ). record { client = o.new.client; message = replace_request_fields r.message; order = order; token = Some r.token_number }) own
+
+pub cancel-as : (o : OrderRecord) (order_id : ℕ) (c : Cancelling) → o.new.order ≡ decimal order_id → cancel_of o c ≡ cancel_seen o.new.client order_id c
+cancel-as o order_id c own =
+    ap (λ (order : List ℕ). record { request = record { client = o.new.client; message = cancel_request_fields c.message; order = order; token = None }; tokens = (cancel_of o c).tokens }) own

@@ -209,8 +209,9 @@ impl<S: BuildHasher + Drop> Table<S> {
             let was_open = is_open(was);
             self.open_counts.reserve()?;
             self.orders.apply(alloc, place, change)?;
-            let has_closed = was_open && !is_open(self.orders.item_at(place));
-            self.open_counts.count_off(client, has_closed);
+            let still_open = is_open(self.orders.item_at(place));
+            self.open_counts
+                .count_off(client, was_open && !still_open);
         }
         Ok(())
     }

@@ -1,4 +1,4 @@
-use Rattle.std.proofs.Common.{◌≡◌, ◌<◌, ◌++◌, ◌∷◌, List, [], length, sym, ap, ◌∙◌, subst}
+use Rattle.std.proofs.Common.{◌<◌, ◌++◌, ◌∷◌, List, [], length, sym, ap, ◌∙◌, subst}
 use Rattle.order_machine.specs.OrderRecord.{OrderRecord}
 use Rattle.orders.specs.Changes.{changed_by}
 use Rattle.orders.specs.PutBack.{put_back}
