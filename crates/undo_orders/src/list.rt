@@ -5,7 +5,9 @@ ghost use Rattle.std.specs.Prelude.{Some, IfOk, OnErr, OnOk, true, vec_len, vec_
 ghost use Rattle.order_machine.specs.OrderRecord.{OrderRecord, at};
 ghost use Rattle.orders.specs.Changes.{Fits, changed_by};
 ghost use Rattle.orders.specs.Seen.{cancel_of, replace_of};
+ghost use Rattle.orders.specs.PutBack.{put_back};
 ghost use Rattle.undo_list.specs.Undoing.{IsWithin};
+ghost use Rattle.undo_orders.specs.PuttingBack.{changed_at};
 
 use hint_index::SettledList;
 use orders::{Cancelling, Change, EarlierOrder, Order, Replacing};
@@ -171,10 +173,18 @@ impl UndoOrders {
     {
         self.orders.truncate(self.count);
         while let Some(was) = self.changed.pop() {
-            if was.place < self.orders.len() {
-                self.orders[was.place].put_back(was.earlier);
-            }
+            put_order_back(&mut self.orders, was);
         }
+    }
+}
+
+/// Puts the order at a place back to what it had, if there is one.
+fn put_order_back(orders: &mut Vec<Order>, was: Was)
+    ensures back { orders.new.items ≡ changed_at (put_back was.earlier) was.place orders.old.items }
+    ensures len { length orders.new.items ≡ length orders.old.items }
+{
+    if was.place < orders.len() {
+        orders[was.place].put_back(was.earlier);
     }
 }
 
