@@ -1,5 +1,5 @@
 -- An order is changed where it stands: what stands there then, and that orders are led to by their keys as before.
-use Rattle.std.proofs.Common.{◌≡◌, ℕ, zero, suc, ◌∙◌, List, [], ◌∷◌, refl, sym, ap, decimal, slice_get, slice_set, true}
+use Rattle.std.proofs.Common.{◌≡◌, ℕ, zero, suc, ◌∙◌, List, [], ◌∷◌, length, refl, sym, ap, decimal, slice_get, slice_set, true}
 use Rattle.std.specs.Prelude.{Option, Some, None, nat_eq}
 use Rattle.std.specs.Str.Parse.{digits_value}
 use Rattle.hint_index.proofs.Standing.{covered-changed, covered-same}
@@ -42,6 +42,11 @@ pub set-item : {A : Type 0} (xs : List A) (i : ℕ) (x y z : A) → slice_get xs
 set-item [] i x y z at after = absurd (cc)
 set-item (a ∷ xs) zero x y z at after = cc
 set-item (a ∷ xs) (suc i) x y z at after = set-item xs i x y z at after
+
+pub length-written : {A : Type 0} (xs : List A) (i : ℕ) (x : A) → length (slice_set xs i x) ≡ length xs
+length-written [] i x = refl
+length-written (a ∷ xs) zero x = refl
+length-written (a ∷ xs) (suc i) x = ap suc (length-written xs i x)
 
 -- ---- requests on an order whose number is known
 

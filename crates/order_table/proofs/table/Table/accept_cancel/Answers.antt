@@ -4,6 +4,7 @@ use Rattle.std.specs.List.{find}
 use Rattle.order_machine.specs.OrderRecord as record_of
 use Rattle.order_machine.specs.OrderRecord.{OrderRecord, at}
 use Rattle.order_machine.specs.Table.{has_number}
+use Rattle.hint_index.proofs.Newest.{newest-there}
 use Rattle.hint_index.specs.Newest.{IsNewest}
 use Rattle.order_table.specs.Held.{Held, changed, with_number}
 use Rattle.orders.specs.Seen.{cancel_of, cancel_seen}
@@ -14,8 +15,8 @@ use Rattle.order_table.proofs.Standing.{changed-value, on-err, same-counted, sam
 use Rattle.order_table.proofs.StillOpen.{as-open}
 use Rattle.order_table.proofs.table.Table.accept_cancel.Goals as goal
 
-pub invariant_of-self-inside-in-Some : goal.invariant_of-self-inside-in-Some
-invariant_of-self-inside-in-Some g c =
+pub invariant_of-self-inside : goal.invariant_of-self-inside
+invariant_of-self-inside g c =
     let os = c.self.inside.orders.now in
     let newest : IsNewest (has_number (decimal c.args.order_id)) os c.in-Some.place = (search rules) in
     let there = item-at os c.in-Some.place newest.inside in
@@ -44,7 +45,12 @@ returns-in_ok-accept_cancel-clause-accepted g c = λ o found.
 
 pub returns-in_err-accept_cancel-clause-err : goal.returns-in_err-accept_cancel-clause-err
 returns-in_err-accept_cancel-clause-err g c =
-    on-err c.from_residual-in_err-accept_cancel.result
+    on-err c.from_residual.result
     (same-value c.self.inside.orders.now c.self.inside.tokens.now c.self.inside.orders.settled c.self.inside.tokens.settled c.accept_cancel.new.self.now c.self.inside.tokens.now c.accept_cancel.new.self.settled c.self.inside.tokens.settled
     c.in_err-accept_cancel.ensures.err refl c.accept_cancel.ensures.settled refl
     ∙ c.self.view_is)
+
+pub returns-in_ok-accept_cancel-clause-unknown : goal.returns-in_ok-accept_cancel-clause-unknown
+returns-in_ok-accept_cancel-clause-unknown g c = λ none.
+    let newest : IsNewest (has_number (decimal c.args.order_id)) c.self.inside.orders.now c.in-Some.place = (search rules) in
+    absurd (newest-there (has_number (decimal c.args.order_id)) c.self.inside.orders.now c.in-Some.place newest (ap (λ (h : Held). with_number h c.args.order_id) c.self.view_is ∙ none))

@@ -5,6 +5,7 @@ use Rattle.std.specs.List.{find, count_by}
 use Rattle.order_law.specs.History.{Entry}
 use Rattle.order_machine.specs.OrderRecord.{OrderRecord, at}
 use Rattle.order_machine.specs.Table.{GivenToken, has_number, is_replacement_of, put}
+use Rattle.hint_index.proofs.Newest.{newest-there}
 use Rattle.hint_index.specs.Newest.{IsNewest}
 use Rattle.order_table.specs.Held.{Held, is_counted, with_number}
 use Rattle.orders.specs.Seen.{replace_of, replace_seen}
@@ -62,7 +63,7 @@ returns-in_ok-accept_replace-clause-accepted g c = λ o found.
 
 pub returns-in_err-reserve_push-clause-err : goal.returns-in_err-reserve_push-clause-err
 returns-in_err-reserve_push-clause-err g c =
-    on-err c.from_residual-in_err-reserve_push.result
+    on-err c.from_residual.result
     (same-value c.self.inside.orders.now c.self.inside.tokens.now c.self.inside.orders.settled c.self.inside.tokens.settled c.self.inside.orders.now c.reserve_push.new.self.now c.self.inside.orders.settled c.reserve_push.new.self.settled
     refl c.reserve_push.ensures.now refl c.reserve_push.ensures.settled
     ∙ c.self.view_is)
@@ -75,4 +76,9 @@ returns-in_err-accept_replace-clause-err g c =
     ∙ c.self.view_is)
 
 pub returns-in_err-reserve_push-clause-accepted : goal.returns-in_err-reserve_push-clause-accepted
-returns-in_err-reserve_push-clause-accepted g c = IfOk-from_err c.from_residual-in_err-reserve_push.result _ (search rules)
+returns-in_err-reserve_push-clause-accepted g c = IfOk-from_err c.from_residual.result _ (search rules)
+
+pub returns-in_ok-accept_replace-clause-unknown : goal.returns-in_ok-accept_replace-clause-unknown
+returns-in_ok-accept_replace-clause-unknown g c = λ none.
+    let newest : IsNewest (has_number (decimal c.args.order_id)) c.self.inside.orders.now c.in-Some.place = (search rules) in
+    absurd (newest-there (has_number (decimal c.args.order_id)) c.self.inside.orders.now c.in-Some.place newest (ap (λ (h : Held). with_number h c.args.order_id) c.self.view_is ∙ none))

@@ -1,4 +1,4 @@
-use Rattle.std.proofs.Common.{rules, ◌≡◌, ℕ, List, decimal, refl, reverse, sym, ap, ◌∙◌, slice_get, slice_index, slice_set}
+use Rattle.std.proofs.Common.{rules, ◌≡◌, ℕ, List, length, arith, decimal, refl, reverse, sym, ap, ◌∙◌, slice_get, slice_index, slice_set}
 use Rattle.std.specs.Prelude.{Some}
 use Rattle.std.specs.List.{find}
 use Rattle.order_machine.specs.OrderRecord.{OrderRecord}
@@ -6,7 +6,7 @@ use Rattle.order_machine.specs.Table.{has_number}
 use Rattle.hint_index.specs.Newest.{IsNewest}
 use Rattle.order_table.specs.Held.{Held, changed, with_number}
 use Rattle.orders.specs.Changes.{Fits, changed_by}
-use Rattle.order_table.proofs.Changing.{set-item}
+use Rattle.order_table.proofs.Changing.{length-written, set-item}
 use Rattle.order_table.proofs.Counted.{change-few, change-new, kept}
 use Rattle.order_table.proofs.Standing.{changed-value, on-err, same-counted, same-value}
 use Rattle.order_table.proofs.StillOpen.{counted-off, was-counted}
@@ -16,6 +16,15 @@ pub apply-requires-clause-fits : goal.apply-requires-clause-fits
 apply-requires-clause-fits g c = λ w at_place.
     let newest : IsNewest (has_number (decimal c.args.order_id)) c.self.inside.orders.now c.in-Some.place = (search rules) in
     c.requires w (sym (ap (λ (h : Held). with_number h c.args.order_id) c.self.view_is) ∙ newest.newest ∙ at_place)
+
+pub item_at-requires : goal.item_at-requires
+item_at-requires g c =
+    let os = c.self.inside.orders.now in
+    let newest : IsNewest (has_number (decimal c.args.order_id)) os c.in-Some.place = (search rules) in
+    let was = c.item_at-was.result.now in
+    let long : length c.apply.new.self.now ≡ length os =
+    ap (λ (xs : List OrderRecord). length xs) (c.in_ok-apply.ensures.now was c.item_at-was.ensures) ∙ length-written os c.in-Some.place (changed_by c.args.change was) in
+    omega (arith, long, newest.inside)
 
 pub count_off-requires-clause-counted : goal.count_off-requires-clause-counted
 count_off-requires-clause-counted g c = λ closes.
@@ -44,8 +53,8 @@ invariant_of-self-inside-in-Some g c =
       (same-counted refl (c.count_off.ensures.settled ∙ c.in_ok-reserve.ensures.settled) c.apply.ensures.settled c.self.inside.settled_counted, tt),
     )
 
-pub returns-in_ok-apply-clause-changed : goal.returns-in_ok-apply-clause-changed
-returns-in_ok-apply-clause-changed g c = λ o found.
+pub returns-after-was_open-clause-changed : goal.returns-after-was_open-clause-changed
+returns-after-was_open-clause-changed g c = λ o found.
     let os = c.self.inside.orders.now in
     let newest : IsNewest (has_number (decimal c.args.order_id)) os c.in-Some.place = (search rules) in
     let is_found : find (has_number (decimal c.args.order_id)) (reverse os) ≡ Some o = ap (λ (h : Held). with_number h c.args.order_id) c.self.view_is ∙ found in
