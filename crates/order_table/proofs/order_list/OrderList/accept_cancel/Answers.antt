@@ -2,7 +2,7 @@ use Rattle.std.proofs.Common.{◌≡◌, ℕ, true, refl, ap, ◌∙◌, subst}
 use Rattle.std.specs.Prelude.{Some}
 use Rattle.hint_index.proofs.Standing.{covered-same}
 use Rattle.hint_index.specs.Hints.{Covered, LeadsTo, hint_of}
-use Rattle.order_machine.specs.OrderRecord.{OrderRecord, at}
+use Rattle.order_machine.specs.OrderRecord.{at}
 use Rattle.orders.specs.Seen.{cancel_of}
 use Rattle.order_table.specs.declared.keys.NameKey.{NameKey}
 use Rattle.order_table.specs.Keys.{has_name_key, name_key, same_name}
