@@ -1,12 +1,11 @@
 -- An order is changed where it stands: what stands there then, and that orders are led to by their keys as before.
 use Rattle.std.proofs.Common.{◌≡◌, ℕ, zero, suc, ◌∙◌, List, [], ◌∷◌, length, refl, sym, ap, decimal, slice_get, slice_set, true}
-use Rattle.std.specs.Prelude.{Option, Some, None, nat_eq}
+use Rattle.std.specs.Prelude.{Some, None, nat_eq}
 use Rattle.std.specs.Str.Parse.{digits_value}
 use Rattle.hint_index.proofs.Standing.{covered-changed, covered-same}
 use Rattle.hint_index.specs.Hints.{Covered, Hints, LeadsTo, hint_of}
 use Rattle.order_law.specs.History.{Entry}
 use Rattle.order_machine.specs.OrderRecord.{OrderRecord}
-use Rattle.order_machine.specs.OrderRecord as record_of
 use Rattle.fix_types.specs.CancelRequest.{cancel_request_fields}
 use Rattle.fix_types.specs.ReplaceRequest.{replace_request_fields}
 use Rattle.orders.specs.Seen.{cancel_of, cancel_seen, replace_of, replace_seen}

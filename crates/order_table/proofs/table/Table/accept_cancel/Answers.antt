@@ -1,4 +1,4 @@
-use Rattle.std.proofs.Common.{rules, ◌≡◌, List, decimal, refl, reverse, ap, ◌∙◌, arith}
+use Rattle.std.proofs.Common.{rules, ◌≡◌, decimal, refl, reverse, ap, ◌∙◌, arith}
 use Rattle.std.specs.Prelude.{Some}
 use Rattle.std.specs.List.{find}
 use Rattle.order_machine.specs.OrderRecord as record_of
