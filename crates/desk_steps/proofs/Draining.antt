@@ -2,6 +2,7 @@
 use Rattle.std.proofs.Common.{◌≡◌, ◌≢◌, ℕ, ◌<◌, ◌≤◌, ◌+◌, ◌++◌, List, [], ◌∷◌, length, map, Option, Some, None, slice_get, refl, ap, sym, ◌∙◌, subst, arith, inl, inr, ◌⊎◌, append_assoc, length-append}
 use Rattle.std.proofs.lemmas.List.{append-nil, map-append}
 use Rattle.std.proofs.lemmas.Bool.Decides.{eqb_tells}
+use Rattle.std.proofs.lemmas.Option.{slice_get_within}
 use mathlib.Core.List.{IsPrefix}
 use Rattle.gate_law.specs.Events as law
 use Rattle.gate_events.specs.declared.batch.Batch.{Batch}
@@ -97,6 +98,25 @@ pub none-stays : (k : ℕ) (x y : List SeatState) → Shrinks x y → KnowsNone 
 none-stays k x y s none b at =
     let a = come-to SeatShrinks x y s.count (λ j c here. let r = s.each j c here in (r.0, r.1, r.2, r.3, r.4)) k b at in
     omega (arith, a.2.2, none a.0 a.1)
+
+-- the ring of an end that has finished is one of the desk's
+pub told-inside : (f : Done) (seats : List SeatState) (ways : List WayState) (k : ℕ) → IsTold f seats ways → inlet_of f ≡ Some k → k < length seats
+told-inside (put_at j source events) seats ways k told is =
+    let same : j ≡ k = cc is in
+    subst (λ (z : ℕ). z < length seats) same (slice_get_within seats j told.0 told.1)
+told-inside (took_at d to lists) seats ways k told is = absurd (cc is)
+
+-- the rings of the first so many are empty
+abbrev pub FirstDrained : ℕ → List Done → List SeatState → Type 0
+FirstDrained n finished seats = (i : ℕ) (f : Done) (k : ℕ) → i < n → slice_get finished i ≡ Some f → inlet_of f ≡ Some k → KnowsNone k seats
+
+pub one-drained : (i : ℕ) (finished : List Done) (g : Done) (old new : List SeatState) → slice_get finished i ≡ Some g → Shrinks old new
+    → ((k : ℕ) → inlet_of g ≡ Some k → KnowsNone k new) → FirstDrained i finished old → FirstDrained (i + 1) finished new
+one-drained i finished g old new here shrinks none before j f k lt at is =
+    elim (eqb_tells j i) [
+      | inl q ↦ none k (ap inlet_of (get-same finished i g f here (rw (← q.1) at)) ∙ is)
+      | inr q ↦ (let less : j < i = omega (arith, q.1) in none-stays k old new shrinks (before j f k less at is))
+    ]
 
 -- ---- the end
 

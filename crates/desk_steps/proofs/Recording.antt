@@ -1,5 +1,5 @@
 -- What the core is after, carried along, and what one step makes of a core with its history.
-use Rattle.std.proofs.Common.{◌≡◌, ◌∷◌, ◌++◌, [], refl, sym, ap, ◌∙◌, subst}
+use Rattle.std.proofs.Common.{◌≡◌, Result, Ok, Err, OnErr, ◌∷◌, ◌++◌, [], refl, sym, ap, ◌∙◌, subst}
 use Rattle.gate_law.specs.Settings.{Settings}
 use Rattle.gate_law.specs.Events.{History, Turn}
 use Rattle.gate_law.specs.Holds.{Holds}
@@ -39,3 +39,7 @@ step-is e said batch settings kept more old is events batches says holds =
 pub same-recorded : (settings : Settings) (kept more : Kept) (old : Recorded) → record { settings = settings; kept = kept } ≡ old → more ≡ kept
     → record { settings = settings; kept = more } ≡ old
 same-recorded settings kept more old is same = ap (λ (k : Kept). record { settings = settings; kept = k }) same ∙ is
+
+pub on-err : {T E P : Type 0} (r : Result T E) → P → OnErr r P
+on-err (Ok x) is = tt
+on-err (Err e) is = is

@@ -1,9 +1,10 @@
 //! What is left to do once ends have finished.
 
-ghost use Rattle.std.specs.Prelude.{◌≡◌, ◌<◌, ◌⊎◌, ◌≤◌, List, true, Some, length, map, slice_get, OnOk, OnErr};
+ghost use Rattle.std.specs.Prelude.{◌≡◌, ◌<◌, ◌⊎◌, ◌≤◌, ℕ, List, true, Some, length, map, slice_get, OnOk, OnErr};
 ghost use Rattle.gate_events.specs.Sources.{is_from};
 ghost use Rattle.gate_events.specs.declared.event.Event.{Event};
 ghost use Rattle.desk_ends.specs.Rings.{NamedInlet, NamedOutlet};
+ghost use Rattle.desk_ends.specs.Ends.{inlet_of};
 ghost use Rattle.desk_ends.specs.Seats.{SeatState, SeatsLooked, WaysLooked, seat_name, way_name};
 ghost use Rattle.desk_steps.specs.Agreeing.{Agrees};
 ghost use Rattle.desk_steps.specs.Settling.{AreBegun, AreDrained, AreSettled, AreTold, GoesOn, KnowsNone, Shrinks};
@@ -80,6 +81,27 @@ fn drain(
     Ok(())
 }
 
+/// Steps all that is known in the ring of an inlet that has finished. For an outlet there is nothing to step.
+fn drain_end<K: DeskName>(
+    recorded: &mut RecordedCore,
+    side: &mut Side,
+    alloc: Global,
+    finished: &Finished<K>,
+) -> Result<(), AllocError>
+    requires inside { (k : ℕ) → inlet_of finished.now ≡ Some k → k < length side.old.seats }
+    ensures agrees { (inlets : List NamedInlet) (outlets : List NamedOutlet)
+        → Agrees inlets outlets (record { recorded = recorded.old; side = side.old })
+        → Agrees inlets outlets (record { recorded = recorded.new; side = side.new }) }
+    ensures goes_on { GoesOn recorded.old recorded.new }
+    ensures shrinks { Shrinks side.old.seats side.new.seats }
+    ensures none { OnOk result ((k : ℕ) → inlet_of finished.now ≡ Some k → KnowsNone k side.new.seats) }
+{
+    match finished.inlet() {
+        Some(place) => drain(recorded, side, alloc, place),
+        None => Ok(()),
+    }
+}
+
 /// Steps all that is known in the rings of inlets that have finished.
 fn drain_all<K: DeskName>(
     recorded: &mut RecordedCore,
@@ -96,9 +118,7 @@ fn drain_all<K: DeskName>(
     ensures none { OnOk result (AreDrained finished.now.items side.new.seats) }
 {
     for i in 0..finished.len() {
-        if let Some(place) = finished[i].inlet() {
-            drain(recorded, side, alloc, place)?;
-        }
+        drain_end(recorded, side, alloc, &finished[i])?;
     }
     Ok(())
 }
