@@ -33,6 +33,16 @@ first-some e a is = known-some e a.known is
   known-some e [] is = absurd (cc is)
   known-some e (x ∷ xs) is = omega arith
 
+-- seats that are the same
+pub at-same : (k : ℕ) (P : SeatState → Type 0) (old new : List SeatState) → new ≡ old → At k old P → At k new P
+at-same k P old new same all = subst (λ (z : List SeatState). At k z P) (sym same) all
+
+-- the first event is of the inlet's source
+pub own-first : (k : ℕ) (seats : List SeatState) (e : Event) (source : Source) → At k seats (IsFirst e) → At k seats (λ a. a.name.source ≡ source)
+    → is_from source e ≡ true
+    → (a : SeatState) → slice_get seats k ≡ Some a → (f : Event) × (slice_get a.known 0 ≡ Some f) × (is_from a.name.source f ≡ true)
+own-first k seats e source first is yes a at = (e, first a at, subst (λ (z : Source). is_from z e ≡ true) (sym (is a at)) yes)
+
 -- a seat gave its first event
 pub gave-first : (a b : SeatState) (popped e : Event) → SeatGave popped a b → IsFirst e a → popped ≡ e
 gave-first a b popped e g first = cc (rw (g.2) at first)

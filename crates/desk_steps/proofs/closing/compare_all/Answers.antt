@@ -26,11 +26,11 @@ loop-i-preserved g c =
     ap (λ (z : List Done). slice_get z i) (sym c.loop-i.invariant.same) ∙ (slice_get-get_or now i one inside ∙ ap Some (sym is)) in
     record {
       same = same ∙ c.loop-i.invariant.same;
-      seats = seats-twice c.args.side.now.seats c.loop-i.side.seats c.compare.new.side.seats c.loop-i.invariant.seats c.compare.ensures.seats;
-      ways = ways-twice c.args.side.now.ways c.loop-i.side.ways c.compare.new.side.ways c.loop-i.invariant.ways c.compare.ensures.ways;
+      seats = seats-twice c.args.side.now.seats c.loop-i.side.seats c.compare.new.self.seats c.loop-i.invariant.seats c.compare.ensures.seats;
+      ways = ways-twice c.args.side.now.ways c.loop-i.side.ways c.compare.new.self.ways c.loop-i.invariant.ways c.compare.ensures.ways;
       clients = c.compare.ensures.counts.0 ∙ c.loop-i.invariant.clients;
       ports = c.compare.ensures.counts.1 ∙ c.loop-i.invariant.ports;
-      begun = one-begun i c.args.finished.now.items one c.loop-i.side.seats c.compare.new.side.seats c.compare.new.side.ways here c.compare.ensures.seats c.compare.ensures.told c.loop-i.invariant.begun;
-      told = λ begun. one-told i c.args.finished.now.items one c.args.side.now.seats c.loop-i.side.seats c.compare.new.side.seats c.loop-i.side.ways c.compare.new.side.ways
+      begun = one-begun i c.args.finished.now.items one c.loop-i.side.seats c.compare.new.self.seats c.compare.new.self.ways here c.compare.ensures.seats c.compare.ensures.told c.loop-i.invariant.begun;
+      told = λ begun. one-told i c.args.finished.now.items one c.args.side.now.seats c.loop-i.side.seats c.compare.new.self.seats c.loop-i.side.ways c.compare.new.self.ways
       here c.loop-i.invariant.seats c.compare.ensures.seats c.compare.ensures.others c.compare.ensures.ways c.compare.ensures.told begun (c.loop-i.invariant.told begun);
     }
