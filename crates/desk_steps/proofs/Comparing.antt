@@ -34,13 +34,13 @@ total-grows : (a b : SeatState) → SeatLooked a b → IsPrefix (a.gave ++ a.kno
 total-grows a b l = subst (λ (z : List Event). IsPrefix (a.gave ++ a.known) (z ++ b.known)) (sym l.1) (prefix-behind a.gave a.known b.known l.2)
 
 pub begun-stays : (f : Done) (old new : List SeatState) → SeatsLooked old new → IsBegun f old → IsBegun f new
-begun-stays (put_at k source events) old new l begun b at =
+begun-stays (put_at k source events) old new l begun = λ b at.
     let a = come-to SeatLooked old new l.count l.each k b at in
     prefix-trans events (a.0.gave ++ a.0.known) (b.gave ++ b.known) (begun a.0 a.1) (total-grows a.0 b a.2)
 begun-stays (took_at d to lists) old new l begun = begun
 
 pub told-begun : (f : Done) (seats : List SeatState) (ways : List WayState) → IsTold f seats ways → IsBegun f seats
-told-begun (put_at k source events) seats ways told b at =
+told-begun (put_at k source events) seats ways told = λ b at.
     let same : told.0 ≡ b = get-same seats k told.0 b told.1 at in
     subst (λ (z : SeatState). IsPrefix events (z.gave ++ z.known)) same
     (subst (λ (z : List Event). IsPrefix events z) (sym told.3) (prefix-same events))

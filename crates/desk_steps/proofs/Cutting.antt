@@ -20,17 +20,17 @@ use Rattle.desk_steps.specs.Agreeing.{DeskState}
 use Rattle.desk_steps.specs.Turning.{SameCuts, Steps}
 
 among-not : (n : ℕ) (a target : Option ℕ) → IsAmong a target → is_the_number n target ≡ false → is_the_number n a ≡ false
-among-not n None target among no = refl
-among-not n (Some m) target among no = subst (λ (z : Option ℕ). is_the_number n z ≡ false) among no
+among-not n None target among isnt = refl
+among-not n (Some m) target among isnt = subst (λ (z : Option ℕ). is_the_number n z ≡ false) among isnt
 
 -- whom nothing is aimed at nothing is said to
 not-aimed : (to : Recipient) (client port : Option ℕ) (b : law.Batch) (s : Said) → IsSaid b s → IsAmong b.client client → IsAmong b.port port
     → is_aimed client port to ≡ false → said_to to s ≡ []
-not-aimed (recipients.Client n) client port b s is among other no =
-    let none : is_the_number n s.client ≡ false = rw (is.0) (among-not n b.client client among no) in
+not-aimed (recipients.Client n) client port b s is among other isnt =
+    let none : is_the_number n s.client ≡ false = rw (is.0) (among-not n b.client client among isnt) in
     rw none refl
-not-aimed (recipients.Port n) client port b s is other among no =
-    let none : is_the_number n s.port ≡ false = rw (is.2) (among-not n b.port port among no) in
+not-aimed (recipients.Port n) client port b s is other among isnt =
+    let none : is_the_number n s.port ≡ false = rw (is.2) (among-not n b.port port among isnt) in
     rw none refl
 
 stays-cut : (lists : _) (w v : WayState) → WaySent lists w v → w.cut ≡ true → (b : Bool) → v.cut ≡ b → v.cut ≡ w.cut

@@ -17,9 +17,9 @@ use Rattle.desk_ends.specs.Rings.{Done, put_at, took_at, NamedInlet, NamedOutlet
 use Rattle.desk_ends.specs.Ends.{inlet_of}
 use Rattle.desk_ends.specs.Seats.{IsTold, SeatState, SeatGave, SeatLooked, SeatsLooked, WayState, WaysLooked, seat_name, way_name}
 use Rattle.desk_ends.proofs.Places.{get-inside, get-same}
-use Rattle.desk_side.specs.Side.{ChangesAt}
+use Rattle.desk_side.specs.Side.{ChangesAt, SideState}
 use Rattle.desk_steps.specs.Agreeing.{Agrees, DeskState}
-use Rattle.desk_steps.specs.Settling.{AreDrained, AreSettled, AreTold, GoesOn, IsSettled, KnowsNone, Shrinks}
+use Rattle.desk_steps.specs.Settling.{AreDrained, AreSettled, AreTold, GoesOn, IsSettled, KnowsNone, SeatShrinks, Shrinks}
 use Rattle.desk_steps.specs.Turning.{Drops, Steps}
 use Rattle.desk_side.proofs.Moves.{come-to, each-change, prefix-more, prefix-same, prefix-trans}
 use Rattle.desk_steps.proofs.Keeping.{SameOwn, agrees-kept, drops-agree, way-looks}
@@ -57,18 +57,14 @@ lists-grow to a b lists g p =
 -- ---- the seats
 
 pub shrinks-none : (x : List SeatState) → Shrinks x x
-shrinks-none x = record { count = refl; each = λ k a at. (a, at, refl, refl, omega arith) }
+shrinks-none x = record { count = refl; each = λ k a at. (a, at, (refl, refl, omega arith)) }
 
 pub shrinks-more : (x y z : List SeatState) → Shrinks x y → Shrinks y z → Shrinks x z
 shrinks-more x y z p q = record {
   count = q.count ∙ p.count;
   each = λ k a at. let b = p.each k a at in let c = q.each k b.0 b.1 in
-      (c.0, c.1, c.2 ∙ b.2, c.3 ∙ b.3, omega (arith, b.4, c.4));
+      (c.0, c.1, (c.2.0 ∙ b.2.0, c.2.1 ∙ b.2.1, omega (arith, b.2.2, c.2.2)));
 }
-
--- one seat, as it shrinks
-abbrev pub SeatShrinks : SeatState → SeatState → Type 0
-SeatShrinks a b = (b.name ≡ a.name) × (b.gave ++ b.known ≡ a.gave ++ a.known) × (length b.known ≤ length a.known)
 
 gave-shrinks : (e : Event) (a b : SeatState) → SeatGave e a b → SeatShrinks a b
 gave-shrinks e a b g = (
@@ -96,7 +92,7 @@ pop-less k n e x y inside ch knew b at =
 
 pub none-stays : (k : ℕ) (x y : List SeatState) → Shrinks x y → KnowsNone k x → KnowsNone k y
 none-stays k x y s none b at =
-    let a = come-to SeatShrinks x y s.count (λ j c here. let r = s.each j c here in (r.0, r.1, r.2, r.3, r.4)) k b at in
+    let a = come-to SeatShrinks x y s.count s.each k b at in
     omega (arith, a.2.2, none a.0 a.1)
 
 -- the ring of an end that has finished is one of the desk's
@@ -139,9 +135,9 @@ settled inlets outlets s t (put_at k source events) before after on shrinks told
     let a = told.0 in
     let r = shrinks.each k a told.1 in
     let b = r.0 in
-    let src : b.name.source ≡ source = ap (λ (n : NamedInlet). n.source) r.2 ∙ told.2 in
+    let src : b.name.source ≡ source = ap (λ (n : NamedInlet). n.source) r.2.0 ∙ told.2 in
     let empty : b.known ≡ [] = empty-list b.known (none k refl b r.1) in
-    let gave : b.gave ≡ events = sym (append-nil b.gave) ∙ (ap (λ (z : List Event). b.gave ++ z) (sym empty) ∙ (r.3 ∙ told.3)) in
+    let gave : b.gave ≡ events = sym (append-nil b.gave) ∙ (ap (λ (z : List Event). b.gave ++ z) (sym empty) ∙ (r.2.1 ∙ told.3)) in
     let from : events_from source t.recorded.kept.events ≡ events_from source b.gave =
     subst (λ (z : Source). events_from z t.recorded.kept.events ≡ events_from z b.gave) src (after.from_all k b r.1) in
     from ∙ (ap (events_from source) gave ∙ told.4)
@@ -177,3 +173,10 @@ pub drained-less : (k n : ℕ) (s t : DeskState) → k < length s.side.seats →
     → (b : SeatState) → slice_get t.side.seats k ≡ Some b → length b.known ≡ n
 drained-less k n s t inside (inl x) knew = pop-less k n x.event s.side.seats t.side.seats inside x.seats knew
 drained-less k n s t inside (inr x) knew = pop-less k n x.event s.side.seats t.side.seats inside x.seats knew
+
+-- what a call that was refused leaves
+pub same-agree : (inlets : List NamedInlet) (outlets : List NamedOutlet) (r q : Recorded) (s t : SideState) → q ≡ r → t ≡ s
+    → Agrees inlets outlets (record { recorded = r; side = s }) → Agrees inlets outlets (record { recorded = q; side = t })
+same-agree inlets outlets r q s t same like h =
+    subst (λ (z : Recorded). Agrees inlets outlets (record { recorded = z; side = t })) (sym same)
+    (subst (λ (z : SideState). Agrees inlets outlets (record { recorded = r; side = z })) (sym like) h)

@@ -85,12 +85,12 @@ looks-agree inlets outlets k s t h l =
 
 -- an event of another source is none of its own
 pub not-own : (source : Source) (e : Event) (events : List Event) → is_from source e ≡ false → events_from source (events ++ e ∷ []) ≡ events_from source events
-not-own source e events no =
-    let none : events_from source (e ∷ []) ≡ [] = rw no refl in
+not-own source e events isnt =
+    let none : events_from source (e ∷ []) ≡ [] = rw isnt refl in
     filter-append (is_from source) events (e ∷ []) ∙ (ap (λ (z : List Event). events_from source events ++ z) none ∙ append-nil (events_from source events))
 
 dropped-own : (e : Event) (a b : SeatState) → is_from a.name.source e ≡ false → SeatGave e a b → SameOwn a b
-dropped-own e a b no g = (g.0, ap (events_from a.name.source) g.1 ∙ not-own a.name.source e a.gave no)
+dropped-own e a b isnt g = (g.0, ap (events_from a.name.source) g.1 ∙ not-own a.name.source e a.gave isnt)
 
 pub drops-agree : (inlets : List NamedInlet) (outlets : List NamedOutlet) (k : ℕ) (s t : DeskState) → Agrees inlets outlets s → Drops k s t → Agrees inlets outlets t
 drops-agree inlets outlets k s t h d =

@@ -66,7 +66,7 @@ said-told (recipients.Port n) b s is = rw (is.2, is.3) refl
 
 -- a way to which lists went has sent all that there is now, or a beginning of it
 follows-whole : (lists all : List (List LinkOut)) (w v : WayState) → Follows w all → WaySent lists w v → v.cut ≡ false → v.sent ≡ all ++ lists
-follows-whole lists all w v f sent no = let r = sent.whole no in r.1 ∙ ap (λ (z : List (List LinkOut)). z ++ lists) (f.1 r.0)
+follows-whole lists all w v f sent uncut = let r = sent.whole uncut in r.1 ∙ ap (λ (z : List (List LinkOut)). z ++ lists) (f.1 r.0)
 
 follows-by : (lists all : List (List LinkOut)) (w v : WayState) → Follows w all → WaySent lists w v → (b : Bool) → v.cut ≡ b → Follows v (all ++ lists)
 follows-by lists all w v f sent false is = (([], append-nil v.sent ∙ follows-whole lists all w v f sent is), follows-whole lists all w v f sent)

@@ -41,7 +41,7 @@ at-same k P old new same all = subst (λ (z : List SeatState). At k z P) (sym sa
 pub own-first : (k : ℕ) (seats : List SeatState) (e : Event) (source : Source) → At k seats (IsFirst e) → At k seats (λ a. a.name.source ≡ source)
     → is_from source e ≡ true
     → (a : SeatState) → slice_get seats k ≡ Some a → (f : Event) × (slice_get a.known 0 ≡ Some f) × (is_from a.name.source f ≡ true)
-own-first k seats e source first is yes a at = (e, first a at, subst (λ (z : Source). is_from z e ≡ true) (sym (is a at)) yes)
+own-first k seats e source first is mine a at = (e, first a at, subst (λ (z : Source). is_from z e ≡ true) (sym (is a at)) mine)
 
 -- a seat gave its first event
 pub gave-first : (a b : SeatState) (popped e : Event) → SeatGave popped a b → IsFirst e a → popped ≡ e
@@ -85,13 +85,13 @@ pub dropped : (k : ℕ) (recorded : Recorded) (one two : SideState) (e popped : 
     → At k one.seats (IsFirst e) → At k one.seats (λ a. a.name.source ≡ source) → is_from source e ≡ false
     → ChangesAt k (SeatGave popped) one.seats two.seats → two.ways ≡ one.ways → SameCounts one two
     → Drops k (record { recorded = recorded; side = one }) (record { recorded = recorded; side = two })
-dropped k recorded one two e popped source inside first is no pops ways counts =
+dropped k recorded one two e popped source inside first is isnt pops ways counts =
     let a = get-inside one.seats k inside in
     record {
       event = e;
       seat = a.0;
       there = a.1;
-      foreign = subst (λ (z : Source). is_from z e ≡ false) (sym (is a.0 a.1)) no;
+      foreign = subst (λ (z : Source). is_from z e ≡ false) (sym (is a.0 a.1)) isnt;
       recorded = refl;
       seats = popped-first k popped e one.seats two.seats inside first pops;
       ways = ways;
@@ -104,14 +104,14 @@ pub waits : (k : ℕ) (recorded : Recorded) (side : SideState) (e : Event) (sour
     → client ≡ client_for recorded.settings (event_seen e) (lists recorded.settings (turns recorded.kept))
     → port ≡ port_for recorded.settings (event_seen e) → IsHeld client port side.ways
     → Waits k (record { recorded = recorded; side = side })
-waits k recorded side e source client port inside first is yes clients ports held =
+waits k recorded side e source client port inside first is mine clients ports held =
     let a = get-inside side.seats k inside in
     record {
       event = e;
       seat = a.0;
       there = a.1;
       first = first a.0 a.1;
-      own = subst (λ (z : Source). is_from z e ≡ true) (sym (is a.0 a.1)) yes;
+      own = subst (λ (z : Source). is_from z e ≡ true) (sym (is a.0 a.1)) mine;
       held = rw (← clients, ← ports) held;
     }
 

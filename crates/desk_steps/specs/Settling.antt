@@ -38,11 +38,14 @@ AreBegun finished seats = (i : ℕ) (f : Done) → slice_get finished i ≡ Some
 abbrev pub AreTold : List Done → List SeatState → List WayState → Type 0
 AreTold finished seats ways = (i : ℕ) (f : Done) → slice_get finished i ≡ Some f → IsTold f seats ways
 
--- each seat gave of what it was known to have, and knows the rest still
+-- a seat gave of what it was known to have, and knows the rest still
+abbrev pub SeatShrinks : SeatState → SeatState → Type 0
+SeatShrinks a b = (b.name ≡ a.name) × (b.gave ++ b.known ≡ a.gave ++ a.known) × (length b.known ≤ length a.known)
+
 pub record Shrinks (old new : List SeatState) : Type 0 where
   pub count : length new ≡ length old
   pub each : (k : ℕ) (a : SeatState) → slice_get old k ≡ Some a → (b : SeatState) × (slice_get new k ≡ Some b)
-      × (b.name ≡ a.name) × (b.gave ++ b.known ≡ a.gave ++ a.known) × (length b.known ≤ length a.known)
+      × SeatShrinks a b
 
 -- it knows of no event
 abbrev pub KnowsNone : ℕ → List SeatState → Type 0

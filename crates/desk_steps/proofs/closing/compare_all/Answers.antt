@@ -21,7 +21,7 @@ loop-i-preserved g c =
     let one : Done = c.index_mut.result.now in
     let is : one ≡ get_or now i one = c.index_mut.ensures.value in
     let same : slice_set now i c.compare.new.finished ≡ now = ap (slice_set now i) (c.compare.ensures.same ∙ is) ∙ set-get_or now i one in
-    let inside : i < length now = omega arith in
+    let inside : i < length now = omega (arith, ap length c.loop-i.invariant.same) in
     let here : slice_get c.args.finished.now.items i ≡ Some one =
     ap (λ (z : List Done). slice_get z i) (sym c.loop-i.invariant.same) ∙ (slice_get-get_or now i one inside ∙ ap Some (sym is)) in
     record {

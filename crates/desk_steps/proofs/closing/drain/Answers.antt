@@ -1,7 +1,7 @@
 use Rattle.std.proofs.Common.{◌≡◌, ◌<◌, ◌+◌, ◌-◌, ◌∙◌, Some, slice_get, length, refl, sym, ap, subst, arith}
 use Rattle.desk_ends.specs.Seats.{SeatState}
 use Rattle.desk_steps.specs.Agreeing.{DeskState}
-use Rattle.desk_steps.proofs.Draining.{drained-agree, drained-goes, drained-less, drained-shrinks, goes-further, goes-nowhere, shrinks-more, shrinks-none}
+use Rattle.desk_steps.proofs.Draining.{drained-agree, drained-goes, drained-less, drained-shrinks, goes-further, goes-nowhere, same-agree, shrinks-more, shrinks-none}
 use Rattle.desk_steps.proofs.closing.drain.Goals as goal
 
 pub loop-init : goal.loop-init
@@ -29,3 +29,7 @@ loop-preserved c =
       shrinks = shrinks-more c.args.side.now.seats c.loop.side.seats c.drain_one.new.side.seats c.loop.invariant.shrinks (drained-shrinks c.args.place s t did);
       knows = λ b at. omega (arith, drained-less c.args.place (c.known-left.result - c.loop.counter - 1) s t (omega (arith, c.requires.inside, c.loop.invariant.shrinks.count)) did (λ a here. omega (arith, c.loop.invariant.knows a here)) b at);
     }
+
+pub returns-in_err-drain_one-clause-agrees : goal.returns-in_err-drain_one-clause-agrees
+returns-in_err-drain_one-clause-agrees c = λ inlets outlets h.
+    same-agree inlets outlets c.loop.recorded c.drain_one.new.recorded c.loop.side c.drain_one.new.side c.in_err-drain_one.ensures.err.0 c.in_err-drain_one.ensures.err.1 (c.loop.invariant.agrees inlets outlets h)

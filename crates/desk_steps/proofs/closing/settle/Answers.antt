@@ -12,8 +12,8 @@ use Rattle.desk_steps.proofs.closing.settle.Goals as goal
 pub compare_all-requires : goal.compare_all-requires
 compare_all-requires g c = record { seats = c.requires.agrees.seat_names; ways = c.requires.agrees.way_names }
 
-pub compare_all-2-requires : goal.compare_all-2-requires
-compare_all-2-requires g c = record {
+pub compare_all-requires-2 : goal.compare_all-requires-2
+compare_all-requires-2 g c = record {
   seats = seat-names c.args.side.now.seats c.compare_all.new.side.seats g.K.DeskName.inlets c.compare_all.ensures.seats c.requires.agrees.seat_names;
   ways = way-names c.args.side.now.ways c.compare_all.new.side.ways g.K.DeskName.outlets c.compare_all.ensures.ways c.requires.agrees.way_names;
 }

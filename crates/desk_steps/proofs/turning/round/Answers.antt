@@ -7,8 +7,8 @@ use Rattle.desk_steps.proofs.turning.round.Goals as goal
 pub loop-place-init : goal.loop-place-init
 loop-place-init c = record {
   went = ([], refl, refl, refl);
-  size = refl;
-  end = refl;
+  size = sym c.inlets-place-end.ensures;
+  end = c.inlets-place-end.ensures;
   few = omega arith;
 }
 

@@ -11,26 +11,23 @@ returns-then-is_empty-clause-ok c = (
   c.is_empty.ensures.none c.if-is_empty.true,
 )
 
-pub front-requires : goal.front-requires
-front-requires c = record { inside = omega (arith, c.requires.inside, c.is_empty.ensures.seats.count); some = c.is_empty.ensures.some c.if-is_empty.false }
-
-pub returns-then-is_from-clause-ok : goal.returns-then-is_from-clause-ok
-returns-then-is_from-clause-ok c = (
+pub returns-then-not-is_from-clause-ok : goal.returns-then-not-is_from-clause-ok
+returns-then-not-is_from-clause-ok c = (
   record { recorded = c.args.recorded.now; side = c.is_empty.new.self },
   looked-in c.args.place c.args.recorded.now c.args.side.now c.is_empty.new.self c.is_empty.ensures.seats c.is_empty.ensures.ways c.is_empty.ensures.counts,
   dropped c.args.place c.args.recorded.now c.is_empty.new.self c.pop.new.self c.front-event.result.now c.pop.result c.source.result
-  (omega (arith, c.requires.inside, c.is_empty.ensures.seats.count)) c.front-event.ensures c.source.ensures (sym c.is_from.ensures ∙ c.if-is_from.true) c.pop.ensures.seats c.pop.ensures.ways c.pop.ensures.counts,
+  (omega (arith, c.requires.inside, c.is_empty.ensures.seats.count)) c.front-event.ensures c.source.ensures (sym c.is_from.ensures ∙ c.if-not-is_from.true) c.pop.ensures.seats c.pop.ensures.ways c.pop.ensures.counts,
 )
 
-pub returns-then-has_room-clause-ok : goal.returns-then-has_room-clause-ok
-returns-then-has_room-clause-ok c =
+pub returns-then-not-has_room-clause-ok : goal.returns-then-not-has_room-clause-ok
+returns-then-not-has_room-clause-ok c =
     let looks = looked-in c.args.place c.args.recorded.now c.args.side.now c.is_empty.new.self c.is_empty.ensures.seats c.is_empty.ensures.ways c.is_empty.ensures.counts in (
       looked-out c.args.place c.args.recorded.now c.args.side.now c.is_empty.new.self c.has_room.new.self looks c.has_room.ensures.seats c.has_room.ensures.ways c.has_room.ensures.counts,
       waits c.args.place c.args.recorded.now c.has_room.new.self c.front-event.result.now c.source.result c.targets-targets.result.client c.targets-targets.result.port
       (omega (arith, c.requires.inside, c.is_empty.ensures.seats.count, ap length c.has_room.ensures.seats))
       (at-same c.args.place (IsFirst c.front-event.result.now) c.is_empty.new.self.seats c.has_room.new.self.seats c.has_room.ensures.seats c.front-event.ensures)
       (at-same c.args.place (λ a. a.name.source ≡ c.source.result) c.is_empty.new.self.seats c.has_room.new.self.seats c.has_room.ensures.seats c.source.ensures)
-      (sym c.is_from.ensures ∙ c.if-is_from.false) c.targets-targets.ensures.client c.targets-targets.ensures.port (c.has_room.ensures.full c.if-has_room.true),
+      (sym c.is_from.ensures ∙ c.if-not-is_from.false) c.targets-targets.ensures.client c.targets-targets.ensures.port (c.has_room.ensures.full c.if-not-has_room.true),
     )
 
 pub step_front-requires : goal.step_front-requires
@@ -39,7 +36,7 @@ step_front-requires c = record {
   own = own-first c.args.place c.has_room.new.self.seats c.front-event.result.now c.source.result
       (at-same c.args.place (IsFirst c.front-event.result.now) c.is_empty.new.self.seats c.has_room.new.self.seats c.has_room.ensures.seats c.front-event.ensures)
       (at-same c.args.place (λ a. a.name.source ≡ c.source.result) c.is_empty.new.self.seats c.has_room.new.self.seats c.has_room.ensures.seats c.source.ensures)
-      (sym c.is_from.ensures ∙ c.if-is_from.false);
+      (sym c.is_from.ensures ∙ c.if-not-is_from.false);
 }
 
 pub returns-clause-ok : goal.returns-clause-ok
@@ -52,5 +49,5 @@ returns-clause-ok c =
       c.in_ok-step_front.ensures.ok,
       cuts-none c.args.place m t c.in_ok-step_front.ensures.ok c.targets-targets.result.client c.targets-targets.result.port c.front-event.result.now
       (at-same c.args.place (IsFirst c.front-event.result.now) c.is_empty.new.self.seats c.has_room.new.self.seats c.has_room.ensures.seats c.front-event.ensures)
-      c.targets-targets.ensures.named (c.has_room.ensures.room c.if-has_room.false),
+      c.targets-targets.ensures.named (c.has_room.ensures.room c.if-not-has_room.false),
     )

@@ -10,8 +10,8 @@ invariant_of-self c = after-same c.self.inside.settings (turns c.self.inside.his
 pub returns-in_err-batch-clause-err : goal.returns-in_err-batch-clause-err
 returns-in_err-batch-clause-err c = on-err c.from_residual.result c.self.view_is
 
-pub invariant_of-self-2 : goal.invariant_of-self-2
-invariant_of-self-2 c =
+pub invariant_of-self-in-Ok : goal.invariant_of-self-in-Ok
+invariant_of-self-in-Ok c =
     after-turns c.self.inside.settings (turn_of c.args.event.now c.in_ok-batch.batch ∷ turns c.self.inside.history) _ _ c.in-Ok.ensures.ok.2
     (c.in_ok-batch.ensures.after c.self.inside.settings (turns c.self.inside.history) c.self.invariant)
 
@@ -20,8 +20,8 @@ returns-in-Ok-clause-ok c =
     step-is c.args.event.now c.in-Ok.said c.in_ok-batch.batch c.self.inside.settings c.self.inside.history _ c.args.self.now c.self.view_is c.in-Ok.ensures.ok.0 c.in-Ok.ensures.ok.1 c.in-Ok.ensures.said
     (c.in_ok-batch.ensures.holds c.self.inside.settings (turns c.self.inside.history) c.self.invariant)
 
-pub invariant_of-self-3 : goal.invariant_of-self-3
-invariant_of-self-3 c =
+pub invariant_of-self-in-Err : goal.invariant_of-self-in-Err
+invariant_of-self-in-Err c =
     after-turns c.self.inside.settings (turns c.self.inside.history) _ _ (ap turns c.in-Err.ensures.err)
     (after-same c.self.inside.settings (turns c.self.inside.history) c.self.inside.core _ (c.undo.ensures.now ∙ c.step.ensures.settled) c.self.invariant)
 
