@@ -1,5 +1,5 @@
 -- The keys of a table, as its map has them.
-use Rattle.std.proofs.Common.{◌≡◌, ◌×◌, Bool, true, false, List, [], ◌∷◌, map, refl, ap}
+use Rattle.std.proofs.Common.{◌≡◌, Bool, true, false, List, [], ◌∷◌, map, refl, ap}
 use Rattle.std.specs.Prelude.{ℕ, not, cond, Option, Some, None, option_map, find, bytes_eq, String, string_bytes}
 use Rattle.std.specs.List.{list_any}
 use Rattle.std.specs.declared.alloc.Global.{Global}

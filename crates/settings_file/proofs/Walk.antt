@@ -1,15 +1,12 @@
 -- Tables that are read one after another, each behind the earlier ones.
 use Rattle.std.proofs.Common.{◌≡◌, ◌<◌, ◌+◌, ℕ, List, [], ◌∷◌, ◌++◌, length, take, drop, get_or, map, refl, sym, ap, ◌∙◌}
-use Rattle.std.specs.Prelude.{Option, None, Some, Result, Ok, Err}
+use Rattle.std.specs.Prelude.{Option, None}
 use Rattle.std.specs.Option.{option_or}
 use Rattle.std.proofs.lemmas.List.{take_more, drop_more, map-append}
 use Rattle.toml.specs.Data.{Data}
 use Rattle.toml.specs.View.{view}
 use Rattle.toml.specs.declared.value.Value.{Value}
-use Rattle.settings_file.specs.declared.fault.SettingsFault.{SettingsFault}
-use Rattle.settings_file.specs.declared.fault.SettingsFault.TheVariants as faults
 use Rattle.settings_file.specs.Rules.{first_refused}
-use Rattle.settings_file.specs.Judged.{Judges}
 
 -- what is refused of the tables behind the first n of them
 abbrev pub left_of : (List Data → Data → Option (List ℕ)) → List Value → ℕ → Option (List ℕ)
@@ -35,9 +32,3 @@ left-next refuse ts n t below is =
 pub left-on : (refuse : List Data → Data → Option (List ℕ)) (ts : List Value) (n : ℕ) (t : Value) → n < length ts → get_or ts n t ≡ t
     → refuse (map view (take n ts)) (view t) ≡ None → left_of refuse ts n ≡ left_of refuse ts (n + 1)
 left-on refuse ts n t below is none = left-next refuse ts n t below is ∙ ap (λ (found : Option (List ℕ)). option_or found (left_of refuse ts (n + 1))) none
-
--- what the next one is refused by, all of them are
-pub judged-on : {S T : Type 0} (refused others : Option (List ℕ)) (fault : SettingsFault) → Judges {T = S} refused (Err fault)
-    → Judges {T = T} (option_or refused others) (Err fault)
-judged-on refused others (faults.Refused k) is = ap (λ (found : Option (List ℕ)). option_or found others) is
-judged-on refused others faults.NoMemory is = tt

@@ -10,7 +10,7 @@ use Rattle.std.specs.Char.{is_ascii_digit}
 use Rattle.decimal_digits.specs.Digits.{number_of}
 use Rattle.wire_law.specs.Printable.{is_printable, is_visible}
 use Rattle.gate_law.specs.Limits.{is_between, is_byte_of, is_name}
-use Rattle.toml.specs.Data.{Data, string, integer, float, boolean, datetime, array, table, Items, no_items, item, Members, no_members, member, get, as_str, as_table}
+use Rattle.toml.specs.Data.{Data, string, integer, float, boolean, datetime, array, table, Items, no_items, item, Members, no_members, member, get, as_array, as_str, as_table}
 
 -- a key, and which texts it may have
 pub record Rule : Type 0 where
@@ -140,13 +140,17 @@ items_in (item d ds) = d ∷ items_in ds
 abbrev pub is_table : Data → Bool
 is_table d = is_some (as_table d)
 
--- what stands in the array of a key, nothing where there is none
-abbrev pub array_at : Option Data → List Data
-array_at (Some (array ds)) = items_in ds
-array_at _ = []
+abbrev pub items_or_none : Option Items → List Data
+items_or_none None = []
+items_or_none (Some ds) = items_in ds
 
+-- the array of a key, where it has one
+abbrev pub array_in : List ℕ → Data → Option Items
+array_in key file = option_and_then as_array (get key file)
+
+-- what stands in the array of a key, nothing where there is none
 abbrev pub tables_at : List ℕ → Data → List Data
-tables_at key file = array_at (get key file)
+tables_at key file = items_or_none (array_in key file)
 
 -- from 1 to so many, and each a table
 abbrev pub are_tables : ℕ → List Data → Bool

@@ -1,12 +1,12 @@
 //! The whole file.
 
-ghost use Rattle.std.specs.Prelude.{◌≡◌, ◌≤◌, [], map, length, codes, true, is_some, None, Some, IfOk, string_bytes};
+ghost use Rattle.std.specs.Prelude.{◌≡◌, ◌≤◌, [], map, length, codes, true, is_some, option_map, None, Some, IfOk, string_bytes};
 ghost use Rattle.std.specs.List.{list_all};
 ghost use Rattle.std.specs.Str.{IsUtf8};
 ghost use Rattle.gate_law.specs.Limits.{is_served};
 ghost use Rattle.toml.specs.Data.{Members, as_table, table};
 ghost use Rattle.toml.specs.Parse.{parse_document};
-ghost use Rattle.toml.specs.View.{view};
+ghost use Rattle.toml.specs.View.{array_view, view};
 ghost use Rattle.settings_file.specs.File.{WhatIsNotRefusedIsServed, client_at, file_settings, login_at, text_at};
 ghost use Rattle.settings_file.specs.Judged.{Judges};
 ghost use Rattle.settings_file.specs.Rules as rules;
@@ -109,9 +109,19 @@ fn read_file(alloc: Global, file: &Value) -> Result<SettingsFile, SettingsFault>
 fn tables_at<'a>(file: &'a Value, key: &str) -> &'a [Value]
     ensures { map view result.now ≡ rules.tables_at key.now (view file.now) }
 {
+    match array_in(file, key) {
+        Some(tables) => tables.as_slice(),
+        None => &[],
+    }
+}
+
+/// The array of a key, where it has one.
+fn array_in<'a>(file: &'a Value, key: &str) -> Option<&'a Vec<Value>>
+    ensures { option_map (λ v. array_view v.now) result ≡ rules.array_in key.now (view file.now) }
+{
     match file.get(key) {
-        Some(Value::Array(tables)) => tables.as_slice(),
-        _ => &[],
+        Some(value) => value.as_array(),
+        None => None,
     }
 }
 
