@@ -1,4 +1,4 @@
-mod Exits
+mod Found
 mod Lists
 mod OtherKeys
 mod Served

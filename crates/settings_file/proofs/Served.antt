@@ -10,6 +10,7 @@ use Rattle.wire_law.specs.Printable.{is_printable, is_visible}
 use Rattle.soup_session.specs.Table as port
 use Rattle.gate_law.specs.Settings.{ClientSettings, Settings, has_port}
 use Rattle.gate_law.specs.Limits.{is_between, is_byte_of, is_client, is_each_own, is_name, is_port, is_served}
+use Rattle.gate_settings.specs.Seen.{settings_of}
 use Rattle.toml.specs.Data.{Data}
 use Rattle.settings_file.specs.Rules.{Rule, text_in, where_it_holds, kept_text, first_broken, first_other, refused_in, is_this, is_text_of, own_name, own_address, address, user, password, port_name, firm, letter, is_letter_of, port_rules, client_rules, gateway_rules, file_keys, are_tables, tables_at, first_refused, refused_among, refused_port, refused_client, refused}
 use Rattle.settings_file.specs.File.{WhatIsNotRefusedIsServed, text_at, login_at, number_of_name, padded_firm, first_byte, client_at, file_settings}
@@ -189,3 +190,8 @@ what_is_not_refused_is_served file h =
     (and_from _ _ (ports-served [] ports p.1)
     (and_from _ _ (ap (is_between 1 64) (length-map clients (client_at ports)) ∙ (and_parts (is_between 1 64 (length clients)) _ q.0).0)
     (and_from _ _ (clients-served s ports [] clients (length-map ports login_at) q.1) (each-own ports [] clients q.1)))))
+
+-- the same settings, from what they were read as
+pub served-as : (comp comp2 : List ℕ) (ports ports2 : List port.LoginTerms) (clients clients2 : List ClientSettings) → comp ≡ comp2 → ports ≡ ports2
+    → clients ≡ clients2 → is_served (settings_of comp2 ports2 clients2) ≡ true → is_served (settings_of comp ports clients) ≡ true
+served-as comp comp2 ports ports2 clients clients2 e f g h = rw (e, f, g) h

@@ -5,7 +5,7 @@ use Rattle.gate_law.specs.Limits.{is_name}
 use Rattle.gate_settings.proofs.Served.{named}
 use Rattle.toml.specs.View.{view}
 use Rattle.settings_file.specs.Rules.{own_name}
-use Rattle.settings_file.proofs.Exits.{found-text}
+use Rattle.settings_file.proofs.Found.{found-text}
 use Rattle.settings_file.proofs.client.read_client.Goals as goal
 
 pub entry-requires : goal.entry-requires
