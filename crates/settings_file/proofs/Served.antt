@@ -49,10 +49,10 @@ kept r rs t h =
 port-served : (earlier : List Data) (t : Data) → refused_port earlier t ≡ None → is_port (login_at t) ≡ true
 port-served earlier t h =
     let rules = (neither (first_broken (port_rules earlier) t) _ h).0 in
-    let name = kept (own_name (codes "name") earlier) _ t rules in
-    let place = kept (address (codes "address")) _ t name.1 in
-    let who = kept user _ t place.1 in
-    let secret = kept password _ t who.1 in
+    let name = kept (own_name (codes "name") earlier) (address (codes "address") ∷ user ∷ password ∷ []) t rules in
+    let place = kept (address (codes "address")) (user ∷ password ∷ []) t name.1 in
+    let who = kept user (password ∷ []) t place.1 in
+    let secret = kept password [] t who.1 in
     and_from _ _ who.0.1 secret.0.1
 
 ports-served : (earlier ts : List Data) → first_refused refused_port earlier ts ≡ None → list_all is_port (map login_at ts) ≡ true
@@ -68,8 +68,8 @@ one-or-behind true n k h = (omega arith, omega arith)
 one-or-behind false n k h = let p = h refl in (omega (arith, p.0), omega (arith, p.1))
 
 found-behind : (a b : Bool) → (a || b) ≡ true → a ≡ false → b ≡ true
-found-behind true b h no = absurd (true≢false no)
-found-behind false b h no = h
+found-behind true b h isnt = absurd (true≢false isnt)
+found-behind false b h isnt = h
 
 -- a name that a port has is that of one of them
 number-within : (ports : List Data) (name : List ℕ) → is_text_of (codes "name") ports name ≡ true
@@ -77,7 +77,7 @@ number-within : (ports : List Data) (name : List ℕ) → is_text_of (codes "nam
 number-within [] name h = absurd (false≢true h)
 number-within (t ∷ ts) name h =
     one-or-behind (is_this name (text_in (codes "name") t)) (number_of_name ts name) (length ts)
-    (λ no. number-within ts name (found-behind (is_this name (text_in (codes "name") t)) (is_text_of (codes "name") ts name) h no))
+    (λ isnt. number-within ts name (found-behind (is_this name (text_in (codes "name") t)) (is_text_of (codes "name") ts name) h isnt))
 
 spaces : (n : ℕ) → list_all is_printable (replicate n 32) ≡ true
 spaces zero = refl
@@ -96,16 +96,28 @@ is-letter : (letters text : List ℕ) → is_letter_of letters text ≡ true →
 is-letter letters [] h = absurd (false≢true h)
 is-letter letters (b ∷ bs) h = (and_parts (is_byte_of letters b) _ (and_parts (length (b ∷ bs) == 1) _ h).1).0
 
+-- a client's rules but for the first
+abbrev behind_comp : List Data → List Data → List Rule
+behind_comp ports earlier =
+    own_address (codes "listen") earlier
+    ∷ port_name ports
+    ∷ firm
+    ∷ letter (codes "capacity") (codes "APR")
+    ∷ letter (codes "customer") (codes "RN ")
+    ∷ []
+
 client-served : (s : Settings) (ports earlier : List Data) (t : Data) → length s.ports ≡ length ports → refused_client ports earlier t ≡ None
     → is_client s (client_at ports t) ≡ true
 client-served s ports earlier t beside h =
     let rules = (neither (first_broken (client_rules ports earlier) t) _ h).0 in
-    let comp = kept (own_name (codes "comp") earlier) _ t rules in
-    let listen = kept (own_address (codes "listen") earlier) _ t comp.1 in
-    let on = kept (port_name ports) _ t listen.1 in
-    let by = kept firm _ t on.1 in
-    let capacity = kept (letter (codes "capacity") (codes "APR")) _ t by.1 in
-    let customer = kept (letter (codes "customer") (codes "RN ")) _ t capacity.1 in
+    let for_whom = letter (codes "capacity") (codes "APR") in
+    let whose = letter (codes "customer") (codes "RN ") in
+    let comp = kept (own_name (codes "comp") earlier) (behind_comp ports earlier) t rules in
+    let listen = kept (own_address (codes "listen") earlier) (port_name ports ∷ firm ∷ for_whom ∷ whose ∷ []) t comp.1 in
+    let on = kept (port_name ports) (firm ∷ for_whom ∷ whose ∷ []) t listen.1 in
+    let by = kept firm (for_whom ∷ whose ∷ []) t on.1 in
+    let capacity = kept for_whom (whose ∷ []) t by.1 in
+    let customer = kept whose [] t capacity.1 in
     let text = text_at (codes "firm") t in
     let number = number-within ports (text_at (codes "port") t) on.0.1 in
     let length_printable = and_parts (is_between 1 4 (length text)) _ by.0.1 in
@@ -114,7 +126,7 @@ client-served s ports earlier t beside h =
     (and_from _ _ (and_from _ _ (le-leb 1 _ number.0) (le-leb _ _ (subst (λ n. number_of_name ports (text_at (codes "port") t) ≤ n) (sym beside) number.1)))
     (and_from _ _ (ap (λ n. n == 4) (padded-length text short))
     (and_from _ _ (padded-printable text length_printable.1)
-    (and_from _ _ (is-letter (codes "APR") _ capacity.0.1) (is-letter (codes "RN ") _ customer.0.1)))))
+    (and_from _ _ (is-letter (codes "APR") (text_at (codes "capacity") t) capacity.0.1) (is-letter (codes "RN ") (text_at (codes "customer") t) customer.0.1)))))
 
 clients-served : (s : Settings) (ports earlier ts : List Data) → length s.ports ≡ length ports → first_refused (refused_client ports) earlier ts ≡ None
     → list_all (is_client s) (map (client_at ports) ts) ≡ true
@@ -149,7 +161,7 @@ own : (ports earlier : List Data) (t : Data) → refused_client ports earlier t 
     → (text_in (codes "comp") t ≡ Some (name_at t)) × (is_text_of (codes "comp") earlier (name_at t) ≡ false)
 own ports earlier t h =
     let rules = (neither (first_broken (client_rules ports earlier) t) _ h).0 in
-    let comp = (kept (own_name (codes "comp") earlier) _ t rules).0 in
+    let comp = (kept (own_name (codes "comp") earlier) (behind_comp ports earlier) t rules).0 in
     (comp.0, not-true _ (and_parts (is_name (name_at t)) _ comp.1).1)
 
 -- who comes later has another name

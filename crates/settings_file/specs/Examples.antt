@@ -2,7 +2,7 @@
 use Rattle.std.specs.Prelude.{◌≡◌, refl, ℕ, ◌+◌, zero, suc, List, [], ◌∷◌, ◌++◌, map, replicate, codes, bytes_eq, Option, Some, None, true, false, if◌then◌else◌}
 use Rattle.std.specs.Ordering.{match_ordering, nat_cmp}
 use Rattle.std.specs.Cmp.Lexicographic.{slice_cmp}
-use Rattle.toml.specs.Data.{Data, string, integer, boolean, array, table, Items, no_items, item, Members, no_members, member}
+use Rattle.toml.specs.Data.{Data, string, boolean, array, table, Items, no_items, item, Members, no_members, member}
 use Rattle.settings_file.specs.Rules.{refused, is_address}
 use Rattle.settings_file.specs.File.{file_settings}
 
@@ -19,11 +19,12 @@ without_key key (member k e ms) = if bytes_eq key k then ms else member k e (wit
 abbrev text : List ℕ → Data
 text bytes = string bytes
 
+abbrev items : List Members → Items
+items [] = no_items
+items (t ∷ ts) = item (table t) (items ts)
+
 abbrev tables : List Members → Data
-tables ts = array (items ts) where
-  abbrev items : List Members → Items
-  items [] = no_items
-  items (t ∷ ts) = item (table t) (items ts)
+tables ts = array (items ts)
 
 -- a port of this name, and a client of this name with this address, on port P1
 abbrev port_named : List ℕ → Members
@@ -107,7 +108,7 @@ missing = (refl, refl, refl, refl, refl, refl, refl, refl, refl, refl, refl, ref
 -- ---- other keys
 
 abbrev with_others : Members → Members
-with_others t = with_key (codes "zz") (integer 1) (with_key (codes "b") (integer 1) t)
+with_others t = with_key (codes "zz") (boolean true) (with_key (codes "b") (boolean true) t)
 
 others :
     (refused (table (with_others whole)) ≡ Some (codes "b"))
@@ -116,7 +117,7 @@ others :
     -- behind all listed keys of their table
     × (of_client (with_others (without_key (codes "customer") client)) ≡ Some (codes "customer"))
     -- in front of the next table
-    × (refused (table (file (with_key (codes "zz") (integer 1) port ∷ no_members ∷ []) [])) ≡ Some (codes "zz"))
+    × (refused (table (file (with_key (codes "zz") (boolean true) port ∷ no_members ∷ []) [])) ≡ Some (codes "zz"))
     -- those of the top behind all tables
     × (refused (table (with_others (file (port ∷ []) (client ∷ no_members ∷ [])))) ≡ Some (codes "comp"))
 others = (refl, refl, refl, refl, refl, refl)
@@ -209,5 +210,5 @@ tables_of :
     × (refused (table (file [] (client ∷ []))) ≡ Some (codes "port"))
     × (refused (table (file (port ∷ []) [])) ≡ Some (codes "client"))
     × (refused (table (with_key (codes "port") (table port) whole)) ≡ Some (codes "port"))
-    × (refused (table (with_key (codes "client") (array (item (table client) (item (integer 1) no_items))) whole)) ≡ Some (codes "client"))
+    × (refused (table (with_key (codes "client") (array (item (table client) (item (boolean true) no_items))) whole)) ≡ Some (codes "client"))
 tables_of = (refl, refl, refl, refl, refl, refl, refl, refl, refl, refl, refl)
