@@ -2,4 +2,3 @@ mod Found
 mod Lists
 mod OtherKeys
 mod Served
-mod Walk

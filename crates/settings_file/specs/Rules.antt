@@ -3,14 +3,14 @@
 -- Tables, arrays of tables and strings are TOML 1.1's; the keys are this gateway's own. Names: FIX 4.4 Volume 2,
 -- "Standard Message Header"; user and password: SoupBinTCP 3.00, "Login Request Packet"; firm, capacity and customer:
 -- OUCH 4.2, "Enter Order Message".
-use Rattle.std.specs.Prelude.{ℕ, Bool, true, false, not, ◌&&◌, ◌||◌, ◌==◌, nat_le, nat_lt, List, [], ◌∷◌, ◌++◌, map, length, drop, codes, bytes_eq, find, Option, Some, None, option_map, option_and_then, is_some, if◌then◌else◌}
+use Rattle.std.specs.Prelude.{ℕ, Bool, false, not, ◌&&◌, ◌||◌, ◌==◌, nat_le, List, [], ◌∷◌, ◌++◌, map, length, drop, codes, bytes_eq, find, Option, Some, None, option_and_then, is_some, if◌then◌else◌}
 use Rattle.std.specs.Option.{option_or}
 use Rattle.std.specs.List.{list_all, list_any}
 use Rattle.std.specs.Char.{is_ascii_digit}
 use Rattle.decimal_digits.specs.Digits.{number_of}
 use Rattle.wire_law.specs.Printable.{is_printable, is_visible}
 use Rattle.gate_law.specs.Limits.{is_between, is_byte_of, is_name}
-use Rattle.toml.specs.Data.{Data, string, integer, float, boolean, datetime, array, table, Items, no_items, item, Members, no_members, member, get, as_array, as_str, as_table}
+use Rattle.toml.specs.Data.{Data, table, Items, no_items, item, Members, no_members, member, get, as_array, as_str, as_table}
 
 -- a key, and which texts it may have
 pub record Rule : Type 0 where

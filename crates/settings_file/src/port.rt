@@ -49,12 +49,7 @@ pub fn read_port(
 }
 
 /// A copy of the texts of a port.
-fn entry(
-    alloc: Global,
-    user: &str,
-    password: &str,
-    address: &str,
-) -> Result<PortEntry, AllocError>
+fn entry(alloc: Global, user: &str, password: &str, address: &str) -> Result<PortEntry, AllocError>
     ensures settings { IfOk result (λ port. port.settings ≡ login_of user.now password.now) }
     ensures address { IfOk result (λ port. string_bytes port.address ≡ address.now) }
 {

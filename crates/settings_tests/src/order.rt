@@ -30,7 +30,10 @@ const FIRST: [(&str, &str); 16] = [
         "comp",
     ),
     // an other key comes after all listed ones of its table, and before the next table
-    ("comp = 'G'\nport = [{aa = 1, name = 'P', address = 'h:1', user = 'U'}]", "password"),
+    (
+        "comp = 'G'\nport = [{aa = 1, name = 'P', address = 'h:1', user = 'U'}]",
+        "password",
+    ),
     (
         "comp = 'G'\nport = [{zz = 1, name = 'P', address = 'h:1', user = 'U', password = ''}, {}]",
         "zz",
@@ -59,7 +62,9 @@ fn the_first_wrong_key(rt: HostRuntime) -> Result<(), Fail> {
 fn file_of(alloc: Global, ports: u16, clients: u16) -> Result<String, Fail> {
     let mut text = String::from_str(alloc, "comp = 'G'\n")?;
     for k in 0..ports {
-        let port = format!(in alloc; "[[port]]\nname = 'P{k}'\naddress = 'h:{k}'\nuser = 'U'\npassword = ''\n")?;
+        let port = format!(in alloc;
+            "[[port]]\nname = 'P{k}'\naddress = 'h:{k}'\nuser = 'U'\npassword = ''\n"
+        )?;
         text.push_str(port.as_str())?;
     }
     for k in 0..clients {

@@ -101,7 +101,11 @@ fn two_of_each(alloc: Global, part: &str, other: &str) -> Result<String, Fail> {
 const TAKEN: [(&str, &str, &str); 3] = [
     ("name = \"P2\"", "name = \"P1\"", "name"),
     ("comp = \"C2\"", "comp = \"C1\"", "comp"),
-    ("listen = \"0.0.0.0:9002\"", "listen = \"0.0.0.0:9001\"", "listen"),
+    (
+        "listen = \"0.0.0.0:9002\"",
+        "listen = \"0.0.0.0:9001\"",
+        "listen",
+    ),
 ];
 
 #[test]

@@ -1,4 +1,4 @@
-use Rattle.std.proofs.Common.{◌≡◌, [], List, map, rules, sym, ap, subst, ◌∙◌}
+use Rattle.std.proofs.Common.{◌≡◌, [], map, rules, sym, ap, subst, ◌∙◌}
 use Rattle.std.specs.Prelude.{codes, None}
 use Rattle.std.proofs.lemmas.Bool.{and_parts}
 use Rattle.fix_fields.specs.Field.{IsValue}

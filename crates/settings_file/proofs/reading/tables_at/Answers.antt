@@ -1,6 +1,6 @@
-use Rattle.std.proofs.Common.{◌≡◌, ℕ, List, [], ◌∷◌, map, refl, sym, ap, ◌∙◌}
-use Rattle.std.specs.Prelude.{option_map, Some}
-use Rattle.toml.specs.Data.{Data, item, no_items}
+use Rattle.std.proofs.Common.{◌≡◌, List, [], ◌∷◌, map, refl, sym, ap, ◌∙◌}
+use Rattle.std.specs.Prelude.{option_map}
+use Rattle.toml.specs.Data.{Data}
 use Rattle.toml.specs.View.{array_view, items_of, view}
 use Rattle.settings_file.specs.Rules.{items_in, items_or_none}
 use Rattle.settings_file.proofs.reading.tables_at.Goals as goal
