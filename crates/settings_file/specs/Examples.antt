@@ -1,5 +1,6 @@
 -- What of files is refused, and what a file says, computed.
-use Rattle.std.specs.Prelude.{◌≡◌, refl, ℕ, ◌+◌, zero, suc, List, [], ◌∷◌, ◌++◌, replicate, codes, bytes_eq, Option, Some, None, true, false, if◌then◌else◌}
+use Rattle.std.specs.Prelude.{◌≡◌, refl, ℕ, ◌+◌, zero, suc, List, [], ◌∷◌, ◌++◌, replicate, codes, bytes_eq, Option}
+use Rattle.std.specs.Prelude.{Some, None, true, false, if◌then◌else◌}
 use Rattle.std.specs.Ordering.{match_ordering, nat_cmp}
 use Rattle.std.specs.Cmp.Lexicographic.{slice_cmp}
 use Rattle.toml.specs.Data.{Data, string, boolean, array, table, Items, no_items, item, Members, no_members, member}
@@ -10,7 +11,8 @@ use Rattle.settings_file.specs.File.{file_settings}
 abbrev with_key : List ℕ → Data → Members → Members
 with_key key d no_members = member key d no_members
 with_key key d (member k e ms) =
-    match_ordering (slice_cmp nat_cmp key k) (member key d (member k e ms)) (member key d ms) (member k e (with_key key d ms))
+    match_ordering (slice_cmp nat_cmp key k) (member key d (member k e ms)) (member key d ms)
+    (member k e (with_key key d ms))
 
 abbrev without_key : List ℕ → Members → Members
 without_key key no_members = no_members
@@ -67,9 +69,13 @@ of_client t = refused (table (file (port ∷ []) (t ∷ [])))
 
 -- ---- what a file says
 
+-- two ports, and the client on the second
+abbrev on_second : Members
+on_second = file (port ∷ port_named (codes "P2") ∷ []) (with_key (codes "port") (text (codes "P2")) client ∷ [])
+
 read :
     (refused (table whole) ≡ None)
-    × (file_settings (table (file (port ∷ port_named (codes "P2") ∷ []) (with_key (codes "port") (text (codes "P2")) client ∷ []))) ≡ record {
+    × (file_settings (table on_second) ≡ record {
       settings = record {
         comp = codes "GATE";
         ports =
@@ -196,12 +202,20 @@ abbrev ports_of : ℕ → List Members
 ports_of zero = port ∷ []
 ports_of (suc n) = port_named ((81 + n) ∷ []) ∷ ports_of n
 
+-- the client, and another one of this name with this address
+abbrev beside_client : List ℕ → List ℕ → Option (List ℕ)
+beside_client comp listen = refused (table (file (port ∷ []) (client ∷ client_named comp listen ∷ [])))
+
+-- a client, and what is no table
+abbrev no_table : Data
+no_table = array (item (table client) (item (boolean true) no_items))
+
 tables_of :
     -- what another port, another client has already
     (refused (table (file (port ∷ port ∷ []) (client ∷ []))) ≡ Some (codes "name"))
-    × (refused (table (file (port ∷ []) (client ∷ client_named (codes "C1") (codes "h:3") ∷ []))) ≡ Some (codes "comp"))
-    × (refused (table (file (port ∷ []) (client ∷ client_named (codes "C2") (codes "h:2") ∷ []))) ≡ Some (codes "listen"))
-    × (refused (table (file (port ∷ []) (client ∷ client_named (codes "C2") (codes "h:3") ∷ []))) ≡ None)
+    × (beside_client (codes "C1") (codes "h:3") ≡ Some (codes "comp"))
+    × (beside_client (codes "C2") (codes "h:2") ≡ Some (codes "listen"))
+    × (beside_client (codes "C2") (codes "h:3") ≡ None)
     -- the most of them, and one more
     × (refused (table (file (ports_of 15) (clients_of 64))) ≡ None)
     × (refused (table (file (ports_of 16) (clients_of 64))) ≡ Some (codes "port"))
@@ -210,5 +224,5 @@ tables_of :
     × (refused (table (file [] (client ∷ []))) ≡ Some (codes "port"))
     × (refused (table (file (port ∷ []) [])) ≡ Some (codes "client"))
     × (refused (table (with_key (codes "port") (table port) whole)) ≡ Some (codes "port"))
-    × (refused (table (with_key (codes "client") (array (item (table client) (item (boolean true) no_items))) whole)) ≡ Some (codes "client"))
+    × (refused (table (with_key (codes "client") no_table whole)) ≡ Some (codes "client"))
 tables_of = (refl, refl, refl, refl, refl, refl, refl, refl, refl, refl, refl)

@@ -1,5 +1,6 @@
 -- What a settings file says, where nothing of it is refused.
-use Rattle.std.specs.Prelude.{◌≡◌, true, None, ℕ, ◌+◌, ◌-◌, List, [], ◌∷◌, ◌++◌, map, length, replicate, codes, if◌then◌else◌, unwrap_or}
+use Rattle.std.specs.Prelude.{◌≡◌, true, None, ℕ, ◌+◌, ◌-◌, List, [], ◌∷◌, ◌++◌, map, length, replicate, codes}
+use Rattle.std.specs.Prelude.{if◌then◌else◌, unwrap_or}
 use Rattle.soup_session.specs.Table as port
 use Rattle.order_law.specs.History.{Terms}
 use Rattle.gate_law.specs.Settings.{ClientSettings, Settings}
@@ -54,8 +55,8 @@ client_of comp terms = record { comp = comp; terms = terms }
 abbrev pub client_at : List Data → Data → ClientSettings
 client_at ports t =
     client_of (text_at (codes "comp") t)
-    (terms_at (number_of_name ports (text_at (codes "port") t)) (text_at (codes "firm") t) (text_at (codes "capacity") t)
-    (text_at (codes "customer") t))
+    (terms_at (number_of_name ports (text_at (codes "port") t)) (text_at (codes "firm") t)
+    (text_at (codes "capacity") t) (text_at (codes "customer") t))
 
 abbrev pub file_settings : Data → FileSettings
 file_settings file =

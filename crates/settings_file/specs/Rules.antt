@@ -3,14 +3,16 @@
 -- Tables, arrays of tables and strings are TOML 1.1's; the keys are this gateway's own. Names: FIX 4.4 Volume 2,
 -- "Standard Message Header"; user and password: SoupBinTCP 3.00, "Login Request Packet"; firm, capacity and customer:
 -- OUCH 4.2, "Enter Order Message".
-use Rattle.std.specs.Prelude.{ℕ, Bool, false, not, ◌&&◌, ◌||◌, ◌==◌, nat_le, List, [], ◌∷◌, ◌++◌, map, length, drop, codes, bytes_eq, find, Option, Some, None, option_and_then, is_some, if◌then◌else◌}
+use Rattle.std.specs.Prelude.{ℕ, Bool, false, not, ◌&&◌, ◌||◌, ◌==◌, nat_le, List, [], ◌∷◌, ◌++◌, map, length, drop}
+use Rattle.std.specs.Prelude.{codes, bytes_eq, find, Option, Some, None, option_and_then, is_some, if◌then◌else◌}
 use Rattle.std.specs.Option.{option_or}
 use Rattle.std.specs.List.{list_all, list_any}
 use Rattle.std.specs.Char.{is_ascii_digit}
 use Rattle.decimal_digits.specs.Digits.{number_of}
 use Rattle.wire_law.specs.Printable.{is_printable, is_visible}
 use Rattle.gate_law.specs.Limits.{is_between, is_byte_of, is_name}
-use Rattle.toml.specs.Data.{Data, table, Items, no_items, item, Members, no_members, member, get, as_array, as_str, as_table}
+use Rattle.toml.specs.Data.{Data, table, Items, no_items, item, Members, no_members, member, get, as_array, as_str}
+use Rattle.toml.specs.Data.{as_table}
 
 -- a key, and which texts it may have
 pub record Rule : Type 0 where
@@ -68,7 +70,8 @@ own_name key earlier = record { key = key; holds = λ text. is_name text && not 
 
 -- a TCP port: 1 to 5 digits, of a number of at most 65,535
 abbrev pub is_tcp_port : List ℕ → Bool
-is_tcp_port digits = is_between 1 5 (length digits) && (list_all is_ascii_digit digits && nat_le (number_of digits) 65_535)
+is_tcp_port digits =
+    is_between 1 5 (length digits) && (list_all is_ascii_digit digits && nat_le (number_of digits) 65_535)
 
 -- a colon stands in it, behind which is a TCP port
 abbrev pub ends_in_port : List ℕ → Bool
@@ -173,7 +176,9 @@ refused_client ports earlier t = refused_in (client_rules ports earlier) t
 -- What is refused of a file: of `comp`, of each port in order, of each client in order, and then the first other key.
 abbrev pub refused : Data → Option (List ℕ)
 refused file =
+    let ports = tables_at (codes "port") file in
+    let clients = tables_at (codes "client") file in
     option_or (first_broken gateway_rules file)
-    (option_or (refused_among (codes "port") 16 refused_port (tables_at (codes "port") file))
-    (option_or (refused_among (codes "client") 64 (refused_client (tables_at (codes "port") file)) (tables_at (codes "client") file))
+    (option_or (refused_among (codes "port") 16 refused_port ports)
+    (option_or (refused_among (codes "client") 64 (refused_client ports) clients)
     (first_other file_keys file)))

@@ -1,6 +1,7 @@
 //! The whole file.
 
-ghost use Rattle.std.specs.Prelude.{◌≡◌, ◌≤◌, [], map, length, codes, true, is_some, option_map, None, Some, IfOk, string_bytes};
+ghost use Rattle.std.specs.Prelude.{◌≡◌, ◌≤◌, [], map, length, codes, string_bytes};
+ghost use Rattle.std.specs.Prelude.{true, is_some, option_map, None, Some, IfOk};
 ghost use Rattle.std.specs.List.{list_all};
 ghost use Rattle.std.specs.Str.{IsUtf8};
 ghost use Rattle.gate_law.specs.Limits.{is_served};
