@@ -1,6 +1,9 @@
 //! The command line of `gateway`.
 #![tactic(auto)]
 
+mod asked;
 mod command;
+mod help;
 
-pub use command::audit_path;
+pub use asked::{Asked, links_of};
+pub use command::asked;

@@ -9,6 +9,7 @@ use std::io::{Read, Write};
 use std::time::Clock;
 
 /// An order of the demonstration: its ClOrdID, shares and limit.
+#[derive(Clone, Copy)]
 struct Order {
     id: &'static [u8],
     shares: &'static [u8],

@@ -7,7 +7,7 @@ use crate::settings::demo_settings;
 use desk::Closed;
 use gateway_run::{RunPlan, run};
 use link_sockets::{Acceptor, Connector};
-use std::alloc::Global;
+use std::alloc::{AllocError, Global};
 use std::net::{Net, TcpListener, TcpStream};
 use std::sync::Wait;
 use std::sync::atomic::AtomicBool;
@@ -41,13 +41,7 @@ where
     let (first, first_address) = listener(rt, alloc)?;
     let (second, second_address) = listener(rt, alloc)?;
     let (market, market_address) = listener(rt, alloc)?;
-    let plan = RunPlan {
-        clients: vec![in alloc;
-            Acceptor::of_listener(rt, first, 1, is_over),
-            Acceptor::of_listener(rt, second, 1, is_over),
-        ]?,
-        ports: vec![in alloc; Connector::new(rt, &market_address, 1, is_over)]?,
-    };
+    let plan = plan_of(rt, alloc, first, second, &market_address, is_over)?;
     let settings = demo_settings(alloc)?;
     let first_address = &first_address;
     let second_address = &second_address;
@@ -66,6 +60,24 @@ where
         two.join(rt)?;
         market.join(rt)?;
         Ok(closed?)
+    })
+}
+
+/// One link for each client and for the port.
+fn plan_of<'a, R>(
+    rt: &'a R,
+    alloc: Global,
+    first: TcpListener,
+    second: TcpListener,
+    market: &'a str,
+    is_over: &'a AtomicBool,
+) -> Result<RunPlan<Acceptor<'a, R>, Connector<'a, R>>, AllocError> {
+    Ok(RunPlan {
+        clients: vec![in alloc;
+            Acceptor::of_listener(rt, first, 1, is_over),
+            Acceptor::of_listener(rt, second, 1, is_over),
+        ]?,
+        ports: vec![in alloc; Connector::new(rt, market, 1, is_over)]?,
     })
 }
 

@@ -8,7 +8,7 @@ use ouch_codec::EnterOrder;
 use soup_packets::{Packet, Packets};
 use std::alloc::Global;
 use std::io::{Read, Write};
-use wire_law::FixedWire;
+use wire_law::{FixedWire, WholeWire};
 
 /// Serves a link to its end: each order is taken, and executed at its limit in one trade.
 pub(crate) fn serve_market<S: Read + Write>(alloc: Global, stream: &mut S) -> Result<(), DemoFault> {
