@@ -1,8 +1,8 @@
 -- What a command line asks for, as contracts see it.
 use Rattle.std.specs.Prelude.{option_map}
 use Rattle.gateway_command.specs.Command.{Asking, Audits, Runs, Demonstrates}
-use Rattle.gateway_command.specs.declared.asked.Asked.{Asked}
-use Rattle.gateway_command.specs.declared.asked.Asked.TheVariants as asked
+use Rattle.gateway_command.specs.declared.asking.Asked.{Asked}
+use Rattle.gateway_command.specs.declared.asking.Asked.TheVariants as asked
 
 pub asked_seen : Asked → Asking
 asked_seen (asked.Audit script) = Audits script.now

@@ -5,7 +5,7 @@ ghost use Rattle.clap.specs.Words.{FailsBy, app_of, first_of, found_of, rows_of,
 ghost use Rattle.gateway_command.specs.Command as spec;
 ghost use Rattle.gateway_command.specs.Seen.{asked_seen};
 
-use crate::asked::Asked;
+use crate::asking::Asked;
 use crate::help::{AUDIT, DEMO, RUN};
 use clap::{Arg, ArgAction, ArgMatches, Command, Error};
 use std::alloc::{AllocError, Global};

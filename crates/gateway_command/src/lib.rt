@@ -1,9 +1,9 @@
 //! The command line of `gateway`.
 #![tactic(auto)]
 
-mod asked;
+mod asking;
 mod command;
 mod help;
 
-pub use asked::{Asked, links_of};
+pub use asking::{Asked, links_of};
 pub use command::asked;
