@@ -1,13 +1,16 @@
 //! All of it at once.
 
+ghost use Rattle.std.specs.Prelude.{◌≤◌};
+
 use crate::client::trade;
 use crate::fault::DemoFault;
 use crate::market::serve_market;
 use crate::settings::demo_settings;
 use desk::Closed;
-use gateway_run::{RunPlan, run};
+use gateway_run::{RunPlan, audit_day, run};
 use link_sockets::{Acceptor, Connector};
 use std::alloc::{AllocError, Global};
+use std::io::Write;
 use std::net::{Net, TcpListener, TcpStream};
 use std::sync::Wait;
 use std::sync::atomic::AtomicBool;
@@ -29,6 +32,34 @@ fn listener<R: Net<Listener = TcpListener, Stream = TcpStream>>(
     let port = listener.local_addr()?.port();
     let address = format!(in alloc; "127.0.0.1:{port}")?;
     Ok((listener, address))
+}
+
+/// Runs the demonstration, and writes the audit of its day to `output`.
+///
+/// Answers its program's status: 0 where both accounts of each order agree; else 1, with a line on `faults`: `demo: not
+/// finished` where a client or the market waited for ten seconds for what didn't come, `gateway: link fault 1` for a
+/// socket that couldn't be had or failed, `gateway: no thread`, `out of memory`.
+pub fn show_demo<R, W: Write, F: Write>(
+    rt: &R,
+    alloc: Global,
+    output: &mut W,
+    faults: &mut F,
+) -> u8
+where
+    R: Threads + Wait + Sync + Clock + Net<Listener = TcpListener, Stream = TcpStream>,
+    ensures status { result ≤ 1 }
+{
+    let fault = match demo(rt, alloc) {
+        Ok(day) => return audit_day(alloc, &day, output, faults),
+        Err(fault) => fault,
+    };
+    let _ = match fault {
+        DemoFault::NoMemory => writeln!(faults, "out of memory"),
+        DemoFault::NoThread => writeln!(faults, "gateway: no thread"),
+        DemoFault::Socket => writeln!(faults, "gateway: link fault 1"),
+        DemoFault::NotFinished => writeln!(faults, "demo: not finished"),
+    };
+    1
 }
 
 /// Runs the gateway between two clients and a market until each client's three orders are filled, and gives its history.

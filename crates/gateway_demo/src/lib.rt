@@ -7,5 +7,5 @@ mod fault;
 mod market;
 mod settings;
 
-pub use demo::demo;
+pub use demo::{demo, show_demo};
 pub use fault::DemoFault;

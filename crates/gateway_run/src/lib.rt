@@ -2,9 +2,13 @@
 //! serve it. It ends when all its clients' links have been served, and gives its history.
 #![tactic(auto)]
 
+mod by_settings;
+mod day;
 mod fault;
 mod lines;
 mod running;
 
+pub use by_settings::run_settings;
+pub use day::{audit_day, tell};
 pub use fault::RunFault;
 pub use running::{RunPlan, run};
