@@ -1,6 +1,6 @@
 -- The command line of `gateway`: `audit --script FILE`, `run --settings FILE [--links N]`, `demo`, and nothing else but
 -- a call for help.
-use Rattle.std.specs.Prelude.{◌≡◌, refl, ℕ, true, List, [], ◌∷◌, Option, Some, None, codes, if◌then◌else◌, option_and_then, option_map, ◌&&◌, ◌<=◌}
+use Rattle.std.specs.Prelude.{◌≡◌, refl, ℕ, true, List, [], ◌∷◌, Option, Some, None, codes, if◌then◌else◌, option_and_then, option_map, nat_le, ◌&&◌}
 use Rattle.std.specs.Char.{is_ascii_digit}
 use Rattle.std.specs.List.{list_all}
 use Rattle.std.specs.Str.{bytes_eq}
@@ -68,7 +68,7 @@ audit_asked rows = option_map Audits (first_of (codes "script") rows)
 abbrev pub run_asked : List Row → Option Asking
 run_asked rows = option_map (λ (file : Text). Runs file (first_of (codes "links") rows)) (first_of (codes "settings") rows)
 
-pub asked_by : Text → List Row → Option Asking
+unfoldable pub asked_by : Text → List Row → Option Asking
 asked_by name rows =
     if bytes_eq name (codes "audit") then audit_asked rows
     else if bytes_eq name (codes "run") then run_asked rows
@@ -85,8 +85,8 @@ asked_of words = asked_in (gateway_found words)
 -- how many links of each client are served: digits, for 1 to 1,000; 1 where nothing is said
 abbrev pub links_in : Text → Option ℕ
 links_in digits =
-    if list_all is_ascii_digit digits && 1 <= number_of digits && number_of digits <= 1000 then Some (number_of digits) else None
+    if list_all is_ascii_digit digits && nat_le 1 (number_of digits) && nat_le (number_of digits) 1000 then Some (number_of digits) else None
 
-pub links_of : Option Text → Option ℕ
+unfoldable pub links_of : Option Text → Option ℕ
 links_of None = Some 1
 links_of (Some digits) = links_in digits

@@ -91,25 +91,33 @@ help_as_subcommand = refl
 
 -- links
 one_link_where_nothing_is_said : links_of None ≡ Some 1
+unfolding links_of
 one_link_where_nothing_is_said = refl
 
 the_fewest : links_of (Some (codes "1")) ≡ Some 1
+unfolding links_of
 the_fewest = refl
 
 the_most : links_of (Some (codes "1000")) ≡ Some 1000
+unfolding links_of
 the_most = refl
 
 too_many : links_of (Some (codes "1001")) ≡ None
+unfolding links_of
 too_many = refl
 
 none_at_all : links_of (Some (codes "0")) ≡ None
+unfolding links_of
 none_at_all = refl
 
 no_number : links_of (Some (codes "x")) ≡ None
+unfolding links_of
 no_number = refl
 
 no_digits : links_of (Some []) ≡ None
+unfolding links_of
 no_digits = refl
 
 a_sign : links_of (Some (codes "+1")) ≡ None
+unfolding links_of
 a_sign = refl

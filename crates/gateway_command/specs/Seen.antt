@@ -4,7 +4,7 @@ use Rattle.gateway_command.specs.Command.{Asking, Audits, Runs, Demonstrates}
 use Rattle.gateway_command.specs.declared.asking.Asked.{Asked}
 use Rattle.gateway_command.specs.declared.asking.Asked.TheVariants as asked
 
-pub asked_seen : Asked → Asking
+unfoldable pub asked_seen : Asked → Asking
 asked_seen (asked.Audit script) = Audits script.now
 asked_seen (asked.Run settings links) = Runs settings.now (option_map (λ text. text.now) links)
 asked_seen asked.Demo = Demonstrates

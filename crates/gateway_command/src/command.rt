@@ -1,7 +1,7 @@
 //! The command line of `gateway`, as `clap` reads it.
 
-ghost use Rattle.std.specs.Prelude.{◌≡◌, IfOk, map, option_map};
-ghost use Rattle.clap.specs.Words.{FailsBy, app_of, first_of, found_of, rows_of, rule_of, subcommand_rows_of};
+ghost use Rattle.std.specs.Prelude.{◌≡◌, false, IfOk, map, option_map};
+ghost use Rattle.clap.specs.Words.{FailsBy, app_of, fields_of, first_of, found_of, rows_of, rule_of, subcommand_rows_of};
 ghost use Rattle.gateway_command.specs.Command as spec;
 ghost use Rattle.gateway_command.specs.Seen.{asked_seen};
 
@@ -83,7 +83,8 @@ fn value_of<'a>(found: &ArgMatches<'a>, name: &str) -> Option<&'a str>
 
 /// An option with a value.
 fn option<'a>(alloc: Global, name: &'a str, value: &'a str, help: &'a str) -> Arg<'a>
-    ensures { rule_of result ≡ spec.value_rule name.now }
+    ensures rule { rule_of result ≡ spec.value_rule name.now }
+    ensures own { result.global ≡ false }
 {
     Arg::new(alloc, name)
         .long(name)
@@ -94,7 +95,8 @@ fn option<'a>(alloc: Global, name: &'a str, value: &'a str, help: &'a str) -> Ar
 
 /// The same, where it has to be given.
 fn required<'a>(alloc: Global, name: &'a str, value: &'a str, help: &'a str) -> Arg<'a>
-    ensures { rule_of result ≡ spec.required_rule name.now }
+    ensures rule { rule_of result ≡ spec.required_rule name.now }
+    ensures own { result.global ≡ false }
 {
     Arg::new(alloc, name)
         .long(name)
@@ -106,7 +108,8 @@ fn required<'a>(alloc: Global, name: &'a str, value: &'a str, help: &'a str) -> 
 
 /// `audit --script FILE`.
 fn audit<'a>(alloc: Global) -> Result<Command<'a>, AllocError>
-    ensures { IfOk result (λ command. app_of command ≡ spec.audit) }
+    ensures app { IfOk result (λ command. app_of command ≡ spec.audit) }
+    ensures own { IfOk result (λ command. (fields_of command).has_globals ≡ false) }
 {
     Command::new(alloc, "audit")
         .about(
@@ -118,7 +121,8 @@ fn audit<'a>(alloc: Global) -> Result<Command<'a>, AllocError>
 
 /// `run --settings FILE [--links N]`.
 fn run<'a>(alloc: Global) -> Result<Command<'a>, AllocError>
-    ensures { IfOk result (λ command. app_of command ≡ spec.run) }
+    ensures app { IfOk result (λ command. app_of command ≡ spec.run) }
+    ensures own { IfOk result (λ command. (fields_of command).has_globals ≡ false) }
 {
     let links = option(
         alloc,
@@ -136,7 +140,8 @@ fn run<'a>(alloc: Global) -> Result<Command<'a>, AllocError>
 
 /// `demo`.
 fn demo<'a>(alloc: Global) -> Command<'a>
-    ensures { app_of result ≡ spec.demo }
+    ensures app { app_of result ≡ spec.demo }
+    ensures own { (fields_of result).has_globals ≡ false }
 {
     Command::new(alloc, "demo")
         .about("Shows a gateway between two clients and a simulated market, on loopback")

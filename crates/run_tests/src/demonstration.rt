@@ -1,28 +1,25 @@
 //! The demonstration.
 
-use audit_lines::write_audit;
-use gate_audit::audit;
-use gateway_demo::demo;
+use gateway_demo::show_demo;
 use std::test::Fail;
+
+const AUDIT: &str = "\
+C1 A1 side 1 executed 100 open 0 cancelled 0 value 10000000 agree
+C1 A2 side 1 executed 200 open 0 cancelled 0 value 21000000 agree
+C1 A3 side 1 executed 300 open 0 cancelled 0 value 33000000 agree
+C2 A1 side 1 executed 100 open 0 cancelled 0 value 10000000 agree
+C2 A2 side 1 executed 200 open 0 cancelled 0 value 21000000 agree
+C2 A3 side 1 executed 300 open 0 cancelled 0 value 33000000 agree
+orders 6 agree 6
+";
 
 #[test]
 fn six_orders_agree(rt: HostRuntime) -> Result<(), Fail> {
     let alloc = rt.alloc();
-    let closed = match demo(&rt, alloc) {
-        Ok(closed) => closed,
-        Err(fault) => {
-            println!(rt; "{fault:?}")?;
-            return Err(Fail::new("demo"));
-        }
-    };
-    println!(rt; "{} events", closed.history.events().len())?;
-    let Ok(pairs) = audit(alloc, &closed.history, &closed.settings) else {
-        return Err(Fail::new("audit"));
-    };
     let mut output = Vec::new(alloc);
     let mut faults = Vec::new(alloc);
-    let status = write_audit(alloc, pairs.as_slice(), &mut output, &mut faults);
+    let status = show_demo(&rt, alloc, &mut output, &mut faults);
     assert_eq!(rt; status, 0);
-    assert_eq!(rt; output.as_slice(), b"".as_slice());
+    assert!(rt; output.as_slice() == AUDIT.as_bytes());
     Ok(())
 }
