@@ -1,6 +1,7 @@
 use Rattle.std.proofs.Common.{rules, ap₂, codes, false, ◌≡◌, ◌∙◌, ◌||◌}
 use Rattle.std.proofs.lemmas.Result.{IfOk-weaker}
-use Rattle.clap.specs.Words.{app_of, fields_of, new_app, with_rule}
+use Rattle.clap.specs.Words.{app_of, new_app, with_rule}
+use Rattle.clap.specs.declared.builder.command.Command.{out-Command as fields_of}
 use Rattle.gateway_command.specs.Command.{required_rule}
 use Rattle.gateway_command.proofs.command.run.Goals as goal
 
