@@ -1,7 +1,5 @@
 //! One link: its reader and its writer at once, in a thread each.
 
-ghost use Rattle.std.specs.Prelude.{◌≤◌};
-
 use crate::line::Worker;
 use crate::opener::{Closer, LinkEnd, Opened};
 use crate::peer::Peer;
@@ -11,7 +9,7 @@ use std::io::{Read, Write};
 use std::sync::Wait;
 use std::sync::atomic::{AtomicBool, Ordering};
 use std::thread;
-use std::thread::Threads;
+use std::thread::{Scope, Threads};
 
 /// The side of a link that one worker works, owned by its thread while it does.
 #[derive(Drop)]
@@ -30,7 +28,6 @@ fn read_side<R: Wait, P: Peer + Drop, S: Read + Drop, G: Gate + Drop, C: Clock +
     side: Side<P, S, G, C>,
     stop: &AtomicBool,
 ) -> (Result<(), LinkFault>, Worker<G, C>)
-    requires from_one { 1 ≤ side.steps }
 {
     let Side {
         peer,
@@ -43,7 +40,15 @@ fn read_side<R: Wait, P: Peer + Drop, S: Read + Drop, G: Gate + Drop, C: Clock +
         mut gate,
         mut clock,
     } = worker;
-    let end = peer.read(rt, alloc, link, steps, &mut stream, &mut gate, &mut clock);
+    let end = peer.read(
+        rt,
+        alloc,
+        link,
+        steps.max(1),
+        &mut stream,
+        &mut gate,
+        &mut clock,
+    );
     stop.store(true, Ordering::SeqCst);
     (end, Worker { gate, clock })
 }
@@ -63,7 +68,6 @@ fn write_side<
     mut closer: K,
     stop: &AtomicBool,
 ) -> (Result<WriterEnd, LinkFault>, Worker<G, C>)
-    requires from_one { 1 ≤ side.steps }
 {
     let Side {
         peer,
@@ -80,7 +84,7 @@ fn write_side<
         rt,
         alloc,
         link,
-        steps,
+        steps.max(1),
         &mut stream,
         &mut gate,
         &mut clock,
@@ -108,7 +112,6 @@ fn write_unless<
     stop: &AtomicBool,
     is_refused: &AtomicBool,
 ) -> (Result<WriterEnd, LinkFault>, Worker<G, C>)
-    requires from_one { 1 ≤ side.steps }
 {
     if is_refused.load(Ordering::SeqCst) {
         return (Ok(WriterEnd::Stopped), side.worker);
@@ -125,18 +128,8 @@ pub(crate) struct ServedLink<R, W> {
     pub(crate) writer: W,
 }
 
-/// Serves a link until both its workers have ended: its reader in this thread, its writer in one more.
-pub(crate) fn serve_link<
-    R: Threads + Wait + Sync,
-    P: Peer + Send + Drop,
-    S: Read + Send + Drop,
-    W: Write + Send + Drop,
-    K: Closer + Send + Drop,
-    G: Gate + Send + Drop,
-    C: Clock + Send + Drop,
-    H: Gate + Send + Drop,
-    D: Clock + Send + Drop,
->(
+/// Serves a link until both its workers have ended: its reader in this thread, its writer in one more. 0 steps count as 1.
+pub(crate) fn serve_link<R, P, S, W, K, G, C, H, D>(
     rt: &R,
     alloc: Global,
     peer: P,
@@ -146,7 +139,16 @@ pub(crate) fn serve_link<
     reader: Worker<G, C>,
     writer: Worker<H, D>,
 ) -> ServedLink<Worker<G, C>, Worker<H, D>>
-    requires from_one { 1 ≤ steps }
+where
+    R: Threads + Wait + Sync,
+    P: Peer + Send + Drop,
+    S: Read + Send + Drop,
+    W: Write + Send + Drop,
+    K: Closer + Send + Drop,
+    G: Gate + Send + Drop,
+    C: Clock + Send + Drop,
+    H: Gate + Send + Drop,
+    D: Clock + Send + Drop,
 {
     let Opened {
         reader: reads,
@@ -172,32 +174,56 @@ pub(crate) fn serve_link<
     let is_refused = AtomicBool::new(false);
     let is_refused = &is_refused;
     thread::scope(thread::scope_env(), rt, |scope| {
-        let started =
-            scope.spawn(move || write_unless(rt, alloc, writing, closer, stop, is_refused));
-        match started {
-            Ok(handle) => {
-                let (read, reader) = read_side(rt, alloc, reading, stop);
-                let (written, writer) = handle.join(rt);
-                let end = LinkEnd {
-                    link,
-                    reader: read,
-                    writer: written,
-                };
-                ServedLink {
-                    end: Some(end),
-                    reader,
-                    writer,
-                }
-            }
-            Err(refused) => {
-                is_refused.store(true, Ordering::SeqCst);
-                let (_, writer) = (refused.value)();
-                ServedLink {
-                    end: None,
-                    reader: reading.worker,
-                    writer,
-                }
+        serve_both(scope, rt, alloc, reading, writing, closer, stop, is_refused)
+    })
+}
+
+/// Serves both sides of a link, the writer's in a thread of the scope.
+fn serve_both<'s, E, R, P, S, W, K, G, C, H, D>(
+    scope: &'s Scope<'s, E>,
+    rt: &'s R,
+    alloc: Global,
+    reading: Side<P, S, G, C>,
+    writing: Side<P, W, H, D>,
+    closer: K,
+    stop: &'s AtomicBool,
+    is_refused: &'s AtomicBool,
+) -> ServedLink<Worker<G, C>, Worker<H, D>>
+where
+    R: Threads + Wait + Sync,
+    P: Peer + Send + Drop + 's,
+    S: Read + Drop,
+    W: Write + Send + Drop + 's,
+    K: Closer + Send + Drop + 's,
+    G: Gate + Drop,
+    C: Clock + Drop,
+    H: Gate + Send + Drop + 's,
+    D: Clock + Send + Drop + 's,
+{
+    let link = reading.link;
+    match scope.spawn(move || write_unless(rt, alloc, writing, closer, stop, is_refused)) {
+        Ok(handle) => {
+            let (read, reader) = read_side(rt, alloc, reading, stop);
+            let (written, writer) = handle.join(rt);
+            let end = LinkEnd {
+                link,
+                reader: read,
+                writer: written,
+            };
+            ServedLink {
+                end: Some(end),
+                reader,
+                writer,
             }
         }
-    })
+        Err(refused) => {
+            is_refused.store(true, Ordering::SeqCst);
+            let (_, writer) = (refused.value)();
+            ServedLink {
+                end: None,
+                reader: reading.worker,
+                writer,
+            }
+        }
+    }
 }

@@ -1,6 +1,6 @@
 //! All lines at once.
 
-ghost use Rattle.std.specs.Prelude.{◌≡◌, ◌≤◌, [], map, IfOk, IfErr, vec_len, vec_capacity};
+ghost use Rattle.std.specs.Prelude.{◌≡◌, map, IfOk, IfErr};
 
 use crate::line::{Line, Worker};
 use crate::opener::{Closer, Opener};
@@ -12,7 +12,7 @@ use std::io::{Read, Write};
 use std::sync::Wait;
 use std::sync::atomic::{AtomicBool, Ordering};
 use std::thread;
-use std::thread::{Promise, PromisedHandle, Scope, Threads};
+use std::thread::{Promise, Scope, Threads};
 
 /// Why lines were not served to their end.
 #[derive(Clone, Copy, Debug, PartialEq, Eq)]
@@ -56,40 +56,27 @@ where
     ensures served { IfOk result (λ back. map (λ l. l.peer) back.items ≡ map (λ l. l.peer) lines.items) }
     ensures given_back { IfErr result (λ e. map (λ l. l.peer) e.1.items ≡ map (λ l. l.peer) lines.items) }
 {
-    let count = lines.len();
-    let Ok(back) = Vec::with_capacity(alloc, count) else {
-        return Err((ServeFault::NoMemory, lines));
-    };
-    let Ok(handles) = Vec::with_capacity(alloc, count) else {
-        return Err((ServeFault::NoMemory, lines));
-    };
-    let Ok(unserved) = Vec::with_capacity(alloc, count) else {
-        return Err((ServeFault::NoMemory, lines));
-    };
     let halt = AtomicBool::new(false);
     let halt = &halt;
-    let back = thread::scope(thread::scope_env(), rt, |scope| {
-        serve_all(scope, rt, alloc, lines, halt, handles, unserved, back)
+    let served = thread::scope(thread::scope_env(), rt, |scope| {
+        serve_all(scope, rt, alloc, lines, halt)
     });
-    if halt.load(Ordering::SeqCst) {
-        Err((ServeFault::NoThread, back))
-    } else {
-        Ok(back)
+    match served {
+        Ok(back) if halt.load(Ordering::SeqCst) => Err((ServeFault::NoThread, back)),
+        Ok(back) => Ok(back),
+        Err(lines) => Err((ServeFault::NoMemory, lines)),
     }
 }
 
 /// Starts a thread for each line, waits for all, and gives the lines back in their order. Those for which no thread was
-/// started come back unserved.
+/// started come back unserved; all do, as an error, where memory runs out.
 fn serve_all<'s, E, R, P, O, G, C, H, D>(
     scope: &'s Scope<'s, E>,
     rt: &'s R,
     alloc: Global,
     lines: Vec<Line<P, O, Worker<G, C>, Worker<H, D>>>,
     halt: &'s AtomicBool,
-    mut handles: Vec<PromisedHandle<Line<P, O, Worker<G, C>, Worker<H, D>>, KeepsPeer<P>>>,
-    mut unserved: Vec<Line<P, O, Worker<G, C>, Worker<H, D>>>,
-    mut back: Vec<Line<P, O, Worker<G, C>, Worker<H, D>>>,
-) -> Vec<Line<P, O, Worker<G, C>, Worker<H, D>>>
+) -> Result<Vec<Line<P, O, Worker<G, C>, Worker<H, D>>>, Vec<Line<P, O, Worker<G, C>, Worker<H, D>>>>
 where
     R: Threads + Wait + Sync,
     P: Peer + Send + Drop + 's,
@@ -101,11 +88,19 @@ where
     C: Clock + Send + Drop + 's,
     H: Gate + Send + Drop + 's,
     D: Clock + Send + Drop + 's,
-    requires rooms { (vec_len lines ≤ vec_capacity handles) × (vec_len lines ≤ vec_capacity unserved)
-        × (vec_len lines ≤ vec_capacity back) }
-    requires empty { (handles.items ≡ []) × (unserved.items ≡ []) × (back.items ≡ []) }
-    ensures peers { map (λ l. l.peer) result.items ≡ map (λ l. l.peer) lines.items }
+    ensures served { IfOk result (λ back. map (λ l. l.peer) back.items ≡ map (λ l. l.peer) lines.items) }
+    ensures unserved { IfErr result (λ back. back ≡ lines) }
 {
+    let count = lines.len();
+    let Ok(mut back) = Vec::with_capacity(alloc, count) else {
+        return Err(lines);
+    };
+    let Ok(mut handles) = Vec::with_capacity(alloc, count) else {
+        return Err(lines);
+    };
+    let Ok(mut unserved) = Vec::with_capacity(alloc, count) else {
+        return Err(lines);
+    };
     for line in lines {
         if halt.load(Ordering::SeqCst) {
             let Ok(()) = unserved.push(line) else {
@@ -138,5 +133,5 @@ where
             unreachable!()
         };
     }
-    back
+    Ok(back)
 }

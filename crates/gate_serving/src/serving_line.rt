@@ -68,7 +68,7 @@ where
                     alloc,
                     peer,
                     link,
-                    steps.max(1),
+                    steps,
                     opened,
                     reader,
                     writer,

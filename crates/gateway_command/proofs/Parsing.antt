@@ -1,5 +1,5 @@
 -- What `clap` says of `gateway`'s command line, in the words of `specs/Command.antt`.
-use Rattle.std.proofs.Common.{◌≡◌, true, List, Result, refl, ap, ◌∙◌, IfOk, subst, codes}
+use Rattle.std.proofs.Common.{◌≡◌, true, List, Result, refl, ap, ◌∙◌, IfOk, subst}
 use Rattle.std.proofs.lemmas.Result.{IfOk-weaker}
 use Rattle.clap.specs.Words.{App, FailsBy, HasMatchesOf, Text, fault_of, is_simple, is_simple_and_free, subcommand_of, subcommand_rows_of}
 use Rattle.clap.specs.declared.error.Error.{Error}

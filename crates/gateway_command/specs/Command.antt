@@ -1,6 +1,6 @@
 -- The command line of `gateway`: `audit --script FILE`, `run --settings FILE [--links N]`, `demo`, and nothing else but
 -- a call for help.
-use Rattle.std.specs.Prelude.{◌≡◌, refl, ℕ, true, List, [], ◌∷◌, Option, Some, None, codes, if◌then◌else◌, option_and_then, option_map, nat_le, ◌&&◌}
+use Rattle.std.specs.Prelude.{ℕ, true, List, Option, Some, None, codes, if◌then◌else◌, option_and_then, option_map, nat_le, ◌&&◌}
 use Rattle.std.specs.Char.{is_ascii_digit}
 use Rattle.std.specs.List.{list_all}
 use Rattle.std.specs.Str.{bytes_eq}
@@ -9,8 +9,6 @@ use Rattle.clap.specs.Simple.{new_shape}
 use Rattle.clap.specs.Words.{App, Row, Rule, Text, Kinds, fault_of, first_of, new_app, new_rule, subcommand_of}
 use Rattle.clap.specs.Words.{with_rule, with_subcommand}
 use Rattle.clap.specs.declared.builder.action.ArgAction.TheVariants.{Set}
-use Rattle.clap.specs.declared.error.kind.ErrorKind.TheVariants as kind
-use Rattle.clap.proofs.OnLiterals.{clap_on_literals}
 
 -- an option with a value, as `--script FILE`
 abbrev pub value_rule : Text → Rule
