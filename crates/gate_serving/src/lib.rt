@@ -2,6 +2,7 @@
 //! writer of a link run in a thread each, over any opener, gate and clock.
 #![tactic(auto)]
 
+mod job;
 mod line;
 mod link;
 mod opener;

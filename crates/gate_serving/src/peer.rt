@@ -11,8 +11,12 @@ use std::io::{Read, Write};
 use std::sync::Wait;
 use std::sync::atomic::AtomicBool;
 
-/// A client or a port, by its number: says what the two workers of its links do.
+/// A client or a port: says what the two workers of its links do. Contracts see its number.
 pub trait Peer: Copy {
+    ghost use Rattle.std.specs.Prelude.{ℕ};
+
+    ghost number: { Self → ℕ };
+
     /// Reads the link of this number until it is over, with so many steps at most.
     fn read<R: Wait, S: Read, G: Gate, C: Clock>(
         &self,
@@ -42,6 +46,8 @@ pub trait Peer: Copy {
 }
 
 impl Peer for ClientNumber {
+    ghost number = { λ n. n };
+
     fn read<R: Wait, S: Read, G: Gate, C: Clock>(
         &self,
         rt: &R,
@@ -71,6 +77,8 @@ impl Peer for ClientNumber {
 }
 
 impl Peer for PortNumber {
+    ghost number = { λ n. n };
+
     fn read<R: Wait, S: Read, G: Gate, C: Clock>(
         &self,
         rt: &R,
