@@ -1,0 +1,8 @@
+use Rattle.std.proofs.Common.{List, sym, subst}
+use Rattle.gate_law.specs.Holds.{Holds}
+use Rattle.gate_journal.specs.Kept.{Kept, turns}
+use Rattle.desk_steps.specs.Agreeing.{AreNamed, DeskState}
+use Rattle.desk.proofs.desk_value.Desk.close.Goals as goal
+
+pub returns-clause-named : goal.returns-clause-named
+returns-clause-named g c = subst (λ (z : Kept). AreNamed g.K.DeskName.inlets z.events) (sym c.into_parts-settings.ensures.history) c.self.invariant.named

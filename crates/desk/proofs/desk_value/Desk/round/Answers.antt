@@ -1,0 +1,16 @@
+use Rattle.desk.proofs.Rounding.{few-seats, round-agrees}
+use Rattle.desk.proofs.desk_value.Desk.round.Goals as goal
+
+pub round-requires : goal.round-requires
+round-requires g c = record { few = few-seats g.K.DeskName.inlets g.K.DeskName.outlets (record { recorded = c.self.inside.recorded; side = c.self.inside.side }) c.self.invariant }
+
+pub invariant_of-self : goal.invariant_of-self
+invariant_of-self g c =
+    round-agrees g.K.DeskName.inlets g.K.DeskName.outlets c.round.result (record { recorded = c.self.inside.recorded; side = c.self.inside.side })
+    (record { recorded = c.round.new.recorded; side = c.round.new.side }) c.self.invariant c.round.ensures.ok c.round.ensures.err
+
+pub returns-clause-ok : goal.returns-clause-ok
+returns-clause-ok g c = rw (← c.self.view_is) c.round.ensures.ok
+
+pub returns-clause-err : goal.returns-clause-err
+returns-clause-err g c = rw (← c.self.view_is) c.round.ensures.err

@@ -1,0 +1,118 @@
+//! What lies under the lock.
+
+use desk_ends::{DeskName, Finished};
+use desk_side::Side;
+use desk_steps::{RecordedCore, Turned, round, settle};
+use gate_core::Settings;
+use gate_journal::History;
+use std::alloc::{AllocError, Global};
+use std::marker::{Model, PhantomData};
+
+/// What lies under the lock of a desk: the core with its history, and the desk's side of the rings. Contracts see both.
+///
+/// Its type keeps that they agree, whichever thread had the lock: the core is the one that the history leaves, with all
+/// that is promised of that; the ends are those that the desk's name names; what came out of an inlet's ring is what the
+/// history has of its source; what went into an outlet's ring is what the batches told it, or a beginning of that.
+#[derive(Drop)]
+pub struct Desk<K: DeskName> {
+    recorded: RecordedCore,
+    side: Side,
+    of: PhantomData<K>,
+}
+
+impl<K: DeskName> Model for Desk<K> {
+    ghost use Rattle.desk_steps.specs.Agreeing.{Agrees, DeskState};
+
+    ghost Value = { DeskState };
+
+    ghost view = { λ d. record { recorded = d.recorded; side = d.side } };
+
+    ghost invariant = { λ d. Agrees K.inlets K.outlets (record { recorded = d.recorded; side = d.side }) };
+}
+
+/// What is left of a desk that was closed: its history, and the settings of its core.
+#[derive(Drop)]
+pub struct Closed {
+    pub history: History,
+    pub settings: Settings,
+}
+
+impl<K: DeskName> Desk<K> {
+    ghost use Rattle.std.specs.Prelude.{◌≡◌, IfOk, OnOk, OnErr};
+    ghost use Rattle.gate_law.specs.Holds.{Holds};
+    ghost use Rattle.gate_journal.specs.Kept.{turns};
+    ghost use Rattle.desk_steps.specs.Agreeing.{Agrees, AreNamed};
+    ghost use Rattle.desk_steps.specs.Settling.{AreSettled, GoesOn};
+    ghost use Rattle.desk_steps.specs.Turning.{IsRefused, Rounds};
+
+    /// A desk of parts that agree.
+    pub(crate) fn new(recorded: RecordedCore, side: Side) -> Desk<K>
+        requires agree { Agrees K.inlets K.outlets (record { recorded = recorded; side = side }) }
+        ensures { result ≡ record { recorded = recorded; side = side } }
+    {
+        Desk {
+            recorded,
+            side,
+            of: PhantomData,
+        }
+    }
+
+    /// Goes once round the inlets, in order, and steps an event of each at most. An event waits where a ring is full to
+    /// somebody whom its batch may tell something, and is dropped where it isn't of its inlet's source.
+    ///
+    /// Where memory is refused the event stays first in its inlet's ring, and the round ends. `AllocError` comes only
+    /// where that was the first step that was tried.
+    pub fn round(&mut self, alloc: Global) -> Result<Turned, AllocError>
+        ensures ok { IfOk result (λ turned. Rounds turned self.old self.new) }
+        ensures err { OnErr result (IsRefused self.old self.new) }
+    {
+        round(&mut self.recorded, &mut self.side, alloc)
+    }
+
+    /// The outlets to which something was told since the last call: a bit for each, by position.
+    pub(crate) fn take_rung(&mut self) -> u128
+        ensures { self.new ≡ self.old }
+    {
+        self.side.take_rung()
+    }
+
+    /// The history so far: all that is promised holds of it.
+    pub fn history(&self) -> &History
+        ensures value { result.now ≡ self.now.recorded.kept }
+        ensures holds { Holds self.now.recorded.settings (turns result.now) }
+    {
+        self.recorded.history()
+    }
+
+    /// Steps what is left of what finished inlets put, and compares what finished outlets took.
+    ///
+    /// No outlet is waited for: a list that finds no room stands in the history alone. `AllocError` leaves the steps
+    /// before it standing, and the call may be made again.
+    pub(crate) fn settle(
+        &mut self,
+        alloc: Global,
+        finished: &mut Vec<Finished<K>>,
+    ) -> Result<(), AllocError>
+        ensures same { finished.new.items ≡ finished.old.items }
+        ensures goes_on { GoesOn self.old.recorded self.new.recorded }
+        ensures settled { OnOk result (AreSettled finished.old.items self.new.recorded.kept) }
+    {
+        settle(&mut self.recorded, &mut self.side, alloc, finished)
+    }
+
+    /// Ends the desk. All that is promised holds of its history, which has no events but those of the inlets' sources.
+    pub(crate) fn close(self) -> Closed
+        ensures history { result.history ≡ self.recorded.kept }
+        ensures settings { result.settings ≡ self.recorded.settings }
+        ensures holds { Holds result.settings (turns result.history) }
+        ensures named { AreNamed K.inlets result.history.events }
+    {
+        let Desk {
+            recorded,
+            side: _,
+            of: _,
+        } = self;
+        let (settings, history) = recorded.into_parts();
+        Closed { history, settings }
+    }
+}

@@ -1,0 +1,16 @@
+//! The desk: one core behind one lock, with a ring to each inlet and outlet.
+//!
+//! Threads put events and take lists by ends of their own and wait for nobody; who turns the desk takes its lock, and
+//! steps an event of each inlet at most. Each step goes into the history with its batch. What a desk keeps is in the
+//! type that lies under the lock: see `Desk`.
+#![tactic(auto)]
+
+mod desk_value;
+mod opening;
+mod shared;
+
+pub use desk_ends::{DeskName, Finished, Inlet, Outlet};
+pub use desk_steps::Turned;
+pub use desk_value::{Closed, Desk};
+pub use opening::{Parts, open_desk};
+pub use shared::Shared;

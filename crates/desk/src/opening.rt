@@ -1,0 +1,97 @@
+//! How a desk is opened.
+
+ghost use Rattle.std.specs.Prelude.{◌≡◌, ℕ, [], Some, length, slice_get, IfOk};
+ghost use Rattle.desk_ends.specs.Rings.{Putting, Taking};
+
+use crate::desk_value::Desk;
+use crate::shared::Shared;
+use desk_ends::{DeskName, Inlet, Outlet};
+use desk_rings::{EventRing, ToldRing, inlets_of, outlets_of};
+use desk_side::{Side, open_side};
+use desk_steps::RecordedCore;
+use gate_core::Settings;
+use std::alloc::{AllocError, Global};
+use std::collections::VecDeque;
+use std::marker::Model;
+use std::thread::Parker;
+
+/// A core and rings, of which a desk can be opened. Contracts see the settings and which rings they are.
+#[derive(Drop)]
+pub struct Parts {
+    recorded: RecordedCore,
+    side: Side,
+    inlets: VecDeque<EventRing>,
+    outlets: VecDeque<ToldRing>,
+}
+
+impl Model for Parts {
+    ghost use Rattle.std.specs.Prelude.{map};
+    ghost use Rattle.desk_rings.specs.Made.{inlet_name, outlet_name};
+    ghost use Rattle.desk.specs.Offered.{Offered, IsOffer};
+
+    ghost Value = { Offered };
+
+    ghost view = { λ p. record {
+      settings = p.recorded.settings;
+      inlets = map inlet_name p.inlets.items;
+      outlets = map outlet_name p.outlets.items;
+    } };
+
+    ghost invariant = { λ p. IsOffer p.recorded p.side p.inlets.items p.outlets.items };
+}
+
+impl Parts {
+    ghost use Rattle.std.specs.Prelude.{◌≡◌, ◌+◌, ℕ, Some, length, slice_get, IfOk};
+    ghost use Rattle.desk.specs.Offered.{AreFor};
+
+    /// The core of these settings, and rings of 1,024: an inlet for each client, then for each port, then one for the
+    /// clock; an outlet for each client, then for each port. `AllocError` gives the settings up.
+    pub fn new(alloc: Global, settings: Settings) -> Result<Parts, AllocError>
+        ensures settings { IfOk result (λ parts. parts.settings ≡ settings) }
+        ensures rings { IfOk result (λ parts. AreFor (length settings.clients) (length settings.ports) parts) }
+    {
+        let clients = settings.clients().len();
+        let ports = settings.ports().len();
+        let (side, inlets, outlets) = open_side(alloc, clients, ports)?;
+        let recorded = RecordedCore::new(alloc, settings)?;
+        Ok(Parts {
+            recorded,
+            side,
+            inlets,
+            outlets,
+        })
+    }
+}
+
+/// The desk of these parts under its lock, and the ends for threads, by position. K names the rings; the caller picks
+/// it. `AllocError` gives the parts up.
+pub fn open_desk<K: DeskName>(
+    alloc: Global,
+    parts: Parts,
+) -> Result<(Shared<K>, Vec<Inlet<K>>, Vec<Outlet<K>>), AllocError>
+    requires named { (parts.inlets ≡ K.inlets) × (parts.outlets ≡ K.outlets) }
+    ensures inlets { IfOk result (λ r. (length r.1.items ≡ length K.inlets) × ((k : ℕ) (x : Putting)
+        → slice_get r.1.items k ≡ Some x → (x.at ≡ k) × (x.put ≡ []) × (x.free ≡ 1_024))) }
+    ensures outlets { IfOk result (λ r. (length r.2.items ≡ length K.outlets) × ((d : ℕ) (x : Taking)
+        → slice_get r.2.items d ≡ Some x → (x.at ≡ d) × (x.took ≡ []))) }
+{
+    let Parts {
+        recorded,
+        side,
+        inlets,
+        outlets,
+    } = parts;
+    let puts = inlets_of::<K>(alloc, inlets)?;
+    let takes = outlets_of::<K>(alloc, outlets)?;
+    let bells = bells_of(alloc, takes.len())?;
+    Ok((Shared::new(Desk::new(recorded, side), bells), puts, takes))
+}
+
+/// So many bells.
+fn bells_of(alloc: Global, count: usize) -> Result<Vec<Parker>, AllocError> {
+    let mut bells = Vec::new(alloc);
+    for _ in 0..count {
+        bells.push(Parker::new())?;
+    }
+    Ok(bells)
+}

@@ -1,0 +1,103 @@
+//! A desk that threads share.
+
+use crate::desk_value::{Closed, Desk};
+use desk_ends::{DeskName, Finished};
+use desk_steps::Turned;
+use std::alloc::{AllocError, Global};
+use std::sync::{Mutex, Wait};
+use std::thread::Parker;
+use std::time::Duration;
+
+/// A desk that threads share.
+///
+/// Beside the lock there is a bell for each outlet: a turn that told it something rings it, once the lock is free.
+#[derive(Drop)]
+pub struct Shared<K: DeskName> {
+    desk: Mutex<Desk<K>>,
+    bells: Vec<Parker>,
+}
+
+impl<K: DeskName> Shared<K> {
+    ghost use Rattle.std.specs.Prelude.{◌≡◌, IfOk, IfErr};
+    ghost use Rattle.gate_law.specs.Holds.{Holds};
+    ghost use Rattle.gate_journal.specs.Kept.{turns};
+    ghost use Rattle.desk_steps.specs.Agreeing.{AreNamed};
+    ghost use Rattle.desk_steps.specs.Settling.{AreSettled};
+
+    /// This desk, to be shared, with the bells of its outlets.
+    pub(crate) fn new(desk: Desk<K>, bells: Vec<Parker>) -> Shared<K> {
+        Shared {
+            desk: Mutex::new(desk),
+            bells,
+        }
+    }
+
+    /// A round (`Desk::round`) under the lock. Rings the bells of the outlets that were told something, once the lock is
+    /// free.
+    pub fn turn(&self, rt: &impl Wait, alloc: Global) -> Result<Turned, AllocError> {
+        let (turned, rung) = self.turn_locked(rt, alloc)?;
+        self.ring_all(rung);
+        Ok(turned)
+    }
+
+    /// A round under the lock, and the outlets that were told something.
+    fn turn_locked(&self, rt: &impl Wait, alloc: Global) -> Result<(Turned, u128), AllocError> {
+        let mut guard = self.desk.lock(rt);
+        let desk = &mut *guard;
+        let turned = desk.round(alloc)?;
+        Ok((turned, desk.take_rung()))
+    }
+
+    /// Rings the bell of each outlet whose bit is set.
+    fn ring_all(&self, rung: u128) {
+        let mut left = rung;
+        for bell in &self.bells {
+            if left == 0 {
+                break;
+            }
+            if left & 1 == 1 {
+                bell.unpark();
+            }
+            left >>= 1;
+        }
+    }
+
+    /// Waits until an outlet's bell rings, at most so long; it may wait less. A bell that rang since the last wait ends
+    /// this one at once. One thread at a time waits for a bell.
+    pub fn nap(&self, rt: &impl Wait, outlet: usize, most: Duration) {
+        if let Some(bell) = self.bells.get(outlet) {
+            bell.park_timeout(rt, most);
+        }
+    }
+
+    /// Rings an outlet's bell.
+    pub fn ring(&self, outlet: usize) {
+        if let Some(bell) = self.bells.get(outlet) {
+            bell.unpark();
+        }
+    }
+
+    /// Ends the desk: steps what is left of what finished inlets put, and gives the history and the settings.
+    ///
+    /// Of each inlet that is handed in the history has just what was put, and each outlet took a beginning of what the
+    /// history tells it. Where memory is refused, all is given back, with the steps made so far: the call may be made
+    /// again.
+    pub fn close(
+        self,
+        alloc: Global,
+        finished: Vec<Finished<K>>,
+    ) -> Result<Closed, (AllocError, Shared<K>, Vec<Finished<K>>)>
+        ensures holds { IfOk result (λ closed. Holds closed.settings (turns closed.history)) }
+        ensures settled { IfOk result (λ closed. AreSettled finished.items closed.history) }
+        ensures named { IfOk result (λ closed. AreNamed K.inlets closed.history.events) }
+        ensures err { IfErr result (λ e. e.2.items ≡ finished.items) }
+    {
+        let Shared { desk, bells } = self;
+        let mut desk = desk.into_inner();
+        let mut finished = finished;
+        match desk.settle(alloc, &mut finished) {
+            Ok(()) => Ok(desk.close()),
+            Err(error) => Err((error, Shared::new(desk, bells), finished)),
+        }
+    }
+}

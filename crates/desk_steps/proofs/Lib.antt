@@ -1,0 +1,7 @@
+mod Recording
+mod Turns
+pub mod Keeping
+pub mod OneMore
+mod Cutting
+mod Comparing
+mod Draining

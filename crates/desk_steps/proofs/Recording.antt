@@ -1,0 +1,45 @@
+-- What the core is after, carried along, and what one step makes of a core with its history.
+use Rattle.std.proofs.Common.{◌≡◌, Result, Ok, Err, OnErr, ◌∷◌, ◌++◌, [], refl, sym, ap, ◌∙◌, subst}
+use Rattle.gate_law.specs.Settings.{Settings}
+use Rattle.gate_law.specs.Events.{History, Turn}
+use Rattle.gate_law.specs.Holds.{Holds}
+use Rattle.gate_events.specs.declared.event.Event.{Event}
+use Rattle.gate_events.specs.declared.batch.Batch.{Batch}
+use Rattle.gate_events.specs.Seen.{batch_seen}
+use Rattle.gate_core.specs.Core.{After, CoreState, IsAfter, turn_of}
+use Rattle.gate_journal.specs.Kept.{Kept, turns}
+use Rattle.desk_side.specs.declared.said.Said.{Said}
+use Rattle.desk_side.specs.Said.{IsSaid}
+use Rattle.desk_steps.specs.Recorded.{IsStep, Recorded}
+
+pub holds-after : (s : Settings) (h : History) (core : CoreState) → IsAfter s h core → Holds s h
+unfolding IsAfter
+holds-after s h core is = is.holds
+
+-- a core that stands as another is after what that one is after
+pub after-same : (s : Settings) (h : History) (c d : CoreState) → d.now ≡ c.now → IsAfter s h c → IsAfter s h d
+unfolding IsAfter
+after-same s h c d same after = subst (After s h) (sym same) after
+
+-- the same turns
+pub after-turns : (s : Settings) (h g : History) (c : CoreState) → g ≡ h → IsAfter s h c → IsAfter s g c
+after-turns s h g c same after = subst (λ (z : History). IsAfter s z c) (sym same) after
+
+-- what is kept with its batch is a step
+pub step-is : (e : Event) (said : Said) (batch : Batch) (settings : Settings) (kept more : Kept) (old : Recorded)
+    → record { settings = settings; kept = kept } ≡ old
+    → more.events ≡ kept.events ++ e ∷ [] → more.batches ≡ kept.batches ++ batch ∷ []
+    → IsSaid (batch_seen batch) said → Holds settings (turn_of e batch ∷ turns kept)
+    → IsStep e said old (record { settings = settings; kept = more })
+step-is e said batch settings kept more old is events batches says holds =
+    subst (λ (z : Recorded). IsStep e said z (record { settings = settings; kept = more })) is
+    (record { batch = batch; settings = refl; events = events; batches = batches; says = says; holds = holds })
+
+-- what is refused changes nothing
+pub same-recorded : (settings : Settings) (kept more : Kept) (old : Recorded) → record { settings = settings; kept = kept } ≡ old → more ≡ kept
+    → record { settings = settings; kept = more } ≡ old
+same-recorded settings kept more old is same = ap (λ (k : Kept). record { settings = settings; kept = k }) same ∙ is
+
+pub on-err : {T E P : Type 0} (r : Result T E) → P → OnErr r P
+on-err (Ok x) is = tt
+on-err (Err e) is = is

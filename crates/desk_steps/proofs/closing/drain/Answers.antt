@@ -1,0 +1,35 @@
+use Rattle.std.proofs.Common.{◌≡◌, ◌<◌, ◌+◌, ◌-◌, ◌∙◌, Some, slice_get, length, refl, sym, ap, subst, arith}
+use Rattle.desk_ends.specs.Seats.{SeatState}
+use Rattle.desk_steps.specs.Agreeing.{DeskState}
+use Rattle.desk_steps.proofs.Draining.{drained-agree, drained-goes, drained-less, drained-shrinks, goes-further, goes-nowhere, same-agree, shrinks-more, shrinks-none}
+use Rattle.desk_steps.proofs.closing.drain.Goals as goal
+
+pub loop-init : goal.loop-init
+loop-init c = record {
+  agrees = λ inlets outlets h. h;
+  goes_on = goes-nowhere c.args.recorded.now;
+  shrinks = shrinks-none c.args.side.now.seats;
+  knows = λ a at. omega (arith, c.known-left.ensures a at);
+}
+
+pub drain_one-requires : goal.drain_one-requires
+drain_one-requires c = record {
+  inside = omega (arith, c.requires.inside, c.loop.invariant.shrinks.count);
+  some = λ a at. omega (arith, c.loop.invariant.knows a at);
+}
+
+pub loop-preserved : goal.loop-preserved
+loop-preserved c =
+    let s : DeskState = record { recorded = c.loop.recorded; side = c.loop.side } in
+    let t : DeskState = record { recorded = c.drain_one.new.recorded; side = c.drain_one.new.side } in
+    let did = c.in_ok-drain_one.ensures.ok in
+    record {
+      agrees = λ inlets outlets h. drained-agree inlets outlets c.args.place s t did (c.loop.invariant.agrees inlets outlets h);
+      goes_on = goes-further c.args.recorded.now c.loop.recorded c.drain_one.new.recorded c.loop.invariant.goes_on (drained-goes c.args.place s t did);
+      shrinks = shrinks-more c.args.side.now.seats c.loop.side.seats c.drain_one.new.side.seats c.loop.invariant.shrinks (drained-shrinks c.args.place s t did);
+      knows = λ b at. omega (arith, drained-less c.args.place (c.known-left.result - c.loop.counter - 1) s t (omega (arith, c.requires.inside, c.loop.invariant.shrinks.count)) did (λ a here. omega (arith, c.loop.invariant.knows a here)) b at);
+    }
+
+pub returns-in_err-drain_one-clause-agrees : goal.returns-in_err-drain_one-clause-agrees
+returns-in_err-drain_one-clause-agrees c = λ inlets outlets h.
+    same-agree inlets outlets c.loop.recorded c.drain_one.new.recorded c.loop.side c.drain_one.new.side c.in_err-drain_one.ensures.err.0 c.in_err-drain_one.ensures.err.1 (c.loop.invariant.agrees inlets outlets h)

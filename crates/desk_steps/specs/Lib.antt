@@ -1,0 +1,14 @@
+pub mod Recorded
+pub mod Agreeing
+pub mod Turning
+pub mod Settling
+pub use Rattle.gate_core.specs.Core
+pub use Rattle.gate_core.specs.Targets
+pub use Rattle.gate_journal.specs.Kept
+pub use Rattle.gate_law.specs.Events
+pub use Rattle.gate_law.specs.Holds
+pub use Rattle.gate_law.specs.Promises
+pub use Rattle.desk_ends.specs.Rings
+pub use Rattle.desk_ends.specs.Seats
+pub use Rattle.desk_side.specs.Side
+pub use Rattle.desk_side.specs.Said

@@ -1,0 +1,25 @@
+-- What contracts see of a core with its history, and what one step makes of it. (Own.)
+use Rattle.std.specs.Prelude.{◌≡◌, [], ◌∷◌, ◌++◌}
+use Rattle.gate_law.specs.Settings.{Settings}
+use Rattle.gate_law.specs.Holds.{Holds}
+use Rattle.gate_events.specs.declared.event.Event.{Event}
+use Rattle.gate_events.specs.declared.batch.Batch.{Batch}
+use Rattle.gate_events.specs.Seen.{batch_seen}
+use Rattle.gate_core.specs.Core.{turn_of}
+use Rattle.gate_journal.specs.Kept.{Kept, turns}
+use Rattle.desk_side.specs.declared.said.Said.{Said}
+use Rattle.desk_side.specs.Said.{IsSaid}
+
+-- its settings, and what the history keeps
+pub record Recorded : Type 0 where
+  pub settings : Settings
+  pub kept : Kept
+
+-- The event is kept with a batch, and this is what the batch tells; all that is promised holds with it.
+pub record IsStep (e : Event) (said : Said) (old new : Recorded) : Type 0 where
+  pub batch : Batch
+  pub settings : new.settings ≡ old.settings
+  pub events : new.kept.events ≡ old.kept.events ++ e ∷ []
+  pub batches : new.kept.batches ≡ old.kept.batches ++ batch ∷ []
+  pub says : IsSaid (batch_seen batch) said
+  pub holds : Holds old.settings (turn_of e batch ∷ turns old.kept)

@@ -1,0 +1,56 @@
+-- What is known of ends that have finished, once a desk is closed. (Own.)
+use Rattle.std.specs.Prelude.{◌≡◌, ℕ, ◌≤◌, Some, slice_get, length, List, ◌++◌}
+use mathlib.Core.List.{IsPrefix}
+use Rattle.gate_events.specs.Sources.{events_from}
+use Rattle.gate_journal.specs.Kept.{Kept, lists_kept}
+use Rattle.desk_steps.specs.Recorded.{Recorded}
+use Rattle.desk_ends.specs.Rings.{Done, put_at, took_at}
+use Rattle.desk_ends.specs.Ends.{inlet_of}
+use Rattle.desk_ends.specs.Seats.{IsTold, SeatState, WayState}
+
+-- The history has just what was put. What was taken is a beginning of what it tells, and the whole where as many lists
+-- were taken.
+abbrev pub IsSettled : Done → Kept → Type 0
+IsSettled (put_at k source events) kept = events_from source kept.events ≡ events
+IsSettled (took_at d to lists) kept = IsPrefix lists (lists_kept to kept)
+    × (length lists ≡ length (lists_kept to kept) → lists ≡ lists_kept to kept)
+
+abbrev pub AreSettled : List Done → Kept → Type 0
+AreSettled finished kept = (i : ℕ) (f : Done) → slice_get finished i ≡ Some f → IsSettled f kept
+
+-- the settings stay, and events with their batches are added at most
+pub record GoesOn (old new : Recorded) : Type 0 where
+  pub settings : new.settings ≡ old.settings
+  pub events : IsPrefix old.kept.events new.kept.events
+  pub batches : IsPrefix old.kept.batches new.kept.batches
+
+-- ---- on the way there
+
+-- a seat gave and knows all that the end says, and perhaps more
+abbrev pub IsBegun : Done → List SeatState → Type 0
+IsBegun (put_at k source events) seats = (a : SeatState) → slice_get seats k ≡ Some a
+    → IsPrefix events (a.gave ++ a.known)
+IsBegun (took_at d to lists) seats = Unit {0}
+
+abbrev pub AreBegun : List Done → List SeatState → Type 0
+AreBegun finished seats = (i : ℕ) (f : Done) → slice_get finished i ≡ Some f → IsBegun f seats
+
+abbrev pub AreTold : List Done → List SeatState → List WayState → Type 0
+AreTold finished seats ways = (i : ℕ) (f : Done) → slice_get finished i ≡ Some f → IsTold f seats ways
+
+-- a seat gave of what it was known to have, and knows the rest still
+abbrev pub SeatShrinks : SeatState → SeatState → Type 0
+SeatShrinks a b = (b.name ≡ a.name) × (b.gave ++ b.known ≡ a.gave ++ a.known) × (length b.known ≤ length a.known)
+
+pub record Shrinks (old new : List SeatState) : Type 0 where
+  pub count : length new ≡ length old
+  pub each : (k : ℕ) (a : SeatState) → slice_get old k ≡ Some a → (b : SeatState) × (slice_get new k ≡ Some b)
+      × SeatShrinks a b
+
+-- it knows of no event
+abbrev pub KnowsNone : ℕ → List SeatState → Type 0
+KnowsNone k seats = (a : SeatState) → slice_get seats k ≡ Some a → length a.known ≡ 0
+
+abbrev pub AreDrained : List Done → List SeatState → Type 0
+AreDrained finished seats = (i : ℕ) (f : Done) (k : ℕ) → slice_get finished i ≡ Some f → inlet_of f ≡ Some k
+    → KnowsNone k seats

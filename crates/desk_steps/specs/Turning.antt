@@ -1,0 +1,106 @@
+-- What the turn of one inlet makes of a desk, and what a round does. (Own.)
+use Rattle.std.specs.Prelude.{◌≡◌, ℕ, ◌+◌, ◌<◌, ◌⊎◌, true, false, Some, slice_get, List, [], ◌∷◌, length}
+use Rattle.gate_law.specs.After.{lists}
+use Rattle.gate_events.specs.declared.event.Event.{Event}
+use Rattle.gate_events.specs.Seen.{event_seen}
+use Rattle.gate_events.specs.Sources.{is_from}
+use Rattle.gate_core.specs.Targets.{client_for, port_for}
+use Rattle.gate_journal.specs.Kept.{turns}
+use Rattle.desk_steps.specs.Recorded.{IsStep, Recorded}
+use Rattle.desk_ends.specs.Seats.{SeatState, SeatGave, SeatLooked, WayState, WaysLooked}
+use Rattle.desk_side.specs.declared.said.Said.{Said}
+use Rattle.desk_side.specs.Side.{ChangesAt, IsHeld, SideState, Tells}
+use Rattle.desk_steps.specs.Agreeing.{DeskState}
+use Rattle.desk_steps.specs.Settling.{KnowsNone}
+use Rattle.desk_steps.specs.declared.turned.Did.{Did}
+use Rattle.desk_steps.specs.declared.turned.Did.TheVariants.{Idle, Dropped, Held, Stepped}
+use Rattle.desk_steps.specs.declared.turned.Turned.{Turned}
+
+-- the same clients and ports
+abbrev pub SameCounts : SideState → SideState → Type 0
+SameCounts s t = (t.clients ≡ s.clients) × (t.ports ≡ s.ports)
+
+-- The desk looked at an inlet's ring and at those of outlets: it may know of more events there and of more room, and
+-- nothing else changed.
+pub record Looks (k : ℕ) (s t : DeskState) : Type 0 where
+  pub recorded : t.recorded ≡ s.recorded
+  pub seats : ChangesAt k SeatLooked s.side.seats t.side.seats
+  pub ways : WaysLooked s.side.ways t.side.ways
+  pub counts : SameCounts s.side t.side
+
+-- The first event of an inlet's ring, of the inlet's source, is stepped: it comes out of the ring, it is kept with its
+-- batch, and what that tells goes into the rings of its recipients.
+pub record Steps (k : ℕ) (s t : DeskState) : Type 0 where
+  pub event : Event
+  pub said : Said
+  pub seat : SeatState
+  pub there : slice_get s.side.seats k ≡ Some seat
+  pub own : is_from seat.name.source event ≡ true
+  pub step : IsStep event said s.recorded t.recorded
+  pub seats : ChangesAt k (SeatGave event) s.side.seats t.side.seats
+  pub ways : Tells said s.side.ways t.side.ways
+  pub counts : SameCounts s.side t.side
+
+-- The first event of an inlet's ring isn't of the inlet's source: it comes out of the ring and is dropped.
+pub record Drops (k : ℕ) (s t : DeskState) : Type 0 where
+  pub event : Event
+  pub seat : SeatState
+  pub there : slice_get s.side.seats k ≡ Some seat
+  pub foreign : is_from seat.name.source event ≡ false
+  pub recorded : t.recorded ≡ s.recorded
+  pub seats : ChangesAt k (SeatGave event) s.side.seats t.side.seats
+  pub ways : t.side.ways ≡ s.side.ways
+  pub counts : SameCounts s.side t.side
+
+-- The first event of an inlet's ring, of the inlet's source, waits: the ring of somebody is full to whom its batch may
+-- tell something.
+pub record Waits (k : ℕ) (s : DeskState) : Type 0 where
+  pub event : Event
+  pub seat : SeatState
+  pub there : slice_get s.side.seats k ≡ Some seat
+  pub first : slice_get seat.known 0 ≡ Some event
+  pub own : is_from seat.name.source event ≡ true
+  pub held : IsHeld
+      (client_for s.recorded.settings (event_seen event) (lists s.recorded.settings (turns s.recorded.kept)))
+      (port_for s.recorded.settings (event_seen event)) s.side.ways
+
+-- no way is cut that wasn't
+abbrev pub SameCuts : List WayState → List WayState → Type 0
+SameCuts old new = (d : ℕ) (w v : WayState) → slice_get old d ≡ Some w → slice_get new d ≡ Some v → v.cut ≡ w.cut
+
+-- what became of an inlet's turn
+abbrev pub Does : ℕ → Did → DeskState → DeskState → Type 0
+Does k Idle s t = Looks k s t × KnowsNone k t.side.seats
+Does k Dropped s t = (m : DeskState) × Looks k s m × Drops k m t
+Does k Held s t = Looks k s t × Waits k t
+Does k Stepped s t = (m : DeskState) × Looks k s m × Steps k m t × SameCuts m.side.ways t.side.ways
+
+-- the turns of the first inlets, one after another, the newest first
+abbrev pub Went : DeskState → List Did → DeskState → Type 0
+Went s [] t = t ≡ s
+Went s (did ∷ dids) t = (m : DeskState) × Went s dids m × Does (length dids) did m t
+
+-- how many steps were made, and how many events were left for a full outlet
+abbrev pub counted : List Did → Turned
+counted [] = record { steps = 0; held = 0 }
+counted (Idle ∷ dids) = counted dids
+counted (Dropped ∷ dids) = counted dids
+counted (Held ∷ dids) = record { steps = (counted dids).steps; held = (counted dids).held + 1 }
+counted (Stepped ∷ dids) = record { steps = (counted dids).steps + 1; held = (counted dids).held }
+
+-- A round: each inlet had its turn, or memory ran out in the turn of one after a step was made, and what the desk knows
+-- of rings is all that changed in that.
+pub record Rounds (turned : Turned) (s t : DeskState) : Type 0 where
+  pub dids : List Did
+  pub mid : DeskState
+  pub went : Went s dids mid
+  pub counts : turned ≡ counted dids
+  pub end : ((length dids ≡ length s.side.seats) × (t ≡ mid)) ⊎ ((0 < turned.steps) × Looks (length dids) mid t)
+
+-- A round in which the first step that was tried was refused.
+pub record IsRefused (s t : DeskState) : Type 0 where
+  pub dids : List Did
+  pub mid : DeskState
+  pub went : Went s dids mid
+  pub none : (counted dids).steps ≡ 0
+  pub end : Looks (length dids) mid t

@@ -1,0 +1,15 @@
+//! What a desk does: the turns of its inlets, and what is left to do once ends have finished.
+//!
+//! A desk is a core with its history (`RecordedCore`) and the desk's side of its rings (`Side`); the calls here take
+//! both, so that nothing of either is opened while a step is half done.
+#![tactic(auto)]
+
+mod closing;
+mod recorded;
+mod turned;
+mod turning;
+
+pub use closing::settle;
+pub use recorded::RecordedCore;
+pub use turned::{Did, Turned};
+pub use turning::round;

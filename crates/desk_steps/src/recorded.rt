@@ -1,0 +1,129 @@
+//! The value, and the call that steps it.
+
+ghost use Rattle.std.specs.Prelude.{◌≡◌, ◌++◌, ◌∷◌, [], IfOk, OnErr};
+ghost use Rattle.gate_events.specs.Seen.{batch_seen};
+ghost use Rattle.gate_journal.specs.Kept.{Kept, turns};
+ghost use Rattle.gate_core.specs.Core.{turn_of};
+ghost use Rattle.desk_side.specs.Said.{IsSaid};
+
+use desk_side::Said;
+use gate_core::{Batch, Core, Event, Settings, Targets};
+use gate_journal::History;
+use std::alloc::{AllocError, Global};
+use std::marker::Model;
+
+/// A core with the history of all that it was stepped by. Contracts see its settings and what the history keeps; the
+/// core is the one that the history leaves.
+#[derive(Debug, Drop)]
+pub struct RecordedCore {
+    settings: Settings,
+    core: Core,
+    history: History,
+}
+
+impl Model for RecordedCore {
+    ghost use Rattle.gate_core.specs.Core.{IsAfter};
+    ghost use Rattle.gate_journal.specs.Kept.{turns};
+    ghost use Rattle.desk_steps.specs.Recorded.{Recorded};
+
+    ghost Value = { Recorded };
+
+    ghost view = { λ r. record { settings = r.settings; kept = r.history } };
+
+    ghost invariant = { λ r. IsAfter r.settings (turns r.history) r.core };
+}
+
+impl RecordedCore {
+    ghost use Rattle.std.specs.Prelude.{◌≡◌, ◌∷◌, IfOk, OnErr};
+    ghost use Rattle.gate_law.specs.Events as told;
+    ghost use Rattle.gate_law.specs.After.{lists};
+    ghost use Rattle.gate_law.specs.Holds.{Holds};
+    ghost use Rattle.gate_law.specs.Promises.{IsAmong};
+    ghost use Rattle.gate_events.specs.Seen.{event_seen};
+    ghost use Rattle.gate_core.specs.Targets.{client_for, port_for};
+    ghost use Rattle.gate_journal.specs.Kept.{nothing_kept, turns};
+    ghost use Rattle.desk_steps.specs.Recorded.{IsStep};
+
+    /// The core of these settings before the first event. `AllocError` gives the settings up.
+    pub fn new(alloc: Global, settings: Settings) -> Result<RecordedCore, AllocError>
+        ensures settings { IfOk result (λ r. r.settings ≡ settings) }
+        ensures kept { IfOk result (λ r. r.kept ≡ nothing_kept) }
+    {
+        let core = Core::new(alloc, &settings)?;
+        Ok(RecordedCore {
+            settings,
+            core,
+            history: History::new(alloc),
+        })
+    }
+
+    /// Whom the batch of this event may name, if it is stepped next. Takes no memory.
+    pub fn targets(&self, event: &Event) -> Targets
+        ensures client { result.client
+            ≡ client_for self.now.settings (event_seen event.now) (lists self.now.settings (turns self.now.kept)) }
+        ensures port { result.port ≡ port_for self.now.settings (event_seen event.now) }
+        ensures named { (batch : told.Batch)
+            → Holds self.now.settings (record { event = event_seen event.now; batch = batch } ∷ turns self.now.kept)
+            → IsAmong batch.client result.client × IsAmong batch.port result.port }
+    {
+        self.core.targets(event)
+    }
+
+    /// Steps an event, keeps it with its batch, and gives what the batch tells. `AllocError` leaves all as it was: the
+    /// event may be stepped again, or another one.
+    pub fn step(&mut self, alloc: Global, event: &Event) -> Result<Said, AllocError>
+        ensures ok { IfOk result (λ said. IsStep event.now said self.old self.new) }
+        ensures err { OnErr result (self.new ≡ self.old) }
+    {
+        let batch = self.core.step(alloc, event)?;
+        match keep(&mut self.history, alloc, event, batch) {
+            Ok(said) => Ok(said),
+            Err(error) => {
+                self.core.undo();
+                Err(error)
+            }
+        }
+    }
+
+    /// The settings.
+    pub fn settings(&self) -> &Settings
+        ensures { result.now ≡ self.now.settings }
+    {
+        &self.settings
+    }
+
+    /// The history: all that is promised holds of it.
+    pub fn history(&self) -> &History
+        ensures value { result.now ≡ self.now.kept }
+        ensures holds { Holds self.now.settings (turns self.now.kept) }
+    {
+        &self.history
+    }
+
+    /// The settings and the history: all that is promised holds of it.
+    pub fn into_parts(self) -> (Settings, History)
+        ensures settings { result.0 ≡ self.settings }
+        ensures history { result.1 ≡ self.kept }
+        ensures holds { Holds self.settings (turns self.kept) }
+    {
+        (self.settings, self.history)
+    }
+}
+
+/// Keeps an event with its batch, and gives what the batch tells. `AllocError` leaves the history as it was.
+fn keep(
+    history: &mut History,
+    alloc: Global,
+    event: &Event,
+    batch: Batch,
+) -> Result<Said, AllocError>
+    ensures said { IfOk result (λ said. IsSaid (batch_seen batch) said) }
+    ensures ok { IfOk result (λ said. (history.new.events ≡ history.old.events ++ event.now ∷ [])
+        × (history.new.batches ≡ history.old.batches ++ batch ∷ [])
+        × (turns history.new ≡ turn_of event.now batch ∷ turns history.old)) }
+    ensures err { OnErr result (history.new ≡ history.old) }
+{
+    let said = Said::of(alloc, &batch)?;
+    history.push(event.copied(alloc)?, batch)?;
+    Ok(said)
+}

@@ -1,0 +1,91 @@
+//! Turns of inlets, one event each.
+
+ghost use Rattle.std.specs.Prelude.{◌≡◌, ◌<◌, ◌^◌, true, Some, length, slice_get, IfOk, OnOk, OnErr};
+ghost use Rattle.gate_events.specs.Sources.{is_from};
+ghost use Rattle.gate_events.specs.declared.event.Event.{Event};
+ghost use Rattle.desk_ends.specs.Seats.{SeatState};
+ghost use Rattle.desk_steps.specs.Turning.{Does, IsRefused, Looks, Rounds, Steps};
+
+use crate::recorded::RecordedCore;
+use crate::turned::{Did, Turned};
+use desk_side::Side;
+use std::alloc::{AllocError, Global};
+
+/// Steps the first event of an inlet's ring. All that takes memory is done while the event lies there still:
+/// `AllocError` leaves all as it was.
+pub(crate) fn step_front(
+    recorded: &mut RecordedCore,
+    side: &mut Side,
+    alloc: Global,
+    place: usize,
+) -> Result<(), AllocError>
+    requires inside { place < length side.old.seats }
+    requires own { (a : SeatState) → slice_get side.old.seats place ≡ Some a
+        → (e : Event) × (slice_get a.known 0 ≡ Some e) × (is_from a.name.source e ≡ true) }
+    ensures ok { OnOk result (Steps place (record { recorded = recorded.old; side = side.old })
+        (record { recorded = recorded.new; side = side.new })) }
+    ensures err { OnErr result ((recorded.new ≡ recorded.old) × (side.new ≡ side.old)) }
+{
+    let said = recorded.step(alloc, side.front(place))?;
+    let _ = side.pop(place);
+    side.tell(said);
+    Ok(())
+}
+
+/// The turn of an inlet: its first event is stepped, unless it has to wait. `AllocError` leaves it where it was.
+pub(crate) fn turn_at(
+    recorded: &mut RecordedCore,
+    side: &mut Side,
+    alloc: Global,
+    place: usize,
+) -> Result<Did, AllocError>
+    requires inside { place < length side.old.seats }
+    ensures ok { IfOk result (λ did. Does place did (record { recorded = recorded.old; side = side.old })
+        (record { recorded = recorded.new; side = side.new })) }
+    ensures err { OnErr result (Looks place (record { recorded = recorded.old; side = side.old })
+        (record { recorded = recorded.new; side = side.new })) }
+    ensures count { length side.new.seats ≡ length side.old.seats }
+{
+    if side.is_empty(place) {
+        return Ok(Did::Idle);
+    }
+    let event = side.front(place);
+    if !event.is_from(&side.source(place)) {
+        let _ = side.pop(place);
+        return Ok(Did::Dropped);
+    }
+    let targets = recorded.targets(event);
+    if !side.has_room(targets.client, targets.port) {
+        return Ok(Did::Held);
+    }
+    step_front(recorded, side, alloc, place)?;
+    Ok(Did::Stepped)
+}
+
+/// Once round the inlets, in order: each has its turn, until memory is refused. `AllocError` comes only where the first
+/// step that is tried is refused.
+pub fn round(
+    recorded: &mut RecordedCore,
+    side: &mut Side,
+    alloc: Global,
+) -> Result<Turned, AllocError>
+    requires few { length side.old.seats < 2 ^ 32 }
+    ensures ok { IfOk result (λ turned. Rounds turned (record { recorded = recorded.old; side = side.old })
+        (record { recorded = recorded.new; side = side.new })) }
+    ensures err { OnErr result (IsRefused (record { recorded = recorded.old; side = side.old })
+        (record { recorded = recorded.new; side = side.new })) }
+{
+    let mut turned = Turned { steps: 0, held: 0 };
+    for place in 0..side.inlets() {
+        match turn_at(recorded, side, alloc, place) {
+            Ok(did) => turned.count(did),
+            Err(error) => {
+                if turned.steps == 0 {
+                    return Err(error);
+                }
+                return Ok(turned);
+            }
+        }
+    }
+    Ok(turned)
+}

@@ -1,0 +1,58 @@
+//! Bells of outlets.
+
+ghost use Rattle.std.specs.Prelude.{◌≡◌};
+
+use super::events::put;
+use desk::{DeskName, Parts, Turned, open_desk};
+use gate_core::{ClientNumber, Event};
+use script_steps::fixed_settings;
+use std::alloc::Global;
+use std::marker::Brand;
+use std::process::Abort;
+use std::sync::Wait;
+use std::test::Fail;
+use std::time::{Clock, Duration, Instant};
+
+/// A turn rings the bell of the outlet that it told something, and no other.
+#[test]
+fn rings_one(rt: HostRuntime) -> Result<(), Fail> {
+    let alloc = rt.alloc();
+    let parts = Parts::new(alloc, fixed_settings(alloc)?)?;
+    rings::<Brand, _>(&rt, alloc, parts)
+}
+
+fn rings<K: DeskName, R: Wait + Abort + Clock>(
+    rt: &R,
+    alloc: Global,
+    parts: Parts,
+) -> Result<(), Fail>
+    requires named { (parts.inlets ≡ K.inlets) × (parts.outlets ≡ K.outlets) }
+{
+    let (shared, mut inlets, _outlets) = open_desk::<K>(alloc, parts)?;
+    let second = inlets.get_mut(1).ok_or("an inlet")?;
+    assert!(rt; put(second, second_up(1)));
+    assert_eq!(rt; shared.turn(rt, alloc)?, Turned { steps: 1, held: 0 });
+    assert!(rt; put(second, second_up(2)));
+    assert_eq!(rt; shared.turn(rt, alloc)?, Turned { steps: 1, held: 0 });
+    let start = Instant::now(rt).ok().ok_or("a clock")?;
+    shared.nap(rt, 1, Duration::from_secs(10));
+    let rung = start.elapsed(rt).ok().ok_or("a clock")?;
+    assert!(rt; rung < Duration::from_secs(5));
+    shared.nap(rt, 0, Duration::from_millis(50));
+    let both = start.elapsed(rt).ok().ok_or("a clock")?;
+    assert!(rt; both >= Duration::from_millis(40));
+    shared.ring(0);
+    shared.nap(rt, 0, Duration::from_secs(10));
+    let last = start.elapsed(rt).ok().ok_or("a clock")?;
+    assert!(rt; last < Duration::from_secs(9));
+    Ok(())
+}
+
+/// A link of the second client is up. The second one is closed, since the first is there.
+fn second_up(link: u64) -> Event {
+    Event::ClientUp {
+        client: ClientNumber::new(2),
+        link,
+        at: 0,
+    }
+}

@@ -1,0 +1,94 @@
+//! Rings that are full.
+
+ghost use Rattle.std.specs.Prelude.{◌≡◌};
+
+use super::events::{logon, put, test_request, tick, up};
+use desk::{DeskName, Finished, Inlet, Outlet, Parts, Turned, open_desk};
+use gate_events::Source;
+use script_steps::fixed_settings;
+use std::alloc::Global;
+use std::marker::Brand;
+use std::process::Abort;
+use std::sync::Wait;
+use std::test::Fail;
+
+/// 1,024 ticks go in with no turn between, and one more once a turn was made.
+#[test]
+fn ticks_and_one_more(rt: HostRuntime) -> Result<(), Fail> {
+    let alloc = rt.alloc();
+    let parts = Parts::new(alloc, fixed_settings(alloc)?)?;
+    ticks::<Brand, _>(&rt, alloc, parts)
+}
+
+fn ticks<K: DeskName, R: Wait + Abort>(rt: &R, alloc: Global, parts: Parts) -> Result<(), Fail>
+    requires named { (parts.inlets ≡ K.inlets) × (parts.outlets ≡ K.outlets) }
+{
+    let (shared, mut inlets, _outlets) = open_desk::<K>(alloc, parts)?;
+    assert_eq!(rt; inlets.len(), 6);
+    let mut clock = inlets.pop().ok_or("an inlet")?;
+    assert_eq!(rt; clock.position(), 5);
+    assert_eq!(rt; clock.source(), Source::Clock);
+    for _ in 0..1_024 {
+        assert!(rt; put(&mut clock, tick()));
+    }
+    assert!(rt; !put(&mut clock, tick()));
+    assert_eq!(rt; shared.turn(rt, alloc)?, Turned { steps: 1, held: 0 });
+    assert!(rt; put(&mut clock, tick()));
+    Ok(())
+}
+
+/// An event waits while the outlet of its client is full. The closed history has all that was put, and nothing else.
+#[test]
+fn held_and_stepped(rt: HostRuntime) -> Result<(), Fail> {
+    let alloc = rt.alloc();
+    let parts = Parts::new(alloc, fixed_settings(alloc)?)?;
+    holds::<Brand, _>(&rt, alloc, parts)
+}
+
+fn holds<K: DeskName, R: Wait + Abort>(rt: &R, alloc: Global, parts: Parts) -> Result<(), Fail>
+    requires named { (parts.inlets ≡ K.inlets) × (parts.outlets ≡ K.outlets) }
+{
+    let (shared, mut inlets, mut outlets) = open_desk::<K>(alloc, parts)?;
+    let one = Turned { steps: 1, held: 0 };
+    {
+        let client = inlets.get_mut(0).ok_or("an inlet")?;
+        assert!(rt; put(client, up()));
+        assert_eq!(rt; shared.turn(rt, alloc)?, one);
+        assert!(rt; put(client, logon(alloc)?));
+        assert_eq!(rt; shared.turn(rt, alloc)?, one);
+        for number in 2..1_025 {
+            assert!(rt; put(client, test_request(alloc, number)?));
+            assert_eq!(rt; shared.turn(rt, alloc)?, one);
+        }
+        assert!(rt; put(client, test_request(alloc, 1_025)?));
+    }
+    assert_eq!(rt; shared.turn(rt, alloc)?, Turned { steps: 0, held: 1 });
+    assert!(rt; outlets.get_mut(0).ok_or("an outlet")?.take().is_some());
+    assert_eq!(rt; shared.turn(rt, alloc)?, one);
+    let finished = finish_all(alloc, inlets, outlets)?;
+    let closed = shared.close(alloc, finished).map_err(|_| "closed")?;
+    assert_eq!(rt; closed.history.events().len(), 1_026);
+    for event in closed.history.events() {
+        assert_eq!(rt;
+            event.source(),
+            Source::Client(gate_core::ClientNumber::new(1))
+        );
+    }
+    Ok(())
+}
+
+/// What is left of all ends, once they have finished.
+fn finish_all<K: DeskName>(
+    alloc: Global,
+    inlets: Vec<Inlet<K>>,
+    outlets: Vec<Outlet<K>>,
+) -> Result<Vec<Finished<K>>, Fail> {
+    let mut finished = Vec::new(alloc);
+    for inlet in inlets {
+        finished.push(inlet.finish().ok_or("the desk is there")?)?;
+    }
+    for outlet in outlets {
+        finished.push(outlet.finish())?;
+    }
+    Ok(finished)
+}

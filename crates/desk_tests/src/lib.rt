@@ -1,0 +1,11 @@
+//! Tests of a desk. Nothing else stands here.
+#![tactic(auto)]
+
+#[cfg(test)]
+mod bells;
+#[cfg(test)]
+mod events;
+#[cfg(test)]
+mod full_rings;
+#[cfg(test)]
+mod threads;

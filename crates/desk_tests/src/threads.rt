@@ -1,0 +1,168 @@
+//! Threads that put, turn and take at once.
+
+ghost use Rattle.std.specs.Prelude.{◌≡◌};
+
+use super::events::tick;
+use desk::{DeskName, Finished, Inlet, Outlet, Parts, Shared, open_desk};
+use gate_core::{ClientNumber, Event};
+use gate_events::Source;
+use script_steps::fixed_settings;
+use std::alloc::{AllocError, Global};
+use std::marker::Brand;
+use std::process::Abort;
+use std::sync::Wait;
+use std::sync::atomic::{AtomicBool, Ordering};
+use std::test::Fail;
+use std::thread;
+use std::thread::Threads;
+
+/// So many events each of two threads puts.
+const EACH: u32 = 5_000;
+
+/// Two threads put into their own inlets while a third turns and a fourth takes: the closed history has what was put,
+/// and no other event.
+#[test]
+fn four_threads(rt: HostRuntime) -> Result<(), Fail> {
+    let alloc = rt.alloc();
+    for _ in 0..10 {
+        let parts = Parts::new(alloc, fixed_settings(alloc)?)?;
+        work::<Brand, _>(&rt, alloc, parts)?;
+    }
+    Ok(())
+}
+
+fn work<K: DeskName + Send + Sync, R: Threads + Wait + Sync + Abort>(
+    rt: &R,
+    alloc: Global,
+    parts: Parts,
+) -> Result<(), Fail>
+    requires named { (parts.inlets ≡ K.inlets) × (parts.outlets ≡ K.outlets) }
+{
+    let (shared, mut inlets, mut outlets) = open_desk::<K>(alloc, parts)?;
+    let clock = inlets.pop().ok_or("an inlet")?;
+    inlets.truncate(1);
+    let client = inlets.pop().ok_or("an inlet")?;
+    outlets.truncate(1);
+    let outlet = outlets.pop().ok_or("an outlet")?;
+    let stop = AtomicBool::new(false);
+    let (clock, client, outlet) = run(rt, alloc, &shared, &stop, clock, client, outlet)?;
+    let finished = vec![in alloc;
+        clock.finish().ok_or("the desk is there")?,
+        client.finish().ok_or("the desk is there")?,
+        outlet.finish(),
+    ]?;
+    let closed = shared.close(alloc, finished).map_err(|_| "closed")?;
+    let of_client = Source::Client(ClientNumber::new(1));
+    assert_eq!(rt; closed.history.events().len(), 2 * EACH as usize);
+    let from_client = closed.history.from(alloc, of_client)?;
+    assert_eq!(rt; from_client.len(), EACH as usize);
+    for (at, event) in from_client.iter().enumerate() {
+        match event {
+            Event::ClientGone { link, .. } => assert_eq!(rt; *link, at as u64),
+            _ => return Err(Fail::new("no other event was put")),
+        }
+    }
+    assert_eq!(rt;
+        closed.history.from(alloc, Source::Clock)?.len(),
+        EACH as usize
+    );
+    Ok(())
+}
+
+/// The four threads: this one turns.
+fn run<K: DeskName + Send + Sync, R: Threads + Wait + Sync>(
+    rt: &R,
+    alloc: Global,
+    shared: &Shared<K>,
+    stop: &AtomicBool,
+    clock: Inlet<K>,
+    client: Inlet<K>,
+    outlet: Outlet<K>,
+) -> Result<(Inlet<K>, Inlet<K>, Outlet<K>), Fail> {
+    thread::scope(thread::scope_env(), rt, |scope| {
+        let Ok(ticks) = scope.spawn(move || put_ticks(rt, clock)) else {
+            return Err(Fail::new("no thread"));
+        };
+        let Ok(goes) = scope.spawn(move || put_gone(rt, client)) else {
+            return Err(Fail::new("no thread"));
+        };
+        let Ok(takes) = scope.spawn(move || take_all(rt, stop, outlet)) else {
+            return Err(Fail::new("no thread"));
+        };
+        turn_all(rt, alloc, shared)?;
+        stop.store(true, Ordering::SeqCst);
+        Ok((ticks.join(rt), goes.join(rt), takes.join(rt)))
+    })
+}
+
+/// Turns until all events are stepped.
+fn turn_all<K: DeskName, R: Wait>(
+    rt: &R,
+    alloc: Global,
+    shared: &Shared<K>,
+) -> Result<(), AllocError> {
+    let mut left = 2 * EACH;
+    for _ in rt.forever() {
+        left = left.saturating_sub(shared.turn(rt, alloc)?.steps);
+        if left == 0 {
+            break;
+        }
+    }
+    Ok(())
+}
+
+/// Puts ticks, and waits where there is no room.
+fn put_ticks<K: DeskName, R: Wait>(rt: &R, inlet: Inlet<K>) -> Inlet<K> {
+    let mut inlet = inlet;
+    for _ in 0..EACH {
+        put_waiting(rt, &mut inlet, tick());
+    }
+    inlet
+}
+
+/// Puts that links are gone, and waits where there is no room.
+fn put_gone<K: DeskName, R: Wait>(rt: &R, inlet: Inlet<K>) -> Inlet<K> {
+    let mut inlet = inlet;
+    for link in 0..EACH {
+        put_waiting(
+            rt,
+            &mut inlet,
+            Event::ClientGone {
+                client: ClientNumber::new(1),
+                link: u64::from(link),
+                at: 0,
+            },
+        );
+    }
+    inlet
+}
+
+/// Puts an event of the inlet's source, and waits while there is no room.
+fn put_waiting<K: DeskName, R: Wait>(rt: &R, inlet: &mut Inlet<K>, event: Event) {
+    let mut event = event;
+    for _ in rt.forever() {
+        if !event.is_from(&inlet.source()) {
+            break;
+        }
+        match inlet.put(event) {
+            Ok(()) => break,
+            Err(back) => event = back,
+        }
+        thread::yield_now();
+    }
+}
+
+/// Takes until the flag is set and nothing is left.
+fn take_all<K: DeskName, R: Wait>(rt: &R, stop: &AtomicBool, outlet: Outlet<K>) -> Outlet<K> {
+    let mut outlet = outlet;
+    for _ in rt.forever() {
+        let stopped = stop.load(Ordering::SeqCst);
+        if outlet.take().is_none() {
+            if stopped {
+                break;
+            }
+            thread::yield_now();
+        }
+    }
+    outlet
+}
