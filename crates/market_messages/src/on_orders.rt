@@ -48,7 +48,11 @@ pub fn hear_message<S: BuildHasher + Drop>(
 }
 
 /// Whether the token that a message gives its order is one of the table. Only a Replaced gives one.
-fn is_new_token_known<S: BuildHasher + Drop>(table: &Table<S>, port: u16, message: &Outbound) -> bool
+fn is_new_token_known<S: BuildHasher + Drop>(
+    table: &Table<S>,
+    port: u16,
+    message: &Outbound,
+) -> bool
     ensures { result ≡ knows_new_token table.now port message.now }
 {
     match message {

@@ -10,9 +10,9 @@ use client_requests::Sender;
 use fix_types::NewOrder;
 use order_table::Table;
 use ouch_codec::EnterOrder;
+use std::hash::BuildHasher;
 use to_market::{Refusal, ask_of, enter_order, refuse_if, refuse_port};
 use tokens::Token;
-use std::hash::BuildHasher;
 
 /// How many orders of a client may be open or waiting.
 const MOST_OPEN: usize = 10_000;

@@ -210,8 +210,7 @@ impl<S: BuildHasher + Drop> Table<S> {
             self.open_counts.reserve()?;
             self.orders.apply(alloc, place, change)?;
             let still_open = is_open(self.orders.item_at(place));
-            self.open_counts
-                .count_off(client, was_open && !still_open);
+            self.open_counts.count_off(client, was_open && !still_open);
         }
         Ok(())
     }

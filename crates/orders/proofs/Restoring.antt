@@ -1,12 +1,9 @@
 -- An order that goes on from an earlier one is put back to it.
-use Rattle.std.proofs.Common.{◌≡◌, ℕ, ◌≤◌, ◌-◌, Bool, true, false, List, [], ◌∷◌, ◌++◌, length, map, take, drop, reverse, refl, sym, ap, ◌∙◌, arith, true≢false, eq-eqb, ◌⊎◌, inl, inr}
-use Rattle.std.specs.Prelude.{◌&&◌, ◌||◌, ◌==◌, not, nat_le, Option, Some, None, option_map, unwrap_or, if◌then◌else◌, bytes_eq}
+use Rattle.std.proofs.Common.{◌≡◌, ℕ, ◌≤◌, ◌-◌, Bool, true, false, List, [], ◌∷◌, ◌++◌, length, map, take, drop, reverse, refl, sym, ap, ◌∙◌, arith, true≢false, ◌⊎◌, inl, inr}
+use Rattle.std.specs.Prelude.{◌==◌, Option, Some, None, option_map, unwrap_or, if◌then◌else◌, bytes_eq}
 use Rattle.std.proofs.Math.Seq.{take-length, take-append_seam}
-use Rattle.std.proofs.lemmas.Bool.Decides.{nat_tests}
 use Rattle.std.proofs.lemmas.List.{length-reverse, reverse-append, reverse-reverse, take-map}
-use Rattle.order_law.specs.Asks.{total_of}
 use Rattle.order_law.specs.History.{Entry, token_of}
-use Rattle.order_law.specs.Life.{is_waiting}
 use Rattle.order_machine.specs.OrderRecord.{OrderRecord, at, filled, gone, live_token, over_if, put_in_book, reduced, renamed, still_after, unasked, with_trade}
 use Rattle.order_machine.specs.OrderRecord as record_of
 use Rattle.orders.specs.Changes.{changed_by, marks_trades, renames, replaced_as}
@@ -19,8 +16,6 @@ use Rattle.orders.specs.declared.earlier_order.EarlierOrder.{EarlierOrder}
 use Rattle.orders.specs.declared.earlier_trades.EarlierTrades.{EarlierTrades}
 use Rattle.orders.specs.declared.earlier_trades.EarlierTrades.TheVariants.{First, Unmarked}
 use Rattle.orders.specs.declared.order.ToldTrade.{ToldTrade}
-use Rattle.orders.specs.declared.requests.Cancelling.{Cancelling}
-use Rattle.orders.specs.declared.requests.Replacing.{Replacing}
 
 -- ---- lists that have the newest first
 

@@ -24,8 +24,8 @@ invariant_of-self-inside g c =
     let now : OrderRecord = at was was.replace (Some (cancel_of was c.args.cancelling)) in (
       by-result c.accept_cancel.result c.accept_cancel.ensures.now c.accept_cancel.ensures.err
           (λ written. same-counted refl refl (written was there.1) (record {
-          had = kept c.self.inside.tokens.now os c.in-Some.place was now c.self.inside.counted.had there.1 refl (omega arith);
-          by_client = as-open c.self.inside.open_counts.now os c.in-Some.place was now c.self.inside.counted.by_client there.1 refl refl;
+            had = kept c.self.inside.tokens.now os c.in-Some.place was now c.self.inside.counted.had there.1 refl (omega arith);
+            by_client = as-open c.self.inside.open_counts.now os c.in-Some.place was now c.self.inside.counted.by_client there.1 refl refl;
           }))
           (λ same. same-counted refl refl same c.self.inside.counted),
       (same-counted refl refl c.accept_cancel.ensures.settled c.self.inside.settled_counted, tt),
