@@ -9,7 +9,6 @@ use crate::on_orders::hear_message;
 use order_table::Table;
 use ouch_codec::{DecodeRefusal, Outbound};
 use std::alloc::{AllocError, Global};
-use std::hash::BuildHasher;
 
 /// What a payload that a port's session gave comes to, by what it is decoded as, where so many reports were issued,
 /// of all clients.
@@ -20,10 +19,10 @@ use std::hash::BuildHasher;
 /// that memory ran out.
 ///
 /// Source: OUCH 4.2, "Outbound Messages".
-pub fn hear<S: BuildHasher + Drop>(
+pub fn hear(
     alloc: Global,
     issued: u64,
-    table: &Table<S>,
+    table: &Table,
     port: u16,
     heard: &Result<Outbound, DecodeRefusal>,
 ) -> Result<Judged, AllocError>

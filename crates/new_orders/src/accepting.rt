@@ -21,15 +21,14 @@ use order_table::{GivenToken, Table};
 use orders::{Order, Progress};
 use ouch_codec::{EnterOrder, Inbound};
 use std::alloc::{AllocError, Global};
-use std::hash::BuildHasher;
 use to_client::{Occasion, report_of};
 
 /// What an accepted new order comes to, where this message asks it.
-pub fn accept<S: BuildHasher + Drop>(
+pub fn accept(
     alloc: Global,
     order_ids: u64,
     exec_ids: u64,
-    table: &Table<S>,
+    table: &Table,
     sender: &Sender,
     order: &NewOrder,
     enter: EnterOrder,
@@ -60,10 +59,10 @@ pub fn accept<S: BuildHasher + Drop>(
 }
 
 /// The order that then waits for the market, under this OrderID.
-fn entered<S: BuildHasher + Drop>(
+fn entered(
     alloc: Global,
     order_id: u64,
-    table: &Table<S>,
+    table: &Table,
     sender: &Sender,
     order: &NewOrder,
     enter: &EnterOrder,

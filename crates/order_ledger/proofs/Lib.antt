@@ -1,4 +1,3 @@
-mod Used
 mod Terms
 mod Stepped
 mod Heard

@@ -1,5 +1,4 @@
-pub mod UsedKeys
-pub mod UsedKeyLaws
+pub mod Fingerprint
 pub mod State
 pub mod Seen
 pub mod Meets

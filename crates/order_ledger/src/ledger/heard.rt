@@ -14,9 +14,8 @@ use fix_types::AppBody;
 use market_messages::{Judged, hear};
 use ouch_codec::{DecodeRefusal, Outbound};
 use std::alloc::Global;
-use std::hash::BuildHasher;
 
-impl<S: BuildHasher + Drop> OrderLedger<S> {
+impl OrderLedger {
     ghost use Rattle.order_machine.specs.Machine.{market_step};
     ghost use Rattle.order_ledger.specs.State.{HasRoom, Keeps};
     ghost use Rattle.order_ledger.specs.Meets.{ChangesAny, MeetsMarket};
