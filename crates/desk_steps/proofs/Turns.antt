@@ -29,9 +29,9 @@ At k seats P = (a : SeatState) → slice_get seats k ≡ Some a → P a
 pub first-some : (e : Event) (a : SeatState) → IsFirst e a → 0 < length a.known
 first-some e a is = known-some e a.known is
   where
-  known-some : (e : Event) (xs : List Event) → slice_get xs 0 ≡ Some e → 0 < length xs
-  known-some e [] is = absurd (cc is)
-  known-some e (x ∷ xs) is = omega arith
+    known-some : (e : Event) (xs : List Event) → slice_get xs 0 ≡ Some e → 0 < length xs
+    known-some e [] is = absurd (cc is)
+    known-some e (x ∷ xs) is = omega arith
 
 -- seats that are the same
 pub at-same : (k : ℕ) (P : SeatState → Type 0) (old new : List SeatState) → new ≡ old → At k old P → At k new P
@@ -77,8 +77,8 @@ stepped k recorded after one two three e popped said inside own first step pops 
       counts = (more.0 ∙ counts.0, more.1 ∙ counts.1);
     }
   where
-  same-first : (f e : Event) (a : SeatState) → IsFirst f a → IsFirst e a → f ≡ e
-  same-first f e a p q = cc (p, q)
+    same-first : (f e : Event) (a : SeatState) → IsFirst f a → IsFirst e a → f ≡ e
+    same-first f e a p q = cc (p, q)
 
 -- the first event of a ring is dropped
 pub dropped : (k : ℕ) (recorded : Recorded) (one two : SideState) (e popped : Event) (source : Source) → k < length one.seats

@@ -32,5 +32,5 @@ loop-i-preserved g c =
       ports = c.compare.ensures.counts.1 ∙ c.loop-i.invariant.ports;
       begun = one-begun i c.args.finished.now.items one c.loop-i.side.seats c.compare.new.self.seats c.compare.new.self.ways here c.compare.ensures.seats c.compare.ensures.told c.loop-i.invariant.begun;
       told = λ begun. one-told i c.args.finished.now.items one c.args.side.now.seats c.loop-i.side.seats c.compare.new.self.seats c.loop-i.side.ways c.compare.new.self.ways
-      here c.loop-i.invariant.seats c.compare.ensures.seats c.compare.ensures.others c.compare.ensures.ways c.compare.ensures.told begun (c.loop-i.invariant.told begun);
+          here c.loop-i.invariant.seats c.compare.ensures.seats c.compare.ensures.others c.compare.ensures.ways c.compare.ensures.told begun (c.loop-i.invariant.told begun);
     }

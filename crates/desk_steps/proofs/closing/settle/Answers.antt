@@ -18,7 +18,6 @@ compare_all-requires-2 g c = record {
   ways = way-names c.args.side.now.ways c.compare_all.new.side.ways g.K.DeskName.outlets c.compare_all.ensures.ways c.requires.agrees.way_names;
 }
 
-
 pub drain_all-requires : goal.drain_all-requires
 drain_all-requires g c =
     let begun = subst (λ (z : List Done). AreBegun z c.compare_all.new.side.seats) (sym c.compare_all.ensures.same) c.compare_all.ensures.begun in
