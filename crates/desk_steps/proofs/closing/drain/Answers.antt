@@ -1,5 +1,4 @@
-use Rattle.std.proofs.Common.{◌≡◌, ◌<◌, ◌+◌, ◌-◌, ◌∙◌, Some, slice_get, length, refl, sym, ap, subst, arith}
-use Rattle.desk_ends.specs.Seats.{SeatState}
+use Rattle.std.proofs.Common.{◌-◌, arith}
 use Rattle.desk_steps.specs.Agreeing.{DeskState}
 use Rattle.desk_steps.proofs.Draining.{drained-agree, drained-goes, drained-less, drained-shrinks, goes-further, goes-nowhere, same-agree, shrinks-more, shrinks-none}
 use Rattle.desk_steps.proofs.closing.drain.Goals as goal

@@ -1,9 +1,8 @@
-use Rattle.std.proofs.Common.{◌≡◌, ◌∙◌, List, refl, sym, ap, subst}
+use Rattle.std.proofs.Common.{◌∙◌, List, refl, sym, subst}
 use Rattle.std.proofs.lemmas.Result.{on_ok_weaker}
 use Rattle.desk_ends.specs.Rings.{Done}
-use Rattle.desk_ends.specs.Seats.{SeatsLooked, WaysLooked}
 use Rattle.desk_side.proofs.Moves.{ways-twice}
-use Rattle.desk_steps.specs.Agreeing.{Agrees, DeskState}
+use Rattle.desk_steps.specs.Agreeing.{DeskState}
 use Rattle.desk_steps.specs.Settling.{AreBegun, AreSettled, AreTold}
 use Rattle.desk_steps.proofs.Comparing.{seat-names, seats-twice, way-names}
 use Rattle.desk_steps.proofs.Draining.{all-settled, compares-agree}

@@ -1,6 +1,5 @@
-use Rattle.std.proofs.Common.{◌≡◌, ◌<◌, ◌≤◌, ◌+◌, ◌^◌, ◌∙◌, ◌∷◌, [], List, length, refl, sym, ap, subst, arith, inl, inr}
+use Rattle.std.proofs.Common.{◌∙◌, ◌∷◌, [], refl, sym, arith}
 use Rattle.desk_steps.specs.Agreeing.{DeskState}
-use Rattle.desk_steps.specs.Turning.{Looks, counted}
 use Rattle.desk_steps.proofs.Turns.{went-more}
 use Rattle.desk_steps.proofs.turning.round.Goals as goal
 

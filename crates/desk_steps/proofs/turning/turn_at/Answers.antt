@@ -1,5 +1,4 @@
-use Rattle.std.proofs.Common.{◌≡◌, ◌<◌, ◌∙◌, Some, slice_get, length, refl, sym, ap, subst, arith}
-use Rattle.desk_ends.specs.Seats.{SeatState}
+use Rattle.std.proofs.Common.{◌≡◌, ◌∙◌, length, sym, ap, arith}
 use Rattle.desk_steps.specs.Agreeing.{DeskState}
 use Rattle.desk_steps.proofs.Cutting.{cuts-none}
 use Rattle.desk_steps.proofs.Turns.{IsFirst, at-same, dropped, looked-in, looked-out, own-first, waits}

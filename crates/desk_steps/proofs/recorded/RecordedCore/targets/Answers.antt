@@ -1,4 +1,3 @@
-use Rattle.std.proofs.Common.{◌≡◌}
 use Rattle.gate_journal.specs.Kept.{turns}
 use Rattle.desk_steps.proofs.recorded.RecordedCore.targets.Goals as goal
 
