@@ -1,4 +1,4 @@
-use Rattle.std.proofs.Common.{◌≡◌, List, ap, subst, sym, ◌∙◌}
+use Rattle.std.proofs.Common.{List, ap, subst, ◌∙◌}
 use Rattle.std.specs.Prelude.{map}
 use Rattle.desk_rings.specs.Made.{inlet_name}
 use Rattle.desk_ends.specs.Rings.{NamedInlet, NamedOutlet}

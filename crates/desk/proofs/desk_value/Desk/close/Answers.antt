@@ -1,7 +1,6 @@
-use Rattle.std.proofs.Common.{List, sym, subst}
-use Rattle.gate_law.specs.Holds.{Holds}
-use Rattle.gate_journal.specs.Kept.{Kept, turns}
-use Rattle.desk_steps.specs.Agreeing.{AreNamed, DeskState}
+use Rattle.std.proofs.Common.{sym, subst}
+use Rattle.gate_journal.specs.Kept.{Kept}
+use Rattle.desk_steps.specs.Agreeing.{AreNamed}
 use Rattle.desk.proofs.desk_value.Desk.close.Goals as goal
 
 pub returns-clause-named : goal.returns-clause-named
