@@ -11,8 +11,8 @@ use std::marker::{Model, PhantomData};
 /// What lies under the lock of a desk: the core with its history, and the desk's side of the rings. Contracts see both.
 ///
 /// Its type keeps that they agree, whichever thread had the lock: the core is the one that the history leaves, with all
-/// that is promised of that; the ends are those that the desk's name names; what came out of an inlet's ring is what the
-/// history has of its source; what went into an outlet's ring is what the batches told it, or a beginning of that.
+/// that is promised of that; the ends are those that the desk's name names; what came out of an inlet's ring is what
+/// the history has of its source; what went into an outlet's ring is what the batches told it, or a beginning of that.
 #[derive(Drop)]
 pub struct Desk<K: DeskName> {
     recorded: RecordedCore,

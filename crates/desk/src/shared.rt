@@ -32,8 +32,8 @@ impl<K: DeskName> Shared<K> {
         }
     }
 
-    /// A round (`Desk::round`) under the lock. Rings the bells of the outlets that were told something, once the lock is
-    /// free.
+    /// A round (`Desk::round`) under the lock. Rings the bells of the outlets that were told something, once the lock
+    /// is free.
     pub fn turn(&self, rt: &impl Wait, alloc: Global) -> Result<Turned, AllocError> {
         let (turned, rung) = self.turn_locked(rt, alloc)?;
         self.ring_all(rung);
