@@ -1,12 +1,16 @@
 //! What the example says.
 
-use settings_file::{EXAMPLE, SettingsFile, read};
+use settings_file::{EXAMPLE, SettingsFault, SettingsFile, read};
 use std::alloc::Global;
 use std::test::Fail;
 
 /// What the example is read as.
 fn example(alloc: Global) -> Result<SettingsFile, Fail> {
-    Ok(read(alloc, EXAMPLE.as_bytes()).map_err(|_| "the example is read")?)
+    match read(alloc, EXAMPLE.as_bytes()) {
+        Ok(file) => Ok(file),
+        Err(SettingsFault::Refused(_)) => Err("the example is read")?,
+        Err(SettingsFault::NoMemory) => Err("out of memory")?,
+    }
 }
 
 #[test]
