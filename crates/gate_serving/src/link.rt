@@ -139,11 +139,11 @@ pub(crate) fn serve_link<R, P, S, W, K, G, C, H, D>(
 where
     R: Threads + Wait + Sync,
     P: Peer + Send + Drop,
-    S: Read + Drop,
+    S: Read + Send + Drop,
     W: Write + Send + Drop,
     K: Closer + Send + Drop,
-    G: Gate + Drop,
-    C: Clock + Drop,
+    G: Gate + Send + Drop,
+    C: Clock + Send + Drop,
     H: Gate + Send + Drop,
     D: Clock + Send + Drop,
 {

@@ -1,19 +1,18 @@
 //! Where a line's links come from.
 
 use gate_workers::{LinkFault, WriterEnd};
-use std::io::{Read, Write};
 use std::sync::atomic::AtomicBool;
 
 /// Opens the links of a line, one after the other.
 pub trait Opener {
     /// What is read of a link.
-    type Reader: Read + Drop;
+    type Reader;
 
     /// What is written to it.
-    type Writer: Write + Send + Drop;
+    type Writer;
 
     /// What shuts its stream down.
-    type Closer: Closer + Send + Drop;
+    type Closer;
 
     /// The next link, once there is one; `ReadFailed` where it could not be opened: the next call tries again. `None`
     /// after the last one.

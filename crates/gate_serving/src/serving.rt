@@ -2,13 +2,13 @@
 
 ghost use Rattle.std.specs.Prelude.{◌≡◌, map, IfOk, IfErr};
 
-use crate::job::work_on_all;
+use crate::job::run_all;
 use crate::line::{Line, Worker};
-use crate::opener::Opener;
+use crate::opener::{Closer, Opener};
 use crate::peer::Peer;
-use crate::serving_line::serve_line;
 use gate_workers::{Clock, Gate};
 use std::alloc::Global;
+use std::io::{Read, Write};
 use std::sync::Wait;
 use std::sync::atomic::{AtomicBool, Ordering};
 use std::thread::Threads;
@@ -35,6 +35,9 @@ where
     R: Threads + Wait + Sync,
     P: Peer + Send + Drop,
     O: Opener + Send + Drop,
+    O::Reader: Read + Send + Drop,
+    O::Writer: Write + Send + Drop,
+    O::Closer: Closer + Send + Drop,
     G: Gate + Send + Drop,
     C: Clock + Send + Drop,
     H: Gate + Send + Drop,
@@ -45,16 +48,7 @@ where
         map (λ l. P.number l.peer) e.1.items ≡ map (λ l. P.number l.peer) lines.items) }
 {
     let halt = AtomicBool::new(false);
-    let flag = &halt;
-    let back = work_on_all(
-        rt,
-        flag,
-        lines,
-        &|line| -> Line<P, O, Worker<G, C>, Worker<H, D>>
-            requires { IsSync R.row × IsSend P.row × IsSend H.row × IsSend D.row }
-            ensures { P.number result.peer ≡ P.number line.peer }
-        { serve_line(rt, alloc, line, flag) },
-    );
+    let back = run_all(rt, alloc, &halt, lines);
     if halt.load(Ordering::SeqCst) {
         Err((ServeFault::NoThread, back))
     } else {
