@@ -16,22 +16,21 @@ pub(crate) trait Job {
 
     ghost whose: { Self → ℕ };
 
-    /// Does it, and comes back with what came of it. The flag tells it to end, or is set by it.
-    fn run<R: Threads + Wait + Sync>(self, rt: &R, alloc: Global, flag: &AtomicBool) -> Self
+    /// Does it, and comes back with what came of it. It ends soon once the flag is set. It starts no thread.
+    fn run<R: Wait>(self, rt: &R, alloc: Global, flag: &AtomicBool) -> Self
         ensures whose { whose result ≡ whose self };
 }
 
-/// Two jobs that were to be done at once.
+/// Says that a job comes back as the same one's.
 #[derive(Drop)]
-pub(crate) struct Both<A, B> {
-    pub(crate) there: A,
-    pub(crate) here: B,
-    /// Whether they were done: they weren't where no thread could be had.
-    pub(crate) are_done: bool,
+struct Keeps<J>(Snapshot<J>);
+
+impl<J: Job> Promise<J> for Keeps<J> {
+    ghost kept_by = { λ p job. J.whose job ≡ J.whose p.0.value };
 }
 
-/// Does a job, unless the flag says that no thread could be had for it.
-fn run_unless<R: Threads + Wait + Sync, J: Job>(
+/// Does a job, unless no thread could be had for it: then the flag is set.
+fn run_unless<R: Wait, J: Job>(
     rt: &R,
     alloc: Global,
     flag: &AtomicBool,
@@ -46,87 +45,46 @@ fn run_unless<R: Threads + Wait + Sync, J: Job>(
     job.run(rt, alloc, flag)
 }
 
-/// Does two jobs at once, the first in a thread of its own; neither where no thread can be had.
-pub(crate) fn run_both<R: Threads + Wait + Sync, A: Job + Send + Drop, B: Job + Drop>(
+/// Does all jobs of two lists at once, each in a thread of its own, and gives them back in their order. Where a thread
+/// can't be had the flag is set, and the jobs that had none come back undone. Takes no memory of its own.
+pub(crate) fn run_all<R: Threads + Wait + Sync, A: Job + Send + Drop, B: Job + Send + Drop>(
     rt: &R,
     alloc: Global,
     flag: &AtomicBool,
-    there: A,
-    here: B,
-) -> Both<A, B> {
-    let is_refused = AtomicBool::new(false);
-    let is_refused = &is_refused;
-    thread::scope(
-        thread::scope_env(),
-        rt,
-        |scope| -> Both<A, B>
-            requires { IsSync R.row × IsSend A.row }
-        {
-            match scope.spawn(move || run_unless(rt, alloc, flag, is_refused, there)) {
-                Ok(handle) => {
-                    let here = here.run(rt, alloc, flag);
-                    Both {
-                        there: handle.join(rt),
-                        here,
-                        are_done: true,
-                    }
-                }
-                Err(refused) => {
-                    is_refused.store(true, Ordering::SeqCst);
-                    Both {
-                        there: (refused.value)(),
-                        here,
-                        are_done: false,
-                    }
-                }
-            }
-        },
-    )
-}
-
-/// Says that a job comes back as the same one's.
-#[derive(Drop)]
-struct Keeps<J>(Snapshot<J>);
-
-impl<J: Job> Promise<J> for Keeps<J> {
-    ghost kept_by = { λ p job. J.whose job ≡ J.whose p.0.value };
-}
-
-/// Does all jobs at once, each in a thread of its own, and gives them back in their order. Where a thread can't be had
-/// the flag is set, and the jobs that had none come back undone. Takes no memory of its own.
-pub(crate) fn run_all<R: Threads + Wait + Sync, J: Job + Send + Drop>(
-    rt: &R,
-    alloc: Global,
-    flag: &AtomicBool,
-    jobs: Vec<J>,
-) -> Vec<J>
-    ensures whose { map J.whose result.items ≡ map J.whose jobs.items }
+    firsts: Vec<A>,
+    seconds: Vec<B>,
+) -> (Vec<A>, Vec<B>)
+    ensures firsts { map A.whose result.0.items ≡ map A.whose firsts.items }
+    ensures seconds { map B.whose result.1.items ≡ map B.whose seconds.items }
 {
     let is_refused = AtomicBool::new(false);
-    run_each(rt, alloc, flag, &is_refused, jobs)
+    run_seconds(rt, alloc, flag, &is_refused, firsts, seconds)
 }
 
-/// Does the last job in a thread of its own, and those before it likewise meanwhile.
-fn run_each<R: Threads + Wait + Sync, J: Job + Send + Drop>(
+/// Does the last job of the second list in a thread of its own, and all before it likewise meanwhile.
+fn run_seconds<R: Threads + Wait + Sync, A: Job + Send + Drop, B: Job + Send + Drop>(
     rt: &R,
     alloc: Global,
     flag: &AtomicBool,
     is_refused: &AtomicBool,
-    mut jobs: Vec<J>,
-) -> Vec<J>
-    ensures whose { map J.whose result.items ≡ map J.whose jobs.items }
-    ensures capacity { vec_capacity jobs ≤ vec_capacity result }
+    firsts: Vec<A>,
+    mut seconds: Vec<B>,
+) -> (Vec<A>, Vec<B>)
+    ensures firsts { map A.whose result.0.items ≡ map A.whose firsts.items }
+    ensures seconds { map B.whose result.1.items ≡ map B.whose seconds.items }
+    ensures capacity { vec_capacity seconds ≤ vec_capacity result.1 }
 {
-    let Some(job) = jobs.pop() else {
-        return jobs;
+    let Some(job) = seconds.pop() else {
+        return (run_firsts(rt, alloc, flag, is_refused, firsts), seconds);
     };
     thread::scope(
         thread::scope_env(),
         rt,
-        |scope| -> Vec<J>
-            requires { IsSync R.row × IsSend J.row × (vec_len jobs < vec_capacity jobs) }
-            ensures whose { map J.whose result.items ≡ map J.whose jobs.items ++ J.whose job ∷ [] }
-            ensures capacity { vec_capacity jobs ≤ vec_capacity result }
+        |scope| -> (Vec<A>, Vec<B>)
+            requires { IsSync R.row × IsSend A.row × IsSend B.row × (vec_len seconds < vec_capacity seconds) }
+            ensures firsts { map A.whose result.0.items ≡ map A.whose firsts.items }
+            ensures seconds { map B.whose result.1.items ≡ map B.whose seconds.items ++ B.whose job ∷ [] }
+            ensures capacity { vec_capacity seconds ≤ vec_capacity result.1 }
         {
             let promise = Keeps(Snapshot::of(&job));
             let started =
@@ -135,7 +93,49 @@ fn run_each<R: Threads + Wait + Sync, J: Job + Send + Drop>(
                 is_refused.store(true, Ordering::SeqCst);
                 flag.store(true, Ordering::SeqCst);
             }
-            let mut back = run_each(rt, alloc, flag, is_refused, jobs);
+            let (firsts, mut back) = run_seconds(rt, alloc, flag, is_refused, firsts, seconds);
+            let job = match started {
+                Ok(handle) => handle.join(rt),
+                Err(refused) => (refused.value)(),
+            };
+            let Ok(()) = back.push(job) else {
+                unreachable!()
+            };
+            (firsts, back)
+        },
+    )
+}
+
+/// The same of the first list.
+fn run_firsts<R: Threads + Wait + Sync, A: Job + Send + Drop>(
+    rt: &R,
+    alloc: Global,
+    flag: &AtomicBool,
+    is_refused: &AtomicBool,
+    mut firsts: Vec<A>,
+) -> Vec<A>
+    ensures whose { map A.whose result.items ≡ map A.whose firsts.items }
+    ensures capacity { vec_capacity firsts ≤ vec_capacity result }
+{
+    let Some(job) = firsts.pop() else {
+        return firsts;
+    };
+    thread::scope(
+        thread::scope_env(),
+        rt,
+        |scope| -> Vec<A>
+            requires { IsSync R.row × IsSend A.row × (vec_len firsts < vec_capacity firsts) }
+            ensures whose { map A.whose result.items ≡ map A.whose firsts.items ++ A.whose job ∷ [] }
+            ensures capacity { vec_capacity firsts ≤ vec_capacity result }
+        {
+            let promise = Keeps(Snapshot::of(&job));
+            let started =
+                scope.spawn_with(promise, move || run_unless(rt, alloc, flag, is_refused, job));
+            if started.is_err() {
+                is_refused.store(true, Ordering::SeqCst);
+                flag.store(true, Ordering::SeqCst);
+            }
+            let mut back = run_firsts(rt, alloc, flag, is_refused, firsts);
             let job = match started {
                 Ok(handle) => handle.join(rt),
                 Err(refused) => (refused.value)(),

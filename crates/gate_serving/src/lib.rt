@@ -2,13 +2,13 @@
 //! writer of a link run in a thread each, over any opener, gate and clock.
 #![tactic(auto)]
 
+mod halves;
 mod job;
 mod line;
-mod link;
 mod opener;
 mod peer;
 mod serving;
-mod serving_line;
+mod slot;
 
 pub use gate_workers::{Clock, Gate, LinkFault, WriterEnd};
 pub use line::{Line, Worker};

@@ -2,10 +2,12 @@
 
 ghost use Rattle.std.specs.Prelude.{◌≡◌, map, IfOk, IfErr};
 
+use crate::halves::{Reads, Writes};
 use crate::job::run_all;
 use crate::line::{Line, Worker};
 use crate::opener::{Closer, Opener};
 use crate::peer::Peer;
+use crate::slot::Slot;
 use gate_workers::{Clock, Gate};
 use std::alloc::Global;
 use std::io::{Read, Write};
@@ -16,13 +18,15 @@ use std::thread::Threads;
 /// Why lines were not served to their end.
 #[derive(Clone, Copy, Debug, PartialEq, Eq)]
 pub enum ServeFault {
+    /// Memory ran out before the first link was opened.
+    NoMemory,
     /// No thread could be had for a line, or for a link. The links that were open were served to their end.
     NoThread,
 }
 
 /// Serves all lines at once, each in a thread of its own, and hands them back in their order once all have ended.
 ///
-/// `NoThread` once a thread can't be had: from then on no further link is opened. It takes no memory of its own.
+/// `NoMemory` before any thread starts; `NoThread` once one can't be had: from then on no further link is opened.
 pub fn serve<R, P, O, G, C, H, D>(
     rt: &R,
     alloc: Global,
@@ -47,8 +51,66 @@ where
     ensures given_back { IfErr result (λ e.
         map (λ l. P.number l.peer) e.1.items ≡ map (λ l. P.number l.peer) lines.items) }
 {
+    let count = lines.len();
+    let Ok(mut slots) = Vec::with_capacity(alloc, count) else {
+        return Err((ServeFault::NoMemory, lines));
+    };
+    let Ok(mut reading) = Vec::with_capacity(alloc, count) else {
+        return Err((ServeFault::NoMemory, lines));
+    };
+    let Ok(mut writing) = Vec::with_capacity(alloc, count) else {
+        return Err((ServeFault::NoMemory, lines));
+    };
+    let Ok(mut back) = Vec::with_capacity(alloc, count) else {
+        return Err((ServeFault::NoMemory, lines));
+    };
+    for _ in 0..count {
+        let Ok(()) = slots.push(Slot::new()) else {
+            unreachable!()
+        };
+    }
+    for (line, slot) in lines.into_iter().zip(slots.iter()) {
+        let Line {
+            peer,
+            steps,
+            fault,
+            opener,
+            reader,
+            writer,
+        } = line;
+        let Ok(()) = reading.push(Reads {
+            peer,
+            steps,
+            fault,
+            opener,
+            worker: reader,
+            slot,
+        }) else {
+            unreachable!()
+        };
+        let Ok(()) = writing.push(Writes {
+            peer,
+            steps,
+            worker: writer,
+            slot,
+        }) else {
+            unreachable!()
+        };
+    }
     let halt = AtomicBool::new(false);
-    let back = run_all(rt, alloc, &halt, lines);
+    let (reading, writing) = run_all(rt, alloc, &halt, reading, writing);
+    for (reads, writes) in reading.into_iter().zip(writing) {
+        let Ok(()) = back.push(Line {
+            peer: reads.peer,
+            steps: reads.steps,
+            fault: reads.fault,
+            opener: reads.opener,
+            reader: reads.worker,
+            writer: writes.worker,
+        }) else {
+            unreachable!()
+        };
+    }
     if halt.load(Ordering::SeqCst) {
         Err((ServeFault::NoThread, back))
     } else {

@@ -267,7 +267,7 @@ fn a_client_waits_for_what_another_is_told(rt: HostRuntime) -> Result<(), Fail> 
         let served = serve(&rt, alloc, vec![in alloc; one, two]?);
         assert!(rt; !seen.is_failed.load(Ordering::SeqCst));
         let Ok(lines) = served else {
-            fail!(rt; "not served");
+            return Err(Fail::new("not served"));
         };
         for line in &lines {
             assert_eq!(rt; line.fault, None);
@@ -298,10 +298,10 @@ fn a_client_waits_for_what_it_is_told_itself(rt: HostRuntime) -> Result<(), Fail
     let served = serve(&rt, alloc, vec![in alloc; one, two]?);
     assert!(rt; !seen.is_failed.load(Ordering::SeqCst));
     let Ok(lines) = served else {
-        fail!(rt; "not served");
+        return Err(Fail::new("not served"));
     };
     let [one, two] = lines.as_slice() else {
-        fail!(rt; "not two lines");
+        return Err(Fail::new("not two lines"));
     };
     assert_eq!(rt; one.peer.number(), 1);
     assert_eq!(rt; one.reader.gate.kept.events.len(), 4);
@@ -332,10 +332,10 @@ fn a_port_has_three_links_one_after_the_other(rt: HostRuntime) -> Result<(), Fai
     let close = LinkOut::Close { link: 2 };
     line.writer.gate.kept.lists = vec![in alloc; vec![in alloc; close]?]?;
     let Ok(lines) = serve(&rt, alloc, vec![in alloc; line]?) else {
-        fail!(rt; "not served");
+        return Err(Fail::new("not served"));
     };
     let [line] = lines.as_slice() else {
-        fail!(rt; "not one line");
+        return Err(Fail::new("not one line"));
     };
     assert_eq!(rt; line.fault, Some(LinkFault::ReadFailed));
     let ups = links_up(alloc, line.reader.gate.kept.events.as_slice())?;
@@ -358,7 +358,7 @@ fn a_closed_link_is_shut_down(rt: HostRuntime) -> Result<(), Fail> {
     let close = LinkOut::Close { link: 1 };
     line.writer.gate.kept.lists = vec![in alloc; vec![in alloc; close]?]?;
     let Ok(lines) = serve(&rt, alloc, vec![in alloc; line]?) else {
-        fail!(rt; "not served");
+        return Err(Fail::new("not served"));
     };
     assert_eq!(rt; lines.len(), 1);
     for line in &lines {
