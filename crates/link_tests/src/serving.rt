@@ -166,6 +166,7 @@ impl<'a> Opener for Links<'a> {
 }
 
 /// The flags and counts of a test.
+#[derive(Drop)]
 struct Seen {
     first: AtomicBool,
     second: AtomicBool,
@@ -209,7 +210,7 @@ fn free<'a, R>(rt: &'a R, seen: &'a Seen, kept: Kept) -> Waiting<'a, R> {
 }
 
 /// A line of so many links of these bytes, with one heartbeat for its first link to be written.
-fn line_of<'a, P, R>(
+fn line_of<'a, P: Drop, R>(
     rt: &'a R,
     alloc: Global,
     peer: P,
