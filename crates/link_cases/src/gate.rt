@@ -1,0 +1,106 @@
+//! A gate that keeps what it was given, and gives events back at times.
+
+ghost use Rattle.std.specs.Prelude.{◌≡◌, map, IfOk};
+ghost use Rattle.gate_events.specs.Seen.{link_out_seen};
+
+use crate::chance::Chance;
+use link_io::{Event, Gate, LinkOut};
+use std::alloc::{AllocError, Global};
+use std::sync::Wait;
+
+/// A gate that keeps the events that were put and the lists that were taken. It gives an event back once in so many
+/// times.
+#[derive(Drop)]
+pub struct Kept {
+    alloc: Global,
+    chance: Chance,
+    back_once_in: usize,
+    pub events: Vec<Event>,
+    /// The lists that lie there, the last one first.
+    pub lists: Vec<Vec<LinkOut>>,
+    pub given: Vec<Vec<LinkOut>>,
+}
+
+impl Kept {
+    /// Nothing was put, and nothing lies there.
+    pub fn new(alloc: Global, chance: Chance, back_once_in: usize) -> Kept {
+        Kept {
+            alloc,
+            chance,
+            back_once_in,
+            events: Vec::new(alloc),
+            lists: Vec::new(alloc),
+            given: Vec::new(alloc),
+        }
+    }
+
+    /// The list lies there again, where memory ran out for a copy of it: its place is still there.
+    fn put_back(&mut self, list: Vec<LinkOut>)
+        ensures events { self.new.events ≡ self.old.events }
+        ensures given { self.new.given ≡ self.old.given }
+    {
+        let _ = self.lists.push(list);
+    }
+}
+
+impl Gate for Kept {
+    ghost use Rattle.std.specs.Prelude.{map};
+    ghost use Rattle.gate_events.specs.Seen.{event_seen, link_out_seen};
+
+    ghost was_put = { λ g. map event_seen g.events.items };
+
+    ghost was_taken = { λ g. map (λ v. map link_out_seen v.items) g.given.items };
+
+    fn put(&mut self, event: Event) -> Result<(), Event> {
+        if self.chance.once_in(self.back_once_in) {
+            return Err(event);
+        }
+        match self.events.push(event) {
+            Ok(()) => Ok(()),
+            Err(refused) => Err(refused.value),
+        }
+    }
+
+    fn take(&mut self) -> Option<Vec<LinkOut>> {
+        let list = self.lists.pop()?;
+        let Ok(copy) = copy_of(self.alloc, list.as_slice()) else {
+            self.put_back(list);
+            return None;
+        };
+        match self.given.push(copy) {
+            Ok(()) => Some(list),
+            Err(_) => {
+                self.put_back(list);
+                None
+            }
+        }
+    }
+
+    fn turn<R: Wait>(&mut self, _rt: &R, _alloc: Global) -> Result<u32, AllocError> {
+        Ok(0)
+    }
+}
+
+/// A copy of a list.
+fn copy_of(alloc: Global, list: &[LinkOut]) -> Result<Vec<LinkOut>, AllocError>
+    ensures { IfOk result (λ copy. map link_out_seen copy.items ≡ map link_out_seen list.now) }
+{
+    let mut copy = Vec::new(alloc);
+    for out in list {
+        copy.push(copy_of_out(alloc, out)?)?;
+    }
+    Ok(copy)
+}
+
+/// A copy of one of what links are told.
+fn copy_of_out(alloc: Global, out: &LinkOut) -> Result<LinkOut, AllocError>
+    ensures { IfOk result (λ copy. link_out_seen copy ≡ link_out_seen out.now) }
+{
+    match out {
+        LinkOut::Write { link, bytes } => Ok(LinkOut::Write {
+            link: *link,
+            bytes: Vec::from_slice(alloc, bytes.as_slice())?,
+        }),
+        LinkOut::Close { link } => Ok(LinkOut::Close { link: *link }),
+    }
+}

@@ -1,0 +1,29 @@
+//! Streams that are changed at random, read and written by the engines of `link_io`: standard input has what was
+//! recorded, seeds and counts, standard output a line for each seed.
+//!
+//! What the engines give is compared with what a plain program makes of the whole stream. `README.md` has the lines.
+#![tactic(auto)]
+
+mod cases;
+mod chance;
+mod changing;
+mod gate;
+mod plain_frames;
+mod plain_packets;
+mod reading;
+mod recorded;
+mod streams;
+mod tally;
+mod writing;
+
+use cases::Cases;
+use std::io::{self, BufRead, BufReader};
+
+fn main(rt: HostRuntime) -> io::Result<()> {
+    let alloc = rt.alloc();
+    let mut cases = Cases::new(alloc);
+    for line in BufReader::new(alloc, rt.reader())?.lines(alloc) {
+        cases.step(alloc, line?.as_str().as_bytes(), &mut io::writer(&rt))?;
+    }
+    Ok(())
+}

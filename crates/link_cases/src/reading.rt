@@ -1,0 +1,129 @@
+//! Streams that are read, and what a plain program makes of them.
+
+use crate::chance::Chance;
+use crate::gate::Kept;
+use crate::plain_frames::read_frames;
+use crate::plain_packets::read_packets;
+use crate::recorded::Form;
+use crate::streams::Pieces;
+use crate::tally::Tally;
+use link_io::{
+    ClientNumber, ClientReader, Decoder, Event, LinkFault, PortNumber, PortReader, Progress, Reader,
+};
+use std::alloc::{AllocError, Global};
+
+/// The client's and the port's number, and the link's.
+const NUMBER: u16 = 3;
+
+const LINK: u64 = 7;
+
+/// More steps than any stream takes.
+const STEPS: u64 = 1_000_000;
+
+/// Reads a stream in pieces by chance, through a gate that gives events back, and counts it: how many events came of
+/// it, and whether they and the end are those of the plain program.
+pub fn read_stream(
+    alloc: Global,
+    chance: &mut Chance,
+    form: Form,
+    stream: &[u8],
+    tally: &mut Tally,
+) -> Result<(), AllocError> {
+    let mut input = Pieces {
+        rest: stream,
+        chance: chance.next(),
+        most: size_of_pieces(chance),
+    };
+    let mut gate = Kept::new(alloc, chance.next(), chance.below(4).saturating_add(2));
+    let mut units = Vec::new(alloc);
+    let (fault, is_malformed) = match form {
+        Form::Frames => {
+            let mut reader = ClientReader::new(alloc, ClientNumber::new(NUMBER), LINK, STEPS);
+            let fault = read_all(alloc, &mut reader, &mut input, &mut gate);
+            (fault, read_frames(stream, &mut units)?)
+        }
+        Form::Packets => {
+            let mut reader = PortReader::new(alloc, PortNumber::new(NUMBER), LINK, STEPS);
+            let fault = read_all(alloc, &mut reader, &mut input, &mut gate);
+            (fault, read_packets(stream, &mut units)?)
+        }
+    };
+    let end = if is_malformed {
+        Some(LinkFault::Malformed)
+    } else {
+        None
+    };
+    let is_same = fault == end && are_units(gate.events.as_slice(), units.as_slice());
+    tally.count(units.len(), is_malformed, is_same);
+    Ok(())
+}
+
+/// Pieces of one byte, of few, or of as many as a read gives.
+fn size_of_pieces(chance: &mut Chance) -> usize {
+    match chance.below(4) {
+        0 => 1,
+        1 => 40,
+        _ => 5_000,
+    }
+}
+
+/// Steps a reader to the end of its stream, or to a fault. A step that memory ran out for is made again.
+fn read_all<D: Decoder>(
+    alloc: Global,
+    reader: &mut Reader<D>,
+    input: &mut Pieces<'_>,
+    gate: &mut Kept,
+) -> Option<LinkFault> {
+    for at in 0..STEPS {
+        match reader.step(alloc, input, gate, at) {
+            Ok(Progress::Ended) => return None,
+            Ok(_) => {}
+            Err(LinkFault::NoMemory) => {}
+            Err(fault) => return Some(fault),
+        }
+    }
+    None
+}
+
+/// Whether the events are these units, in order, with moments that never go back.
+fn are_units(events: &[Event], units: &[&[u8]]) -> bool {
+    let mut last = 0;
+    for (event, unit) in events.iter().zip(units) {
+        match moment_of(event, unit) {
+            Some(at) if at >= last => last = at,
+            _ => return false,
+        }
+    }
+    events.len() == units.len()
+}
+
+/// The moment of the event, where it is this unit's.
+fn moment_of(event: &Event, unit: &[u8]) -> Option<u64> {
+    let (number, link, at, is_unit) = match event {
+        Event::ClientMessage {
+            client,
+            link,
+            at,
+            frame,
+        } => { (client.number(), *link, *at, frame.fields().text() == unit) }
+        Event::PortPacket {
+            port,
+            link,
+            at,
+            packet,
+        } => {
+            let is_unit = match unit {
+                [kind, payload @ ..] => packet.kind == *kind
+                    && packet.payload.as_slice() == payload,
+                [] => false,
+            };
+            (port.number(), *link, *at, is_unit)
+        }
+        _ => return None,
+    };
+    if number == NUMBER && link == LINK && is_unit {
+        Some(at)
+    } else {
+        None
+    }
+}
