@@ -3,8 +3,8 @@
 #
 #     scripts/refuse-calls-in-cases.sh [PROGRAM [INPUT]]
 #
-# PROGRAM is session_cases, which is meant where none is named, gate_script, gate_retries, or gateway, which audits the script INPUT. From the
-# environment KIND says which calls: with `memory`, which is meant where none is said, run N of the program refuses its Nth malloc or realloc, and no
+# PROGRAM is session_cases, which is meant where none is named, link_cases, gate_script, gate_retries, or gateway, which audits the script INPUT.
+# From the environment KIND says which calls: with `memory`, which is meant where none is said, run N of the program refuses its Nth malloc or realloc, and no
 # other; with `io` its Nth read or write fails; with `short` its Nth read or write of several bytes moves one of them. session_cases makes a session's
 # call again where it answers that memory is wanting, gate_retries a step of the whole core. So a run may
 #
@@ -122,7 +122,7 @@ is_reported() {
                 return 0
             fi
             case $status:$(cat "$work/words") in
-                "1:read or write failed" | "2:gateway: cannot read $cases" | 1: | 2:) return 0 ;;
+                "1:read or write failed" | "1:Error: Os "* | "2:gateway: cannot read $cases" | 1: | 2:) return 0 ;;
             esac
             return 1
             ;;

@@ -5,7 +5,7 @@ use crate::reading::read_stream;
 use crate::recorded::{Form, stream_of};
 use crate::tally::Tally;
 use crate::writing::write_lists;
-use script_lines::{Line, line_of};
+use script_lines::{Line, LineFault, line_of};
 use std::alloc::{AllocError, Global};
 use std::io::{self, Write};
 
@@ -71,6 +71,7 @@ impl Cases {
                 self.packets.push(Vec::from_slice(alloc, packet)?)?;
                 Ok(true)
             }
+            Err(LineFault::NoMemory) => Err(AllocError),
             _ => Ok(false),
         }
     }

@@ -34,7 +34,7 @@ pub fn write_lists(
     let is_closing = tell_all(lists.as_slice(), &mut told)?;
     let count = lists.len();
     let mut output = Torn {
-        taken: Vec::new(alloc),
+        taken: Vec::with_capacity(alloc, told.len())?,
         chance: chance.next(),
         most: if chance.once_in(2) { 3 } else { 5_000 },
         fails_once_in: if chance.once_in(2) { 20 } else { 1_000_000 },
@@ -50,13 +50,14 @@ pub fn write_lists(
     Ok(())
 }
 
-/// Steps a writer until nothing is left or the link is closed, which is answered; `None` where a write failed.
+/// Steps a writer until nothing is left or the link is closed, which is answered; `None` where a write failed. Where
+/// memory runs out it is stepped again.
 fn write_all(alloc: Global, output: &mut Torn, gate: &mut Kept) -> Option<bool> {
     let mut writer = BatchWriter::new(alloc, NUMBER, LINK, STEPS);
     for _ in 0..STEPS {
         match writer.step(alloc, output, gate) {
             Ok(wrote) if wrote.closed => return Some(true),
-            Ok(wrote) if !wrote.taken => return Some(false),
+            Ok(wrote) if !wrote.taken && gate.lists.is_empty() => return Some(false),
             Ok(_) => {}
             Err(LinkFault::NoMemory) => {}
             Err(_) => return None,
