@@ -10,11 +10,11 @@ ghost use Rattle.hint_index.specs.Newest.{IsNewest, OnlyAt};
 use crate::found::{newest, only};
 use crate::hint::Hint;
 use crate::keyed::{Keyed, Sought};
+use crate::settled_list::SettledList;
 use indexmap::IndexMap;
 use std::alloc::{AllocError, Global};
 use std::hash::{BuildHasher, BuildHasherDefault, FoldHasher, Hash};
 use std::marker::Model;
-use undo_list::UndoList;
 
 /// Of each key that was noted, a hint where the items with it may stand. Contracts see the keys with their hints, and
 /// for how many keys more there is room; of the hasher they see nothing.
@@ -65,15 +65,16 @@ impl<K: Eq + Hash + Drop, S: BuildHasher + Drop> HintIndex<K, S> {
     /// is room for a key. Takes no memory.
     ///
     /// Items that are there, and those that the list is put back to, are led to as before.
-    pub fn note<T: Keyed<K> + Drop>(&mut self, list: &UndoList<T>, key: K, place: usize)
+    pub fn note<T: Keyed<K>, L: SettledList<T>>(&mut self, list: &L, key: K, place: usize)
         requires room { 1 ≤ self.old.room }
         ensures leads { LeadsTo (hint_of K.eq self.new key) place }
         ensures keeps { (k : K) → LeadsTo (hint_of K.eq self.old k) place → LeadsTo (hint_of K.eq self.new k) place }
-        ensures covered { Covered K.eq T.has self.old list.now → Covered K.eq T.has self.new list.now }
+        ensures covered { Covered K.eq T.has self.old (L.lists list.now)
+            → Covered K.eq T.has self.new (L.lists list.now) }
         ensures room_left { self.old.room ≤ self.new.room + 1 }
     {
         let hint = self.hints.get(&key).copied();
-        let is_only = is_only(hint, list.as_slice(), list.is_still(), &key, place);
+        let is_only = is_only(hint, list.items(), list.is_unchanged(), &key, place);
         let _ = self.hints.insert(key, Hint { place, is_only });
     }
 

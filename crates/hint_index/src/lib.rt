@@ -9,8 +9,10 @@ mod found;
 mod hint;
 mod index;
 mod keyed;
+mod settled_list;
 mod text_key;
 
 pub use index::HintIndex;
 pub use keyed::{Keyed, Sought};
+pub use settled_list::SettledList;
 pub use text_key::TextKey;

@@ -2,5 +2,6 @@ pub mod Newest
 pub mod Counted
 mod Rooms
 mod Named
+mod Changing
 mod Standing
 mod StillOpen

@@ -1,12 +1,10 @@
 -- The newest order that passes a test, in a list that has the oldest first.
-use Rattle.std.proofs.Common.{◌≡◌, ℕ, zero, suc, ◌+◌, ◌-◌, ◌<◌, ◌≤◌, ◌^◌, Bool, true, false, List, [], ◌∷◌, ◌++◌, length, map, reverse, refl, sym, ap, ◌∙◌, arith, decimal, bytes_eq, get_or, slice_get, slice_set, eq-eqb, eqb-true}
-use Rattle.std.specs.Prelude.{Option, Some, None, if◌then◌else◌, nat_lt, ◌==◌}
-use Rattle.std.specs.List.{count_by, find, position, position_or_len}
-use Rattle.std.proofs.lemmas.Bool.Decides.{nat_tests}
-use Rattle.std.proofs.lemmas.List.{get_or-reverse, map-append, reverse-append}
-use Rattle.std.proofs.lemmas.List.Folds.{find_at}
+use Rattle.std.proofs.Common.{◌≡◌, ℕ, zero, suc, ◌+◌, ◌-◌, ◌<◌, ◌^◌, Bool, true, false, List, [], ◌∷◌, ◌++◌, length, map, reverse, refl, sym, ap, ◌∙◌, arith, decimal, bytes_eq, get_or, slice_get, slice_set, eq-eqb, eqb-true}
+use Rattle.std.specs.Prelude.{Option, Some, if◌then◌else◌, ◌==◌}
+use Rattle.std.specs.List.{count_by, find, position_or_len}
+use Rattle.std.proofs.lemmas.List.{map-append, reverse-append}
 use Rattle.std.proofs.lemmas.List.Recursion.{is_position_or_len}
-use Rattle.std.proofs.lemmas.Option.{slice_get-get_or, slice_get_past}
+use Rattle.std.proofs.lemmas.Option.{slice_get-get_or}
 use Rattle.order_machine.specs.OrderRecord.{OrderRecord}
 use Rattle.order_machine.specs.Table.{has_number, put}
 use Rattle.hint_index.proofs.Newest.{length-reverse}

@@ -1,6 +1,6 @@
 -- What the table holds and what it is seen as, after a change of its lists.
 use Rattle.std.proofs.Common.{◌≡◌, ℕ, List, [], ◌∷◌, ◌++◌, reverse, sym, subst, ap, ◌∙◌, slice_get, slice_set}
-use Rattle.std.specs.Prelude.{Some, Result, Ok, Err, OnErr}
+use Rattle.std.specs.Prelude.{Some, Result, Ok, Err, IfOk, OnErr}
 use Rattle.std.specs.List.{find}
 use Rattle.std.proofs.lemmas.List.{reverse-append}
 use Rattle.order_machine.specs.OrderRecord.{OrderRecord}
@@ -13,6 +13,11 @@ use Rattle.order_table.proofs.Newest.{change-newest}
 pub on-err : {A E P : Type 0} (r : Result A E) → P → OnErr r P
 on-err (Ok a) p = tt
 on-err (Err e) p = p
+
+-- whether there was memory or not
+pub by-result : {A E P Q R : Type 0} (r : Result A E) → IfOk r (λ a. Q) → OnErr r R → (Q → P) → (R → P) → P
+by-result (Ok a) ok err f g = f ok
+by-result (Err e) ok err f g = g err
 
 -- lists that are the same
 pub same-counted : {ts us : List GivenToken} {cs ds : List ℕ} {os ps : List OrderRecord} → us ≡ ts → ds ≡ cs → ps ≡ os → IsCounted ts cs os → IsCounted us ds ps

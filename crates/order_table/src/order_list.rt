@@ -1,29 +1,30 @@
 //! The list of orders with its indexes.
 
 ghost use Rattle.std.specs.Prelude.{◌≡◌, ◌+◌, ◌≤◌, ◌<◌, ◌^◌, ◌++◌, ◌∷◌, [], ℕ, None, Some, true, decimal, length, reverse};
-ghost use Rattle.std.specs.Prelude.{slice_get, slice_set, MatchOption, IfOk, OnOk};
+ghost use Rattle.std.specs.Prelude.{slice_get, slice_set, MatchOption, IfOk, OnErr, OnOk};
 ghost use Rattle.std.specs.List.{find};
 ghost use Rattle.hint_index.specs.Hints.{Covered, LeadsTo, hint_of};
 ghost use Rattle.hint_index.specs.Newest.{IsNewest};
 ghost use Rattle.order_table.specs.declared.keys.NameKey.{NameKey as Key};
-ghost use Rattle.order_machine.specs.OrderRecord.{OrderRecord};
+ghost use Rattle.order_machine.specs.OrderRecord.{OrderRecord, at};
 ghost use Rattle.order_machine.specs.Table as table;
-ghost use Rattle.order_table.specs.Keys.{has_name_key, has_number_key, same_name};
-ghost use Rattle.order_table.specs.Names.{KeepsNames, KeepsNamesBut};
+ghost use Rattle.order_table.specs.Keys.{has_name_key, same_name};
+ghost use Rattle.orders.specs.Changes.{Fits, changed_by};
+ghost use Rattle.orders.specs.Seen.{cancel_of, replace_of};
 
 use crate::keys::{ByName, ByNumber, NameKey, NumberKey, key_of_cancel, key_of_replace};
 use hint_index::HintIndex;
-use orders::Order;
+use orders::{Cancelling, Change, Order, Replacing};
 use std::alloc::{AllocError, Global};
 use std::hash::{BuildHasher, BuildHasherDefault, FoldHasher};
 use std::marker::Model;
-use undo_list::UndoList;
+use undo_orders::UndoOrders;
 
 /// The accepted orders, the oldest first, each found by its number and by the ids that it goes by. Contracts see the
-/// list, now and as it was settled, and for how many orders and changes more there is room.
+/// list, now and as it was settled, and for how many orders more there is room.
 #[derive(Debug, Drop)]
 pub(crate) struct OrderList<S: BuildHasher + Drop = BuildHasherDefault<FoldHasher>> {
-    orders: UndoList<Order>,
+    orders: UndoOrders,
     numbers: HintIndex<NumberKey, S>,
     names: HintIndex<NameKey, S>,
 }
@@ -32,7 +33,7 @@ impl<S: BuildHasher + Drop> Model for OrderList<S> {
     ghost use Rattle.hint_index.specs.Hints.{Covered};
     ghost use Rattle.order_machine.specs.OrderRecord.{OrderRecord};
     ghost use Rattle.order_table.specs.Keys.{has_name_key, has_number_key, same_name, same_number};
-    ghost use Rattle.order_table.specs.Rooms.{room_of_order, room_of_two};
+    ghost use Rattle.order_table.specs.Rooms.{room_of_order};
     ghost use Rattle.undo_list.specs.Undoing.{Undoable};
 
     ghost Value = { Undoable OrderRecord };
@@ -41,7 +42,7 @@ impl<S: BuildHasher + Drop> Model for OrderList<S> {
       now = l.orders.now;
       settled = l.orders.settled;
       pushes = room_of_order l.orders.pushes l.numbers.room l.names.room;
-      changes = room_of_two l.orders.changes l.names.room;
+      changes = l.orders.changes;
     } };
 
     ghost invariant = { λ l. Covered same_number has_number_key l.numbers l.orders
@@ -55,7 +56,7 @@ impl OrderList {
         ensures settled { result.settled ≡ [] }
     {
         OrderList {
-            orders: UndoList::new(alloc),
+            orders: UndoOrders::new(alloc),
             numbers: HintIndex::new(alloc),
             names: HintIndex::new(alloc),
         }
@@ -69,7 +70,7 @@ impl<S: BuildHasher + Drop> OrderList<S> {
         ensures settled { result.settled ≡ [] }
     {
         OrderList {
-            orders: UndoList::new(alloc),
+            orders: UndoOrders::new(alloc),
             numbers: HintIndex::with_hasher(alloc, numbers),
             names: HintIndex::with_hasher(alloc, names),
         }
@@ -124,17 +125,6 @@ impl<S: BuildHasher + Drop> OrderList<S> {
         Ok(())
     }
 
-    /// Makes room for one change more. Nothing else changes, be there memory or not.
-    pub fn reserve_change(&mut self) -> Result<(), AllocError>
-        ensures room { OnOk result (1 ≤ self.new.changes) }
-        ensures now { self.new.now ≡ self.old.now }
-        ensures settled { self.new.settled ≡ self.old.settled }
-    {
-        self.orders.reserve_change()?;
-        self.names.reserve(1)?;
-        Ok(())
-    }
-
     /// One order more behind the others, for which there is room. Takes no memory.
     pub fn push(&mut self, order: Order)
         requires { 1 ≤ self.old.pushes }
@@ -149,30 +139,62 @@ impl<S: BuildHasher + Drop> OrderList<S> {
         self.orders.push(order);
     }
 
-    /// Another order at a place, with the same number, client and no other ids, where there is room for a change.
-    /// Takes no memory.
-    pub fn change(&mut self, place: usize, order: Order)
+    /// The order at a place, as a message of the market changes it, which fits it. `AllocError` leaves the list as it
+    /// was.
+    pub fn apply(&mut self, alloc: Global, place: usize, change: Change) -> Result<(), AllocError>
         requires inside { place < length self.old.now }
-        requires room { 1 ≤ self.old.changes }
-        requires names { (was : OrderRecord) → slice_get self.old.now place ≡ Some was → KeepsNames was order }
-        ensures now { self.new.now ≡ slice_set self.old.now place order }
+        requires fits { (was : OrderRecord) → slice_get self.old.now place ≡ Some was → Fits change was }
+        ensures now { IfOk result (λ nothing. (was : OrderRecord) → slice_get self.old.now place ≡ Some was
+            → self.new.now ≡ slice_set self.old.now place (changed_by change was)) }
         ensures settled { self.new.settled ≡ self.old.settled }
+        ensures err { OnErr result (self.new.now ≡ self.old.now) }
     {
-        self.orders.change(place, order);
+        self.orders.apply(alloc, place, change)?;
+        Ok(())
     }
 
-    /// Another order at a place, with the same number, client and no other ids but one, where there is room for a
-    /// change. Takes no memory.
-    pub fn change_named(&mut self, place: usize, order: Order, name: NameKey)
+    /// A replace of the order at a place is pending, which has had fewer than 65,536 tokens. `AllocError` leaves the
+    /// list as it was.
+    pub fn accept_replace(
+        &mut self,
+        alloc: Global,
+        place: usize,
+        replacing: Replacing,
+    ) -> Result<(), AllocError>
         requires inside { place < length self.old.now }
-        requires room { 1 ≤ self.old.changes }
-        requires names { (was : OrderRecord) → slice_get self.old.now place ≡ Some was
-            → KeepsNamesBut name was order }
-        ensures now { self.new.now ≡ slice_set self.old.now place order }
+        requires few { (was : OrderRecord) → slice_get self.old.now place ≡ Some was → length was.tokens < 65_536 }
+        ensures now { IfOk result (λ nothing. (was : OrderRecord) → slice_get self.old.now place ≡ Some was
+            → self.new.now ≡ slice_set self.old.now place (at was (Some (replace_of was replacing)) was.cancel)) }
         ensures settled { self.new.settled ≡ self.old.settled }
+        ensures err { OnErr result (self.new.now ≡ self.old.now) }
     {
+        self.names.reserve(1)?;
+        let client = client_of(self.orders.item_at(place));
+        let name = NameKey::of(client, replacing.message.cl_ord_id.as_slice());
         self.names.note(&self.orders, name, place);
-        self.orders.change(place, order);
+        self.orders.accept_replace(alloc, place, replacing)?;
+        Ok(())
+    }
+
+    /// A cancel of the order at a place is pending. `AllocError` leaves the list as it was.
+    pub fn accept_cancel(
+        &mut self,
+        alloc: Global,
+        place: usize,
+        cancelling: Cancelling,
+    ) -> Result<(), AllocError>
+        requires inside { place < length self.old.now }
+        ensures now { IfOk result (λ nothing. (was : OrderRecord) → slice_get self.old.now place ≡ Some was
+            → self.new.now ≡ slice_set self.old.now place (at was was.replace (Some (cancel_of was cancelling)))) }
+        ensures settled { self.new.settled ≡ self.old.settled }
+        ensures err { OnErr result (self.new.now ≡ self.old.now) }
+    {
+        self.names.reserve(1)?;
+        let client = client_of(self.orders.item_at(place));
+        let name = NameKey::of(client, cancelling.message.cl_ord_id.as_slice());
+        self.names.note(&self.orders, name, place);
+        self.orders.accept_cancel(alloc, place, cancelling)?;
+        Ok(())
     }
 
     /// From now on the list is put back to how it is now. Takes no memory.
@@ -192,10 +214,17 @@ impl<S: BuildHasher + Drop> OrderList<S> {
     }
 }
 
+/// The number of an order's client.
+pub(crate) fn client_of(order: &Order) -> u16
+    ensures { result ≡ order.now.new.client }
+{
+    order.client
+}
+
 /// Notes that an order is to stand at a place, by each id that it goes by.
 fn note_names<S: BuildHasher + Drop>(
     names: &mut HintIndex<NameKey, S>,
-    orders: &UndoList<Order>,
+    orders: &UndoOrders,
     order: &Order,
     place: usize,
 )
@@ -215,7 +244,7 @@ fn note_names<S: BuildHasher + Drop>(
 /// Notes that an order is to stand at a place, by a key, if there is one.
 fn note_some<S: BuildHasher + Drop>(
     names: &mut HintIndex<NameKey, S>,
-    orders: &UndoList<Order>,
+    orders: &UndoOrders,
     key: Option<NameKey>,
     place: usize,
 )

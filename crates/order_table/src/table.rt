@@ -6,9 +6,8 @@ ghost use Rattle.order_law.specs.Life.{is_closed};
 ghost use Rattle.order_machine.specs.Table as table;
 ghost use Rattle.order_table.specs.Held.{IsCounted};
 
-use crate::keys::NameKey;
 use crate::open_counts::OpenCounts;
-use crate::order_list::OrderList;
+use crate::order_list::{OrderList, client_of};
 use crate::token_list::TokenList;
 use order_law::Stage;
 use orders::{Cancelling, Change, Order, Replacing};
@@ -208,12 +207,10 @@ impl<S: BuildHasher + Drop> Table<S> {
             let was = self.orders.item_at(place);
             let client = client_of(was);
             let was_open = is_open(was);
-            let order = was.changed(alloc, change)?;
-            let has_closed = was_open && !is_open(&order);
-            self.orders.reserve_change()?;
             self.open_counts.reserve()?;
-            self.orders.change(place, order);
-            self.open_counts.count_off(client, has_closed);
+            self.orders.apply(alloc, place, change)?;
+            let still_open = is_open(self.orders.item_at(place));
+            self.open_counts.count_off(client, was_open && !still_open);
         }
         Ok(())
     }
@@ -254,13 +251,9 @@ impl<S: BuildHasher + Drop> Table<S> {
         ensures err { OnErr result (self.new ≡ self.old) }
     {
         if let Some(place) = self.orders.place_of(order_id) {
-            let was = self.orders.item_at(place);
-            let name = NameKey::of(client_of(was), replacing.message.cl_ord_id.as_slice());
-            let order = was.with_replace(alloc, replacing)?;
             self.tokens.reserve_push()?;
-            self.orders.reserve_change()?;
+            self.orders.accept_replace(alloc, place, replacing)?;
             self.tokens.push(given);
-            self.orders.change_named(place, order, name);
         }
         Ok(())
     }
@@ -280,11 +273,7 @@ impl<S: BuildHasher + Drop> Table<S> {
         ensures err { OnErr result (self.new ≡ self.old) }
     {
         if let Some(place) = self.orders.place_of(order_id) {
-            let was = self.orders.item_at(place);
-            let name = NameKey::of(client_of(was), cancelling.message.cl_ord_id.as_slice());
-            let order = was.with_cancel(alloc, cancelling)?;
-            self.orders.reserve_change()?;
-            self.orders.change_named(place, order, name);
+            self.orders.accept_cancel(alloc, place, cancelling)?;
         }
         Ok(())
     }
@@ -306,13 +295,6 @@ impl<S: BuildHasher + Drop> Table<S> {
         self.tokens.undo();
         self.open_counts.undo();
     }
-}
-
-/// The number of an order's client.
-fn client_of(order: &Order) -> u16
-    ensures { result ≡ order.now.new.client }
-{
-    order.client
 }
 
 /// Whether an order isn't closed.

@@ -1,3 +1,4 @@
 pub mod Marks
 mod Broken
 mod Quantities
+mod Restoring

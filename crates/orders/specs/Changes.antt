@@ -1,5 +1,5 @@
 -- What a change makes of an order, in `order_machine`'s words: a change has of a message what is left to do with it.
-use Rattle.std.specs.Prelude.{◌≡◌, ◌≢◌, ◌≤◌, ℕ, Bool, Option, Some, None, bytes_eq}
+use Rattle.std.specs.Prelude.{◌≡◌, ◌≢◌, ◌≤◌, ℕ, Bool, true, false, Option, Some, None, bytes_eq}
 use Rattle.fixed_point.specs.Decimal.{most_shares}
 use Rattle.order_law.specs.declared.stage.Stage.TheVariants.{Waiting, Working}
 use Rattle.order_law.specs.History.{Entry, token_of}
@@ -37,6 +37,28 @@ Fits (Broken t) o = o.stage ≢ Waiting
 Fits Refused o = o.stage ≡ Waiting
 Fits (NotReplaced token) o = Unit {0}
 Fits (NotCanceled token) o = Unit {0}
+
+-- it marks trades of the order
+abbrev pub marks_trades : Change → Bool
+marks_trades (Broken t) = true
+marks_trades (Opened shares price is_dead) = false
+marks_trades (Replaced shares price is_dead) = false
+marks_trades (Canceled shares) = false
+marks_trades (Traded t) = false
+marks_trades Refused = false
+marks_trades (NotReplaced token) = false
+marks_trades (NotCanceled token) = false
+
+-- it may give the order another ClOrdID
+abbrev pub renames : Change → Bool
+renames (Replaced shares price is_dead) = true
+renames (Opened shares price is_dead) = false
+renames (Canceled shares) = false
+renames (Traded t) = false
+renames (Broken t) = false
+renames Refused = false
+renames (NotReplaced token) = false
+renames (NotCanceled token) = false
 
 -- an order with the stage and the quantities of another
 abbrev pub with_quantities : OrderRecord → OrderRecord → OrderRecord

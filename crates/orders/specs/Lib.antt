@@ -1,5 +1,7 @@
 pub mod Seen
 pub mod Changes
+pub mod EarlierTrades
+pub mod PutBack
 pub use Rattle.fix_types.specs.NewOrder
 pub use Rattle.fixed_point.specs.Decimal
 pub use Rattle.order_law.specs.Asks

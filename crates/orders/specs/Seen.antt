@@ -53,6 +53,26 @@ cancel_seen client order_id c = record {
   tokens = c.first ∷ option_to_list c.second;
 }
 
+-- the same, of an order
+abbrev pub replace_of : OrderRecord → Replacing → Entry
+replace_of o r = record {
+  client = o.new.client;
+  message = replace_request_fields r.message;
+  order = o.new.order;
+  token = Some r.token_number;
+}
+
+abbrev pub cancel_of : OrderRecord → Cancelling → record_of.Cancelling
+cancel_of o c = record {
+  request = record {
+    client = o.new.client;
+    message = cancel_request_fields c.message;
+    order = o.new.order;
+    token = None;
+  };
+  tokens = c.first ∷ option_to_list c.second;
+}
+
 -- a token, where it is another than this one
 abbrev pub other_than : List ℕ → Option (List ℕ) → Option (List ℕ)
 other_than token None = None

@@ -1,5 +1,8 @@
 //! What a message of the market changes of an order.
 
+ghost use Rattle.std.specs.Prelude.{◌≡◌};
+ghost use Rattle.orders.specs.Changes.{marks_trades, renames};
+
 use crate::order::ToldTrade;
 
 /// What a message of the market changes of an order, by its type. What is told of it isn't said here.
@@ -31,4 +34,24 @@ pub enum Change {
     NotReplaced([u8; 14]),
     /// Cancel Reject, on this token.
     NotCanceled([u8; 14]),
+}
+
+/// Whether a change marks trades of the order. Every other one leaves those that are there, and adds one at most.
+pub(crate) fn marks_trades(change: Change) -> bool
+    ensures { result ≡ marks_trades change }
+{
+    match change {
+        Change::Broken(_) => true,
+        _ => false,
+    }
+}
+
+/// Whether a change gives the order another ClOrdID.
+pub(crate) fn renames(change: Change) -> bool
+    ensures { result ≡ renames change }
+{
+    match change {
+        Change::Replaced { .. } => true,
+        _ => false,
+    }
 }

@@ -1,5 +1,5 @@
 //! An accepted order: what its client asked, how far it has come, the tokens that it had, its trades, and the
-//! requests on it that aren't answered; and what a message of the market changes of it.
+//! requests on it that aren't answered; what a message of the market changes of it, and how it is put back.
 //!
 //! It knows nothing of a message's bytes and of reports. Contracts see an order as `order_machine`'s record.
 #![tactic(auto)]
@@ -8,12 +8,16 @@ mod answering;
 mod change;
 mod copying;
 mod earlier;
+mod earlier_order;
+mod earlier_trades;
 mod order;
 mod progress;
+mod putting_back;
 mod requests;
 mod trades;
 
 pub use change::Change;
+pub use earlier_order::EarlierOrder;
 pub use order::{Order, ToldTrade};
 pub use progress::Progress;
 pub use requests::{Cancelling, Replacing};

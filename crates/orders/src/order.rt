@@ -41,6 +41,8 @@ pub struct Order {
     pub earlier: Vec<[u8; 14]>,
     /// What its client asked.
     pub message: NewOrder,
+    /// OrderQty (38) of it, in shares.
+    pub first_total: u64,
     /// ClOrdID (11): its own, or that of the last replace of it that was done.
     pub cl_ord_id: ClOrdId,
     /// How far it has come.
@@ -53,6 +55,7 @@ pub struct Order {
     ghost token_set: { ArePrintable token },
     ghost trades_set: { progress.stage ≡ Waiting → trades.items ≡ [] },
     ghost counted: { progress.tokens ≤ 1 + length earlier.items },
+    ghost first_total_set: { first_total ≡ total_of (new_order_fields message) },
     ghost total_set: { progress.stage ≡ Waiting → progress.total ≡ total_of (new_order_fields message) },
     ghost replace_set: { progress.tokens + length (option_to_list replace) ≤ 65_536 },
 }
@@ -97,7 +100,7 @@ impl Order {
     ghost use Rattle.order_machine.specs.OrderRecord.{at, entered, last_after, live_token, replacements, still_after};
     ghost use Rattle.order_machine.specs.OrderRecord.{unasked};
     ghost use Rattle.orders.specs.Changes.{Fits, changed_by, replaced_as, with_quantities};
-    ghost use Rattle.orders.specs.Seen.{cancel_seen, progressed, replace_seen};
+    ghost use Rattle.orders.specs.Seen.{cancel_of, progressed, replace_of};
     ghost use Rattle.orders.specs.declared.change.Change.TheVariants as changes;
 
     /// A new order that was accepted: it waits for the market. Its token is that of the number, its total and price are
@@ -134,6 +137,7 @@ impl Order {
             token_number,
             earlier: Vec::new(alloc),
             message,
+            first_total: progress.total,
             cl_ord_id,
             progress,
             trades: Vec::new(alloc),
@@ -231,16 +235,14 @@ impl Order {
     /// A replace of it is pending. It has had fewer than 65,536 tokens.
     pub fn accept_replace(&mut self, replacing: Replacing)
         requires { length self.old.tokens < 65_536 }
-        ensures { (order_id : ℕ) → self.old.new.order ≡ decimal order_id
-            → self.new ≡ at self.old (Some (replace_seen self.old.new.client order_id replacing)) self.old.cancel }
+        ensures { self.new ≡ at self.old (Some (replace_of self.old replacing)) self.old.cancel }
     {
         self.replace = Some(replacing);
     }
 
     /// A cancel of it is pending.
     pub fn accept_cancel(&mut self, cancelling: Cancelling)
-        ensures { (order_id : ℕ) → self.old.new.order ≡ decimal order_id
-            → self.new ≡ at self.old self.old.replace (Some (cancel_seen self.old.new.client order_id cancelling)) }
+        ensures { self.new ≡ at self.old self.old.replace (Some (cancel_of self.old cancelling)) }
     {
         self.cancel = Some(cancelling);
     }

@@ -1,7 +1,5 @@
-use Rattle.std.proofs.Common.{◌≡◌, ℕ, true, List, sym, ap, ◌∙◌, subst}
+use Rattle.std.proofs.Common.{◌≡◌, true, sym, ap, ◌∙◌, subst}
 use Rattle.std.specs.Prelude.{Option, Some, option_map}
-use Rattle.fix_types.specs.ReplaceRequest.{replace_request_fields}
-use Rattle.fix_fields.specs.Field.{text}
 use Rattle.orders.specs.Seen.{replace_seen}
 use Rattle.orders.specs.declared.requests.Replacing.{Replacing}
 use Rattle.order_table.specs.Keys.{is_key_of_replace, name_key}

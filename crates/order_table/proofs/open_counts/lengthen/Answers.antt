@@ -1,4 +1,4 @@
-use Rattle.std.proofs.Common.{◌≡◌, ℕ, List, [], ◌∷◌, ◌++◌, length, length-append, ap, ◌∙◌, arith, slice_index}
+use Rattle.std.proofs.Common.{◌≡◌, ℕ, List, [], ◌∷◌, ◌++◌, length-append, ap, ◌∙◌, arith, slice_index}
 use Rattle.order_table.proofs.StillOpen.{none-more}
 use Rattle.order_table.proofs.open_counts.lengthen.Goals as goal
 

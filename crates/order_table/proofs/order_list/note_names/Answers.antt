@@ -1,10 +1,10 @@
-use Rattle.std.proofs.Common.{◌≡◌, ◌≤◌, ℕ, true, sym, ap, ◌∙◌, subst, arith}
+use Rattle.std.proofs.Common.{◌≡◌, true, ap, ◌∙◌, subst}
 use Rattle.std.specs.Prelude.{option_map}
 use Rattle.hint_index.specs.Hints.{LeadsTo, hint_of}
 use Rattle.order_machine.specs.OrderRecord.{OrderRecord}
 use Rattle.orders.specs.Seen.{cancel_seen, replace_seen}
 use Rattle.order_table.specs.declared.keys.NameKey.{NameKey}
-use Rattle.order_table.specs.Keys.{has_name_key, is_key_of_cancel, is_key_of_replace, name_key, same_name}
+use Rattle.order_table.specs.Keys.{has_name_key, name_key, same_name}
 use Rattle.order_table.proofs.Named.{name-leads}
 use Rattle.order_table.proofs.order_list.note_names.Goals as goal
 

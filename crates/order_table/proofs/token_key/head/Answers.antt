@@ -1,4 +1,4 @@
-use Rattle.std.proofs.Common.{◌≡◌, ◌≤◌, length, take, sym, arith}
+use Rattle.std.proofs.Common.{◌≡◌, length, take, sym, arith}
 use Rattle.std.proofs.lemmas.List.{length-take-le, take_all}
 use Rattle.order_table.proofs.token_key.head.Goals as goal
 

@@ -1,4 +1,4 @@
-use Rattle.std.proofs.Common.{◌≡◌, ◌≤◌, ℕ, List, length, sym, ap, subst, arith}
+use Rattle.std.proofs.Common.{◌≤◌, List, length, sym, ap, subst, arith}
 use Rattle.hint_index.proofs.Standing.{covered-pushed}
 use Rattle.order_machine.specs.OrderRecord.{OrderRecord}
 use Rattle.undo_list.specs.Undoing.{Undoable}

@@ -1,67 +1,58 @@
-use Rattle.std.proofs.Common.{rules, ◌≡◌, ◌<◌, ℕ, List, [], ◌∷◌, ◌++◌, length, None, decimal, refl, reverse, sym, subst, ap, ◌∙◌, arith, slice_get, slice_set}
+use Rattle.std.proofs.Common.{rules, ◌≡◌, decimal, refl, reverse, ap, ◌∙◌, arith}
 use Rattle.std.specs.Prelude.{Some}
-use Rattle.std.specs.List.{find, list_all, count_by}
+use Rattle.std.specs.List.{find}
+use Rattle.order_machine.specs.OrderRecord as record_of
 use Rattle.order_machine.specs.OrderRecord.{OrderRecord, at}
-use Rattle.order_machine.specs.Table.{GivenToken, has_number, is_replacement_of, put}
+use Rattle.order_machine.specs.Table.{has_number}
+use Rattle.hint_index.proofs.Newest.{newest-there}
 use Rattle.hint_index.specs.Newest.{IsNewest}
 use Rattle.order_table.specs.Held.{Held, changed, with_number}
-use Rattle.orders.specs.Seen.{cancel_seen, replace_seen}
-use Rattle.orders.specs.Changes.{Fits, changed_by}
-use Rattle.order_table.proofs.Newest.{count-reverse}
-use Rattle.order_table.proofs.Counted.{all-at, change-few, change-new, counted-few, kept, own-number, own-token, replacing}
-use Rattle.order_table.proofs.Named.{cancel-names, same-item}
-use Rattle.order_table.specs.Keys.{name_key}
-use Rattle.order_table.specs.Names.{KeepsNamesBut}
-use Rattle.order_table.specs.declared.keys.NameKey.{NameKey}
-use Rattle.order_table.proofs.Standing.{changed-value, replaced-value, on-err, same-counted, same-value}
-use Rattle.order_table.proofs.StillOpen.{as-open, counted-off, was-counted}
+use Rattle.orders.specs.Seen.{cancel_of, cancel_seen}
+use Rattle.order_table.proofs.Changing.{cancel-as}
+use Rattle.order_table.proofs.Counted.{kept, own-number}
+use Rattle.order_table.proofs.Named.{item-at}
+use Rattle.order_table.proofs.Standing.{by-result, changed-value, on-err, same-counted, same-value}
+use Rattle.order_table.proofs.StillOpen.{as-open}
 use Rattle.order_table.proofs.table.Table.accept_cancel.Goals as goal
 
-pub change_named-requires-clause-names : goal.change_named-requires-clause-names
-change_named-requires-clause-names g c = λ w at_place.
+pub invariant_of-self-inside : goal.invariant_of-self-inside
+invariant_of-self-inside g c =
     let os = c.self.inside.orders.now in
     let newest : IsNewest (has_number (decimal c.args.order_id)) os c.in-Some.place = (search rules) in
-    let was = c.item_at-was.result.now in
-    let same : was ≡ w = same-item os c.in-Some.place was w c.item_at-was.ensures (sym (ap (λ (xs : List OrderRecord). slice_get xs c.in-Some.place) c.in_ok-reserve_change.ensures.now) ∙ at_place) in
-    let now : c.in_ok-order.order ≡ at was was.replace (Some (cancel_seen was.new.client c.args.order_id c.args.cancelling)) =
-    c.in_ok-order.ensures c.args.order_id (own-number (decimal c.args.order_id) os c.in-Some.place was newest c.item_at-was.ensures) in
-    let name : c.of-name.result ≡ name_key was.new.client c.args.cancelling.message.cl_ord_id =
-    c.of-name.ensures ∙ ap (λ (n : ℕ). name_key n c.as_slice.result.now) c.client_of.ensures ∙ ap (name_key was.new.client) c.as_slice.ensures.bytes in
-    subst (λ (k : NameKey). KeepsNamesBut k w c.in_ok-order.order) (sym name)
-    (subst (λ (x : OrderRecord). KeepsNamesBut (name_key was.new.client c.args.cancelling.message.cl_ord_id) x c.in_ok-order.order) same
-    (subst (λ (y : OrderRecord). KeepsNamesBut (name_key was.new.client c.args.cancelling.message.cl_ord_id) was y) (sym now) (cancel-names was (cancel_seen was.new.client c.args.order_id c.args.cancelling))))
-
-pub invariant_of-self-inside-in-Some : goal.invariant_of-self-inside-in-Some
-invariant_of-self-inside-in-Some g c =
-    let os = c.self.inside.orders.now in
-    let newest : IsNewest (has_number (decimal c.args.order_id)) os c.in-Some.place = (search rules) in
-    let was = c.item_at-was.result.now in
-    let now : c.in_ok-order.order ≡ at was was.replace (Some (cancel_seen was.new.client c.args.order_id c.args.cancelling)) =
-    c.in_ok-order.ensures c.args.order_id (own-number (decimal c.args.order_id) os c.in-Some.place was newest c.item_at-was.ensures) in
-    let written : c.change_named.new.self.now ≡ slice_set os c.in-Some.place c.in_ok-order.order = c.change_named.ensures.now ∙ ap (λ (xs : List OrderRecord). slice_set xs c.in-Some.place c.in_ok-order.order) c.in_ok-reserve_change.ensures.now in (
-      same-counted refl refl written (record {
-        had = kept c.self.inside.tokens.now os c.in-Some.place was c.in_ok-order.order c.self.inside.counted.had c.item_at-was.ensures (ap (λ (x : OrderRecord). x.new) now) (rw now (omega arith));
-        by_client = as-open c.self.inside.open_counts.now os c.in-Some.place was c.in_ok-order.order c.self.inside.counted.by_client c.item_at-was.ensures (ap (λ (x : OrderRecord). x.new) now) (ap (λ (x : OrderRecord). x.stage) now);
-      }),
-      (same-counted refl refl (c.change_named.ensures.settled ∙ c.in_ok-reserve_change.ensures.settled) c.self.inside.settled_counted, tt),
+    let there = item-at os c.in-Some.place newest.inside in
+    let was = there.0 in
+    let now : OrderRecord = at was was.replace (Some (cancel_of was c.args.cancelling)) in (
+      by-result c.accept_cancel.result c.accept_cancel.ensures.now c.accept_cancel.ensures.err
+          (λ written. same-counted refl refl (written was there.1) (record {
+            had = kept c.self.inside.tokens.now os c.in-Some.place was now c.self.inside.counted.had there.1 refl (omega arith);
+            by_client = as-open c.self.inside.open_counts.now os c.in-Some.place was now c.self.inside.counted.by_client there.1 refl refl;
+          }))
+          (λ same. same-counted refl refl same c.self.inside.counted),
+      (same-counted refl refl c.accept_cancel.ensures.settled c.self.inside.settled_counted, tt),
     )
 
-pub returns-in_ok-reserve_change-clause-accepted : goal.returns-in_ok-reserve_change-clause-accepted
-returns-in_ok-reserve_change-clause-accepted g c = λ o found.
+pub returns-in_ok-accept_cancel-clause-accepted : goal.returns-in_ok-accept_cancel-clause-accepted
+returns-in_ok-accept_cancel-clause-accepted g c = λ o found.
     let os = c.self.inside.orders.now in
     let newest : IsNewest (has_number (decimal c.args.order_id)) os c.in-Some.place = (search rules) in
     let is_found : find (has_number (decimal c.args.order_id)) (reverse os) ≡ Some o = ap (λ (h : Held). with_number h c.args.order_id) c.self.view_is ∙ found in
-    let was = c.item_at-was.result.now in
-    let now : c.in_ok-order.order ≡ at was was.replace (Some (cancel_seen was.new.client c.args.order_id c.args.cancelling)) =
-    c.in_ok-order.ensures c.args.order_id (own-number (decimal c.args.order_id) os c.in-Some.place was newest c.item_at-was.ensures) in
+    let there = item-at os c.in-Some.place newest.inside in
+    let was = there.0 in
     changed-value os c.self.inside.tokens.now c.self.inside.orders.settled c.self.inside.tokens.settled (decimal c.args.order_id) c.in-Some.place was
-    (λ (x : OrderRecord). at x x.replace (Some (cancel_seen x.new.client c.args.order_id c.args.cancelling))) (λ x. refl) newest c.item_at-was.ensures o is_found
-    c.change_named.new.self.now c.change_named.new.self.settled c.in_ok-order.order now (c.change_named.ensures.now ∙ ap (λ (xs : List OrderRecord). slice_set xs c.in-Some.place c.in_ok-order.order) c.in_ok-reserve_change.ensures.now) (c.change_named.ensures.settled ∙ c.in_ok-reserve_change.ensures.settled)
+    (λ (x : OrderRecord). at x x.replace (Some (cancel_seen x.new.client c.args.order_id c.args.cancelling))) (λ x. refl) newest there.1 o is_found
+    c.accept_cancel.new.self.now c.accept_cancel.new.self.settled (at was was.replace (Some (cancel_of was c.args.cancelling)))
+    (ap (λ (x : record_of.Cancelling). at was was.replace (Some x)) (cancel-as was c.args.order_id c.args.cancelling (own-number (decimal c.args.order_id) os c.in-Some.place was newest there.1)))
+    (c.in_ok-accept_cancel.ensures.now was there.1) c.accept_cancel.ensures.settled
     ∙ ap (changed (at o o.replace (Some (cancel_seen o.new.client c.args.order_id c.args.cancelling)))) c.self.view_is
 
-pub returns-in_err-reserve_change-clause-err : goal.returns-in_err-reserve_change-clause-err
-returns-in_err-reserve_change-clause-err g c =
-    on-err c.from_residual-in_err-reserve_change.result
-    (same-value c.self.inside.orders.now c.self.inside.tokens.now c.self.inside.orders.settled c.self.inside.tokens.settled c.reserve_change.new.self.now c.self.inside.tokens.now c.reserve_change.new.self.settled c.self.inside.tokens.settled
-    c.reserve_change.ensures.now refl c.reserve_change.ensures.settled refl
+pub returns-in_err-accept_cancel-clause-err : goal.returns-in_err-accept_cancel-clause-err
+returns-in_err-accept_cancel-clause-err g c =
+    on-err c.from_residual.result
+    (same-value c.self.inside.orders.now c.self.inside.tokens.now c.self.inside.orders.settled c.self.inside.tokens.settled c.accept_cancel.new.self.now c.self.inside.tokens.now c.accept_cancel.new.self.settled c.self.inside.tokens.settled
+    c.in_err-accept_cancel.ensures.err refl c.accept_cancel.ensures.settled refl
     ∙ c.self.view_is)
+
+pub returns-in_ok-accept_cancel-clause-unknown : goal.returns-in_ok-accept_cancel-clause-unknown
+returns-in_ok-accept_cancel-clause-unknown g c = λ none.
+    let newest : IsNewest (has_number (decimal c.args.order_id)) c.self.inside.orders.now c.in-Some.place = (search rules) in
+    absurd (newest-there (has_number (decimal c.args.order_id)) c.self.inside.orders.now c.in-Some.place newest (ap (λ (h : Held). with_number h c.args.order_id) c.self.view_is ∙ none))

@@ -1,4 +1,4 @@
-use Rattle.std.proofs.Common.{◌≡◌, ◌≤◌, ℕ, List, length, sym, ap, ◌∙◌, subst}
+use Rattle.std.proofs.Common.{◌≤◌, List, length, sym, ap, ◌∙◌, subst}
 use Rattle.hint_index.proofs.Standing.{covered-pushed}
 use Rattle.hint_index.specs.Hints.{LeadsTo, hint_of}
 use Rattle.order_machine.specs.Table.{GivenToken}

@@ -1,0 +1,143 @@
+-- An order that goes on from an earlier one is put back to it.
+use Rattle.std.proofs.Common.{◌≡◌, ℕ, ◌≤◌, ◌-◌, Bool, true, false, List, [], ◌∷◌, ◌++◌, length, map, take, drop, reverse, refl, sym, ap, ◌∙◌, arith, true≢false, ◌⊎◌, inl, inr}
+use Rattle.std.specs.Prelude.{◌==◌, Option, Some, None, option_map, unwrap_or, if◌then◌else◌, bytes_eq}
+use Rattle.std.proofs.Math.Seq.{take-length, take-append_seam}
+use Rattle.std.proofs.lemmas.List.{length-reverse, reverse-append, reverse-reverse, take-map}
+use Rattle.order_law.specs.History.{Entry, token_of}
+use Rattle.order_machine.specs.OrderRecord.{OrderRecord, at, filled, gone, live_token, over_if, put_in_book, reduced, renamed, still_after, unasked, with_trade}
+use Rattle.order_machine.specs.OrderRecord as record_of
+use Rattle.orders.specs.Changes.{changed_by, marks_trades, renames, replaced_as}
+use Rattle.orders.specs.PutBack.{GoesOn, can_have_had, had_before, put_back, with_earlier}
+use Rattle.orders.specs.EarlierTrades.{oldest, told_before, trades_before}
+use Rattle.orders.specs.Seen.{cancel_of, progressed, replace_of, told_seen}
+use Rattle.orders.specs.declared.change.Change.{Change}
+use Rattle.orders.specs.declared.change.Change.TheVariants as changes
+use Rattle.orders.specs.declared.earlier_order.EarlierOrder.{EarlierOrder}
+use Rattle.orders.specs.declared.earlier_trades.EarlierTrades.{EarlierTrades}
+use Rattle.orders.specs.declared.earlier_trades.EarlierTrades.TheVariants.{First, Unmarked}
+use Rattle.orders.specs.declared.order.ToldTrade.{ToldTrade}
+
+-- ---- lists that have the newest first
+
+-- it is the same, or has one item more
+abbrev pub Grown : {A : Type 0} → List A → List A → Type 0
+Grown {A} xs ys = (ys ≡ xs) ⊎ ((x : A) × (ys ≡ x ∷ xs))
+
+oldest-all : {A : Type 0} (xs : List A) → oldest (length xs) xs ≡ xs
+oldest-all xs = ap (λ n. reverse (take n (reverse xs))) (sym (length-reverse xs)) ∙ ap reverse (take-length (reverse xs)) ∙ reverse-reverse xs
+
+oldest-more : {A : Type 0} (x : A) (xs : List A) → oldest (length xs) (x ∷ xs) ≡ xs
+oldest-more x xs =
+    ap (λ ys. reverse (take (length xs) ys)) (reverse-append (x ∷ []) xs)
+    ∙ ap (λ n. reverse (take n (reverse xs ++ x ∷ []))) (sym (length-reverse xs))
+    ∙ ap reverse (take-append_seam (reverse xs) (x ∷ []))
+    ∙ reverse-reverse xs
+
+pub grown-oldest : {A : Type 0} (xs ys : List A) → Grown xs ys → oldest (length xs) ys ≡ xs
+grown-oldest xs ys (inl same) = ap (oldest (length xs)) same ∙ oldest-all xs
+grown-oldest xs ys (inr (x, more)) = ap (oldest (length xs)) more ∙ oldest-more x xs
+
+behind-same : {A : Type 0} (xs : List A) → (oldest (length (drop 1 xs)) (drop 1 xs) ≡ drop 1 xs) × (length (drop 1 xs) ≤ length (drop 1 xs))
+behind-same xs = (oldest-all (drop 1 xs), omega arith)
+
+behind-all : {A : Type 0} (xs : List A) → (oldest (length (drop 1 xs)) xs ≡ drop 1 xs) × (length (drop 1 xs) ≤ length xs)
+behind-all [] = (refl, omega arith)
+behind-all (x ∷ xs) = (oldest-more x xs, omega arith)
+
+Behind : {A : Type 0} → List A → List A → Type 0
+Behind xs ys = (oldest (length (drop 1 xs)) (drop 1 ys) ≡ drop 1 xs) × (length (drop 1 xs) ≤ length (drop 1 ys))
+
+grown-behind : {A : Type 0} (xs ys : List A) → Grown xs ys → (oldest (length (drop 1 xs)) (drop 1 ys) ≡ drop 1 xs) × (length (drop 1 xs) ≤ length (drop 1 ys))
+grown-behind xs ys (inl same) = rw same (behind-same xs)
+grown-behind xs ys (inr (x, more)) = rw more (behind-all xs)
+
+-- ---- what a change leaves of an order
+
+pub record Leaves (marks named : Bool) (was now : OrderRecord) : Type 0 where
+  pub asked : now.new ≡ was.new
+  pub tokens : Grown was.tokens now.tokens
+  pub id : named ≡ false → now.id ≡ was.id
+  pub trades : marks ≡ false → Grown was.trades now.trades
+
+same : (marks named : Bool) (was now : OrderRecord) → now.new ≡ was.new → now.tokens ≡ was.tokens → now.id ≡ was.id → now.trades ≡ was.trades → Leaves marks named was now
+same marks named was now asked tokens id trades = record { asked = asked; tokens = inl tokens; id = λ e. id; trades = λ e. inl trades }
+
+over : (marks named : Bool) (was now : OrderRecord) (b : Bool) → Leaves marks named was now → Leaves marks named was (over_if b now)
+over marks named was now true l = record { asked = l.asked; tokens = l.tokens; id = l.id; trades = l.trades }
+over marks named was now false l = l
+
+never : {P : Type 0} → true ≡ false → P
+never e = absurd (true≢false e)
+
+replaced : (shares price : ℕ) (is_dead : Bool) (o : OrderRecord) (q : Option Entry) → Leaves false true o (replaced_as shares price is_dead o q)
+replaced shares price is_dead o None = same false true o o refl refl refl refl
+replaced shares price is_dead o (Some q) =
+    over false true o (at (put_in_book shares price (renamed (token_of q) q o)) None (still_after (bytes_eq (live_token o)) o.cancel)) is_dead
+    (record { asked = refl; tokens = inr (token_of q, refl); id = λ e. never e; trades = λ e. inl refl })
+
+pub leaves : (change : Change) (o : OrderRecord) → Leaves (marks_trades change) (renames change) o (changed_by change o)
+leaves (changes.Opened shares price is_dead) o = over false false o (put_in_book shares price o) is_dead (same false false o (put_in_book shares price o) refl refl refl refl)
+leaves (changes.Replaced shares price is_dead) o = replaced shares price is_dead o o.replace
+leaves (changes.Canceled shares) o = by_rest (o.unfilled - shares == 0)
+  where
+    by_rest : (b : Bool) → Leaves false false o (if b then unasked (gone o) else reduced shares o)
+    by_rest true = same false false o (unasked (gone o)) refl refl refl refl
+    by_rest false = same false false o (reduced shares o) refl refl refl refl
+leaves (changes.Traded t) o = by_rest (o.unfilled - t.trade.shares == 0)
+  where
+    by_rest : (b : Bool) → Leaves false false o (if b then unasked (filled t.number t.trade o) else with_trade t.number t.trade o)
+    by_rest true = record { asked = refl; tokens = inl refl; id = λ e. refl; trades = λ e. inr (record { trade = t.trade; number = t.number }, refl) }
+    by_rest false = record { asked = refl; tokens = inl refl; id = λ e. refl; trades = λ e. inr (record { trade = t.trade; number = t.number }, refl) }
+leaves (changes.Broken t) o = record { asked = refl; tokens = inl refl; id = λ e. refl; trades = λ e. never e }
+leaves changes.Refused o = same false false o (changed_by changes.Refused o) refl refl refl refl
+leaves (changes.NotReplaced token) o = same false false o (changed_by (changes.NotReplaced token) o) refl refl refl refl
+leaves (changes.NotCanceled token) o = same false false o (changed_by (changes.NotCanceled token) o) refl refl refl refl
+
+pub goes-on : (marks named : Bool) (was now : OrderRecord) (id : Option (List ℕ)) (trades : EarlierTrades) → Leaves marks named was now → unwrap_or id now.id ≡ was.id → told_before trades now.trades ≡ was.trades
+    → GoesOn id trades was now
+goes-on marks named was now id trades l is_named told = record {
+  asked = l.asked;
+  tokens = (grown-behind was.tokens now.tokens l.tokens).0;
+  as_many = (grown-behind was.tokens now.tokens l.tokens).1;
+  named = is_named;
+  trades = told;
+}
+
+-- as many trades as there were
+pub first-trades : (marks named : Bool) (was now : OrderRecord) (earlier : EarlierTrades) → Leaves marks named was now → marks ≡ false → earlier ≡ First (length was.trades) → told_before earlier now.trades ≡ was.trades
+first-trades marks named was now earlier l e many = ap (λ x. told_before x now.trades) many ∙ grown-oldest was.trades now.trades (l.trades e)
+
+-- what marks trades gives no other id
+pub marked-named : (change : Change) → marks_trades change ≡ true → renames change ≡ false
+marked-named (changes.Broken t) e = refl
+marked-named (changes.Opened shares price is_dead) e = refl
+marked-named (changes.Replaced shares price is_dead) e = never (sym e)
+marked-named (changes.Canceled shares) e = refl
+marked-named (changes.Traded t) e = refl
+marked-named changes.Refused e = refl
+marked-named (changes.NotReplaced token) e = refl
+marked-named (changes.NotCanceled token) e = refl
+
+-- ---- what is put back
+
+by-test : (b : Bool) (x y : OrderRecord) → b ≡ true → (if b then x else y) ≡ x
+by-test true x y e = refl
+by-test false x y e = absurd (true≢false (sym e))
+
+pub put-back-then : (e : EarlierOrder) (o : OrderRecord) → can_have_had e o ≡ true → put_back e o ≡ with_earlier e o
+put-back-then e o fits = by-test (can_have_had e o) (with_earlier e o) o fits
+
+-- ---- as the fields have it
+
+pub told-of : (trades : EarlierTrades) (ts : List ToldTrade) → reverse (map told_seen (trades_before trades ts)) ≡ told_before trades (reverse (map told_seen ts))
+told-of (First n) ts = ap reverse (sym (take-map told_seen n ts)) ∙ ap (λ xs. reverse (take n xs)) (sym (reverse-reverse (map told_seen ts)))
+told-of (Unmarked unmarked) ts = refl
+
+pub oldest-of : (n : ℕ) (ts : List (List ℕ)) → reverse (take n ts) ≡ oldest n (reverse ts)
+oldest-of n ts = ap (λ xs. reverse (take n xs)) (sym (reverse-reverse ts))
+
+pub with-earlier-is : (e : EarlierOrder) (o : OrderRecord) (id : List ℕ) (behind : List (List ℕ)) (trades : List record_of.ToldTrade) (replace : Option Entry) (cancel : Option record_of.Cancelling) → id ≡ unwrap_or e.cl_ord_id o.id
+    → behind ≡ oldest e.earlier_count (had_before o) → trades ≡ told_before e.trades o.trades → replace ≡ option_map (replace_of o) e.replace → cancel ≡ option_map (cancel_of o) e.cancel
+    → record (progressed e.progress o) { id = id; tokens = e.token ∷ behind; trades = trades; replace = replace; cancel = cancel } ≡ with_earlier e o
+with-earlier-is e o id behind trades replace cancel ids tokens told replaces cancels =
+    (λ j. record (progressed e.progress o) { id = ids j; tokens = e.token ∷ tokens j; trades = told j; replace = replaces j; cancel = cancels j })

@@ -1,0 +1,29 @@
+//! What an order had before it was changed.
+
+ghost use Rattle.std.specs.Prelude.{◌≡◌, ◌≤◌, ◌+◌, length, option_to_list};
+ghost use Rattle.order_law.specs.declared.stage.Stage.TheVariants.{Waiting};
+ghost use Rattle.orders.specs.EarlierTrades.{most_trades};
+ghost use Rattle.wire_law.specs.Printable.{ArePrintable};
+
+use crate::earlier_trades::EarlierTrades;
+use crate::progress::Progress;
+use crate::requests::{Cancelling, Replacing};
+use fix_values::ClOrdId;
+
+/// What an order had before it was changed: all that may change of it. Of the lists that only grow it has the lengths.
+#[derive(Debug, Drop)]
+pub struct EarlierOrder {
+    pub(crate) token: [u8; 14],
+    /// How many tokens it had had before that one.
+    pub(crate) earlier_count: usize,
+    /// Its ClOrdID; `None` where it has the same still.
+    pub(crate) cl_ord_id: Option<ClOrdId>,
+    pub(crate) progress: Progress,
+    pub(crate) trades: EarlierTrades,
+    pub(crate) replace: Option<Replacing>,
+    pub(crate) cancel: Option<Cancelling>,
+    ghost token_set: { ArePrintable token },
+    ghost trades_set: { progress.stage ≡ Waiting → most_trades trades ≡ 0 },
+    ghost counted: { progress.tokens ≤ 1 + earlier_count },
+    ghost replace_set: { progress.tokens + length (option_to_list replace) ≤ 65_536 },
+}

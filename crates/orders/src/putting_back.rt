@@ -1,0 +1,116 @@
+//! How an order is put back to what it had before it was changed.
+
+ghost use Rattle.std.specs.Prelude.{◌≡◌, Option, IfOk, length, unwrap_or};
+ghost use Rattle.order_law.specs.declared.stage.Stage.TheVariants.{Waiting};
+ghost use Rattle.order_law.specs.History.{Entry};
+ghost use Rattle.order_machine.specs.OrderRecord.{Cancelling as CancellingRecord, OrderRecord, at};
+ghost use Rattle.orders.specs.Changes.{changed_by};
+ghost use Rattle.orders.specs.PutBack.{GoesOn, can_have_had, put_back};
+ghost use Rattle.orders.specs.EarlierTrades.{most_trades};
+ghost use Rattle.orders.specs.declared.earlier_trades.EarlierTrades.TheVariants.{First};
+
+use crate::change::{Change, marks_trades, renames};
+use crate::copying::{copied_cancel, copied_replace};
+use crate::earlier_order::EarlierOrder;
+use crate::earlier_trades::{EarlierTrades, put_trades_back};
+use crate::order::Order;
+use fix_values::ClOrdId;
+use order_law::Stage;
+use std::alloc::{AllocError, Global};
+
+impl Order {
+    /// What it has before a message of the market changes it. It takes the memory of the requests that are pending;
+    /// where the message gives it another ClOrdID, of that too, and where it breaks a trade, of all trades.
+    pub fn before(&self, alloc: Global, change: Change) -> Result<EarlierOrder, AllocError>
+        ensures { IfOk result (λ earlier. put_back earlier (changed_by change self.now) ≡ self.now) }
+    {
+        if marks_trades(change) {
+            let unmarked = Vec::from_slice(alloc, &self.trades)?;
+            self.before_with(alloc, None, EarlierTrades::Unmarked(unmarked))
+        } else if renames(change) {
+            let cl_ord_id = ClOrdId::copied(alloc, self.cl_ord_id.as_slice())?;
+            self.before_with(alloc, Some(cl_ord_id), self.trades_so_far())
+        } else {
+            self.before_with(alloc, None, self.trades_so_far())
+        }
+    }
+
+    /// What it has before a request is pending on it. It takes the memory of the requests that are pending.
+    pub fn before_request(&self, alloc: Global) -> Result<EarlierOrder, AllocError>
+        ensures { IfOk result (λ earlier. (replace : Option Entry) (cancel : Option CancellingRecord)
+            → put_back earlier (at self.now replace cancel) ≡ self.now) }
+    {
+        self.before_with(alloc, None, self.trades_so_far())
+    }
+
+    /// Puts the order back to what it had. An order that can't have had this stays. Takes no memory.
+    pub fn put_back(&mut self, earlier: EarlierOrder)
+        ensures { self.new ≡ put_back earlier self.old }
+    {
+        if self.can_have_had(&earlier) {
+            self.token = earlier.token;
+            self.earlier.truncate(earlier.earlier_count);
+            put_id_back(&mut self.cl_ord_id, earlier.cl_ord_id);
+            self.progress = earlier.progress;
+            put_trades_back(&mut self.trades, earlier.trades);
+            put_request_back(&mut self.replace, earlier.replace);
+            put_request_back(&mut self.cancel, earlier.cancel);
+        }
+    }
+
+    /// What it has, with its ClOrdID and its trades as given.
+    fn before_with(
+        &self,
+        alloc: Global,
+        cl_ord_id: Option<ClOrdId>,
+        trades: EarlierTrades,
+    ) -> Result<EarlierOrder, AllocError>
+        requires { self.now.stage ≡ Waiting → most_trades trades ≡ 0 }
+        ensures { IfOk result (λ earlier. (now : OrderRecord) → GoesOn cl_ord_id trades self.now now
+            → put_back earlier now ≡ self.now) }
+    {
+        let token = self.token;
+        Ok(EarlierOrder {
+            token,
+            earlier_count: self.earlier.len(),
+            cl_ord_id,
+            progress: self.progress,
+            trades,
+            replace: copied_replace(alloc, &self.replace)?,
+            cancel: copied_cancel(alloc, &self.cancel)?,
+        })
+    }
+
+    /// As many trades as it has.
+    fn trades_so_far(&self) -> EarlierTrades
+        ensures trades { result ≡ First (length self.now.trades) }
+        ensures waiting { self.now.stage ≡ Waiting → most_trades result ≡ 0 }
+    {
+        EarlierTrades::First(self.trades.len())
+    }
+
+    /// Whether it can have had this: as many tokens, and, as it waited, the total that its client asked.
+    fn can_have_had(&self, earlier: &EarlierOrder) -> bool
+        ensures { result ≡ can_have_had earlier.now self.now }
+    {
+        earlier.earlier_count <= self.earlier.len()
+            && (earlier.progress.stage != Stage::Waiting
+                || earlier.progress.total == self.first_total)
+    }
+}
+
+/// Puts a ClOrdID back to what it was, where it was another. Takes no memory.
+fn put_id_back(cl_ord_id: &mut ClOrdId, earlier: Option<ClOrdId>)
+    ensures { cl_ord_id.new ≡ unwrap_or earlier cl_ord_id.old }
+{
+    if let Some(was) = earlier {
+        *cl_ord_id = was;
+    }
+}
+
+/// Puts a pending request back to what it was. Takes no memory.
+fn put_request_back<T: Drop>(request: &mut Option<T>, earlier: Option<T>)
+    ensures { request.new ≡ earlier }
+{
+    *request = earlier;
+}
