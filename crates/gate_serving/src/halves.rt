@@ -1,5 +1,8 @@
+//! The two halves of a line: what its links are opened and read with, and what they are written with.
 
-ghost use Rattle.std.specs.Prelude.{◌≤◌};
+ghost use Rattle.std.specs.Prelude.{◌≡◌, ◌≤◌, ◌<◌, true, IfNone, IfSome};
+ghost use Rattle.gate_serving.specs.Lines.{LineRead, LineWritten, OfAStream};
+ghost use Rattle.gate_workers.specs.WritersWork.{WritesLink};
 
 use crate::job::Job;
 use crate::line::Worker;
@@ -21,6 +24,8 @@ pub(crate) struct Reads<'a, P, O, A, W, K> {
     pub(crate) opener: O,
     pub(crate) worker: A,
     pub(crate) slot: &'a Slot<W, K>,
+    /// Whether all links are over: the opener has no further one, and each that it opened was read.
+    pub(crate) all_over: bool,
 }
 
 /// What a line's links are written with.
@@ -42,88 +47,140 @@ where
     W: Drop,
     K: Drop,
 {
-    ghost whose = { λ half. P.number half.peer };
+    ghost did = { λ old new. (new.peer ≡ old.peer) × (new.steps ≡ old.steps)
+        × LineRead (P.reads old.peer) new.all_over (O.has_ended new.opener) (O.opened old.opener) (O.opened new.opener)
+            (G.was_put old.worker.gate) (G.was_put new.worker.gate)
+        × (G.was_taken new.worker.gate ≡ G.was_taken old.worker.gate) };
 
-    /// Opens and reads the line's links, numbered from 1, until its opener has no more, the flag is set, or the line has
-    /// no writer. Each link's writer has ended before the next is opened.
+    /// Opens and reads the line's links, and tells the writer that no further one comes.
     fn run<R: Wait>(self, rt: &R, alloc: Global, flag: &AtomicBool) -> Self {
         let Reads {
             peer,
             steps,
             mut fault,
             mut opener,
-            mut worker,
+            worker,
             slot,
+            all_over: _,
         } = self;
-        let mut link = 0u64;
-        for _ in rt.forever() {
-            let opened = if flag.load(Ordering::SeqCst) {
-                None
-            } else {
-                opener.open()
-            };
-            match opened {
-                None => break,
-                Some(Err(found)) => fault = first_of(fault, Some(found)),
-                Some(Ok(opened)) => {
-                    link = link.saturating_add(1);
-                    let Opened {
-                        reader: stream,
-                        writer,
-                        closer,
-                    } = opened;
-                    let given = Given {
-                        link,
-                        stream: writer,
-                        closer,
-                    };
-                    if !slot.offer(rt, flag, given) {
-                        break;
-                    }
-                    let (read, back) =
-                        read_link(rt, alloc, peer, link, steps.max(1), stream, worker);
-                    worker = back;
-                    slot.stop().store(true, Ordering::SeqCst);
-                    let end = LinkEnd {
-                        link,
-                        reader: read,
-                        writer: slot.ended(rt),
-                    };
-                    fault = first_of(fault, end.fault());
-                    opener.ended(end);
-                }
-            }
-        }
+        let Worker {
+            mut gate,
+            mut clock,
+        } = worker;
+        let all_over = read_links(
+            rt,
+            alloc,
+            flag,
+            peer,
+            steps,
+            slot,
+            &mut fault,
+            &mut opener,
+            &mut gate,
+            &mut clock,
+        );
         slot.close(rt);
         Reads {
             peer,
             steps,
             fault,
             opener,
-            worker,
+            worker: Worker { gate, clock },
             slot,
+            all_over,
         }
     }
 }
 
-/// Reads a link until it is over.
-fn read_link<R: Wait, P: Peer + Drop, S: Read + Drop, G: Gate + Drop, C: Clock + Drop>(
+/// Opens and reads links, numbered from 1, until the opener has no more (`true`), the flag is set, or the line has no
+/// writer. Each link's writer has ended before the next is opened.
+fn read_links<R: Wait, P, O, G, C, W, K>(
     rt: &R,
     alloc: Global,
+    flag: &AtomicBool,
+    peer: P,
+    steps: u64,
+    slot: &Slot<W, K>,
+    fault: &mut Option<LinkFault>,
+    opener: &mut O,
+    gate: &mut G,
+    clock: &mut C,
+) -> bool
+where
+    P: Peer + Drop,
+    O: Opener<Writer = W, Closer = K>,
+    O::Reader: Read + Drop,
+    G: Gate,
+    C: Clock,
+    W: Drop,
+    K: Drop,
+    ensures read { LineRead (P.reads peer) result (O.has_ended opener.new) (O.opened opener.old) (O.opened opener.new)
+        (G.was_put gate.old) (G.was_put gate.new) }
+    ensures none_taken { G.was_taken gate.new ≡ G.was_taken gate.old }
+{
+    let mut link = 0u64;
+    for _tried in 0..u64::MAX {
+        if flag.load(Ordering::SeqCst) {
+            return false;
+        }
+        let Some(tried) = opener.open() else {
+            return true;
+        };
+        match tried {
+            Err(found) => *fault = first_of(*fault, Some(found)),
+            Ok(opened) => {
+                link += 1;
+                let read = read_link(rt, alloc, flag, peer, link, steps, slot, opened, gate, clock);
+                let Some(end) = read else {
+                    return false;
+                };
+                *fault = first_of(*fault, end.fault());
+                opener.ended(end);
+            }
+        }
+    }
+    false
+}
+
+/// Hands the link's other half to the line's writer, and reads the link until it is over and its writer has ended.
+/// `None` where the line has no writer: then nothing is read.
+fn read_link<R: Wait, P: Peer + Drop, S: Read + Drop, G: Gate, C: Clock, W: Drop, K: Drop>(
+    rt: &R,
+    alloc: Global,
+    flag: &AtomicBool,
     peer: P,
     link: u64,
     steps: u64,
-    mut stream: S,
-    worker: Worker<G, C>,
-) -> (Result<(), LinkFault>, Worker<G, C>)
-    requires from_one { 1 ≤ steps }
+    slot: &Slot<W, K>,
+    opened: Opened<S, W, K>,
+    gate: &mut G,
+    clock: &mut C,
+) -> Option<LinkEnd>
+    ensures some { IfSome result (λ end. (end.link ≡ link)
+        × OfAStream (P.reads peer link end.reader (G.was_put gate.old) (G.was_put gate.new))) }
+    ensures none { IfNone result (G.was_put gate.new ≡ G.was_put gate.old) }
+    ensures none_taken { G.was_taken gate.new ≡ G.was_taken gate.old }
 {
-    let Worker {
-        mut gate,
-        mut clock,
-    } = worker;
-    let end = peer.read(rt, alloc, link, steps, &mut stream, &mut gate, &mut clock);
-    (end, Worker { gate, clock })
+    let Opened {
+        reader: mut stream,
+        writer,
+        closer,
+    } = opened;
+    let given = Given {
+        stream: writer,
+        closer,
+    };
+    if !slot.offer(rt, flag, given) {
+        return None;
+    }
+    let reader = peer.read(rt, alloc, link, steps.max(1), &mut stream, gate, clock);
+    slot.stop().store(true, Ordering::SeqCst);
+    let writer = slot.ended(rt);
+    Some(LinkEnd {
+        link,
+        reader,
+        writer,
+    })
 }
 
 impl<'a, P, H, D, W, K> Job for Writes<'a, P, Worker<H, D>, W, K>
@@ -134,76 +191,103 @@ where
     W: Write + Drop,
     K: Closer + Drop,
 {
-    ghost whose = { λ half. P.number half.peer };
+    ghost did = { λ old new. LineWritten (H.was_taken old.worker.gate) (H.was_taken new.worker.gate)
+        × (H.was_put new.worker.gate ≡ H.was_put old.worker.gate) };
 
-    /// Writes each link that the line's reader hands over, until no further one comes. A link that wasn't stopped is shut
-    /// down.
+    /// Writes each link that the line's reader hands over, until no further one comes.
     fn run<R: Wait>(self, rt: &R, alloc: Global, flag: &AtomicBool) -> Self {
         let Writes {
             peer,
             steps,
-            mut worker,
+            worker,
             slot,
         } = self;
-        for _ in rt.forever() {
-            let Some(given) = slot.next(rt, flag) else {
-                break;
-            };
-            let (end, back) = write_link(rt, alloc, peer, steps.max(1), given, worker, slot.stop());
-            worker = back;
-            slot.end(rt, end);
-        }
+        let Worker {
+            mut gate,
+            mut clock,
+        } = worker;
+        write_links(rt, alloc, flag, peer, steps, slot, &mut gate, &mut clock);
         Writes {
             peer,
             steps,
-            worker,
+            worker: Worker { gate, clock },
             slot,
         }
     }
 }
 
-/// Writes a link until it is closed, faulted or stopped. Unless it was stopped, its stream is shut down.
-fn write_link<
-    R: Wait,
+/// Writes links, numbered from 1 as they come, until no further one does.
+fn write_links<R: Wait, P, H, D, W, K>(
+    rt: &R,
+    alloc: Global,
+    flag: &AtomicBool,
+    peer: P,
+    steps: u64,
+    slot: &Slot<W, K>,
+    gate: &mut H,
+    clock: &mut D,
+)
+where
     P: Peer + Drop,
+    H: Gate,
+    D: Clock,
     W: Write + Drop,
     K: Closer + Drop,
-    H: Gate + Drop,
-    D: Clock + Drop,
->(
+    ensures written { LineWritten (H.was_taken gate.old) (H.was_taken gate.new) }
+    ensures none_put { H.was_put gate.new ≡ H.was_put gate.old }
+{
+    for before in 0..u64::MAX {
+        let Some(given) = slot.next(rt, flag) else {
+            return;
+        };
+        let end = write_link(
+            rt,
+            alloc,
+            peer,
+            before + 1,
+            steps,
+            given,
+            gate,
+            clock,
+            slot.stop(),
+        );
+        slot.end(rt, end);
+    }
+}
+
+/// Writes a link until it is closed, faulted or stopped. Unless it was stopped, its stream is shut down.
+fn write_link<R: Wait, P: Peer + Drop, W: Write + Drop, K: Closer + Drop, H: Gate, D: Clock>(
     rt: &R,
     alloc: Global,
     peer: P,
+    link: u64,
     steps: u64,
     given: Given<W, K>,
-    worker: Worker<H, D>,
+    gate: &mut H,
+    clock: &mut D,
     stop: &AtomicBool,
-) -> (Result<WriterEnd, LinkFault>, Worker<H, D>)
-    requires from_one { 1 ≤ steps }
+) -> Result<WriterEnd, LinkFault>
+    ensures written { OfAStream (WritesLink link result (H.was_taken gate.old) (H.was_taken gate.new)) }
+    ensures none_put { H.was_put gate.new ≡ H.was_put gate.old }
 {
     let Given {
-        link,
         mut stream,
         mut closer,
     } = given;
-    let Worker {
-        mut gate,
-        mut clock,
-    } = worker;
     let end = peer.write(
         rt,
         alloc,
         link,
-        steps,
+        steps.max(1),
         &mut stream,
-        &mut gate,
-        &mut clock,
+        gate,
+        clock,
         stop,
     );
     if end != Ok(WriterEnd::Stopped) {
         closer.close(stop);
     }
-    (end, Worker { gate, clock })
+    end
 }
 
 /// The first fault of the two.

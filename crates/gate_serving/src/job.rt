@@ -1,7 +1,9 @@
 //! What threads do with what they own: it goes in by value and comes back by value.
 
-ghost use Rattle.std.specs.Prelude.{◌≡◌, ◌≤◌, ◌<◌, ◌++◌, [], ◌∷◌, map, vec_len, vec_capacity};
+ghost use Rattle.std.specs.Prelude.{◌≤◌, ◌<◌, ◌++◌, [], ◌∷◌, vec_len, vec_capacity};
+ghost use Rattle.std.specs.List.{AllZip};
 ghost use Rattle.std.specs.Thread.{IsSend, IsSync};
+ghost use Rattle.gate_serving.specs.Lines.{MayBeDone};
 
 use std::alloc::Global;
 use std::snapshot::Snapshot;
@@ -10,23 +12,22 @@ use std::sync::atomic::{AtomicBool, Ordering};
 use std::thread;
 use std::thread::{Promise, Threads};
 
-/// Work that a thread does, with what it needs. Contracts see by a number whose it is.
+/// Work that a thread does, with what it needs.
 pub(crate) trait Job {
-    ghost use Rattle.std.specs.Prelude.{◌≡◌, ℕ};
-
-    ghost whose: { Self → ℕ };
+    // What was done between the job as it was and as it came back.
+    ghost did: { Self → Self → Type 0 };
 
     /// Does it, and comes back with what came of it. It ends soon once the flag is set. It starts no thread.
     fn run<R: Wait>(self, rt: &R, alloc: Global, flag: &AtomicBool) -> Self
-        ensures whose { whose result ≡ whose self };
+        ensures did { did self result };
 }
 
-/// Says that a job comes back as the same one's.
+/// Says that a job comes back done, or as it was.
 #[derive(Drop)]
 struct Keeps<J>(Snapshot<J>);
 
 impl<J: Job> Promise<J> for Keeps<J> {
-    ghost kept_by = { λ p job. J.whose job ≡ J.whose p.0.value };
+    ghost kept_by = { λ p job. MayBeDone J.did p.0.value job };
 }
 
 /// Does a job, unless no thread could be had for it: then the flag is set.
@@ -37,7 +38,7 @@ fn run_unless<R: Wait, J: Job>(
     is_refused: &AtomicBool,
     job: J,
 ) -> J
-    ensures whose { J.whose result ≡ J.whose job }
+    ensures did { MayBeDone J.did job result }
 {
     if is_refused.load(Ordering::SeqCst) {
         return job;
@@ -45,102 +46,65 @@ fn run_unless<R: Wait, J: Job>(
     job.run(rt, alloc, flag)
 }
 
-/// Does all jobs of two lists at once, each in a thread of its own, and gives them back in their order. Where a thread
-/// can't be had the flag is set, and the jobs that had none come back undone. Takes no memory of its own.
+/// Does all jobs at once, each in a thread of its own, and gives them back in their order. Where a thread can't be had
+/// the flag is set, and the jobs that had none come back undone. Takes no memory of its own.
 pub(crate) fn run_all<R: Threads + Wait + Sync, A: Job + Send + Drop, B: Job + Send + Drop>(
     rt: &R,
     alloc: Global,
     flag: &AtomicBool,
-    firsts: Vec<A>,
-    seconds: Vec<B>,
-) -> (Vec<A>, Vec<B>)
-    ensures firsts { map A.whose result.0.items ≡ map A.whose firsts.items }
-    ensures seconds { map B.whose result.1.items ≡ map B.whose seconds.items }
+    pairs: Vec<(A, B)>,
+) -> Vec<(A, B)>
+    ensures did { AllZip (λ old new. MayBeDone A.did old.0 new.0 × MayBeDone B.did old.1 new.1)
+        pairs.items result.items }
 {
     let is_refused = AtomicBool::new(false);
-    run_seconds(rt, alloc, flag, &is_refused, firsts, seconds)
+    run_pairs(rt, alloc, flag, &is_refused, pairs)
 }
 
-/// Does the last job of the second list in a thread of its own, and all before it likewise meanwhile.
-fn run_seconds<R: Threads + Wait + Sync, A: Job + Send + Drop, B: Job + Send + Drop>(
+/// Does the last pair's jobs in threads of their own, and all before it likewise meanwhile.
+fn run_pairs<R: Threads + Wait + Sync, A: Job + Send + Drop, B: Job + Send + Drop>(
     rt: &R,
     alloc: Global,
     flag: &AtomicBool,
     is_refused: &AtomicBool,
-    firsts: Vec<A>,
-    mut seconds: Vec<B>,
-) -> (Vec<A>, Vec<B>)
-    ensures firsts { map A.whose result.0.items ≡ map A.whose firsts.items }
-    ensures seconds { map B.whose result.1.items ≡ map B.whose seconds.items }
-    ensures capacity { vec_capacity seconds ≤ vec_capacity result.1 }
+    mut pairs: Vec<(A, B)>,
+) -> Vec<(A, B)>
+    ensures did { AllZip (λ old new. MayBeDone A.did old.0 new.0 × MayBeDone B.did old.1 new.1)
+        pairs.items result.items }
+    ensures capacity { vec_capacity pairs ≤ vec_capacity result }
 {
-    let Some(job) = seconds.pop() else {
-        return (run_firsts(rt, alloc, flag, is_refused, firsts), seconds);
+    let Some((first, second)) = pairs.pop() else {
+        return pairs;
     };
     thread::scope(
         thread::scope_env(),
         rt,
-        |scope| -> (Vec<A>, Vec<B>)
-            requires { IsSync R.row × IsSend A.row × IsSend B.row × (vec_len seconds < vec_capacity seconds) }
-            ensures firsts { map A.whose result.0.items ≡ map A.whose firsts.items }
-            ensures seconds { map B.whose result.1.items ≡ map B.whose seconds.items ++ B.whose job ∷ [] }
-            ensures capacity { vec_capacity seconds ≤ vec_capacity result.1 }
+        |scope| -> Vec<(A, B)>
+            requires { IsSync R.row × IsSend A.row × IsSend B.row × (vec_len pairs < vec_capacity pairs) }
+            ensures did { AllZip (λ old new. MayBeDone A.did old.0 new.0 × MayBeDone B.did old.1 new.1)
+                (pairs.items ++ (first, second) ∷ []) result.items }
+            ensures capacity { vec_capacity pairs ≤ vec_capacity result }
         {
-            let promise = Keeps(Snapshot::of(&job));
-            let started =
-                scope.spawn_with(promise, move || run_unless(rt, alloc, flag, is_refused, job));
-            if started.is_err() {
+            let promise = Keeps(Snapshot::of(&first));
+            let one =
+                scope.spawn_with(promise, move || run_unless(rt, alloc, flag, is_refused, first));
+            let promise = Keeps(Snapshot::of(&second));
+            let other =
+                scope.spawn_with(promise, move || run_unless(rt, alloc, flag, is_refused, second));
+            if one.is_err() || other.is_err() {
                 is_refused.store(true, Ordering::SeqCst);
                 flag.store(true, Ordering::SeqCst);
             }
-            let (firsts, mut back) = run_seconds(rt, alloc, flag, is_refused, firsts, seconds);
-            let job = match started {
+            let mut back = run_pairs(rt, alloc, flag, is_refused, pairs);
+            let first = match one {
                 Ok(handle) => handle.join(rt),
                 Err(refused) => (refused.value)(),
             };
-            let Ok(()) = back.push(job) else {
-                unreachable!()
-            };
-            (firsts, back)
-        },
-    )
-}
-
-/// The same of the first list.
-fn run_firsts<R: Threads + Wait + Sync, A: Job + Send + Drop>(
-    rt: &R,
-    alloc: Global,
-    flag: &AtomicBool,
-    is_refused: &AtomicBool,
-    mut firsts: Vec<A>,
-) -> Vec<A>
-    ensures whose { map A.whose result.items ≡ map A.whose firsts.items }
-    ensures capacity { vec_capacity firsts ≤ vec_capacity result }
-{
-    let Some(job) = firsts.pop() else {
-        return firsts;
-    };
-    thread::scope(
-        thread::scope_env(),
-        rt,
-        |scope| -> Vec<A>
-            requires { IsSync R.row × IsSend A.row × (vec_len firsts < vec_capacity firsts) }
-            ensures whose { map A.whose result.items ≡ map A.whose firsts.items ++ A.whose job ∷ [] }
-            ensures capacity { vec_capacity firsts ≤ vec_capacity result }
-        {
-            let promise = Keeps(Snapshot::of(&job));
-            let started =
-                scope.spawn_with(promise, move || run_unless(rt, alloc, flag, is_refused, job));
-            if started.is_err() {
-                is_refused.store(true, Ordering::SeqCst);
-                flag.store(true, Ordering::SeqCst);
-            }
-            let mut back = run_firsts(rt, alloc, flag, is_refused, firsts);
-            let job = match started {
+            let second = match other {
                 Ok(handle) => handle.join(rt),
                 Err(refused) => (refused.value)(),
             };
-            let Ok(()) = back.push(job) else {
+            let Ok(()) = back.push((first, second)) else {
                 unreachable!()
             };
             back

@@ -9,6 +9,7 @@ mod opener;
 mod peer;
 mod serving;
 mod slot;
+mod splitting;
 
 pub use gate_workers::{Clock, Gate, LinkFault, WriterEnd};
 pub use line::{Line, Worker};

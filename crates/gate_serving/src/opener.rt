@@ -3,8 +3,15 @@
 use gate_workers::{LinkFault, WriterEnd};
 use std::sync::atomic::AtomicBool;
 
-/// Opens the links of a line, one after the other.
+/// Opens the links of a line, one after the other. Contracts see how many links it has opened, and whether it has said
+/// that there is no further one.
 pub trait Opener {
+    ghost use Rattle.std.specs.Prelude.{◌≡◌, ◌+◌, ℕ, IfNone, IfSome, MatchResult};
+
+    ghost opened: { Self → ℕ };
+
+    ghost has_ended: { Self → Type 0 };
+
     /// What is read of a link.
     type Reader;
 
@@ -16,10 +23,14 @@ pub trait Opener {
 
     /// The next link, once there is one; `ReadFailed` where it could not be opened: the next call tries again. `None`
     /// after the last one.
-    fn open(&mut self) -> Option<Result<Opened<Self::Reader, Self::Writer, Self::Closer>, LinkFault>>;
+    fn open(&mut self) -> Option<Result<Opened<Self::Reader, Self::Writer, Self::Closer>, LinkFault>>
+        ensures counts { IfSome result (λ tried. MatchResult tried
+            (λ _. opened self.new ≡ opened self.old + 1) (λ _. opened self.new ≡ opened self.old)) }
+        ensures last { IfNone result ((opened self.new ≡ opened self.old) × has_ended self.new) };
 
     /// Is told how the link that was opened last has ended.
-    fn ended(&mut self, end: LinkEnd);
+    fn ended(&mut self, end: LinkEnd)
+        ensures same { opened self.new ≡ opened self.old };
 }
 
 /// A link that was opened: its stream, by what is done with it.

@@ -1,13 +1,15 @@
 //! All lines at once.
 
-ghost use Rattle.std.specs.Prelude.{◌≡◌, map, IfOk, IfErr};
+ghost use Rattle.std.specs.Prelude.{◌≡◌, true, false, IfOk, IfErr};
+ghost use Rattle.std.specs.List.{AllZip};
+ghost use Rattle.gate_serving.specs.Lines.{LineServed};
+ghost use Rattle.gate_serving.specs.declared.serving.ServeFault.TheVariants.{NoMemory, NoThread};
 
-use crate::halves::{Reads, Writes};
 use crate::job::run_all;
 use crate::line::{Line, Worker};
 use crate::opener::{Closer, Opener};
 use crate::peer::Peer;
-use crate::slot::Slot;
+use crate::splitting::{joined, slots_of, split};
 use gate_workers::{Clock, Gate};
 use std::alloc::Global;
 use std::io::{Read, Write};
@@ -24,9 +26,11 @@ pub enum ServeFault {
     NoThread,
 }
 
-/// Serves all lines at once, each in a thread of its own, and hands them back in their order once all have ended.
+/// Serves all lines at once, each in two threads of its own, and hands them back in their order once all have ended.
+/// `Ok` where the links of each were read to the last that its opener had.
 ///
-/// `NoMemory` before any thread starts; `NoThread` once one can't be had: from then on no further link is opened.
+/// `NoMemory` before any thread starts: the lines are as they were. `NoThread` once one can't be had: from then on no
+/// further link is opened.
 pub fn serve<R, P, O, G, C, H, D>(
     rt: &R,
     alloc: Global,
@@ -46,74 +50,29 @@ where
     C: Clock + Send + Drop,
     H: Gate + Send + Drop,
     D: Clock + Send + Drop,
-    ensures served { IfOk result (λ back.
-        map (λ l. P.number l.peer) back.items ≡ map (λ l. P.number l.peer) lines.items) }
-    ensures given_back { IfErr result (λ e.
-        map (λ l. P.number l.peer) e.1.items ≡ map (λ l. P.number l.peer) lines.items) }
+    ensures served { IfOk result (λ back. AllZip
+        (LineServed P.reads O.has_ended O.opened G.was_put H.was_taken true) lines.items back.items) }
+    ensures no_thread { IfErr result (λ e. e.0 ≡ NoThread → AllZip
+        (LineServed P.reads O.has_ended O.opened G.was_put H.was_taken false) lines.items e.1.items) }
+    ensures no_memory { IfErr result (λ e. e.0 ≡ NoMemory → e.1.items ≡ lines.items) }
 {
     let count = lines.len();
-    let Ok(mut slots) = Vec::with_capacity(alloc, count) else {
+    let Ok(slots) = slots_of(alloc, count) else {
         return Err((ServeFault::NoMemory, lines));
     };
-    let Ok(mut reading) = Vec::with_capacity(alloc, count) else {
+    let Ok(halves) = Vec::with_capacity(alloc, count) else {
         return Err((ServeFault::NoMemory, lines));
     };
-    let Ok(mut writing) = Vec::with_capacity(alloc, count) else {
+    let Ok(back) = Vec::with_capacity(alloc, count) else {
         return Err((ServeFault::NoMemory, lines));
     };
-    let Ok(mut back) = Vec::with_capacity(alloc, count) else {
-        return Err((ServeFault::NoMemory, lines));
-    };
-    for _ in 0..count {
-        let Ok(()) = slots.push(Slot::new()) else {
-            unreachable!()
-        };
-    }
-    for (line, slot) in lines.into_iter().zip(slots.iter()) {
-        let Line {
-            peer,
-            steps,
-            fault,
-            opener,
-            reader,
-            writer,
-        } = line;
-        let Ok(()) = reading.push(Reads {
-            peer,
-            steps,
-            fault,
-            opener,
-            worker: reader,
-            slot,
-        }) else {
-            unreachable!()
-        };
-        let Ok(()) = writing.push(Writes {
-            peer,
-            steps,
-            worker: writer,
-            slot,
-        }) else {
-            unreachable!()
-        };
-    }
+    let halves = split(lines, slots.as_slice(), halves);
     let halt = AtomicBool::new(false);
-    let (reading, writing) = run_all(rt, alloc, &halt, reading, writing);
-    for (reads, writes) in reading.into_iter().zip(writing) {
-        let Ok(()) = back.push(Line {
-            peer: reads.peer,
-            steps: reads.steps,
-            fault: reads.fault,
-            opener: reads.opener,
-            reader: reads.worker,
-            writer: writes.worker,
-        }) else {
-            unreachable!()
-        };
-    }
-    if halt.load(Ordering::SeqCst) {
-        Err((ServeFault::NoThread, back))
-    } else {
+    let halves = run_all(rt, alloc, &halt, halves);
+    let (back, all_over) = joined(halves, back);
+    if all_over && !halt.load(Ordering::SeqCst) {
         Ok(back)
+    } else {
+        Err((ServeFault::NoThread, back))
     }
 }

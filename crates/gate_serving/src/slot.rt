@@ -15,7 +15,6 @@ fn longest_nap() -> Duration {
 /// A link for a line's writer.
 #[derive(Drop)]
 pub(crate) struct Given<W, K> {
-    pub(crate) link: u64,
     pub(crate) stream: W,
     pub(crate) closer: K,
 }

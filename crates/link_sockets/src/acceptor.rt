@@ -1,5 +1,7 @@
 //! A client's line: links that the client opens.
 
+ghost use Rattle.std.specs.Prelude.{◌≡◌, ◌<◌, ◌+◌, ◌^◌};
+
 use crate::stream::{SocketCloser, SocketReader, SocketWriter, link_of};
 use crate::turns::wait_a_second;
 use gate_serving::{LinkEnd, LinkFault, Opened, Opener};
@@ -21,8 +23,10 @@ pub struct Acceptor<'a, R> {
     rt: &'a R,
     address: &'a str,
     listener: Option<TcpListener>,
+    opened: u32,
     left: u32,
     is_over: &'a AtomicBool,
+    ghost room: { opened + left < 2 ^ 32 },
 }
 
 impl<'a, R> Acceptor<'a, R> {
@@ -37,6 +41,7 @@ impl<'a, R> Acceptor<'a, R> {
             rt,
             address,
             listener: None,
+            opened: 0,
             left: links,
             is_over,
         }
@@ -54,6 +59,7 @@ impl<'a, R> Acceptor<'a, R> {
             rt,
             address: "",
             listener: Some(listener),
+            opened: 0,
             left: links,
             is_over,
         }
@@ -95,7 +101,9 @@ fn accepted(listener: &TcpListener, is_over: &AtomicBool) -> io::Result<Option<T
 
 impl<'a, R: Net<Listener = TcpListener, Stream = TcpStream> + Clock> Acceptor<'a, R> {
     /// The next link's stream; `None` where the line has ended.
-    fn next_stream(&mut self) -> io::Result<Option<TcpStream>> {
+    fn next_stream(&mut self) -> io::Result<Option<TcpStream>>
+        ensures same { (self.new.opened ≡ self.old.opened) × (self.new.left ≡ self.old.left) }
+    {
         if let Some(listener) = &self.listener {
             return accepted(listener, self.is_over);
         }
@@ -107,6 +115,10 @@ impl<'a, R: Net<Listener = TcpListener, Stream = TcpStream> + Clock> Acceptor<'a
 }
 
 impl<'a, R: Net<Listener = TcpListener, Stream = TcpStream> + Clock> Opener for Acceptor<'a, R> {
+    ghost opened = { λ o. o.opened };
+
+    ghost has_ended = { λ o. o.left ≡ 0 };
+
     type Reader = SocketReader<'a>;
 
     type Writer = SocketWriter;
@@ -121,12 +133,18 @@ impl<'a, R: Net<Listener = TcpListener, Stream = TcpStream> + Clock> Opener for 
         }
         self.left -= 1;
         let opened = match self.next_stream() {
-            Ok(None) => return None,
+            Ok(None) => {
+                self.left = 0;
+                return None;
+            }
             Ok(Some(stream)) => link_of(self.rt, stream, self.is_over),
             Err(error) => Err(error),
         };
         match opened {
-            Ok(link) => Some(Ok(link)),
+            Ok(link) => {
+                self.opened += 1;
+                Some(Ok(link))
+            }
             Err(_) => {
                 wait_a_second(self.rt, self.is_over);
                 Some(Err(LinkFault::ReadFailed))

@@ -1,5 +1,7 @@
 //! A port's line: links that are opened to the market.
 
+ghost use Rattle.std.specs.Prelude.{◌≡◌, ◌<◌, ◌+◌, ◌^◌};
+
 use crate::stream::{SocketCloser, SocketReader, SocketWriter, link_of};
 use crate::turns::wait_a_second;
 use gate_serving::{LinkEnd, LinkFault, Opened, Opener};
@@ -19,9 +21,11 @@ fn longest_connect() -> Duration {
 pub struct Connector<'a, R> {
     rt: &'a R,
     address: &'a str,
+    opened: u32,
     left: u32,
     is_first: bool,
     is_over: &'a AtomicBool,
+    ghost room: { opened + left < 2 ^ 32 },
 }
 
 impl<'a, R> Connector<'a, R> {
@@ -35,6 +39,7 @@ impl<'a, R> Connector<'a, R> {
         Connector {
             rt,
             address,
+            opened: 0,
             left: links,
             is_first: true,
             is_over,
@@ -58,6 +63,10 @@ fn connected<R: Net<Listener = TcpListener, Stream = TcpStream>>(
 }
 
 impl<'a, R: Net<Listener = TcpListener, Stream = TcpStream> + Clock> Opener for Connector<'a, R> {
+    ghost opened = { λ o. o.opened };
+
+    ghost has_ended = { λ o. o.left ≡ 0 };
+
     type Reader = SocketReader<'a>;
 
     type Writer = SocketWriter;
@@ -74,6 +83,7 @@ impl<'a, R: Net<Listener = TcpListener, Stream = TcpStream> + Clock> Opener for 
             wait_a_second(self.rt, self.is_over);
         }
         if self.is_over.load(Ordering::SeqCst) {
+            self.left = 0;
             return None;
         }
         self.left -= 1;
@@ -83,7 +93,10 @@ impl<'a, R: Net<Listener = TcpListener, Stream = TcpStream> + Clock> Opener for 
             Err(error) => Err(error),
         };
         match opened {
-            Ok(link) => Some(Ok(link)),
+            Ok(link) => {
+                self.opened += 1;
+                Some(Ok(link))
+            }
             Err(_) => Some(Err(LinkFault::ReadFailed)),
         }
     }

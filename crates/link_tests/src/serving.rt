@@ -134,6 +134,12 @@ struct Links<'a> {
 }
 
 impl<'a> Opener for Links<'a> {
+    ghost use Rattle.std.specs.Prelude.{◌≡◌, ◌-◌, ◌^◌};
+
+    ghost opened = { λ links. 2 ^ 32 - links.left };
+
+    ghost has_ended = { λ links. links.left ≡ 0 };
+
     type Reader = Pieces<'static>;
 
     type Writer = Counted<'a>;

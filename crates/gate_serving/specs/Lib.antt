@@ -1,0 +1,3 @@
+pub mod Lines
+pub use Rattle.gate_workers.specs.ReadersWork
+pub use Rattle.gate_workers.specs.WritersWork
