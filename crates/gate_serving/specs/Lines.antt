@@ -46,13 +46,16 @@ LineWritten taken_old taken_new =
 abbrev pub MayBeDone : {A : Type 0} → (A → A → Type 0) → A → A → Type 0
 MayBeDone did old new = (new ≡ old) ⊎ did old new
 
--- A line that was served, by what its halves have done: its opener, and the gates of its reader and its writer.
+-- A line that was served, by what its opener and the gates of its reader and its writer show.
 pub record LineServed {P O G C H D : Type 0}
     (reads : P → ℕ → Result Unit LinkFault → List Event → List Event → Option (List ℕ) → Option (List ℕ) → Type 0)
-    (has_ended : O → Type 0) (opened : O → ℕ) (was_put : G → List Event) (was_taken : H → List (List LinkOut))
-    (all_over : Bool) (old new : Line P O (Worker G C) (Worker H D)) : Type 0 where
+    (has_ended : O → Type 0) (opened : O → ℕ) (reader_put : G → List Event) (reader_taken : G → List (List LinkOut))
+    (writer_put : H → List Event) (writer_taken : H → List (List LinkOut)) (all_over : Bool)
+    (old new : Line P O (Worker G C) (Worker H D)) : Type 0 where
   pub peer : new.peer ≡ old.peer
   pub steps : new.steps ≡ old.steps
   pub read : LineRead (reads old.peer) all_over (has_ended new.opener) (opened old.opener) (opened new.opener)
-      (was_put old.reader.gate) (was_put new.reader.gate)
-  pub written : LineWritten (was_taken old.writer.gate) (was_taken new.writer.gate)
+      (reader_put old.reader.gate) (reader_put new.reader.gate)
+  pub written : LineWritten (writer_taken old.writer.gate) (writer_taken new.writer.gate)
+  pub none_taken : reader_taken new.reader.gate ≡ reader_taken old.reader.gate
+  pub none_put : writer_put new.writer.gate ≡ writer_put old.writer.gate

@@ -1,6 +1,7 @@
 //! The two halves of a line: what its links are opened and read with, and what they are written with.
 
 ghost use Rattle.std.specs.Prelude.{◌≡◌, ◌≤◌, ◌<◌, true, IfNone, IfSome};
+ghost use Rattle.gate_serving.specs.Halves.{ReadsDid, WritesDid};
 ghost use Rattle.gate_serving.specs.Lines.{LineRead, LineWritten, OfAStream};
 ghost use Rattle.gate_workers.specs.WritersWork.{WritesLink};
 
@@ -47,10 +48,7 @@ where
     W: Drop,
     K: Drop,
 {
-    ghost did = { λ old new. (new.peer ≡ old.peer) × (new.steps ≡ old.steps)
-        × LineRead (P.reads old.peer) new.all_over (O.has_ended new.opener) (O.opened old.opener) (O.opened new.opener)
-            (G.was_put old.worker.gate) (G.was_put new.worker.gate)
-        × (G.was_taken new.worker.gate ≡ G.was_taken old.worker.gate) };
+    ghost did = { ReadsDid P.reads O.has_ended O.opened G.was_put G.was_taken };
 
     /// Opens and reads the line's links, and tells the writer that no further one comes.
     fn run<R: Wait>(self, rt: &R, alloc: Global, flag: &AtomicBool) -> Self {
@@ -92,6 +90,7 @@ where
     }
 }
 
+#[tactic(auto, using(crate::proofs::Served::none_yet, crate::proofs::Served::all_read, crate::proofs::Served::read_in_part))]
 /// Opens and reads links, numbered from 1, until the opener has no more (`true`), the flag is set, or the line has no
 /// writer. Each link's writer has ended before the next is opened.
 fn read_links<R: Wait, P, O, G, C, W, K>(
@@ -119,7 +118,7 @@ where
     ensures none_taken { G.was_taken gate.new ≡ G.was_taken gate.old }
 {
     let mut link = 0u64;
-    for _tried in 0..u64::MAX {
+    for _ in 0..u64::MAX {
         if flag.load(Ordering::SeqCst) {
             return false;
         }
@@ -156,8 +155,9 @@ fn read_link<R: Wait, P: Peer + Drop, S: Read + Drop, G: Gate, C: Clock, W: Drop
     gate: &mut G,
     clock: &mut C,
 ) -> Option<LinkEnd>
-    ensures some { IfSome result (λ end. (end.link ≡ link)
-        × OfAStream (P.reads peer link end.reader (G.was_put gate.old) (G.was_put gate.new))) }
+    ensures some { IfSome result (λ end.
+        OfAStream (P.reads peer link end.reader (G.was_put gate.old) (G.was_put gate.new))) }
+    ensures number { IfSome result (λ end. end.link ≡ link) }
     ensures none { IfNone result (G.was_put gate.new ≡ G.was_put gate.old) }
     ensures none_taken { G.was_taken gate.new ≡ G.was_taken gate.old }
 {
@@ -191,8 +191,7 @@ where
     W: Write + Drop,
     K: Closer + Drop,
 {
-    ghost did = { λ old new. LineWritten (H.was_taken old.worker.gate) (H.was_taken new.worker.gate)
-        × (H.was_put new.worker.gate ≡ H.was_put old.worker.gate) };
+    ghost did = { WritesDid H.was_put H.was_taken };
 
     /// Writes each link that the line's reader hands over, until no further one comes.
     fn run<R: Wait>(self, rt: &R, alloc: Global, flag: &AtomicBool) -> Self {

@@ -1,7 +1,8 @@
 //! Lines as their two halves, and back.
 
-ghost use Rattle.std.specs.Prelude.{◌≡◌, ◌≤◌, [], true, false, length, vec_len, vec_capacity, IfOk};
+ghost use Rattle.std.specs.Prelude.{◌≡◌, ◌≤◌, [], true, length, vec_len, vec_capacity, IfOk};
 ghost use Rattle.std.specs.List.{All, AllZip};
+ghost use Rattle.gate_serving.specs.Halves.{IsJoined, IsSplit};
 
 use crate::halves::{Reads, Writes};
 use crate::line::Line;
@@ -19,7 +20,7 @@ pub(crate) fn slots_of<W: Drop, K: Drop>(
     ensures { IfOk result (λ slots. vec_len slots ≡ count) }
 {
     let mut slots = Vec::new(alloc);
-    for i in 0..count {
+    for _ in 0..count {
         slots.push(Slot::new())?;
     }
     Ok(slots)
@@ -34,9 +35,7 @@ pub(crate) fn split<'a, P: Copy + Drop, O: Drop, A: Drop, B: Drop, W: Drop, K: D
     requires slots { length slots.now ≡ vec_len lines }
     requires empty { halves.items ≡ [] }
     requires room { vec_len lines ≤ vec_capacity halves }
-    ensures lines { AllZip (λ line half. (half.0.peer ≡ line.peer) × (half.0.steps ≡ line.steps)
-        × (half.0.opener ≡ line.opener) × (half.0.worker ≡ line.reader) × (half.0.all_over ≡ false)
-        × (half.1.worker ≡ line.writer)) lines.items result.items }
+    ensures lines { AllZip IsSplit lines.items result.items }
 {
     let mut halves = halves;
     for line in lines {
@@ -70,15 +69,13 @@ pub(crate) fn joined<'a, P: Copy + Drop, O: Drop, A: Drop, B: Drop, W: Drop, K: 
 ) -> (Vec<Line<P, O, A, B>>, bool)
     requires empty { lines.items ≡ [] }
     requires room { vec_len halves ≤ vec_capacity lines }
-    ensures lines { AllZip (λ half line. (line.peer ≡ half.0.peer) × (line.steps ≡ half.0.steps)
-        × (line.opener ≡ half.0.opener) × (line.reader ≡ half.0.worker) × (line.writer ≡ half.1.worker))
-        halves.items result.0.items }
-    ensures all_over { result.1 ≡ true → All (λ half. half.0.all_over ≡ true) halves.items }
+    ensures lines { AllZip IsJoined halves.entry.items result.0.items }
+    ensures all_over { result.1 ≡ true → All (λ half. half.0.all_over ≡ true) halves.entry.items }
 {
     let mut lines = lines;
     let mut all_over = true;
     for (reads, writes) in halves {
-        all_over = all_over && reads.all_over;
+        all_over = both(all_over, reads.all_over);
         let line = Line {
             peer: reads.peer,
             steps: reads.steps,
@@ -92,4 +89,10 @@ pub(crate) fn joined<'a, P: Copy + Drop, O: Drop, A: Drop, B: Drop, W: Drop, K: 
         };
     }
     (lines, all_over)
+}
+
+fn both(one: bool, other: bool) -> bool
+    ensures { result ≡ true → (one ≡ true) × (other ≡ true) }
+{
+    one && other
 }
