@@ -1,5 +1,4 @@
-use Rattle.std.proofs.Common.{◌≡◌, ◌∙◌, refl, sym, subst, rules, arith, List, true, map-id}
-use Rattle.std.specs.List.{All, AllZip}
+use Rattle.std.proofs.Common.{◌≡◌, refl, rules, arith, Bool, true, map-id}
 use Rattle.std.proofs.lemmas.List.{length_push}
 use Rattle.std.proofs.lemmas.List.Elements.{All-push}
 use Rattle.std.proofs.lemmas.Slice.Zip.{all_zipped_more}
@@ -13,7 +12,7 @@ loop-reads-preserved g c = record {
   can_next = tt;
   is_finite = tt;
   lines = rw c.in-Ok.ensures.items (all_zipped_more IsJoined _ _ (c.in-Some.reads, c.in-Some.writes) _ c.loop-reads.invariant.lines (refl, refl, refl, refl, refl));
-  over = λ e. All-push _ _ (c.in-Some.reads, c.in-Some.writes) (c.loop-reads.invariant.over (c.both-all_over.ensures e).0) (c.both-all_over.ensures e).1;
+  over = λ e. All-push (λ x. ◌≡◌ {A = Bool} x.0.all_over true) _ (c.in-Some.reads, c.in-Some.writes) (c.loop-reads.invariant.over (c.both-all_over.ensures e).0) (c.both-all_over.ensures e).1;
   count = omega (arith, length_push c.loop-reads.yielded (c.in-Some.reads, c.in-Some.writes), c.in-Ok.ensures.len, c.loop-reads.invariant.count);
   room = omega (arith, c.push.ensures.capacity, c.loop-reads.invariant.room);
 }
