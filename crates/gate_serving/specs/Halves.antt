@@ -28,7 +28,7 @@ abbrev pub ReadsDid : {P O G C W K : Type 0}
 ReadsDid reads has_ended opened was_put was_taken old new =
     (new.peer ≡ old.peer) × (new.steps ≡ old.steps)
     × LineRead (reads old.peer) new.all_over (has_ended new.opener) (opened old.opener) (opened new.opener)
-        (was_put old.worker.gate) (was_put new.worker.gate)
+    (was_put old.worker.gate) (was_put new.worker.gate)
     × (was_taken new.worker.gate ≡ was_taken old.worker.gate)
 
 -- what was done by its writer

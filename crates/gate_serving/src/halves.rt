@@ -129,7 +129,9 @@ where
             Err(found) => *fault = first_of(*fault, Some(found)),
             Ok(opened) => {
                 link += 1;
-                let read = read_link(rt, alloc, flag, peer, link, steps, slot, opened, gate, clock);
+                let read = read_link(
+                    rt, alloc, flag, peer, link, steps, slot, opened, gate, clock,
+                );
                 let Some(end) = read else {
                     return false;
                 };

@@ -86,11 +86,15 @@ fn run_pairs<R: Threads + Wait + Sync, A: Job + Send + Drop, B: Job + Send + Dro
             ensures capacity { vec_capacity pairs ≤ vec_capacity result }
         {
             let promise = Keeps(Snapshot::of(&first));
-            let one =
-                scope.spawn_with(promise, move || run_unless(rt, alloc, flag, is_refused, first));
+            let one = scope.spawn_with(
+                promise,
+                move || run_unless(rt, alloc, flag, is_refused, first),
+            );
             let promise = Keeps(Snapshot::of(&second));
-            let other =
-                scope.spawn_with(promise, move || run_unless(rt, alloc, flag, is_refused, second));
+            let other = scope.spawn_with(
+                promise,
+                move || run_unless(rt, alloc, flag, is_refused, second),
+            );
             if one.is_err() || other.is_err() {
                 is_refused.store(true, Ordering::SeqCst);
                 flag.store(true, Ordering::SeqCst);

@@ -23,7 +23,9 @@ pub trait Opener {
 
     /// The next link, once there is one; `ReadFailed` where it could not be opened: the next call tries again. `None`
     /// after the last one.
-    fn open(&mut self) -> Option<Result<Opened<Self::Reader, Self::Writer, Self::Closer>, LinkFault>>
+    fn open(
+        &mut self,
+    ) -> Option<Result<Opened<Self::Reader, Self::Writer, Self::Closer>, LinkFault>>
         ensures counts { IfSome result (λ tried. MatchResult tried
             (λ _. opened self.new ≡ opened self.old + 1) (λ _. opened self.new ≡ opened self.old)) }
         ensures last { IfNone result ((opened self.new ≡ opened self.old) × has_ended self.new) };

@@ -1,12 +1,11 @@
 //! A link's stream, by what is done with it.
 
 use gate_serving::{Closer, Opened};
-use std::io;
 use std::io::{ErrorKind, Read, Write};
 use std::net::{Shutdown, TcpStream};
 use std::sync::atomic::{AtomicBool, Ordering};
-use std::thread;
 use std::time::{Clock, Duration};
+use std::{io, thread};
 
 /// How long a read waits before it looks whether its line has ended.
 fn longest_read() -> Duration {

@@ -6,13 +6,12 @@ use gate_serving::{Closer, Line, LinkEnd, Opened, Opener, Worker, WriterEnd, ser
 use gate_workers::Clock;
 use link_io::{ClientNumber, Event, Gate, LinkFault, LinkOut, PortNumber};
 use std::alloc::{AllocError, Global};
-use std::io;
 use std::io::Write;
 use std::sync::Wait;
 use std::sync::atomic::{AtomicBool, AtomicU32, Ordering};
 use std::test::Fail;
-use std::thread;
 use std::time::{self, Duration};
+use std::{io, thread};
 
 /// A heartbeat without a header, as a frame.
 const HEARTBEAT: &[u8; 26] = b"8=FIX.4.4\x019=5\x0135=0\x0110=163\x01";
@@ -146,7 +145,9 @@ impl<'a> Opener for Links<'a> {
 
     type Closer = Shuts<'a>;
 
-    fn open(&mut self) -> Option<Result<Opened<Pieces<'static>, Counted<'a>, Shuts<'a>>, LinkFault>> {
+    fn open(
+        &mut self,
+    ) -> Option<Result<Opened<Pieces<'static>, Counted<'a>, Shuts<'a>>, LinkFault>> {
         if self.left == 0 {
             return None;
         }

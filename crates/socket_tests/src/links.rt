@@ -34,11 +34,15 @@ fn the_last_words_arrive_though_the_peer_has_said_more(rt: HostRuntime) -> Resul
     let mut acceptor = Acceptor::of_listener(&rt, listener, 1, &is_over);
     let mut peer = TcpStream::connect(&rt, address)?;
     peer.write_all(&[b'x'; 10_000])?;
-    let Some(Ok(Opened {
-        reader,
-        mut writer,
-        mut closer,
-    })) = acceptor.open()
+    let Some(
+        Ok(
+            Opened {
+                reader,
+                mut writer,
+                mut closer,
+            },
+        ),
+    ) = acceptor.open()
     else {
         return Err(Fail::new("not opened"));
     };

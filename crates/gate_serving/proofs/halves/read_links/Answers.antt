@@ -5,7 +5,7 @@ use Rattle.gate_serving.proofs.halves.read_links.Goals as goal
 
 pub loop-preserved : goal.loop-preserved
 loop-preserved g c = elim c.match-tried.branch [
-    in-Err w ↦
+  | in-Err w ↦
       let same = rw w.in-Err.is at c.in-Some.ensures.counts in
       record {
         so_far = rw (w.link-is, w.opener-is, w.gate-is) (as_many (g.P.Peer.reads c.args.peer) c.loop.link _ _ _ _ _ c.loop.invariant.so_far same);
@@ -19,4 +19,4 @@ loop-preserved g c = elim c.match-tried.branch [
         few = omega (arith, w.link-is, c.loop.invariant.few);
         none_taken = rw w.gate-is (w.read_link-read.ensures.none_taken ∙ c.loop.invariant.none_taken);
       }
-  ]
+]

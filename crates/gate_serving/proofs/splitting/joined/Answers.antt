@@ -20,17 +20,17 @@ loop-reads-preserved g c = record {
 pub unreachable-requires : goal.unreachable-requires
 unreachable-requires g c =
     let turn = YieldsList-turn (YieldsList-from_vec {s = c.into_iter-reads-iterator.result} c.args.halves.items (search rules) (search rules))
-        c.loop-reads.yielded c.loop-reads.reads-iterator c.loop-reads.yielded_by c.next.result c.next.new.self (c.in-Some.reads, c.in-Some.writes) c.in-Some.is c.next.ensures.steps in
+    c.loop-reads.yielded c.loop-reads.reads-iterator c.loop-reads.yielded_by c.next.result c.next.new.self (c.in-Some.reads, c.in-Some.writes) c.in-Some.is c.next.ensures.steps in
     omega (arith, turn.0, c.in_default.ensures.full, c.loop-reads.invariant.room, c.loop-reads.invariant.count, c.args.halves.ok.0)
 
 pub returns-clause-lines : goal.returns-clause-lines
 returns-clause-lines g c =
     let end = YieldsList-end (YieldsList-from_vec {s = c.into_iter-reads-iterator.result} c.args.halves.items (search rules) (search rules))
-        c.loop-reads.yielded c.loop-reads.reads-iterator c.loop-reads.yielded_by c.next.result c.next.new.self c.in-None.is c.next.ensures.steps in
+    c.loop-reads.yielded c.loop-reads.reads-iterator c.loop-reads.yielded_by c.next.result c.next.new.self c.in-None.is c.next.ensures.steps in
     rw (← end.0, map-id) c.loop-reads.invariant.lines
 
 pub returns-clause-all_over : goal.returns-clause-all_over
 returns-clause-all_over g c =
     let end = YieldsList-end (YieldsList-from_vec {s = c.into_iter-reads-iterator.result} c.args.halves.items (search rules) (search rules))
-        c.loop-reads.yielded c.loop-reads.reads-iterator c.loop-reads.yielded_by c.next.result c.next.new.self c.in-None.is c.next.ensures.steps in
+    c.loop-reads.yielded c.loop-reads.reads-iterator c.loop-reads.yielded_by c.next.result c.next.new.self c.in-None.is c.next.ensures.steps in
     λ e. rw (← end.0, map-id) (c.loop-reads.invariant.over e)

@@ -9,13 +9,13 @@ use Rattle.gate_serving.proofs.splitting.split.Goals as goal
 pub offset_bounds-slots-len : goal.offset_bounds-slots-len
 offset_bounds-slots-len g c =
     let turn = YieldsList-turn (YieldsList-from_vec {s = c.into_iter-line-iterator.result} c.args.lines.items (search rules) (search rules))
-        c.loop-line.yielded c.loop-line.line-iterator c.loop-line.yielded_by c.next.result c.next.new.self c.in-Some.line c.in-Some.is c.next.ensures.steps in
+    c.loop-line.yielded c.loop-line.line-iterator c.loop-line.yielded_by c.next.result c.next.new.self c.in-Some.line c.in-Some.is c.next.ensures.steps in
     omega (arith, turn.0, c.len.ensures, c.loop-line.invariant.count, c.requires.slots, c.args.lines.ok.0)
 
 pub bounds-slots-len : goal.bounds-slots-len
 bounds-slots-len g c =
     let turn = YieldsList-turn (YieldsList-from_vec {s = c.into_iter-line-iterator.result} c.args.lines.items (search rules) (search rules))
-        c.loop-line.yielded c.loop-line.line-iterator c.loop-line.yielded_by c.next.result c.next.new.self c.in-Some.line c.in-Some.is c.next.ensures.steps in
+    c.loop-line.yielded c.loop-line.line-iterator c.loop-line.yielded_by c.next.result c.next.new.self c.in-Some.line c.in-Some.is c.next.ensures.steps in
     omega (arith, turn.0, c.len.ensures, c.loop-line.invariant.count, c.requires.slots, c.args.lines.ok.0)
 
 pub loop-line-preserved : goal.loop-line-preserved
@@ -30,11 +30,11 @@ loop-line-preserved g c = record {
 pub unreachable-requires : goal.unreachable-requires
 unreachable-requires g c =
     let turn = YieldsList-turn (YieldsList-from_vec {s = c.into_iter-line-iterator.result} c.args.lines.items (search rules) (search rules))
-        c.loop-line.yielded c.loop-line.line-iterator c.loop-line.yielded_by c.next.result c.next.new.self c.in-Some.line c.in-Some.is c.next.ensures.steps in
+    c.loop-line.yielded c.loop-line.line-iterator c.loop-line.yielded_by c.next.result c.next.new.self c.in-Some.line c.in-Some.is c.next.ensures.steps in
     omega (arith, turn.0, c.in_default.ensures.full, c.loop-line.invariant.room, c.loop-line.invariant.count, c.args.lines.ok.0)
 
 pub returns : goal.returns
 returns g c =
     let end = YieldsList-end (YieldsList-from_vec {s = c.into_iter-line-iterator.result} c.args.lines.items (search rules) (search rules))
-        c.loop-line.yielded c.loop-line.line-iterator c.loop-line.yielded_by c.next.result c.next.new.self c.in-None.is c.next.ensures.steps in
+    c.loop-line.yielded c.loop-line.line-iterator c.loop-line.yielded_by c.next.result c.next.new.self c.in-None.is c.next.ensures.steps in
     record { lines = rw (← end.0, map-id) c.loop-line.invariant.lines }
