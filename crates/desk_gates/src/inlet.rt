@@ -36,7 +36,7 @@ impl<'a, K: DeskName> InletGate<'a, K> {
 
     /// Ends its inlet, and tells what was put. `None` where the desk is gone.
     pub fn finish(self) -> Option<Finished<K>>
-        ensures { IfSome result (λ f. f ≡ put_at self.inlet.at self.inlet.source self.inlet.put) }
+        ensures { IfSome result (λ f. f ≡ put_at self.entry.inlet.at self.entry.inlet.source self.entry.inlet.put) }
     {
         let InletGate {
             shared: _,

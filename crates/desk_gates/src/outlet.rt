@@ -36,7 +36,7 @@ impl<'a, K: DeskName> OutletGate<'a, K> {
 
     /// Ends its outlet, and tells what was taken.
     pub fn finish(self) -> Finished<K>
-        ensures { result ≡ took_at self.outlet.at self.outlet.to self.outlet.took }
+        ensures { result ≡ took_at self.entry.outlet.at self.entry.outlet.to self.entry.outlet.took }
     {
         let OutletGate {
             shared: _,
