@@ -13,7 +13,8 @@ OfAStream holds = (before after : Option (List ℕ)) × holds before after
 
 -- Links of a line that were read one after the other, numbered from 1, by how each ended, the last one first: what was
 -- put of each, in order, and nothing else.
-abbrev pub LinksRead : (ℕ → Result Unit LinkFault → List Event → List Event → Option (List ℕ) → Option (List ℕ) → Type 0)
+abbrev pub LinksRead : (ℕ → Result Unit LinkFault → List Event → List Event → Option (List ℕ) → Option (List ℕ)
+    → Type 0)
     → (ends : List (Result Unit LinkFault)) → (put_old put_new : List Event) → Type 0
 LinksRead reads [] put_old put_new = put_new ≡ put_old
 LinksRead reads (end ∷ before) put_old put_new =
@@ -21,7 +22,8 @@ LinksRead reads (end ∷ before) put_old put_new =
     × OfAStream (reads (length before + 1) end between put_new)
 
 -- Links of a line that were written one after the other, likewise: what was taken for each, in order, and nothing else.
-abbrev pub LinksWritten : (ends : List (Result WriterEnd LinkFault)) → (taken_old taken_new : List (List LinkOut)) → Type 0
+abbrev pub LinksWritten : (ends : List (Result WriterEnd LinkFault)) → (taken_old taken_new : List (List LinkOut))
+    → Type 0
 LinksWritten [] taken_old taken_new = taken_new ≡ taken_old
 LinksWritten (end ∷ before) taken_old taken_new =
     (between : List (List LinkOut)) × LinksWritten before taken_old between

@@ -45,8 +45,8 @@ pub struct Opened<R, W, K> {
 
 /// Shuts a link's stream down.
 pub trait Closer {
-    /// Has the peer get what was written, and a reader that waits for the stream come to its end: as soon as the peer has
-    /// closed too, or after a while. `is_read` is set once the link's reader has ended.
+    /// Has the peer get what was written, and a reader that waits for the stream come to its end: as soon as the peer
+    /// has closed too, or after a while. `is_read` is set once the link's reader has ended.
     fn close(&mut self, is_read: &AtomicBool);
 }
 

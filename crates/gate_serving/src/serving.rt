@@ -51,9 +51,11 @@ where
     H: Gate + Send + Drop,
     D: Clock + Send + Drop,
     ensures served { IfOk result (λ back. AllZip
-        (LineServed P.reads O.has_ended O.opened G.was_put G.was_taken H.was_put H.was_taken true) lines.items back.items) }
+        (LineServed P.reads O.has_ended O.opened G.was_put G.was_taken H.was_put H.was_taken true)
+        lines.items back.items) }
     ensures no_thread { IfErr result (λ e. e.0 ≡ NoThread → AllZip
-        (LineServed P.reads O.has_ended O.opened G.was_put G.was_taken H.was_put H.was_taken false) lines.items e.1.items) }
+        (LineServed P.reads O.has_ended O.opened G.was_put G.was_taken H.was_put H.was_taken false)
+        lines.items e.1.items) }
     ensures no_memory { IfErr result (λ e. e.0 ≡ NoMemory → e.1.items ≡ lines.items) }
 {
     let count = lines.len();

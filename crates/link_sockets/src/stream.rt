@@ -65,8 +65,8 @@ impl Write for SocketWriter {
     }
 }
 
-/// Shuts a stream down: for writing at once, so that the peer gets what was written; for reading as soon as the peer has
-/// closed too, or after a second.
+/// Shuts a stream down: for writing at once, so that the peer gets what was written; for reading as soon as the peer
+/// has closed too, or after a second.
 #[derive(Drop)]
 pub struct SocketCloser<'a, R> {
     rt: &'a R,

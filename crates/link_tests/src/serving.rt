@@ -19,7 +19,8 @@ const HEARTBEAT: &[u8; 26] = b"8=FIX.4.4\x019=5\x0135=0\x0110=163\x01";
 /// How often a gate pauses for another before the test has failed.
 const PAUSES: u32 = 10_000;
 
-/// A gate that doesn't return from its put of this number, from 1, until a flag is set, and sets one as a list is taken.
+/// A gate that doesn't return from its put of this number, from 1, until a flag is set, and sets one as a list is
+/// taken.
 #[derive(Drop)]
 struct Waiting<'a, R> {
     rt: &'a R,
