@@ -22,7 +22,8 @@ pub enum WriterEnd {
 }
 
 /// Writes what a link of this client is told, until the core closes the link, or until `stop` is set and nothing lies
-/// there. It pauses where nothing lay there, or memory ran out.
+/// there. It pauses where nothing lay there, or memory ran out. Where it took a list it has the core stepped: an event
+/// may have waited for the room.
 ///
 /// `WriteFailed` where a write failed or took no byte, `StepLimit` at the step of number `steps`, 1 or more: of what
 /// the link was told the first bytes went out.
@@ -90,10 +91,11 @@ fn write_all<R: Wait, W: Write, G: Gate, C: Clock>(
                 if wrote.closed {
                     return Ok(WriterEnd::Closed);
                 }
-                if !wrote.taken {
-                    if is_stopped {
-                        return Ok(WriterEnd::Stopped);
-                    }
+                if wrote.taken {
+                    let _ = gate.turn(rt, alloc);
+                } else if is_stopped {
+                    return Ok(WriterEnd::Stopped);
+                } else {
                     clock.pause();
                 }
             }

@@ -1,7 +1,9 @@
-use Rattle.std.proofs.Common.{◌≡◌, ◌∙◌, refl, sym, ap, [], Ok, Err}
+use Rattle.std.proofs.Common.{◌≡◌, ◌∙◌, refl, sym, ap, subst, [], List, Ok, Err}
+use Rattle.gate_law.specs.Events as law
 use Rattle.link_io.specs.declared.link_fault.LinkFault.{LinkFault}
 use Rattle.link_io.specs.declared.writer.Wrote.{Wrote}
 use Rattle.link_io.specs.Writing.{WriterState, unwritten}
+use Rattle.gate_workers.specs.WritersWork.{HasWritten}
 use Rattle.gate_workers.specs.declared.writer.WriterEnd.TheVariants.{Closed, Stopped}
 use Rattle.gate_workers.proofs.Run.{limit-goes_on, memory-goes_on, not_over-memory, ok-goes_on, over-not_memory, written_none, wrote_fault, wrote_last, wrote_more, wrote_nothing}
 use Rattle.gate_workers.proofs.writer.write_all.Goals as goal
@@ -34,19 +36,21 @@ returns-then-is_stopped-clause-writes g c =
     wrote_last c.args.writer c.loop.writer c.step.new.self _ _ _ _ _ _ c.loop.invariant.wrote c.in-Ok.wrote Stopped (c.in-Ok.ensures.writes on)
     (none-unwritten c.args.writer bytes held) (c.if-wrote.false, refl)
 
-pub loop-preserved-then-not-wrote : goal.loop-preserved-then-not-wrote
-loop-preserved-then-not-wrote g c =
+pub loop-preserved-then-wrote-2 : goal.loop-preserved-then-wrote-2
+loop-preserved-then-wrote-2 g c =
     let on = ok-goes_on c.loop.writer.limit (Ok c.in-Ok.wrote) c.in-Ok.wrote refl (λ f q. (c.in-Ok.ensures.refused f q).0) in
     record {
       can_next = tt;
       is_finite = tt;
-      wrote = wrote_more c.args.writer c.loop.writer c.step.new.self _ _ _ _ _ _ c.loop.invariant.wrote c.in-Ok.wrote (c.in-Ok.ensures.writes on) c.if-wrote.false;
+      wrote = subst (λ (v : List (List law.LinkOut)). HasWritten c.args.writer c.step.new.self (g.G.Gate.was_taken c.args.gate.now) v (g.W.Write.contents c.args.stream.now) (g.W.Write.contents c.step.new.stream))
+          (sym c.turn.ensures.none_taken)
+          (wrote_more c.args.writer c.loop.writer c.step.new.self _ _ _ _ _ _ c.loop.invariant.wrote c.in-Ok.wrote (c.in-Ok.ensures.writes on) c.if-wrote.false);
       goes_on = limit-goes_on {A = Wrote} c.loop.writer.limit c.step.new.self.limit (Ok c.in-Ok.wrote) refl on c.in-Ok.ensures.limit;
-      none_put = c.step.ensures.none_put ∙ c.loop.invariant.none_put;
+      none_put = c.turn.ensures.none_put ∙ (c.step.ensures.none_put ∙ c.loop.invariant.none_put);
     }
 
-pub loop-preserved-else-not-wrote : goal.loop-preserved-else-not-wrote
-loop-preserved-else-not-wrote g c =
+pub loop-preserved-else-is_stopped : goal.loop-preserved-else-is_stopped
+loop-preserved-else-is_stopped g c =
     let on = ok-goes_on c.loop.writer.limit (Ok c.in-Ok.wrote) c.in-Ok.wrote refl (λ f q. (c.in-Ok.ensures.refused f q).0) in
     record {
       can_next = tt;

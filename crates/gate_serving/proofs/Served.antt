@@ -1,0 +1,168 @@
+-- Links that are read and written one after another, and lines from what their halves have done.
+use Rattle.std.proofs.Common.{◌≡◌, ⊎_elim, ℕ, ◌+◌, ◌≤◌, Bool, true, false, List, [], ◌∷◌, length, Option, Result, refl, sym, ap, ◌∙◌, subst, arith}
+use Rattle.std.specs.List.{All, AllZip}
+use Rattle.std.proofs.lemmas.Bool.{false≢true}
+use Rattle.std.proofs.lemmas.List.Elements.{All-head, All-tail}
+use Rattle.gate_law.specs.Events.{Event, LinkOut}
+use Rattle.link_io.specs.declared.link_fault.LinkFault.{LinkFault}
+use Rattle.gate_workers.specs.declared.writer.WriterEnd.{WriterEnd}
+use Rattle.gate_workers.specs.WritersWork.{WritesLink}
+use Rattle.gate_serving.specs.declared.halves.Reads.{Reads}
+use Rattle.gate_serving.specs.declared.halves.Writes.{Writes}
+use Rattle.gate_serving.specs.declared.line.Line.{Line}
+use Rattle.gate_serving.specs.declared.line.Worker.{Worker}
+use Rattle.gate_serving.specs.Halves.{IsJoined, IsSplit, ReadsDid, WritesDid}
+use Rattle.gate_serving.specs.Lines.{LineRead, LineServed, LineWritten, LinksRead, LinksWritten, MayBeDone, OfAStream}
+
+-- ---- links that are read
+
+pub record ReadSoFar (reads : ℕ → Result Unit LinkFault → List Event → List Event → Option (List ℕ) → Option (List ℕ) → Type 0) (link opened_old opened_new : ℕ) (put_old put_new : List Event) : Type 0 where
+  pub ends : List (Result Unit LinkFault)
+  pub puts : LinksRead reads ends put_old put_new
+  pub opened : opened_new ≡ opened_old + length ends
+  pub numbers : link ≡ length ends
+
+module _ (reads : ℕ → Result Unit LinkFault → List Event → List Event → Option (List ℕ) → Option (List ℕ) → Type 0) where
+  pub none_yet : (o : ℕ) (x : List Event) → ReadSoFar reads 0 o o x x
+  none_yet o x = record { ends = []; puts = refl; opened = omega arith; numbers = refl }
+
+  pub one_more : (link o p q : ℕ) (end : Result Unit LinkFault) (x y z : List Event) → ReadSoFar reads link o p x y → q ≡ p + 1 → OfAStream (reads (link + 1) end y z) → ReadSoFar reads (link + 1) o q x z
+  one_more link o p q end x y z h more one = record {
+    ends = end ∷ h.ends;
+    puts = (y, h.puts, subst (λ (n : ℕ). OfAStream (reads (n + 1) end y z)) h.numbers one);
+    opened = omega (arith, more, h.opened);
+    numbers = omega (arith, h.numbers);
+  }
+
+  -- a try that opened nothing
+  pub as_many : (link o p q : ℕ) (x y : List Event) → ReadSoFar reads link o p x y → q ≡ p → ReadSoFar reads link o q x y
+  as_many link o p q x y h same = record { ends = h.ends; puts = h.puts; opened = same ∙ h.opened; numbers = h.numbers }
+
+  pub all_read : (HasEnded : Type 0) (link o p q : ℕ) (x y : List Event) → ReadSoFar reads link o p x y → q ≡ p → HasEnded → LineRead reads true HasEnded o q x y
+  all_read HasEnded link o p q x y h same ended = record {
+    ends = h.ends;
+    puts = h.puts;
+    opened = omega (arith, h.opened, same);
+    whole = λ e. (same ∙ h.opened, ended);
+  }
+
+  -- the last link that was opened may be one that nobody read
+  pub read_in_part : (HasEnded : Type 0) (link o p q : ℕ) (x y z : List Event) → ReadSoFar reads link o p x y → p ≤ q → z ≡ y → LineRead reads false HasEnded o q x z
+  read_in_part HasEnded link o p q x y z h some same = record {
+    ends = h.ends;
+    puts = subst (λ (v : List Event). LinksRead reads h.ends x v) (sym same) h.puts;
+    opened = omega (arith, h.opened, some);
+    whole = λ e. absurd (false≢true e);
+  }
+
+  pub none_read : (all_over : Bool) (HasEnded : Type 0) (o : ℕ) (x : List Event) → all_over ≡ false → LineRead reads all_over HasEnded o o x x
+  none_read all_over HasEnded o x fresh = record {
+    ends = [];
+    puts = refl;
+    opened = omega arith;
+    whole = λ e. absurd (false≢true (sym fresh ∙ e));
+  }
+
+-- ---- links that are written
+
+pub record WrittenSoFar (count : ℕ) (taken_old taken_new : List (List LinkOut)) : Type 0 where
+  pub ends : List (Result WriterEnd LinkFault)
+  pub takes : LinksWritten ends taken_old taken_new
+  pub numbers : count ≡ length ends
+
+pub none_written : (x : List (List LinkOut)) → WrittenSoFar 0 x x
+none_written x = record { ends = []; takes = refl; numbers = refl }
+
+pub one_written : (count : ℕ) (end : Result WriterEnd LinkFault) (x y z : List (List LinkOut)) → WrittenSoFar count x y → OfAStream (WritesLink (count + 1) end y z) → WrittenSoFar (count + 1) x z
+one_written count end x y z h one = record {
+  ends = end ∷ h.ends;
+  takes = (y, h.takes, subst (λ (n : ℕ). OfAStream (WritesLink (n + 1) end y z)) h.numbers one);
+  numbers = omega (arith, h.numbers);
+}
+
+pub all_written : (count : ℕ) (x y : List (List LinkOut)) → WrittenSoFar count x y → LineWritten x y
+all_written count x y h = (h.ends, h.takes)
+
+-- ---- a line and its halves
+
+module _ {P O G C W K : Type 0} (reads : P → ℕ → Result Unit LinkFault → List Event → List Event → Option (List ℕ) → Option (List ℕ) → Type 0) (has_ended : O → Type 0) (opened : O → ℕ) (was_put : G → List Event) (was_taken : G → List (List LinkOut)) where
+  -- a half that is as it was has read no link
+  pub reads_did : (old new : Reads P O (Worker G C) W K) → old.all_over ≡ false → MayBeDone (ReadsDid reads has_ended opened was_put was_taken) old new → ReadsDid reads has_ended opened was_put was_taken old new
+  reads_did old new fresh may = ⊎_elim
+      (λ (same : new ≡ old). subst (λ (n : Reads P O (Worker G C) W K). ReadsDid reads has_ended opened was_put was_taken old n) (sym same)
+      (refl, refl, none_read (reads old.peer) old.all_over (has_ended old.opener) (opened old.opener) (was_put old.worker.gate) fresh, refl))
+      (λ (did : ReadsDid reads has_ended opened was_put was_taken old new). did)
+      may
+
+module _ {P H D W K : Type 0} (was_put : H → List Event) (was_taken : H → List (List LinkOut)) where
+  pub writes_did : (old new : Writes P (Worker H D) W K) → MayBeDone (WritesDid was_put was_taken) old new → WritesDid was_put was_taken old new
+  writes_did old new may = ⊎_elim
+      (λ (same : new ≡ old). subst (λ (n : Writes P (Worker H D) W K). WritesDid was_put was_taken old n) (sym same) (([], refl), refl))
+      (λ (did : WritesDid was_put was_taken old new). did)
+      may
+
+-- ---- the same of what is equal
+
+module _ {P O G C : Type 0} (reads : P → ℕ → Result Unit LinkFault → List Event → List Event → Option (List ℕ) → Option (List ℕ) → Type 0) (has_ended : O → Type 0) (opened : O → ℕ) (was_put : G → List Event) where
+  pub read_as : (over : Bool) (p q : P) (o a e b : O) (w x v y : Worker G C) → p ≡ q → o ≡ a → b ≡ e → w ≡ x → y ≡ v
+      → LineRead (reads p) over (has_ended e) (opened o) (opened e) (was_put w.gate) (was_put v.gate) → LineRead (reads q) over (has_ended b) (opened a) (opened b) (was_put x.gate) (was_put y.gate)
+  read_as over p q o a e b w x v y pq oa be wx yv h =
+      subst (λ (z : Worker G C). LineRead (reads q) over (has_ended b) (opened a) (opened b) (was_put x.gate) (was_put z.gate)) (sym yv)
+      (subst (λ (z : Worker G C). LineRead (reads q) over (has_ended b) (opened a) (opened b) (was_put z.gate) (was_put v.gate)) wx
+      (subst (λ (z : O). LineRead (reads q) over (has_ended z) (opened a) (opened z) (was_put w.gate) (was_put v.gate)) (sym be)
+      (subst (λ (z : O). LineRead (reads q) over (has_ended e) (opened z) (opened e) (was_put w.gate) (was_put v.gate)) oa
+      (subst (λ (z : P). LineRead (reads z) over (has_ended e) (opened o) (opened e) (was_put w.gate) (was_put v.gate)) pq h))))
+
+module _ {H D : Type 0} (was_taken : H → List (List LinkOut)) where
+  pub written_as : (w x v y : Worker H D) → w ≡ x → y ≡ v → LineWritten (was_taken w.gate) (was_taken v.gate) → LineWritten (was_taken x.gate) (was_taken y.gate)
+  written_as w x v y wx yv h =
+      subst (λ (z : Worker H D). LineWritten (was_taken x.gate) (was_taken z.gate)) (sym yv)
+      (subst (λ (z : Worker H D). LineWritten (was_taken z.gate) (was_taken v.gate)) wx h)
+
+-- not all links may be over
+pub in_part : (reads : ℕ → Result Unit LinkFault → List Event → List Event → Option (List ℕ) → Option (List ℕ) → Type 0) (over : Bool) (HasEnded : Type 0) (o p : ℕ) (x y : List Event) → LineRead reads over HasEnded o p x y → LineRead reads false HasEnded o p x y
+in_part reads over HasEnded o p x y h = record { ends = h.ends; puts = h.puts; opened = h.opened; whole = λ e. absurd (false≢true e) }
+
+module _ {P O G C H D W K : Type 0} (reads : P → ℕ → Result Unit LinkFault → List Event → List Event → Option (List ℕ) → Option (List ℕ) → Type 0) (has_ended : O → Type 0) (opened : O → ℕ) (g_put : G → List Event) (g_taken : G → List (List LinkOut)) (h_put : H → List Event) (h_taken : H → List (List LinkOut)) where
+  -- what both halves of a line may have done
+  abbrev pub HalvesDid : (b c : Reads P O (Worker G C) W K × Writes P (Worker H D) W K) → Type 0
+  HalvesDid b c = MayBeDone (ReadsDid reads has_ended opened g_put g_taken) b.0 c.0 × MayBeDone (WritesDid h_put h_taken) b.1 c.1
+
+  served_as : (over : Bool) (a : Line P O (Worker G C) (Worker H D)) (b c : Reads P O (Worker G C) W K × Writes P (Worker H D) W K) (d : Line P O (Worker G C) (Worker H D)) → IsSplit a b → HalvesDid b c → IsJoined c d
+      → (LineRead (reads a.peer) c.0.all_over (has_ended d.opener) (opened a.opener) (opened d.opener) (g_put a.reader.gate) (g_put d.reader.gate) → LineRead (reads a.peer) over (has_ended d.opener) (opened a.opener) (opened d.opener) (g_put a.reader.gate) (g_put d.reader.gate))
+      → LineServed reads has_ended opened g_put g_taken h_put h_taken over a d
+  served_as over a b c d split did joined so =
+      let read = reads_did reads has_ended opened g_put g_taken b.0 c.0 split.4 did.0 in
+      let wrote = writes_did h_put h_taken b.1 c.1 did.1 in
+      record {
+        peer = joined.0 ∙ (read.0 ∙ split.0);
+        steps = joined.1 ∙ (read.1 ∙ split.1);
+        read = so (read_as reads has_ended opened g_put c.0.all_over b.0.peer a.peer b.0.opener a.opener c.0.opener d.opener b.0.worker a.reader c.0.worker d.reader split.0 split.2 joined.2 split.3 joined.3 read.2);
+        written = written_as h_taken b.1.worker a.writer c.1.worker d.writer split.5 joined.4 wrote.0;
+        none_taken = ap (λ (z : Worker G C). g_taken z.gate) joined.3 ∙ (read.3 ∙ ap (λ (z : Worker G C). g_taken z.gate) split.3);
+        none_put = ap (λ (z : Worker H D). h_put z.gate) joined.4 ∙ (wrote.1 ∙ ap (λ (z : Worker H D). h_put z.gate) split.5);
+      }
+
+  pub served_whole : (a : Line P O (Worker G C) (Worker H D)) (b c : Reads P O (Worker G C) W K × Writes P (Worker H D) W K) (d : Line P O (Worker G C) (Worker H D)) → IsSplit a b → HalvesDid b c → c.0.all_over ≡ true → IsJoined c d → LineServed reads has_ended opened g_put g_taken h_put h_taken true a d
+  served_whole a b c d split did over joined = served_as true a b c d split did joined
+      (λ h. subst (λ (z : Bool). LineRead (reads a.peer) z (has_ended d.opener) (opened a.opener) (opened d.opener) (g_put a.reader.gate) (g_put d.reader.gate)) over h)
+
+  pub served_in_part : (a : Line P O (Worker G C) (Worker H D)) (b c : Reads P O (Worker G C) W K × Writes P (Worker H D) W K) (d : Line P O (Worker G C) (Worker H D)) → IsSplit a b → HalvesDid b c → Unit {0} → IsJoined c d → LineServed reads has_ended opened g_put g_taken h_put h_taken false a d
+  served_in_part a b c d split did none joined = served_as false a b c d split did joined
+      (λ h. in_part (reads a.peer) c.0.all_over (has_ended d.opener) (opened a.opener) (opened d.opener) (g_put a.reader.gate) (g_put d.reader.gate) h)
+
+-- ---- lists, place by place
+
+module _ {A B C D : Type 0} (R : A → B → Type 0) (S : B → C → Type 0) (Q : C → D → Type 0) (P : C → Type 0) (T : A → D → Type 0) (step : (a : A) (b : B) (c : C) (d : D) → R a b → S b c → P c → Q c d → T a d) where
+  pub all_through : (ws : List A) (xs : List B) (ys : List C) (zs : List D) → AllZip R ws xs → AllZip S xs ys → All P ys → AllZip Q ys zs → AllZip T ws zs
+  all_through [] [] [] [] r s p q = tt
+  all_through [] [] [] (d ∷ zs) r s p q = absurd q
+  all_through [] [] (c ∷ ys) zs r s p q = absurd s
+  all_through [] (b ∷ xs) ys zs r s p q = absurd r
+  all_through (a ∷ ws) [] ys zs r s p q = absurd r
+  all_through (a ∷ ws) (b ∷ xs) [] zs r s p q = absurd s
+  all_through (a ∷ ws) (b ∷ xs) (c ∷ ys) [] r s p q = absurd q
+  all_through (a ∷ ws) (b ∷ xs) (c ∷ ys) (d ∷ zs) (r, rs) (s, ss) p (q, qs) = (step a b c d r s (All-head P c ys p) q, all_through ws xs ys zs rs ss (All-tail P c ys p) qs)
+
+pub all_of_any : {A : Type 0} (ws : List A) → All (λ (a : A). Unit {0}) ws
+all_of_any ws k d few = tt

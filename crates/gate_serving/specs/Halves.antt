@@ -1,0 +1,39 @@
+-- Lines and their halves: how one is made of the other, and what a half has done.
+use Rattle.std.specs.Prelude.{◌≡◌, ℕ, Bool, false, List, Option, Result}
+use Rattle.gate_law.specs.Events.{Event, LinkOut}
+use Rattle.link_io.specs.declared.link_fault.LinkFault.{LinkFault}
+use Rattle.gate_serving.specs.declared.halves.Reads.{Reads}
+use Rattle.gate_serving.specs.declared.halves.Writes.{Writes}
+use Rattle.gate_serving.specs.declared.line.Line.{Line}
+use Rattle.gate_serving.specs.declared.line.Worker.{Worker}
+use Rattle.gate_serving.specs.Lines.{LineRead, LineWritten}
+
+-- the halves of a line, before anything was done
+abbrev pub IsSplit : {P O A B W K : Type 0} → Line P O A B → Reads P O A W K × Writes P B W K → Type 0
+IsSplit line half =
+    (half.0.peer ≡ line.peer) × (half.0.steps ≡ line.steps) × (half.0.opener ≡ line.opener)
+    × (half.0.worker ≡ line.reader) × (half.0.all_over ≡ false) × (half.1.worker ≡ line.writer)
+
+-- the line that two halves are
+abbrev pub IsJoined : {P O A B W K : Type 0} → Reads P O A W K × Writes P B W K → Line P O A B → Type 0
+IsJoined half line =
+    (line.peer ≡ half.0.peer) × (line.steps ≡ half.0.steps) × (line.opener ≡ half.0.opener)
+    × (line.reader ≡ half.0.worker) × (line.writer ≡ half.1.worker)
+
+-- what was done of a line's links by its reader
+abbrev pub ReadsDid : {P O G C W K : Type 0}
+    → (P → ℕ → Result Unit LinkFault → List Event → List Event → Option (List ℕ) → Option (List ℕ) → Type 0)
+    → (O → Type 0) → (O → ℕ) → (G → List Event) → (G → List (List LinkOut))
+    → (old new : Reads P O (Worker G C) W K) → Type 0
+ReadsDid reads has_ended opened was_put was_taken old new =
+    (new.peer ≡ old.peer) × (new.steps ≡ old.steps)
+    × LineRead (reads old.peer) new.all_over (has_ended new.opener) (opened old.opener) (opened new.opener)
+    (was_put old.worker.gate) (was_put new.worker.gate)
+    × (was_taken new.worker.gate ≡ was_taken old.worker.gate)
+
+-- what was done by its writer
+abbrev pub WritesDid : {P H D W K : Type 0} → (H → List Event) → (H → List (List LinkOut))
+    → (old new : Writes P (Worker H D) W K) → Type 0
+WritesDid was_put was_taken old new =
+    LineWritten (was_taken old.worker.gate) (was_taken new.worker.gate)
+    × (was_put new.worker.gate ≡ was_put old.worker.gate)

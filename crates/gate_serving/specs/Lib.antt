@@ -1,0 +1,4 @@
+pub mod Lines
+pub mod Halves
+pub use Rattle.gate_workers.specs.ReadersWork
+pub use Rattle.gate_workers.specs.WritersWork

@@ -1,0 +1,63 @@
+-- What the two workers of a line's links have put and taken when the links are over.
+use Rattle.std.specs.Prelude.{◌≡◌, ◌⊎◌, ℕ, ◌≤◌, ◌+◌, Bool, true, List, [], ◌∷◌, length, Option, Result}
+use Rattle.gate_law.specs.Events.{Event, LinkOut}
+use Rattle.link_io.specs.declared.link_fault.LinkFault.{LinkFault}
+use Rattle.gate_workers.specs.declared.writer.WriterEnd.{WriterEnd}
+use Rattle.gate_workers.specs.WritersWork.{WritesLink}
+use Rattle.gate_serving.specs.declared.line.Line.{Line}
+use Rattle.gate_serving.specs.declared.line.Worker.{Worker}
+
+-- it holds of what some stream had before and has after
+abbrev pub OfAStream : (Option (List ℕ) → Option (List ℕ) → Type 0) → Type 0
+OfAStream holds = (before after : Option (List ℕ)) × holds before after
+
+-- Links of a line that were read one after the other, numbered from 1, by how each ended, the last one first: what was
+-- put of each, in order, and nothing else.
+abbrev pub LinksRead : (ℕ → Result Unit LinkFault → List Event → List Event → Option (List ℕ) → Option (List ℕ)
+    → Type 0)
+    → (ends : List (Result Unit LinkFault)) → (put_old put_new : List Event) → Type 0
+LinksRead reads [] put_old put_new = put_new ≡ put_old
+LinksRead reads (end ∷ before) put_old put_new =
+    (between : List Event) × LinksRead reads before put_old between
+    × OfAStream (reads (length before + 1) end between put_new)
+
+-- Links of a line that were written one after the other, likewise: what was taken for each, in order, and nothing else.
+abbrev pub LinksWritten : (ends : List (Result WriterEnd LinkFault)) → (taken_old taken_new : List (List LinkOut))
+    → Type 0
+LinksWritten [] taken_old taken_new = taken_new ≡ taken_old
+LinksWritten (end ∷ before) taken_old taken_new =
+    (between : List (List LinkOut)) × LinksWritten before taken_old between
+    × OfAStream (WritesLink (length before + 1) end between taken_new)
+
+-- What a line's reader has done: links were read, none that wasn't opened. Where all are over, each that was opened was
+-- read, and no further one comes.
+pub record LineRead
+    (reads : ℕ → Result Unit LinkFault → List Event → List Event → Option (List ℕ) → Option (List ℕ) → Type 0)
+    (all_over : Bool) (HasEnded : Type 0) (opened_old opened_new : ℕ) (put_old put_new : List Event) : Type 0 where
+  pub ends : List (Result Unit LinkFault)
+  pub puts : LinksRead reads ends put_old put_new
+  pub opened : opened_old + length ends ≤ opened_new
+  pub whole : all_over ≡ true → (opened_new ≡ opened_old + length ends) × HasEnded
+
+-- What a line's writer has done: links were written.
+abbrev pub LineWritten : (taken_old taken_new : List (List LinkOut)) → Type 0
+LineWritten taken_old taken_new =
+    (ends : List (Result WriterEnd LinkFault)) × LinksWritten ends taken_old taken_new
+
+-- done, or as it was
+abbrev pub MayBeDone : {A : Type 0} → (A → A → Type 0) → A → A → Type 0
+MayBeDone did old new = (new ≡ old) ⊎ did old new
+
+-- A line that was served, by what its opener and the gates of its reader and its writer show.
+pub record LineServed {P O G C H D : Type 0}
+    (reads : P → ℕ → Result Unit LinkFault → List Event → List Event → Option (List ℕ) → Option (List ℕ) → Type 0)
+    (has_ended : O → Type 0) (opened : O → ℕ) (reader_put : G → List Event) (reader_taken : G → List (List LinkOut))
+    (writer_put : H → List Event) (writer_taken : H → List (List LinkOut)) (all_over : Bool)
+    (old new : Line P O (Worker G C) (Worker H D)) : Type 0 where
+  pub peer : new.peer ≡ old.peer
+  pub steps : new.steps ≡ old.steps
+  pub read : LineRead (reads old.peer) all_over (has_ended new.opener) (opened old.opener) (opened new.opener)
+      (reader_put old.reader.gate) (reader_put new.reader.gate)
+  pub written : LineWritten (writer_taken old.writer.gate) (writer_taken new.writer.gate)
+  pub none_taken : reader_taken new.reader.gate ≡ reader_taken old.reader.gate
+  pub none_put : writer_put new.writer.gate ≡ writer_put old.writer.gate

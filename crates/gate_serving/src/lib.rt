@@ -1,0 +1,18 @@
+//! Serves lines: the links of each client and of each port, one after the other, all lines at once. The reader and the
+//! writer of a link run in a thread each, over any opener, gate and clock.
+#![tactic(auto)]
+
+mod halves;
+mod job;
+mod line;
+mod opener;
+mod peer;
+mod serving;
+mod slot;
+mod splitting;
+
+pub use gate_workers::{Clock, Gate, LinkFault, WriterEnd};
+pub use line::{Line, Worker};
+pub use opener::{Closer, LinkEnd, Opened, Opener};
+pub use peer::Peer;
+pub use serving::{ServeFault, serve};

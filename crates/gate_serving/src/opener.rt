@@ -1,0 +1,75 @@
+//! Where a line's links come from.
+
+use gate_workers::{LinkFault, WriterEnd};
+use std::sync::atomic::AtomicBool;
+
+/// Opens the links of a line, one after the other. Contracts see how many links it has opened, and whether it has said
+/// that there is no further one.
+pub trait Opener {
+    ghost use Rattle.std.specs.Prelude.{◌≡◌, ◌+◌, ℕ, IfNone, IfSome, MatchResult};
+
+    ghost opened: { Self → ℕ };
+
+    ghost has_ended: { Self → Type 0 };
+
+    /// What is read of a link.
+    type Reader;
+
+    /// What is written to it.
+    type Writer;
+
+    /// What shuts its stream down.
+    type Closer;
+
+    /// The next link, once there is one; `ReadFailed` where it could not be opened: the next call tries again. `None`
+    /// after the last one.
+    fn open(
+        &mut self,
+    ) -> Option<Result<Opened<Self::Reader, Self::Writer, Self::Closer>, LinkFault>>
+        ensures counts { IfSome result (λ tried. MatchResult tried
+            (λ _. opened self.new ≡ opened self.old + 1) (λ _. opened self.new ≡ opened self.old)) }
+        ensures last { IfNone result ((opened self.new ≡ opened self.old) × has_ended self.new) };
+
+    /// Is told how the link that was opened last has ended.
+    fn ended(&mut self, end: LinkEnd)
+        ensures same { opened self.new ≡ opened self.old };
+}
+
+/// A link that was opened: its stream, by what is done with it.
+#[derive(Drop)]
+pub struct Opened<R, W, K> {
+    pub reader: R,
+    pub writer: W,
+    pub closer: K,
+}
+
+/// Shuts a link's stream down.
+pub trait Closer {
+    /// Has the peer get what was written, and a reader that waits for the stream come to its end: as soon as the peer
+    /// has closed too, or after a while. `is_read` is set once the link's reader has ended.
+    fn close(&mut self, is_read: &AtomicBool);
+}
+
+/// How the two workers of a link ended.
+#[derive(Clone, Copy, Debug, PartialEq, Eq)]
+pub struct LinkEnd {
+    /// The number of the link among its line's, from 1.
+    pub link: u64,
+    /// The reader's end: the stream's, or a fault.
+    pub reader: Result<(), LinkFault>,
+    /// The writer's end: closed by the core, stopped, or a fault.
+    pub writer: Result<WriterEnd, LinkFault>,
+}
+
+impl LinkEnd {
+    /// The fault that ended the link, the reader's before the writer's; `None` where neither had one.
+    pub fn fault(&self) -> Option<LinkFault> {
+        if let Err(fault) = self.reader {
+            return Some(fault);
+        }
+        match self.writer {
+            Ok(_) => None,
+            Err(fault) => Some(fault),
+        }
+    }
+}

@@ -1,0 +1,43 @@
+//! Why the demonstration did not come to its end.
+
+use gateway_run::RunFault;
+use std::alloc::AllocError;
+use std::io;
+
+/// Why the demonstration did not come to its end.
+#[derive(Clone, Copy, Debug, PartialEq, Eq)]
+pub enum DemoFault {
+    /// Memory ran out.
+    NoMemory,
+    /// A thread could not be had.
+    NoThread,
+    /// A socket could not be had, or failed.
+    Socket,
+    /// A client or the market waited for something that didn't come.
+    NotFinished,
+}
+
+impl From<AllocError> for DemoFault {
+    fn from(_: AllocError) -> DemoFault {
+        DemoFault::NoMemory
+    }
+}
+
+impl From<io::Error> for DemoFault {
+    fn from(error: io::Error) -> DemoFault {
+        match error.kind() {
+            io::ErrorKind::OutOfMemory => DemoFault::NoMemory,
+            io::ErrorKind::WouldBlock | io::ErrorKind::TimedOut => DemoFault::NotFinished,
+            _ => DemoFault::Socket,
+        }
+    }
+}
+
+impl From<RunFault> for DemoFault {
+    fn from(fault: RunFault) -> DemoFault {
+        match fault {
+            RunFault::NoMemory => DemoFault::NoMemory,
+            RunFault::NoThread => DemoFault::NoThread,
+        }
+    }
+}

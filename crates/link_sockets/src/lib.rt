@@ -1,0 +1,16 @@
+//! Links over TCP: an acceptor for a client's line, a connector for a port's, and the clocks of their workers.
+//!
+//! What a socket does no contract says; the tests of `socket_tests` do.
+#![tactic(auto)]
+
+mod acceptor;
+mod clock;
+mod connector;
+mod stream;
+mod turns;
+
+pub use acceptor::Acceptor;
+pub use clock::SystemClock;
+pub use connector::Connector;
+pub use gate_serving::{Closer, LinkEnd, LinkFault, Opened, Opener};
+pub use stream::{SocketCloser, SocketReader, SocketWriter};

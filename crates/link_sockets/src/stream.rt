@@ -1,0 +1,105 @@
+//! A link's stream, by what is done with it.
+
+use gate_serving::{Closer, Opened};
+use std::io::{ErrorKind, Read, Write};
+use std::net::{Shutdown, TcpStream};
+use std::sync::atomic::{AtomicBool, Ordering};
+use std::time::{Clock, Duration};
+use std::{io, thread};
+
+/// How long a read waits before it looks whether its line has ended.
+fn longest_read() -> Duration {
+    Duration::from_millis(250)
+}
+
+/// How long a write waits for a peer that doesn't read. Then it fails.
+fn longest_write() -> Duration {
+    Duration::from_secs(10)
+}
+
+/// How often, and how long each time, a closer looks whether the peer has closed too.
+const LOOKS: u32 = 100;
+
+fn look() -> Duration {
+    Duration::from_millis(10)
+}
+
+/// Reads a stream until its peer has said all, or the line has ended: then it is at its end.
+#[derive(Drop)]
+pub struct SocketReader<'a> {
+    stream: TcpStream,
+    is_over: &'a AtomicBool,
+}
+
+impl<'a> Read for SocketReader<'a> {
+    fn read(&mut self, buf: &mut [u8]) -> io::Result<usize> {
+        for _ in 0..u64::MAX {
+            match self.stream.read(buf) {
+                Ok(n) => return Ok(n),
+                Err(error) => match error.kind() {
+                    ErrorKind::WouldBlock | ErrorKind::TimedOut | ErrorKind::Interrupted => {}
+                    _ => return Err(error),
+                },
+            }
+            if self.is_over.load(Ordering::SeqCst) {
+                return Ok(0);
+            }
+        }
+        Ok(0)
+    }
+}
+
+/// Writes a stream. A write fails where the peer reads nothing for ten seconds.
+#[derive(Drop)]
+pub struct SocketWriter {
+    stream: TcpStream,
+}
+
+impl Write for SocketWriter {
+    fn write(&mut self, buf: &[u8]) -> io::Result<usize> {
+        self.stream.write(buf)
+    }
+
+    fn flush(&mut self) -> io::Result<()> {
+        self.stream.flush()
+    }
+}
+
+/// Shuts a stream down: for writing at once, so that the peer gets what was written; for reading as soon as the peer
+/// has closed too, or after a second.
+#[derive(Drop)]
+pub struct SocketCloser<'a, R> {
+    rt: &'a R,
+    stream: TcpStream,
+}
+
+impl<'a, R: Clock> Closer for SocketCloser<'a, R> {
+    fn close(&mut self, is_read: &AtomicBool) {
+        let _ = self.stream.shutdown(Shutdown::Write);
+        for _ in 0..LOOKS {
+            if is_read.load(Ordering::SeqCst) {
+                return;
+            }
+            thread::sleep(self.rt, look());
+        }
+        let _ = self.stream.shutdown(Shutdown::Both);
+    }
+}
+
+/// A stream as a link: what is written goes out at once (TCP_NODELAY).
+pub(crate) fn link_of<'a, R>(
+    rt: &'a R,
+    stream: TcpStream,
+    is_over: &'a AtomicBool,
+) -> io::Result<Opened<SocketReader<'a>, SocketWriter, SocketCloser<'a, R>>> {
+    stream.set_nodelay(true)?;
+    stream.set_read_timeout(Some(longest_read()))?;
+    stream.set_write_timeout(Some(longest_write()))?;
+    let written = stream.try_clone()?;
+    let closed = stream.try_clone()?;
+    Ok(Opened {
+        reader: SocketReader { stream, is_over },
+        writer: SocketWriter { stream: written },
+        closer: SocketCloser { rt, stream: closed },
+    })
+}

@@ -1,0 +1,42 @@
+//! A clock over a system whose time goes back.
+
+use gate_workers::Clock;
+use link_sockets::SystemClock;
+use std::io;
+use std::sync::atomic::{AtomicUsize, Ordering};
+use std::test::Fail;
+use std::time::{self, Duration};
+
+/// A system that tells these moments, in milliseconds since 1970, one after the other, and then can't tell any.
+#[derive(Drop)]
+struct Moments {
+    told: [u64; 4],
+    next: AtomicUsize,
+}
+
+impl time::Clock for Moments {
+    fn monotonic(&self) -> io::Result<Duration> {
+        Ok(Duration::ZERO)
+    }
+
+    fn since_1970(&self) -> io::Result<Duration> {
+        let next = self.next.fetch_add(1, Ordering::SeqCst);
+        match self.told.get(next) {
+            Some(moment) => Ok(Duration::from_millis(*moment)),
+            None => Err(io::Error::from(io::ErrorKind::Unsupported)),
+        }
+    }
+}
+
+#[test]
+fn a_clock_never_goes_back(rt: HostRuntime) -> Result<(), Fail> {
+    let system = Moments {
+        told: [5_000, 3_000, 4_999, 6_001],
+        next: AtomicUsize::new(0),
+    };
+    let mut clock = SystemClock::new(&system, Duration::from_millis(1));
+    for expected in [5_000, 5_000, 5_000, 6_001, 6_001, 6_001] {
+        assert_eq!(rt; clock.now_ms(), expected);
+    }
+    Ok(())
+}
