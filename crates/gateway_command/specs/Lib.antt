@@ -1,3 +1,1 @@
 pub mod Command
-mod Examples
-pub mod Seen

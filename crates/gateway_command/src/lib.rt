@@ -1,9 +1,6 @@
 //! The command line of `gateway`.
 #![tactic(auto)]
 
-mod asking;
 mod command;
-mod help;
 
-pub use asking::{Asked, links_of};
-pub use command::asked;
+pub use command::audit_path;

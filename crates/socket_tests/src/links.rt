@@ -58,7 +58,7 @@ fn the_last_words_arrive_though_the_peer_has_said_more(rt: HostRuntime) -> Resul
         rest.join(&rt);
         Ok(())
     })?;
-    let waited = shown(&rt)? - before;
+    let waited = shown(&rt)?.saturating_sub(before);
     drop(writer);
     drop(closer);
     assert!(rt; waited >= 900 && waited < 5_000);
@@ -85,7 +85,7 @@ fn a_close_waits_no_longer_than_the_reader(rt: HostRuntime) -> Result<(), Fail> 
     let is_read = AtomicBool::new(true);
     let before = shown(&rt)?;
     link.closer.close(&is_read);
-    assert!(rt; shown(&rt)? - before < 500);
+    assert!(rt; shown(&rt)?.saturating_sub(before) < 500);
     Ok(())
 }
 
@@ -109,7 +109,7 @@ fn an_accept_ends_when_its_line_does(rt: HostRuntime) -> Result<(), Fail> {
         assert!(rt2; is_none);
         Ok(())
     })?;
-    let waited = shown(&rt)? - before;
+    let waited = shown(&rt)?.saturating_sub(before);
     assert!(rt; waited >= 100 && waited < 5_000);
     assert!(rt; acceptor.open().is_none());
     Ok(())
@@ -139,14 +139,14 @@ fn a_port_is_connected_again_after_a_second(rt: HostRuntime) -> Result<(), Fail>
     let mut connector = Connector::new(&rt, address.as_str(), 3, &is_over);
     let before = shown(&rt)?;
     assert!(rt; matches!(connector.open(), Some(Ok(_))));
-    let first = shown(&rt)? - before;
+    let first = shown(&rt)?.saturating_sub(before);
     assert!(rt; first < 900);
     assert!(rt; matches!(connector.open(), Some(Ok(_))));
-    let second = shown(&rt)? - before;
+    let second = shown(&rt)?.saturating_sub(before);
     assert!(rt; second >= 900);
     drop(listener);
     assert!(rt; matches!(connector.open(), Some(Err(LinkFault::ReadFailed))));
-    assert!(rt; shown(&rt)? - before >= second + 900);
+    assert!(rt; shown(&rt)?.saturating_sub(before) >= second.saturating_add(900));
     assert!(rt; connector.open().is_none());
     Ok(())
 }

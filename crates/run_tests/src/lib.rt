@@ -1,7 +1,0 @@
-//! Tests of a gateway that runs, over sockets on loopback.
-#![tactic(auto)]
-
-#[cfg(test)]
-mod demonstration;
-#[cfg(test)]
-mod loopback;
