@@ -7,6 +7,7 @@ use gate_workers::Clock;
 use link_io::{ClientNumber, Event, Gate, LinkFault, LinkOut, PortNumber};
 use std::alloc::{AllocError, Global};
 use std::io::Write;
+use std::process::Abort;
 use std::sync::Wait;
 use std::sync::atomic::{AtomicBool, AtomicU32, Ordering};
 use std::test::Fail;
@@ -257,14 +258,18 @@ fn line_of<'a, P: Drop, R>(
 fn a_client_waits_for_what_another_is_told(rt: HostRuntime) -> Result<(), Fail> {
     for is_first in [true, false] {
         let seen = Seen::new();
-        waits_for_another(&rt, &seen, is_first)?;
+        waits_for_another(&rt, rt.alloc(), &seen, is_first)?;
     }
     Ok(())
 }
 
 /// Two clients, of which the first, or the second, waits for what the other is told.
-fn waits_for_another<'a>(rt: &'a HostRuntime, seen: &'a Seen, is_first: bool) -> Result<(), Fail> {
-    let alloc = rt.alloc();
+fn waits_for_another<'a, R: Threads + Wait + time::Clock + Abort + Sync>(
+    rt: &'a R,
+    alloc: Global,
+    seen: &'a Seen,
+    is_first: bool,
+) -> Result<(), Fail> {
     let client = ClientNumber::new(1);
     let mut one = line_of(rt, alloc, client, HEARTBEAT.as_slice(), 1, seen)?;
     let client = ClientNumber::new(2);
@@ -299,11 +304,14 @@ const LOGON_AND_HEARTBEAT: &[u8; 52] =
 #[test]
 fn a_client_waits_for_what_it_is_told_itself(rt: HostRuntime) -> Result<(), Fail> {
     let seen = Seen::new();
-    waits_for_itself(&rt, &seen)
+    waits_for_itself(&rt, rt.alloc(), &seen)
 }
 
-fn waits_for_itself<'a>(rt: &'a HostRuntime, seen: &'a Seen) -> Result<(), Fail> {
-    let alloc = rt.alloc();
+fn waits_for_itself<'a, R: Threads + Wait + time::Clock + Abort + Sync>(
+    rt: &'a R,
+    alloc: Global,
+    seen: &'a Seen,
+) -> Result<(), Fail> {
     let client = ClientNumber::new(1);
     let stream = LOGON_AND_HEARTBEAT.as_slice();
     let mut one = line_of(rt, alloc, client, stream, 1, seen)?;
@@ -341,11 +349,14 @@ fn links_up(alloc: Global, events: &[Event]) -> Result<Vec<u64>, AllocError> {
 #[test]
 fn a_port_has_three_links_one_after_the_other(rt: HostRuntime) -> Result<(), Fail> {
     let seen = Seen::new();
-    three_links(&rt, &seen)
+    three_links(&rt, rt.alloc(), &seen)
 }
 
-fn three_links<'a>(rt: &'a HostRuntime, seen: &'a Seen) -> Result<(), Fail> {
-    let alloc = rt.alloc();
+fn three_links<'a, R: Threads + Wait + time::Clock + Abort + Sync>(
+    rt: &'a R,
+    alloc: Global,
+    seen: &'a Seen,
+) -> Result<(), Fail> {
     let port = PortNumber::new(1);
     let stream = b"\x00\x01H\x00\x01H".as_slice();
     let mut line = line_of(rt, alloc, port, stream, 3, seen)?;
@@ -373,11 +384,14 @@ fn three_links<'a>(rt: &'a HostRuntime, seen: &'a Seen) -> Result<(), Fail> {
 #[test]
 fn a_closed_link_is_shut_down(rt: HostRuntime) -> Result<(), Fail> {
     let seen = Seen::new();
-    closed_link(&rt, &seen)
+    closed_link(&rt, rt.alloc(), &seen)
 }
 
-fn closed_link<'a>(rt: &'a HostRuntime, seen: &'a Seen) -> Result<(), Fail> {
-    let alloc = rt.alloc();
+fn closed_link<'a, R: Threads + Wait + time::Clock + Abort + Sync>(
+    rt: &'a R,
+    alloc: Global,
+    seen: &'a Seen,
+) -> Result<(), Fail> {
     let client = ClientNumber::new(1);
     let mut line = line_of(rt, alloc, client, HEARTBEAT.as_slice(), 1, seen)?;
     let close = LinkOut::Close { link: 1 };
