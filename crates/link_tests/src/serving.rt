@@ -11,6 +11,7 @@ use std::process::Abort;
 use std::sync::Wait;
 use std::sync::atomic::{AtomicBool, AtomicU32, Ordering};
 use std::test::Fail;
+use std::thread::Threads;
 use std::time::{self, Duration};
 use std::{io, thread};
 
