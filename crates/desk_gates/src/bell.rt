@@ -1,0 +1,49 @@
+//! The clock of a writer.
+
+use desk::{DeskName, Shared};
+use gate_workers::Clock;
+use std::sync::Wait;
+use std::time::{self, Duration};
+
+/// Tells the system's time. A pause ends as the bell of its outlet rings, and at the latest after so long.
+#[derive(Drop)]
+pub struct BellClock<'a, K: DeskName, R> {
+    rt: &'a R,
+    shared: &'a Shared<K>,
+    outlet: usize,
+    longest: Duration,
+    last: u64,
+}
+
+impl<'a, K: DeskName, R: Wait + time::Clock> BellClock<'a, K, R> {
+    /// The clock of the writer of this outlet. Takes no memory.
+    pub fn new(
+        rt: &'a R,
+        shared: &'a Shared<K>,
+        outlet: usize,
+        longest: Duration,
+    ) -> BellClock<'a, K, R> {
+        BellClock {
+            rt,
+            shared,
+            outlet,
+            longest,
+            last: 0,
+        }
+    }
+}
+
+impl<'a, K: DeskName, R: Wait + time::Clock> Clock for BellClock<'a, K, R> {
+    /// The system's moment, or the last one told where the system's is before it or can't be had.
+    fn now_ms(&mut self) -> u64 {
+        if let Ok(since) = self.rt.since_1970() {
+            let now = u64::try_from(since.as_millis()).unwrap_or(u64::MAX);
+            self.last = self.last.max(now);
+        }
+        self.last
+    }
+
+    fn pause(&mut self) {
+        self.shared.nap(self.rt, self.outlet, self.longest);
+    }
+}

@@ -1,0 +1,89 @@
+//! An inlet as a gate.
+
+use desk::{DeskName, Finished, Inlet, Shared};
+use gate_events::{Event, LinkOut};
+use gate_workers::Gate;
+use std::alloc::{AllocError, Global};
+use std::sync::Wait;
+
+/// How many turns one call of `turn` makes at most: as many as there are places in a ring.
+const MOST_TURNS: u32 = 1_024;
+
+/// The gate of a reader, or of the ticker: puts events through an inlet, and turns the desk as often as events were
+/// put, until a turn makes no step. Nothing is taken through it.
+#[derive(Drop)]
+pub struct InletGate<'a, K: DeskName> {
+    shared: &'a Shared<K>,
+    inlet: Inlet<K>,
+    /// The events that were put since, less the turns that were made: never more than `MOST_TURNS`.
+    owed: u32,
+}
+
+impl<'a, K: DeskName> InletGate<'a, K> {
+    ghost use Rattle.std.specs.Prelude.{◌≡◌, IfSome};
+    ghost use Rattle.desk_ends.specs.Rings.{put_at};
+
+    /// The gate over an inlet of this desk. Takes no memory.
+    pub fn new(shared: &'a Shared<K>, inlet: Inlet<K>) -> InletGate<'a, K>
+        ensures { result.inlet ≡ inlet }
+    {
+        InletGate {
+            shared,
+            inlet,
+            owed: 0,
+        }
+    }
+
+    /// Ends its inlet, and tells what was put. `None` where the desk is gone.
+    pub fn finish(self) -> Option<Finished<K>>
+        ensures { IfSome result (λ f. f ≡ put_at self.entry.inlet.at self.entry.inlet.source self.entry.inlet.put) }
+    {
+        let InletGate {
+            shared: _,
+            inlet,
+            owed: _,
+        } = self;
+        inlet.finish()
+    }
+}
+
+impl<'a, K: DeskName> Gate for InletGate<'a, K> {
+    ghost use Rattle.std.specs.Prelude.{[], map};
+    ghost use Rattle.gate_events.specs.Seen.{event_seen};
+
+    ghost was_put = { λ g. map event_seen g.inlet.put };
+
+    ghost was_taken = { λ g. [] };
+
+    /// Puts an event of its inlet's source. One of another source is given back, always.
+    fn put(&mut self, event: Event) -> Result<(), Event> {
+        if !event.is_from(&self.inlet.source()) {
+            return Err(event);
+        }
+        self.inlet.put(event)?;
+        self.owed = self.owed.saturating_add(1).min(MOST_TURNS);
+        Ok(())
+    }
+
+    /// Nothing lies at an inlet.
+    fn take(&mut self) -> Option<Vec<LinkOut>> {
+        None
+    }
+
+    /// Turns once, and again for each further event that was put, until a turn makes no step.
+    fn turn<R: Wait>(&mut self, rt: &R, alloc: Global) -> Result<u32, AllocError> {
+        let mut steps = 0u32;
+        for _ in 0..MOST_TURNS {
+            let turned = self.shared.turn(rt, alloc)?;
+            if turned.steps == 0 {
+                break;
+            }
+            steps = steps.saturating_add(turned.steps);
+            self.owed = self.owed.saturating_sub(1);
+            if self.owed == 0 {
+                break;
+            }
+        }
+        Ok(steps)
+    }
+}

@@ -1,0 +1,13 @@
+//! A desk's ends as gates: what the workers of links put into the desk and take from it, and the clock of a writer,
+//! whose pause ends as its outlet's bell rings.
+#![tactic(auto)]
+
+mod bell;
+mod inlet;
+mod outlet;
+
+pub use bell::BellClock;
+pub use desk::{DeskName, Inlet, Outlet, Shared};
+pub use gate_workers::{Clock, Gate};
+pub use inlet::InletGate;
+pub use outlet::OutletGate;

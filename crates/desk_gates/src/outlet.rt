@@ -1,0 +1,80 @@
+//! An outlet as a gate.
+
+use desk::{DeskName, Finished, Outlet, Shared};
+use gate_events::{Event, LinkOut};
+use gate_workers::Gate;
+use std::alloc::{AllocError, Global};
+use std::sync::Wait;
+
+/// How many lists an outlet's ring has room for.
+const PLACES: u32 = 1_024;
+
+/// The gate of a writer: takes lists through an outlet. Where its ring may have been full it turns the desk once it has
+/// taken as many lists as the ring has room for, since an event may wait for that room. Nothing is put through it.
+#[derive(Drop)]
+pub struct OutletGate<'a, K: DeskName> {
+    shared: &'a Shared<K>,
+    outlet: Outlet<K>,
+    /// The lists that were taken since none lay there, or since the last turn.
+    in_a_row: u32,
+}
+
+impl<'a, K: DeskName> OutletGate<'a, K> {
+    ghost use Rattle.std.specs.Prelude.{◌≡◌};
+    ghost use Rattle.desk_ends.specs.Rings.{took_at};
+
+    /// The gate over an outlet of this desk. Takes no memory.
+    pub fn new(shared: &'a Shared<K>, outlet: Outlet<K>) -> OutletGate<'a, K>
+        ensures { result.outlet ≡ outlet }
+    {
+        OutletGate {
+            shared,
+            outlet,
+            in_a_row: 0,
+        }
+    }
+
+    /// Ends its outlet, and tells what was taken.
+    pub fn finish(self) -> Finished<K>
+        ensures { result ≡ took_at self.entry.outlet.at self.entry.outlet.to self.entry.outlet.took }
+    {
+        let OutletGate {
+            shared: _,
+            outlet,
+            in_a_row: _,
+        } = self;
+        outlet.finish()
+    }
+}
+
+impl<'a, K: DeskName> Gate for OutletGate<'a, K> {
+    ghost use Rattle.std.specs.Prelude.{[]};
+
+    ghost was_put = { λ g. [] };
+
+    ghost was_taken = { λ g. g.outlet.took };
+
+    /// An outlet takes no event: it is given back, always.
+    fn put(&mut self, event: Event) -> Result<(), Event> {
+        Err(event)
+    }
+
+    fn take(&mut self) -> Option<Vec<LinkOut>> {
+        let Some(told) = self.outlet.take() else {
+            self.in_a_row = 0;
+            return None;
+        };
+        self.in_a_row = self.in_a_row.saturating_add(1);
+        Some(told.into_outs())
+    }
+
+    /// Turns once where as many lists were taken, one after another, as the ring has room for.
+    fn turn<R: Wait>(&mut self, rt: &R, alloc: Global) -> Result<u32, AllocError> {
+        if self.in_a_row < PLACES {
+            return Ok(0);
+        }
+        self.in_a_row = 0;
+        let turned = self.shared.turn(rt, alloc)?;
+        Ok(turned.steps)
+    }
+}

@@ -1,0 +1,7 @@
+//! Tests of a gateway that runs, over sockets on loopback.
+#![tactic(auto)]
+
+#[cfg(test)]
+mod lost_links;
+#[cfg(test)]
+mod unfinished;
