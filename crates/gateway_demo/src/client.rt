@@ -81,6 +81,11 @@ impl<'a, R: Clock, S: Read + Write + Drop> Client<'a, R, S> {
         self.wait_for(count, 39, b"2")
     }
 
+    /// Waits until so many orders are reported as refused.
+    pub fn wait_for_refusals(&mut self, count: u32) -> Result<(), DemoFault> {
+        self.wait_for(count, 39, b"8")
+    }
+
     /// Now, as UTCTimestamp; the first moment of 1970 where the system's can't be had.
     fn now(&self) -> [u8; 21] {
         match self.rt.since_1970() {

@@ -2,7 +2,7 @@
 
 use gate_serving::LinkFault;
 use gateway_run::RunFault;
-use std::alloc::AllocError;
+use std::alloc::{AllocError, AllocFailed};
 use std::io;
 
 /// Why the demonstration did not come to its end.
@@ -20,6 +20,12 @@ pub enum DemoFault {
 
 impl From<AllocError> for DemoFault {
     fn from(_: AllocError) -> DemoFault {
+        DemoFault::NoMemory
+    }
+}
+
+impl<T: Drop> From<AllocFailed<T>> for DemoFault {
+    fn from(_: AllocFailed<T>) -> DemoFault {
         DemoFault::NoMemory
     }
 }
