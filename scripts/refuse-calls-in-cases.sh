@@ -3,10 +3,11 @@
 #
 #     scripts/refuse-calls-in-cases.sh [PROGRAM [INPUT]]
 #
-# PROGRAM is session_cases, which is meant where none is named, link_cases, gate_script, gate_retries, or gateway, which audits the script INPUT.
+# PROGRAM is session_cases, which is meant where none is named, link_cases, desk_retries, gate_script, gate_retries, or gateway, which audits the
+# script INPUT.
 # From the environment KIND says which calls: with `memory`, which is meant where none is said, run N of the program refuses its Nth malloc or realloc, and no
 # other; with `io` its Nth read or write fails; with `short` its Nth read or write of several bytes moves one of them. session_cases makes a session's
-# call again where it answers that memory is wanting, gate_retries a step of the whole core. So a run may
+# call again where it answers that memory is wanting, gate_retries a step of the whole core, desk_retries a turn of the desk and its end. So a run may
 #
 #   end as without a refusal        what was wanting was asked again, or wasn't needed: "the same"; with `short` each run has to
 #   end with status 1 and words     memory was wanting, or a read or write failed: "reported". What it printed has no case that is wrong, and of
