@@ -1,4 +1,4 @@
-//! Tests of the public calls of `link_io` and `gate_workers`. Nothing else stands here.
+//! Tests of the public calls of `link_io`, `gate_workers` and `gate_serving`. Nothing else stands here.
 //!
 //! Expected bytes are typed in from FIX 4.4 Volume 1, "Message Format", and SoupBinTCP 3.00, "Logical Packets".
 #![tactic(auto)]
@@ -7,6 +7,8 @@
 mod gates;
 #[cfg(test)]
 mod readers;
+#[cfg(test)]
+mod serving;
 #[cfg(test)]
 mod streams;
 #[cfg(test)]

@@ -1,0 +1,412 @@
+//! Lines that are served at once.
+
+use super::gates::Kept;
+use super::streams::Pieces;
+use gate_serving::{Closer, Line, LinkEnd, Opened, Opener, Worker, WriterEnd, serve};
+use gate_workers::Clock;
+use link_io::{ClientNumber, Event, Gate, LinkFault, LinkOut, PortNumber};
+use std::alloc::{AllocError, Global};
+use std::io::Write;
+use std::process::Abort;
+use std::sync::Wait;
+use std::sync::atomic::{AtomicBool, AtomicU32, Ordering};
+use std::test::Fail;
+use std::thread::Threads;
+use std::time::{self, Duration};
+use std::{io, thread};
+
+/// A heartbeat without a header, as a frame.
+const HEARTBEAT: &[u8; 26] = b"8=FIX.4.4\x019=5\x0135=0\x0110=163\x01";
+
+/// How often a gate pauses for another before the test has failed.
+const PAUSES: u32 = 10_000;
+
+/// A gate that doesn't return from its put of this number, from 1, until a flag is set, and sets one as a list is
+/// taken.
+#[derive(Drop)]
+struct Waiting<'a, R> {
+    rt: &'a R,
+    kept: Kept,
+    /// The put that waits, and for what.
+    waits_at: u32,
+    goes_on: &'a AtomicBool,
+    /// What a taken list sets.
+    is_taken: &'a AtomicBool,
+    /// What the last pause sets.
+    is_failed: &'a AtomicBool,
+    puts: u32,
+}
+
+impl<'a, R: time::Clock> Waiting<'a, R> {
+    fn wait(&self) {
+        for _ in 0..PAUSES {
+            if self.goes_on.load(Ordering::SeqCst) {
+                return;
+            }
+            thread::sleep(self.rt, Duration::from_millis(1));
+        }
+        self.is_failed.store(true, Ordering::SeqCst);
+    }
+}
+
+impl<'a, R: time::Clock> Gate for Waiting<'a, R> {
+    ghost use Rattle.std.specs.Prelude.{map};
+    ghost use Rattle.gate_events.specs.Seen.{event_seen, link_out_seen};
+
+    ghost was_put = { λ g. map event_seen g.kept.events.items };
+
+    ghost was_taken = { λ g. map (λ v. map link_out_seen v.items) g.kept.given.items };
+
+    fn put(&mut self, event: Event) -> Result<(), Event> {
+        self.puts = self.puts.saturating_add(1);
+        if self.puts == self.waits_at {
+            self.wait();
+        }
+        self.kept.put(event)
+    }
+
+    fn take(&mut self) -> Option<Vec<LinkOut>> {
+        let list = self.kept.take()?;
+        self.is_taken.store(true, Ordering::SeqCst);
+        Some(list)
+    }
+
+    fn turn<W: Wait>(&mut self, _rt: &W, _alloc: Global) -> Result<u32, AllocError> {
+        Ok(0)
+    }
+}
+
+/// A clock that pauses for a millisecond.
+#[derive(Drop)]
+struct Sleeping<'a, R> {
+    rt: &'a R,
+    moment: u64,
+}
+
+impl<'a, R: time::Clock> Clock for Sleeping<'a, R> {
+    fn now_ms(&mut self) -> u64 {
+        self.moment = self.moment.saturating_add(1);
+        self.moment
+    }
+
+    fn pause(&mut self) {
+        thread::sleep(self.rt, Duration::from_millis(1));
+    }
+}
+
+/// A writer that counts the bytes that it takes.
+#[derive(Drop)]
+struct Counted<'a> {
+    bytes: &'a AtomicU32,
+}
+
+impl<'a> Write for Counted<'a> {
+    fn write(&mut self, buf: &[u8]) -> io::Result<usize> {
+        let count = u32::try_from(buf.len()).unwrap_or(u32::MAX);
+        self.bytes.fetch_add(count, Ordering::SeqCst);
+        Ok(buf.len())
+    }
+
+    fn flush(&mut self) -> io::Result<()> {
+        Ok(())
+    }
+}
+
+/// Counts how often links were shut down.
+#[derive(Drop)]
+struct Shuts<'a> {
+    often: &'a AtomicU32,
+}
+
+impl<'a> Closer for Shuts<'a> {
+    fn close(&mut self, _is_read: &AtomicBool) {
+        self.often.fetch_add(1, Ordering::SeqCst);
+    }
+}
+
+/// Opens so many links of the same bytes; where `fails_at` of them are left, opening fails once.
+#[derive(Drop)]
+struct Links<'a> {
+    stream: &'a [u8],
+    left: u32,
+    fails_at: u32,
+    bytes: &'a AtomicU32,
+    often: &'a AtomicU32,
+    ends: Vec<LinkEnd>,
+}
+
+impl<'a> Opener for Links<'a> {
+    ghost use Rattle.std.specs.Prelude.{◌≡◌, ◌-◌, ◌^◌};
+
+    ghost opened = { λ links. 2 ^ 32 - links.left };
+
+    ghost has_ended = { λ links. links.left ≡ 0 };
+
+    type Reader = Pieces<'a>;
+
+    type Writer = Counted<'a>;
+
+    type Closer = Shuts<'a>;
+
+    fn open(&mut self) -> Option<Result<Opened<Pieces<'a>, Counted<'a>, Shuts<'a>>, LinkFault>> {
+        if self.left == 0 {
+            return None;
+        }
+        if self.left == self.fails_at {
+            self.fails_at = 0;
+            return Some(Err(LinkFault::ReadFailed));
+        }
+        self.left -= 1;
+        Some(Ok(Opened {
+            reader: Pieces {
+                rest: self.stream,
+                size: 26,
+                reads_left: 100,
+            },
+            writer: Counted { bytes: self.bytes },
+            closer: Shuts { often: self.often },
+        }))
+    }
+
+    fn ended(&mut self, end: LinkEnd) {
+        let _ = self.ends.push(end);
+    }
+}
+
+/// The flags and counts of a test.
+#[derive(Drop)]
+struct Seen {
+    first: AtomicBool,
+    second: AtomicBool,
+    never: AtomicBool,
+    is_failed: AtomicBool,
+    bytes: AtomicU32,
+    often: AtomicU32,
+}
+
+impl Seen {
+    fn new() -> Seen {
+        Seen {
+            first: AtomicBool::new(false),
+            second: AtomicBool::new(false),
+            never: AtomicBool::new(false),
+            is_failed: AtomicBool::new(false),
+            bytes: AtomicU32::new(0),
+            often: AtomicU32::new(0),
+        }
+    }
+}
+
+type TestLine<'a, P, R> = Line<
+    P,
+    Links<'a>,
+    Worker<Waiting<'a, R>, Sleeping<'a, R>>,
+    Worker<Waiting<'a, R>, Sleeping<'a, R>>,
+>;
+
+/// A gate with the lists that lie there, which waits for nothing.
+fn free<'a, R>(rt: &'a R, seen: &'a Seen, kept: Kept) -> Waiting<'a, R> {
+    Waiting {
+        rt,
+        kept,
+        waits_at: 0,
+        goes_on: &seen.never,
+        is_taken: &seen.never,
+        is_failed: &seen.is_failed,
+        puts: 0,
+    }
+}
+
+/// A line of so many links of these bytes, with one heartbeat for its first link to be written.
+fn line_of<'a, P: Drop, R>(
+    rt: &'a R,
+    alloc: Global,
+    peer: P,
+    stream: &'a [u8],
+    links: u32,
+    seen: &'a Seen,
+) -> Result<TestLine<'a, P, R>, AllocError> {
+    let mut told = Kept::new(alloc);
+    let heartbeat = LinkOut::Write {
+        link: 1,
+        bytes: Vec::from_slice(alloc, HEARTBEAT.as_slice())?,
+    };
+    told.lists.push(vec![in alloc; heartbeat]?)?;
+    Ok(Line {
+        peer,
+        steps: 1_000,
+        fault: None,
+        opener: Links {
+            stream,
+            left: links,
+            fails_at: 0,
+            bytes: &seen.bytes,
+            often: &seen.often,
+            ends: Vec::new(alloc),
+        },
+        reader: Worker {
+            gate: free(rt, seen, Kept::new(alloc)),
+            clock: Sleeping { rt, moment: 0 },
+        },
+        writer: Worker {
+            gate: free(rt, seen, told),
+            clock: Sleeping { rt, moment: 0 },
+        },
+    })
+}
+
+#[test]
+fn a_client_waits_for_what_another_is_told(rt: HostRuntime) -> Result<(), Fail> {
+    for is_first in [true, false] {
+        let seen = Seen::new();
+        waits_for_another(&rt, rt.alloc(), &seen, is_first)?;
+    }
+    Ok(())
+}
+
+/// Two clients, of which the first, or the second, waits for what the other is told.
+fn waits_for_another<'a, R: Threads + Wait + time::Clock + Abort + Sync>(
+    rt: &'a R,
+    alloc: Global,
+    seen: &'a Seen,
+    is_first: bool,
+) -> Result<(), Fail> {
+    let client = ClientNumber::new(1);
+    let mut one = line_of(rt, alloc, client, HEARTBEAT.as_slice(), 1, seen)?;
+    let client = ClientNumber::new(2);
+    let mut two = line_of(rt, alloc, client, HEARTBEAT.as_slice(), 1, seen)?;
+    one.writer.gate.is_taken = &seen.first;
+    two.writer.gate.is_taken = &seen.second;
+    if is_first {
+        one.reader.gate.waits_at = 1;
+        one.reader.gate.goes_on = &seen.second;
+    } else {
+        two.reader.gate.waits_at = 1;
+        two.reader.gate.goes_on = &seen.first;
+    }
+    let served = serve(rt, alloc, vec![in alloc; one, two]?);
+    assert!(rt; !seen.is_failed.load(Ordering::SeqCst));
+    let Ok(lines) = served else {
+        return Err(Fail::new("not served"));
+    };
+    for line in &lines {
+        assert_eq!(rt; line.fault, None);
+        assert_eq!(rt; line.reader.gate.kept.events.len(), 3);
+        assert_eq!(rt; line.writer.gate.kept.given.len(), 1);
+    }
+    assert_eq!(rt; seen.bytes.load(Ordering::SeqCst), 52);
+    Ok(())
+}
+
+/// A logon without a header, as a frame, and a heartbeat behind it.
+const LOGON_AND_HEARTBEAT: &[u8; 52] =
+    b"8=FIX.4.4\x019=5\x0135=A\x0110=180\x018=FIX.4.4\x019=5\x0135=0\x0110=163\x01";
+
+#[test]
+fn a_client_waits_for_what_it_is_told_itself(rt: HostRuntime) -> Result<(), Fail> {
+    let seen = Seen::new();
+    waits_for_itself(&rt, rt.alloc(), &seen)
+}
+
+fn waits_for_itself<'a, R: Threads + Wait + time::Clock + Abort + Sync>(
+    rt: &'a R,
+    alloc: Global,
+    seen: &'a Seen,
+) -> Result<(), Fail> {
+    let client = ClientNumber::new(1);
+    let stream = LOGON_AND_HEARTBEAT.as_slice();
+    let mut one = line_of(rt, alloc, client, stream, 1, seen)?;
+    one.writer.gate.is_taken = &seen.first;
+    one.reader.gate.waits_at = 4;
+    one.reader.gate.goes_on = &seen.first;
+    let client = ClientNumber::new(2);
+    let two = line_of(rt, alloc, client, HEARTBEAT.as_slice(), 1, seen)?;
+    let served = serve(rt, alloc, vec![in alloc; one, two]?);
+    assert!(rt; !seen.is_failed.load(Ordering::SeqCst));
+    let Ok(lines) = served else {
+        return Err(Fail::new("not served"));
+    };
+    let [one, two] = lines.as_slice() else {
+        return Err(Fail::new("not two lines"));
+    };
+    assert_eq!(rt; one.peer.number(), 1);
+    assert_eq!(rt; one.reader.gate.kept.events.len(), 4);
+    assert_eq!(rt; two.peer.number(), 2);
+    assert_eq!(rt; two.reader.gate.kept.events.len(), 3);
+    Ok(())
+}
+
+/// The links of which a gate was told that they are up.
+fn links_up(alloc: Global, events: &[Event]) -> Result<Vec<u64>, AllocError> {
+    let mut links = Vec::new(alloc);
+    for event in events {
+        if let Event::PortUp { link, .. } = event {
+            links.push(*link)?;
+        }
+    }
+    Ok(links)
+}
+
+#[test]
+fn a_port_has_three_links_one_after_the_other(rt: HostRuntime) -> Result<(), Fail> {
+    let seen = Seen::new();
+    three_links(&rt, rt.alloc(), &seen)
+}
+
+fn three_links<'a, R: Threads + Wait + time::Clock + Abort + Sync>(
+    rt: &'a R,
+    alloc: Global,
+    seen: &'a Seen,
+) -> Result<(), Fail> {
+    let port = PortNumber::new(1);
+    let stream = b"\x00\x01H\x00\x01H".as_slice();
+    let mut line = line_of(rt, alloc, port, stream, 3, seen)?;
+    line.opener.fails_at = 2;
+    let close = LinkOut::Close { link: 2 };
+    line.writer.gate.kept.lists = vec![in alloc; vec![in alloc; close]?]?;
+    let Ok(lines) = serve(rt, alloc, vec![in alloc; line]?) else {
+        return Err(Fail::new("not served"));
+    };
+    let [line] = lines.as_slice() else {
+        return Err(Fail::new("not one line"));
+    };
+    assert_eq!(rt; line.fault, Some(LinkFault::ReadFailed));
+    let ups = links_up(alloc, line.reader.gate.kept.events.as_slice())?;
+    assert_eq!(rt; ups.as_slice(), [1, 2, 3].as_slice());
+    assert_eq!(rt; line.reader.gate.kept.events.len(), 12);
+    assert_eq!(rt; line.opener.ends.len(), 3);
+    for end in &line.opener.ends {
+        assert_eq!(rt; end.reader, Ok(()));
+        assert_eq!(rt; end.fault(), None);
+    }
+    Ok(())
+}
+
+#[test]
+fn a_closed_link_is_shut_down(rt: HostRuntime) -> Result<(), Fail> {
+    let seen = Seen::new();
+    closed_link(&rt, rt.alloc(), &seen)
+}
+
+fn closed_link<'a, R: Threads + Wait + time::Clock + Abort + Sync>(
+    rt: &'a R,
+    alloc: Global,
+    seen: &'a Seen,
+) -> Result<(), Fail> {
+    let client = ClientNumber::new(1);
+    let mut line = line_of(rt, alloc, client, HEARTBEAT.as_slice(), 1, seen)?;
+    let close = LinkOut::Close { link: 1 };
+    line.writer.gate.kept.lists = vec![in alloc; vec![in alloc; close]?]?;
+    let Ok(lines) = serve(rt, alloc, vec![in alloc; line]?) else {
+        return Err(Fail::new("not served"));
+    };
+    assert_eq!(rt; lines.len(), 1);
+    for line in &lines {
+        for end in &line.opener.ends {
+            assert_eq!(rt; end.writer, Ok(WriterEnd::Closed));
+        }
+        assert_eq!(rt; line.opener.ends.len(), 1);
+    }
+    assert_eq!(rt; seen.often.load(Ordering::SeqCst), 1);
+    Ok(())
+}
