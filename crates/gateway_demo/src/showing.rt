@@ -8,7 +8,7 @@ use crate::fault::DemoFault;
 use crate::market::Market;
 use crate::settings::demo_settings;
 use gateway_run::{Day, RunFault, RunPlan, audit_day, run};
-use link_sockets::{Acceptor, Connector, Opener};
+use link_sockets::{Acceptor, Connector, Opened, Opener};
 use market_book::Choice;
 use std::alloc::{AllocError, Global};
 use std::io::{Read, Write};
@@ -194,8 +194,12 @@ fn serve_market<'a, R: Clock + Net<Listener = TcpListener, Stream = TcpStream>>(
     let Some(link) = links.open() else {
         return Ok(());
     };
-    let mut link = link.map_err(DemoFault::Link)?;
-    Market::new(alloc, answer).serve(u32::MAX, &mut link.reader, &mut link.writer)
+    let Opened {
+        mut reader,
+        mut writer,
+        ..
+    } = link.map_err(DemoFault::Link)?;
+    Market::new(alloc, answer).serve(u32::MAX, &mut reader, &mut writer)
 }
 
 /// Connects a client, and has it buy all that is to be bought. Where it can't, `is_over` is set: nobody else waits.

@@ -2,7 +2,7 @@
 
 use gateway_demo::{Client, DemoFault, Market, Order, connected, loopback};
 use gateway_run::run_settings;
-use link_sockets::{Acceptor, Opener};
+use link_sockets::{Acceptor, Opened, Opener};
 use market_book::Choice;
 use settings_file::{SettingsFile, read};
 use std::alloc::Global;
@@ -98,8 +98,12 @@ fn serve_twice<R: Clock + Net<Listener = TcpListener, Stream = TcpStream>>(
         let Some(link) = links.open() else {
             return Ok(());
         };
-        let mut link = link.map_err(DemoFault::Link)?;
-        market.serve(most, &mut link.reader, &mut link.writer)?;
+        let Opened {
+            mut reader,
+            mut writer,
+            ..
+        } = link.map_err(DemoFault::Link)?;
+        market.serve(most, &mut reader, &mut writer)?;
     }
     Ok(())
 }

@@ -3,7 +3,7 @@
 use gate_events::{PortFault, PortNumber};
 use gateway_demo::{Client, DemoFault, Market, Order, connected, loopback};
 use gateway_run::{RunPlan, audit_day, run};
-use link_sockets::{Acceptor, Connector, Opener};
+use link_sockets::{Acceptor, Connector, Opened, Opener};
 use market_book::Choice;
 use settings_file::{SettingsFile, read};
 use std::alloc::Global;
@@ -59,13 +59,17 @@ fn say_nothing_known<R: Clock + Net<Listener = TcpListener, Stream = TcpStream>>
     let Some(link) = links.open() else {
         return Ok(());
     };
-    let mut link = link.map_err(DemoFault::Link)?;
+    let Opened {
+        mut reader,
+        mut writer,
+        ..
+    } = link.map_err(DemoFault::Link)?;
     let mut market = Market::new(alloc, Choice::AcceptLive);
-    market.serve(1, &mut link.reader, &mut link.writer)?;
-    link.writer.write_all(b"\x00\x03S00")?;
+    market.serve(1, &mut reader, &mut writer)?;
+    writer.write_all(b"\x00\x03S00")?;
     let mut piece = [0u8; 64];
     for _ in 0..u64::MAX {
-        if link.reader.read(&mut piece)? == 0 {
+        if reader.read(&mut piece)? == 0 {
             break;
         }
     }
