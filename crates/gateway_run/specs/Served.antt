@@ -17,4 +17,4 @@ abbrev pub AreServed : {P O G C H D : Type 0}
 AreServed reads has_ended opened reader_put reader_taken writer_put writer_taken old served =
     served.fault ≡ None
     → AllZip (LineServed reads has_ended opened reader_put reader_taken writer_put writer_taken true)
-      old served.lines.items
+    old served.lines.items

@@ -75,9 +75,9 @@ where
 #[derive(Drop)]
 struct Serves<P, O, G, E, H, D>(Snapshot<Vec<Line<P, O, Worker<G, E>, Worker<H, D>>>>);
 
-impl<P: Peer, O: Opener, G: Gate, E, H: Gate, D>
-    Promise<Served<Line<P, O, Worker<G, E>, Worker<H, D>>>> for Serves<P, O, G, E, H, D>
-{
+impl<P: Peer, O: Opener, G: Gate, E, H: Gate, D> Promise<
+    Served<Line<P, O, Worker<G, E>, Worker<H, D>>>,
+> for Serves<P, O, G, E, H, D> {
     ghost kept_by = { λ p served. AreServed P.reads O.has_ended O.opened G.was_put G.was_taken H.was_put H.was_taken
         p.0.value.items served };
 }
@@ -132,7 +132,11 @@ where
     thread::scope(
         thread::scope_env(),
         rt,
-        |scope| -> AllServed<Line<P, A, Worker<G, E>, Worker<H, D>>, Line<Q, C, Worker<G, E>, Worker<H, D>>, G>
+        |scope| -> AllServed<
+            Line<P, A, Worker<G, E>, Worker<H, D>>,
+            Line<Q, C, Worker<G, E>, Worker<H, D>>,
+            G,
+        >
             requires clients { CanServe R.row P.row A.row A.Reader.row A.Writer.row A.Closer.row
                 G.row E.row H.row D.row }
             requires ports { CanServe R.row Q.row C.row C.Reader.row C.Writer.row C.Closer.row
