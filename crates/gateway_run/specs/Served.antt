@@ -9,12 +9,12 @@ use Rattle.gate_serving.specs.Lines.{LineServed}
 use Rattle.gateway_run.specs.declared.serving.Served.{Served}
 
 -- Where there was no fault, each line was served to its end, in its place.
-abbrev pub AreServed : {P O G C H D : Type 0}
-    → (P → ℕ → Result Unit LinkFault → List Event → List Event → Option (List ℕ) → Option (List ℕ) → Type 0)
-    → (O → Type 0) → (O → ℕ) → (G → List Event) → (G → List (List LinkOut))
-    → (H → List Event) → (H → List (List LinkOut))
-    → List (Line P O (Worker G C) (Worker H D)) → Served (Line P O (Worker G C) (Worker H D)) → Type 0
-AreServed reads has_ended opened reader_put reader_taken writer_put writer_taken old served =
-    served.fault ≡ None
-    → AllZip (LineServed reads has_ended opened reader_put reader_taken writer_put writer_taken true)
-    old served.lines.items
+pub record AreServed {P O G C H D : Type 0}
+    (reads : P → ℕ → Result Unit LinkFault → List Event → List Event → Option (List ℕ) → Option (List ℕ) → Type 0)
+    (has_ended : O → Type 0) (opened : O → ℕ) (reader_put : G → List Event) (reader_taken : G → List (List LinkOut))
+    (writer_put : H → List Event) (writer_taken : H → List (List LinkOut))
+    (old : List (Line P O (Worker G C) (Worker H D))) (served : Served (Line P O (Worker G C) (Worker H D)))
+    : Type 0 where
+  pub whole : served.fault ≡ None
+      → AllZip (LineServed reads has_ended opened reader_put reader_taken writer_put writer_taken true)
+      old served.lines.items
