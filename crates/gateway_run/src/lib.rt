@@ -8,6 +8,7 @@ mod ends;
 mod fault;
 mod lines;
 mod running;
+mod serving;
 mod telling;
 
 pub use by_settings::run_settings;

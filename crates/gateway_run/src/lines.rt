@@ -2,6 +2,8 @@
 
 ghost use Rattle.std.specs.Prelude.{◌≡◌, None};
 
+use crate::fault::RunFault;
+use crate::serving::Served;
 use desk::{DeskName, Finished, Inlet, Outlet, Shared};
 use desk_gates::{BellClock, InletGate, OutletGate};
 use gate_serving::{Line, LinkFault, Worker};
@@ -85,8 +87,22 @@ impl<K: DeskName> Left<K> {
         Ok(())
     }
 
+    /// Ends the ends of lines, and keeps what was put and taken, and the first fault. Where they weren't served to their
+    /// end it tells why.
+    pub(crate) fn end_served<'a, P: Drop, O: Drop, R>(
+        &mut self,
+        served: Served<DeskLine<'a, P, O, K, R>>,
+    ) -> Result<(), RunFault> {
+        let Served { lines, fault } = served;
+        if let Some(fault) = fault {
+            return Err(RunFault::from(fault));
+        }
+        self.end_lines(lines)?;
+        Ok(())
+    }
+
     /// Ends the ends of lines, and keeps what was put and taken, and the first fault.
-    pub(crate) fn end_lines<'a, P: Drop, O: Drop, R>(
+    fn end_lines<'a, P: Drop, O: Drop, R>(
         &mut self,
         lines: Vec<DeskLine<'a, P, O, K, R>>,
     ) -> Result<(), AllocError> {
