@@ -87,8 +87,8 @@ impl<K: DeskName> Left<K> {
         Ok(())
     }
 
-    /// Ends the ends of lines, and keeps what was put and taken, and the first fault. Where they weren't served to their
-    /// end it tells why.
+    /// Ends the ends of lines, and keeps what was put and taken, and the first fault. Where they weren't served to
+    /// their end it tells why.
     pub(crate) fn end_served<'a, P: Drop, O: Drop, R>(
         &mut self,
         served: Served<DeskLine<'a, P, O, K, R>>,
