@@ -1,14 +1,15 @@
-//! The ends of a desk, as what threads serve.
+//! The ends of a desk, as lines that threads serve.
 
 ghost use Rattle.std.specs.Prelude.{◌≡◌, All};
-ghost use Rattle.gate_events.specs.declared.source.Source.TheVariants as sources;
-ghost use Rattle.gate_events.specs.declared.source.Recipient.TheVariants as recipients;
+ghost use Rattle.gateway_run.specs.Own.{of_gate, recipient_of, source_of};
 
-use crate::lines::{DeskLine, line_of};
+use crate::lines::{Count, RunLine, client_line, clock_line, port_line};
 use desk::{DeskName, Inlet, Outlet, Shared};
 use gate_events::{ClientNumber, PortNumber, Recipient, Source};
+use run_lines::{ClientCounts, CountedLinks};
 use std::alloc::{AllocError, Global};
 use std::sync::Wait;
+use std::sync::atomic::AtomicBool;
 use std::time::Clock;
 
 /// Where the links of a gateway come from: an opener for each client and for each port, in the order of the settings.
@@ -19,24 +20,20 @@ pub struct RunPlan<A, C> {
     pub ports: Vec<C>,
 }
 
-/// The lines of a desk's clients and of its ports, in their order. Its type keeps that each puts the events of its own
-/// client or port, and takes what that is told.
+/// The lines of a desk's clients, of its ports and of its clock, in this order. Its type keeps that each puts the events
+/// of its own client, port or clock, and takes what that is told.
 #[derive(Drop)]
 pub(crate) struct Ends<'a, A, C, K: DeskName, R> {
-    pub(crate) clients: Vec<DeskLine<'a, ClientNumber, A, K, R>>,
-    pub(crate) ports: Vec<DeskLine<'a, PortNumber, C, K, R>>,
-    ghost own_clients: { All (λ l. (l.reader.gate.inlet.source ≡ sources.Client l.peer)
-        × (l.writer.gate.outlet.to ≡ recipients.Client l.peer)) clients.items },
-    ghost own_ports: { All (λ l. (l.reader.gate.inlet.source ≡ sources.Port l.peer)
-        × (l.writer.gate.outlet.to ≡ recipients.Port l.peer)) ports.items },
+    pub(crate) lines: Vec<RunLine<'a, A, C, K, R>>,
+    ghost puts_own: { All (λ l. l.reader.gate.inlet.source ≡ source_of l.peer) lines.items },
+    ghost takes_own: { All (λ l. of_gate (λ g. g.outlet.to) l.writer.gate ≡ recipient_of l.peer) lines.items },
 }
 
 impl<'a, A: Drop, C: Drop, K: DeskName, R: Wait + Clock> Ends<'a, A, C, K, R> {
     /// No line yet.
     fn new(alloc: Global) -> Ends<'a, A, C, K, R> {
         Ends {
-            clients: Vec::new(alloc),
-            ports: Vec::new(alloc),
+            lines: Vec::new(alloc),
         }
     }
 
@@ -45,14 +42,16 @@ impl<'a, A: Drop, C: Drop, K: DeskName, R: Wait + Clock> Ends<'a, A, C, K, R> {
         &mut self,
         rt: &'a R,
         shared: &'a Shared<K>,
-        peer: ClientNumber,
-        opener: A,
+        client: ClientNumber,
+        opener: CountedLinks<'a, A>,
         inlet: Inlet<K>,
         outlet: Outlet<K>,
     ) -> Result<(), AllocError> {
-        if inlet.source() == Source::Client(peer) && outlet.recipient() == Recipient::Client(peer) {
-            let line = line_of(rt, shared, peer, opener, inlet, outlet);
-            self.clients.push(line)?;
+        if inlet.source() == Source::Client(client)
+            && outlet.recipient() == Recipient::Client(client)
+        {
+            let line = client_line(rt, shared, client, opener, inlet, outlet);
+            self.lines.push(line)?;
         }
         Ok(())
     }
@@ -62,14 +61,31 @@ impl<'a, A: Drop, C: Drop, K: DeskName, R: Wait + Clock> Ends<'a, A, C, K, R> {
         &mut self,
         rt: &'a R,
         shared: &'a Shared<K>,
-        peer: PortNumber,
+        port: PortNumber,
         opener: C,
         inlet: Inlet<K>,
         outlet: Outlet<K>,
     ) -> Result<(), AllocError> {
-        if inlet.source() == Source::Port(peer) && outlet.recipient() == Recipient::Port(peer) {
-            let line = line_of(rt, shared, peer, opener, inlet, outlet);
-            self.ports.push(line)?;
+        if inlet.source() == Source::Port(port) && outlet.recipient() == Recipient::Port(port) {
+            let line = port_line(rt, shared, port, opener, inlet, outlet);
+            self.lines.push(line)?;
+        }
+        Ok(())
+    }
+
+    /// Adds the line of the clock over its inlet.
+    pub(crate) fn add_clock(
+        &mut self,
+        rt: &'a R,
+        shared: &'a Shared<K>,
+        count: Count,
+        counts: &'a ClientCounts,
+        is_over: &'a AtomicBool,
+        inlet: Inlet<K>,
+    ) -> Result<(), AllocError> {
+        if inlet.source() == Source::Clock {
+            let line = clock_line(rt, shared, count, counts, is_over, inlet);
+            self.lines.push(line)?;
         }
         Ok(())
     }
@@ -82,21 +98,22 @@ pub(crate) fn ends_of<'a, A: Drop, C: Drop, K: DeskName, R: Wait + Clock>(
     shared: &'a Shared<K>,
     inlets: Vec<Inlet<K>>,
     outlets: Vec<Outlet<K>>,
-    plan: RunPlan<A, C>,
+    clients: Vec<CountedLinks<'a, A>>,
+    ports: Vec<C>,
 ) -> Result<Ends<'a, A, C, K, R>, AllocError> {
-    let mut accepting = plan.clients.into_iter();
-    let mut connecting = plan.ports.into_iter();
+    let mut accepting = clients.into_iter();
+    let mut connecting = ports.into_iter();
     let mut ends = Ends::new(alloc);
     for (inlet, outlet) in inlets.into_iter().zip(outlets) {
         match inlet.source() {
-            Source::Client(peer) => {
+            Source::Client(client) => {
                 if let Some(opener) = accepting.next() {
-                    ends.add_client(rt, shared, peer, opener, inlet, outlet)?;
+                    ends.add_client(rt, shared, client, opener, inlet, outlet)?;
                 }
             }
-            Source::Port(peer) => {
+            Source::Port(port) => {
                 if let Some(opener) = connecting.next() {
-                    ends.add_port(rt, shared, peer, opener, inlet, outlet)?;
+                    ends.add_port(rt, shared, port, opener, inlet, outlet)?;
                 }
             }
             Source::Clock => {}

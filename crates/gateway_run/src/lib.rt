@@ -1,14 +1,14 @@
-//! The gateway as it runs: a desk, a thread for the clock, and for each client's and each port's line the threads that
-//! serve it. It ends when all its clients' links have been served, and gives its day.
+//! The gateway as it runs: a desk, and for each client's, each port's and the clock's line the threads that serve it. It
+//! ends when all its clients' links have been served, and gives its day.
 #![tactic(auto)]
 
 mod by_settings;
+mod clock;
 mod day;
 mod ends;
 mod fault;
 mod lines;
 mod running;
-mod serving;
 mod telling;
 
 pub use by_settings::run_settings;

@@ -1,15 +1,20 @@
 //! The lines of a gateway, over the ends of its desk.
 
-ghost use Rattle.std.specs.Prelude.{◌≡◌, None};
+ghost use Rattle.std.specs.Prelude.{◌≡◌, None, Some};
+ghost use Rattle.gate_events.specs.declared.source.Recipient.TheVariants as recipients;
+ghost use Rattle.gate_events.specs.declared.source.Source.TheVariants as sources;
+ghost use Rattle.gateway_run.specs.Own.{of_gate, recipient_of, source_of};
+ghost use Rattle.run_lines.specs.declared.gate.RunGate.TheVariants as gates;
 
-use crate::fault::RunFault;
-use crate::serving::Served;
+use crate::clock::RunClock;
 use desk::{DeskName, Finished, Inlet, Outlet, Shared};
 use desk_gates::{BellClock, InletGate, OutletGate};
+use gate_events::{ClientNumber, PortNumber};
 use gate_serving::{Line, LinkFault, Worker};
-use link_sockets::SystemClock;
+use run_lines::{ClientCounts, CountedLinks, RunGate, RunOpener, RunPeer, Ticks};
 use std::alloc::{AllocError, Global};
 use std::sync::Wait;
+use std::sync::atomic::AtomicBool;
 use std::time::{Clock, Duration};
 
 /// How many steps a worker makes of one link at most.
@@ -20,43 +25,128 @@ fn pause() -> Duration {
     Duration::from_millis(1)
 }
 
-/// A reader's worker over an inlet.
-pub(crate) type Reading<'a, K, R> = Worker<InletGate<'a, K>, SystemClock<'a, R>>;
+/// How long lies between two rounds of ticks.
+fn between_ticks() -> Duration {
+    Duration::from_millis(100)
+}
 
-/// A writer's worker over an outlet.
-pub(crate) type Writing<'a, K, R> = Worker<OutletGate<'a, K>, BellClock<'a, K, R>>;
+/// A reader's worker over an inlet.
+pub(crate) type Reading<'a, K, R> = Worker<InletGate<'a, K>, RunClock<'a, R>>;
+
+/// A writer's worker over an outlet; that of the clock has none.
+pub(crate) type Writing<'a, K, R> = Worker<RunGate<OutletGate<'a, K>>, BellClock<'a, K, R>>;
 
 /// A line of a gateway.
-pub(crate) type DeskLine<'a, P, O, K, R> = Line<P, O, Reading<'a, K, R>, Writing<'a, K, R>>;
+pub(crate) type RunLine<'a, A, C, K, R> = Line<
+    RunPeer<'a>,
+    RunOpener<CountedLinks<'a, A>, C>,
+    Reading<'a, K, R>,
+    Writing<'a, K, R>,
+>;
 
-/// A line over these ends.
-pub(crate) fn line_of<'a, P, O, K: DeskName, R: Wait + Clock>(
+/// How many clients and ports there are.
+#[derive(Clone, Copy)]
+pub(crate) struct Count {
+    pub(crate) clients: u16,
+    pub(crate) ports: u16,
+}
+
+/// The line of a client over these ends.
+pub(crate) fn client_line<'a, A, C, K: DeskName, R: Wait + Clock>(
     rt: &'a R,
     shared: &'a Shared<K>,
-    peer: P,
-    opener: O,
+    client: ClientNumber,
+    opener: CountedLinks<'a, A>,
     inlet: Inlet<K>,
     outlet: Outlet<K>,
-) -> DeskLine<'a, P, O, K, R>
-    ensures peer { result.peer ≡ peer }
-    ensures opener { result.opener ≡ opener }
+) -> RunLine<'a, A, C, K, R>
+    ensures peer { source_of result.peer ≡ sources.Client client }
+    ensures told { recipient_of result.peer ≡ Some (recipients.Client client) }
     ensures inlet { result.reader.gate.inlet ≡ inlet }
-    ensures outlet { result.writer.gate.outlet ≡ outlet }
+    ensures outlet { of_gate (λ g. g.outlet.to) result.writer.gate ≡ Some outlet.to }
     ensures fault { result.fault ≡ None }
 {
     let at = outlet.position();
     Line {
-        peer,
+        peer: RunPeer::Client(client),
         steps: STEPS,
         fault: None,
-        opener,
+        opener: RunOpener::Client(opener),
         reader: Worker {
             gate: InletGate::new(shared, inlet),
-            clock: SystemClock::new(rt, pause()),
+            clock: RunClock::new(rt, pause()),
         },
         writer: Worker {
-            gate: OutletGate::new(shared, outlet),
+            gate: RunGate::Gate(OutletGate::new(shared, outlet)),
             clock: BellClock::new(rt, shared, at, pause()),
+        },
+    }
+}
+
+/// The line of a port over these ends.
+pub(crate) fn port_line<'a, A, C, K: DeskName, R: Wait + Clock>(
+    rt: &'a R,
+    shared: &'a Shared<K>,
+    port: PortNumber,
+    opener: C,
+    inlet: Inlet<K>,
+    outlet: Outlet<K>,
+) -> RunLine<'a, A, C, K, R>
+    ensures peer { source_of result.peer ≡ sources.Port port }
+    ensures told { recipient_of result.peer ≡ Some (recipients.Port port) }
+    ensures inlet { result.reader.gate.inlet ≡ inlet }
+    ensures outlet { of_gate (λ g. g.outlet.to) result.writer.gate ≡ Some outlet.to }
+    ensures fault { result.fault ≡ None }
+{
+    let at = outlet.position();
+    Line {
+        peer: RunPeer::Port(port),
+        steps: STEPS,
+        fault: None,
+        opener: RunOpener::Port(opener),
+        reader: Worker {
+            gate: InletGate::new(shared, inlet),
+            clock: RunClock::new(rt, pause()),
+        },
+        writer: Worker {
+            gate: RunGate::Gate(OutletGate::new(shared, outlet)),
+            clock: BellClock::new(rt, shared, at, pause()),
+        },
+    }
+}
+
+/// The line of the clock over its inlet, with one link, on which time passes until `is_over` is set.
+pub(crate) fn clock_line<'a, A, C, K: DeskName, R: Wait + Clock>(
+    rt: &'a R,
+    shared: &'a Shared<K>,
+    count: Count,
+    counts: &'a ClientCounts,
+    is_over: &'a AtomicBool,
+    inlet: Inlet<K>,
+) -> RunLine<'a, A, C, K, R>
+    ensures peer { source_of result.peer ≡ sources.Clock }
+    ensures told { recipient_of result.peer ≡ None }
+    ensures inlet { result.reader.gate.inlet ≡ inlet }
+    ensures nothing { result.writer.gate ≡ gates.Nothing }
+    ensures fault { result.fault ≡ None }
+{
+    let Count { clients, ports } = count;
+    Line {
+        peer: RunPeer::Clock(Ticks {
+            clients,
+            ports,
+            is_over,
+        }),
+        steps: 1,
+        fault: None,
+        opener: RunOpener::Clock(true),
+        reader: Worker {
+            gate: InletGate::new(shared, inlet),
+            clock: RunClock::watching(rt, between_ticks(), counts, is_over),
+        },
+        writer: Worker {
+            gate: RunGate::Nothing,
+            clock: BellClock::new(rt, shared, 0, pause()),
         },
     }
 }
@@ -72,7 +162,7 @@ pub(crate) struct Left<K: DeskName> {
 
 impl<K: DeskName> Left<K> {
     /// Nothing yet.
-    pub(crate) fn new(alloc: Global) -> Left<K> {
+    fn new(alloc: Global) -> Left<K> {
         Left {
             finished: Vec::new(alloc),
             fault: None,
@@ -80,43 +170,41 @@ impl<K: DeskName> Left<K> {
     }
 
     /// Ends the inlet of a gate, and keeps what was put.
-    pub(crate) fn end_inlet(&mut self, gate: InletGate<'_, K>) -> Result<(), AllocError> {
+    fn end_inlet(&mut self, gate: InletGate<'_, K>) -> Result<(), AllocError> {
         if let Some(put) = gate.finish() {
             self.finished.push(put)?;
         }
         Ok(())
     }
 
-    /// Ends the ends of lines, and keeps what was put and taken, and the first fault. Where they weren't served to their
-    /// end it tells why.
-    pub(crate) fn end_served<'a, P: Drop, O: Drop, R>(
-        &mut self,
-        served: Served<DeskLine<'a, P, O, K, R>>,
-    ) -> Result<(), RunFault> {
-        let Served { lines, fault } = served;
-        if let Some(fault) = fault {
-            return Err(RunFault::from(fault));
+    /// Ends the outlet of a gate, where it has one, and keeps what was taken.
+    fn end_outlet(&mut self, gate: RunGate<OutletGate<'_, K>>) -> Result<(), AllocError> {
+        match gate {
+            RunGate::Gate(gate) => {
+                self.finished.push(gate.finish())?;
+                Ok(())
+            }
+            RunGate::Nothing => Ok(()),
         }
-        self.end_lines(lines)?;
-        Ok(())
     }
+}
 
-    /// Ends the ends of lines, and keeps what was put and taken, and the first fault.
-    fn end_lines<'a, P: Drop, O: Drop, R>(
-        &mut self,
-        lines: Vec<DeskLine<'a, P, O, K, R>>,
-    ) -> Result<(), AllocError> {
-        for line in lines {
-            let Line {
-                fault,
-                reader,
-                writer,
-                ..
-            } = line;
-            self.end_inlet(reader.gate)?;
-            self.finished.push(writer.gate.finish())?;
-            self.fault = self.fault.or(fault);
-        }
-        Ok(())
+/// What is left of lines: ends their ends, and keeps what was put and taken, and the first fault.
+pub(crate) fn left_of<'a, A: Drop, C: Drop, K: DeskName, R>(
+    alloc: Global,
+    lines: Vec<RunLine<'a, A, C, K, R>>,
+) -> Result<Left<K>, AllocError> {
+    let mut left = Left::new(alloc);
+    for line in lines {
+        let Line {
+            fault,
+            reader,
+            writer,
+            ..
+        } = line;
+        left.end_inlet(reader.gate)?;
+        left.end_outlet(writer.gate)?;
+        left.fault = left.fault.or(fault);
     }
+    Ok(left)
 }

@@ -5,14 +5,12 @@ ghost use Rattle.std.specs.Prelude.{◌≡◌, ◌<◌, length};
 use crate::day::Day;
 use crate::ends::{Ends, RunPlan, ends_of};
 use crate::fault::RunFault;
-use crate::lines::{DeskLine, Left};
-use crate::serving::{AllServed, Count, Served, serve_beside};
+use crate::lines::{Count, Left, left_of};
 use desk::{DeskName, Inlet, Outlet, Parts, Shared, open_desk};
-use desk_gates::InletGate;
 use gate_core::Settings;
-use gate_events::{ClientNumber, PortNumber};
-use gate_serving::{Closer, Opener};
-use std::alloc::Global;
+use gate_serving::{Closer, Opener, serve};
+use run_lines::{ClientCounts, CountedLinks};
+use std::alloc::{AllocError, Global};
 use std::io::{Read, Write};
 use std::marker::Brand;
 use std::sync::Wait;
@@ -74,20 +72,24 @@ where
     requires clock { 0 < length parts.inlets }
 {
     let (shared, inlets, outlets) = open_desk::<K>(alloc, parts)?;
-    let left = serve_desk(rt, alloc, count, &shared, inlets, outlets, plan, is_over)?;
+    let counts = ClientCounts::of(plan.clients.len().min(usize::from(count.clients)) as u32);
+    let left = serve_desk(
+        rt, alloc, count, &shared, &counts, inlets, outlets, plan, is_over,
+    )?;
     let Ok(closed) = shared.close(alloc, left.finished) else {
         return Err(RunFault::NoMemory);
     };
     Ok(Day::new(closed.history, closed.settings, left.fault))
 }
 
-/// Serves the ends of a desk while the clock, the last inlet, ticks, until the clients' links have been served, and
-/// ends them.
+/// Serves the ends of a desk, the last inlet being the clock's, until the clients' links have been served, and ends
+/// them.
 fn serve_desk<'a, K, R, A, C>(
     rt: &'a R,
     alloc: Global,
     count: Count,
     shared: &'a Shared<K>,
+    counts: &'a ClientCounts,
     inlets: Vec<Inlet<K>>,
     outlets: Vec<Outlet<K>>,
     plan: RunPlan<A, C>,
@@ -110,33 +112,27 @@ where
     let Some(clock) = inlets.pop() else {
         unreachable!()
     };
-    let clock = InletGate::new(shared, clock);
-    let Ends { clients, ports, .. } = ends_of(rt, alloc, shared, inlets, outlets, plan)?;
-    let served = serve_beside(rt, alloc, count, clients, ports, clock, is_over);
-    left_of(alloc, served)
+    let RunPlan { clients, ports } = plan;
+    let clients = counted(alloc, clients, counts, is_over)?;
+    let mut ends = ends_of(rt, alloc, shared, inlets, outlets, clients, ports)?;
+    ends.add_clock(rt, shared, count, counts, is_over, clock)?;
+    let Ends { lines, .. } = ends;
+    match serve(rt, alloc, lines) {
+        Ok(lines) => Ok(left_of(alloc, lines)?),
+        Err((fault, _)) => Err(RunFault::from(fault)),
+    }
 }
 
-/// What is left of the clock's gate and of lines that were served to their end, or why they weren't.
-fn left_of<'a, A: Drop, C: Drop, K: DeskName, R>(
+/// The links of clients, counted.
+fn counted<'a, A: Drop>(
     alloc: Global,
-    served: AllServed<
-        DeskLine<'a, ClientNumber, A, K, R>,
-        DeskLine<'a, PortNumber, C, K, R>,
-        InletGate<'a, K>,
-    >,
-) -> Result<Left<K>, RunFault> {
-    let AllServed {
-        clients,
-        ports,
-        clock,
-        is_ticked,
-    } = served;
-    if !is_ticked {
-        return Err(RunFault::NoThread);
+    openers: Vec<A>,
+    counts: &'a ClientCounts,
+    is_over: &'a AtomicBool,
+) -> Result<Vec<CountedLinks<'a, A>>, AllocError> {
+    let mut links = Vec::with_capacity(alloc, openers.len())?;
+    for opener in openers {
+        links.push(CountedLinks::new(opener, counts, is_over))?;
     }
-    let mut left = Left::new(alloc);
-    left.end_inlet(clock)?;
-    left.end_served(clients)?;
-    left.end_served(ports)?;
-    Ok(left)
+    Ok(links)
 }
