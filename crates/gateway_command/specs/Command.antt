@@ -1,25 +1,38 @@
--- The command line of `gateway`: `audit --script FILE`, and nothing else but a call for help.
-use Rattle.std.specs.Prelude.{◌≡◌, refl, true, List, [], ◌∷◌, Option, Some, None, codes, if◌then◌else◌, option_and_then}
+-- The command line of `gateway`: `audit --script FILE`, `run --settings FILE [--links N]`, `demo`, and nothing else but
+-- a call for help.
+use Rattle.std.specs.Prelude.{ℕ, true, List, Option, Some, None, codes, if◌then◌else◌, option_and_then, option_map, nat_le, ◌&&◌}
+use Rattle.std.specs.Char.{is_ascii_digit}
+use Rattle.std.specs.List.{list_all}
 use Rattle.std.specs.Str.{bytes_eq}
+use Rattle.decimal_digits.specs.Digits.{number_of}
 use Rattle.clap.specs.Simple.{new_shape}
 use Rattle.clap.specs.Words.{App, Row, Rule, Text, Kinds, fault_of, first_of, new_app, new_rule, subcommand_of}
 use Rattle.clap.specs.Words.{with_rule, with_subcommand}
 use Rattle.clap.specs.declared.builder.action.ArgAction.TheVariants.{Set}
-use Rattle.clap.specs.declared.error.kind.ErrorKind.TheVariants as kind
-use Rattle.clap.proofs.OnLiterals.{clap_on_literals}
 
--- `--script FILE`
-abbrev pub script_rule : Rule
-script_rule = record (new_rule (codes "script")) {
-  long = Some (codes "script");
+-- an option with a value, as `--script FILE`
+abbrev pub value_rule : Text → Rule
+value_rule name = record (new_rule name) {
+  long = Some name;
   action = Some Set;
   value_names = 1;
-  required = true;
 }
+
+-- the same, where it has to be given
+abbrev pub required_rule : Text → Rule
+required_rule name = record (value_rule name) { required = true }
 
 -- `audit --script FILE`
 abbrev pub audit : App
-audit = with_rule (new_app (codes "audit")) script_rule
+audit = with_rule (new_app (codes "audit")) (required_rule (codes "script"))
+
+-- `run --settings FILE [--links N]`
+abbrev pub run : App
+run = with_rule (with_rule (new_app (codes "run")) (required_rule (codes "settings"))) (value_rule (codes "links"))
+
+-- `demo`
+abbrev pub demo : App
+demo = new_app (codes "demo")
 
 -- `gateway`, which nothing may follow but a subcommand; alone it asks for help
 abbrev pub alone : App
@@ -28,9 +41,9 @@ alone = record (new_app (codes "gateway")) {
       (new_shape (codes "gateway")) { subcommand_required = true; arg_required_else_help = true };
 }
 
--- `gateway audit --script FILE`
+-- `gateway` with its subcommands
 abbrev pub gateway : App
-gateway = with_subcommand alone audit.top
+gateway = with_subcommand (with_subcommand (with_subcommand alone run.top) demo.top) audit.top
 
 -- the subcommand that `clap` finds in the words of a command line, with its arguments, and why it refuses them
 unfoldable pub gateway_found : List Text → Option (Text × List Row)
@@ -39,74 +52,39 @@ gateway_found words = subcommand_of gateway words
 unfoldable pub gateway_faults : List Text → Kinds
 gateway_faults words = fault_of gateway words
 
--- the file of `audit --script FILE`, by the subcommand that was found
-abbrev pub script_in : Option (Text × List Row) → Option Text
-script_in = option_and_then (λ p. if bytes_eq p.0 (codes "audit") then first_of (codes "script") p.1 else None)
+-- what a command line asks for: the audit of a script's file; a gateway by the settings in a file, with so many links;
+-- or the demonstration
+pub data Asking : Type 0 where
+  Audits : (script : Text) → Asking
+  Runs : (settings : Text) (links : Option Text) → Asking
+  Demonstrates : Asking
 
--- the file of the script that the words ask to be audited
-abbrev pub script_of : List Text → Option Text
-script_of words = script_in (gateway_found words)
+-- what a subcommand asks for, by its name and its arguments
+abbrev pub audit_asked : List Row → Option Asking
+audit_asked rows = option_map Audits (first_of (codes "script") rows)
 
--- Computed: the file in both forms, and what is refused.
-abbrev line : List Text → List Text
-line words = codes "gateway" ∷ words
+abbrev pub run_asked : List Row → Option Asking
+run_asked rows = option_map (λ (file : Text). Runs file (first_of (codes "links") rows)) (first_of (codes "settings") rows)
 
-abbrev Audits : List Text → Text → Type 0
-Audits words file = (script_of (line words) ≡ Some file) × (gateway_faults (line words) ≡ [])
+unfoldable pub asked_by : Text → List Row → Option Asking
+asked_by name rows =
+    if bytes_eq name (codes "audit") then audit_asked rows
+    else if bytes_eq name (codes "run") then run_asked rows
+    else if bytes_eq name (codes "demo") then Some Demonstrates
+    else None
 
-abbrev Refuses : List Text → Kinds → Type 0
-Refuses words kinds = gateway_faults (line words) ≡ kinds
+abbrev pub asked_in : Option (Text × List Row) → Option Asking
+asked_in = option_and_then (λ p. asked_by p.0 p.1)
 
-a_script : Audits (codes "audit" ∷ codes "--script" ∷ codes "a.script" ∷ []) (codes "a.script")
-unfolding clap_on_literals gateway_found gateway_faults
-a_script = (refl, refl)
+-- what the words ask for
+abbrev pub asked_of : List Text → Option Asking
+asked_of words = asked_in (gateway_found words)
 
-in_one_word : Audits (codes "audit" ∷ codes "--script=a.script" ∷ []) (codes "a.script")
-unfolding clap_on_literals gateway_found gateway_faults
-in_one_word = (refl, refl)
+-- how many links of each client are served: digits, for 1 to 1,000; 1 where nothing is said
+abbrev pub links_in : Text → Option ℕ
+links_in digits =
+    if list_all is_ascii_digit digits && nat_le 1 (number_of digits) && nat_le (number_of digits) 1000 then Some (number_of digits) else None
 
-a_missing_file : Refuses (codes "audit" ∷ codes "--script" ∷ []) (kind.InvalidValue ∷ [])
-unfolding clap_on_literals gateway_faults
-a_missing_file = refl
-
-no_option : Refuses (codes "audit" ∷ []) (kind.MissingRequiredArgument ∷ [])
-unfolding clap_on_literals gateway_faults
-no_option = refl
-
-no_subcommand : Refuses [] (kind.DisplayHelpOnMissingArgumentOrSubcommand ∷ [])
-unfolding clap_on_literals gateway_faults
-no_subcommand = refl
-
-another_option : Refuses (codes "audit" ∷ codes "--file" ∷ codes "a.script" ∷ []) (kind.UnknownArgument ∷ [])
-unfolding clap_on_literals gateway_faults
-another_option = refl
-
-twice : Refuses (codes "audit" ∷ codes "--script" ∷ codes "a" ∷ codes "--script" ∷ codes "b" ∷ [])
-    (kind.ArgumentConflict ∷ [])
-unfolding clap_on_literals gateway_faults
-twice = refl
-
-a_second_file : Refuses (codes "audit" ∷ codes "--script" ∷ codes "a" ∷ codes "b" ∷ []) (kind.UnknownArgument ∷ [])
-unfolding clap_on_literals gateway_faults
-a_second_file = refl
-
-another_subcommand : Refuses (codes "audits" ∷ codes "--script" ∷ codes "a" ∷ [])
-    (kind.UnknownArgument ∷ kind.InvalidSubcommand ∷ [])
-unfolding clap_on_literals gateway_faults
-another_subcommand = refl
-
-without_subcommand : Refuses (codes "--script" ∷ codes "a" ∷ []) (kind.UnknownArgument ∷ [])
-unfolding clap_on_literals gateway_faults
-without_subcommand = refl
-
-help_of_gateway : Refuses (codes "--help" ∷ []) (kind.DisplayHelp ∷ [])
-unfolding clap_on_literals gateway_faults
-help_of_gateway = refl
-
-help_of_audit : Refuses (codes "audit" ∷ codes "--help" ∷ []) (kind.DisplayHelp ∷ [])
-unfolding clap_on_literals gateway_faults
-help_of_audit = refl
-
-help_as_subcommand : Refuses (codes "help" ∷ codes "audit" ∷ []) (kind.DisplayHelp ∷ kind.InvalidSubcommand ∷ [])
-unfolding clap_on_literals gateway_faults
-help_as_subcommand = refl
+unfoldable pub links_of : Option Text → Option ℕ
+links_of None = Some 1
+links_of (Some digits) = links_in digits

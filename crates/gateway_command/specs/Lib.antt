@@ -1,1 +1,3 @@
 pub mod Command
+mod Examples
+pub mod Seen

@@ -1,40 +1,27 @@
 //! The command line of `gateway`, as `clap` reads it.
 
-ghost use Rattle.std.specs.Prelude.{◌≡◌, IfOk, map, option_map};
-ghost use Rattle.clap.specs.Words.{FailsBy, app_of, subcommand_rows_of};
+ghost use Rattle.std.specs.Prelude.{◌≡◌, false, IfOk, map, option_map};
+ghost use Rattle.clap.specs.Words.{FailsBy, app_of, first_of, found_of, rows_of, rule_of, subcommand_rows_of};
+ghost use Rattle.clap.specs.declared.builder.command.Command.{out-Command as fields_of};
 ghost use Rattle.gateway_command.specs.Command as spec;
+ghost use Rattle.gateway_command.specs.Seen.{asked_seen};
 
+use crate::asking::Asked;
+use crate::help::{AUDIT, DEMO, RUN};
 use clap::{Arg, ArgAction, ArgMatches, Command, Error};
 use std::alloc::{AllocError, Global};
 use std::convert::AsStr;
 
-/// What stands below the list of options in the help of `gateway audit`.
-const EXAMPLE: &str = "\
-A script says all that happens, an event a line (gate_script --help has the lines). Each order that was accepted
-is one line of the audit, with what its client read of it in the FIX reports, and whether that is what the market said:
-
-  $ cat day.script
-  C1 msg 35=D|11=A1|54=1|55=INTC|38=300|40=2|44=23.45
-  P1 A 1 B 300 INTC 234500 99998 L
-  P1 E 1 300 234500 1
-  $ gateway audit --script day.script
-  C1 A1 side 1 executed 300 open 0 cancelled 0 value 70350000 agree
-  orders 1 agree 1
-
-Values are in 1/10,000. The status is 0 where all orders agree, 1 where one doesn't, where memory runs out or a
-read or write fails, 2 at a line that isn't understood or a file that can't be read.";
-
-/// The file of the script that a command line asks to be audited, `gateway audit --script FILE`; its first word is
-/// the program's name.
+/// What a command line asks for; its first word is the program's name.
 ///
 /// An error tells why the command line is refused, or is the help that it asks for, or says that memory ran out.
-/// `None` isn't answered: the subcommand and its file are required.
-pub fn audit_path<'a, S: AsStr>(alloc: Global, words: &'a [S]) -> Result<Option<&'a str>, Error>
-    ensures script { IfOk result (λ path. option_map (λ text. text.now) path ≡ spec.script_of (map S.text words.now)) }
+/// `None` isn't answered: a subcommand and what it needs are required.
+pub fn asked<'a, S: AsStr>(alloc: Global, words: &'a [S]) -> Result<Option<Asked<'a>>, Error>
+    ensures asked { IfOk result (λ asked. option_map asked_seen asked ≡ spec.asked_of (map S.text words.now)) }
     ensures refused { FailsBy (spec.gateway_faults (map S.text words.now)) result }
 {
     let matches = matches_of(alloc, words)?;
-    Ok(script_in(&matches))
+    Ok(asked_in(&matches))
 }
 
 /// What `clap` finds in the words.
@@ -46,35 +33,131 @@ fn matches_of<'a, S: AsStr>(alloc: Global, words: &'a [S]) -> Result<ArgMatches<
     command.try_get_matches_from(words)
 }
 
-/// The file of `audit --script FILE`.
-fn script_in<'a>(matches: &ArgMatches<'a>) -> Option<&'a str>
-    ensures { option_map (λ text. text.now) result ≡ spec.script_in (subcommand_rows_of matches.now) }
+/// What was found asks for.
+fn asked_in<'a>(matches: &ArgMatches<'a>) -> Option<Asked<'a>>
+    ensures { option_map asked_seen result ≡ spec.asked_in (subcommand_rows_of matches.now) }
 {
-    match matches.subcommand_matches("audit") {
-        Some(audit) => audit.get_str("script"),
+    match matches.subcommand() {
+        Some((name, found)) => asked_by(name, found),
         None => None,
     }
 }
 
-/// `gateway audit --script FILE`.
-fn gateway<'a>(alloc: Global) -> Result<Command<'a>, AllocError>
-    ensures { IfOk result (λ command. app_of command ≡ spec.gateway) }
+/// What a subcommand asks for.
+fn asked_by<'a>(name: &str, found: &ArgMatches<'a>) -> Option<Asked<'a>>
+    ensures { option_map asked_seen result ≡ spec.asked_by name.now (rows_of (found_of found.now)) }
 {
-    let script = Arg::new(alloc, "script")
-        .long("script")
-        .value_name("FILE")
+    match name {
+        "audit" => audit_asked(found),
+        "run" => run_asked(found),
+        "demo" => Some(Asked::Demo),
+        _ => None,
+    }
+}
+
+/// What `audit` asks for.
+fn audit_asked<'a>(found: &ArgMatches<'a>) -> Option<Asked<'a>>
+    ensures { option_map asked_seen result ≡ spec.audit_asked (rows_of (found_of found.now)) }
+{
+    match value_of(found, "script") {
+        Some(script) => Some(Asked::Audit(script)),
+        None => None,
+    }
+}
+
+/// What `run` asks for.
+fn run_asked<'a>(found: &ArgMatches<'a>) -> Option<Asked<'a>>
+    ensures { option_map asked_seen result ≡ spec.run_asked (rows_of (found_of found.now)) }
+{
+    match value_of(found, "settings") {
+        Some(settings) => Some(Asked::Run(settings, value_of(found, "links"))),
+        None => None,
+    }
+}
+
+/// The value of an option.
+fn value_of<'a>(found: &ArgMatches<'a>, name: &str) -> Option<&'a str>
+    ensures { option_map (λ text. text.now) result ≡ first_of name.now (rows_of (found_of found.now)) }
+{
+    found.get_str(name)
+}
+
+/// An option with a value.
+fn option<'a>(alloc: Global, name: &'a str, value: &'a str, help: &'a str) -> Arg<'a>
+    ensures rule { rule_of result ≡ spec.value_rule name.now }
+    ensures own { result.global ≡ false }
+{
+    Arg::new(alloc, name)
+        .long(name)
+        .value_name(value)
+        .action(ArgAction::Set)
+        .help(help)
+}
+
+/// The same, where it has to be given.
+fn required<'a>(alloc: Global, name: &'a str, value: &'a str, help: &'a str) -> Arg<'a>
+    ensures rule { rule_of result ≡ spec.required_rule name.now }
+    ensures own { result.global ≡ false }
+{
+    Arg::new(alloc, name)
+        .long(name)
+        .value_name(value)
         .required(true)
         .action(ArgAction::Set)
-        .help("The script");
-    let audit = Command::new(alloc, "audit")
+        .help(help)
+}
+
+/// `audit --script FILE`.
+fn audit<'a>(alloc: Global) -> Result<Command<'a>, AllocError>
+    ensures app { IfOk result (λ command. app_of command ≡ spec.audit) }
+    ensures own { IfOk result (λ command. (fields_of command).has_globals ≡ false) }
+{
+    Command::new(alloc, "audit")
         .about(
             "Runs a script without its outputs, and prints each accepted order by both of its accounts",
         )
-        .after_help(EXAMPLE)
-        .arg(script)?;
+        .after_help(AUDIT)
+        .arg(required(alloc, "script", "FILE", "The script"))
+}
+
+/// `run --settings FILE [--links N]`.
+fn run<'a>(alloc: Global) -> Result<Command<'a>, AllocError>
+    ensures app { IfOk result (λ command. app_of command ≡ spec.run) }
+    ensures own { IfOk result (λ command. (fields_of command).has_globals ≡ false) }
+{
+    let links = option(
+        alloc,
+        "links",
+        "N",
+        "How many links of each client are served, one after the other: 1 to 1000, or 1",
+    );
+    let settings = required(alloc, "settings", "FILE", "The settings, in TOML");
+    let with_settings = Command::new(alloc, "run")
+        .about("Serves the clients and connects the ports that its settings name")
+        .after_help(RUN)
+        .arg(settings)?;
+    with_settings.arg(links)
+}
+
+/// `demo`.
+fn demo<'a>(alloc: Global) -> Command<'a>
+    ensures app { app_of result ≡ spec.demo }
+    ensures own { (fields_of result).has_globals ≡ false }
+{
+    Command::new(alloc, "demo")
+        .about("Shows a gateway between two clients and a simulated market, on loopback")
+        .after_help(DEMO)
+}
+
+/// `gateway` with its subcommands.
+fn gateway<'a>(alloc: Global) -> Result<Command<'a>, AllocError>
+    ensures { IfOk result (λ command. app_of command ≡ spec.gateway) }
+{
     let alone = Command::new(alloc, "gateway")
         .about("The order gateway: FIX 4.4 clients, OUCH 4.2 market ports")
         .subcommand_required(true)
         .arg_required_else_help(true);
-    alone.subcommand(audit)
+    let with_run = alone.subcommand(run(alloc)?)?;
+    let with_demo = with_run.subcommand(demo(alloc))?;
+    with_demo.subcommand(audit(alloc)?)
 }

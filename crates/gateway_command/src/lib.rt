@@ -1,6 +1,9 @@
 //! The command line of `gateway`.
 #![tactic(auto)]
 
+mod asking;
 mod command;
+mod help;
 
-pub use command::audit_path;
+pub use asking::{Asked, links_of};
+pub use command::asked;

@@ -1,0 +1,123 @@
+-- Computed: what command lines ask for, and which are refused.
+use Rattle.std.specs.Prelude.{◌≡◌, refl, List, [], ◌∷◌, Some, None, codes}
+use Rattle.clap.specs.Words.{Text, Kinds}
+use Rattle.clap.specs.declared.error.kind.ErrorKind.TheVariants as kind
+use Rattle.clap.proofs.OnLiterals.{clap_on_literals}
+use Rattle.gateway_command.specs.Command.{Asking, Audits, Runs, Demonstrates, asked_by, asked_of, gateway_found, gateway_faults, links_of}
+
+abbrev line : List Text → List Text
+line words = codes "gateway" ∷ words
+
+abbrev Asks : List Text → Asking → Type 0
+Asks words asking = (asked_of (line words) ≡ Some asking) × (gateway_faults (line words) ≡ [])
+
+abbrev Refuses : List Text → Kinds → Type 0
+Refuses words kinds = gateway_faults (line words) ≡ kinds
+
+a_script : Asks (codes "audit" ∷ codes "--script" ∷ codes "a.script" ∷ []) (Audits (codes "a.script"))
+unfolding clap_on_literals gateway_found gateway_faults asked_by
+a_script = (refl, refl)
+
+in_one_word : Asks (codes "audit" ∷ codes "--script=a.script" ∷ []) (Audits (codes "a.script"))
+unfolding clap_on_literals gateway_found gateway_faults asked_by
+in_one_word = (refl, refl)
+
+a_gateway : Asks (codes "run" ∷ codes "--settings" ∷ codes "a.toml" ∷ []) (Runs (codes "a.toml") None)
+unfolding clap_on_literals gateway_found gateway_faults asked_by
+a_gateway = (refl, refl)
+
+a_gateway_of_two_links : Asks (codes "run" ∷ codes "--links" ∷ codes "2" ∷ codes "--settings" ∷ codes "a.toml" ∷ [])
+    (Runs (codes "a.toml") (Some (codes "2")))
+unfolding clap_on_literals gateway_found gateway_faults asked_by
+a_gateway_of_two_links = (refl, refl)
+
+a_demonstration : Asks (codes "demo" ∷ []) Demonstrates
+unfolding clap_on_literals gateway_found gateway_faults asked_by
+a_demonstration = (refl, refl)
+
+a_missing_file : Refuses (codes "audit" ∷ codes "--script" ∷ []) (kind.InvalidValue ∷ [])
+unfolding clap_on_literals gateway_faults
+a_missing_file = refl
+
+no_option : Refuses (codes "audit" ∷ []) (kind.MissingRequiredArgument ∷ [])
+unfolding clap_on_literals gateway_faults
+no_option = refl
+
+no_settings : Refuses (codes "run" ∷ codes "--links" ∷ codes "2" ∷ []) (kind.MissingRequiredArgument ∷ [])
+unfolding clap_on_literals gateway_faults
+no_settings = refl
+
+no_subcommand : Refuses [] (kind.DisplayHelpOnMissingArgumentOrSubcommand ∷ [])
+unfolding clap_on_literals gateway_faults
+no_subcommand = refl
+
+another_option : Refuses (codes "audit" ∷ codes "--file" ∷ codes "a.script" ∷ []) (kind.UnknownArgument ∷ [])
+unfolding clap_on_literals gateway_faults
+another_option = refl
+
+a_demonstration_of_a_file : Refuses (codes "demo" ∷ codes "a.toml" ∷ []) (kind.UnknownArgument ∷ [])
+unfolding clap_on_literals gateway_faults
+a_demonstration_of_a_file = refl
+
+twice : Refuses (codes "audit" ∷ codes "--script" ∷ codes "a" ∷ codes "--script" ∷ codes "b" ∷ [])
+    (kind.ArgumentConflict ∷ [])
+unfolding clap_on_literals gateway_faults
+twice = refl
+
+a_second_file : Refuses (codes "audit" ∷ codes "--script" ∷ codes "a" ∷ codes "b" ∷ []) (kind.UnknownArgument ∷ [])
+unfolding clap_on_literals gateway_faults
+a_second_file = refl
+
+another_subcommand : Refuses (codes "audits" ∷ codes "--script" ∷ codes "a" ∷ [])
+    (kind.UnknownArgument ∷ kind.InvalidSubcommand ∷ [])
+unfolding clap_on_literals gateway_faults
+another_subcommand = refl
+
+without_subcommand : Refuses (codes "--script" ∷ codes "a" ∷ []) (kind.UnknownArgument ∷ [])
+unfolding clap_on_literals gateway_faults
+without_subcommand = refl
+
+help_of_gateway : Refuses (codes "--help" ∷ []) (kind.DisplayHelp ∷ [])
+unfolding clap_on_literals gateway_faults
+help_of_gateway = refl
+
+help_of_audit : Refuses (codes "audit" ∷ codes "--help" ∷ []) (kind.DisplayHelp ∷ [])
+unfolding clap_on_literals gateway_faults
+help_of_audit = refl
+
+help_as_subcommand : Refuses (codes "help" ∷ codes "audit" ∷ []) (kind.DisplayHelp ∷ kind.InvalidSubcommand ∷ [])
+unfolding clap_on_literals gateway_faults
+help_as_subcommand = refl
+
+-- links
+one_link_where_nothing_is_said : links_of None ≡ Some 1
+unfolding links_of
+one_link_where_nothing_is_said = refl
+
+the_fewest : links_of (Some (codes "1")) ≡ Some 1
+unfolding links_of
+the_fewest = refl
+
+the_most : links_of (Some (codes "1000")) ≡ Some 1000
+unfolding links_of
+the_most = refl
+
+too_many : links_of (Some (codes "1001")) ≡ None
+unfolding links_of
+too_many = refl
+
+none_at_all : links_of (Some (codes "0")) ≡ None
+unfolding links_of
+none_at_all = refl
+
+no_number : links_of (Some (codes "x")) ≡ None
+unfolding links_of
+no_number = refl
+
+no_digits : links_of (Some []) ≡ None
+unfolding links_of
+no_digits = refl
+
+a_sign : links_of (Some (codes "+1")) ≡ None
+unfolding links_of
+a_sign = refl

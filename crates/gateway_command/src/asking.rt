@@ -1,0 +1,41 @@
+//! What a command line asks for.
+
+ghost use Rattle.std.specs.Prelude.{◌≡◌, option_map};
+ghost use Rattle.gateway_command.specs.Command as spec;
+
+use decimal_digits::{are_digits, number_of};
+
+/// What a command line asks for.
+#[derive(Clone, Copy, Debug, PartialEq, Eq)]
+pub enum Asked<'a> {
+    /// The audit of the script in this file.
+    Audit(&'a str),
+    /// A gateway by the settings in this file, with so many links of each client, as it was said.
+    Run(&'a str, Option<&'a str>),
+    /// The demonstration.
+    Demo,
+}
+
+/// How many links of each client are to be served: digits, for 1 to 1,000, and 1 where nothing is said. `None` of
+/// anything else.
+pub fn links_of(said: Option<&str>) -> Option<u16>
+    ensures { result ≡ spec.links_of (option_map (λ text. text.now) said.entry) }
+{
+    match said {
+        None => Some(1),
+        Some(digits) => links_in(digits.as_bytes()),
+    }
+}
+
+/// The same of what was said.
+fn links_in(digits: &[u8]) -> Option<u16>
+    ensures { result ≡ spec.links_in digits.now }
+{
+    if !are_digits(digits) {
+        return None;
+    }
+    match number_of(digits) {
+        Some(number) if 1 <= number && number <= 1_000 => Some(number as u16),
+        _ => None,
+    }
+}

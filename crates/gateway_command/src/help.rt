@@ -1,0 +1,58 @@
+//! What stands below the options in the help of each subcommand.
+
+/// Of `gateway audit`.
+pub(crate) const AUDIT: &str = "\
+A script says all that happens, an event a line (gate_script --help has the lines). Each order that was accepted
+is one line of the audit, with what its client read of it in the FIX reports, and whether that is what the market said:
+
+  $ cat day.script
+  C1 msg 35=D|11=A1|54=1|55=INTC|38=300|40=2|44=23.45
+  P1 A 1 B 300 INTC 234500 99998 L
+  P1 E 1 300 234500 1
+  $ gateway audit --script day.script
+  C1 A1 side 1 executed 300 open 0 cancelled 0 value 70350000 agree
+  orders 1 agree 1
+
+Values are in 1/10,000. The status is 0 where all orders agree, 1 where one doesn't, where memory runs out or a
+read or write fails, 2 at a line that isn't understood or a file that can't be read.";
+
+/// Of `gateway run`.
+pub(crate) const RUN: &str = "\
+The settings say where each client is listened for, and where each port of the market is connected to:
+
+  $ cat settings.toml
+  comp = \"GATE\"
+  [[port]]
+  name = \"P1\"
+  address = \"127.0.0.1:9001\"
+  user = \"USER01\"
+  password = \"PASSWORD\"
+  [[client]]
+  comp = \"C1\"
+  listen = \"127.0.0.1:9011\"
+  port = \"P1\"
+  firm = \"FIRM\"
+  capacity = \"A\"
+  customer = \"R\"
+  $ gateway run --settings settings.toml --links 3
+  20261126-13:30:00.041 P1 up
+  20261126-13:30:02.310 C1 up
+  20261126-13:41:17.002 C1 gone
+  ..
+
+It ends when each client has connected and gone so often, and then prints the audit of its day, as gateway audit
+does. A port is connected again a second after its link is lost. Each link that comes and goes is told on standard
+error. The status is 0 where all orders agree, 1 where one doesn't, where memory runs out or a thread can't be had, 2
+for settings that are refused, which the first key that is missing or wrong names.";
+
+/// Of `gateway demo`.
+pub(crate) const DEMO: &str = "\
+Two clients send three orders each, a simulated market takes and fills them, all on loopback; printed is the audit:
+
+  $ gateway demo
+  C1 A1 side 1 executed 100 open 0 cancelled 0 value 10000000 agree
+  ..
+  orders 6 agree 6
+
+The status is 0 where all orders agree, 1 where one doesn't, and where a client waits ten seconds for an answer, with
+demo: not finished on standard error.";

@@ -1,0 +1,144 @@
+//! A client: a FIX session that enters orders.
+
+use crate::fault::DemoFault;
+use fix_framing::{Framer, frame_of_text};
+use fix_stamp::stamp;
+use std::alloc::Global;
+use std::io::{Read, Write};
+use std::time::Clock;
+
+/// An order of a client: it buys INTC for the day.
+#[derive(Clone, Copy)]
+pub struct Order {
+    /// ClOrdID (11).
+    pub id: &'static str,
+    /// OrderQty (38).
+    pub shares: u32,
+    /// Price (44), as it is written.
+    pub limit: &'static str,
+}
+
+/// A client's end of a FIX session with the gateway `GATE`, over a stream.
+#[derive(Drop)]
+pub struct Client<'a, R, S> {
+    rt: &'a R,
+    alloc: Global,
+    name: &'static str,
+    /// MsgSeqNum (34) of the next message.
+    next: u64,
+    stream: S,
+    framer: Framer,
+}
+
+impl<'a, R: Clock, S: Read + Write + Drop> Client<'a, R, S> {
+    /// A client of this name that has said nothing yet. Takes no memory.
+    pub fn new(rt: &'a R, alloc: Global, name: &'static str, stream: S) -> Client<'a, R, S> {
+        Client {
+            rt,
+            alloc,
+            name,
+            next: 1,
+            stream,
+            framer: Framer::new(alloc),
+        }
+    }
+
+    /// The same session over another stream. The one it had is closed.
+    pub fn over(self, stream: S) -> Client<'a, R, S> {
+        let mut client = Client::new(self.rt, self.alloc, self.name, stream);
+        client.next = self.next;
+        client
+    }
+
+    /// Logs on, and waits for the answer.
+    pub fn log_on(&mut self) -> Result<(), DemoFault> {
+        self.say("A", b"98=0\x01108=30\x01")?;
+        self.wait_for(1, 35, b"A")
+    }
+
+    /// Logs out, and waits for the answer.
+    pub fn log_out(&mut self) -> Result<(), DemoFault> {
+        self.say("5", b"")?;
+        self.wait_for(1, 35, b"5")
+    }
+
+    /// Enters an order.
+    pub fn buy(&mut self, order: &Order) -> Result<(), DemoFault> {
+        let Order { id, shares, limit } = order;
+        let mut body = Vec::new(self.alloc);
+        write!(
+            body,
+            "11={id}\x0121=1\x0138={shares}\x0140=2\x0144={limit}\x01"
+        )?;
+        body.extend_from_slice(b"54=1\x0155=INTC\x0159=0\x0160=")?;
+        body.extend_from_slice(&self.now())?;
+        body.extend_from_slice(b"\x01")?;
+        self.say("D", body.as_slice())
+    }
+
+    /// Waits until so many orders are reported as filled.
+    pub fn wait_for_fills(&mut self, count: u32) -> Result<(), DemoFault> {
+        self.wait_for(count, 39, b"2")
+    }
+
+    /// Waits until so many orders are reported as refused.
+    pub fn wait_for_refusals(&mut self, count: u32) -> Result<(), DemoFault> {
+        self.wait_for(count, 39, b"8")
+    }
+
+    /// Now, as UTCTimestamp; the first moment of 1970 where the system's can't be had.
+    fn now(&self) -> [u8; 21] {
+        match self.rt.since_1970() {
+            Ok(since) => stamp(u64::try_from(since.as_millis()).unwrap_or(0)),
+            Err(_) => stamp(0),
+        }
+    }
+
+    /// Sends a message of this type with these fields behind its header.
+    fn say(&mut self, kind: &str, body: &[u8]) -> Result<(), DemoFault> {
+        let mut text = Vec::new(self.alloc);
+        let Client { name, next, .. } = self;
+        write!(
+            text,
+            "35={kind}\x0134={next}\x0149={name}\x0156=GATE\x0152="
+        )?;
+        text.extend_from_slice(&self.now())?;
+        text.extend_from_slice(b"\x01")?;
+        text.extend_from_slice(body)?;
+        self.next = self.next.saturating_add(1);
+        let message = frame_of_text(self.alloc, text.as_slice())?;
+        self.stream.write_all(message.as_slice())?;
+        Ok(())
+    }
+
+    /// Reads messages until so many had this value in this field.
+    fn wait_for(&mut self, count: u32, tag: u32, value: &[u8]) -> Result<(), DemoFault> {
+        let mut left = count;
+        for _ in 0..u64::MAX {
+            if left == 0 {
+                return Ok(());
+            }
+            left = left.saturating_sub(self.read_some(tag, value)?);
+        }
+        Err(DemoFault::NotFinished)
+    }
+
+    /// Reads once, and tells how many of the messages that have come by that have this value in this field.
+    fn read_some(&mut self, tag: u32, value: &[u8]) -> Result<u32, DemoFault> {
+        let mut piece = [0u8; 4096];
+        let read = self.stream.read(&mut piece)?;
+        if read == 0 {
+            return Err(DemoFault::NotFinished);
+        }
+        let Ok(messages) = self.framer.feed(self.alloc, &piece[..read]) else {
+            return Err(DemoFault::NotFinished);
+        };
+        let mut found = 0u32;
+        for fields in &messages {
+            if fields.first(tag) == Some(value) {
+                found = found.saturating_add(1);
+            }
+        }
+        Ok(found)
+    }
+}

@@ -1,0 +1,6 @@
+pub mod Own
+pub mod Told
+pub use Rattle.gate_law.specs.Holds
+pub use Rattle.gate_journal.specs.Kept
+pub use Rattle.gate_audit.specs.Pairs
+pub use Rattle.audit_lines.specs.Lines

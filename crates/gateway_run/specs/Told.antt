@@ -1,0 +1,24 @@
+-- A day that is over, and its audit, written.
+use Rattle.std.specs.Prelude.{ℕ, List, Option}
+use Rattle.std.specs.Io.KnownBytes.{Appends}
+use Rattle.gate_law.specs.Settings.{Settings}
+use Rattle.gate_law.specs.Events.{History}
+use Rattle.gate_law.specs.Holds.{Holds}
+use Rattle.gate_journal.specs.Kept.{Kept}
+use Rattle.link_io.specs.declared.link_fault.LinkFault.{LinkFault}
+use Rattle.gate_audit.specs.Pairs.{accepted_pairs}
+use Rattle.audit_lines.specs.Lines.{shown_audit}
+
+-- a day: its settings, its events with their batches, and the first fault of a link
+pub record DayState : Type 0 where
+  pub settings : Settings
+  pub kept : Kept
+  pub fault : Option LinkFault
+
+-- what a writer has grew by just the audit of this history by these settings
+abbrev pub IsToldOf : Settings → History → Option (List ℕ) → Option (List ℕ) → Type 0
+IsToldOf s h old new = Appends old new (shown_audit (accepted_pairs s h))
+
+-- the same of some history of which all that is promised holds
+abbrev pub IsTold : Option (List ℕ) → Option (List ℕ) → Type 0
+IsTold old new = (s : Settings) × (h : History) × Holds s h × IsToldOf s h old new

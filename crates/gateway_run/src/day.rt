@@ -1,0 +1,103 @@
+//! A day that is over, and its audit as it is printed.
+
+ghost use Rattle.std.specs.Prelude.{◌≡◌, ◌≤◌};
+ghost use Rattle.gate_journal.specs.Kept.{turns};
+ghost use Rattle.gateway_run.specs.Told.{IsTold, IsToldOf};
+
+use crate::fault::RunFault;
+use audit_lines::write_audit;
+use gate_audit::audit;
+use gate_core::Settings;
+use gate_journal::History;
+use gate_serving::LinkFault;
+use order_accounts::ReadingFault;
+use std::alloc::Global;
+use std::io::Write;
+use std::marker::Model;
+
+/// A day of a gateway that is over. Its type keeps that all that is promised holds of its history.
+#[derive(Drop)]
+pub struct Day {
+    history: History,
+    settings: Settings,
+    fault: Option<LinkFault>,
+}
+
+impl Model for Day {
+    ghost use Rattle.gate_law.specs.Holds.{Holds};
+    ghost use Rattle.gate_journal.specs.Kept.{turns};
+    ghost use Rattle.gateway_run.specs.Told.{DayState};
+
+    ghost Value = { DayState };
+
+    ghost view = { λ d. record { settings = d.settings; kept = d.history; fault = d.fault } };
+
+    ghost invariant = { λ d. Holds d.settings (turns d.history) };
+}
+
+impl Day {
+    ghost use Rattle.std.specs.Prelude.{◌≡◌};
+    ghost use Rattle.gate_law.specs.Holds.{Holds};
+    ghost use Rattle.gate_journal.specs.Kept.{turns};
+
+    /// A day of this history by these settings, with the first fault of a link. Takes no memory.
+    pub(crate) fn new(history: History, settings: Settings, fault: Option<LinkFault>) -> Day
+        requires { Holds settings (turns history) }
+        ensures { result ≡ record { settings = settings; kept = history; fault = fault } }
+    {
+        Day {
+            history,
+            settings,
+            fault,
+        }
+    }
+
+    /// Each event of the day with its batch. All that is promised holds of them.
+    pub fn history(&self) -> &History
+        ensures value { result.now ≡ self.now.kept }
+        ensures holds { Holds self.now.settings (turns result.now) }
+    {
+        &self.history
+    }
+
+    /// The first fault of a link: of the clients' in their order, then of the ports'. `None` where no link had one.
+    pub fn fault(&self) -> Option<LinkFault>
+        ensures { result ≡ self.now.fault }
+    {
+        self.fault
+    }
+}
+
+/// Writes the audit of a day to `output`: a line for each order that was accepted, and one for how many there are and
+/// how many agree.
+///
+/// Answers the status that a program ends with which does so: 0 where both accounts of each order agree; else 1: where
+/// those of an order don't, where memory runs out, with `out of memory` on `faults`, where a write fails, with `read or
+/// write failed`, and where a number of an account is larger than its integer holds, with `an order's account is too
+/// large`.
+pub fn audit_day<W: Write, F: Write>(alloc: Global, day: &Day, output: &mut W, faults: &mut F) -> u8
+    ensures status { result ≤ 1 }
+    ensures audited { result ≡ 0
+        → IsToldOf day.now.settings (turns day.now.kept) (W.contents output.old) (W.contents output.new) }
+    ensures told { result ≡ 0 → IsTold (W.contents output.old) (W.contents output.new) }
+{
+    match audit(alloc, &day.history, &day.settings) {
+        Ok(pairs) => write_audit(alloc, pairs.as_slice(), output, faults),
+        Err(ReadingFault::NoMemory) => tell(RunFault::NoMemory, faults),
+        Err(ReadingFault::TooLarge) => {
+            let _ = writeln!(faults, "an order's account is too large");
+            1
+        }
+    }
+}
+
+/// Tells why a gateway could not run to its end, and answers its program's status: 1.
+pub fn tell<F: Write>(fault: RunFault, faults: &mut F) -> u8
+    ensures { result ≡ 1 }
+{
+    let _ = match fault {
+        RunFault::NoMemory => writeln!(faults, "out of memory"),
+        RunFault::NoThread => writeln!(faults, "gateway: no thread"),
+    };
+    1
+}

@@ -1,0 +1,28 @@
+//! Why a gateway could not run to its end.
+
+use gate_serving::ServeFault;
+use std::alloc::AllocError;
+
+/// Why a gateway could not run to its end.
+#[derive(Clone, Copy, Debug, PartialEq, Eq)]
+pub enum RunFault {
+    /// Memory ran out where nothing can be served without it.
+    NoMemory,
+    /// A thread could not be had.
+    NoThread,
+}
+
+impl From<AllocError> for RunFault {
+    fn from(_: AllocError) -> RunFault {
+        RunFault::NoMemory
+    }
+}
+
+impl From<ServeFault> for RunFault {
+    fn from(fault: ServeFault) -> RunFault {
+        match fault {
+            ServeFault::NoMemory => RunFault::NoMemory,
+            ServeFault::NoThread => RunFault::NoThread,
+        }
+    }
+}

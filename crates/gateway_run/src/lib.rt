@@ -1,0 +1,18 @@
+//! The gateway as it runs: a desk, and for each client's, each port's and the clock's line the threads that serve it. It
+//! ends when all its clients' links have been served, and gives its day.
+#![tactic(auto)]
+
+mod by_settings;
+mod clock;
+mod day;
+mod ends;
+mod fault;
+mod lines;
+mod running;
+mod telling;
+
+pub use by_settings::run_settings;
+pub use day::{Day, audit_day, tell};
+pub use ends::RunPlan;
+pub use fault::RunFault;
+pub use running::run;

@@ -1,0 +1,138 @@
+//! A desk, served by threads.
+
+ghost use Rattle.std.specs.Prelude.{◌≡◌, ◌<◌, length};
+
+use crate::day::Day;
+use crate::ends::{Ends, RunPlan, ends_of};
+use crate::fault::RunFault;
+use crate::lines::{Count, Left, left_of};
+use desk::{DeskName, Inlet, Outlet, Parts, Shared, open_desk};
+use gate_core::Settings;
+use gate_serving::{Closer, Opener, serve};
+use run_lines::{ClientCounts, CountedLinks};
+use std::alloc::{AllocError, Global};
+use std::io::{Read, Write};
+use std::marker::Brand;
+use std::sync::Wait;
+use std::sync::atomic::AtomicBool;
+use std::thread::Threads;
+use std::time::Clock;
+
+/// Serves a gateway of these settings until each client's links have been served, then sets `is_over`, has the ports'
+/// links end, and gives the day. Where `is_over` is set before, by somebody else, it ends the same way.
+///
+/// `NoMemory` and `NoThread` come once all that was begun has ended; the day is lost with them.
+pub fn run<R, A, C>(
+    rt: &R,
+    alloc: Global,
+    settings: Settings,
+    plan: RunPlan<A, C>,
+    is_over: &AtomicBool,
+) -> Result<Day, RunFault>
+where
+    R: Threads + Wait + Sync + Clock,
+    A: Opener + Send + Drop,
+    A::Reader: Read + Send + Drop,
+    A::Writer: Write + Send + Drop,
+    A::Closer: Closer + Send + Drop,
+    C: Opener + Send + Drop,
+    C::Reader: Read + Send + Drop,
+    C::Writer: Write + Send + Drop,
+    C::Closer: Closer + Send + Drop,
+{
+    let count = Count {
+        clients: settings.clients().len() as u16,
+        ports: settings.ports().len() as u16,
+    };
+    let parts = Parts::new(alloc, settings)?;
+    run_desk::<Brand, R, A, C>(rt, alloc, parts, count, plan, is_over)
+}
+
+/// Opens the desk of these parts, serves it and closes it.
+fn run_desk<K, R, A, C>(
+    rt: &R,
+    alloc: Global,
+    parts: Parts,
+    count: Count,
+    plan: RunPlan<A, C>,
+    is_over: &AtomicBool,
+) -> Result<Day, RunFault>
+where
+    K: DeskName + Send + Sync,
+    R: Threads + Wait + Sync + Clock,
+    A: Opener + Send + Drop,
+    A::Reader: Read + Send + Drop,
+    A::Writer: Write + Send + Drop,
+    A::Closer: Closer + Send + Drop,
+    C: Opener + Send + Drop,
+    C::Reader: Read + Send + Drop,
+    C::Writer: Write + Send + Drop,
+    C::Closer: Closer + Send + Drop,
+    requires named { (parts.inlets ≡ K.inlets) × (parts.outlets ≡ K.outlets) }
+    requires clock { 0 < length parts.inlets }
+{
+    let (shared, inlets, outlets) = open_desk::<K>(alloc, parts)?;
+    let counts = ClientCounts::of(plan.clients.len().min(usize::from(count.clients)) as u32);
+    let left = serve_desk(
+        rt, alloc, count, &shared, &counts, inlets, outlets, plan, is_over,
+    )?;
+    let Ok(closed) = shared.close(alloc, left.finished) else {
+        return Err(RunFault::NoMemory);
+    };
+    Ok(Day::new(closed.history, closed.settings, left.fault))
+}
+
+/// Serves the ends of a desk, the last inlet being the clock's, until the clients' links have been served, and ends
+/// them.
+fn serve_desk<'a, K, R, A, C>(
+    rt: &'a R,
+    alloc: Global,
+    count: Count,
+    shared: &'a Shared<K>,
+    counts: &'a ClientCounts,
+    inlets: Vec<Inlet<K>>,
+    outlets: Vec<Outlet<K>>,
+    plan: RunPlan<A, C>,
+    is_over: &'a AtomicBool,
+) -> Result<Left<K>, RunFault>
+where
+    K: DeskName + Send + Sync,
+    R: Threads + Wait + Sync + Clock,
+    A: Opener + Send + Drop,
+    A::Reader: Read + Send + Drop,
+    A::Writer: Write + Send + Drop,
+    A::Closer: Closer + Send + Drop,
+    C: Opener + Send + Drop,
+    C::Reader: Read + Send + Drop,
+    C::Writer: Write + Send + Drop,
+    C::Closer: Closer + Send + Drop,
+    requires clock { 0 < length inlets.items }
+{
+    let mut inlets = inlets;
+    let Some(clock) = inlets.pop() else {
+        unreachable!()
+    };
+    let RunPlan { clients, ports } = plan;
+    let clients = counted(alloc, clients, counts, is_over)?;
+    let mut ends = ends_of(rt, alloc, shared, inlets, outlets, clients, ports)?;
+    ends.add_clock(rt, shared, count, counts, is_over, clock)?;
+    let Ends { lines, .. } = ends;
+    match serve(rt, alloc, lines) {
+        Ok(lines) => Ok(left_of(alloc, lines)?),
+        Err((fault, _)) => Err(RunFault::from(fault)),
+    }
+}
+
+/// The links of clients, counted.
+fn counted<'a, A: Drop>(
+    alloc: Global,
+    openers: Vec<A>,
+    counts: &'a ClientCounts,
+    is_over: &'a AtomicBool,
+) -> Result<Vec<CountedLinks<'a, A>>, AllocError> {
+    let mut links = Vec::with_capacity(alloc, openers.len())?;
+    for opener in openers {
+        links.push(CountedLinks::new(opener, counts, is_over))?;
+    }
+    Ok(links)
+}

@@ -1,0 +1,16 @@
+//! The lines of a gateway as lines of one kind: of clients, of ports, and of the clock, on whose one link time passes.
+#![tactic(auto)]
+
+mod counted;
+mod gate;
+mod opener;
+mod peer;
+mod streams;
+
+pub use counted::{ClientCounts, CountedLinks};
+pub use gate::RunGate;
+pub use gate_serving::{Closer, LinkEnd, LinkFault, Opened, Opener, Peer};
+pub use gate_workers::{Clock, Gate, WriterEnd};
+pub use opener::RunOpener;
+pub use peer::{RunPeer, Ticks};
+pub use streams::{RunCloser, RunReader, RunWriter};
