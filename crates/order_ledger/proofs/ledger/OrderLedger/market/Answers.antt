@@ -21,26 +21,26 @@ use Rattle.order_ledger.proofs.Stepped.{now-is}
 use Rattle.order_ledger.proofs.ledger.OrderLedger.market.Goals as goal
 
 pub apply-requires : goal.apply-requires
-apply-requires c = λ o here.
+apply-requires g c = λ o here.
     let told : OrderIsTold (the_view c.self.inside).now c.args.port c.args.heard.now c.in-Told.order_id c.in-Told.client c.in-Told.heard =
     subst (λ (j : Judged). IsJudged (the_view c.self.inside).now c.args.port c.args.heard.now j) c.in-Told.is (c.in_ok-hear.ensures (the_view c.self.inside).now refl refl refl) in
     subst (Fits c.in-Told.heard.change) (same_order told.order o (sym told.found ∙ here)) told.fits
 
 pub returns-in-Silent-clause-meets : goal.returns-in-Silent-clause-meets
-returns-in-Silent-clause-meets c =
+returns-in-Silent-clause-meets g c =
     let is : IsJudged (the_view c.self.inside).now c.args.port c.args.heard.now Silent =
     subst (λ (j : Judged). IsJudged (the_view c.self.inside).now c.args.port c.args.heard.now j) c.in-Silent.is (c.in_ok-hear.ensures (the_view c.self.inside).now refl refl refl) in
     silent-meets c.args.self.now.now c.args.port c.args.heard.now c.nothing.result c.nothing.ensures.client c.nothing.ensures.bodies
     (subst (λ (s : TableState). IsJudged s c.args.port c.args.heard.now Silent) (now-is c.self.view_is) is)
 
 pub returns-in-Faulty-clause-meets : goal.returns-in-Faulty-clause-meets
-returns-in-Faulty-clause-meets c =
+returns-in-Faulty-clause-meets g c =
     let is : IsJudged (the_view c.self.inside).now c.args.port c.args.heard.now (Faulty c.in-Faulty.fault) =
     subst (λ (j : Judged). IsJudged (the_view c.self.inside).now c.args.port c.args.heard.now j) c.in-Faulty.is (c.in_ok-hear.ensures (the_view c.self.inside).now refl refl refl) in
     subst (λ (s : TableState). IsJudged s c.args.port c.args.heard.now (Faulty c.in-Faulty.fault)) (now-is c.self.view_is) is
 
 pub returns-in_ok-apply-in-Told-clause-meets : goal.returns-in_ok-apply-in-Told-clause-meets
-returns-in_ok-apply-in-Told-clause-meets c =
+returns-in_ok-apply-in-Told-clause-meets g c =
     let told : OrderIsTold (the_view c.self.inside).now c.args.port c.args.heard.now c.in-Told.order_id c.in-Told.client c.in-Told.heard =
     subst (λ (j : Judged). IsJudged (the_view c.self.inside).now c.args.port c.args.heard.now j) c.in-Told.is (c.in_ok-hear.ensures (the_view c.self.inside).now refl refl refl) in
     let turn : MarketTurn = record { client = c.told_client-client.result; bodies = c.in-Told.heard.bodies; changed = Some (record { order_id = c.in-Told.order_id; is_closed = c.is_closed-is_closed.result }) } in
@@ -53,7 +53,7 @@ returns-in_ok-apply-in-Told-clause-meets c =
     (the_view (record { terms = c.self.inside.terms; table = c.apply.new.self; used = c.self.inside.used; order_ids = c.self.inside.order_ids; exec_ids = c.self.inside.exec_ids + n; settled_order_ids = c.self.inside.settled_order_ids; settled_exec_ids = c.self.inside.settled_exec_ids })).now) (sym count) here)
 
 pub returns-in_ok-apply-in-Told-clause-keeps : goal.returns-in_ok-apply-in-Told-clause-keeps
-returns-in_ok-apply-in-Told-clause-keeps c =
+returns-in_ok-apply-in-Told-clause-keeps g c =
     let told : OrderIsTold (the_view c.self.inside).now c.args.port c.args.heard.now c.in-Told.order_id c.in-Told.client c.in-Told.heard =
     subst (λ (j : Judged). IsJudged (the_view c.self.inside).now c.args.port c.args.heard.now j) c.in-Told.is (c.in_ok-hear.ensures (the_view c.self.inside).now refl refl refl) in
     let tokens : length c.apply.new.self.tokens ≡ length c.self.inside.table.tokens = ap (λ (h : Held). length h.tokens) (c.in_ok-apply-in-Told.ensures.changed told.order told.found) in
@@ -62,14 +62,14 @@ returns-in_ok-apply-in-Told-clause-keeps c =
     record { clients = ap clients (now-is c.self.view_is); issued = omega (arith, tokens, few, c.in-Told.heard.few, before) }
 
 pub returns-in-Silent-clause-changed : goal.returns-in-Silent-clause-changed
-returns-in-Silent-clause-changed c =
+returns-in-Silent-clause-changed g c =
     let is : IsJudged (the_view c.self.inside).now c.args.port c.args.heard.now Silent =
     subst (λ (j : Judged). IsJudged (the_view c.self.inside).now c.args.port c.args.heard.now j) c.in-Silent.is (c.in_ok-hear.ensures (the_view c.self.inside).now refl refl refl) in
     silent-changes c.args.self.now.now c.args.port c.args.heard.now c.nothing.result.changed c.nothing.ensures.changed
     (subst (λ (s : TableState). IsJudged s c.args.port c.args.heard.now Silent) (now-is c.self.view_is) is)
 
 pub returns-in_ok-apply-in-Told-clause-changed : goal.returns-in_ok-apply-in-Told-clause-changed
-returns-in_ok-apply-in-Told-clause-changed c =
+returns-in_ok-apply-in-Told-clause-changed g c =
     let told : OrderIsTold (the_view c.self.inside).now c.args.port c.args.heard.now c.in-Told.order_id c.in-Told.client c.in-Told.heard =
     subst (λ (j : Judged). IsJudged (the_view c.self.inside).now c.args.port c.args.heard.now j) c.in-Told.is (c.in_ok-hear.ensures (the_view c.self.inside).now refl refl refl) in
     let turn : MarketTurn = record { client = c.told_client-client.result; bodies = c.in-Told.heard.bodies; changed = Some (record { order_id = c.in-Told.order_id; is_closed = c.is_closed-is_closed.result }) } in
@@ -78,5 +78,5 @@ returns-in_ok-apply-in-Told-clause-changed c =
     (λ o found. c.in_ok-apply-in-Told.ensures.changed o found) c.is_closed-is_closed.ensures.known)
 
 pub returns-in_ok-apply-in-Told-clause-nobody : goal.returns-in_ok-apply-in-Told-clause-nobody
-returns-in_ok-apply-in-Told-clause-nobody c =
+returns-in_ok-apply-in-Told-clause-nobody g c =
     subst (λ (bs : List AppBody). bs ≡ [] → c.told_client-client.result ≡ None) c.deref-in-Told.ensures.value c.told_client-client.ensures.nobody
