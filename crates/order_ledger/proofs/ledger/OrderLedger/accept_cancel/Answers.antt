@@ -9,5 +9,5 @@ use Rattle.order_ledger.proofs.ledger.OrderLedger.accept_cancel.Goals as goal
 pub returns-clause-keeps : goal.returns-clause-keeps
 returns-clause-keeps g c =
     let tokens = same-tokens c.self.inside.table c.accept_cancel.new.self c.args.order_id (λ (o : OrderRecord). at o o.replace (Some (cancel_seen o.new.client c.args.order_id c.args.cancelling))) c.in_ok-accept_cancel.ensures.accepted c.accept_cancel.ensures.unknown in
-    let before : ledger_numbers (the_view c.self.inside).now ≡ ledger_numbers c.args.self.now.now = ap ledger_numbers (now-is c.self.view_is) in
+    let before : ledger_numbers (the_view g.row.S g.row.S-Hasher g.S.BuildHasher g.S-Hasher.Hasher c.self.inside).now ≡ ledger_numbers c.args.self.now.now = ap ledger_numbers (now-is c.self.view_is) in
     record { clients = ap clients (now-is c.self.view_is); issued = omega (arith, tokens, before) }

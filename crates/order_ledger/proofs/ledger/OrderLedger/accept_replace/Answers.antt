@@ -9,5 +9,5 @@ use Rattle.order_ledger.proofs.ledger.OrderLedger.accept_replace.Goals as goal
 pub returns-clause-keeps : goal.returns-clause-keeps
 returns-clause-keeps g c =
     let tokens = one_token c.self.inside.table c.accept_replace.new.self c.args.order_id c.args.given (λ (o : OrderRecord). at o (Some (replace_seen o.new.client c.args.order_id c.args.replacing)) o.cancel) c.in_ok-accept_replace.ensures.accepted c.accept_replace.ensures.unknown in
-    let before : ledger_numbers (the_view c.self.inside).now ≡ ledger_numbers c.args.self.now.now = ap ledger_numbers (now-is c.self.view_is) in
+    let before : ledger_numbers (the_view g.row.S g.row.S-Hasher g.S.BuildHasher g.S-Hasher.Hasher c.self.inside).now ≡ ledger_numbers c.args.self.now.now = ap ledger_numbers (now-is c.self.view_is) in
     record { clients = ap clients (now-is c.self.view_is); issued = omega (arith, tokens, before) }

@@ -15,9 +15,9 @@ note-requires g c = record { room = (room-in c.self.inside.ids.pushes c.self.ins
 pub push-requires : goal.push-requires
 push-requires g c = (room-in c.self.inside.ids.pushes c.self.inside.keys.room (subst (λ (u : Undoable UsedId). 1 ≤ u.pushes) (sym c.self.view_is) c.requires)).0
 
-pub invariant_of-self-2 : goal.invariant_of-self-2
-invariant_of-self-2 g c =
+pub invariant_of-self : goal.invariant_of-self
+invariant_of-self g c =
     let place = length c.as_slice-place.result.now in
     covered-pushed same_key has_used_key c.note.new.self c.self.inside.ids c.push.new.self c.args.id place
-    (used-leads c.note.new.self c.args.id place (subst (λ (k : TextKey). LeadsTo (hint_of same_key c.note.new.self k) place) (c.of-key.ensures ∙ ap (λ (u : UsedId). text_key u.client u.id) c.id.view_is) c.note.ensures.leads))
+    (used-leads c.note.new.self c.args.id place (subst (λ (k : TextKey). LeadsTo (hint_of same_key c.note.new.self k) place) (c.of-key.ensures ∙ ap (λ (bs : List ℕ). text_key c.id.inside.client bs) c.as_slice.ensures ∙ ap (λ (u : UsedId). text_key u.client u.id) c.id.view_is) c.note.ensures.leads))
     c.push.ensures.settled (c.note.ensures.covered c.self.invariant) (sym (ap (λ (xs : List UsedId). length xs) c.as_slice-place.ensures)) c.push.ensures.now
