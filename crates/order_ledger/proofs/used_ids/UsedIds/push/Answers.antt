@@ -19,5 +19,5 @@ pub invariant_of-self : goal.invariant_of-self
 invariant_of-self g c =
     let place = length c.as_slice-place.result.now in
     covered-pushed same_key has_used_key c.note.new.self c.self.inside.ids c.push.new.self c.args.id place
-    (used-leads c.note.new.self c.args.id place (subst (λ (k : TextKey). LeadsTo (hint_of same_key c.note.new.self k) place) (c.of-key.ensures ∙ ap (λ (bs : List ℕ). text_key c.id.inside.client bs) c.as_slice.ensures ∙ ap (λ (u : UsedId). text_key u.client u.id) c.id.view_is) c.note.ensures.leads))
+    (used-leads c.note.new.self c.args.id place (subst (λ (k : TextKey). LeadsTo (hint_of same_key c.note.new.self k) place) (c.of-key.ensures ∙ ap (λ (bs : List ℕ). text_key c.id.inside.client bs) c.as_slice.ensures.bytes ∙ ap (λ (u : UsedId). text_key u.client u.id) c.id.view_is) c.note.ensures.leads))
     c.push.ensures.settled (c.note.ensures.covered c.self.invariant) (sym (ap (λ (xs : List UsedId). length xs) c.as_slice-place.ensures)) c.push.ensures.now
