@@ -1,0 +1,120 @@
+//! What was pushed is read, whole and by source and recipient.
+
+use crate::records::{history_of, page};
+use day_history::DayHistory;
+use gate_events::{Batch, ClientNumber, Event, LinkOut, PortFault, PortNumber, Recipient, Source};
+use std::alloc::Global;
+use std::process::Abort;
+use std::test::Fail;
+
+/// What client 3's link 258 is told: two bytes, and that it is closed; port 2's link 5 is told a byte, and the port is
+/// faulted.
+fn told(alloc: Global) -> Result<Batch, Fail> {
+    let client_out = vec![in alloc;
+        LinkOut::Write {
+            link: 258,
+            bytes: Vec::from_slice(alloc, b"ab")?
+        },
+        LinkOut::Close { link: 258 },
+    ]?;
+    let port_out = vec![in alloc;
+        LinkOut::Write {
+            link: 5,
+            bytes: Vec::from_slice(alloc, b"c")?
+        },
+    ]?;
+    let reports = Vec::new(alloc);
+    let fault = Some(PortFault::SequenceGap);
+    let client = ClientNumber::new(3);
+    Ok(Batch::of_parts(
+        client,
+        reports,
+        client_out,
+        PortNumber::new(2),
+        port_out,
+        fault,
+    ))
+}
+
+/// The records of such a batch behind a tick of port 2 at moment 1,000, by the format.
+const TOLD: &[u8; 146] = b"GJ01\
+    \x08\0\x02\0\0\0\0\0\0\0\0\0\0\0\0\0\0\x03\xe8\0\0\0\0\
+    \x0a\0\x03\0\0\0\0\0\0\x01\x02\0\0\0\0\0\0\x03\xe8\0\0\0\x02ab\
+    \x0b\0\x03\0\0\0\0\0\0\x01\x02\0\0\0\0\0\0\x03\xe8\0\0\0\0\
+    \x0c\0\x02\0\0\0\0\0\0\0\x05\0\0\0\0\0\0\x03\xe8\0\0\0\x01c\
+    \x0e\0\x02\0\0\0\0\0\0\0\0\0\0\0\0\0\0\x03\xe8\0\0\0\x01\x05\
+    \x0f\0\0\0\0\0\0\0\0\0\0\0\0\0\0\0\0\x03\xe8\0\0\0\0";
+
+/// A batch with something for a client and a port is these records, and is asked for by whom it told something.
+#[test]
+fn a_batch_is_written_and_asked_for(rt: HostRuntime) -> Result<(), Fail> {
+    let alloc = rt.alloc();
+    let mut history = DayHistory::new(alloc);
+    let port = PortNumber::new(2);
+    history.push(&Event::PortTick { port, at: 1_000 }, &told(alloc)?)?;
+    assert_eq!(rt; history.pages()[0].as_slice(), TOLD.as_slice());
+    assert_eq!(rt; history.to(alloc, Recipient::Port(port))?.len(), 1);
+    assert_eq!(rt;
+        history
+            .to(alloc, Recipient::Client(ClientNumber::new(2)))?
+            .len(),
+        0
+    );
+    let lists = history.to(alloc, Recipient::Client(ClientNumber::new(3)))?;
+    assert!(rt;
+        matches!(
+        lists[0].as_slice(),
+        [LinkOut::Write { link: 258, bytes }, LinkOut::Close { link: 258 }] if bytes.as_slice() == b"ab".as_slice()
+    )
+    );
+    Ok(())
+}
+
+/// Each kind of event, by whom it is from: two of client 1's link, two of port 1's, and two ticks are the clock's.
+#[test]
+fn events_by_source(rt: HostRuntime) -> Result<(), Fail> {
+    let alloc = rt.alloc();
+    let end = (15, 0, 0, 7);
+    let rows = [
+        (1, 1, 1, 7),
+        end,
+        (2, 1, 1, 7),
+        end,
+        (3, 2, 1, 7),
+        end,
+        (4, 1, 1, 7),
+        end,
+        (5, 1, 1, 7),
+        end,
+        (6, 2, 1, 7),
+        end,
+        (7, 1, 0, 7),
+        end,
+        (8, 1, 0, 7),
+        end,
+    ];
+    let pages = vec![in alloc; page(alloc, &rows)?]?;
+    let history = history_of(alloc, pages.as_slice())?;
+    let client = history.from(alloc, Source::Client(ClientNumber::new(1)))?;
+    assert!(rt;
+        matches!(
+            client.as_slice(),
+            [Event::ClientUp { .. }, Event::ClientMessage { .. }]
+        )
+    );
+    let port = history.from(alloc, Source::Port(PortNumber::new(1)))?;
+    assert!(rt;
+        matches!(
+            port.as_slice(),
+            [Event::PortUp { .. }, Event::PortPacket { .. }]
+        )
+    );
+    let ticks = history.from(alloc, Source::Clock)?;
+    assert!(rt;
+        matches!(
+            ticks.as_slice(),
+            [Event::ClientTick { .. }, Event::PortTick { .. }]
+        )
+    );
+    Ok(())
+}

@@ -1,0 +1,101 @@
+//! One event, and a day of ticks, byte for byte.
+
+use crate::records::{fault_of, history_of};
+use day_history::DayHistory;
+use gate_events::{Batch, ClientNumber, Event};
+use journal_pages::PageFault;
+use std::alloc::Global;
+use std::process::Abort;
+use std::test::Fail;
+
+/// Client 1's link 1 is up at moment 0, and its batch is empty.
+const ONE_UP: &[u8; 50] = b"GJ01\
+    \x01\0\x01\0\0\0\0\0\0\0\x01\0\0\0\0\0\0\0\0\0\0\0\0\
+    \x0f\0\0\0\0\0\0\0\0\0\0\0\0\0\0\0\0\0\0\0\0\0\0";
+
+/// The last batch of 1,425 ends at moment 1,424, which is 0x590.
+const LAST_END: &[u8; 27] = b"GJ01\
+    \x0f\0\0\0\0\0\0\0\0\0\0\0\0\0\0\0\0\x05\x90\0\0\0\0";
+
+/// What reading this one page comes to; `None` for a history.
+fn fault_of_page(alloc: Global, page: &[u8]) -> Result<Option<(u32, PageFault)>, Fail> {
+    let pages = vec![in alloc; Vec::from_slice(alloc, page)?]?;
+    Ok(fault_of(alloc, pages.as_slice()))
+}
+
+/// What has to be wrong with the first bytes of `ONE_UP` as a day: behind the first record the batch isn't ended.
+fn fault_of_front(size: usize) -> Option<(u32, PageFault)> {
+    match size {
+        0..=3 => Some((0, PageFault::Head)),
+        27 => Some((0, PageFault::Order)),
+        50 => None,
+        _ => Some((0, PageFault::CutShort)),
+    }
+}
+
+/// An event with an empty batch is fifty bytes, which are read as this event and no other, and written again. Of these
+/// the last is cut off, the first and the last kind are changed.
+#[test]
+fn one_event_is_fifty_bytes(rt: HostRuntime) -> Result<(), Fail> {
+    let alloc = rt.alloc();
+    let mut history = DayHistory::new(alloc);
+    let up = Event::ClientUp {
+        client: ClientNumber::new(1),
+        link: 1,
+        at: 0,
+    };
+    history.push(&up, &Batch::empty(alloc))?;
+    assert_eq!(rt; history.pages().len(), 1);
+    assert_eq!(rt; history.pages()[0].as_slice(), ONE_UP.as_slice());
+    let again = history_of(alloc, history.pages())?;
+    assert!(rt;
+        matches!(
+        again.events(alloc)?.as_slice(),
+        [Event::ClientUp { client, link: 1, at: 0 }] if client.number() == 1
+    )
+    );
+    Ok(())
+}
+
+/// Its last byte is cut off; its first byte is another; its last record is of kind 16.
+#[test]
+fn one_event_changed(rt: HostRuntime) -> Result<(), Fail> {
+    let alloc = rt.alloc();
+    assert!(rt; fault_of_page(alloc, &ONE_UP[..49])? == Some((0, PageFault::CutShort)));
+    let mut page = *ONE_UP;
+    page[0] = 0x48;
+    assert!(rt; fault_of_page(alloc, &page)? == Some((0, PageFault::Head)));
+    let mut page = *ONE_UP;
+    page[27] = 0x10;
+    assert!(rt; fault_of_page(alloc, &page)? == Some((0, PageFault::Kind)));
+    Ok(())
+}
+
+/// Each number of its first bytes.
+#[test]
+fn each_front_of_one_event(rt: HostRuntime) -> Result<(), Fail> {
+    for size in 0..=ONE_UP.len() {
+        assert!(rt;
+            fault_of_page(rt.alloc(), &ONE_UP[..size])? == fault_of_front(size),
+            "{size} bytes"
+        );
+    }
+    Ok(())
+}
+
+/// 1,425 ticks of a client, one each millisecond from 0 on, with empty batches: the last end begins a page.
+#[test]
+fn a_day_of_ticks_is_two_pages(rt: HostRuntime) -> Result<(), Fail> {
+    let alloc = rt.alloc();
+    let mut history = DayHistory::new(alloc);
+    let batch = Batch::empty(alloc);
+    for at in 0..1_425u64 {
+        let client = ClientNumber::new(1);
+        history.push(&Event::ClientTick { client, at }, &batch)?;
+    }
+    assert_eq!(rt; history.pages().len(), 2);
+    assert_eq!(rt; history.pages()[0].len(), 65_531);
+    assert_eq!(rt; history.pages()[1].as_slice(), LAST_END.as_slice());
+    assert_eq!(rt; history.events(alloc)?.len(), 1_425);
+    Ok(())
+}

@@ -1,0 +1,195 @@
+//! Pages that are changed in each way of a kind.
+
+use crate::reading::outcome;
+use crate::records::{PAGE_HEAD, between, places_of, split};
+use crate::tally::Tally;
+use std::alloc::{AllocError, Global};
+
+/// In which way pages are changed.
+#[derive(Clone, Copy)]
+pub enum Change {
+    /// Each byte is every other value.
+    Bytes,
+    /// Each page ends after each number of its bytes, and is the last.
+    Fronts,
+    /// Each record of a page is exchanged with the next one.
+    Exchanges,
+    /// Each page is cut into two and into three, wherever a record ends.
+    Cuts,
+}
+
+/// What comes of all changes of these pages.
+pub fn changed_all(
+    alloc: Global,
+    change: Change,
+    pages: &mut Vec<Vec<u8>>,
+) -> Result<Tally, AllocError> {
+    let mut tally = Tally::new();
+    for number in 0..pages.len() {
+        match change {
+            Change::Bytes => change_bytes(alloc, pages, number, &mut tally)?,
+            Change::Fronts => cut_short(alloc, pages.as_slice(), number, &mut tally)?,
+            Change::Exchanges => exchange_all(alloc, pages.as_slice(), number, &mut tally)?,
+            Change::Cuts => cut_all(alloc, pages.as_slice(), number, &mut tally)?,
+        }
+    }
+    Ok(tally)
+}
+
+/// Each byte of a page is every other value in turn.
+fn change_bytes(
+    alloc: Global,
+    pages: &mut Vec<Vec<u8>>,
+    number: usize,
+    tally: &mut Tally,
+) -> Result<(), AllocError> {
+    let size = match pages.get(number) {
+        Some(page) => page.len(),
+        None => 0,
+    };
+    for at in 0..size {
+        let was = byte_at(pages.as_slice(), number, at);
+        for value in 0..=255u8 {
+            if value != was {
+                put_byte(pages, number, at, value);
+                tally.count(outcome(alloc, pages.as_slice())?, number);
+            }
+        }
+        put_byte(pages, number, at, was);
+    }
+    Ok(())
+}
+
+/// A byte of a page; 0 where there is none.
+fn byte_at(pages: &[Vec<u8>], number: usize, at: usize) -> u8 {
+    match pages.get(number) {
+        Some(page) => page.get(at).copied().unwrap_or(0),
+        None => 0,
+    }
+}
+
+/// A byte of a page is another.
+fn put_byte(pages: &mut Vec<Vec<u8>>, number: usize, at: usize, value: u8) {
+    if let Some(page) = pages.get_mut(number) {
+        if let Some(byte) = page.get_mut(at) {
+            *byte = value;
+        }
+    }
+}
+
+/// A page ends after each number of its bytes, and no page stands behind it.
+fn cut_short(
+    alloc: Global,
+    pages: &[Vec<u8>],
+    number: usize,
+    tally: &mut Tally,
+) -> Result<(), AllocError> {
+    let page = page_at(pages, number);
+    for size in 0..page.len() {
+        let mut fewer = first_pages(alloc, pages, number)?;
+        let (front, _) = split(page, size);
+        fewer.push(Vec::from_slice(alloc, front)?)?;
+        tally.count(outcome(alloc, fewer.as_slice())?, number);
+    }
+    Ok(())
+}
+
+/// Each record of a page is exchanged with the next one.
+fn exchange_all(
+    alloc: Global,
+    pages: &[Vec<u8>],
+    number: usize,
+    tally: &mut Tally,
+) -> Result<(), AllocError> {
+    let page = page_at(pages, number);
+    let places = places_of(alloc, page)?;
+    for first in places.windows(3) {
+        if let [a, b, c] = first {
+            let mut text = Vec::from_slice(alloc, between(page, 0, *a))?;
+            text.extend_from_slice(between(page, *b, *c))?;
+            text.extend_from_slice(between(page, *a, *b))?;
+            text.extend_from_slice(between(page, *c, page.len()))?;
+            let parts = vec![in alloc; text]?;
+            let whole = with_parts(alloc, pages, number, parts)?;
+            tally.count(outcome(alloc, whole.as_slice())?, number);
+        }
+    }
+    Ok(())
+}
+
+/// A page is cut into two and into three, wherever a record ends.
+fn cut_all(
+    alloc: Global,
+    pages: &[Vec<u8>],
+    number: usize,
+    tally: &mut Tally,
+) -> Result<(), AllocError> {
+    let page = page_at(pages, number);
+    let places = places_of(alloc, page)?;
+    for a in places.as_slice() {
+        for b in places.as_slice() {
+            if a <= b && *a > PAGE_HEAD && *b < page.len() {
+                let parts = cut_at(alloc, page, *a, *b)?;
+                let whole = with_parts(alloc, pages, number, parts)?;
+                tally.count(outcome(alloc, whole.as_slice())?, number);
+            }
+        }
+    }
+    Ok(())
+}
+
+/// A page as two, where both places are the same, or as three.
+fn cut_at(alloc: Global, page: &[u8], a: usize, b: usize) -> Result<Vec<Vec<u8>>, AllocError> {
+    let mut parts = Vec::new(alloc);
+    parts.push(Vec::from_slice(alloc, between(page, 0, a))?)?;
+    if a < b {
+        parts.push(headed(alloc, between(page, a, b))?)?;
+    }
+    parts.push(headed(alloc, between(page, b, page.len()))?)?;
+    Ok(parts)
+}
+
+/// A page of these records.
+fn headed(alloc: Global, records: &[u8]) -> Result<Vec<u8>, AllocError> {
+    let mut page = Vec::from_slice(alloc, b"GJ01")?;
+    page.extend_from_slice(records)?;
+    Ok(page)
+}
+
+/// The page of a number; nothing where there is none.
+fn page_at(pages: &[Vec<u8>], number: usize) -> &[u8] {
+    match pages.get(number) {
+        Some(page) => page.as_slice(),
+        None => &[],
+    }
+}
+
+/// So many pages, copied.
+fn first_pages(alloc: Global, pages: &[Vec<u8>], count: usize) -> Result<Vec<Vec<u8>>, AllocError> {
+    let mut copies = Vec::new(alloc);
+    for (number, page) in pages.iter().enumerate() {
+        if number < count {
+            copies.push(Vec::from_slice(alloc, page.as_slice())?)?;
+        }
+    }
+    Ok(copies)
+}
+
+/// Pages with these in place of the one of a number.
+fn with_parts(
+    alloc: Global,
+    pages: &[Vec<u8>],
+    number: usize,
+    parts: Vec<Vec<u8>>,
+) -> Result<Vec<Vec<u8>>, AllocError> {
+    let mut whole = first_pages(alloc, pages, number)?;
+    for part in parts {
+        whole.push(part)?;
+    }
+    for (other, page) in pages.iter().enumerate() {
+        if other > number {
+            whole.push(Vec::from_slice(alloc, page.as_slice())?)?;
+        }
+    }
+    Ok(whole)
+}

@@ -1,0 +1,22 @@
+//! Reads pages that the lines of standard input write, and pages that are changed from these. Prints a verdict for each
+//! that is asked for. `README.md` has the lines.
+#![tactic(auto)]
+
+mod cases;
+mod changing;
+mod reading;
+mod records;
+mod tally;
+mod words;
+
+use cases::Cases;
+use std::io::{self, BufRead, BufReader};
+
+fn main(rt: HostRuntime) -> io::Result<()> {
+    let alloc = rt.alloc();
+    let mut cases = Cases::new(alloc);
+    for line in BufReader::new(alloc, rt.reader())?.lines(alloc) {
+        cases.step(alloc, line?.as_str().as_bytes(), &mut io::writer(&rt))?;
+    }
+    Ok(())
+}

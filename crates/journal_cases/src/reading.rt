@@ -1,0 +1,54 @@
+//! Pages, read, and what they say written again.
+
+use crate::records::{PAGE_HEAD, split};
+use crate::tally::Outcome;
+use day_history::DayHistory;
+use journal_pages::PageFault;
+use std::alloc::{AllocError, Global};
+
+/// What reading pages comes to.
+pub fn outcome(alloc: Global, pages: &[Vec<u8>]) -> Result<Outcome, AllocError> {
+    match DayHistory::read(alloc, pages) {
+        Err((_, PageFault::NoMemory)) => Err(AllocError),
+        Err((page, fault)) => Ok(Outcome::Refused(page, fault)),
+        Ok(history) => {
+            let again = pushed_again(alloc, &history)?;
+            let is_same = has_records(alloc, again.pages(), pages)?;
+            Ok(if is_same {
+                Outcome::History
+            } else {
+                Outcome::Other
+            })
+        }
+    }
+}
+
+/// A history of the same events and batches, pushed one by one.
+pub fn pushed_again(alloc: Global, history: &DayHistory) -> Result<DayHistory, AllocError> {
+    let events = history.events(alloc)?;
+    let batches = history.batches(alloc)?;
+    let mut again = DayHistory::new(alloc);
+    for (event, batch) in events.iter().zip(batches.iter()) {
+        again.push(event, batch)?;
+    }
+    Ok(again)
+}
+
+/// Whether pages have the same records as others, one behind another.
+pub fn has_records(
+    alloc: Global,
+    pages: &[Vec<u8>],
+    others: &[Vec<u8>],
+) -> Result<bool, AllocError> {
+    Ok(records_in(alloc, pages)? == records_in(alloc, others)?)
+}
+
+/// The records of pages, one behind another.
+fn records_in(alloc: Global, pages: &[Vec<u8>]) -> Result<Vec<u8>, AllocError> {
+    let mut records = Vec::new(alloc);
+    for page in pages {
+        let (_, behind) = split(page.as_slice(), PAGE_HEAD);
+        records.extend_from_slice(behind)?;
+    }
+    Ok(records)
+}

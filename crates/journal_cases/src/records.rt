@@ -1,0 +1,106 @@
+//! Records by the format alone, as bytes.
+
+use crate::words::{bytes_said, first_number};
+use std::alloc::{AllocError, Global};
+
+/// How many bytes stand before a record's payload.
+const HEAD: usize = 23;
+
+/// How many bytes stand before a page's records.
+pub const PAGE_HEAD: usize = 4;
+
+/// The record that a text says: kind, source, link, moment, and the payload as `bytes_said` has it. `None` where it is
+/// none.
+pub fn record_said(alloc: Global, text: &[u8]) -> Result<Option<Vec<u8>>, AllocError> {
+    let Some((head, rest)) = head_said(text) else {
+        return Ok(None);
+    };
+    match bytes_said(alloc, rest)? {
+        Some(payload) => Ok(Some(record_of(alloc, head, payload.as_slice())?)),
+        None => Ok(None),
+    }
+}
+
+/// Kind, source, link and moment in front of a text, and what stands behind them.
+fn head_said(text: &[u8]) -> Option<([u64; 4], &[u8])> {
+    let (kind, rest) = first_number(text)?;
+    let (source, rest) = first_number(rest)?;
+    let (link, rest) = first_number(rest)?;
+    let (at, rest) = first_number(rest)?;
+    Some(([kind, source, link, at], rest))
+}
+
+/// The bytes of a record.
+fn record_of(alloc: Global, head: [u64; 4], payload: &[u8]) -> Result<Vec<u8>, AllocError> {
+    let [kind, source, link, at] = head;
+    let mut bytes = Vec::new(alloc);
+    bytes.extend_from_slice(&kind.to_be_bytes()[7..])?;
+    bytes.extend_from_slice(&source.to_be_bytes()[6..])?;
+    bytes.extend_from_slice(&link.to_be_bytes())?;
+    bytes.extend_from_slice(&at.to_be_bytes())?;
+    bytes.extend_from_slice(&(payload.len() as u64).to_be_bytes()[4..])?;
+    bytes.extend_from_slice(payload)?;
+    Ok(bytes)
+}
+
+/// Where the records of a page begin, and where the last one ends.
+pub fn places_of(alloc: Global, page: &[u8]) -> Result<Vec<usize>, AllocError> {
+    let mut places = Vec::new(alloc);
+    let mut at = PAGE_HEAD;
+    places.push(at)?;
+    while let Some(size) = size_at(page, at) {
+        at = at.saturating_add(size);
+        places.push(at)?;
+        if at > page.len() {
+            return Ok(places);
+        }
+    }
+    Ok(places)
+}
+
+/// How many bytes the record at a place has.
+fn size_at(page: &[u8], at: usize) -> Option<usize> {
+    let (_, record) = split(page, at);
+    let [
+        _,
+        _,
+        _,
+        _,
+        _,
+        _,
+        _,
+        _,
+        _,
+        _,
+        _,
+        _,
+        _,
+        _,
+        _,
+        _,
+        _,
+        _,
+        _,
+        a,
+        b,
+        c,
+        d,
+        ..
+    ] = record
+    else {
+        return None;
+    };
+    Some(HEAD + u32::from_be_bytes([*a, *b, *c, *d]) as usize)
+}
+
+/// The bytes up to a place, and those behind it.
+pub fn split(bytes: &[u8], place: usize) -> (&[u8], &[u8]) {
+    bytes.split_at(place.min(bytes.len()))
+}
+
+/// The bytes from one place up to another.
+pub fn between(bytes: &[u8], from: usize, to: usize) -> &[u8] {
+    let (front, _) = split(bytes, to);
+    let (_, middle) = split(front, from);
+    middle
+}

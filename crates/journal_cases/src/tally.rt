@@ -1,0 +1,82 @@
+//! What came of changed pages.
+
+use journal_pages::PageFault;
+use std::io::{self, Write};
+
+/// What reading pages comes to.
+#[derive(Clone, Copy, PartialEq, Eq)]
+pub enum Outcome {
+    /// They are refused: the number of the page, and why.
+    Refused(u32, PageFault),
+    /// They are a history, and its events and batches, pushed again, are the same records.
+    History,
+    /// They are a history whose events and batches are other records.
+    Other,
+}
+
+/// How many pages were refused, by why, how many were read as a history, and how many otherwise than they are to be.
+#[derive(Clone, Copy)]
+pub struct Tally {
+    head: u64,
+    kind: u64,
+    cut_short: u64,
+    payload: u64,
+    order: u64,
+    histories: u64,
+    wrong: u64,
+}
+
+impl Tally {
+    /// Nothing was read.
+    pub fn new() -> Tally {
+        Tally {
+            head: 0,
+            kind: 0,
+            cut_short: 0,
+            payload: 0,
+            order: 0,
+            histories: 0,
+            wrong: 0,
+        }
+    }
+
+    /// Counts what came of pages that are the same as before up to a page of this number, which is refused first.
+    pub fn count(&mut self, outcome: Outcome, from: usize) {
+        match outcome {
+            Outcome::Refused(page, fault) if page as usize >= from => self.refuse(fault),
+            Outcome::History => self.histories = self.histories.saturating_add(1),
+            _ => self.wrong = self.wrong.saturating_add(1),
+        }
+    }
+
+    /// Counts a refusal. Memory isn't to run out.
+    fn refuse(&mut self, fault: PageFault) {
+        match fault {
+            PageFault::Head => self.head = self.head.saturating_add(1),
+            PageFault::Kind => self.kind = self.kind.saturating_add(1),
+            PageFault::CutShort => self.cut_short = self.cut_short.saturating_add(1),
+            PageFault::Payload => self.payload = self.payload.saturating_add(1),
+            PageFault::Order => self.order = self.order.saturating_add(1),
+            PageFault::NoMemory => self.wrong = self.wrong.saturating_add(1),
+        }
+    }
+
+    /// Prints the counts.
+    pub fn print<W: Write>(self, output: &mut W) -> io::Result<()> {
+        print_count(output, b"refused: head ", self.head)?;
+        print_count(output, b", kind ", self.kind)?;
+        print_count(output, b", cut short ", self.cut_short)?;
+        print_count(output, b", payload ", self.payload)?;
+        print_count(output, b", order ", self.order)?;
+        print_count(output, b"; read: ", self.histories)?;
+        print_count(output, b"; wrong: ", self.wrong)?;
+        output.write_all(b"\n")
+    }
+}
+
+/// A text, and a number.
+fn print_count<W: Write>(output: &mut W, text: &[u8], count: u64) -> io::Result<()> {
+    let mut digits = itoa::Buffer::new();
+    output.write_all(text)?;
+    output.write_all(digits.format(count).as_bytes())
+}

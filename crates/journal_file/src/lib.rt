@@ -1,0 +1,11 @@
+//! A day's pages in one file.
+//!
+//! Each page stands behind its length in eight bytes, the high byte first; behind the last one stands a length of 0.
+//! The form is the gateway's own, version 1.
+#![tactic(auto)]
+
+mod reading;
+mod writing;
+
+pub use reading::read_day;
+pub use writing::day_file;
