@@ -9,7 +9,7 @@ ghost use Rattle.journal_pages.specs.declared.fault.PageFault.TheVariants.{NoMem
 ghost use Rattle.day_history.specs.Kept.{turns};
 ghost use Rattle.journal_audit.specs.Audits.{IsAuditOfFile, IsNoDaysFile};
 
-use crate::listed::listed;
+use crate::lists::listed;
 use audit_lines::write_audit;
 use day_history::DayHistory;
 use gate_audit::{OrderPair, audit};

@@ -2,9 +2,9 @@
 #![tactic(auto)]
 
 mod audit;
-mod listed;
+mod lists;
 mod script;
 
 pub use audit::{audit_day, audit_file};
-pub use listed::{listed, paged};
+pub use lists::{listed, paged};
 pub use script::script_file;

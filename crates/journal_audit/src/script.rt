@@ -5,7 +5,7 @@ ghost use Rattle.std.specs.Io.KnownBytes.{Appends};
 ghost use Rattle.gate_journal.specs.Kept as lists;
 ghost use Rattle.journal_audit.specs.Audits.{IsDayOfScript, IsFileOf, IsFileOfTurns};
 
-use crate::listed::paged;
+use crate::lists::paged;
 use gate_journal::History;
 use gate_lines::{Stop, script_history, tell};
 use journal_file::day_file;

@@ -4,8 +4,10 @@
 //! The form is the gateway's own, version 1.
 #![tactic(auto)]
 
+mod laws;
 mod reading;
 mod writing;
 
+pub use laws::files_are_read;
 pub use reading::read_day;
 pub use writing::day_file;

@@ -1,0 +1,2 @@
+mod Files
+mod One
