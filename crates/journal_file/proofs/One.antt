@@ -1,16 +1,15 @@
 -- A file says one list of pages, and that of a day is refused for nothing.
-use Rattle.std.proofs.Common.{◌≡◌, ◌≤◌, ◌<◌, ◌^◌, ℕ, ◌+◌, true, false, Option, Some, None, List, [], ◌∷◌, ◌++◌, length, take, drop, inl, inr, refl, sym, ap, subst, ◌∙◌, arith, append_assoc, length-append}
+use Rattle.std.proofs.Common.{◌≡◌, ◌≤◌, ◌<◌, ◌^◌, ℕ, ◌+◌, true, false, Option, Some, None, List, [], ◌∷◌, ◌++◌, length, take, drop, inl, inr, refl, sym, ap, ◌∙◌, arith, append_assoc, length-append}
 use Rattle.std.proofs.lemmas.Bool.{le-ltb, true≢false}
 use Rattle.std.proofs.lemmas.List.{drop_at, take_at}
 use Rattle.std.proofs.lemmas.Nat.{from_be_bytes-to_be_bytes_8}
-use Rattle.std.specs.Prelude.{◌⊎◌}
 use Rattle.std.specs.Int.{w64, from_be_bytes}
 use Rattle.journal_pages.specs.declared.fault.PageFault.{PageFault}
 use Rattle.journal_pages.specs.declared.place.Place.{Place}
 use Rattle.journal_pages.specs.Page.{page_records}
 use Rattle.journal_pages.specs.Ordered.{place_behind}
 use Rattle.journal_days.specs.Day.{at_page, day_fault, fault_from, is_last, page_behind, page_fault_in_day}
-use Rattle.journal_file.specs.File.{AreNotEmpty, IsCutAt, GoesOnAt, IsNoDay, IsNoFile, IsNoForm, file_of, is_cut, sized, sized_all}
+use Rattle.journal_file.specs.File.{AreNotEmpty, IsNoFile, IsNoForm, file_of, is_cut, sized, sized_all}
 
 -- ---- two pages in front
 
