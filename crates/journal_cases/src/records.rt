@@ -9,6 +9,15 @@ const HEAD: usize = 23;
 /// How many bytes stand before a page's records.
 pub const PAGE_HEAD: usize = 4;
 
+/// What stands in front of a record's payload, but for the payload's length.
+#[derive(Clone, Copy)]
+struct Head {
+    kind: u64,
+    source: u64,
+    link: u64,
+    at: u64,
+}
+
 /// The record that a text says: kind, source, link, moment, and the payload as `bytes_said` has it. `None` where it is
 /// none.
 pub fn record_said(alloc: Global, text: &[u8]) -> Result<Option<Vec<u8>>, AllocError> {
@@ -22,22 +31,27 @@ pub fn record_said(alloc: Global, text: &[u8]) -> Result<Option<Vec<u8>>, AllocE
 }
 
 /// Kind, source, link and moment in front of a text, and what stands behind them.
-fn head_said(text: &[u8]) -> Option<([u64; 4], &[u8])> {
+fn head_said(text: &[u8]) -> Option<(Head, &[u8])> {
     let (kind, rest) = first_number(text)?;
     let (source, rest) = first_number(rest)?;
     let (link, rest) = first_number(rest)?;
     let (at, rest) = first_number(rest)?;
-    Some(([kind, source, link, at], rest))
+    let head = Head {
+        kind,
+        source,
+        link,
+        at,
+    };
+    Some((head, rest))
 }
 
 /// The bytes of a record.
-fn record_of(alloc: Global, head: [u64; 4], payload: &[u8]) -> Result<Vec<u8>, AllocError> {
-    let [kind, source, link, at] = head;
+fn record_of(alloc: Global, head: Head, payload: &[u8]) -> Result<Vec<u8>, AllocError> {
     let mut bytes = Vec::new(alloc);
-    bytes.extend_from_slice(&kind.to_be_bytes()[7..])?;
-    bytes.extend_from_slice(&source.to_be_bytes()[6..])?;
-    bytes.extend_from_slice(&link.to_be_bytes())?;
-    bytes.extend_from_slice(&at.to_be_bytes())?;
+    bytes.extend_from_slice(&head.kind.to_be_bytes()[7..])?;
+    bytes.extend_from_slice(&head.source.to_be_bytes()[6..])?;
+    bytes.extend_from_slice(&head.link.to_be_bytes())?;
+    bytes.extend_from_slice(&head.at.to_be_bytes())?;
     bytes.extend_from_slice(&(payload.len() as u64).to_be_bytes()[4..])?;
     bytes.extend_from_slice(payload)?;
     Ok(bytes)
@@ -48,12 +62,12 @@ pub fn places_of(alloc: Global, page: &[u8]) -> Result<Vec<usize>, AllocError> {
     let mut places = Vec::new(alloc);
     let mut at = PAGE_HEAD;
     places.push(at)?;
-    while let Some(size) = size_at(page, at) {
+    for _ in 0..page.len() {
+        let Some(size) = size_at(page, at) else {
+            return Ok(places);
+        };
         at = at.saturating_add(size);
         places.push(at)?;
-        if at > page.len() {
-            return Ok(places);
-        }
     }
     Ok(places)
 }
