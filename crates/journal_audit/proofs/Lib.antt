@@ -1,2 +1,3 @@
 mod Turned
 mod Written
+mod Zipped

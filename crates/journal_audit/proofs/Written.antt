@@ -20,7 +20,7 @@ pub audited : (s : Settings) (file : List ℕ) (day : DayKept) (old new : Option
     → IsAuditOfFile s file old new
 audited s file day old new says written run = record {
   pages = day.pages;
-  file = record { same = says.0; day = says.1 };
+  says = record { same = says.0; day = says.1 };
   written = subst (λ (d : DayKept). Appends old new (shown_audit (pairs s (turns d)))) says.2 written;
   run = subst (λ (d : DayKept). Holds s (turns d) → Appends old new (shown_audit (accepted_pairs s (turns d)))) says.2 run;
 }

@@ -23,7 +23,7 @@ pub record IsFile (pages : List (List ℕ)) (file : List ℕ) : Type 0 where
 -- by the accounts of the orders that were accepted.
 pub record IsAuditOfFile (s : Settings) (file : List ℕ) (old new : Option (List ℕ)) : Type 0 where
   pub pages : List (List ℕ)
-  pub file : IsFile pages file
+  pub says : IsFile pages file
   pub written : Appends old new (shown_audit (pairs s (turns (kept_in pages))))
   pub run : Holds s (turns (kept_in pages)) → Appends old new (shown_audit (accepted_pairs s (turns (kept_in pages))))
 
@@ -36,7 +36,7 @@ pub record IsNoDaysFile (file : List ℕ) : Type 0 where
 -- pages that say these turns, in a file
 pub record IsFileOf (h : History) (file : List ℕ) : Type 0 where
   pub pages : List (List ℕ)
-  pub file : IsFile pages file
+  pub says : IsFile pages file
   pub same : turns (kept_in pages) ≡ h
 
 -- what a writer has grew by such a file
