@@ -4,6 +4,8 @@
 #[cfg(test)]
 mod lost_links;
 #[cfg(test)]
+mod many;
+#[cfg(test)]
 mod unfinished;
 #[cfg(test)]
 mod unlawful;

@@ -1,0 +1,165 @@
+//! As many clients and ports as there may be.
+
+use gateway_demo::{Client, DemoFault, connected, loopback};
+use gateway_run::{RunPlan, audit_day, run};
+use link_sockets::{Acceptor, Connector, Opener};
+use settings_file::{SettingsFile, read};
+use std::alloc::Global;
+use std::io::Write;
+use std::net::{Net, TcpListener, TcpStream};
+use std::sync::atomic::{AtomicBool, Ordering};
+use std::test::Fail;
+use std::thread;
+use std::time::{Clock, Duration};
+
+const NAMES: [&str; 64] = [
+    "C1", "C2", "C3", "C4", "C5", "C6", "C7", "C8", "C9", "C10", "C11", "C12", "C13", "C14", "C15",
+    "C16", "C17", "C18", "C19", "C20", "C21", "C22", "C23", "C24", "C25", "C26", "C27", "C28",
+    "C29", "C30", "C31", "C32", "C33", "C34", "C35", "C36", "C37", "C38", "C39", "C40", "C41",
+    "C42", "C43", "C44", "C45", "C46", "C47", "C48", "C49", "C50", "C51", "C52", "C53", "C54",
+    "C55", "C56", "C57", "C58", "C59", "C60", "C61", "C62", "C63", "C64",
+];
+
+const PORTS: usize = 16;
+
+/// Settings of all clients, four to a port. Nobody is listened for or connected by their addresses.
+fn settings(alloc: Global) -> Result<Vec<u8>, DemoFault> {
+    let mut text = Vec::new(alloc);
+    text.extend_from_slice(b"comp = \"GATE\"\n")?;
+    for port in 1..=PORTS {
+        write!(
+            text,
+            "[[port]]\nname = \"P{port}\"\naddress = \"127.0.0.1:1\"\nuser = \"U\"\npassword = \"\"\n"
+        )?;
+    }
+    for (at, name) in NAMES.iter().enumerate() {
+        let port = at / 4 + 1;
+        write!(
+            text,
+            "[[client]]\ncomp = \"{name}\"\nlisten = \"127.0.0.1:{at}\"\nport = \"P{port}\"\n"
+        )?;
+        text.extend_from_slice(b"firm = \"FIRM\"\ncapacity = \"A\"\ncustomer = \"R\"\n")?;
+    }
+    Ok(text)
+}
+
+/// Logs all clients on, and once all are, has them log out.
+fn come_and_go<R: Clock + Net<Listener = TcpListener, Stream = TcpStream>>(
+    rt: &R,
+    alloc: Global,
+    addresses: &[String],
+) -> Result<(), DemoFault> {
+    let mut clients = Vec::with_capacity(alloc, NAMES.len())?;
+    for (name, address) in NAMES.into_iter().zip(addresses) {
+        let stream = connected(rt, address, Duration::from_secs(10))?;
+        let mut client = Client::new(rt, alloc, name, stream);
+        client.log_on()?;
+        clients.push(client)?;
+    }
+    for client in &mut clients {
+        client.log_out()?;
+    }
+    Ok(())
+}
+
+/// Accepts a link at each of these, and lets all go once `is_past` is set.
+fn accept_all<R: Clock + Net<Listener = TcpListener, Stream = TcpStream>>(
+    rt: &R,
+    alloc: Global,
+    listeners: Vec<TcpListener>,
+    is_past: &AtomicBool,
+) -> Result<(), DemoFault> {
+    let mut links = Vec::with_capacity(alloc, listeners.len())?;
+    for listener in listeners {
+        if let Some(link) = Acceptor::of_listener(rt, listener, 1, is_past).open() {
+            links.push(link.map_err(DemoFault::Link)?)?;
+        }
+    }
+    for _ in 0..u64::MAX {
+        if is_past.load(Ordering::SeqCst) {
+            break;
+        }
+        thread::sleep(rt, Duration::from_millis(10));
+    }
+    Ok(())
+}
+
+/// Listeners on loopback with their addresses.
+fn listeners<R: Net<Listener = TcpListener, Stream = TcpStream>>(
+    rt: &R,
+    alloc: Global,
+    count: usize,
+) -> Result<(Vec<TcpListener>, Vec<String>), DemoFault> {
+    let mut listeners = Vec::with_capacity(alloc, count)?;
+    let mut addresses = Vec::with_capacity(alloc, count)?;
+    for _ in 0..count {
+        let (listener, address) = loopback(rt, alloc)?;
+        listeners.push(listener)?;
+        addresses.push(address)?;
+    }
+    Ok((listeners, addresses))
+}
+
+/// One link for each client and each port.
+fn plan_of<'a, R>(
+    rt: &'a R,
+    alloc: Global,
+    listeners: Vec<TcpListener>,
+    addresses: &'a [String],
+    is_over: &'a AtomicBool,
+) -> Result<RunPlan<Acceptor<'a, R>, Connector<'a, R>>, DemoFault> {
+    let mut clients = Vec::with_capacity(alloc, listeners.len())?;
+    for listener in listeners {
+        clients.push(Acceptor::of_listener(rt, listener, 1, is_over))?;
+    }
+    let mut ports = Vec::with_capacity(alloc, addresses.len())?;
+    for address in addresses {
+        ports.push(Connector::new(rt, address, 1, is_over))?;
+    }
+    Ok(RunPlan { clients, ports })
+}
+
+#[test]
+fn all_clients_on_all_ports_come_and_go(rt: HostRuntime) -> Result<(), Fail> {
+    let alloc = rt.alloc();
+    let rt = &rt;
+    let Ok(text) = settings(alloc) else {
+        return Err(Fail::new("no memory"));
+    };
+    let Ok(SettingsFile { settings, .. }) = read(alloc, text.as_slice()) else {
+        return Err(Fail::new("the settings are refused"));
+    };
+    let (Ok((clients, addresses)), Ok((markets, market_addresses))) = (
+        listeners(rt, alloc, NAMES.len()),
+        listeners(rt, alloc, PORTS),
+    ) else {
+        return Err(Fail::new("no listener"));
+    };
+    let (is_over, is_past) = (AtomicBool::new(false), AtomicBool::new(false));
+    let (is_over, is_past) = (&is_over, &is_past);
+    let market_addresses = market_addresses.as_slice();
+    let Ok(plan) = plan_of(rt, alloc, clients, market_addresses, is_over) else {
+        return Err(Fail::new("no memory"));
+    };
+    let addresses = addresses.as_slice();
+    let (ran, ended) = thread::scope(thread::scope_env(), rt, |scope| {
+        let markets = scope.spawn(move || accept_all(rt, alloc, markets, is_past));
+        let clients = scope.spawn(move || come_and_go(rt, alloc, addresses));
+        let ran = run(rt, alloc, settings, plan, is_over);
+        is_past.store(true, Ordering::SeqCst);
+        let (Ok(markets), Ok(clients)) = (markets, clients) else {
+            return (ran, Err(DemoFault::NoThread));
+        };
+        (ran, markets.join(rt).and(clients.join(rt)))
+    });
+    assert!(rt; ended == Ok(()));
+    let Ok(day) = ran else {
+        return Err(Fail::new("the gateway did not run to its end"));
+    };
+    let (mut output, mut errors) = (Vec::new(alloc), Vec::new(alloc));
+    assert_eq!(rt; audit_day(alloc, &day, &mut output, &mut errors), 0);
+    assert!(rt; output.as_slice() == b"orders 0 agree 0\n".as_slice());
+    assert!(rt; errors.is_empty());
+    assert!(rt; day.fault().is_none());
+    Ok(())
+}
