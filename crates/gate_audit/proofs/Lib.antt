@@ -14,3 +14,4 @@ mod Pairing
 mod Whole
 mod Counting
 mod Held
+mod Shelved

@@ -72,14 +72,14 @@ impl Openings {
     }
 }
 
-/// The orders that the reports of these batches opened, the oldest first.
+/// The orders that the reports of these batches opened, the oldest first, and how many tokens were given.
 ///
 /// A token is given with each new order and each replace that is accepted, of whichever client. `TooLarge` where more
 /// were given than there are, or else `NoMemory`.
 ///
 /// Source: FIX 4.4 Volume 6, "ExecType"; OUCH 4.2, "Enter Order Message".
-pub fn openings_of(alloc: Global, batches: &[Batch]) -> Result<Vec<Opening>, ReadingFault>
-    ensures opened { IfOk result (λ orders. orders.items
+pub fn openings_of(alloc: Global, batches: &[Batch]) -> Result<Openings, ReadingFault>
+    ensures opened { IfOk result (λ openings. openings.orders.items
         ≡ reverse (read.opened_orders (reverse (read.said_by_batches batches.now)))) }
     ensures tokens { OnOk result (read.HasTokenNumbers (reverse (read.said_by_batches batches.now))) }
     ensures large { IsErrOf result ReadingFault.TooLarge
@@ -91,7 +91,7 @@ pub fn openings_of(alloc: Global, batches: &[Batch]) -> Result<Vec<Opening>, Rea
             openings.hear_all(alloc, client.number(), &batch.reports)?;
         }
     }
-    Ok(openings.orders)
+    Ok(openings)
 }
 
 /// The number of the next token, where so many were given. `TooLarge` where there is none.

@@ -1,9 +1,11 @@
 //! The audit: each accepted order by both of its accounts.
 
-ghost use Rattle.std.specs.Prelude.{◌≡◌, ◌≤◌, ◌++◌, IfOk, OnOk, IsErrOf, length, map, reverse};
+ghost use Rattle.std.specs.Prelude.{◌≡◌, ◌≤◌, ◌++◌, List, IfOk, OnOk, IsErrOf, length, map, reverse};
 ghost use Rattle.gate_law.specs.Holds.{Holds};
 ghost use Rattle.gate_law.specs.Settings.{port_of, port_terms};
 ghost use Rattle.order_accounts.specs.Held.{StaysHeld};
+ghost use Rattle.fix_fields.specs.Field.{Message};
+ghost use Rattle.order_shelves.specs.Shelved.{HasReports};
 ghost use Rattle.gate_journal.specs.Kept.{turns};
 ghost use Rattle.gate_audit.specs.Again.{called_again};
 ghost use Rattle.gate_audit.specs.Pairs as read;
@@ -13,14 +15,16 @@ use crate::messages::handled_messages;
 use crate::opening::Opening;
 use crate::openings::openings_of;
 use crate::order_pair::OrderPair;
-use crate::reports::reports_of;
-use fix_fields::Fields;
+use crate::reports::shelved_reports;
 use gate_core::{ClientNumber, PortNumber, Settings};
 use gate_journal::History;
 use order_accounts::{ReadingFault, life_of, reading_of};
 use order_law::Account;
-use ouch_codec::Outbound;
+use order_shelves::{MessageShelves, ReportShelves};
 use std::alloc::Global;
+
+/// Shelves for the messages of a port: of more tokens than these several may lead to one shelf.
+const MOST_SHELVES: u64 = 1 << 32;
 
 /// Each order that was accepted by both of its accounts, by client and then in the order of acceptance, which is that
 /// of OrderIDs: what its client read of it, from the reports of the batches alone, and what the market said of it,
@@ -29,6 +33,9 @@ use std::alloc::Global;
 /// Of the history of a run these are the accepted new orders, and both accounts of each agree. `TooLarge` just where,
 /// after one of its client's reports, what was read of an order has a number that is larger than its integer holds,
 /// or more tokens were given than there are; or else `NoMemory`.
+///
+/// It takes as long as there are events and orders, times how many clients there are: what is read of an order is looked
+/// for on its shelf (`order_shelves`).
 ///
 /// Source: FIX 4.4 Volume 4, "Execution Report"; OUCH 4.2, "Outbound Messages".
 pub fn audit(
@@ -46,14 +53,25 @@ pub fn audit(
     ensures ascending { IfOk result (λ list. read.AreByOrder (accepted_new_orders settings.now (turns history.now))) }
 {
     let openings = openings_of(alloc, history.batches())?;
+    let tokens = openings.given.min(MOST_SHELVES) as usize;
     let mut pairs = Vec::new(alloc);
     for place in 0..settings.clients().len() {
         let client = (place + 1) as u16;
-        let reports = reports_of(alloc, ClientNumber::at_place(place), history.batches())?;
+        let number = ClientNumber::at_place(place);
+        let count = openings.orders.len();
+        let reports = shelved_reports(alloc, number, history.batches(), count)?;
         let own = &settings.clients()[place];
         let port = PortNumber::new(own.terms.port);
-        let handled = handled_messages(alloc, history, settings, port)?;
-        pair_all(alloc, client, &openings, &reports, &handled, &mut pairs)?;
+        let heard = handled_messages(alloc, history, settings, port)?;
+        let handled = MessageShelves::of(alloc, heard, tokens + 1)?;
+        pair_all(
+            alloc,
+            client,
+            &openings.orders,
+            &reports,
+            &handled,
+            &mut pairs,
+        )?;
     }
     Ok(pairs)
 }
@@ -63,16 +81,17 @@ fn pair_all(
     alloc: Global,
     client: u16,
     openings: &[Opening],
-    reports: &[Fields],
-    handled: &[Outbound],
+    reports: &ReportShelves,
+    handled: &MessageShelves,
     pairs: &mut Vec<OrderPair>,
 ) -> Result<(), ReadingFault>
-    ensures paired { IfOk result (λ u. pairs.new.items
-        ≡ pairs.old.items ++ map (read.pair_in (reverse reports.now) (reverse handled.now))
+    ensures paired { IfOk result (λ u. (sent : List Message) → HasReports sent reports.now → pairs.new.items
+        ≡ pairs.old.items ++ map (read.pair_in (reverse sent) (reverse handled.now))
         (read.orders_of client openings.now)) }
-    ensures held { OnOk result (read.AreHeld (reverse reports.now) (read.orders_of client openings.now)) }
-    ensures large { IsErrOf result ReadingFault.TooLarge
-        → read.AreHeld (reverse reports.now) (read.orders_of client openings.now) → ⊥ }
+    ensures held { OnOk result ((sent : List Message) → HasReports sent reports.now
+        → read.AreHeld (reverse sent) (read.orders_of client openings.now)) }
+    ensures large { IsErrOf result ReadingFault.TooLarge → (sent : List Message) → HasReports sent reports.now
+        → read.AreHeld (reverse sent) (read.orders_of client openings.now) → ⊥ }
 {
     for opening in openings {
         if opening.client == client {
@@ -86,15 +105,20 @@ fn pair_all(
 fn pair_of(
     alloc: Global,
     opening: &Opening,
-    reports: &[Fields],
-    handled: &[Outbound],
+    reports: &ReportShelves,
+    handled: &MessageShelves,
 ) -> Result<OrderPair, ReadingFault>
-    ensures paired { IfOk result (λ pair. pair ≡ read.pair_in (reverse reports.now) (reverse handled.now) opening.now) }
-    ensures held { OnOk result (StaysHeld opening.now.order (reverse reports.now)) }
-    ensures large { IsErrOf result ReadingFault.TooLarge → StaysHeld opening.now.order (reverse reports.now) → ⊥ }
+    ensures paired { IfOk result (λ pair. (sent : List Message) → HasReports sent reports.now
+        → pair ≡ read.pair_in (reverse sent) (reverse handled.now) opening.now) }
+    ensures held { OnOk result ((sent : List Message) → HasReports sent reports.now
+        → StaysHeld opening.now.order (reverse sent)) }
+    ensures large { IsErrOf result ReadingFault.TooLarge → (sent : List Message) → HasReports sent reports.now
+        → StaysHeld opening.now.order (reverse sent) → ⊥ }
 {
-    let reading = reading_of(alloc, opening.order.as_slice(), reports)?;
-    let life = life_of(alloc, &opening.root.bytes(), opening.side, handled)?;
+    let order = opening.order.as_slice();
+    let reading = reading_of(alloc, order, reports.on(order))?;
+    let root = opening.root.bytes();
+    let life = life_of(alloc, &root, opening.side, handled.on(&root))?;
     let (fix, ouch) = (reading.account(), life.account());
     Ok(OrderPair {
         client: opening.client,

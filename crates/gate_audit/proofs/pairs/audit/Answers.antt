@@ -1,4 +1,5 @@
-use Rattle.std.proofs.Common.{rules, ◌≡◌, ◌<◌, ◌+◌, ◌∙◌, ℕ, List, reverse, length, ap, sym, subst, arith, Err, get_or}
+use Rattle.std.proofs.Common.{rules, ◌≡◌, ◌<◌, ◌+◌, ◌∙◌, ℕ, List, reverse, length, ap, refl, sym, subst, subst₂, arith, Err, get_or}
+use Rattle.order_shelves.specs.Shelved.{HasReports}
 use Rattle.std.specs.Prelude.{IsErrOf}
 use Rattle.std.specs.List.{All}
 use Rattle.order_accounts.specs.declared.reading_fault.ReadingFault.{ReadingFault}
@@ -28,19 +29,18 @@ loop-place-preserved c =
     ∙ ap (λ (xs : List ClientSettings). (get_or xs n c.index-clients-place.result).terms.port) c.clients.ensures.clients
     ∙ sym (ap (λ (t : Terms). t.port) (terms-at s.clients n c.index-clients-place.result inside)) in
     let same : length h.batches ≡ length h.events = ap length (sym c.batches.ensures.batches) ∙ c.batches.ensures.count in
-    let reports : c.deref-in-loop-place.result.now ≡ reports_to (n + 1) h.batches =
-    c.deref-in-loop-place.ensures.value ∙ c.in_ok-reports.ensures ∙ ap (λ (k : ℕ). reports_to k c.batches-in-loop-place.result.now) c.at_place.ensures
-    ∙ ap (reports_to (n + 1)) c.batches-in-loop-place.ensures.batches in
+    let has : HasReports (reports_to (n + 1) h.batches) c.in_ok-reports.reports =
+    subst₂ (λ (k : ℕ) (bs : List Batch). HasReports (reports_to k bs) c.in_ok-reports.reports) c.at_place-number.ensures c.batches-in-loop-place.ensures.batches c.in_ok-reports.ensures in
     let openings : c.deref.result.now ≡ reverse (read.opened_orders (reverse (read.said_by_batches h.batches))) =
     c.deref.ensures.value ∙ c.in_ok-openings.ensures.opened ∙ ap (λ (bs : List Batch). reverse (read.opened_orders (reverse (read.said_by_batches bs)))) c.batches.ensures.batches in
     record {
       pairs =
-          c.in_ok-pair_all.ensures.paired
-          ∙ pairs-more s n c.new-port.result c.loop-place.pairs.items c.deref-in-loop-place.result.now c.deref-in-loop-place-2.result.now c.deref.result.now h.events h.batches
-          same reports port (c.deref-in-loop-place-2.ensures.value ∙ c.in_ok-handled.ensures.read) openings c.loop-place.invariant.pairs;
+          c.in_ok-pair_all.ensures.paired (reports_to (n + 1) h.batches) has
+          ∙ pairs-more s n c.new-port.result c.loop-place.pairs.items (reports_to (n + 1) h.batches) c.in_ok-handled.handled c.deref.result.now h.events h.batches
+          same refl port (c.in_ok-handled.ensures ∙ c.in_ok-heard.ensures.read) openings c.loop-place.invariant.pairs;
       held =
           known-more (λ (k : ℕ). read.AreHeld (told_by_batches k (turns h)) (reverse (read.orders_of k (read.opened_orders (read.said_to_clients (turns h)))))) n c.loop-place.invariant.held
-          (held-now h.events h.batches (n + 1) same c.deref-in-loop-place.result.now c.deref.result.now reports openings c.in_ok-pair_all.ensures.held);
+          (held-now h.events h.batches (n + 1) same (reports_to (n + 1) h.batches) c.deref.result.now refl openings (c.in_ok-pair_all.ensures.held (reports_to (n + 1) h.batches) has));
     }
 
 pub returns-clause-run : goal.returns-clause-run
@@ -80,11 +80,10 @@ returns-in_err-pair_all-clause-large c err held tokens =
     let n = c.loop-place.place in
     let inside : n < length s.clients = omega (arith, c.loop-place-test.true, c.loop-place.auto.place-end, ap length c.clients-place-end.ensures.clients) in
     let same : length h.batches ≡ length h.events = ap length (sym c.batches.ensures.batches) ∙ c.batches.ensures.count in
-    let reports : c.deref-in-loop-place.result.now ≡ reports_to (n + 1) h.batches =
-    c.deref-in-loop-place.ensures.value ∙ c.in_ok-reports.ensures ∙ ap (λ (k : ℕ). reports_to k c.batches-in-loop-place.result.now) c.at_place.ensures
-    ∙ ap (reports_to (n + 1)) c.batches-in-loop-place.ensures.batches in
+    let has : HasReports (reports_to (n + 1) h.batches) c.in_ok-reports.reports =
+    subst₂ (λ (k : ℕ) (bs : List Batch). HasReports (reports_to k bs) c.in_ok-reports.reports) c.at_place-number.ensures c.batches-in-loop-place.ensures.batches c.in_ok-reports.ensures in
     let openings : c.deref.result.now ≡ reverse (read.opened_orders (reverse (read.said_by_batches h.batches))) =
     c.deref.ensures.value ∙ c.in_ok-openings.ensures.opened ∙ ap (λ (bs : List Batch). reverse (read.opened_orders (reverse (read.said_by_batches bs)))) c.batches.ensures.batches in
     let own_error : IsErrOf {T = Unit {0}} {E = ReadingFault} (Err c.in_err-pair_all.field-0.0) TooLarge = search (rules, c.from_residual-in_err-pair_all.ensures, err) in
-    c.in_err-pair_all.ensures.large own_error
-    (held-then h.events h.batches (n + 1) same c.deref-in-loop-place.result.now c.deref.result.now reports openings (held (n + 1) (omega arith) (omega (arith, inside))))
+    c.in_err-pair_all.ensures.large own_error (reports_to (n + 1) h.batches) has
+    (held-then h.events h.batches (n + 1) same (reports_to (n + 1) h.batches) c.deref.result.now refl openings (held (n + 1) (omega arith) (omega (arith, inside))))

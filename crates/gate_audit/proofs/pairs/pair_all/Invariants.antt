@@ -1,9 +1,11 @@
-use Rattle.std.proofs.Common.{◌≡◌, ◌++◌, map, reverse, take}
+use Rattle.std.proofs.Common.{◌≡◌, ◌++◌, List, map, reverse, take}
+use Rattle.fix_fields.specs.Field.{Message}
+use Rattle.order_shelves.specs.Shelved.{HasReports}
 use Rattle.gate_audit.specs.Pairs as read
 use Rattle.gate_audit.proofs.pairs.pair_all.Given as goal
 
 abbrev pub invariant-loop-opening : goal.invariant-loop-opening
 invariant-loop-opening l = record {
-  paired : l.pairs.items ≡ l.fn.pairs.items ++ map (read.pair_in (reverse l.reports) (reverse l.handled)) (read.orders_of l.client (take l.opening-index l.openings));
-  held : read.AreHeld (reverse l.reports) (read.orders_of l.client (take l.opening-index l.openings));
+  paired : (sent : List Message) → HasReports sent l.reports → l.pairs.items ≡ l.fn.pairs.items ++ map (read.pair_in (reverse sent) (reverse l.handled)) (read.orders_of l.client (take l.opening-index l.openings));
+  held : (sent : List Message) → HasReports sent l.reports → read.AreHeld (reverse sent) (read.orders_of l.client (take l.opening-index l.openings));
 }

@@ -1,0 +1,4 @@
+mod Placing
+mod Shelving
+mod ReadAlike
+mod LivedAlike

@@ -1,0 +1,14 @@
+use Rattle.std.proofs.Common.{◌≡◌, ◌<◌, true, false, rules}
+use Rattle.std.proofs.lemmas.Bool.{and_from, and_parts, false_from_ne_true, lt-ltb, ltb-true}
+use Rattle.std.specs.Char.{is_ascii_digit}
+use Rattle.std.specs.List.{list_all}
+use Rattle.std.specs.Prelude.{nat_lt}
+use Rattle.decimal_digits.specs.Digits.{number_of}
+use Rattle.order_shelves.proofs.Placing.{placed, unplaced}
+use Rattle.order_shelves.proofs.places.place_of.Goals as goal
+
+pub returns-in-Some-clause-place : goal.returns-in-Some-clause-place
+returns-in-Some-clause-place c = placed c.args.count c.args.digits.now c.number_of.result c.in-Some.number c.number_of.ensures c.in-Some.is
+
+pub returns-in-None-clause-place : goal.returns-in-None-clause-place
+returns-in-None-clause-place c = unplaced c.args.count c.args.digits.now c.number_of.result c.number_of.ensures c.in-None.is
