@@ -6,7 +6,7 @@ import os
 import re
 import sys
 
-KIT = {"clap", "indexmap", "io", "itoa", "jiff", "jiff_core", "rand_core", "rand_pcg", "rtrb", "thiserror", "toml"}
+KIT = {"clap", "indexmap", "io", "itoa", "jiff", "jiff_core", "memchr", "rand_core", "rand_pcg", "rtrb", "thiserror", "toml"}
 CRATES = set(os.listdir("crates"))
 IN_SPECS = re.compile(r"\bRattle\.([a-z_0-9]+)\.")
 IN_CODE = re.compile(r"(?<![:\w.])(?:use )?::?([a-z_0-9]+)::|(?<![:\w.])([a-z_0-9]+)::|^\s*(?:pub )?use ([a-z_0-9]+)\b", re.M)

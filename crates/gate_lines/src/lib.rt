@@ -8,7 +8,7 @@
 //! lines printed stays.
 //!
 //! `run_script` runs a script, `audit_script` audits what it comes to, `write_audit` writes the audit of any
-//! history's pairs.
+//! history's pairs, `script_history` gives the history itself.
 #![tactic(auto)]
 
 mod audit;
@@ -18,4 +18,5 @@ mod stop;
 pub use audit::audit_script;
 pub use audit_lines::write_audit;
 pub use batch_lines::Flags;
-pub use script::run_script;
+pub use script::{run_script, script_history, tell};
+pub use stop::Stop;

@@ -4,11 +4,13 @@
 use gate_lines::audit_script;
 use gateway_command::{Asked, asked, links_of};
 use gateway_demo::show_demo;
-use gateway_run::run_settings;
+use gateway_run::{Day, audit_day, end_day, run_settings, tell};
+use journal_audit::{audit_file, script_file};
 use market_book::Choice;
 use script_command::tell_refusal;
 use settings_file::{SettingsFault, SettingsFile, read};
 use std::alloc::Global;
+use std::fs::File;
 use std::io::{self, BufWriter, ErrorKind, Write};
 use std::net::{Net, TcpListener, TcpStream};
 use std::process::ExitCode;
@@ -23,13 +25,26 @@ fn main(rt: HostRuntime) -> ExitCode {
         Err(status) => return status,
     };
     match asked(rt.alloc(), words.as_slice()) {
-        Ok(Some(Asked::Audit(path))) => audit_file(&rt, path),
-        Ok(Some(Asked::Run(path, links))) => match settings_at(&rt, path, links) {
-            Ok((file, links)) => serve_file(&rt, rt.alloc(), file, links, &mut rt.stderr()),
+        Ok(Some(Asked::Audit(path))) => with_script(&rt, path, false),
+        Ok(Some(Asked::Keep(path))) => with_script(&rt, path, true),
+        Ok(Some(Asked::AuditDay { journal, settings })) => audit_journal(&rt, journal, settings),
+        Ok(
+            Some(
+                Asked::Run {
+                    settings,
+                    links,
+                    journal,
+                },
+            ),
+        ) => match asked_run(&rt, settings, links, journal) {
+            Ok(asked) => serve_file(&rt, rt.alloc(), asked, &mut rt.stderr()),
             Err(status) => status,
         },
         Ok(Some(Asked::Demo)) => demonstrate(&rt, rt.alloc(), &mut rt.stderr()),
-        Ok(None) => refused(&rt, "nothing is asked for"),
+        Ok(None) => refused(
+            &rt,
+            "an audit is of --script FILE, or of --journal FILE with --settings FILE",
+        ),
         Err(error) => ExitCode::from(tell_refusal(&error, &mut io::writer(&rt), &mut rt.stderr())),
     }
 }
@@ -47,10 +62,10 @@ fn words_of(rt: &HostRuntime) -> Result<Vec<String>, ExitCode> {
     }
 }
 
-/// Audits the script in a file.
-fn audit_file(rt: &HostRuntime, path: &str) -> ExitCode {
+/// Audits the script in a file, or writes its day as a journal.
+fn with_script(rt: &HostRuntime, path: &str, is_kept: bool) -> ExitCode {
     match file_at(rt, path) {
-        Ok(script) => audit_bytes(rt, script.as_slice()),
+        Ok(script) => with_lines(rt, script.as_slice(), is_kept),
         Err(status) => status,
     }
 }
@@ -67,29 +82,48 @@ fn file_at(rt: &HostRuntime, path: &str) -> Result<Vec<u8>, ExitCode> {
     }
 }
 
-/// Audits a script.
-fn audit_bytes(rt: &HostRuntime, script: &[u8]) -> ExitCode {
+/// Audits a script, or writes its day as a journal.
+fn with_lines(rt: &HostRuntime, script: &[u8], is_kept: bool) -> ExitCode {
     let alloc = rt.alloc();
     let Ok(mut output) = BufWriter::new(alloc, io::writer(rt)) else {
         return out_of_memory(rt);
     };
     let mut input = script;
-    let status = audit_script(alloc, &mut input, &mut output, &mut rt.stderr());
+    let status = if is_kept {
+        script_file(alloc, &mut input, &mut output, &mut rt.stderr())
+    } else {
+        audit_script(alloc, &mut input, &mut output, &mut rt.stderr())
+    };
     ExitCode::from(status)
 }
 
-/// The settings in a file and how many links are served, or the status where they are refused.
-fn settings_at(
-    rt: &HostRuntime,
-    path: &str,
-    links: Option<&str>,
-) -> Result<(SettingsFile, u16), ExitCode> {
-    let Some(links) = links_of(links) else {
-        return Err(refused(rt, "--links is a number from 1 to 1000"));
+/// Audits the day that a journal's file keeps.
+fn audit_journal(rt: &HostRuntime, journal: &str, settings: &str) -> ExitCode {
+    let file = match settings_at(rt, settings) {
+        Ok(file) => file,
+        Err(status) => return status,
     };
+    match file_at(rt, journal) {
+        Ok(day) => audit_day_of(rt, day.as_slice(), &file),
+        Err(status) => status,
+    }
+}
+
+/// Audits a day by its settings.
+fn audit_day_of(rt: &HostRuntime, day: &[u8], file: &SettingsFile) -> ExitCode {
+    let alloc = rt.alloc();
+    let Ok(mut output) = BufWriter::new(alloc, io::writer(rt)) else {
+        return out_of_memory(rt);
+    };
+    let status = audit_file(alloc, day, &file.settings, &mut output, &mut rt.stderr());
+    ExitCode::from(status)
+}
+
+/// The settings in a file, or the status where they are refused.
+fn settings_at(rt: &HostRuntime, path: &str) -> Result<SettingsFile, ExitCode> {
     let text = file_at(rt, path)?;
     match read(rt.alloc(), text.as_slice()) {
-        Ok(file) => Ok((file, links)),
+        Ok(file) => Ok(file),
         Err(SettingsFault::NoMemory) => Err(out_of_memory(rt)),
         Err(SettingsFault::Refused(key)) => {
             let _ = eprintln!(rt; "gateway: settings: {key}");
@@ -98,14 +132,54 @@ fn settings_at(
     }
 }
 
-/// Runs a gateway by its settings.
-fn serve_file<R, F: Write>(
-    rt: &R,
-    alloc: Global,
+/// A gateway that is to be run: its settings, how many links of each client are served, and where its day's journal goes.
+#[derive(Drop)]
+struct AskedRun {
     file: SettingsFile,
     links: u16,
-    faults: &mut F,
-) -> ExitCode
+    journal: Option<File>,
+}
+
+/// What `run` asks for, or the status where it is refused. The journal's file is made, and may not be there before.
+fn asked_run(
+    rt: &HostRuntime,
+    settings: &str,
+    links: Option<&str>,
+    journal: Option<&str>,
+) -> Result<AskedRun, ExitCode> {
+    let Some(links) = links_of(links) else {
+        return Err(refused(rt, "--links is a number from 1 to 1000"));
+    };
+    let file = settings_at(rt, settings)?;
+    let journal = match journal {
+        Some(path) => Some(new_file(rt, path)?),
+        None => None,
+    };
+    Ok(AskedRun {
+        file,
+        links,
+        journal,
+    })
+}
+
+/// A file that is made new, or the status where it can't be.
+fn new_file(rt: &HostRuntime, path: &str) -> Result<File, ExitCode> {
+    match File::create_new(rt, path) {
+        Ok(file) => Ok(file),
+        Err(error) if error.kind() == ErrorKind::OutOfMemory => Err(out_of_memory(rt)),
+        Err(error) if error.kind() == ErrorKind::AlreadyExists => {
+            let _ = eprintln!(rt; "gateway: {path} is there already");
+            Err(ExitCode::from(2))
+        }
+        Err(_) => {
+            let _ = eprintln!(rt; "gateway: cannot write {path}");
+            Err(ExitCode::from(2))
+        }
+    }
+}
+
+/// Runs a gateway by its settings, and ends its day.
+fn serve_file<R, F: Write>(rt: &R, alloc: Global, asked: AskedRun, faults: &mut F) -> ExitCode
 where
     R: Threads
         + Wait
@@ -119,7 +193,30 @@ where
         let _ = writeln!(faults, "out of memory");
         return ExitCode::from(1);
     };
-    ExitCode::from(run_settings(rt, alloc, file, links, &mut output, faults))
+    let AskedRun {
+        file,
+        links,
+        journal,
+    } = asked;
+    let status = match run_settings(rt, alloc, file, u32::from(links)) {
+        Ok(day) => ended(alloc, &day, journal, &mut output, faults),
+        Err(fault) => tell(fault, faults),
+    };
+    ExitCode::from(status)
+}
+
+/// Ends a day: writes its journal, where there is to be one, and its audit.
+fn ended<W: Write, F: Write>(
+    alloc: Global,
+    day: &Day,
+    journal: Option<File>,
+    output: &mut W,
+    faults: &mut F,
+) -> u8 {
+    match journal {
+        Some(mut journal) => end_day(alloc, day, &mut journal, output, faults),
+        None => audit_day(alloc, day, output, faults),
+    }
 }
 
 /// Shows a gateway on loopback.

@@ -1,5 +1,5 @@
--- The command line of `gateway`: `audit --script FILE`, `run --settings FILE [--links N]`, `demo`, and nothing else but
--- a call for help.
+-- The command line of `gateway`: `audit --script FILE` or `audit --journal FILE --settings FILE`, `journal --script FILE`,
+-- `run --settings FILE [--links N] [--journal FILE]`, `demo`, and nothing else but a call for help.
 use Rattle.std.specs.Prelude.{ℕ, true, List, Option, Some, None, codes, if◌then◌else◌, option_and_then, option_map, nat_le, ◌&&◌}
 use Rattle.std.specs.Char.{is_ascii_digit}
 use Rattle.std.specs.List.{list_all}
@@ -22,13 +22,19 @@ value_rule name = record (new_rule name) {
 abbrev pub required_rule : Text → Rule
 required_rule name = record (value_rule name) { required = true }
 
--- `audit --script FILE`
+-- `audit --script FILE`, or `audit --journal FILE --settings FILE`
 abbrev pub audit : App
-audit = with_rule (new_app (codes "audit")) (required_rule (codes "script"))
+audit = with_rule (with_rule (with_rule (new_app (codes "audit")) (value_rule (codes "script"))) (value_rule (codes "journal")))
+    (value_rule (codes "settings"))
 
--- `run --settings FILE [--links N]`
+-- `journal --script FILE`
+abbrev pub journal : App
+journal = with_rule (new_app (codes "journal")) (required_rule (codes "script"))
+
+-- `run --settings FILE [--links N] [--journal FILE]`
 abbrev pub run : App
-run = with_rule (with_rule (new_app (codes "run")) (required_rule (codes "settings"))) (value_rule (codes "links"))
+run = with_rule (with_rule (with_rule (new_app (codes "run")) (required_rule (codes "settings"))) (value_rule (codes "links")))
+    (value_rule (codes "journal"))
 
 -- `demo`
 abbrev pub demo : App
@@ -41,9 +47,13 @@ alone = record (new_app (codes "gateway")) {
       (new_shape (codes "gateway")) { subcommand_required = true; arg_required_else_help = true };
 }
 
+-- a command with a subcommand more
+abbrev pub with_command : App → App → App
+with_command command more = with_subcommand command more.top
+
 -- `gateway` with its subcommands
 abbrev pub gateway : App
-gateway = with_subcommand (with_subcommand (with_subcommand alone run.top) demo.top) audit.top
+gateway = with_command (with_command (with_command (with_command alone run) demo) audit) journal
 
 -- the subcommand that `clap` finds in the words of a command line, with its arguments, and why it refuses them
 unfoldable pub gateway_found : List Text → Option (Text × List Row)
@@ -52,23 +62,52 @@ gateway_found words = subcommand_of gateway words
 unfoldable pub gateway_faults : List Text → Kinds
 gateway_faults words = fault_of gateway words
 
--- what a command line asks for: the audit of a script's file; a gateway by the settings in a file, with so many links;
--- or the demonstration
+-- what a command line asks for: the audit of a script's file; that of the day in a journal's file, by the settings in a
+-- file; the day of a script's file as a journal; a gateway by the settings in a file, with so many links, and a file for
+-- its journal; or the demonstration
 pub data Asking : Type 0 where
   Audits : (script : Text) → Asking
-  Runs : (settings : Text) (links : Option Text) → Asking
+  AuditsDay : (journal : Text) (settings : Text) → Asking
+  Keeps : (script : Text) → Asking
+  Runs : (settings : Text) (links : Option Text) (journal : Option Text) → Asking
   Demonstrates : Asking
 
--- what a subcommand asks for, by its name and its arguments
+-- What a subcommand asks for, by its name and its arguments. An audit is of a script alone, or of a journal with its
+-- settings; of anything else it is none.
+abbrev pub bare_asked : Text → Option Text → Option Asking
+bare_asked script None = Some (Audits script)
+bare_asked script (Some _) = None
+
+abbrev pub journal_asked : Text → Option Text → Option Asking
+journal_asked journal settings = option_map (AuditsDay journal) settings
+
+abbrev pub script_asked : Text → Option Text → Option Text → Option Asking
+script_asked script None settings = bare_asked script settings
+script_asked script (Some _) settings = None
+
+abbrev pub day_asked : Option Text → Option Text → Option Asking
+day_asked None settings = None
+day_asked (Some journal) settings = journal_asked journal settings
+
+abbrev pub audit_of : Option Text → Option Text → Option Text → Option Asking
+audit_of None journal settings = day_asked journal settings
+audit_of (Some script) journal settings = script_asked script journal settings
+
 abbrev pub audit_asked : List Row → Option Asking
-audit_asked rows = option_map Audits (first_of (codes "script") rows)
+audit_asked rows = audit_of (first_of (codes "script") rows) (first_of (codes "journal") rows) (first_of (codes "settings") rows)
+
+abbrev pub keep_asked : List Row → Option Asking
+keep_asked rows = option_map Keeps (first_of (codes "script") rows)
 
 abbrev pub run_asked : List Row → Option Asking
-run_asked rows = option_map (λ (file : Text). Runs file (first_of (codes "links") rows)) (first_of (codes "settings") rows)
+run_asked rows = option_map
+    (λ (file : Text). Runs file (first_of (codes "links") rows) (first_of (codes "journal") rows))
+    (first_of (codes "settings") rows)
 
 unfoldable pub asked_by : Text → List Row → Option Asking
 asked_by name rows =
     if bytes_eq name (codes "audit") then audit_asked rows
+    else if bytes_eq name (codes "journal") then keep_asked rows
     else if bytes_eq name (codes "run") then run_asked rows
     else if bytes_eq name (codes "demo") then Some Demonstrates
     else None

@@ -3,13 +3,18 @@ use Rattle.std.specs.Prelude.{◌≡◌, refl, List, [], ◌∷◌, Some, None, 
 use Rattle.clap.specs.Words.{Text, Kinds}
 use Rattle.clap.specs.declared.error.kind.ErrorKind.TheVariants as kind
 use Rattle.clap.proofs.OnLiterals.{clap_on_literals}
-use Rattle.gateway_command.specs.Command.{Asking, Audits, Runs, Demonstrates, asked_by, asked_of, gateway_found, gateway_faults, links_of}
+use Rattle.gateway_command.specs.Command.{Asking, Audits, AuditsDay, Demonstrates, Keeps, Runs}
+use Rattle.gateway_command.specs.Command.{asked_by, asked_of, gateway_found, gateway_faults, links_of}
 
 abbrev line : List Text → List Text
 line words = codes "gateway" ∷ words
 
 abbrev Asks : List Text → Asking → Type 0
 Asks words asking = (asked_of (line words) ≡ Some asking) × (gateway_faults (line words) ≡ [])
+
+-- nothing is asked for, though `clap` refuses nothing
+abbrev Vainly : List Text → Type 0
+Vainly words = (asked_of (line words) ≡ None) × (gateway_faults (line words) ≡ [])
 
 abbrev Refuses : List Text → Kinds → Type 0
 Refuses words kinds = gateway_faults (line words) ≡ kinds
@@ -22,14 +27,28 @@ in_one_word : Asks (codes "audit" ∷ codes "--script=a.script" ∷ []) (Audits 
 unfolding clap_on_literals gateway_found gateway_faults asked_by
 in_one_word = (refl, refl)
 
-a_gateway : Asks (codes "run" ∷ codes "--settings" ∷ codes "a.toml" ∷ []) (Runs (codes "a.toml") None)
+a_gateway : Asks (codes "run" ∷ codes "--settings" ∷ codes "a.toml" ∷ []) (Runs (codes "a.toml") None None)
 unfolding clap_on_literals gateway_found gateway_faults asked_by
 a_gateway = (refl, refl)
 
 a_gateway_of_two_links : Asks (codes "run" ∷ codes "--links" ∷ codes "2" ∷ codes "--settings" ∷ codes "a.toml" ∷ [])
-    (Runs (codes "a.toml") (Some (codes "2")))
+    (Runs (codes "a.toml") (Some (codes "2")) None)
 unfolding clap_on_literals gateway_found gateway_faults asked_by
 a_gateway_of_two_links = (refl, refl)
+
+a_gateway_with_a_journal : Asks (codes "run" ∷ codes "--settings" ∷ codes "a.toml" ∷ codes "--journal" ∷ codes "a.day" ∷ [])
+    (Runs (codes "a.toml") None (Some (codes "a.day")))
+unfolding clap_on_literals gateway_found gateway_faults asked_by
+a_gateway_with_a_journal = (refl, refl)
+
+a_day : Asks (codes "audit" ∷ codes "--settings" ∷ codes "a.toml" ∷ codes "--journal" ∷ codes "a.day" ∷ [])
+    (AuditsDay (codes "a.day") (codes "a.toml"))
+unfolding clap_on_literals gateway_found gateway_faults asked_by
+a_day = (refl, refl)
+
+a_script_as_a_day : Asks (codes "journal" ∷ codes "--script" ∷ codes "a.script" ∷ []) (Keeps (codes "a.script"))
+unfolding clap_on_literals gateway_found gateway_faults asked_by
+a_script_as_a_day = (refl, refl)
 
 a_demonstration : Asks (codes "demo" ∷ []) Demonstrates
 unfolding clap_on_literals gateway_found gateway_faults asked_by
@@ -39,9 +58,26 @@ a_missing_file : Refuses (codes "audit" ∷ codes "--script" ∷ []) (kind.Inval
 unfolding clap_on_literals gateway_faults
 a_missing_file = refl
 
-no_option : Refuses (codes "audit" ∷ []) (kind.MissingRequiredArgument ∷ [])
+no_option : Refuses (codes "journal" ∷ []) (kind.MissingRequiredArgument ∷ [])
 unfolding clap_on_literals gateway_faults
 no_option = refl
+
+-- an audit of nothing; of a journal without settings; of a script with settings, or with a journal
+no_audit : Vainly (codes "audit" ∷ [])
+unfolding clap_on_literals gateway_found gateway_faults asked_by
+no_audit = (refl, refl)
+
+no_settings_of_a_day : Vainly (codes "audit" ∷ codes "--journal" ∷ codes "a.day" ∷ [])
+unfolding clap_on_literals gateway_found gateway_faults asked_by
+no_settings_of_a_day = (refl, refl)
+
+settings_of_a_script : Vainly (codes "audit" ∷ codes "--script" ∷ codes "a.script" ∷ codes "--settings" ∷ codes "a.toml" ∷ [])
+unfolding clap_on_literals gateway_found gateway_faults asked_by
+settings_of_a_script = (refl, refl)
+
+a_script_and_a_journal : Vainly (codes "audit" ∷ codes "--script" ∷ codes "a.script" ∷ codes "--journal" ∷ codes "a.day" ∷ [])
+unfolding clap_on_literals gateway_found gateway_faults asked_by
+a_script_and_a_journal = (refl, refl)
 
 no_settings : Refuses (codes "run" ∷ codes "--links" ∷ codes "2" ∷ []) (kind.MissingRequiredArgument ∷ [])
 unfolding clap_on_literals gateway_faults

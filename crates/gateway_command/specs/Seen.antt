@@ -1,10 +1,13 @@
 -- What a command line asks for, as contracts see it.
 use Rattle.std.specs.Prelude.{option_map}
-use Rattle.gateway_command.specs.Command.{Asking, Audits, Runs, Demonstrates}
+use Rattle.gateway_command.specs.Command.{Asking, Audits, AuditsDay, Demonstrates, Keeps, Runs}
 use Rattle.gateway_command.specs.declared.asking.Asked.{Asked}
 use Rattle.gateway_command.specs.declared.asking.Asked.TheVariants as asked
 
 unfoldable pub asked_seen : Asked → Asking
 asked_seen (asked.Audit script) = Audits script.now
-asked_seen (asked.Run settings links) = Runs settings.now (option_map (λ text. text.now) links)
+asked_seen (asked.AuditDay journal settings) = AuditsDay journal.now settings.now
+asked_seen (asked.Keep script) = Keeps script.now
+asked_seen (asked.Run settings links journal) = Runs settings.now (option_map (λ text. text.now) links)
+    (option_map (λ text. text.now) journal)
 asked_seen asked.Demo = Demonstrates

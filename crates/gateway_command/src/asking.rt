@@ -10,8 +10,24 @@ use decimal_digits::{are_digits, number_of};
 pub enum Asked<'a> {
     /// The audit of the script in this file.
     Audit(&'a str),
-    /// A gateway by the settings in this file, with so many links of each client, as it was said.
-    Run(&'a str, Option<&'a str>),
+    /// The audit of the day that a journal's file keeps, by the settings in a file.
+    AuditDay {
+        /// The journal's file.
+        journal: &'a str,
+        /// The settings' file.
+        settings: &'a str,
+    },
+    /// The day of the script in this file, as a journal.
+    Keep(&'a str),
+    /// A gateway by the settings in a file.
+    Run {
+        /// The settings' file.
+        settings: &'a str,
+        /// How many links of each client are served, as it was said.
+        links: Option<&'a str>,
+        /// The file that the day's journal is written to.
+        journal: Option<&'a str>,
+    },
     /// The demonstration.
     Demo,
 }

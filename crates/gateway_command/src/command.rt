@@ -1,21 +1,21 @@
 //! The command line of `gateway`, as `clap` reads it.
 
-ghost use Rattle.std.specs.Prelude.{◌≡◌, false, IfOk, map, option_map};
-ghost use Rattle.clap.specs.Words.{FailsBy, app_of, first_of, found_of, rows_of, rule_of, subcommand_rows_of};
+ghost use Rattle.std.specs.Prelude.{◌≡◌, codes, false, IfOk, map, option_map};
+ghost use Rattle.clap.specs.Words.{FailsBy, app_of, first_of, found_of, rows_of, rule_of, subcommand_rows_of, with_rule};
 ghost use Rattle.clap.specs.declared.builder.command.Command.{out-Command as fields_of};
 ghost use Rattle.gateway_command.specs.Command as spec;
 ghost use Rattle.gateway_command.specs.Seen.{asked_seen};
 
 use crate::asking::Asked;
-use crate::help::{AUDIT, DEMO, RUN};
+use crate::help::{AUDIT, DEMO, JOURNAL, RUN};
 use clap::{Arg, ArgAction, ArgMatches, Command, Error};
 use std::alloc::{AllocError, Global};
 use std::convert::AsStr;
 
 /// What a command line asks for; its first word is the program's name.
 ///
-/// An error tells why the command line is refused, or is the help that it asks for, or says that memory ran out.
-/// `None` isn't answered: a subcommand and what it needs are required.
+/// An error tells why the command line is refused, or is the help that it asks for, or says that memory ran out. `None`
+/// is answered of an `audit` that names neither a script alone nor a journal with its settings.
 pub fn asked<'a, S: AsStr>(alloc: Global, words: &'a [S]) -> Result<Option<Asked<'a>>, Error>
     ensures asked { IfOk result (λ asked. option_map asked_seen asked ≡ spec.asked_of (map S.text words.now)) }
     ensures refused { FailsBy (spec.gateway_faults (map S.text words.now)) result }
@@ -49,6 +49,7 @@ fn asked_by<'a>(name: &str, found: &ArgMatches<'a>) -> Option<Asked<'a>>
 {
     match name {
         "audit" => audit_asked(found),
+        "journal" => keep_asked(found),
         "run" => run_asked(found),
         "demo" => Some(Asked::Demo),
         _ => None,
@@ -60,7 +61,59 @@ fn audit_asked<'a>(found: &ArgMatches<'a>) -> Option<Asked<'a>>
     ensures { option_map asked_seen result ≡ spec.audit_asked (rows_of (found_of found.now)) }
 {
     match value_of(found, "script") {
-        Some(script) => Some(Asked::Audit(script)),
+        Some(script) => script_asked(found, script),
+        None => day_asked(found),
+    }
+}
+
+/// What `audit` asks for with a script: its audit, where neither a journal nor settings are named.
+fn script_asked<'a>(found: &ArgMatches<'a>, script: &'a str) -> Option<Asked<'a>>
+    ensures { option_map asked_seen result ≡ spec.script_asked script.now (first_of (codes "journal") (rows_of (found_of found.now)))
+        (first_of (codes "settings") (rows_of (found_of found.now))) }
+{
+    match value_of(found, "journal") {
+        Some(_) => None,
+        None => bare_asked(found, script),
+    }
+}
+
+/// The same, where no journal is named.
+fn bare_asked<'a>(found: &ArgMatches<'a>, script: &'a str) -> Option<Asked<'a>>
+    ensures { option_map asked_seen result ≡ spec.bare_asked script.now (first_of (codes "settings") (rows_of (found_of found.now))) }
+{
+    match value_of(found, "settings") {
+        Some(_) => None,
+        None => Some(Asked::Audit(script)),
+    }
+}
+
+/// What `audit` asks for without a script: the audit of a journal, by its settings.
+fn day_asked<'a>(found: &ArgMatches<'a>) -> Option<Asked<'a>>
+    ensures { option_map asked_seen result ≡ spec.day_asked (first_of (codes "journal") (rows_of (found_of found.now)))
+        (first_of (codes "settings") (rows_of (found_of found.now))) }
+{
+    match value_of(found, "journal") {
+        Some(journal) => journal_asked(found, journal),
+        None => None,
+    }
+}
+
+/// What `audit` asks for with this journal.
+fn journal_asked<'a>(found: &ArgMatches<'a>, journal: &'a str) -> Option<Asked<'a>>
+    ensures { option_map asked_seen result ≡ spec.journal_asked journal.now (first_of (codes "settings") (rows_of (found_of found.now))) }
+{
+    match value_of(found, "settings") {
+        Some(settings) => Some(Asked::AuditDay { journal, settings }),
+        None => None,
+    }
+}
+
+/// What `journal` asks for.
+fn keep_asked<'a>(found: &ArgMatches<'a>) -> Option<Asked<'a>>
+    ensures { option_map asked_seen result ≡ spec.keep_asked (rows_of (found_of found.now)) }
+{
+    match value_of(found, "script") {
+        Some(script) => Some(Asked::Keep(script)),
         None => None,
     }
 }
@@ -70,7 +123,11 @@ fn run_asked<'a>(found: &ArgMatches<'a>) -> Option<Asked<'a>>
     ensures { option_map asked_seen result ≡ spec.run_asked (rows_of (found_of found.now)) }
 {
     match value_of(found, "settings") {
-        Some(settings) => Some(Asked::Run(settings, value_of(found, "links"))),
+        Some(settings) => Some(Asked::Run {
+            settings,
+            links: value_of(found, "links"),
+            journal: value_of(found, "journal"),
+        }),
         None => None,
     }
 }
@@ -107,36 +164,73 @@ fn required<'a>(alloc: Global, name: &'a str, value: &'a str, help: &'a str) -> 
         .help(help)
 }
 
-/// `audit --script FILE`.
+/// A command with an option more.
+fn with_option<'a>(command: Command<'a>, arg: Arg<'a>) -> Result<Command<'a>, AllocError>
+    requires option { arg.global ≡ false }
+    ensures app { IfOk result (λ wider. app_of wider ≡ with_rule (app_of command.entry) (rule_of arg.entry)) }
+    ensures own { IfOk result (λ wider. (fields_of wider).has_globals ≡ (fields_of command.entry).has_globals) }
+{
+    command.arg(arg)
+}
+
+/// `audit --script FILE`, or `audit --journal FILE --settings FILE`.
 fn audit<'a>(alloc: Global) -> Result<Command<'a>, AllocError>
     ensures app { IfOk result (λ command. app_of command ≡ spec.audit) }
     ensures own { IfOk result (λ command. (fields_of command).has_globals ≡ false) }
 {
-    Command::new(alloc, "audit")
-        .about(
-            "Runs a script without its outputs, and prints each accepted order by both of its accounts",
-        )
-        .after_help(AUDIT)
-        .arg(required(alloc, "script", "FILE", "The script"))
+    let alone = Command::new(alloc, "audit")
+        .about("Prints each accepted order of a script or of a day by both of its accounts")
+        .after_help(AUDIT);
+    let script = option(alloc, "script", "FILE", "The script");
+    let journal = option(alloc, "journal", "FILE", "The journal of a day");
+    let settings = option(
+        alloc,
+        "settings",
+        "FILE",
+        "The settings of that day, in TOML",
+    );
+    let with_script = with_option(alone, script)?;
+    let with_journal = with_option(with_script, journal)?;
+    with_option(with_journal, settings)
 }
 
-/// `run --settings FILE [--links N]`.
+/// `journal --script FILE`.
+fn journal<'a>(alloc: Global) -> Result<Command<'a>, AllocError>
+    ensures app { IfOk result (λ command. app_of command ≡ spec.journal) }
+    ensures own { IfOk result (λ command. (fields_of command).has_globals ≡ false) }
+{
+    let alone = Command::new(alloc, "journal")
+        .about(
+            "Runs a script without its outputs, and writes the journal of its day to standard output",
+        )
+        .after_help(JOURNAL);
+    with_option(alone, required(alloc, "script", "FILE", "The script"))
+}
+
+/// `run --settings FILE [--links N] [--journal FILE]`.
 fn run<'a>(alloc: Global) -> Result<Command<'a>, AllocError>
     ensures app { IfOk result (λ command. app_of command ≡ spec.run) }
     ensures own { IfOk result (λ command. (fields_of command).has_globals ≡ false) }
 {
+    let alone = Command::new(alloc, "run")
+        .about("Serves the clients and connects the ports that its settings name")
+        .after_help(RUN);
+    let settings = required(alloc, "settings", "FILE", "The settings, in TOML");
     let links = option(
         alloc,
         "links",
         "N",
         "How many links of each client are served, one after the other: 1 to 1000, or 1",
     );
-    let settings = required(alloc, "settings", "FILE", "The settings, in TOML");
-    let with_settings = Command::new(alloc, "run")
-        .about("Serves the clients and connects the ports that its settings name")
-        .after_help(RUN)
-        .arg(settings)?;
-    with_settings.arg(links)
+    let journal = option(
+        alloc,
+        "journal",
+        "FILE",
+        "A new file that the journal of the day is written to at its end",
+    );
+    let with_settings = with_option(alone, settings)?;
+    let with_links = with_option(with_settings, links)?;
+    with_option(with_links, journal)
 }
 
 /// `demo`.
@@ -149,6 +243,14 @@ fn demo<'a>(alloc: Global) -> Command<'a>
         .after_help(DEMO)
 }
 
+/// A command with a subcommand more.
+fn with_command<'a>(command: Command<'a>, more: Command<'a>) -> Result<Command<'a>, AllocError>
+    requires own { (fields_of more).has_globals ≡ false }
+    ensures { IfOk result (λ wider. app_of wider ≡ spec.with_command (app_of command.entry) (app_of more.entry)) }
+{
+    command.subcommand(more)
+}
+
 /// `gateway` with its subcommands.
 fn gateway<'a>(alloc: Global) -> Result<Command<'a>, AllocError>
     ensures { IfOk result (λ command. app_of command ≡ spec.gateway) }
@@ -157,7 +259,8 @@ fn gateway<'a>(alloc: Global) -> Result<Command<'a>, AllocError>
         .about("The order gateway: FIX 4.4 clients, OUCH 4.2 market ports")
         .subcommand_required(true)
         .arg_required_else_help(true);
-    let with_run = alone.subcommand(run(alloc)?)?;
-    let with_demo = with_run.subcommand(demo(alloc))?;
-    with_demo.subcommand(audit(alloc)?)
+    let with_run = with_command(alone, run(alloc)?)?;
+    let with_demo = with_command(with_run, demo(alloc))?;
+    let with_audit = with_command(with_demo, audit(alloc)?)?;
+    with_command(with_audit, journal(alloc)?)
 }

@@ -13,8 +13,25 @@ is one line of the audit, with what its client read of it in the FIX reports, an
   C1 A1 side 1 executed 300 open 0 cancelled 0 value 70350000 agree
   orders 1 agree 1
 
+The journal of a day, as gateway run --journal and gateway journal write it, is audited by the settings of that day:
+
+  $ gateway audit --journal monday.day --settings settings.toml
+  C1 A1 side 1 executed 300 open 0 cancelled 0 value 70350000 agree
+  ..
+
 Values are in 1/10,000. The status is 0 where all orders agree, 1 where one doesn't, where memory runs out or a
-read or write fails, 2 at a line that isn't understood or a file that can't be read.";
+read or write fails, 2 at a line that isn't understood, a journal that is damaged (page N: FAULT, counted from 0), or a
+file that can't be read.";
+
+/// Of `gateway journal`.
+pub(crate) const JOURNAL: &str = "\
+A journal has each event of a day with what the gateway made of it, in pages that are read again and audited:
+
+  $ gateway journal --script day.script > script.day
+  $ gateway audit --journal script.day --settings settings.toml
+
+Its settings are those that every script has. The status is 0 at the script's end, 1 where memory runs out or a read
+or write fails, 2 at a line that isn't understood or a file that can't be read.";
 
 /// Of `gateway run`.
 pub(crate) const RUN: &str = "\
@@ -42,8 +59,10 @@ The settings say where each client is listened for, and where each port of the m
 
 It ends when each client has connected and gone so often, and then prints the audit of its day, as gateway audit
 does. A port is connected again a second after its link is lost. Each link that comes and goes is told on standard
-error. The status is 0 where all orders agree, 1 where one doesn't, where memory runs out or a thread can't be had, 2
-for settings that are refused, which the first key that is missing or wrong names.";
+error. With --journal FILE the day is written to a new file at its end, for gateway audit --journal. The status is 0
+where all orders agree, 1 where one doesn't, where memory runs out, a thread can't be had or the journal can't be
+written, 2 for settings that are refused, which the first key that is missing or wrong names, or a journal that is there
+already.";
 
 /// Of `gateway demo`.
 pub(crate) const DEMO: &str = "\

@@ -2,10 +2,12 @@
 
 ghost use Rattle.std.specs.Prelude.{◌≡◌, ◌≤◌};
 ghost use Rattle.gate_journal.specs.Kept.{turns};
+ghost use Rattle.day_lists.specs.Files.{IsFileOfTurns};
 ghost use Rattle.gateway_run.specs.Told.{IsTold, IsToldOf};
 
 use crate::fault::RunFault;
 use audit_lines::write_audit;
+use day_lists::write_day;
 use gate_audit::audit;
 use gate_core::Settings;
 use gate_journal::History;
@@ -89,6 +91,47 @@ pub fn audit_day<W: Write, F: Write>(alloc: Global, day: &Day, output: &mut W, f
             1
         }
     }
+}
+
+/// Writes the history of a day to `journal`, as a day's file (`journal_file`).
+///
+/// Answers the status that a program ends with which does so: 0 where it was written, else 1: where memory runs out,
+/// with `gateway: journal: out of memory` on `faults`, and where a write fails, with `gateway: journal: read or write
+/// failed`.
+pub fn keep_day<J: Write, F: Write>(alloc: Global, day: &Day, journal: &mut J, faults: &mut F) -> u8
+    ensures status { result ≤ 1 }
+    ensures kept { result ≡ 0
+        → IsFileOfTurns (turns day.now.kept) (J.contents journal.old) (J.contents journal.new) }
+{
+    match write_day(alloc, &day.history, journal) {
+        Ok(()) => 0,
+        Err(fault) => {
+            let _ = writeln!(faults, "gateway: journal: {fault}");
+            1
+        }
+    }
+}
+
+/// Ends a day that is kept: writes its journal, and then its audit to `output`, be the journal written or not.
+///
+/// Answers the status that a program ends with which does so: 0 where the journal was written and both accounts of each
+/// order agree; else 1, as `keep_day` and `audit_day` have it.
+pub fn end_day<J: Write, W: Write, F: Write>(
+    alloc: Global,
+    day: &Day,
+    journal: &mut J,
+    output: &mut W,
+    faults: &mut F,
+) -> u8
+    ensures status { result ≤ 1 }
+    ensures kept { result ≡ 0
+        → IsFileOfTurns (turns day.now.kept) (J.contents journal.old) (J.contents journal.new) }
+    ensures audited { result ≡ 0
+        → IsToldOf day.now.settings (turns day.now.kept) (W.contents output.old) (W.contents output.new) }
+{
+    let kept = keep_day(alloc, day, journal, faults);
+    let audited = audit_day(alloc, day, output, faults);
+    kept.max(audited)
 }
 
 /// Tells why a gateway could not run to its end, and answers its program's status: 1.

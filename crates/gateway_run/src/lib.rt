@@ -7,12 +7,13 @@ mod clock;
 mod day;
 mod ends;
 mod fault;
+mod frames;
 mod lines;
 mod running;
 mod telling;
 
 pub use by_settings::run_settings;
-pub use day::{Day, audit_day, tell};
+pub use day::{Day, audit_day, end_day, keep_day, tell};
 pub use ends::RunPlan;
 pub use fault::RunFault;
 pub use running::run;

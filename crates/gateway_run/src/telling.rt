@@ -22,23 +22,29 @@ impl Display for Whose {
     }
 }
 
-/// An opener that tells on standard error of each of its links, with the moment in UTC: `up`, `gone`, `closed by the
-/// gateway`, `link fault n`.
+/// Tells on standard error of the links of a client or port, a line at a time behind its moment in UTC.
 #[derive(Drop)]
-pub(crate) struct Telling<'a, O, R> {
+pub(crate) struct Teller<'a, R> {
     rt: &'a R,
     whose: Whose,
-    opener: O,
 }
 
-impl<'a, O, R: Clock + Eprint> Telling<'a, O, R> {
+impl<'a, R: Clock + Eprint> Teller<'a, R> {
     /// Of these links. Takes no memory.
-    pub(crate) fn new(rt: &'a R, whose: Whose, opener: O) -> Telling<'a, O, R> {
-        Telling { rt, whose, opener }
+    pub(crate) fn new(rt: &'a R, whose: Whose) -> Teller<'a, R> {
+        Teller { rt, whose }
+    }
+
+    /// The same once more.
+    pub(crate) fn again(&self) -> Teller<'a, R> {
+        Teller {
+            rt: self.rt,
+            whose: self.whose,
+        }
     }
 
     /// Tells what came of a link. Where that can't be written it is lost.
-    fn tell(&self, what: &str) {
+    pub(crate) fn tell(&self, what: &str) {
         let at = self.now();
         let at = str::from_utf8(&at).unwrap_or("");
         let _ = eprintln!(self.rt; "{at} {} {what}", self.whose);
@@ -64,6 +70,20 @@ impl<'a, O, R: Clock + Eprint> Telling<'a, O, R> {
     }
 }
 
+/// An opener that tells of each of its links: `up`, `gone`, `closed by the gateway`, `link fault n`.
+#[derive(Drop)]
+pub(crate) struct Telling<'a, O, R> {
+    teller: Teller<'a, R>,
+    opener: O,
+}
+
+impl<'a, O, R: Clock + Eprint> Telling<'a, O, R> {
+    /// Of these links. Takes no memory.
+    pub(crate) fn new(teller: Teller<'a, R>, opener: O) -> Telling<'a, O, R> {
+        Telling { teller, opener }
+    }
+}
+
 impl<'a, O: Opener, R: Clock + Eprint> Opener for Telling<'a, O, R> {
     ghost opened = { λ t. O.opened t.opener };
 
@@ -78,8 +98,8 @@ impl<'a, O: Opener, R: Clock + Eprint> Opener for Telling<'a, O, R> {
     fn open(&mut self) -> Option<Result<Opened<O::Reader, O::Writer, O::Closer>, LinkFault>> {
         let opened = self.opener.open();
         match &opened {
-            Some(Ok(_)) => self.tell("up"),
-            Some(Err(fault)) => self.tell_fault(*fault),
+            Some(Ok(_)) => self.teller.tell("up"),
+            Some(Err(fault)) => self.teller.tell_fault(*fault),
             None => {}
         }
         opened
@@ -87,9 +107,9 @@ impl<'a, O: Opener, R: Clock + Eprint> Opener for Telling<'a, O, R> {
 
     fn ended(&mut self, end: LinkEnd) {
         match (end.fault(), end.writer) {
-            (Some(fault), _) => self.tell_fault(fault),
-            (None, Ok(WriterEnd::Closed)) => self.tell("closed by the gateway"),
-            (None, _) => self.tell("gone"),
+            (Some(fault), _) => self.teller.tell_fault(fault),
+            (None, Ok(WriterEnd::Closed)) => self.teller.tell("closed by the gateway"),
+            (None, _) => self.teller.tell("gone"),
         }
         self.opener.ended(end);
     }

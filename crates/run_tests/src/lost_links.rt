@@ -1,7 +1,8 @@
 //! A day of two clients on two ports, in which a client and a port each lose their link.
 
 use gateway_demo::{Client, DemoFault, Market, Order, connected, loopback};
-use gateway_run::run_settings;
+use gateway_run::{end_day, run_settings, tell};
+use journal_audit::audit_file;
 use link_sockets::{Acceptor, Opened, Opener};
 use market_book::Choice;
 use settings_file::{SettingsFile, read};
@@ -147,9 +148,11 @@ fn a_client_and_a_port_lose_their_links(rt: HostRuntime) -> Result<(), Fail> {
     };
     let (one, two) = (free_address(rt, alloc)?, free_address(rt, alloc)?);
     let file = settings(alloc, [&one, &two], [&first_address, &second_address])?;
+    let same = settings(alloc, [&one, &two], [&first_address, &second_address])?;
     let (one, two) = (one.as_str(), two.as_str());
     let is_past = AtomicBool::new(false);
     let is_past = &is_past;
+    let mut journal = Vec::new(alloc);
     let mut output = Vec::new(alloc);
     let mut faults = Vec::new(alloc);
     let ended = thread::scope(thread::scope_env(), rt, |scope| {
@@ -157,7 +160,10 @@ fn a_client_and_a_port_lose_their_links(rt: HostRuntime) -> Result<(), Fail> {
         let second = scope.spawn(move || serve_twice(rt, alloc, second, u32::MAX, is_past));
         let one = scope.spawn(move || come_again(rt, alloc, one));
         let two = scope.spawn(move || go_and_come(rt, alloc, two));
-        let status = run_settings(rt, alloc, file, 2, &mut output, &mut faults);
+        let status = match run_settings(rt, alloc, file, 2) {
+            Ok(day) => end_day(alloc, &day, &mut journal, &mut output, &mut faults),
+            Err(fault) => tell(fault, &mut faults),
+        };
         is_past.store(true, Ordering::SeqCst);
         let (Ok(first), Ok(second), Ok(one), Ok(two)) = (first, second, one, two) else {
             return (status, Err(DemoFault::NoThread));
@@ -167,6 +173,10 @@ fn a_client_and_a_port_lose_their_links(rt: HostRuntime) -> Result<(), Fail> {
     });
     assert!(rt; ended == (0, Ok(())));
     assert!(rt; output.as_slice() == AUDIT);
+    let mut again = Vec::new(alloc);
+    let journal = journal.as_slice();
+    let status = audit_file(alloc, journal, &same.settings, &mut again, &mut faults);
+    assert!(rt; status == 0 && again.as_slice() == AUDIT);
     assert!(rt; faults.is_empty());
     Ok(())
 }

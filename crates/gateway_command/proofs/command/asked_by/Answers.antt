@@ -7,6 +7,10 @@ pub returns-in-audit : goal.returns-in-audit
 unfolding asked_by
 returns-in-audit c = search rules
 
+pub returns-in-journal : goal.returns-in-journal
+unfolding asked_by
+returns-in-journal c = search rules
+
 pub returns-in-run : goal.returns-in-run
 unfolding asked_by
 returns-in-run c = search rules

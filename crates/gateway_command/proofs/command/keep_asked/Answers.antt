@@ -1,6 +1,6 @@
 use Rattle.std.proofs.Common.{rules}
 use Rattle.gateway_command.specs.Seen.{asked_seen}
-use Rattle.gateway_command.proofs.command.audit_asked.Goals as goal
+use Rattle.gateway_command.proofs.command.keep_asked.Goals as goal
 
 pub returns-in-Some : goal.returns-in-Some
 unfolding asked_seen

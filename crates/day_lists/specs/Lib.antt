@@ -1,0 +1,2 @@
+pub mod Files
+pub use Rattle.gate_journal.specs.Kept

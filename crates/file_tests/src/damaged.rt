@@ -1,0 +1,80 @@
+//! Files that aren't a day's.
+
+use journal_audit::audit_file;
+use script_steps::fixed_settings;
+use std::alloc::Global;
+use std::process::Abort;
+use std::test::Fail;
+
+/// Client 1's link 1 is up at moment 0, and its batch is empty: a page of 50 bytes behind its length, and an end.
+const ONE_UP: &[u8; 66] = b"\0\0\0\0\0\0\0\x32GJ01\
+    \x01\0\x01\0\0\0\0\0\0\0\x01\0\0\0\0\0\0\0\0\0\0\0\0\
+    \x0f\0\0\0\0\0\0\0\0\0\0\0\0\0\0\0\0\0\0\0\0\0\0\
+    \0\0\0\0\0\0\0\0";
+
+/// Where a refusal is told with the status 2, and nothing is printed; other texts begin with a status that isn't wanted.
+fn refusal_of(alloc: Global, file: &[u8]) -> Result<Vec<u8>, Fail> {
+    let mut output = Vec::new(alloc);
+    let mut faults = Vec::new(alloc);
+    let settings = fixed_settings(alloc)?;
+    let status = audit_file(alloc, file, &settings, &mut output, &mut faults);
+    if status != 2 || !output.is_empty() {
+        faults.insert(0, b'0'.saturating_add(status))?;
+    }
+    Ok(faults)
+}
+
+/// A file without an order is audited.
+#[test]
+fn a_file_without_orders(rt: HostRuntime) -> Result<(), Fail> {
+    let alloc = rt.alloc();
+    let mut output = Vec::new(alloc);
+    let mut faults = Vec::new(alloc);
+    let settings = fixed_settings(alloc)?;
+    let status = audit_file(alloc, ONE_UP, &settings, &mut output, &mut faults);
+    assert_eq!(rt; status, 0);
+    assert_eq!(rt; output.as_slice(), b"orders 0 agree 0\n".as_slice());
+    Ok(())
+}
+
+/// A file ends before its end, wherever it is cut: with page 0 where that isn't whole, else with page 1.
+#[test]
+fn each_front_of_a_file(rt: HostRuntime) -> Result<(), Fail> {
+    for size in 0..ONE_UP.len() {
+        let told = if size < 58 {
+            b"page 0: cut short\n"
+        } else {
+            b"page 1: cut short\n"
+        };
+        assert!(rt;
+            refusal_of(rt.alloc(), &ONE_UP[..size])?.as_slice() == told.as_slice(),
+            "{size} bytes"
+        );
+    }
+    Ok(())
+}
+
+/// A byte behind the end; a byte of the page that is another.
+#[test]
+fn a_file_that_is_changed(rt: HostRuntime) -> Result<(), Fail> {
+    let alloc = rt.alloc();
+    let mut longer = Vec::from_slice(alloc, ONE_UP)?;
+    longer.push(0)?;
+    assert_eq!(rt;
+        refusal_of(alloc, longer.as_slice())?.as_slice(),
+        b"page 1: head\n".as_slice()
+    );
+    let mut file = *ONE_UP;
+    file[8] = 0x48;
+    assert_eq!(rt;
+        refusal_of(alloc, &file)?.as_slice(),
+        b"page 0: head\n".as_slice()
+    );
+    let mut file = *ONE_UP;
+    file[35] = 0x10;
+    assert_eq!(rt;
+        refusal_of(alloc, &file)?.as_slice(),
+        b"page 0: kind\n".as_slice()
+    );
+    Ok(())
+}

@@ -1,0 +1,160 @@
+//! What is told of the frames that a client is sent: those that refuse a message, ask for messages again or end a
+//! session, so that whoever runs the gateway sees why nothing goes through.
+
+use crate::telling::Teller;
+use gate_serving::{LinkEnd, LinkFault, Opened, Opener};
+use memchr::memmem::find;
+use std::alloc::{AllocError, Global};
+use std::io::{self, Write};
+use std::time::Clock;
+
+/// An opener whose links' writers tell of such frames.
+#[derive(Drop)]
+pub(crate) struct TellingFrames<'a, O, R> {
+    teller: Teller<'a, R>,
+    alloc: Global,
+    opener: O,
+}
+
+impl<'a, O, R: Clock + Eprint> TellingFrames<'a, O, R> {
+    /// Of these links. Takes no memory.
+    pub(crate) fn new(teller: Teller<'a, R>, alloc: Global, opener: O) -> TellingFrames<'a, O, R> {
+        TellingFrames {
+            teller,
+            alloc,
+            opener,
+        }
+    }
+}
+
+impl<'a, O: Opener, R: Clock + Eprint> Opener for TellingFrames<'a, O, R> {
+    ghost opened = { λ t. O.opened t.opener };
+
+    ghost has_ended = { λ t. O.has_ended t.opener };
+
+    type Reader = O::Reader;
+
+    type Writer = FrameWriter<'a, O::Writer, R>;
+
+    type Closer = O::Closer;
+
+    fn open(
+        &mut self,
+    ) -> Option<Result<Opened<O::Reader, FrameWriter<'a, O::Writer, R>, O::Closer>, LinkFault>> {
+        match self.opener.open() {
+            Some(
+                Ok(
+                    Opened {
+                        reader,
+                        writer,
+                        closer,
+                    },
+                ),
+            ) => {
+                let writer = FrameWriter {
+                    teller: self.teller.again(),
+                    alloc: self.alloc,
+                    writer,
+                    left: 0,
+                };
+                Some(Ok(Opened {
+                    reader,
+                    writer,
+                    closer,
+                }))
+            }
+            Some(Err(fault)) => Some(Err(fault)),
+            None => None,
+        }
+    }
+
+    fn ended(&mut self, end: LinkEnd) {
+        self.opener.ended(end);
+    }
+}
+
+/// The writer of a client's link. It tells of each Reject, ResendRequest and Logout that it is given: `sent`, and the
+/// message from MsgType (35) to its CheckSum (10), with `|` for SOH and `.` for each other byte that isn't seen.
+#[derive(Drop)]
+pub(crate) struct FrameWriter<'a, W, R> {
+    teller: Teller<'a, R>,
+    alloc: Global,
+    writer: W,
+    /// How many bytes of what was given whole before aren't written yet.
+    left: usize,
+}
+
+impl<'a, W: Write, R: Clock + Eprint> Write for FrameWriter<'a, W, R> {
+    ghost contents = { λ f. W.contents f.writer };
+
+    fn write(&mut self, buf: &[u8]) -> io::Result<usize> {
+        let written = self.writer.write(buf)?;
+        if self.left == 0 && written > 0 {
+            tell_frames(&self.teller, self.alloc, buf);
+        }
+        self.left = buf.len() - written;
+        Ok(written)
+    }
+
+    fn flush(&mut self) -> io::Result<()> {
+        self.writer.flush()
+    }
+}
+
+/// Tells of the frames in this text that are told of.
+fn tell_frames<R: Clock + Eprint>(teller: &Teller<'_, R>, alloc: Global, text: &[u8]) {
+    let mut rest = text;
+    for _ in 0..text.len() {
+        let Some((message, behind)) = next_message(rest) else {
+            return;
+        };
+        if is_told(message) {
+            tell_message(teller, alloc, message);
+        }
+        rest = behind;
+    }
+}
+
+/// The next message of a text of frames, from MsgType (35) to its CheckSum (10), and what stands behind it.
+///
+/// Source: FIX 4.4 Volume 2, "Standard Message Header", "Standard Message Trailer".
+fn next_message(text: &[u8]) -> Option<(&[u8], &[u8])> {
+    let (_, from_type) = text.split_at(find(text, b"\x0135=")?);
+    let (message, behind) = match find(from_type, b"\x0110=") {
+        Some(place) => from_type.split_at(place),
+        None => (from_type, b"".as_slice()),
+    };
+    match message.split_first() {
+        Some((_, message)) => Some((message, behind)),
+        None => None,
+    }
+}
+
+/// Whether a message is told of: a ResendRequest, a Reject or a Logout.
+fn is_told(message: &[u8]) -> bool {
+    message.starts_with(b"35=2\x01")
+        || message.starts_with(b"35=3\x01")
+        || message.starts_with(b"35=5\x01")
+}
+
+/// Tells of a message; that one was sent, where memory runs out.
+fn tell_message<R: Clock + Eprint>(teller: &Teller<'_, R>, alloc: Global, message: &[u8]) {
+    match shown(alloc, message) {
+        Ok(text) => teller.tell(text.as_str()),
+        Err(_) => teller.tell("sent a Reject, a ResendRequest or a Logout"),
+    }
+}
+
+/// A message as it is told.
+fn shown(alloc: Global, message: &[u8]) -> Result<String, AllocError> {
+    let mut text = String::with_capacity(alloc, message.len().saturating_add(5))?;
+    text.push_str("sent ")?;
+    for byte in message {
+        text.push(match *byte {
+            1 => '|',
+            32..=126 => char::from(*byte),
+            _ => '.',
+        })?;
+    }
+    Ok(text)
+}

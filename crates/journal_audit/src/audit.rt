@@ -1,0 +1,110 @@
+//! The audit of a day's file.
+
+ghost use Rattle.std.specs.Prelude.{◌≡◌, ◌≤◌, IfOk};
+ghost use Rattle.std.specs.Io.KnownBytes.{Appends, Keeps};
+ghost use Rattle.gate_law.specs.Holds.{Holds};
+ghost use Rattle.gate_audit.specs.Pairs.{accepted_pairs, pairs};
+ghost use Rattle.audit_lines.specs.Lines.{shown_audit};
+ghost use Rattle.journal_pages.specs.declared.fault.PageFault.TheVariants.{NoMemory};
+ghost use Rattle.day_history.specs.Kept.{turns};
+ghost use Rattle.journal_audit.specs.Audits.{IsAuditOfFile, IsNoDaysFile};
+
+use audit_lines::write_audit;
+use day_history::DayHistory;
+use day_lists::listed;
+use gate_audit::{OrderPair, audit};
+use gate_core::Settings;
+use journal_file::read_day;
+use journal_pages::PageFault;
+use order_accounts::ReadingFault;
+use std::alloc::Global;
+use std::io::Write;
+
+/// Each order that was accepted by both of its accounts, as `gate_audit::audit` has it of the history that pages say.
+fn day_pairs(
+    alloc: Global,
+    day: &DayHistory,
+    settings: &Settings,
+) -> Result<Vec<OrderPair>, ReadingFault>
+    ensures read { IfOk result (λ list. list.items ≡ pairs settings.now (turns day.now)) }
+    ensures run { IfOk result (λ list. Holds settings.now (turns day.now)
+        → list.items ≡ accepted_pairs settings.now (turns day.now)) }
+{
+    let kept = listed(alloc, day)?;
+    let list = audit(alloc, &kept, settings)?;
+    Ok(list)
+}
+
+/// Reads a day's file, and writes the audit of its history to `output`: a line for each order that was accepted, and one
+/// for how many there are and how many agree.
+///
+/// Answers the status that a program ends with which does so: 0 where both accounts of each order agree; 2 where the
+/// file is none, with `page N: FAULT` on `faults`, the number from 0 and the fault as `PageFault` has it, and nothing on
+/// `output`; else 1: where those of an order don't agree, where memory runs out, with `out of memory`, where a write
+/// fails, with `read or write failed`, and where a number of an account is larger than its integer holds, with `an
+/// order's account is too large`.
+///
+/// Source: FIX 4.4 Volume 4, "Execution Report"; OUCH 4.2, "Outbound Messages".
+pub fn audit_file<W: Write, F: Write>(
+    alloc: Global,
+    file: &[u8],
+    settings: &Settings,
+    output: &mut W,
+    faults: &mut F,
+) -> u8
+    ensures status { result ≤ 2 }
+    ensures audited { result ≡ 0
+        → IsAuditOfFile settings.now file.now (W.contents output.old) (W.contents output.new) }
+    ensures refused { result ≡ 2 → IsNoDaysFile file.now × Keeps (W.contents output.old) (W.contents output.new) }
+{
+    match read_day(alloc, file) {
+        Ok(day) => write_day_audit(alloc, &day, settings, output, faults),
+        Err((number, fault)) => tell_refusal(number, fault, faults),
+    }
+}
+
+/// Writes the audit of a history over pages.
+fn write_day_audit<W: Write, F: Write>(
+    alloc: Global,
+    day: &DayHistory,
+    settings: &Settings,
+    output: &mut W,
+    faults: &mut F,
+) -> u8
+    ensures status { result ≤ 1 }
+    ensures written { result ≡ 0 → Appends (W.contents output.old) (W.contents output.new)
+        (shown_audit (pairs settings.now (turns day.now))) }
+    ensures run { Holds settings.now (turns day.now) → result ≡ 0
+        → Appends (W.contents output.old) (W.contents output.new)
+        (shown_audit (accepted_pairs settings.now (turns day.now))) }
+{
+    match day_pairs(alloc, day, settings) {
+        Ok(pairs) => write_audit(alloc, pairs.as_slice(), output, faults),
+        Err(fault) => tell_unread(fault, faults),
+    }
+}
+
+/// Tells why an account wasn't read.
+fn tell_unread<F: Write>(fault: ReadingFault, faults: &mut F) -> u8
+    ensures { result ≡ 1 }
+{
+    let _ = match fault {
+        ReadingFault::NoMemory => writeln!(faults, "{fault}"),
+        ReadingFault::TooLarge => writeln!(faults, "an order's account is too large"),
+    };
+    1
+}
+
+/// Tells why a file is none, and answers 2; 1 where memory ran out.
+fn tell_refusal<F: Write>(number: u32, fault: PageFault, faults: &mut F) -> u8
+    ensures status { result ≤ 2 }
+    ensures from_one { 1 ≤ result }
+    ensures refused { result ≡ 2 → fault ≡ NoMemory → ⊥ }
+{
+    if fault == PageFault::NoMemory {
+        let _ = writeln!(faults, "{fault}");
+        return 1;
+    }
+    let _ = writeln!(faults, "page {number}: {fault}");
+    2
+}
