@@ -1,0 +1,277 @@
+"""One day: starts markets, gateway and clients, moves them from stage to stage, and judges what was left."""
+import multiprocessing
+import os
+import pickle
+import re
+import shutil
+import subprocess
+import tempfile
+import time
+from collections import Counter
+from pathlib import Path
+
+from .client import CLOSED, LEFT, SETTLED, Client
+from .compare import compare
+from .link import free_addresses, listener
+from .plan import CLOSING, HOSTILE, LEAVING, OVER, SETTLING, TRADING, planned
+from .refusing import Refusing
+from .server import PASSWORD, USER, Server
+
+FORK = multiprocessing.get_context("fork")
+EVENT = re.compile(r"\d{8}-\d\d:\d\d:\d\d\.\d{3} ([CP]\d+) "
+                   r"(up|gone|closed by the gateway|link fault [123]|sent 35=[235])(: [^:]*|\|49=[ -~]*)?")
+SETTLES, CLOSES, LEAVES = 90.0, 40.0, 60.0
+
+
+def serve(path, made, *words):
+    """The body of a process: what is made runs, and its result is a file."""
+    Path(path).write_bytes(pickle.dumps(made(*words).run().result()))
+
+
+def settings(plan, markets, addresses):
+    """The gateway's settings file."""
+    lines = ['comp = "GATE"']
+    for i, it in enumerate(markets):
+        lines += ["[[port]]", f'name = "P{i + 1}"', f'address = "127.0.0.1:{it}"',
+                  f'user = "{USER.decode()}"', f'password = "{PASSWORD.decode()}"']
+    for i, (it, address) in enumerate(zip(plan.clients, addresses)):
+        lines += ["[[client]]", f'comp = "C{i + 1}"', f'listen = "127.0.0.1:{address}"', f'port = "P{it.port + 1}"',
+                  f'firm = "{it.firm.decode()}"', f'capacity = "{it.capacity.decode()}"',
+                  f'customer = "{it.customer.decode()}"']
+    return "\n".join(lines) + "\n"
+
+
+def kind_of(found):
+    """What a line says behind its event, where that tells its kind: not the fields of a frame."""
+    return "" if found[2].startswith("sent") else found[3] or ""
+
+
+class Day:
+    """The processes of a day, and the folder of its files."""
+
+    def __init__(self, options):
+        self.options, self.plan = options, planned(options)
+        self.folder = Path(tempfile.mkdtemp(prefix="stress."))
+        self.stage = FORK.Value("i", TRADING)
+        self.moods = [FORK.Value("i", 0) for _ in self.plan.clients]
+        self.quiet = [FORK.Value("b", False) for _ in self.plan.markets]
+        self.complaints, self.processes = [], []
+        self.refusing = Refusing(self.folder, options.refuse, self.plan.seed) if options.refuse else None
+
+    def run(self):
+        """The report of the day."""
+        try:
+            self.start()
+            self.go()
+            return self.report()
+        finally:
+            self.stop()
+
+    # Processes.
+
+    def start(self):
+        markets = [self.start_market(i, plan) for i, plan in enumerate(self.plan.markets)]
+        addresses = free_addresses(len(self.plan.clients))
+        Path(self.folder, "settings").write_text(settings(self.plan, markets, addresses))
+        self.start_gateway()
+        for i, (address, plan) in enumerate(zip(addresses, self.plan.clients)):
+            may_fault = HOSTILE.get(self.plan.markets[plan.port].hostile, b"") != b""
+            self.fork(f"client{i}", Client, i, address, plan, self.plan, self.stage, self.moods[i], may_fault)
+
+    def start_market(self, index, plan):
+        """The TCP port that it listens on; no other process holds it."""
+        firms = {client.firm.ljust(4) for client in self.plan.clients if client.port == index}
+        held = listener()
+        self.fork(f"market{index}", Server, index, held, plan, self.plan, firms, self.stage, self.quiet[index])
+        address = held.getsockname()[1]
+        held.close()
+        return address
+
+    def fork(self, name, *words):
+        process = FORK.Process(target=serve, args=(Path(self.folder, name), *words), name=name, daemon=True)
+        process.start()
+        self.processes.append(process)
+
+    def start_gateway(self):
+        words = [self.options.gateway, "run", "--settings", str(Path(self.folder, "settings"))]
+        more = self.refusing.environment() if self.refusing else {}
+        with open(Path(self.folder, "output"), "wb") as output, open(Path(self.folder, "errors"), "wb") as errors:
+            words += ["--links", str(self.plan.links), "--journal", str(Path(self.folder, "journal"))]
+            self.gateway = subprocess.Popen(words, stdout=output, stderr=errors, env={**os.environ, **more})
+        self.status, self.usage = None, None
+
+    def poll(self):
+        """The gateway's end, once it is there, with what it has used."""
+        if self.status is None:
+            pid, status, usage = os.wait4(self.gateway.pid, os.WNOHANG)
+            if pid:
+                self.status, self.usage = os.waitstatus_to_exitcode(status), usage
+                self.gateway.returncode = self.status
+        return self.status is not None
+
+    def stop(self):
+        self.stage.value = OVER
+        if not self.poll():
+            self.gateway.kill()
+        for it in self.processes:
+            it.join(2)
+            if it.is_alive():
+                it.kill()
+        if not self.options.keep:
+            shutil.rmtree(self.folder)
+
+    # Stages.
+
+    def go(self):
+        """From stage to stage: each has its time, and what it has to come to."""
+        begin = time.monotonic()
+        self.wait(2.0, lambda: False)
+        self.switch(True)
+        self.wait(self.plan.seconds - 2, lambda: False)
+        self.stage.value = SETTLING
+        self.need("traffic settles", SETTLES, lambda: self.are_at(SETTLED) and all(it.value for it in self.quiet))
+        self.switch(False)
+        self.stage.value = CLOSING
+        self.need("last orders are filled", CLOSES, lambda: self.are_at(CLOSED))
+        self.stage.value = LEAVING
+        self.need("all clients leave", LEAVES, lambda: self.are_at(LEFT))
+        self.need("the gateway ends", LEAVES, self.poll)
+        self.took = time.monotonic() - begin
+        self.stage.value = OVER
+        for it in self.processes:
+            it.join(10)
+
+    def switch(self, is_on):
+        if self.refusing:
+            self.refusing.switch(is_on)
+
+    def are_at(self, mood):
+        return all(it.value == mood for it in self.moods)
+
+    def wait(self, seconds, holds):
+        """Whether it held before so many seconds had passed; not where a process died."""
+        end = time.monotonic() + seconds
+        while time.monotonic() < end:
+            if holds():
+                return True
+            if self.poll() and self.stage.value < LEAVING:
+                return False
+            time.sleep(0.05)
+        return False
+
+    def need(self, what, seconds, holds):
+        if not self.wait(seconds, holds):
+            moods, quiet = [it.value for it in self.moods], [it.value for it in self.quiet]
+            self.complaints.append(f"seed {self.plan.seed}: not in {seconds:.0f} s: {what}; {moods} {quiet}")
+
+    # Judgement.
+
+    def result(self, name):
+        path = Path(self.folder, name)
+        if path.exists():
+            return pickle.loads(path.read_bytes())
+        self.complaints.append(f"seed {self.plan.seed}: {name} left no result")
+        return None
+
+    def report(self):
+        clients = [self.result(f"client{i}") for i in range(len(self.plan.clients))]
+        markets = [self.result(f"market{i}") for i in range(len(self.plan.markets))]
+        whole = None not in clients + markets
+        clients, markets = [it for it in clients if it], [it for it in markets if it]
+        for it in clients + markets:
+            self.complaints += it["complaints"]
+        output = Path(self.folder, "output").read_bytes()
+        if whole:
+            self.complaints += [f"seed {self.plan.seed}: {it}" for it in compare(clients, markets, output)]
+            self.complaints += self.port_states(clients)
+        if self.status != 0:
+            self.complaints.append(f"seed {self.plan.seed}: the gateway's status is {self.status}")
+        self.complaints += self.read_again(output)
+        return Report(self, clients, markets)
+
+    def read_again(self, output):
+        """The audit of the day's journal has to be the gateway's own."""
+        words = [self.options.gateway, "audit", "--journal", str(Path(self.folder, "journal"))]
+        ran = subprocess.run(words + ["--settings", str(Path(self.folder, "settings"))], capture_output=True)
+        if ran.returncode != 0 or ran.stdout != output or ran.stderr:
+            yield f"seed {self.plan.seed}: the journal's audit is another: {ran.returncode} {ran.stderr[:200]!r}"
+
+    def port_states(self, clients):
+        for client, plan in zip(clients, self.plan.clients):
+            wanted = HOSTILE.get(self.plan.markets[plan.port].hostile, b"")
+            if client["port_state"] != wanted:
+                yield f"seed {self.plan.seed}: a port's state is {client['port_state']}, not {wanted}"
+
+    def events(self):
+        """The lines on standard error by kind; another line is a complaint."""
+        counts, ups = Counter(), Counter()
+        for line in Path(self.folder, "errors").read_text(errors="replace").splitlines():
+            found = EVENT.fullmatch(line)
+            counts[f"{found[1][0]} {found[2]}{kind_of(found)}" if found else "unforeseen"] += 1
+            if not found:
+                self.complaints.append(f"seed {self.plan.seed}: on standard error: {line[:300]}")
+            elif found[2] == "up":
+                ups[found[1]] += 1
+        for name, count in ups.items():
+            if count > self.plan.links or name[0] == "C" and count < self.plan.links:
+                self.complaints.append(f"seed {self.plan.seed}: {name} had {count} links of {self.plan.links}")
+        return counts
+
+
+class Report:
+    """What is printed of a day."""
+
+    def __init__(self, day, clients, markets):
+        self.events = day.events()
+        self.day, self.clients, self.markets = day, clients, markets
+        self.complaints = day.complaints
+
+    def is_right(self):
+        return not self.complaints
+
+    def sum(self, which, key):
+        return sum((it[key] for it in which), Counter())
+
+    def totals(self):
+        """What is summed up over days."""
+        session, client = self.sum(self.clients, "session"), self.sum(self.clients, "counts")
+        market, refused = self.sum(self.markets, "counts"), self.day.refusing.counted()[0] if self.day.refusing else 0
+        return Counter({
+            "orders": sum(len(it["orders"]) for it in self.clients),
+            "frames to": session["frames sent"], "frames from": session["frames received"],
+            "asked of markets": sum(count for name, count in market.items() if len(name) == 7 and name[:6] == "asked "),
+            "said by markets": sum(count for name, count in market.items() if name.startswith("said ")),
+            "client links lost": client["links cut"] + client["links that the gateway closed"],
+            "port links cut": market["links cut"], "bytes of garbage": client["bytes of garbage"],
+            "stalls": client["stalls"], "hostile ports": sum(it["said"] for it in self.markets),
+            "refused requests": refused})
+
+    def lines(self):
+        plan, usage = self.day.plan, self.day.usage
+        hostile = "".join(it.hostile for it in plan.markets) or "none"
+        yield (f"seed {plan.seed}: {len(plan.clients)} clients, {len(plan.markets)} ports, {plan.links} links each, "
+               f"hostile {hostile}, {getattr(self.day, 'took', 0):.0f} s")
+        yield f"  {show(self.totals())}"
+        if usage:
+            seconds, size, orders = usage.ru_utime + usage.ru_stime, usage.ru_maxrss * 1024, self.totals()["orders"]
+            yield (f"  gateway: {seconds:.2f} s of a processor, {1e6 * seconds / max(1, orders):.0f} us an order; "
+                   f"{size >> 20} MB at most, {size // max(1, orders)} bytes an order")
+        if self.day.options.details or self.complaints:
+            yield from self.details()
+        yield from (f"  WRONG {it}" for it in self.complaints[:self.day.options.show])
+        yield f"  {len(self.complaints)} complaints" if self.complaints else "  nothing is wrong"
+
+    def details(self):
+        yield f"  told: {show(self.sum(self.clients, 'told'))}"
+        yield f"  sessions: {show(self.sum(self.clients, 'session'))}"
+        yield (f"  clients: {show(self.sum(self.clients, 'counts'))}; 52 goes back by "
+               f"{max((it['furthest_back'] for it in self.clients), default=0)} ms at most; silent beyond 108 for "
+               f"{max((it['silence'] for it in self.clients), default=0):.1f} s at most")
+        yield f"  markets: {show(self.sum(self.markets, 'counts'))}"
+        yield f"  standard error: {show(self.events)}"
+        if self.day.refusing:
+            yield "  memory: refused {} of {} requests".format(*self.day.refusing.counted())
+
+
+def show(counts):
+    return ", ".join(f"{name} {count}" for name, count in sorted(counts.items()) if count)
