@@ -23,6 +23,7 @@ use order_table::Table;
 use orders::{Cancelling, Order};
 use ouch_codec::Inbound;
 use std::alloc::{AllocError, Global};
+use std::hash::BuildHasher;
 use to_client::{Request, report_pending};
 use to_market::{refuse_cancel, say_cancel};
 
@@ -37,10 +38,10 @@ use to_market::{refuse_cancel, say_cancel};
 /// It changes nothing. The one error is that memory ran out.
 ///
 /// Source: FIX 4.4 Volume 4, "Order Cancel Request"; OUCH 4.2, "Cancel Order Message".
-pub fn on_cancel(
+pub fn on_cancel<S: BuildHasher + Drop>(
     alloc: Global,
     issued: u64,
-    table: &Table,
+    table: &Table<S>,
     sender: &Sender,
     is_used: bool,
     request: &CancelRequest,
@@ -59,10 +60,10 @@ pub fn on_cancel(
 }
 
 /// The same, of the order that it names.
-fn cancel_of(
+fn cancel_of<S: BuildHasher + Drop>(
     alloc: Global,
     issued: u64,
-    table: &Table,
+    table: &Table<S>,
     sender: &Sender,
     is_used: bool,
     request: &CancelRequest,

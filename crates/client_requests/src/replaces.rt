@@ -23,6 +23,7 @@ use order_table::{GivenToken, Table};
 use orders::{Order, Replacing};
 use ouch_codec::Inbound;
 use std::alloc::{AllocError, Global};
+use std::hash::BuildHasher;
 use to_client::{Request, report_pending};
 use to_market::{ReplaceAsk, ask_of_replace, say_replace};
 
@@ -37,10 +38,10 @@ use to_market::{ReplaceAsk, ask_of_replace, say_replace};
 /// It changes nothing. The one error is that memory ran out.
 ///
 /// Source: FIX 4.4 Volume 4, "Order Cancel/Replace Request"; OUCH 4.2, "Replace Order Message".
-pub fn on_replace(
+pub fn on_replace<S: BuildHasher + Drop>(
     alloc: Global,
     issued: u64,
-    table: &Table,
+    table: &Table<S>,
     sender: &Sender,
     is_used: bool,
     request: &ReplaceRequest,
@@ -60,10 +61,10 @@ pub fn on_replace(
 }
 
 /// The same, of the order that it names.
-fn replace_of(
+fn replace_of<S: BuildHasher + Drop>(
     alloc: Global,
     issued: u64,
-    table: &Table,
+    table: &Table<S>,
     sender: &Sender,
     is_used: bool,
     request: &ReplaceRequest,

@@ -9,6 +9,7 @@ use crate::on_orders::hear_message;
 use order_table::Table;
 use ouch_codec::{DecodeRefusal, Outbound};
 use std::alloc::{AllocError, Global};
+use std::hash::BuildHasher;
 
 /// What a payload that a port's session gave comes to, by what it is decoded as, where so many reports were issued,
 /// of all clients.
@@ -19,10 +20,10 @@ use std::alloc::{AllocError, Global};
 /// that memory ran out.
 ///
 /// Source: OUCH 4.2, "Outbound Messages".
-pub fn hear(
+pub fn hear<S: BuildHasher + Drop>(
     alloc: Global,
     issued: u64,
-    table: &Table,
+    table: &Table<S>,
     port: u16,
     heard: &Result<Outbound, DecodeRefusal>,
 ) -> Result<Judged, AllocError>

@@ -21,13 +21,14 @@ use order_table::Table;
 use orders::Order;
 use ouch_codec::Outbound;
 use std::alloc::{AllocError, Global};
+use std::hash::BuildHasher;
 
 /// What a message comes to: on the order that its token leads to, where it has one. The token that a Replaced gives the
 /// order has to be known, too.
-pub fn hear_message(
+pub fn hear_message<S: BuildHasher + Drop>(
     alloc: Global,
     issued: u64,
-    table: &Table,
+    table: &Table<S>,
     port: u16,
     message: &Outbound,
 ) -> Result<Judged, AllocError>
@@ -47,7 +48,11 @@ pub fn hear_message(
 }
 
 /// Whether the token that a message gives its order is one of the table. Only a Replaced gives one.
-fn is_new_token_known(table: &Table, port: u16, message: &Outbound) -> bool
+fn is_new_token_known<S: BuildHasher + Drop>(
+    table: &Table<S>,
+    port: u16,
+    message: &Outbound,
+) -> bool
     ensures { result ≡ knows_new_token table.now port message.now }
 {
     match message {

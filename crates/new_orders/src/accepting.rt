@@ -21,14 +21,15 @@ use order_table::{GivenToken, Table};
 use orders::{Order, Progress};
 use ouch_codec::{EnterOrder, Inbound};
 use std::alloc::{AllocError, Global};
+use std::hash::BuildHasher;
 use to_client::{Occasion, report_of};
 
 /// What an accepted new order comes to, where this message asks it.
-pub fn accept(
+pub fn accept<S: BuildHasher + Drop>(
     alloc: Global,
     order_ids: u64,
     exec_ids: u64,
-    table: &Table,
+    table: &Table<S>,
     sender: &Sender,
     order: &NewOrder,
     enter: EnterOrder,
@@ -59,10 +60,10 @@ pub fn accept(
 }
 
 /// The order that then waits for the market, under this OrderID.
-fn entered(
+fn entered<S: BuildHasher + Drop>(
     alloc: Global,
     order_id: u64,
-    table: &Table,
+    table: &Table<S>,
     sender: &Sender,
     order: &NewOrder,
     enter: &EnterOrder,

@@ -14,6 +14,7 @@ use client_requests::Sender;
 use fix_types::{AppBody, NewOrder};
 use order_table::Table;
 use std::alloc::{AllocError, Global};
+use std::hash::BuildHasher;
 use to_client::refusal;
 use to_market::Refusal;
 
@@ -26,11 +27,11 @@ use to_market::Refusal;
 /// It changes nothing. The one error is that memory ran out.
 ///
 /// Source: FIX 4.4 Volume 4, "New Order - Single"; OUCH 4.2, "Enter Order Message".
-pub fn on_new_order(
+pub fn on_new_order<S: BuildHasher + Drop>(
     alloc: Global,
     order_ids: u64,
     exec_ids: u64,
-    table: &Table,
+    table: &Table<S>,
     sender: &Sender,
     is_used: bool,
     order: &NewOrder,

@@ -10,6 +10,7 @@ use client_requests::Sender;
 use fix_types::NewOrder;
 use order_table::Table;
 use ouch_codec::EnterOrder;
+use std::hash::BuildHasher;
 use to_market::{Refusal, ask_of, enter_order, refuse_if, refuse_port};
 use tokens::Token;
 
@@ -18,8 +19,8 @@ const MOST_OPEN: usize = 10_000;
 
 /// The message that asks a new order of the market, or the first row of its table that holds: the ClOrdID is used;
 /// the port has ended or is faulted; those of `to_market::ask_of` on its fields; too many open orders; no token left.
-pub fn verdict(
-    table: &Table,
+pub fn verdict<S: BuildHasher + Drop>(
+    table: &Table<S>,
     sender: &Sender,
     is_used: bool,
     order: &NewOrder,

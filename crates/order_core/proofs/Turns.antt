@@ -14,7 +14,7 @@ use Rattle.order_law.specs.Verdicts.{Port, Down, Up, Ended, Faulted}
 use Rattle.order_machine.specs.Table.{TableState, record_by_token, table_without_orders}
 use Rattle.order_machine.specs.Machine.{GivenByEvent, client_step, faulty, market_step}
 use Rattle.order_machine.specs.Runs.{Finds, Leads, LeadsTo, TurnsLeave}
-use Rattle.outstanding.specs.Kept.{KeptMessage, kept_from, left_by}
+use Rattle.outstanding.specs.Kept.{HeldMessages, KeptMessage, kept_from, left_by}
 use Rattle.outstanding.specs.KeptInTurns.{ClientTurnsKeep, KeepsOutstanding, MarketTurnsKeep, NothingIsKept, QuietTurnsKeep, SaidOfOrder}
 use Rattle.market_messages.specs.Turns.{market_fault_number}
 use Rattle.market_messages.specs.declared.market_fault.MarketFault.{MarketFault}
@@ -26,11 +26,20 @@ use Rattle.order_ledger.specs.declared.turns.ChangedOrder.{ChangedOrder}
 use Rattle.order_ledger.specs.declared.turns.MarketTurn.{MarketTurn}
 use Rattle.order_ledger.specs.Meets.{ChangesAny, ChangesOrder, GivesMarket, GoByNumbers}
 use Rattle.order_ledger.specs.Seen.{client_seen}
+use Rattle.order_ledger.specs.State.{LedgerState}
 use Rattle.order_core.specs.declared.outcome.CoreOut.{CoreOut}
 use Rattle.order_core.specs.declared.outcome.MarketOut.{MarketOut}
 use Rattle.order_core.specs.Meets.{MeetsClient, MeetsHandled, MeetsPayload, left_after, sent_of}
 use Rattle.order_core.specs.State.{OrderCoreState, IsAfterTurns}
 use Rattle.order_core.specs.Turns.{OfCall, client_turn, fault_turn, told_turn}
+
+-- the core, by its ledger and what is kept
+abbrev pub seen_by : LedgerState → HeldMessages → OrderCoreState
+seen_by ledger asked = record {
+  table = ledger.now;
+  kept = asked.messages;
+  settled = record { table = ledger.settled; kept = asked.settled };
+}
 
 -- where the port is up, what goes out is all that is asked
 sends-as : (port : Port) (P : Asked → List ℕ → Type 0) (asked : List Asked) (asks : List Inbound) → EachWith P asked (map inbound_bytes asks) → Sends port P asked (map inbound_bytes (sent_of port asks))

@@ -13,6 +13,7 @@ use order_ledger::{ChangedOrder, ClientTerms, MarketError, OrderLedger, PortStat
 use ouch_codec::{DecodeRefusal, Inbound, Outbound, decode};
 use outstanding::AskedMessages;
 use std::alloc::{AllocError, Global};
+use std::hash::{BuildHasher, BuildHasherDefault, FoldHasher};
 use std::marker::Model;
 
 /// The orders of all clients, and what the ports were asked of them and haven't answered.
@@ -21,13 +22,15 @@ use std::marker::Model;
 /// `undo` puts back what was there at the last `settle`, and takes no memory: so where a step that this is part of
 /// can't be finished, be it for want of memory elsewhere, the order level is as before it. What is changed is kept
 /// beside what it became until the next `settle`.
+///
+/// Orders, tokens and used ids are found by indexes over any hasher, which changes nothing but how fast they are found.
 #[derive(Debug, Drop)]
-pub struct OrderCore {
-    ledger: OrderLedger,
+pub struct OrderCore<S: BuildHasher + Drop = BuildHasherDefault<FoldHasher>> {
+    ledger: OrderLedger<S>,
     asked: AskedMessages,
 }
 
-impl Model for OrderCore {
+impl<S: BuildHasher + Drop> Model for OrderCore<S> {
     ghost use Rattle.order_core.specs.State as state;
 
     ghost Value = { state.OrderCoreState };
@@ -40,17 +43,10 @@ impl Model for OrderCore {
 }
 
 impl OrderCore {
-    ghost use Rattle.order_law.specs.Headline.{EachWith, Headline, SaysIn};
-    ghost use Rattle.std.specs.Prelude.{option_map, option_and_then};
-    ghost use Rattle.order_law.specs.History.{Entry, OrderHistory, Terms, accepted, outstanding};
-    ghost use Rattle.order_law.specs.Lawful.{order_of_token};
     ghost use Rattle.to_market.specs.TermsSeen.{terms_seen};
-    ghost use Rattle.order_core.specs.Meets.{MeetsClient, MeetsPayload};
-    ghost use Rattle.order_core.specs.State.{IsAfterTurns, core_clients, IsCoreClient, core_numbers, CoreHasRoom};
-    ghost use Rattle.order_core.specs.State.{CoreKeeps, core_put_back, core_settled};
-    ghost use Rattle.order_core.specs.Turns.{OfCall, client_turn};
+    ghost use Rattle.order_core.specs.State.{IsAfterTurns, core_clients, core_numbers, core_put_back};
 
-    /// The order level of these clients, with no orders.
+    /// The order level of these clients, with no orders, with the fixed seed.
     pub fn new(alloc: Global, terms: &[ClientTerms]) -> Result<OrderCore, AllocError>
         ensures clients { IfOk result (λ core. core_clients core ≡ length terms.now) }
         ensures issued { IfOk result (λ core. core_numbers core ≡ 0) }
@@ -62,6 +58,39 @@ impl OrderCore {
             asked: AskedMessages::new(alloc),
         })
     }
+}
+
+impl<S: BuildHasher + Clone + Drop> OrderCore<S> {
+    ghost use Rattle.to_market.specs.TermsSeen.{terms_seen};
+    ghost use Rattle.order_core.specs.State.{IsAfterTurns, core_clients, core_numbers, core_put_back};
+
+    /// The order level of these clients, with no orders, with a hasher.
+    pub fn with_hasher(
+        alloc: Global,
+        hasher: S,
+        terms: &[ClientTerms],
+    ) -> Result<OrderCore<S>, AllocError>
+        ensures clients { IfOk result (λ core. core_clients core ≡ length terms.now) }
+        ensures issued { IfOk result (λ core. core_numbers core ≡ 0) }
+        ensures after { IfOk result (λ core. IsAfterTurns (map terms_seen terms.now) [] core) }
+        ensures settled { IfOk result (λ core. core_put_back core ≡ core) }
+    {
+        Ok(OrderCore {
+            ledger: OrderLedger::with_hasher(alloc, hasher, terms)?,
+            asked: AskedMessages::new(alloc),
+        })
+    }
+}
+
+impl<S: BuildHasher + Drop> OrderCore<S> {
+    ghost use Rattle.order_law.specs.Headline.{EachWith, Headline, SaysIn};
+    ghost use Rattle.std.specs.Prelude.{option_map, option_and_then};
+    ghost use Rattle.order_law.specs.History.{Entry, OrderHistory, Terms, accepted, outstanding};
+    ghost use Rattle.order_law.specs.Lawful.{order_of_token};
+    ghost use Rattle.order_core.specs.Meets.{MeetsClient, MeetsPayload};
+    ghost use Rattle.order_core.specs.State.{IsAfterTurns, IsCoreClient, CoreHasRoom};
+    ghost use Rattle.order_core.specs.State.{CoreKeeps, core_put_back, core_settled};
+    ghost use Rattle.order_core.specs.Turns.{OfCall, client_turn};
 
     /// Steps an application message of a client, whose port stands as given. The client is one of the terms'.
     ///

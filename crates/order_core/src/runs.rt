@@ -16,6 +16,7 @@ use fix_types::{AppBody, AppMsg};
 use order_ledger::{ClientTerms, MarketError, PortState};
 use ouch_codec::Inbound;
 use std::alloc::{AllocError, Global};
+use std::hash::BuildHasher;
 
 /// What comes to the order level.
 #[derive(Debug, Drop)]
@@ -47,7 +48,11 @@ pub struct Outcome {
 }
 
 /// Steps an event. `AllocError` leaves the machine as it was.
-pub fn step(core: &mut OrderCore, alloc: Global, event: &Event) -> Result<Outcome, AllocError>
+pub fn step<S: BuildHasher + Drop>(
+    core: &mut OrderCore<S>,
+    alloc: Global,
+    event: &Event,
+) -> Result<Outcome, AllocError>
     requires client { is_known_client (core_clients core.old) event.now ≡ true }
     requires room { CoreHasRoom core.old }
     ensures after { IfOk result (λ outcome. (terms : List Terms) (before : OrderHistory)
@@ -71,8 +76,8 @@ pub fn step(core: &mut OrderCore, alloc: Global, event: &Event) -> Result<Outcom
 }
 
 /// What comes of a client's message.
-fn client_outcome(
-    core: &mut OrderCore,
+fn client_outcome<S: BuildHasher + Drop>(
+    core: &mut OrderCore<S>,
     alloc: Global,
     client: u16,
     message: &AppMsg,
@@ -101,8 +106,8 @@ fn client_outcome(
 }
 
 /// What comes of a payload.
-fn market_outcome(
-    core: &mut OrderCore,
+fn market_outcome<S: BuildHasher + Drop>(
+    core: &mut OrderCore<S>,
     alloc: Global,
     port: u16,
     payload: &[u8],

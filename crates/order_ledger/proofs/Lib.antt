@@ -1,3 +1,4 @@
+mod Used
 mod Terms
 mod Stepped
 mod Heard

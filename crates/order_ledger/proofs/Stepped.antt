@@ -11,18 +11,32 @@ use Rattle.order_law.specs.Verdicts.{Port}
 use Rattle.order_machine.specs.Machine.{GivenByEvent, client_step, tells, with_used}
 use Rattle.order_machine.specs.OrderRecord.{OrderRecord, at}
 use Rattle.order_machine.specs.Runs.{Finds}
-use Rattle.order_machine.specs.Table.{GivenToken, TableState, by_number, put, used_by}
+use Rattle.order_machine.specs.Table.{GivenToken, TableState, UsedId, by_number, put, used_by}
 use Rattle.orders.specs.Seen.{cancel_seen, replace_seen}
 use Rattle.orders.specs.declared.requests.Cancelling.{Cancelling}
 use Rattle.orders.specs.declared.requests.Replacing.{Replacing}
 use Rattle.order_table.specs.Held.{Held, changed, with_number}
 use Rattle.to_market.specs.PortsSeen.{port_seen}
+use Rattle.to_market.specs.TermsSeen.{terms_seen}
+use Rattle.to_market.specs.declared.client_terms.ClientTerms.{ClientTerms}
+use Rattle.undo_list.specs.Undoing.{Undoable}
 use Rattle.client_requests.specs.Turns.{AreOf, IsCancelling, IsReplacing}
 use Rattle.client_requests.specs.declared.sender.Sender.{Sender}
 use Rattle.new_orders.specs.Turns.{IsEntering, numbered_on, with_order}
 use Rattle.order_ledger.specs.declared.turns.ClientTurn.{ClientTurn}
 use Rattle.order_ledger.specs.Meets.{GoByNumbers, MeetsFields}
 use Rattle.order_ledger.specs.State.{LedgerState}
+
+-- the table, by the parts of the ledger
+abbrev pub table_of : List ClientTerms → Held → Undoable UsedId → ℕ → ℕ → TableState
+table_of terms held used order_ids exec_ids = record {
+  terms = map terms_seen terms;
+  orders = held.orders;
+  tokens = held.tokens;
+  used = used.now;
+  order_ids = order_ids;
+  exec_ids = exec_ids;
+}
 
 pub now-is : {x y : LedgerState} → x ≡ y → x.now ≡ y.now
 now-is same = ap (λ (s : LedgerState). s.now) same

@@ -1,4 +1,5 @@
-pub mod Fingerprint
+pub mod UsedKeys
+pub mod UsedKeyLaws
 pub mod State
 pub mod Seen
 pub mod Meets

@@ -9,24 +9,26 @@ ghost use Rattle.order_law.specs.History.{terms_of};
 ghost use Rattle.to_market.specs.TermsSeen.{terms_seen};
 
 use crate::turns::ClientTurn;
-use crate::used_ids::UsedId;
+use crate::used_ids::UsedIds;
 use fix_types::AppMsg;
 use order_table::Table;
 use std::alloc::{AllocError, Global};
+use std::hash::{BuildHasher, BuildHasherDefault, FoldHasher};
 use std::marker::Model;
 use to_market::{ClientTerms, PortState};
-use undo_list::UndoList;
 
 /// The orders of all clients, the ClOrdIDs that they used, and the numbers that were given.
 ///
 /// Clients are numbered from 1, in the order of their terms. OrderIDs, ExecIDs and token numbers each count from 1.
 /// Contracts see it as it is now and as it was settled: `undo` puts back what was there at the last `settle`, and the
 /// ledger with no orders where there was none.
+///
+/// Orders, tokens and used ids are found by indexes over any hasher, which changes nothing but how fast they are found.
 #[derive(Debug, Drop)]
-pub struct OrderLedger {
+pub struct OrderLedger<S: BuildHasher + Drop = BuildHasherDefault<FoldHasher>> {
     terms: Vec<ClientTerms>,
-    table: Table,
-    used: UndoList<UsedId>,
+    table: Table<S>,
+    used: UsedIds<S>,
     /// How many new orders came: the last OrderID given.
     order_ids: u64,
     /// How many reports were issued: the last ExecID given.
@@ -36,7 +38,7 @@ pub struct OrderLedger {
     settled_exec_ids: u64,
 }
 
-impl Model for OrderLedger {
+impl<S: BuildHasher + Drop> Model for OrderLedger<S> {
     ghost use Rattle.std.specs.Prelude.{map};
     ghost use Rattle.order_ledger.specs.State as state;
     ghost use Rattle.to_market.specs.TermsSeen.{terms_seen};
@@ -64,16 +66,9 @@ impl Model for OrderLedger {
 }
 
 impl OrderLedger {
-    ghost use Rattle.order_law.specs.History.{terms_of};
-    ghost use Rattle.std.specs.Prelude.{option_map};
-    ghost use Rattle.order_machine.specs.OrderRecord.{OrderRecord};
-    ghost use Rattle.order_machine.specs.Table.{record_by_token, table_without_orders};
-    ghost use Rattle.to_market.specs.PortsSeen.{port_seen};
-    ghost use Rattle.to_market.specs.TermsSeen.{terms_seen};
-    ghost use Rattle.order_ledger.specs.Meets.{MeetsMessage};
-    ghost use Rattle.order_ledger.specs.State.{IsClient, HasRoom, Keeps};
+    ghost use Rattle.order_machine.specs.Table.{table_without_orders};
 
-    /// The ledger of these clients, with no orders.
+    /// The ledger of these clients, with no orders, with the fixed seed.
     pub fn new(alloc: Global, terms: &[ClientTerms]) -> Result<OrderLedger, AllocError>
         ensures now { IfOk result (λ ledger. ledger.now ≡ table_without_orders (map terms_seen terms.now)) }
         ensures settled { IfOk result (λ ledger. ledger.settled ≡ ledger.now) }
@@ -81,13 +76,49 @@ impl OrderLedger {
         Ok(OrderLedger {
             terms: Vec::from_slice(alloc, terms)?,
             table: Table::new(alloc),
-            used: UndoList::new(alloc),
+            used: UsedIds::new(alloc),
             order_ids: 0,
             exec_ids: 0,
             settled_order_ids: 0,
             settled_exec_ids: 0,
         })
     }
+}
+
+impl<S: BuildHasher + Clone + Drop> OrderLedger<S> {
+    ghost use Rattle.order_machine.specs.Table.{table_without_orders};
+
+    /// The ledger of these clients, with no orders, with a hasher.
+    pub fn with_hasher(
+        alloc: Global,
+        hasher: S,
+        terms: &[ClientTerms],
+    ) -> Result<OrderLedger<S>, AllocError>
+        ensures now { IfOk result (λ ledger. ledger.now ≡ table_without_orders (map terms_seen terms.now)) }
+        ensures settled { IfOk result (λ ledger. ledger.settled ≡ ledger.now) }
+    {
+        let ids = hasher.clone()?;
+        Ok(OrderLedger {
+            terms: Vec::from_slice(alloc, terms)?,
+            table: Table::with_hasher(alloc, hasher)?,
+            used: UsedIds::with_hasher(alloc, ids),
+            order_ids: 0,
+            exec_ids: 0,
+            settled_order_ids: 0,
+            settled_exec_ids: 0,
+        })
+    }
+}
+
+impl<S: BuildHasher + Drop> OrderLedger<S> {
+    ghost use Rattle.order_law.specs.History.{terms_of};
+    ghost use Rattle.std.specs.Prelude.{option_map};
+    ghost use Rattle.order_machine.specs.OrderRecord.{OrderRecord};
+    ghost use Rattle.order_machine.specs.Table.{record_by_token};
+    ghost use Rattle.to_market.specs.PortsSeen.{port_seen};
+    ghost use Rattle.to_market.specs.TermsSeen.{terms_seen};
+    ghost use Rattle.order_ledger.specs.Meets.{MeetsMessage};
+    ghost use Rattle.order_ledger.specs.State.{IsClient, HasRoom, Keeps};
 
     /// The number of a client's port, from 1.
     pub fn port_of(&self, client: u16) -> u16

@@ -14,8 +14,9 @@ use fix_types::AppBody;
 use market_messages::{Judged, hear};
 use ouch_codec::{DecodeRefusal, Outbound};
 use std::alloc::Global;
+use std::hash::BuildHasher;
 
-impl OrderLedger {
+impl<S: BuildHasher + Drop> OrderLedger<S> {
     ghost use Rattle.order_machine.specs.Machine.{market_step};
     ghost use Rattle.order_ledger.specs.State.{HasRoom, Keeps};
     ghost use Rattle.order_ledger.specs.Meets.{ChangesAny, MeetsMarket};

@@ -7,7 +7,7 @@ ghost use Rattle.to_market.specs.PortsSeen.{port_seen};
 use super::requests::one_body;
 use super::{OrderLedger, terms_at};
 use crate::turns::ClientTurn;
-use crate::used_ids::{UsedId, is_used};
+use crate::used_ids::UsedId;
 use client_requests::Sender;
 use fix_types::{AppBody, NewOrder};
 use fix_values::ClOrdId;
@@ -16,9 +16,10 @@ use order_table::GivenToken;
 use orders::Order;
 use ouch_codec::Inbound;
 use std::alloc::{AllocError, Global};
+use std::hash::BuildHasher;
 use to_market::PortState;
 
-impl OrderLedger {
+impl<S: BuildHasher + Drop> OrderLedger<S> {
     ghost use Rattle.order_ledger.specs.Meets.{MeetsFields};
     ghost use Rattle.order_ledger.specs.State.{IsClient, HasRoom, Keeps};
     ghost use Rattle.new_orders.specs.Turns.{IsEntering, with_order};
@@ -47,7 +48,7 @@ impl OrderLedger {
             port,
         };
         let id = &order.cl_ord_id;
-        let is_duplicate = is_used(self.used.as_slice(), client, id);
+        let is_duplicate = self.used.is_used(client, id);
         let (order_ids, exec_ids) = (self.order_ids, self.exec_ids);
         match on_new_order(
             alloc,

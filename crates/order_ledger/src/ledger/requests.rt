@@ -7,7 +7,7 @@ ghost use Rattle.to_market.specs.PortsSeen.{port_seen};
 
 use super::{OrderLedger, terms_at};
 use crate::turns::ClientTurn;
-use crate::used_ids::{UsedId, is_used};
+use crate::used_ids::UsedId;
 use client_requests::{CancelTurn, ReplaceTurn, Sender, on_cancel, on_replace};
 use fix_types::{AppBody, CancelRequest, ReplaceRequest};
 use fix_values::ClOrdId;
@@ -15,9 +15,10 @@ use order_table::GivenToken;
 use orders::{Cancelling, Replacing};
 use ouch_codec::Inbound;
 use std::alloc::{AllocError, Global};
+use std::hash::BuildHasher;
 use to_market::PortState;
 
-impl OrderLedger {
+impl<S: BuildHasher + Drop> OrderLedger<S> {
     ghost use Rattle.order_ledger.specs.Meets.{GoByNumbers, MeetsFields};
     ghost use Rattle.order_ledger.specs.State.{IsClient, HasRoom, Keeps};
     ghost use Rattle.client_requests.specs.Turns.{IsCancelling, IsReplacing};
@@ -46,7 +47,7 @@ impl OrderLedger {
             port,
         };
         let own_id = &request.cl_ord_id;
-        let is_duplicate = is_used(self.used.as_slice(), client, own_id);
+        let is_duplicate = self.used.is_used(client, own_id);
         let issued = self.exec_ids;
         match on_cancel(alloc, issued, &self.table, &sender, is_duplicate, request)? {
             CancelTurn::Refused(body) => self.refuse_request(alloc, client, own_id, body),
@@ -83,7 +84,7 @@ impl OrderLedger {
             port,
         };
         let id = &request.cl_ord_id;
-        let is_duplicate = is_used(self.used.as_slice(), client, id);
+        let is_duplicate = self.used.is_used(client, id);
         let issued = self.exec_ids;
         match on_replace(alloc, issued, &self.table, &sender, is_duplicate, request)? {
             ReplaceTurn::Refused(body) => self.refuse_request(alloc, client, id, body),

@@ -9,7 +9,7 @@ use Rattle.client_requests.proofs.Steps.{refused-in, verdict-is}
 use Rattle.client_requests.proofs.cancels.cancel_of.Goals as goal
 
 pub returns-in_ok-body-in-Err : goal.returns-in_ok-body-in-Err
-returns-in_ok-body-in-Err c = λ s stands.
+returns-in_ok-body-in-Err g c = λ s stands.
     let r = c.args.request.now in
     let o = c.args.order.now in
     let sender = c.args.sender.now in
@@ -23,7 +23,7 @@ returns-in_ok-body-in-Err c = λ s stands.
     (c.in_ok-body-in-Err.ensures (cancel_request_fields r) (Some (shown_as o)) c.of_cancel-asked.ensures c.shown_now.ensures)
 
 pub returns-in-Ok : goal.returns-in-Ok
-returns-in-Ok c =
+returns-in-Ok g c =
     IfOk-weaker c.accept_cancel.result _ _
     (λ turn accepts s stands.
     let r = c.args.request.now in

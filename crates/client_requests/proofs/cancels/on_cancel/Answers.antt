@@ -7,7 +7,7 @@ use Rattle.client_requests.proofs.Steps.{refused-in, verdict-is}
 use Rattle.client_requests.proofs.cancels.on_cancel.Goals as goal
 
 pub returns-in_ok-body-in-None : goal.returns-in_ok-body-in-None
-returns-in_ok-body-in-None c = λ s stands.
+returns-in_ok-body-in-None g c = λ s stands.
     let r = c.args.request.now in
     let sender = c.args.sender.now in
     let held = c.args.table.now in

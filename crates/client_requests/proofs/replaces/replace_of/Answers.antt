@@ -10,7 +10,7 @@ use Rattle.client_requests.proofs.Steps.{refused-in, verdict-is}
 use Rattle.client_requests.proofs.replaces.replace_of.Goals as goal
 
 pub returns-in_ok-body-in-Err : goal.returns-in_ok-body-in-Err
-returns-in_ok-body-in-Err c = λ s stands.
+returns-in_ok-body-in-Err g c = λ s stands.
     let r = c.args.request.now in
     let o = c.args.order.now in
     let sender = c.args.sender.now in
@@ -26,7 +26,7 @@ returns-in_ok-body-in-Err c = λ s stands.
     (c.in_ok-body-in-Err.ensures (replace_request_fields r) (Some (shown_as o)) c.of_replace-asked.ensures c.shown_now.ensures)
 
 pub returns-in-Ok : goal.returns-in-Ok
-returns-in-Ok c =
+returns-in-Ok g c =
     IfOk-weaker c.accept_replace.result _ _
     (λ turn accepts s stands.
     let r = c.args.request.now in

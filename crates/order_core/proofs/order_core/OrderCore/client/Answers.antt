@@ -12,7 +12,7 @@ use Rattle.order_core.proofs.Turns.{client-after, parts-of}
 use Rattle.order_core.proofs.order_core.OrderCore.client.Goals as goal
 
 pub returns-clause-after : goal.returns-clause-after
-returns-clause-after c =
+returns-clause-after g c =
     IfOk-weaker c.client_step.result _ _
     (λ out meets terms before short after.
     let leaves = (parts-of terms before c.args.self.now after).0 in
@@ -24,7 +24,7 @@ returns-clause-after c =
     c.client_step.ensures.meets
 
 pub returns-clause-headline : goal.returns-clause-headline
-returns-clause-headline c =
+returns-clause-headline g c =
     IfOk-weaker c.client_step.result _ _
     (λ out meets terms before short after.
     let leaves = (parts-of terms before c.args.self.now after).0 in

@@ -1,18 +1,17 @@
 use Rattle.std.proofs.Common.{refl, subst, ◌∙◌, decimal}
 use Rattle.order_law.specs.History.{terms_of}
 use Rattle.to_market.specs.PortsSeen.{port_seen}
-use Rattle.order_core.specs.contracts.order_core.OrderCore.{the_view}
 use Rattle.order_core.specs.declared.outcome.CoreOut.{CoreOut}
 use Rattle.order_core.specs.Meets.{MeetsClient}
 use Rattle.order_core.specs.State.{OrderCoreState}
-use Rattle.order_core.proofs.Turns.{kept-as}
+use Rattle.order_core.proofs.Turns.{kept-as, seen_by}
 use Rattle.order_core.proofs.order_core.OrderCore.client_step.Goals as goal
 
 pub returns-clause-meets : goal.returns-clause-meets
-returns-clause-meets c =
+returns-clause-meets g c =
     let out : CoreOut = record { bodies = c.in_ok-turn.turn.bodies; sends = c.sent_now.result } in
     subst (λ (old : OrderCoreState). MeetsClient old c.args.client c.args.message.now (port_seen c.args.port) out
-    (the_view (record { ledger = c.client.new.self; asked = c.push_reserved.new.self }))) c.self.view_is
+    (seen_by c.client.new.self c.push_reserved.new.self)) c.self.view_is
     (record {
       turn = c.in_ok-turn.turn;
       gives = c.in_ok-turn.ensures.meets;

@@ -9,7 +9,7 @@ use Rattle.order_core.proofs.Turns.{parts-of}
 use Rattle.order_core.proofs.order_core.OrderCore.outstanding.Goals as goal
 
 pub returns : goal.returns
-returns c =
+returns g c =
     IfOk-weaker c.on_port.result _ _
     (λ messages are terms before short after.
     let parts = parts-of terms before c.args.self.now after in

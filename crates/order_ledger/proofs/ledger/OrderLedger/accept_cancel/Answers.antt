@@ -1,13 +1,12 @@
 use Rattle.std.proofs.Common.{◌≡◌, Some, ap, arith}
 use Rattle.order_machine.specs.OrderRecord.{OrderRecord, at}
 use Rattle.orders.specs.Seen.{cancel_seen}
-use Rattle.order_ledger.specs.contracts.ledger.OrderLedger.{the_view}
 use Rattle.order_ledger.specs.State.{clients, ledger_numbers}
-use Rattle.order_ledger.proofs.Stepped.{now-is, same-tokens}
+use Rattle.order_ledger.proofs.Stepped.{now-is, same-tokens, table_of}
 use Rattle.order_ledger.proofs.ledger.OrderLedger.accept_cancel.Goals as goal
 
 pub returns-clause-keeps : goal.returns-clause-keeps
-returns-clause-keeps c =
+returns-clause-keeps g c =
     let tokens = same-tokens c.self.inside.table c.accept_cancel.new.self c.args.order_id (λ (o : OrderRecord). at o o.replace (Some (cancel_seen o.new.client c.args.order_id c.args.cancelling))) c.in_ok-accept_cancel.ensures.accepted c.accept_cancel.ensures.unknown in
-    let before : ledger_numbers (the_view c.self.inside).now ≡ ledger_numbers c.args.self.now.now = ap ledger_numbers (now-is c.self.view_is) in
+    let before : ledger_numbers (table_of c.self.inside.terms.items c.self.inside.table c.self.inside.used c.self.inside.order_ids c.self.inside.exec_ids) ≡ ledger_numbers c.args.self.now.now = ap ledger_numbers (now-is c.self.view_is) in
     record { clients = ap clients (now-is c.self.view_is); issued = omega (arith, tokens, before) }

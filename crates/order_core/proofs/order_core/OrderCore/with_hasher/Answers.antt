@@ -1,0 +1,10 @@
+use Rattle.std.proofs.Common.{map}
+use Rattle.to_market.specs.TermsSeen.{terms_seen}
+use Rattle.outstanding.proofs.InTurns.{nothing-is_kept}
+use Rattle.order_core.proofs.Turns.{empty-after, seen_by}
+use Rattle.order_core.proofs.order_core.OrderCore.with_hasher.Goals as goal
+
+pub returns-clause-after : goal.returns-clause-after
+returns-clause-after g c =
+    empty-after (map terms_seen c.args.terms.now) (seen_by c.in_ok-with_hasher.field-0 c.new.result)
+    c.in_ok-with_hasher.ensures.now c.new.ensures.messages nothing-is_kept
