@@ -6,6 +6,7 @@ use desk_steps::{RecordedCore, Turned, round, settle};
 use gate_core::Settings;
 use gate_journal::History;
 use std::alloc::{AllocError, Global};
+use std::hash::{BuildHasher, BuildHasherDefault, FoldHasher};
 use std::marker::{Model, PhantomData};
 
 /// What lies under the lock of a desk: the core with its history, and the desk's side of the rings. Contracts see both.
@@ -14,13 +15,13 @@ use std::marker::{Model, PhantomData};
 /// that is promised of that; the ends are those that the desk's name names; what came out of an inlet's ring is what
 /// the history has of its source; what went into an outlet's ring is what the batches told it, or a beginning of that.
 #[derive(Drop)]
-pub struct Desk<K: DeskName> {
-    recorded: RecordedCore,
+pub struct Desk<K: DeskName, S: BuildHasher + Drop = BuildHasherDefault<FoldHasher>> {
+    recorded: RecordedCore<S>,
     side: Side,
     of: PhantomData<K>,
 }
 
-impl<K: DeskName> Model for Desk<K> {
+impl<K: DeskName, S: BuildHasher + Drop> Model for Desk<K, S> {
     ghost use Rattle.desk_steps.specs.Agreeing.{Agrees, DeskState};
 
     ghost Value = { DeskState };
@@ -37,7 +38,7 @@ pub struct Closed {
     pub settings: Settings,
 }
 
-impl<K: DeskName> Desk<K> {
+impl<K: DeskName, S: BuildHasher + Drop> Desk<K, S> {
     ghost use Rattle.std.specs.Prelude.{◌≡◌, IfOk, OnOk, OnErr};
     ghost use Rattle.gate_law.specs.Holds.{Holds};
     ghost use Rattle.gate_journal.specs.Kept.{turns};
@@ -46,7 +47,7 @@ impl<K: DeskName> Desk<K> {
     ghost use Rattle.desk_steps.specs.Turning.{IsRefused, Rounds};
 
     /// A desk of parts that agree.
-    pub(crate) fn new(recorded: RecordedCore, side: Side) -> Desk<K>
+    pub(crate) fn new(recorded: RecordedCore<S>, side: Side) -> Desk<K, S>
         requires agree { Agrees K.inlets K.outlets (record { recorded = recorded; side = side }) }
         ensures { result ≡ record { recorded = recorded; side = side } }
     {

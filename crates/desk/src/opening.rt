@@ -12,19 +12,20 @@ use desk_steps::RecordedCore;
 use gate_core::Settings;
 use std::alloc::{AllocError, Global};
 use std::collections::VecDeque;
+use std::hash::{BuildHasher, BuildHasherDefault, FoldHasher};
 use std::marker::Model;
 use std::thread::Parker;
 
 /// A core and rings, of which a desk can be opened. Contracts see the settings and which rings they are.
 #[derive(Drop)]
-pub struct Parts {
-    recorded: RecordedCore,
+pub struct Parts<S: BuildHasher + Drop = BuildHasherDefault<FoldHasher>> {
+    recorded: RecordedCore<S>,
     side: Side,
     inlets: VecDeque<EventRing>,
     outlets: VecDeque<ToldRing>,
 }
 
-impl Model for Parts {
+impl<S: BuildHasher + Drop> Model for Parts<S> {
     ghost use Rattle.std.specs.Prelude.{map};
     ghost use Rattle.desk_rings.specs.Made.{inlet_name, outlet_name};
     ghost use Rattle.desk.specs.Offered.{Offered, IsOffer};
@@ -44,8 +45,8 @@ impl Parts {
     ghost use Rattle.std.specs.Prelude.{◌≡◌, ◌+◌, ℕ, Some, length, slice_get, IfOk};
     ghost use Rattle.desk.specs.Offered.{AreFor};
 
-    /// The core of these settings, and rings of 1,024: an inlet for each client, then for each port, then one for the
-    /// clock; an outlet for each client, then for each port. `AllocError` gives the settings up.
+    /// The core of these settings, with the fixed seed, and rings of 1,024: an inlet for each client, then for each
+    /// port, then one for the clock; an outlet for each client, then for each port. `AllocError` gives the settings up.
     pub fn new(alloc: Global, settings: Settings) -> Result<Parts, AllocError>
         ensures settings { IfOk result (λ parts. parts.settings ≡ settings) }
         ensures rings { IfOk result (λ parts. AreFor (length settings.clients) (length settings.ports) parts) }
@@ -63,12 +64,38 @@ impl Parts {
     }
 }
 
+impl<S: BuildHasher + Clone + Drop> Parts<S> {
+    ghost use Rattle.std.specs.Prelude.{◌≡◌, ◌+◌, ℕ, Some, length, slice_get, IfOk};
+    ghost use Rattle.desk.specs.Offered.{AreFor};
+
+    /// The same, with the core's indexes over a hasher.
+    pub fn with_hasher(
+        alloc: Global,
+        hasher: S,
+        settings: Settings,
+    ) -> Result<Parts<S>, AllocError>
+        ensures settings { IfOk result (λ parts. parts.settings ≡ settings) }
+        ensures rings { IfOk result (λ parts. AreFor (length settings.clients) (length settings.ports) parts) }
+    {
+        let clients = settings.clients().len();
+        let ports = settings.ports().len();
+        let (side, inlets, outlets) = open_side(alloc, clients, ports)?;
+        let recorded = RecordedCore::with_hasher(alloc, hasher, settings)?;
+        Ok(Parts {
+            recorded,
+            side,
+            inlets,
+            outlets,
+        })
+    }
+}
+
 /// The desk of these parts under its lock, and the ends for threads, by position. K names the rings; the caller picks
 /// it. `AllocError` gives the parts up.
-pub fn open_desk<K: DeskName>(
+pub fn open_desk<K: DeskName, S: BuildHasher + Drop>(
     alloc: Global,
-    parts: Parts,
-) -> Result<(Shared<K>, Vec<Inlet<K>>, Vec<Outlet<K>>), AllocError>
+    parts: Parts<S>,
+) -> Result<(Shared<K, S>, Vec<Inlet<K>>, Vec<Outlet<K>>), AllocError>
     requires named { (parts.inlets ≡ K.inlets) × (parts.outlets ≡ K.outlets) }
     ensures inlets { IfOk result (λ r. (length r.1.items ≡ length K.inlets) × ((k : ℕ) (x : Putting)
         → slice_get r.1.items k ≡ Some x → (x.at ≡ k) × (x.put ≡ []) × (x.free ≡ 1_024))) }

@@ -4,6 +4,7 @@ use crate::desk_value::{Closed, Desk};
 use desk_ends::{DeskName, Finished};
 use desk_steps::Turned;
 use std::alloc::{AllocError, Global};
+use std::hash::{BuildHasher, BuildHasherDefault, FoldHasher};
 use std::sync::{Mutex, Wait};
 use std::thread::Parker;
 use std::time::Duration;
@@ -12,12 +13,12 @@ use std::time::Duration;
 ///
 /// Beside the lock there is a bell for each outlet: a turn that told it something rings it, once the lock is free.
 #[derive(Drop)]
-pub struct Shared<K: DeskName> {
-    desk: Mutex<Desk<K>>,
+pub struct Shared<K: DeskName, S: BuildHasher + Drop = BuildHasherDefault<FoldHasher>> {
+    desk: Mutex<Desk<K, S>>,
     bells: Vec<Parker>,
 }
 
-impl<K: DeskName> Shared<K> {
+impl<K: DeskName, S: BuildHasher + Drop> Shared<K, S> {
     ghost use Rattle.std.specs.Prelude.{◌≡◌, IfOk, IfErr};
     ghost use Rattle.gate_law.specs.Holds.{Holds};
     ghost use Rattle.gate_journal.specs.Kept.{turns};
@@ -25,7 +26,7 @@ impl<K: DeskName> Shared<K> {
     ghost use Rattle.desk_steps.specs.Settling.{AreSettled};
 
     /// This desk, to be shared, with the bells of its outlets.
-    pub(crate) fn new(desk: Desk<K>, bells: Vec<Parker>) -> Shared<K> {
+    pub(crate) fn new(desk: Desk<K, S>, bells: Vec<Parker>) -> Shared<K, S> {
         Shared {
             desk: Mutex::new(desk),
             bells,
@@ -86,7 +87,7 @@ impl<K: DeskName> Shared<K> {
         self,
         alloc: Global,
         finished: Vec<Finished<K>>,
-    ) -> Result<Closed, (AllocError, Shared<K>, Vec<Finished<K>>)>
+    ) -> Result<Closed, (AllocError, Shared<K, S>, Vec<Finished<K>>)>
         ensures holds { IfOk result (λ closed. Holds closed.settings (turns closed.history)) }
         ensures settled { IfOk result (λ closed. AreSettled finished.items closed.history) }
         ensures named { IfOk result (λ closed. AreNamed K.inlets closed.history.events) }

@@ -2,27 +2,28 @@
 
 use desk::{DeskName, Shared};
 use gate_workers::Clock;
+use std::hash::{BuildHasher, BuildHasherDefault, FoldHasher};
 use std::sync::Wait;
 use std::time::{self, Duration};
 
 /// Tells the system's time. A pause ends as the bell of its outlet rings, and at the latest after so long.
 #[derive(Drop)]
-pub struct BellClock<'a, K: DeskName, R> {
+pub struct BellClock<'a, K: DeskName, R, S: BuildHasher + Drop = BuildHasherDefault<FoldHasher>> {
     rt: &'a R,
-    shared: &'a Shared<K>,
+    shared: &'a Shared<K, S>,
     outlet: usize,
     longest: Duration,
     last: u64,
 }
 
-impl<'a, K: DeskName, R: Wait + time::Clock> BellClock<'a, K, R> {
+impl<'a, K: DeskName, R: Wait + time::Clock, S: BuildHasher + Drop> BellClock<'a, K, R, S> {
     /// The clock of the writer of this outlet. Takes no memory.
     pub fn new(
         rt: &'a R,
-        shared: &'a Shared<K>,
+        shared: &'a Shared<K, S>,
         outlet: usize,
         longest: Duration,
-    ) -> BellClock<'a, K, R> {
+    ) -> BellClock<'a, K, R, S> {
         BellClock {
             rt,
             shared,
@@ -33,7 +34,7 @@ impl<'a, K: DeskName, R: Wait + time::Clock> BellClock<'a, K, R> {
     }
 }
 
-impl<'a, K: DeskName, R: Wait + time::Clock> Clock for BellClock<'a, K, R> {
+impl<'a, K: DeskName, R: Wait + time::Clock, S: BuildHasher + Drop> Clock for BellClock<'a, K, R, S> {
     /// The system's moment, or the last one told where the system's is before it or can't be had.
     fn now_ms(&mut self) -> u64 {
         if let Ok(since) = self.rt.since_1970() {

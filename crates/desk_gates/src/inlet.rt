@@ -4,6 +4,7 @@ use desk::{DeskName, Finished, Inlet, Shared};
 use gate_events::{Event, LinkOut};
 use gate_workers::Gate;
 use std::alloc::{AllocError, Global};
+use std::hash::{BuildHasher, BuildHasherDefault, FoldHasher};
 use std::sync::Wait;
 
 /// How many turns one call of `turn` makes at most: as many as there are places in a ring.
@@ -12,19 +13,19 @@ const MOST_TURNS: u32 = 1_024;
 /// The gate of a reader, or of the ticker: puts events through an inlet, and turns the desk as often as events were
 /// put, until a turn makes no step. Nothing is taken through it.
 #[derive(Drop)]
-pub struct InletGate<'a, K: DeskName> {
-    shared: &'a Shared<K>,
+pub struct InletGate<'a, K: DeskName, S: BuildHasher + Drop = BuildHasherDefault<FoldHasher>> {
+    shared: &'a Shared<K, S>,
     inlet: Inlet<K>,
     /// The events that were put since, less the turns that were made: never more than `MOST_TURNS`.
     owed: u32,
 }
 
-impl<'a, K: DeskName> InletGate<'a, K> {
+impl<'a, K: DeskName, S: BuildHasher + Drop> InletGate<'a, K, S> {
     ghost use Rattle.std.specs.Prelude.{◌≡◌, IfSome};
     ghost use Rattle.desk_ends.specs.Rings.{put_at};
 
     /// The gate over an inlet of this desk. Takes no memory.
-    pub fn new(shared: &'a Shared<K>, inlet: Inlet<K>) -> InletGate<'a, K>
+    pub fn new(shared: &'a Shared<K, S>, inlet: Inlet<K>) -> InletGate<'a, K, S>
         ensures { result.inlet ≡ inlet }
     {
         InletGate {
@@ -47,7 +48,7 @@ impl<'a, K: DeskName> InletGate<'a, K> {
     }
 }
 
-impl<'a, K: DeskName> Gate for InletGate<'a, K> {
+impl<'a, K: DeskName, S: BuildHasher + Drop> Gate for InletGate<'a, K, S> {
     ghost use Rattle.std.specs.Prelude.{[], map};
     ghost use Rattle.gate_events.specs.Seen.{event_seen};
 

@@ -4,6 +4,7 @@ use desk::{DeskName, Finished, Outlet, Shared};
 use gate_events::{Event, LinkOut};
 use gate_workers::Gate;
 use std::alloc::{AllocError, Global};
+use std::hash::{BuildHasher, BuildHasherDefault, FoldHasher};
 use std::sync::Wait;
 
 /// How many lists an outlet's ring has room for.
@@ -12,19 +13,19 @@ const PLACES: u32 = 1_024;
 /// The gate of a writer: takes lists through an outlet. Where its ring may have been full it turns the desk once it has
 /// taken as many lists as the ring has room for, since an event may wait for that room. Nothing is put through it.
 #[derive(Drop)]
-pub struct OutletGate<'a, K: DeskName> {
-    shared: &'a Shared<K>,
+pub struct OutletGate<'a, K: DeskName, S: BuildHasher + Drop = BuildHasherDefault<FoldHasher>> {
+    shared: &'a Shared<K, S>,
     outlet: Outlet<K>,
     /// The lists that were taken since none lay there, or since the last turn.
     in_a_row: u32,
 }
 
-impl<'a, K: DeskName> OutletGate<'a, K> {
+impl<'a, K: DeskName, S: BuildHasher + Drop> OutletGate<'a, K, S> {
     ghost use Rattle.std.specs.Prelude.{◌≡◌};
     ghost use Rattle.desk_ends.specs.Rings.{took_at};
 
     /// The gate over an outlet of this desk. Takes no memory.
-    pub fn new(shared: &'a Shared<K>, outlet: Outlet<K>) -> OutletGate<'a, K>
+    pub fn new(shared: &'a Shared<K, S>, outlet: Outlet<K>) -> OutletGate<'a, K, S>
         ensures { result.outlet ≡ outlet }
     {
         OutletGate {
@@ -47,7 +48,7 @@ impl<'a, K: DeskName> OutletGate<'a, K> {
     }
 }
 
-impl<'a, K: DeskName> Gate for OutletGate<'a, K> {
+impl<'a, K: DeskName, S: BuildHasher + Drop> Gate for OutletGate<'a, K, S> {
     ghost use Rattle.std.specs.Prelude.{[]};
 
     ghost was_put = { λ g. [] };

@@ -15,6 +15,7 @@ use crate::turning::step_front;
 use desk_ends::{DeskName, Finished};
 use desk_side::Side;
 use std::alloc::{AllocError, Global};
+use std::hash::BuildHasher;
 
 /// Compares each end that has finished with the desk's own end of its ring.
 ///
@@ -37,8 +38,8 @@ fn compare_all<K: DeskName>(side: &mut Side, finished: &mut Vec<Finished<K>>)
 }
 
 /// Steps the first event of an inlet's ring, or drops it where it isn't of the inlet's source. No outlet is waited for.
-fn drain_one(
-    recorded: &mut RecordedCore,
+fn drain_one<S: BuildHasher + Drop>(
+    recorded: &mut RecordedCore<S>,
     side: &mut Side,
     alloc: Global,
     place: usize,
@@ -60,8 +61,8 @@ fn drain_one(
 }
 
 /// Steps all that is known in an inlet's ring. `AllocError` leaves the steps before it standing.
-fn drain(
-    recorded: &mut RecordedCore,
+fn drain<S: BuildHasher + Drop>(
+    recorded: &mut RecordedCore<S>,
     side: &mut Side,
     alloc: Global,
     place: usize,
@@ -82,8 +83,8 @@ fn drain(
 }
 
 /// Steps all that is known in the ring of an inlet that has finished. For an outlet there is nothing to step.
-fn drain_end<K: DeskName>(
-    recorded: &mut RecordedCore,
+fn drain_end<K: DeskName, S: BuildHasher + Drop>(
+    recorded: &mut RecordedCore<S>,
     side: &mut Side,
     alloc: Global,
     finished: &Finished<K>,
@@ -103,8 +104,8 @@ fn drain_end<K: DeskName>(
 }
 
 /// Steps all that is known in the rings of inlets that have finished.
-fn drain_all<K: DeskName>(
-    recorded: &mut RecordedCore,
+fn drain_all<K: DeskName, S: BuildHasher + Drop>(
+    recorded: &mut RecordedCore<S>,
     side: &mut Side,
     alloc: Global,
     finished: &Vec<Finished<K>>,
@@ -126,8 +127,8 @@ fn drain_all<K: DeskName>(
 /// Steps what is left of what finished inlets put, and compares what finished outlets took. No outlet is waited for: a
 /// list that finds no room stands in the history alone. `AllocError` leaves the steps before it standing, and the call
 /// may be made again.
-pub fn settle<K: DeskName>(
-    recorded: &mut RecordedCore,
+pub fn settle<K: DeskName, S: BuildHasher + Drop>(
+    recorded: &mut RecordedCore<S>,
     side: &mut Side,
     alloc: Global,
     finished: &mut Vec<Finished<K>>,

@@ -10,18 +10,19 @@ use desk_side::Said;
 use gate_core::{Batch, Core, Event, Settings, Targets};
 use gate_journal::History;
 use std::alloc::{AllocError, Global};
+use std::hash::{BuildHasher, BuildHasherDefault, FoldHasher};
 use std::marker::Model;
 
 /// A core with the history of all that it was stepped by. Contracts see its settings and what the history keeps; the
-/// core is the one that the history leaves.
+/// core is the one that the history leaves. Its indexes are over any hasher.
 #[derive(Debug, Drop)]
-pub struct RecordedCore {
+pub struct RecordedCore<S: BuildHasher + Drop = BuildHasherDefault<FoldHasher>> {
     settings: Settings,
-    core: Core,
+    core: Core<S>,
     history: History,
 }
 
-impl Model for RecordedCore {
+impl<S: BuildHasher + Drop> Model for RecordedCore<S> {
     ghost use Rattle.gate_core.specs.Core.{IsAfter};
     ghost use Rattle.gate_journal.specs.Kept.{turns};
     ghost use Rattle.desk_steps.specs.Recorded.{Recorded};
@@ -34,17 +35,10 @@ impl Model for RecordedCore {
 }
 
 impl RecordedCore {
-    ghost use Rattle.std.specs.Prelude.{◌≡◌, ◌∷◌, IfOk, OnErr};
-    ghost use Rattle.gate_law.specs.Events as told;
-    ghost use Rattle.gate_law.specs.After.{lists};
-    ghost use Rattle.gate_law.specs.Holds.{Holds};
-    ghost use Rattle.gate_law.specs.Promises.{IsAmong};
-    ghost use Rattle.gate_events.specs.Seen.{event_seen};
-    ghost use Rattle.gate_core.specs.Targets.{client_for, port_for};
-    ghost use Rattle.gate_journal.specs.Kept.{nothing_kept, turns};
-    ghost use Rattle.desk_steps.specs.Recorded.{IsStep};
+    ghost use Rattle.std.specs.Prelude.{◌≡◌, IfOk};
+    ghost use Rattle.gate_journal.specs.Kept.{nothing_kept};
 
-    /// The core of these settings before the first event. `AllocError` gives the settings up.
+    /// The core of these settings before the first event, with the fixed seed. `AllocError` gives the settings up.
     pub fn new(alloc: Global, settings: Settings) -> Result<RecordedCore, AllocError>
         ensures settings { IfOk result (λ r. r.settings ≡ settings) }
         ensures kept { IfOk result (λ r. r.kept ≡ nothing_kept) }
@@ -56,6 +50,40 @@ impl RecordedCore {
             history: History::new(alloc),
         })
     }
+}
+
+impl<S: BuildHasher + Clone + Drop> RecordedCore<S> {
+    ghost use Rattle.std.specs.Prelude.{◌≡◌, IfOk};
+    ghost use Rattle.gate_journal.specs.Kept.{nothing_kept};
+
+    /// The core of these settings before the first event, with a hasher. `AllocError` gives the settings up.
+    pub fn with_hasher(
+        alloc: Global,
+        hasher: S,
+        settings: Settings,
+    ) -> Result<RecordedCore<S>, AllocError>
+        ensures settings { IfOk result (λ r. r.settings ≡ settings) }
+        ensures kept { IfOk result (λ r. r.kept ≡ nothing_kept) }
+    {
+        let core = Core::with_hasher(alloc, hasher, &settings)?;
+        Ok(RecordedCore {
+            settings,
+            core,
+            history: History::new(alloc),
+        })
+    }
+}
+
+impl<S: BuildHasher + Drop> RecordedCore<S> {
+    ghost use Rattle.std.specs.Prelude.{◌≡◌, ◌∷◌, IfOk, OnErr};
+    ghost use Rattle.gate_law.specs.Events as told;
+    ghost use Rattle.gate_law.specs.After.{lists};
+    ghost use Rattle.gate_law.specs.Holds.{Holds};
+    ghost use Rattle.gate_law.specs.Promises.{IsAmong};
+    ghost use Rattle.gate_events.specs.Seen.{event_seen};
+    ghost use Rattle.gate_core.specs.Targets.{client_for, port_for};
+    ghost use Rattle.gate_journal.specs.Kept.{turns};
+    ghost use Rattle.desk_steps.specs.Recorded.{IsStep};
 
     /// Whom the batch of this event may name, if it is stepped next. Takes no memory.
     pub fn targets(&self, event: &Event) -> Targets

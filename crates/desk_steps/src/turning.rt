@@ -10,11 +10,12 @@ use crate::recorded::RecordedCore;
 use crate::turned::{Did, Turned};
 use desk_side::Side;
 use std::alloc::{AllocError, Global};
+use std::hash::BuildHasher;
 
 /// Steps the first event of an inlet's ring. All that takes memory is done while the event lies there still:
 /// `AllocError` leaves all as it was.
-pub(crate) fn step_front(
-    recorded: &mut RecordedCore,
+pub(crate) fn step_front<S: BuildHasher + Drop>(
+    recorded: &mut RecordedCore<S>,
     side: &mut Side,
     alloc: Global,
     place: usize,
@@ -33,8 +34,8 @@ pub(crate) fn step_front(
 }
 
 /// The turn of an inlet: its first event is stepped, unless it has to wait. `AllocError` leaves it where it was.
-pub(crate) fn turn_at(
-    recorded: &mut RecordedCore,
+pub(crate) fn turn_at<S: BuildHasher + Drop>(
+    recorded: &mut RecordedCore<S>,
     side: &mut Side,
     alloc: Global,
     place: usize,
@@ -64,8 +65,8 @@ pub(crate) fn turn_at(
 
 /// Once round the inlets, in order: each has its turn, until memory is refused. `AllocError` comes only where the first
 /// step that is tried is refused.
-pub fn round(
-    recorded: &mut RecordedCore,
+pub fn round<S: BuildHasher + Drop>(
+    recorded: &mut RecordedCore<S>,
     side: &mut Side,
     alloc: Global,
 ) -> Result<Turned, AllocError>

@@ -24,7 +24,7 @@ use Rattle.gate_core.proofs.ClientEvents.{client-called-is}
 ports-as-they-were : (c : ℕ) (at : ℕ) (bodies : List Message) (v : Lists) → (client_called_all c (issues at bodies) v).port_calls ≡ v.port_calls
 ports-as-they-were c at bodies v = ap (λ (w : Lists). w.port_calls) (client-called-is c (issues at bodies) v)
 
-pub is-asked : (s : Settings) (n at port : ℕ) (message : AppMsg) (core : CoreOut) (bodies : List AppBody) (messages : List Inbound) (out : Asked) (v : Lists) (first second new : Parts)
+pub is-asked : {S H : Type 0} (s : Settings) (n at port : ℕ) (message : AppMsg) (core : CoreOut) (bodies : List AppBody) (messages : List Inbound) (out : Asked) (v : Lists) (first second new : Parts S H)
     → port + 1 ≡ port_of s n → bodies ≡ core.bodies.items → messages ≡ core.sends.items
     → IsTurn s n message core v first
     → IsIssued s n at (map body_fields bodies) out.issues (turned (Some (orders_turn_of s n message core v)) v) second

@@ -67,7 +67,7 @@ pub no-port-lines : (link : Option ℕ) → [] ≡ to_port link []
 no-port-lines None = refl
 no-port-lines (Some link) = refl
 
-pub client-event : (s : Settings) (e : Event) (v : Lists) (g new : Parts) (c : ℕ) (move : LinkMove) (calls : List Timed) (outs : List LinkOut)
+pub client-event : {S H : Type 0} (s : Settings) (e : Event) (v : Lists) (g new : Parts S H) (c : ℕ) (move : LinkMove) (calls : List Timed) (outs : List LinkOut)
     → outcome s e (batch_of c [] outs 0 [] None) v ≡ of_client c move calls
     → outs ≡ to_client_of s (of_client c move calls) v
     → [] ≡ reports_of s (of_client c move calls) v
@@ -117,7 +117,7 @@ no-client-lines s None = refl
 no-client-lines s (Some link) = refl
 
 -- nothing is given, and nothing changes, where the outcome is nothing
-pub nothing-done : (s : Settings) (e : Event) (v : Lists) (g : Parts) → outcome s e empty v ≡ nothing → Asks s e empty v → Ready s v g → Stepped s e empty v g
+pub nothing-done : {S H : Type 0} (s : Settings) (e : Event) (v : Lists) (g : Parts S H) → outcome s e empty v ≡ nothing → Asks s e empty v → Ready s v g → Stepped s e empty v g
 nothing-done s e v g is asks ready =
     let left : lists_after s e empty v ≡ v = ap (λ (o : Outcome). links_closed empty (with_outcome o v)) is in
     record {
@@ -135,7 +135,7 @@ nothing-done s e v g is asks ready =
     }
 
 -- an event that isn't stepped
-pub not-stepped : (s : Settings) (e : Event) (v : Lists) (g : Parts) → is_stepped s e v ≡ false → Ready s v g → Stepped s e empty v g
+pub not-stepped : {S H : Type 0} (s : Settings) (e : Event) (v : Lists) (g : Parts S H) → is_stepped s e v ≡ false → Ready s v g → Stepped s e empty v g
 not-stepped s e v g none ready = nothing-done s e v g (not-stepped-outcome s e empty v none) (by_stepped (is_stepped s e v) none) ready
   where
     by_stepped : (w : Bool) → w ≡ false → AsksAgain (w && comes_up s e v) s (port_in e) (w && delivers_message s e v) empty v

@@ -60,7 +60,7 @@ not-equal m n other = by_test (m == n) refl
 
 -- ---- a client's link is gone
 
-pub client-gone : (s : Settings) (v : Lists) (g new : Parts) (c link at : ℕ) → (has_client s c && is_the_number link (v.client_link c)) ≡ true → Ready s v g
+pub client-gone : {S H : Type 0} (s : Settings) (v : Lists) (g new : Parts S H) (c link at : ℕ) → (has_client s c && is_the_number link (v.client_link c)) ≡ true → Ready s v g
     → ClientsLeave s (called c (at, OnLink false) v.client_calls) new.clients.items
     → ClientLinks (link_set c None v.client_link) new.clients.items
     → length new.clients.items ≡ length g.clients.items
@@ -76,7 +76,7 @@ client-gone s v g new c link at on ready leave links count same_ports same_clien
 
 -- ---- a client's link is up
 
-pub client-comes : (s : Settings) (v : Lists) (g new : Parts) (c link at : ℕ) → has_client s c ≡ true → v.client_link c ≡ None → Ready s v g
+pub client-comes : {S H : Type 0} (s : Settings) (v : Lists) (g new : Parts S H) (c link at : ℕ) → has_client s c ≡ true → v.client_link c ≡ None → Ready s v g
     → ClientsLeave s (called c (at, OnLink true) v.client_calls) new.clients.items
     → ClientLinks (link_set c (Some link) v.client_link) new.clients.items
     → length new.clients.items ≡ length g.clients.items
@@ -91,13 +91,13 @@ client-comes s v g new c link at has none ready leave links count same_ports sam
     refl refl v.client_calls v.client_link ready.parts leave (untold c (link_set c (Some link) v.client_link) new.clients.items links) count same_ports same_client_ports same_orders
 
 -- the current link's own number again
-pub client-again : (s : Settings) (v : Lists) (g : Parts) (c link at current : ℕ) → has_client s c ≡ true → v.client_link c ≡ Some current → current ≡ link → Ready s v g
+pub client-again : {S H : Type 0} (s : Settings) (v : Lists) (g : Parts S H) (c link at current : ℕ) → has_client s c ≡ true → v.client_link c ≡ Some current → current ≡ link → Ready s v g
     → Stepped s (ClientUp c link at) empty v g
 client-again s v g c link at current has is alike ready =
     nothing-done s (ClientUp c link at) v g (rw (has, is, eq-eqb current link alike) refl) (asks-nothing s (ClientUp c link at) empty v refl refl) ready
 
 -- another link
-pub client-refused : (s : Settings) (v : Lists) (g : Parts) (c link at current : ℕ) → has_client s c ≡ true → v.client_link c ≡ Some current → (current ≡ link → ⊥) → Ready s v g
+pub client-refused : {S H : Type 0} (s : Settings) (v : Lists) (g : Parts S H) (c link at current : ℕ) → has_client s c ≡ true → v.client_link c ≡ Some current → (current ≡ link → ⊥) → Ready s v g
     → Stepped s (ClientUp c link at) (batch_of c [] (Close link ∷ []) 0 [] None) v g
 client-refused s v g c link at current has is other ready =
     client-event s (ClientUp c link at) v g g c (Refused link) [] (Close link ∷ []) (rw (has, is, not-equal current link other) refl)
@@ -113,7 +113,7 @@ client-refused s v g c link at current has is other ready =
 
 -- ---- time passes
 
-pub client-tick : (s : Settings) (v : Lists) (g new : Parts) (c at : ℕ) (outs : List LinkOut) → has_client s c ≡ true → Ready s v g
+pub client-tick : {S H : Type 0} (s : Settings) (v : Lists) (g new : Parts S H) (c at : ℕ) (outs : List LinkOut) → has_client s c ≡ true → Ready s v g
     → outs ≡ to_client s c (v.client_link c) ((client_answer s c (v.client_calls c) (at, OnTick)).outs ++ [])
     → ClientsLeave s (called c (at, OnTick) v.client_calls) new.clients.items
     → ClientLinks (unlinked c outs v.client_link) new.clients.items
@@ -131,7 +131,7 @@ no-frame-report : (s : Settings) (c at : ℕ) (frame : Message) (before : List T
 unfolding report_issued
 no-frame-report s c at frame before = refl
 
-pub client-frame : (s : Settings) (v : Lists) (g new : Parts) (c link at : ℕ) (frame : Message) (said : List SessionOut) (outs : List LinkOut)
+pub client-frame : {S H : Type 0} (s : Settings) (v : Lists) (g new : Parts S H) (c link at : ℕ) (frame : Message) (said : List SessionOut) (outs : List LinkOut)
     → AfterFrame s c link at frame None said v g
     → outs ≡ to_client s c (v.client_link c) ((client_answer s c (v.client_calls c) (at, OnMessage frame)).outs ++ [])
     → ClientsLeave s (called c (at, OnMessage frame) v.client_calls) new.clients.items

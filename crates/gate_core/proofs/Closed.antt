@@ -14,7 +14,7 @@ use Rattle.gate_core.specs.State.{ArePartsOf}
 use Rattle.gate_events.specs.Batches.{batch_of}
 use Rattle.gate_core.proofs.Told.{named-client, named-port}
 
-pub closed-parts : (s : Settings) (n p : ℕ) (reports : List Message) (client_out port_out : List LinkOut) (fault : Option PortFault) (x : Lists) (mid new : Parts)
+pub closed-parts : {S H : Type 0} (s : Settings) (n p : ℕ) (reports : List Message) (client_out port_out : List LinkOut) (fault : Option PortFault) (x : Lists) (mid new : Parts S H)
     → ArePartsOf s x mid
     → ClientsLeave s x.client_calls new.clients.items → ClientLinks (unlinked n client_out x.client_link) new.clients.items → length new.clients.items ≡ length mid.clients.items
     → PortsLeave s x.port_calls new.ports.items → PortLinks (unlinked p port_out x.port_link) new.ports.items → length new.ports.items ≡ length mid.ports.items

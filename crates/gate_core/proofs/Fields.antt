@@ -9,24 +9,24 @@ use Rattle.gate_core.specs.Core.{After, CoreStands, CoreState, IsAfter, stepped}
 use Rattle.gate_core.specs.State.{ArePartsOf, parts_now}
 use Rattle.gate_core.proofs.Standing.{parts-stand, stand-parts}
 
-pub record CoreFields : Type 0 where
-  pub parts : Parts
+pub record CoreFields (S H : Type 0) : Type 0 where
+  pub parts : Parts S H
   pub events : ℕ
 
 -- the fields are what these turns leave
-pub record FieldsAfter (s : Settings) (h : History) (c : CoreFields) : Type 0 where
+pub record FieldsAfter {S H : Type 0} (s : Settings) (h : History) (c : CoreFields S H) : Type 0 where
   pub holds : Holds s h
   pub parts : ArePartsOf s (lists s h) c.parts
   pub count : c.events ≡ stepped h
 
 -- how they stand
-abbrev pub stands : CoreFields → CoreStands
+abbrev pub stands : {S H : Type 0} → CoreFields S H → CoreStands
 stands c = record { parts = parts_now c.parts; events = c.events }
 
-pub fields-stand : (s : Settings) (h : History) (c : CoreFields) → FieldsAfter s h c → After s h (stands c)
+pub fields-stand : {S H : Type 0} (s : Settings) (h : History) (c : CoreFields S H) → FieldsAfter s h c → After s h (stands c)
 fields-stand s h c after = record { holds = after.holds; parts = parts-stand s (lists s h) c.parts after.parts; count = after.count }
 
-pub stand-fields : (s : Settings) (h : History) (c : CoreFields) → After s h (stands c) → FieldsAfter s h c
+pub stand-fields : {S H : Type 0} (s : Settings) (h : History) (c : CoreFields S H) → After s h (stands c) → FieldsAfter s h c
 stand-fields s h c after = record { holds = after.holds; parts = stand-parts s (lists s h) c.parts after.parts; count = after.count }
 
 -- which turns a core is after is seen of how it stands now
@@ -43,5 +43,5 @@ pub after-same : (s : Settings) (h : History) (c d : CoreState) → d.now ≡ c.
 after-same s h c d same after = now-after s h d (subst (After s h) (sym same) (after-now s h c after))
 
 -- the fields of a core that is seen so
-pub fields-of : (s : Settings) (h : History) (f : CoreFields) (settled : CoreStands) (c : CoreState) → record { now = stands f; settled = settled } ≡ c → IsAfter s h c → FieldsAfter s h f
+pub fields-of : {S H : Type 0} (s : Settings) (h : History) (f : CoreFields S H) (settled : CoreStands) (c : CoreState) → record { now = stands f; settled = settled } ≡ c → IsAfter s h c → FieldsAfter s h f
 fields-of s h f settled c seen after = stand-fields s h f (after-now s h (record { now = stands f; settled = settled }) (subst (IsAfter s h) (sym seen) after))

@@ -4,7 +4,7 @@ use Rattle.gate_sessions.specs.Lines.{NextWithin}
 use Rattle.gate_core.specs.declared.parts.Parts.{Parts}
 use Rattle.gate_core.specs.Steps.{ClientsStaySettled, Grows, PortsStaySettled}
 
-pub ports-grow : (old new : Parts) → length new.ports.items ≡ length old.ports.items → ((n : ℕ) → NextWithin n old.ports.items → NextWithin n new.ports.items)
+pub ports-grow : {S H : Type 0} (old new : Parts S H) → length new.ports.items ≡ length old.ports.items → ((n : ℕ) → NextWithin n old.ports.items → NextWithin n new.ports.items)
     → PortsStaySettled old new
     → new.clients ≡ old.clients → new.client_ports ≡ old.client_ports → new.orders ≡ old.orders → Grows 0 0 old new
 ports-grow old new count next settled same_clients same_client_ports same_orders = record {
@@ -20,7 +20,7 @@ ports-grow old new count next settled same_clients same_client_ports same_orders
 }
 
 -- one step and then another
-pub grows-then : (a b c d : ℕ) (x y z : Parts) → Grows a b x y → Grows c d y z → Grows (a + c) (b + d) x z
+pub grows-then : {S H : Type 0} (a b c d : ℕ) (x y z : Parts S H) → Grows a b x y → Grows c d y z → Grows (a + c) (b + d) x z
 grows-then a b c d x y z first second = record {
   clients = second.clients ∙ first.clients;
   ports = second.ports ∙ first.ports;
@@ -34,7 +34,7 @@ grows-then a b c d x y z first second = record {
 }
 
 -- lines of both sides that keep the next numbers
-pub lines-grow : (old new : Parts) → length new.clients.items ≡ length old.clients.items → length new.ports.items ≡ length old.ports.items
+pub lines-grow : {S H : Type 0} (old new : Parts S H) → length new.clients.items ≡ length old.clients.items → length new.ports.items ≡ length old.ports.items
     → ((n : ℕ) → NextWithin n old.ports.items → NextWithin n new.ports.items)
     → ClientsStaySettled old new → PortsStaySettled old new
     → new.client_ports ≡ old.client_ports → new.orders ≡ old.orders → Grows 0 0 old new
@@ -51,7 +51,7 @@ lines-grow old new clients ports next clients_settled ports_settled same_client_
 }
 
 -- what gives few numbers gives no more than many
-pub grows-within : (few many packets : ℕ) (old new : Parts) → few ≤ many → Grows few packets old new → Grows many packets old new
+pub grows-within : {S H : Type 0} (few many packets : ℕ) (old new : Parts S H) → few ≤ many → Grows few packets old new → Grows many packets old new
 grows-within few many packets old new most grows = record {
   clients = grows.clients;
   ports = grows.ports;
@@ -65,7 +65,7 @@ grows-within few many packets old new most grows = record {
 }
 
 -- no event gives more numbers than three, or brings more than one packet
-pub grows-most : (numbers packets : ℕ) (old new : Parts) → numbers ≤ 3 → packets ≤ 1 → Grows numbers packets old new → Grows 3 1 old new
+pub grows-most : {S H : Type 0} (numbers packets : ℕ) (old new : Parts S H) → numbers ≤ 3 → packets ≤ 1 → Grows numbers packets old new → Grows 3 1 old new
 grows-most numbers packets old new few one grows = record {
   clients = grows.clients;
   ports = grows.ports;
@@ -79,7 +79,7 @@ grows-most numbers packets old new few one grows = record {
 }
 
 -- a step that changes the lines of clients alone
-pub clients-grow : (old new : Parts) → length new.clients.items ≡ length old.clients.items → ClientsStaySettled old new
+pub clients-grow : {S H : Type 0} (old new : Parts S H) → length new.clients.items ≡ length old.clients.items → ClientsStaySettled old new
     → new.ports ≡ old.ports → new.client_ports ≡ old.client_ports → new.orders ≡ old.orders → Grows 0 0 old new
 clients-grow old new count settled same_ports same_client_ports same_orders =
     lines-grow old new count (rw same_ports refl) (rw same_ports (λ n within. within)) settled (rw same_ports (λ was kept. kept)) same_client_ports same_orders

@@ -26,7 +26,7 @@ ToldSome = (ts : List orders.Terms) (is_ours : ℕ → Bool) (before : orders.Or
     → AreFrom (λ (client : ℕ). is_ours client ≡ true) before → told ts (Heard p m) before ≡ said_in t → (t.bodies ≡ [] → ⊥) → is_ours t.client ≡ true
 
 -- a turn of which it is known how it came about
-module _ (s : Settings) (p n : ℕ) (payload : List ℕ) (bodies : List Message) (v : Lists) (g new : Parts)
+module _ {S H : Type 0} (s : Settings) (p n : ℕ) (payload : List ℕ) (bodies : List Message) (v : Lists) (g new : Parts S H)
     (none : ToldNone) (some : ToldSome) (parts : ArePartsOf s v g)
     (after : IsAfterTurns (terms s) (heard_turn p payload n bodies None ∷ v.turns) new.orders)
     (headline : Headline (terms s) (heard_turn p payload n bodies None ∷ v.turns))

@@ -108,7 +108,7 @@ asked_with s client at frame v app bs ms = record {
 
 -- ---- the step
 
-pub asked-step : (s : Settings) (v : Lists) (mid new : Parts) (n link at : ℕ) (frame : Message) (message : AppMsg) (out : Asked) (first : List ToldLink) (client_out port_out : List LinkOut)
+pub asked-step : {S H : Type 0} (s : Settings) (v : Lists) (mid new : Parts S H) (n link at : ℕ) (frame : Message) (message : AppMsg) (out : Asked) (first : List ToldLink) (client_out port_out : List LinkOut)
     → HaveMessages → (has_client s n && is_the_number link (v.client_link n)) ≡ true
     → (client_answer s n (v.client_calls n) (at, OnMessage frame)).app ≡ Some message
     → first ≡ map (told_of_out s.comp (client_name s n)) (client_answer s n (v.client_calls n) (at, OnMessage frame)).outs

@@ -140,5 +140,5 @@ turns-few few s (t ∷ before) = by_limit (is_within_day before) refl (turns-few
         omega (arith, at_most, count)
     by_limit false e rest = subst (λ (w : Bool). length (if w then lists_after s t.event t.batch (lists s before) else lists s before).turns ≤ most_events) (sym e) rest
 
-pub parts-of : (s : Settings) (h : History) (c : CoreFields) → FieldsAfter s h c → ArePartsOf s (lists s h) c.parts
+pub parts-of : {S H : Type 0} (s : Settings) (h : History) (c : CoreFields S H) → FieldsAfter s h c → ArePartsOf s (lists s h) c.parts
 parts-of s h c is = is.parts

@@ -14,7 +14,7 @@ use Rattle.gate_core.specs.State.{ArePartsOf}
 use Rattle.gate_core.specs.Steps.{IsSent}
 use Rattle.gate_core.proofs.ClientEvents.{client-called-is}
 
-pub clients-parts : (s : Settings) (c : ℕ) (calls : List Timed) (v : Lists) (g new : Parts) → ArePartsOf s v g
+pub clients-parts : {S H : Type 0} (s : Settings) (c : ℕ) (calls : List Timed) (v : Lists) (g new : Parts S H) → ArePartsOf s v g
     → ClientsLeave s (called_all c calls v.client_calls) new.clients.items → ClientLinks v.client_link new.clients.items → length new.clients.items ≡ length g.clients.items
     → new.ports ≡ g.ports → new.client_ports ≡ g.client_ports → new.orders ≡ g.orders
     → ArePartsOf s (client_called_all c calls v) new
@@ -35,7 +35,7 @@ pub port-called-is : (p : ℕ) (calls : List PortCall) (v : Lists) → port_call
 port-called-is p [] v = refl
 port-called-is p (call ∷ calls) v = port-called-is p calls (port_called p call v)
 
-pub ports-parts : (s : Settings) (p : ℕ) (calls : List PortCall) (v : Lists) (g new : Parts) → ArePartsOf s v g
+pub ports-parts : {S H : Type 0} (s : Settings) (p : ℕ) (calls : List PortCall) (v : Lists) (g new : Parts S H) → ArePartsOf s v g
     → PortsLeave s (called_all p calls v.port_calls) new.ports.items → PortLinks v.port_link new.ports.items → length new.ports.items ≡ length g.ports.items
     → new.clients ≡ g.clients → new.client_ports ≡ g.client_ports → new.orders ≡ g.orders
     → ArePartsOf s (port_called_all p calls v) new
@@ -61,6 +61,6 @@ not-up Up other = absurd (other refl)
 not-up Ended other = refl
 not-up (Faulted n) other = refl
 
-pub unsent : (s : Settings) (p at : ℕ) (messages : List (List ℕ)) (outs : List PortOut) (v : Lists) (g : Parts) → ArePartsOf s v g → messages ≡ [] → outs ≡ [] → IsSent s p at messages outs v g
+pub unsent : {S H : Type 0} (s : Settings) (p at : ℕ) (messages : List (List ℕ)) (outs : List PortOut) (v : Lists) (g : Parts S H) → ArePartsOf s v g → messages ≡ [] → outs ≡ [] → IsSent s p at messages outs v g
 unsent s p at messages outs v g parts none quiet =
     subst (λ (ms : List (List ℕ)). IsSent s p at ms outs v g) (sym none) (record { parts = parts; outs_are = quiet })

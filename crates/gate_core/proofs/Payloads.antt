@@ -69,7 +69,7 @@ named-where-told n (r ∷ rs) bs w are some = ap (λ (x : Bool). if not (x && w)
 
 -- ---- what no event of this kind asks
 
-module _ (s : Settings) (p link at : ℕ) (packet : Packet) (payload : List ℕ) (said : List PortOut) (v : Lists) (g : Parts) (given : AfterPacket s p link at packet (Some payload) said v g) where
+module _ {S H : Type 0} (s : Settings) (p link at : ℕ) (packet : Packet) (payload : List ℕ) (said : List PortOut) (v : Lists) (g : Parts S H) (given : AfterPacket s p link at packet (Some payload) said v g) where
   abbrev hears : table.PortCall
   hears = table.OnPacket packet at
 
@@ -103,7 +103,7 @@ module _ (s : Settings) (p link at : ℕ) (packet : Packet) (payload : List ℕ)
 
   -- ---- it is told to nobody
 
-  pub nobody-step : (mid new : Parts) (port_out : List LinkOut) → HaveNoOther → PayloadIsTold s p payload None [] (port_called p hears v) mid
+  pub nobody-step : (mid new : Parts S H) (port_out : List LinkOut) → HaveNoOther → PayloadIsTold s p payload None [] (port_called p hears v) mid
       → port_out ≡ to_port (v.port_link p) said ++ to_port (v.port_link p) []
       → PortsLeave s (port_called p hears v).port_calls new.ports.items → PortLinks (unlinked p port_out v.port_link) new.ports.items → length new.ports.items ≡ length mid.ports.items
       → new.clients ≡ mid.clients → new.client_ports ≡ mid.client_ports → new.orders ≡ mid.orders
@@ -133,7 +133,7 @@ module _ (s : Settings) (p link at : ℕ) (packet : Packet) (payload : List ℕ)
 
   -- ---- it is told to a client
 
-  pub told-step : (q n : ℕ) (bs : List Message) (out : Issues) (first mid new : Parts) (client_out port_out : List LinkOut) → HaveNoOther → n ≡ q + 1
+  pub told-step : (q n : ℕ) (bs : List Message) (out : Issues) (first mid new : Parts S H) (client_out port_out : List LinkOut) → HaveNoOther → n ≡ q + 1
       → PayloadIsTold s p payload (Some q) bs (port_called p hears v) first
       → IsIssued s n at bs out (turned (Some (heard_turn p payload n bs None)) (port_called p hears v)) mid
       → (let x : Lists = client_called_all n (issues at bs) (turned (Some (heard_turn p payload n bs None)) (port_called p hears v)) in
@@ -180,7 +180,7 @@ module _ (s : Settings) (p link at : ℕ) (packet : Packet) (payload : List ℕ)
 
   -- ---- it is at fault
 
-  pub faulty-step : (k : PortFault) (fail_outs : List PortOut) (mid new : Parts) (port_out : List LinkOut) → HaveNoOther
+  pub faulty-step : (k : PortFault) (fail_outs : List PortOut) (mid new : Parts S H) (port_out : List LinkOut) → HaveNoOther
       → Headline (terms s) (heard_turn p payload 0 [] (Some (fault_number k)) ∷ v.turns)
       → fail_outs ≡ (port_answer s p ((port_called p hears v).port_calls p) (table.Fail k)).outs
       → (let x : Lists = port_called p (table.Fail k) (turned (Some (heard_turn p payload 0 [] (Some (fault_number k)))) (port_called p hears v)) in

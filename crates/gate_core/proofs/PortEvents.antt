@@ -34,7 +34,7 @@ abbrev with_port : ℕ → LinkMove → List PortCall → Lists → Lists
 with_port p move calls v = record v { port_link = moved_link p move v.port_link; port_calls = called_all p calls v.port_calls }
 
 -- the parts are what the lists with a port's calls leave, each list by itself
-pub with-calls : (s : Settings) (p : ℕ) (calls : List PortCall) (v : Lists) (g : Parts) → ArePartsOf s (port_called_all p calls v) g → ArePartsOf s (record v { port_calls = called_all p calls v.port_calls }) g
+pub with-calls : {S H : Type 0} (s : Settings) (p : ℕ) (calls : List PortCall) (v : Lists) (g : Parts S H) → ArePartsOf s (port_called_all p calls v) g → ArePartsOf s (record v { port_calls = called_all p calls v.port_calls }) g
 with-calls s p calls v g parts = subst (λ (w : Lists). ArePartsOf s w g) (port-called-is p calls v) parts
 
 -- calls of a port, and a fault that is its session's
@@ -49,7 +49,7 @@ with-port p move calls fault v =
 -- ---- the step
 
 -- some of the port's calls were made earlier
-pub port-event : (s : Settings) (e : Event) (v : Lists) (g new : Parts) (p : ℕ) (move : LinkMove) (calls : List PortCall) (fault : Option PortFault) (outs : List LinkOut)
+pub port-event : {S H : Type 0} (s : Settings) (e : Event) (v : Lists) (g new : Parts S H) (p : ℕ) (move : LinkMove) (calls : List PortCall) (fault : Option PortFault) (outs : List LinkOut)
     → outcome s e (batch_of 0 [] [] p outs fault) v ≡ by_port p move calls fault
     → outs ≡ to_port_of s (by_port p move calls fault) v
     → Asks s e (batch_of 0 [] [] p outs fault) v
@@ -90,7 +90,7 @@ port-event s e v g new p move calls fault outs is lines asks named earlier parts
     }
 
 -- lines of ports that are as many, and want so many packets more
-pub packets-grow : (packets : ℕ) (old new : Parts) → length new.ports.items ≡ length old.ports.items
+pub packets-grow : {S H : Type 0} (packets : ℕ) (old new : Parts S H) → length new.ports.items ≡ length old.ports.items
     → ((n : ℕ) → NextWithin n old.ports.items → NextWithin (n + packets) new.ports.items)
     → PortsStaySettled old new
     → new.clients ≡ old.clients → new.client_ports ≡ old.client_ports → new.orders ≡ old.orders → Grows 0 packets old new

@@ -43,7 +43,7 @@ quiet-going s p before = refl
 
 -- ---- a port's link is gone
 
-pub port-gone : (s : Settings) (v : Lists) (g new : Parts) (p link at : ℕ) → (has_port s p && is_the_number link (v.port_link p)) ≡ true → Ready s v g
+pub port-gone : {S H : Type 0} (s : Settings) (v : Lists) (g new : Parts S H) (p link at : ℕ) → (has_port s p && is_the_number link (v.port_link p)) ≡ true → Ready s v g
     → PortsLeave s (called p calls.OnGone v.port_calls) new.ports.items
     → PortLinks (link_set p None v.port_link) new.ports.items
     → length new.ports.items ≡ length g.ports.items
@@ -58,7 +58,7 @@ port-gone s v g new p link at on ready leave links count same_clients same_clien
 
 -- ---- a port's link is up
 
-pub port-comes : (s : Settings) (v : Lists) (g new : Parts) (p link at : ℕ) (outs : List LinkOut) → has_port s p ≡ true → v.port_link p ≡ None → Ready s v g → ReadsSent
+pub port-comes : {S H : Type 0} (s : Settings) (v : Lists) (g new : Parts S H) (p link at : ℕ) (outs : List LinkOut) → has_port s p ≡ true → v.port_link p ≡ None → Ready s v g → ReadsSent
     → outs ≡ to_port (link_set p (Some link) v.port_link p) ((port_answer s p (v.port_calls p) (calls.OnUp at)).outs ++ [])
     → PortsLeave s (called p (calls.OnUp at) v.port_calls) new.ports.items
     → PortLinks (unlinked p outs (link_set p (Some link) v.port_link)) new.ports.items
@@ -72,13 +72,13 @@ port-comes s v g new p link at outs has none ready reads lines leave links count
     refl [] ready.parts leave links count same_clients same_client_ports same_orders
 
 -- the current link's own number again
-pub port-again : (s : Settings) (v : Lists) (g : Parts) (p link at current : ℕ) → has_port s p ≡ true → v.port_link p ≡ Some current → current ≡ link → Ready s v g
+pub port-again : {S H : Type 0} (s : Settings) (v : Lists) (g : Parts S H) (p link at current : ℕ) → has_port s p ≡ true → v.port_link p ≡ Some current → current ≡ link → Ready s v g
     → Stepped s (PortUp p link at) empty v g
 port-again s v g p link at current has is alike ready =
     nothing-done s (PortUp p link at) v g (rw (has, is, eq-eqb current link alike) refl) (asks-nothing s (PortUp p link at) empty v refl refl) ready
 
 -- another link
-pub port-refused : (s : Settings) (v : Lists) (g : Parts) (p link at current : ℕ) → has_port s p ≡ true → v.port_link p ≡ Some current → (current ≡ link → ⊥) → Ready s v g
+pub port-refused : {S H : Type 0} (s : Settings) (v : Lists) (g : Parts S H) (p link at current : ℕ) → has_port s p ≡ true → v.port_link p ≡ Some current → (current ≡ link → ⊥) → Ready s v g
     → Stepped s (PortUp p link at) (batch_of 0 [] [] p (Close link ∷ []) None) v g
 port-refused s v g p link at current has is other ready =
     port-event s (PortUp p link at) v g g p (Refused link) [] None (Close link ∷ []) (rw (has, is, not-equal current link other) refl)
@@ -96,7 +96,7 @@ port-refused s v g p link at current has is other ready =
 
 -- ---- time passes
 
-pub port-tick : (s : Settings) (v : Lists) (g new : Parts) (p at : ℕ) (outs : List LinkOut) → has_port s p ≡ true → Ready s v g → ReadsSent
+pub port-tick : {S H : Type 0} (s : Settings) (v : Lists) (g new : Parts S H) (p at : ℕ) (outs : List LinkOut) → has_port s p ≡ true → Ready s v g → ReadsSent
     → outs ≡ to_port (v.port_link p) ((port_answer s p (v.port_calls p) (calls.OnTick at)).outs ++ [])
     → PortsLeave s (called p (calls.OnTick at) v.port_calls) new.ports.items
     → PortLinks (unlinked p outs v.port_link) new.ports.items

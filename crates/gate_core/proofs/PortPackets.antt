@@ -54,7 +54,7 @@ current-is true link (Some current) on = ap Some (eqb-true current link on)
 current-is true link None on = absurd (cc)
 current-is false link current on = absurd (cc)
 
-pub port-heard : ReadsSent → (s : Settings) (v : Lists) (p link at : ℕ) (packet : Packet) (stood : PortState) (said more : List PortOut) (fault : Option PortFault) (outs : List LinkOut) (heard g new : Parts)
+pub port-heard : {S H : Type 0} → ReadsSent → (s : Settings) (v : Lists) (p link at : ℕ) (packet : Packet) (stood : PortState) (said more : List PortOut) (fault : Option PortFault) (outs : List LinkOut) (heard g new : Parts S H)
     → AfterPacket s p link at packet None said v heard
     → stood ≡ port_state s p (v.port_calls p)
     → (again : IsSentAgain s p at stood more (port_called p (OnPacket packet at) v) g)
@@ -93,7 +93,7 @@ port-heard reads s v p link at packet stood said more fault outs heard g new giv
 
 -- ---- what is known once the session heard a packet
 
-pub after-packet : (s : Settings) (v : Lists) (p link at : ℕ) (packet : Packet) (turn : PortTurn) (g new : Parts)
+pub after-packet : {S H : Type 0} (s : Settings) (v : Lists) (p link at : ℕ) (packet : Packet) (turn : PortTurn) (g new : Parts S H)
     → (has_port s p && is_the_number link (v.port_link p)) ≡ true
     → IsAnswer (port_answer s p (v.port_calls p) (OnPacket packet at)) turn
     → Ready s v g

@@ -56,7 +56,7 @@ module _ {X Y : Type 0} (f : X → Y) where
 
 -- ---- the parts
 
-module _ (s : Settings) (v : Lists) (g : Parts) where
+module _ {S H : Type 0} (s : Settings) (v : Lists) (g : Parts S H) where
   pub parts-stand : ArePartsOf s v g → StandAfter s v (parts_now g)
   parts-stand are = record {
     clients = each-seen client_now (λ i c. ClientLeaves s (i + 1) (v.client_calls (i + 1)) c.session) g.clients.items are.clients;
@@ -83,7 +83,7 @@ module _ (s : Settings) (v : Lists) (g : Parts) where
     known = stand.known;
   }
 
-module _ (events : ℕ) (g : Parts) where
+module _ {S H : Type 0} (events : ℕ) (g : Parts S H) where
   clients-count : length (map client_now g.clients.items) ≡ length g.clients.items
   clients-count = length-map g.clients.items client_now
 
@@ -118,7 +118,7 @@ module _ (events : ℕ) (g : Parts) where
 
 -- ---- what they are put back to
 
-pub stays-settled : (numbers packets : ℕ) (old new : Parts) → Grows numbers packets old new → parts_settled new ≡ parts_settled old
+pub stays-settled : {S H : Type 0} (numbers packets : ℕ) (old new : Parts S H) → Grows numbers packets old new → parts_settled new ≡ parts_settled old
 stays-settled numbers packets old new grows =
     let clients = kept-seen client_settled old.clients.items new.clients.items grows.clients_settled grows.clients in
     let ports = kept-seen port_settled old.ports.items new.ports.items grows.ports_settled grows.ports in

@@ -20,7 +20,7 @@ use Rattle.gate_core.specs.Steps.{Grows, Ready, Stepped}
 
 -- ---- what every step keeps
 
-pub shaped-still : (numbers packets : ℕ) (old new : Parts) → Grows numbers packets old new → IsShaped old → IsShaped new
+pub shaped-still : {S H : Type 0} (numbers packets : ℕ) (old new : Parts S H) → Grows numbers packets old new → IsShaped old → IsShaped new
 shaped-still numbers packets old new grows shaped = record {
   client_ports = ap (λ (ports : List ℕ). length ports) same ∙ shaped.client_ports ∙ sym grows.clients;
   among = subst (λ (count : ℕ). AreAmong count new.client_ports.items) (sym grows.ports) (subst (λ (ports : List ℕ). AreAmong (length old.ports.items) ports) (sym same) shaped.among);
@@ -32,7 +32,7 @@ shaped-still numbers packets old new grows shaped = record {
     same : new.client_ports.items ≡ old.client_ports.items
     same = rw grows.client_ports refl
 
-pub numbers-still : (events : ℕ) (old new : Parts) → Grows 3 1 old new → HasNumbers events old → HasNumbers (events + 1) new
+pub numbers-still : {S H : Type 0} (events : ℕ) (old new : Parts S H) → Grows 3 1 old new → HasNumbers events old → HasNumbers (events + 1) new
 numbers-still events old new grows has = record {
   issued = omega (arith, grows.issued, has.issued);
   next = grows.next (events + 1) has.next;
@@ -89,7 +89,7 @@ more-count h t events e is = by_test (is_within_day (t ∷ h)) refl
 abbrev pub PastKeeps : Type 0
 PastKeeps = (s : Settings) (h : History) (e : Event) → is_within_day h ≡ false → Holds s h → Holds s (record { event = e; batch = empty } ∷ h)
 
-pub past-step : (s : Settings) (h : History) (c : CoreFields) (e : Event) (b : Batch) → PastKeeps → c.events ≡ most_events → b ≡ empty → FieldsAfter s h c
+pub past-step : {S H : Type 0} (s : Settings) (h : History) (c : CoreFields S H) (e : Event) (b : Batch) → PastKeeps → c.events ≡ most_events → b ≡ empty → FieldsAfter s h c
     → (let t : Turn = record { event = e; batch = b } in FieldsAfter s (t ∷ h) c × Holds s (t ∷ h))
 past-step s h c e b keeps limit none is =
     let t : Turn = record { event = e; batch = b } in
@@ -115,7 +115,7 @@ AreLinked = (s : Settings) (h : History) → IsRun s h → (p : ℕ) → is_open
 abbrev pub AreFewTurns : Type 0
 AreFewTurns = (s : Settings) (h : History) → length (order_turns s h) ≤ length h
 
-pub next-step : (s : Settings) (h : History) (c new : CoreFields) (e : Event) (b : Batch) → StepKeeps → AreLinked → AreFewTurns → (c.events ≡ most_events → ⊥) → FieldsAfter s h c
+pub next-step : {S H : Type 0} (s : Settings) (h : History) (c new : CoreFields S H) (e : Event) (b : Batch) → StepKeeps → AreLinked → AreFewTurns → (c.events ≡ most_events → ⊥) → FieldsAfter s h c
     → ((v : Lists) → Ready s v c.parts → Stepped s e b v new.parts) → new.events ≡ c.events + 1
     → (let t : Turn = record { event = e; batch = b } in FieldsAfter s (t ∷ h) new × Holds s (t ∷ h))
 next-step s h c new e b keeps linked few other is steps one_more =
@@ -137,8 +137,8 @@ next-step s h c new e b keeps linked few other is steps one_more =
 
 -- ---- the first state, and what is known of every one
 
-pub first-state : (s : Settings) (c : CoreFields) → ((t : Settings) → Headline (terms t) [] → Holds t []) → ArePartsOf s (lists s []) c.parts → c.events ≡ 0 → FieldsAfter s [] c
+pub first-state : {S H : Type 0} (s : Settings) (c : CoreFields S H) → ((t : Settings) → Headline (terms t) [] → Holds t []) → ArePartsOf s (lists s []) c.parts → c.events ≡ 0 → FieldsAfter s [] c
 first-state s c first parts none = record { holds = first s tt; parts = parts; count = none }
 
-pub holds-of : (s : Settings) (h : History) (c : CoreFields) → FieldsAfter s h c → Holds s h
+pub holds-of : {S H : Type 0} (s : Settings) (h : History) (c : CoreFields S H) → FieldsAfter s h c → Holds s h
 holds-of s h c is = is.holds

@@ -44,7 +44,7 @@ same-turn s n message out state v stands = ap turn stands
     turn : Port → OrderTurn
     turn port = record { event = Came n (message_fields message) port; client = n; bodies = map body_fields out.bodies.items; sends = map inbound_bytes out.sends.items; fault = None }
 
-pub taken : (s : Settings) (n : ℕ) (message : AppMsg) (out : CoreOut) (state : Stands) (v : Lists) (g new : Parts)
+pub taken : {S H : Type 0} (s : Settings) (n : ℕ) (message : AppMsg) (out : CoreOut) (state : Stands) (v : Lists) (g new : Parts S H)
     → port_seen state ≡ stands_of (port_state s (port_of s n) (v.port_calls (port_of s n))) → has_client s n ≡ true → ArePartsOf s v g
     → IsAfterTurns (terms s) (client_turn n message state out ∷ v.turns) new.orders → Headline (terms s) (client_turn n message state out ∷ v.turns)
     → new.clients ≡ g.clients → new.ports ≡ g.ports → new.client_ports ≡ g.client_ports

@@ -21,8 +21,8 @@ AreDue true s p v messages = EachWith (SaysIn (terms s) v.turns p) (outstanding 
 AreDue false s p v messages = messages ≡ []
 
 -- The port, which stood so before, is sent what is due.
-pub record IsSentAgain (s : Settings) (p at : ℕ) (stood : PortState) (outs : List PortOut) (v : Lists)
-    (new : Parts) : Type 0 where
+pub record IsSentAgain {S H : Type 0} (s : Settings) (p at : ℕ) (stood : PortState) (outs : List PortOut) (v : Lists)
+    (new : Parts S H) : Type 0 where
   pub messages : List (List ℕ)
   pub due : AreDue (came_up stood (port_state s p (v.port_calls p))) s p v messages
   pub sent : IsSent s p at messages outs v new

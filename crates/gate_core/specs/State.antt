@@ -24,7 +24,7 @@ abbrev pub AreFromClients : Settings → orders.OrderHistory → Type 0
 AreFromClients s h = AreFrom (λ (client : ℕ). has_client s client ≡ true) h
 
 -- the parts are what these lists leave
-pub record ArePartsOf (s : Settings) (v : Lists) (g : Parts) : Type 0 where
+pub record ArePartsOf {S H : Type 0} (s : Settings) (v : Lists) (g : Parts S H) : Type 0 where
   pub clients : ClientsLeave s v.client_calls g.clients.items
   pub client_links : ClientLinks v.client_link g.clients.items
   pub ports : PortsLeave s v.port_calls g.ports.items
@@ -40,7 +40,7 @@ abbrev pub AreAmong : ℕ → List ℕ → Type 0
 AreAmong count ports = (i : ℕ) (p : ℕ) → slice_get ports i ≡ Some p → (1 ≤ p) × (p ≤ count)
 
 -- Whatever the lists are: each client has its port and its terms.
-pub record IsShaped (g : Parts) : Type 0 where
+pub record IsShaped {S H : Type 0} (g : Parts S H) : Type 0 where
   pub client_ports : length g.client_ports.items ≡ length g.clients.items
   pub among : AreAmong (length g.ports.items) g.client_ports.items
   pub served : core.core_clients g.orders ≡ length g.clients.items
@@ -49,7 +49,7 @@ pub record IsShaped (g : Parts) : Type 0 where
 
 -- There are numbers for far more events than are ever stepped: after so many of them, so many numbers were given at
 -- most.
-pub record HasNumbers (events : ℕ) (g : Parts) : Type 0 where
+pub record HasNumbers {S H : Type 0} (events : ℕ) (g : Parts S H) : Type 0 where
   pub issued : core.core_numbers g.orders ≤ 3 * events
   pub next : NextWithin (events + 1) g.ports.items
 
@@ -67,7 +67,7 @@ pub record PartsStand : Type 0 where
   pub orders : core.CoreParts
 
 -- now
-abbrev pub parts_now : Parts → PartsStand
+abbrev pub parts_now : {S H : Type 0} → Parts S H → PartsStand
 parts_now g = record {
   clients = map client_now g.clients.items;
   ports = map port_now g.ports.items;
@@ -76,7 +76,7 @@ parts_now g = record {
 }
 
 -- and when they were settled last: no client ever gets another port
-abbrev pub parts_settled : Parts → PartsStand
+abbrev pub parts_settled : {S H : Type 0} → Parts S H → PartsStand
 parts_settled g = record {
   clients = map client_settled g.clients.items;
   ports = map port_settled g.ports.items;

@@ -40,29 +40,29 @@ use Rattle.gate_core.specs.State.{ArePartsOf, AreOpenOnLinks}
 
 -- what is known of the parts before a step: they are what the lists leave, links are current just where sessions are
 -- open, and there were fewer turns than are ever made
-pub record Ready (s : Settings) (v : Lists) (g : Parts) : Type 0 where
+pub record Ready {S H : Type 0} (s : Settings) (v : Lists) (g : Parts S H) : Type 0 where
   pub parts : ArePartsOf s v g
   pub linked : AreOpenOnLinks s v
   pub few : length v.turns < 2 ^ 58
 
 -- What a step promises: the batch is the one that is given, the messages that go to the market are those that are to,
 -- the order level keeps its headline, and the parts are what the lists are then.
-pub record Stepped (s : Settings) (e : Event) (b : Batch) (v : Lists) (g : Parts) : Type 0 where
+pub record Stepped {S H : Type 0} (s : Settings) (e : Event) (b : Batch) (v : Lists) (g : Parts S H) : Type 0 where
   pub gives : Gives s e b v
   pub asks : Asks s e b v
   pub orders : Headline (terms s) v.turns → Headline (terms s) (lists_after s e b v).turns
   pub parts : ArePartsOf s (lists_after s e b v) g
 
 -- each line is put back to what it was put back to before
-abbrev pub ClientsStaySettled : Parts → Parts → Type 0
+abbrev pub ClientsStaySettled : {S H : Type 0} → Parts S H → Parts S H → Type 0
 ClientsStaySettled old new = (was : ℕ → ClientStands) → ClientsSettledAs was old.clients.items → ClientsSettledAs was new.clients.items
 
-abbrev pub PortsStaySettled : Parts → Parts → Type 0
+abbrev pub PortsStaySettled : {S H : Type 0} → Parts S H → Parts S H → Type 0
 PortsStaySettled old new = (was : ℕ → PortStands) → PortsSettledAs was old.ports.items → PortsSettledAs was new.ports.items
 
 -- A step gives at most so many numbers, and a port wants one packet more at most; what the parts are put back to stays.
 -- All of it whatever the result is.
-pub record Grows (numbers packets : ℕ) (old new : Parts) : Type 0 where
+pub record Grows {S H : Type 0} (numbers packets : ℕ) (old new : Parts S H) : Type 0 where
   pub clients : length new.clients.items ≡ length old.clients.items
   pub ports : length new.ports.items ≡ length old.ports.items
   pub client_ports : new.client_ports.items ≡ old.client_ports.items
@@ -91,15 +91,15 @@ abbrev pub OnlyWhileUp : Settings → ℕ → Lists → List (List ℕ) → Type
 OnlyWhileUp s p v messages = is_up (port_state s p (v.port_calls p)) ≡ false → messages ≡ []
 
 -- what the order level's turn leaves
-pub record IsTurn (s : Settings) (client : ℕ) (message : AppMsg) (out : CoreOut) (v : Lists)
-    (new : Parts) : Type 0 where
+pub record IsTurn {S H : Type 0} (s : Settings) (client : ℕ) (message : AppMsg) (out : CoreOut) (v : Lists)
+    (new : Parts S H) : Type 0 where
   pub parts : ArePartsOf s (turned (Some (orders_turn_of s client message out v)) v) new
   pub headline : Headline (terms s) (orders_turn_of s client message out v ∷ v.turns)
   pub sends : OnlyWhileUp s (port_of s client) v (map inbound_bytes out.sends.items)
 
 -- bodies are issued to a client, in order
-pub record IsIssued (s : Settings) (client at : ℕ) (bodies : List Message) (out : Issues) (v : Lists)
-    (new : Parts) : Type 0 where
+pub record IsIssued {S H : Type 0} (s : Settings) (client at : ℕ) (bodies : List Message) (out : Issues) (v : Lists)
+    (new : Parts S H) : Type 0 where
   pub parts : ArePartsOf s (client_called_all client (issues at bodies) v) new
   pub outs : map told_bytes out.outs.items ≡ map (told_of_out s.comp (client_name s client))
       (client_outs s client (v.client_calls client) (issues at bodies))
@@ -107,8 +107,8 @@ pub record IsIssued (s : Settings) (client at : ℕ) (bodies : List Message) (ou
   pub bodies_are : map body_of out.reports.items ≡ bodies
 
 -- messages are sent on a port, in order
-pub record IsSent (s : Settings) (p at : ℕ) (messages : List (List ℕ)) (outs : List PortOut) (v : Lists)
-    (new : Parts) : Type 0 where
+pub record IsSent {S H : Type 0} (s : Settings) (p at : ℕ) (messages : List (List ℕ)) (outs : List PortOut) (v : Lists)
+    (new : Parts S H) : Type 0 where
   pub parts : ArePartsOf s (port_called_all p (sends at messages) v) new
   pub outs_are : outs ≡ port_outs s p (v.port_calls p) (sends at messages)
 
@@ -120,8 +120,8 @@ after_turn s client at t v = port_called_all (port_of s client) (sends at t.send
     (client_called_all client (issues at t.bodies) (turned (Some t) v))
 
 -- What a message that a client's session delivered comes to: `out` has what the client's session and its port's say.
-pub record IsAsked (s : Settings) (client at : ℕ) (message : AppMsg) (out : Asked) (v : Lists)
-    (new : Parts) : Type 0 where
+pub record IsAsked {S H : Type 0} (s : Settings) (client at : ℕ) (message : AppMsg) (out : Asked) (v : Lists)
+    (new : Parts S H) : Type 0 where
   pub core : CoreOut
   pub headline : Headline (terms s) (orders_turn_of s client message core v ∷ v.turns)
   pub only : OnlyWhileUp s (port_of s client) v (map inbound_bytes core.sends.items)
@@ -138,8 +138,8 @@ pub record IsAsked (s : Settings) (client at : ℕ) (message : AppMsg) (out : As
 
 -- What is known once the client's session had it: what it delivers and says is its table's, and the parts have the
 -- call.
-pub record AfterFrame (s : Settings) (n link at : ℕ) (frame : Message) (app : Option AppMsg) (said : List SessionOut)
-    (v : Lists) (g : Parts) : Type 0 where
+pub record AfterFrame {S H : Type 0} (s : Settings) (n link at : ℕ) (frame : Message) (app : Option AppMsg) (said : List SessionOut)
+    (v : Lists) (g : Parts S H) : Type 0 where
   pub on : (has_client s n && is_the_number link (v.client_link n)) ≡ true
   pub app_is : (client_answer s n (v.client_calls n) (at, OnMessage frame)).app ≡ app
   pub said_is : map told_bytes said ≡ map (told_of_out s.comp (client_name s n))
@@ -166,20 +166,20 @@ client_number_at None = 0
 client_number_at (Some place) = place + 1
 
 -- it is told to the client at a place, or to nobody, as there are bodies or not
-pub record PayloadIsTold (s : Settings) (p : ℕ) (payload : List ℕ) (client : Option ℕ) (bodies : List Message)
-    (v : Lists) (new : Parts) : Type 0 where
+pub record PayloadIsTold {S H : Type 0} (s : Settings) (p : ℕ) (payload : List ℕ) (client : Option ℕ) (bodies : List Message)
+    (v : Lists) (new : Parts S H) : Type 0 where
   pub parts : ArePartsOf s (turned (Some (heard_turn p payload (client_number_at client) bodies None)) v) new
   pub headline : Headline (terms s) (heard_turn p payload (client_number_at client) bodies None ∷ v.turns)
   pub nobody : client ≡ None → bodies ≡ []
   pub nothing : bodies ≡ [] → client ≡ None
 
 -- or it is at fault
-pub record IsFaulty (s : Settings) (p : ℕ) (payload : List ℕ) (fault : PortFault) (v : Lists)
-    (new : Parts) : Type 0 where
+pub record IsFaulty {S H : Type 0} (s : Settings) (p : ℕ) (payload : List ℕ) (fault : PortFault) (v : Lists)
+    (new : Parts S H) : Type 0 where
   pub parts : ArePartsOf s (turned (Some (heard_turn p payload 0 [] (Some (fault_number fault)))) v) new
   pub headline : Headline (terms s) (heard_turn p payload 0 [] (Some (fault_number fault)) ∷ v.turns)
 
-abbrev pub PayloadIsJudged : Settings → ℕ → List ℕ → Judged → Lists → Parts → Type 0
+abbrev pub PayloadIsJudged : {S H : Type 0} → Settings → ℕ → List ℕ → Judged → Lists → Parts S H → Type 0
 PayloadIsJudged s p payload (judgements.Told client bodies) v new = PayloadIsTold s p payload client
     (map body_fields bodies.items) v new
 PayloadIsJudged s p payload (judgements.Faulty fault) v new = IsFaulty s p payload fault v new
@@ -192,8 +192,8 @@ IsWithin count (judgements.Faulty fault) = Unit {0}
 
 -- What is known once the port's session had a packet: what it delivers and says is its table's, and the parts have
 -- the call.
-pub record AfterPacket (s : Settings) (p link at : ℕ) (packet : Packet) (payload : Option (List ℕ))
-    (said : List PortOut) (v : Lists) (g : Parts) : Type 0 where
+pub record AfterPacket {S H : Type 0} (s : Settings) (p link at : ℕ) (packet : Packet) (payload : Option (List ℕ))
+    (said : List PortOut) (v : Lists) (g : Parts S H) : Type 0 where
   pub on : (has_port s p && is_the_number link (v.port_link p)) ≡ true
   pub payload_is : (port_answer s p (v.port_calls p) (table.OnPacket packet at)).payload ≡ payload
   pub said_is : said ≡ (port_answer s p (v.port_calls p) (table.OnPacket packet at)).outs

@@ -5,7 +5,7 @@ mod client_links;
 mod client_messages;
 mod event_targets;
 mod events;
-mod new;
+pub(crate) mod new;
 mod port_links;
 mod port_packets;
 mod port_payloads;
@@ -15,15 +15,16 @@ ghost use Rattle.std.specs.Prelude.{◌≡◌, ◌<◌, ◌+◌, ◌&&◌, nat_l
 
 use gate_sessions::{ClientLine, PortLine};
 use order_core::OrderCore;
+use std::hash::{BuildHasher, BuildHasherDefault, FoldHasher};
 
 /// The lines of all clients and ports, and the order level.
 #[derive(Debug, Drop)]
-pub(crate) struct Parts {
+pub(crate) struct Parts<S: BuildHasher + Drop = BuildHasherDefault<FoldHasher>> {
     pub(crate) clients: Vec<ClientLine>,
     pub(crate) ports: Vec<PortLine>,
     /// The port of each client, by the client's place.
     pub(crate) client_ports: Vec<u16>,
-    pub(crate) orders: OrderCore,
+    pub(crate) orders: OrderCore<S>,
 }
 
 /// The place of a number from 1, where there are so many.

@@ -1,12 +1,15 @@
 //! The value, and the call that steps it.
 
-ghost use Rattle.std.specs.Prelude.{[], ◌∷◌, ◌≡◌, IfOk, OnErr};
+ghost use Rattle.std.specs.Prelude.{[], ◌∷◌, ◌≡◌, length, IfOk, OnErr};
 
 use crate::parts::Parts;
+use crate::parts::new::{orders, orders_with_hasher};
 use crate::targets::Targets;
 use gate_events::{Batch, Event};
 use gate_settings::Settings;
+use order_core::OrderCore;
 use std::alloc::{AllocError, Global};
+use std::hash::{BuildHasher, BuildHasherDefault, FoldHasher};
 use std::marker::Model;
 
 /// The most events that are stepped: any that comes later gives an empty batch and changes nothing.
@@ -16,16 +19,19 @@ const MOST_EVENTS: u64 = 1 << 48;
 ///
 /// It reads no clock and no link: moments come with the events, and what links are told stands in their batches.
 /// Contracts see how it stands, and how it stood before the last step.
+///
+/// Orders, tokens and ClOrdIDs that were used are found by indexes over any hasher, which changes nothing but how fast
+/// they are found. With a seed that nobody else knows no client can choose ids that make it slow.
 #[derive(Debug, Drop)]
-pub struct Core {
-    parts: Parts,
+pub struct Core<S: BuildHasher + Drop = BuildHasherDefault<FoldHasher>> {
+    parts: Parts<S>,
     /// How many events were stepped.
     events: u64,
     /// How many were before the last step.
     settled_events: u64,
 }
 
-impl Model for Core {
+impl<S: BuildHasher + Drop> Model for Core<S> {
     ghost use Rattle.gate_core.specs.Core.{CoreState, IsSound};
     ghost use Rattle.gate_core.specs.State.{parts_now, parts_settled};
 
@@ -41,6 +47,36 @@ impl Model for Core {
 }
 
 impl Core {
+    ghost use Rattle.gate_core.specs.Core.{IsAfter};
+
+    /// The core of these settings before the first event, with the fixed seed.
+    pub fn new(alloc: Global, settings: &Settings) -> Result<Core, AllocError>
+        ensures after { IfOk result (λ core. IsAfter settings.now [] core) }
+        ensures settled { IfOk result (λ core. core.settled ≡ core.now) }
+    {
+        let orders = orders(alloc, settings)?;
+        Core::of_orders(alloc, settings, orders)
+    }
+}
+
+impl<S: BuildHasher + Clone + Drop> Core<S> {
+    ghost use Rattle.gate_core.specs.Core.{IsAfter};
+
+    /// The core of these settings before the first event, with a hasher.
+    pub fn with_hasher(
+        alloc: Global,
+        hasher: S,
+        settings: &Settings,
+    ) -> Result<Core<S>, AllocError>
+        ensures after { IfOk result (λ core. IsAfter settings.now [] core) }
+        ensures settled { IfOk result (λ core. core.settled ≡ core.now) }
+    {
+        let orders = orders_with_hasher(alloc, hasher, settings)?;
+        Core::of_orders(alloc, settings, orders)
+    }
+}
+
+impl<S: BuildHasher + Drop> Core<S> {
     ghost use Rattle.gate_law.specs.Settings as law;
     ghost use Rattle.gate_law.specs.Events as told;
     ghost use Rattle.gate_law.specs.Events.{History};
@@ -48,16 +84,24 @@ impl Core {
     ghost use Rattle.gate_law.specs.Holds.{Holds};
     ghost use Rattle.gate_law.specs.Promises.{IsAmong};
     ghost use Rattle.gate_core.specs.Core.{IsAfter, turn_of};
+    ghost use Rattle.order_core.specs.State.{IsAfterTurns, core_clients, core_numbers};
     ghost use Rattle.gate_core.specs.Expected.{next_expected};
     ghost use Rattle.gate_events.specs.Seen.{event_seen};
     ghost use Rattle.gate_core.specs.Targets.{client_for, port_for};
 
-    /// The core of these settings before the first event.
-    pub fn new(alloc: Global, settings: &Settings) -> Result<Core, AllocError>
+    /// The core of these settings before the first event, with the order level of their clients.
+    fn of_orders(
+        alloc: Global,
+        settings: &Settings,
+        orders: OrderCore<S>,
+    ) -> Result<Core<S>, AllocError>
+        requires after { IsAfterTurns (law.terms settings.now) [] orders }
+        requires clients { core_clients orders ≡ length settings.now.clients }
+        requires issued { core_numbers orders ≡ 0 }
         ensures after { IfOk result (λ core. IsAfter settings.now [] core) }
         ensures settled { IfOk result (λ core. core.settled ≡ core.now) }
     {
-        let mut parts = Parts::new(alloc, settings)?;
+        let mut parts = Parts::new(alloc, settings, orders)?;
         parts.settle();
         Ok(Core {
             parts,

@@ -9,7 +9,7 @@ use Rattle.text_lines.specs.declared.stream_fault.StreamFault.{StreamFault}
 use Rattle.text_lines.specs.declared.stream_fault.StreamFault.TheVariants as stream_fault
 use Rattle.text_lines.specs.Unread.{GivesLine, lines_of}
 use Rattle.text_lines.proofs.Given.{Leaves, all-given, first-given}
-use Rattle.script_steps.specs.declared.runner.Runner.{Runner}
+use Rattle.script_steps.specs.Standing.{Runner}
 use Rattle.gate_lines.specs.declared.stop.Stop.{Stop}
 use Rattle.gate_lines.specs.declared.stop.Stop.TheVariants.{NotUnderstood, NoMemory, Stream}
 use Rattle.gate_lines.specs.Scripts.{BeginsScript, IsPrintedStep, Prints, PrintsAll, PrintsLine, StopsScript, StopsAmong, WritesNothing, printed_of}

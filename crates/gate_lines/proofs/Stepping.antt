@@ -4,8 +4,7 @@ use Rattle.std.specs.List.{FoldsTo}
 use Rattle.gate_journal.specs.Kept.{Kept}
 use Rattle.text_lines.specs.Unread.{GivesLine}
 use Rattle.text_lines.proofs.Given.{Leaves, all-given}
-use Rattle.script_steps.specs.declared.runner.Runner.{Runner}
-use Rattle.script_steps.specs.Standing.{IsTextStep, IsWarm, RunSoFar}
+use Rattle.script_steps.specs.Standing.{IsTextStep, IsWarm, RunSoFar, Runner}
 use Rattle.gate_lines.specs.Scripts.{ComesTo}
 
 -- all lines of a script stepped a runner with its sessions up

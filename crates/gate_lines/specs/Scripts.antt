@@ -7,9 +7,8 @@ use Rattle.batch_lines.specs.Lines.{shown_batch}
 use Rattle.gate_events.specs.Seen.{batch_seen}
 use Rattle.gate_journal.specs.Kept.{Kept, nothing_kept}
 use Rattle.text_lines.specs.Unread.{lines_of}
-use Rattle.script_steps.specs.declared.runner.Runner.{Runner}
 use Rattle.script_steps.specs.Lines.{MayStopAt}
-use Rattle.script_steps.specs.Standing.{IsCold, IsTextStep, IsWarm, RunSoFar, StepsText}
+use Rattle.script_steps.specs.Standing.{IsCold, IsTextStep, IsWarm, RunSoFar, Runner, StepsText}
 use Rattle.gate_lines.specs.declared.stop.Stop.{Stop}
 use Rattle.gate_lines.specs.declared.stop.Stop.TheVariants.{NotUnderstood, NoMemory, Stream}
 

@@ -7,7 +7,7 @@
 //! A line that isn't understood ends the run, and so do want of memory and a read or write that fails. What earlier
 //! lines printed stays.
 //!
-//! `run_script` runs a script, `audit_script` audits what it comes to, `write_audit` writes the audit of any
+//! `run_script` runs a script, `run_script_with` with a hasher, `audit_script` audits what it comes to, `write_audit` writes the audit of any
 //! history's pairs, `script_history` gives the history itself.
 #![tactic(auto)]
 
@@ -18,5 +18,5 @@ mod stop;
 pub use audit::audit_script;
 pub use audit_lines::write_audit;
 pub use batch_lines::Flags;
-pub use script::{run_script, script_history, tell};
+pub use script::{run_script, run_script_with, script_history, tell};
 pub use stop::Stop;

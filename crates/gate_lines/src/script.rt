@@ -8,7 +8,7 @@ ghost use Rattle.gate_events.specs.Seen.{batch_seen};
 ghost use Rattle.gate_law.specs.Holds.{Holds};
 ghost use Rattle.gate_journal.specs.Kept.{nothing_kept, turns};
 ghost use Rattle.text_lines.specs.Unread.{lines_of};
-ghost use Rattle.script_steps.specs.Standing.{IsWarm, StepsText};
+ghost use Rattle.script_steps.specs.Standing.{IsCold, IsWarm, StepsText};
 ghost use Rattle.gate_lines.specs.Scripts.{BeginsScript, ComesTo, Prints, PrintsAll, PrintsLine, StopsScript};
 ghost use Rattle.gate_lines.specs.Scripts.{StopsAmong, WritesNothing};
 ghost use Rattle.script_steps.specs.Settings.{fixed};
@@ -20,6 +20,7 @@ use gate_core::Batch;
 use gate_journal::History;
 use script_steps::{Runner, warm_runner};
 use std::alloc::{AllocError, Global};
+use std::hash::BuildHasher;
 use std::io::{Read, Write};
 use text_lines::Lines;
 
@@ -48,7 +49,32 @@ pub fn run_script<R: Read, W: Write, F: Write>(
         (λ text. (number : ℕ) × StopsScript flags text (Stop.NotUnderstood number) (W.contents output.old)
         (W.contents output.new)) }
 {
-    let ended = run(alloc, flags, input, output);
+    let ended = run(alloc, flags, Runner::cold(alloc), input, output);
+    match flushed(output, ended) {
+        Ok(()) => 0,
+        Err(stop) => tell(stop, faults),
+    }
+}
+
+/// Runs a script as `run_script` does, with the core's indexes over a hasher, which changes nothing but how fast they
+/// are.
+pub fn run_script_with<S: BuildHasher + Clone + Drop, R: Read, W: Write, F: Write>(
+    alloc: Global,
+    hasher: S,
+    flags: Flags,
+    input: &mut R,
+    output: &mut W,
+    faults: &mut F,
+) -> u8
+    ensures status { result ≤ 2 }
+    ensures printed { result ≡ 0 → IfSome (R.remaining input.old)
+        (λ text. PrintsAll flags text (W.contents output.old) (W.contents output.new)) }
+    ensures stopped { result ≡ 2 → IfSome (R.remaining input.old)
+        (λ text. (number : ℕ) × StopsScript flags text (Stop.NotUnderstood number) (W.contents output.old)
+        (W.contents output.new)) }
+{
+    let cold = Runner::cold_with_hasher(alloc, hasher);
+    let ended = run(alloc, flags, cold, input, output);
     match flushed(output, ended) {
         Ok(()) => 0,
         Err(stop) => tell(stop, faults),
@@ -72,41 +98,47 @@ fn flushed<W: Write>(output: &mut W, ended: Result<(), Stop>) -> Result<(), Stop
     ended
 }
 
-/// Steps a script, and prints what each line comes to.
-fn run<R: Read, W: Write>(
+/// Steps a script with a runner of which no line was stepped, and prints what each line comes to.
+fn run<S: BuildHasher + Drop, R: Read, W: Write>(
     alloc: Global,
     flags: Flags,
+    cold: Result<Runner<S>, AllocError>,
     input: &mut R,
     output: &mut W,
 ) -> Result<(), Stop>
+    requires { IfOk cold IsCold }
     ensures printed { OnOk result (IfSome (R.remaining input.old)
         (λ text. PrintsAll flags text (W.contents output.old) (W.contents output.new))) }
     ensures stopped { IfErr result (λ stop. IfSome (R.remaining input.old)
         (λ text. StopsScript flags text stop (W.contents output.old) (W.contents output.new))) }
 {
-    let mut runner = begun(alloc, flags)?;
+    let mut runner = begun(alloc, flags, cold?)?;
     run_lines(alloc, flags, &mut runner, input, output)?;
     Ok(())
 }
 
 /// The runner that a script begins with.
-fn begun(alloc: Global, flags: Flags) -> Result<Runner, Stop>
+fn begun<S: BuildHasher + Drop>(
+    alloc: Global,
+    flags: Flags,
+    cold: Runner<S>,
+) -> Result<Runner<S>, Stop>
+    requires { IsCold cold }
     ensures { IfOk result (BeginsScript flags.cold) }
 {
     if flags.cold {
-        let cold = Runner::cold(alloc)?;
         return Ok(cold);
     }
     let mut kept = History::new(alloc);
-    let warm = started(alloc, &mut kept)?;
+    let warm = started(alloc, cold, &mut kept)?;
     Ok(warm)
 }
 
 /// Steps the lines that `input` gives, to its end, and prints what each comes to.
-fn run_lines<R: Read, W: Write>(
+fn run_lines<S: BuildHasher + Drop, R: Read, W: Write>(
     alloc: Global,
     flags: Flags,
-    runner: &mut Runner,
+    runner: &mut Runner<S>,
     input: &mut R,
     output: &mut W,
 ) -> Result<(), Stop>
@@ -126,10 +158,10 @@ fn run_lines<R: Read, W: Write>(
 }
 
 /// Steps the line of this number, and prints what it comes to.
-fn print_line<W: Write>(
+fn print_line<S: BuildHasher + Drop, W: Write>(
     alloc: Global,
     flags: Flags,
-    runner: &mut Runner,
+    runner: &mut Runner<S>,
     number: u64,
     line: &[u8],
     output: &mut W,
@@ -156,7 +188,8 @@ pub fn script_history<R: Read>(alloc: Global, input: &mut R) -> Result<History, 
     ensures lines { IfOk result (λ kept. IfSome (R.remaining input.old) (λ text. ComesTo text kept)) }
 {
     let mut kept = History::new(alloc);
-    let mut runner = started(alloc, &mut kept)?;
+    let cold = Runner::cold(alloc)?;
+    let mut runner = started(alloc, cold, &mut kept)?;
     let mut lines = Lines::new();
     for number in 1..MOST_LINES {
         let Some(line) = lines.next(alloc, input)? else {
@@ -167,20 +200,26 @@ pub fn script_history<R: Read>(alloc: Global, input: &mut R) -> Result<History, 
     Err(Stop::Stream)
 }
 
-/// A runner whose clients are logged on and whose ports are logged in. Nothing that this takes isn't understood.
-fn started(alloc: Global, kept: &mut History) -> Result<Runner, Stop>
+/// A runner of which no line was stepped, once its clients are logged on and its ports are logged in. Nothing that this
+/// takes isn't understood.
+fn started<S: BuildHasher + Drop>(
+    alloc: Global,
+    cold: Runner<S>,
+    kept: &mut History,
+) -> Result<Runner<S>, Stop>
+    requires { IsCold cold }
     ensures { IfOk result (λ runner. kept.old ≡ nothing_kept → IsWarm (record { runner = runner; kept = kept.new })) }
 {
-    match warm_runner(alloc, kept) {
+    match warm_runner(alloc, cold, kept) {
         Ok(runner) => Ok(runner),
         Err(fault) => Err(Stop::at_line(fault, 0)),
     }
 }
 
 /// Steps the line of this number.
-fn step_line(
+fn step_line<S: BuildHasher + Drop>(
     alloc: Global,
-    runner: &mut Runner,
+    runner: &mut Runner<S>,
     number: u64,
     line: &[u8],
     kept: &mut History,

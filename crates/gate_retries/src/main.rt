@@ -6,7 +6,7 @@ use batch_lines::{Flags, batch_text};
 use gate_core::{Batch, Core, Event};
 use gate_journal::History;
 use script_lines::LineFault;
-use script_steps::{fixed_settings, warm_runner};
+use script_steps::{Runner, fixed_settings, warm_runner};
 use std::alloc::{AllocError, Global};
 use std::io::{self, BufRead, BufReader, ErrorKind, Write};
 use std::process::ExitCode;
@@ -39,7 +39,8 @@ fn run(rt: &HostRuntime) -> io::Result<()> {
 
 /// Keeps the events of the script on standard input, and tells how many come before its first line.
 fn keep_script(alloc: Global, rt: &HostRuntime, kept: &mut History) -> io::Result<usize> {
-    let Ok(mut runner) = warm_runner(alloc, kept) else {
+    let cold = Runner::cold(alloc)?;
+    let Ok(mut runner) = warm_runner(alloc, cold, kept) else {
         return Err(io::Error::from(ErrorKind::OutOfMemory));
     };
     let begun = kept.events().len();

@@ -11,9 +11,11 @@ use script_command::tell_refusal;
 use settings_file::{SettingsFault, SettingsFile, read};
 use std::alloc::Global;
 use std::fs::File;
+use std::hash::RandomState;
 use std::io::{self, BufWriter, ErrorKind, Write};
 use std::net::{Net, TcpListener, TcpStream};
 use std::process::ExitCode;
+use std::random::RandomSource;
 use std::sync::Wait;
 use std::thread::Threads;
 use std::time::{Clock, Duration};
@@ -186,9 +188,13 @@ where
         + Sync
         + Clock
         + Net<Listener = TcpListener, Stream = TcpStream>
+        + RandomSource
         + Print
         + Eprint,
 {
+    let Ok(hasher) = RandomState::new(rt) else {
+        return no_seed(faults);
+    };
     let Ok(mut output) = BufWriter::new(alloc, io::writer(rt)) else {
         let _ = writeln!(faults, "out of memory");
         return ExitCode::from(1);
@@ -198,7 +204,7 @@ where
         links,
         journal,
     } = asked;
-    let status = match run_settings(rt, alloc, file, u32::from(links)) {
+    let status = match run_settings(rt, alloc, hasher, file, u32::from(links)) {
         Ok(day) => ended(alloc, &day, journal, &mut output, faults),
         Err(fault) => tell(fault, faults),
     };
@@ -222,15 +228,30 @@ fn ended<W: Write, F: Write>(
 /// Shows a gateway on loopback.
 fn demonstrate<R, F: Write>(rt: &R, alloc: Global, faults: &mut F) -> ExitCode
 where
-    R: Threads + Wait + Sync + Clock + Net<Listener = TcpListener, Stream = TcpStream> + Print,
+    R: Threads
+        + Wait
+        + Sync
+        + Clock
+        + Net<Listener = TcpListener, Stream = TcpStream>
+        + RandomSource
+        + Print,
 {
+    let Ok(hasher) = RandomState::new(rt) else {
+        return no_seed(faults);
+    };
     let Ok(mut output) = BufWriter::new(alloc, io::writer(rt)) else {
         let _ = writeln!(faults, "out of memory");
         return ExitCode::from(1);
     };
     let patience = Duration::from_secs(10);
     let answer = Choice::AcceptLive;
-    ExitCode::from(show_demo(rt, alloc, patience, answer, &mut output, faults))
+    ExitCode::from(show_demo(rt, alloc, hasher, patience, answer, &mut output, faults))
+}
+
+/// Tells that the system has no random number for the seed of the gateway's indexes.
+fn no_seed<F: Write>(faults: &mut F) -> ExitCode {
+    let _ = writeln!(faults, "gateway: no random number");
+    ExitCode::from(1)
 }
 
 /// Tells why a command line is refused.

@@ -11,6 +11,7 @@ use gateway_run::{Day, RunFault, RunPlan, audit_day, run};
 use link_sockets::{Acceptor, Connector, Opened, Opener};
 use market_book::Choice;
 use std::alloc::{AllocError, Global};
+use std::hash::BuildHasher;
 use std::io::{Read, Write};
 use std::net::{Net, TcpListener, TcpStream};
 use std::sync::Wait;
@@ -66,9 +67,10 @@ pub fn connected<R: Net<Listener = TcpListener, Stream = TcpStream>>(
 /// Answers its program's status: 0 where both accounts of each order agree; else 1, with a line on `faults`: `demo: not
 /// finished` where a client waited so long for what didn't come, `gateway: link fault n` for a socket that couldn't be
 /// had or failed, `gateway: no thread`, `out of memory`, and what `audit_day` tells.
-pub fn show_demo<R, W: Write, F: Write>(
+pub fn show_demo<R, S, W: Write, F: Write>(
     rt: &R,
     alloc: Global,
+    hasher: S,
     patience: Duration,
     answer: Choice,
     output: &mut W,
@@ -76,10 +78,11 @@ pub fn show_demo<R, W: Write, F: Write>(
 ) -> u8
 where
     R: Threads + Wait + Sync + Clock + Net<Listener = TcpListener, Stream = TcpStream>,
+    S: BuildHasher + Clone + Drop + Send,
     ensures status { result ≤ 1 }
     ensures told { result ≡ 0 → IsTold (W.contents output.old) (W.contents output.new) }
 {
-    match demo(rt, alloc, patience, answer) {
+    match demo(rt, alloc, hasher, patience, answer) {
         Ok(day) => audit_day(alloc, &day, output, faults),
         Err(fault) => tell(fault, faults),
     }
@@ -99,20 +102,29 @@ fn tell<F: Write>(fault: DemoFault, faults: &mut F) -> u8
 }
 
 /// Runs the gateway on loopback between two clients and a market of this answer to each order, until each client's
-/// three orders are filled, and gives its day. A client waits so long at most for each thing that is to come.
-pub fn demo<R>(rt: &R, alloc: Global, patience: Duration, answer: Choice) -> Result<Day, DemoFault>
+/// three orders are filled, and gives its day. A client waits so long at most for each thing that is to come. The
+/// gateway's indexes are over a hasher.
+pub fn demo<R, S>(
+    rt: &R,
+    alloc: Global,
+    hasher: S,
+    patience: Duration,
+    answer: Choice,
+) -> Result<Day, DemoFault>
 where
     R: Threads + Wait + Sync + Clock + Net<Listener = TcpListener, Stream = TcpStream>,
+    S: BuildHasher + Clone + Drop + Send,
 {
     let is_over = AtomicBool::new(false);
     let is_past = AtomicBool::new(false);
-    demonstrate(rt, alloc, patience, answer, &is_over, &is_past)
+    demonstrate(rt, alloc, hasher, patience, answer, &is_over, &is_past)
 }
 
 /// The same with these flags: `is_over` ends the gateway, and `is_past` the market behind it.
-fn demonstrate<R>(
+fn demonstrate<R, S>(
     rt: &R,
     alloc: Global,
+    hasher: S,
     patience: Duration,
     answer: Choice,
     is_over: &AtomicBool,
@@ -120,6 +132,7 @@ fn demonstrate<R>(
 ) -> Result<Day, DemoFault>
 where
     R: Threads + Wait + Sync + Clock + Net<Listener = TcpListener, Stream = TcpStream>,
+    S: BuildHasher + Clone + Drop + Send,
 {
     let (first, first_address) = loopback(rt, alloc)?;
     let (second, second_address) = loopback(rt, alloc)?;
@@ -134,7 +147,7 @@ where
         if market.is_err() || one.is_err() || two.is_err() {
             is_over.store(true, Ordering::SeqCst);
         }
-        let ran = run(rt, alloc, settings, plan, is_over);
+        let ran = run(rt, alloc, hasher, settings, plan, is_over);
         is_over.store(true, Ordering::SeqCst);
         is_past.store(true, Ordering::SeqCst);
         let (Ok(market), Ok(one), Ok(two)) = (market, one, two) else {

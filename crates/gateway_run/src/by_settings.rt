@@ -9,24 +9,27 @@ use crate::telling::{Teller, Telling, Whose};
 use link_sockets::{Acceptor, Connector};
 use settings_file::SettingsFile;
 use std::alloc::{AllocError, Global};
+use std::hash::BuildHasher;
 use std::net::{Net, TcpListener, TcpStream};
 use std::sync::Wait;
 use std::sync::atomic::AtomicBool;
 use std::thread::Threads;
 use std::time::Clock;
 
-/// Runs the gateway of a settings file, with so many links of each client, one after the other, and as many of each
+/// Runs the gateway of a settings file, with its core's indexes over a hasher, with so many links of each client, one after the other, and as many of each
 /// port at most, and gives its day. Tells on standard error of each link that comes and goes.
 ///
 /// `NoMemory` and `NoThread` come as `run` has them.
-pub fn run_settings<R>(
+pub fn run_settings<R, S>(
     rt: &R,
     alloc: Global,
+    hasher: S,
     file: SettingsFile,
     links: u32,
 ) -> Result<Day, RunFault>
 where
     R: Threads + Wait + Sync + Clock + Eprint + Net<Listener = TcpListener, Stream = TcpStream>,
+    S: BuildHasher + Clone + Drop + Send,
 {
     let SettingsFile {
         settings,
@@ -35,7 +38,7 @@ where
     } = file;
     let is_over = AtomicBool::new(false);
     let plan = plan_of(rt, alloc, &listens, &addresses, links, &is_over)?;
-    run(rt, alloc, settings, plan, &is_over)
+    run(rt, alloc, hasher, settings, plan, &is_over)
 }
 
 /// The openers of a gateway: of its clients' links, and of its ports'.

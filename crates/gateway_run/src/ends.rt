@@ -8,6 +8,7 @@ use desk::{DeskName, Inlet, Outlet, Shared};
 use gate_events::{ClientNumber, PortNumber, Recipient, Source};
 use run_lines::{ClientCounts, CountedLinks};
 use std::alloc::{AllocError, Global};
+use std::hash::BuildHasher;
 use std::sync::Wait;
 use std::sync::atomic::AtomicBool;
 use std::time::Clock;
@@ -23,15 +24,16 @@ pub struct RunPlan<A, C> {
 /// The lines of a desk's clients, of its ports and of its clock, in this order. Its type keeps that each puts the events
 /// of its own client, port or clock, and takes what that is told.
 #[derive(Drop)]
-pub(crate) struct Ends<'a, A, C, K: DeskName, R> {
-    pub(crate) lines: Vec<RunLine<'a, A, C, K, R>>,
+pub(crate) struct Ends<'a, A, C, K: DeskName, R, S: BuildHasher + Drop> {
+    pub(crate) lines: Vec<RunLine<'a, A, C, K, R, S>>,
     ghost puts_own: { All (λ l. l.reader.gate.inlet.source ≡ source_of l.peer) lines.items },
     ghost takes_own: { All (λ l. of_gate (λ g. g.outlet.to) l.writer.gate ≡ recipient_of l.peer) lines.items },
 }
 
-impl<'a, A: Drop, C: Drop, K: DeskName, R: Wait + Clock> Ends<'a, A, C, K, R> {
+impl<'a, A: Drop, C: Drop, K: DeskName, R: Wait + Clock, S: BuildHasher + Drop>
+    Ends<'a, A, C, K, R, S> {
     /// No line yet.
-    fn new(alloc: Global) -> Ends<'a, A, C, K, R> {
+    fn new(alloc: Global) -> Ends<'a, A, C, K, R, S> {
         Ends {
             lines: Vec::new(alloc),
         }
@@ -41,7 +43,7 @@ impl<'a, A: Drop, C: Drop, K: DeskName, R: Wait + Clock> Ends<'a, A, C, K, R> {
     fn add_client(
         &mut self,
         rt: &'a R,
-        shared: &'a Shared<K>,
+        shared: &'a Shared<K, S>,
         client: ClientNumber,
         opener: CountedLinks<'a, A>,
         inlet: Inlet<K>,
@@ -60,7 +62,7 @@ impl<'a, A: Drop, C: Drop, K: DeskName, R: Wait + Clock> Ends<'a, A, C, K, R> {
     fn add_port(
         &mut self,
         rt: &'a R,
-        shared: &'a Shared<K>,
+        shared: &'a Shared<K, S>,
         port: PortNumber,
         opener: C,
         inlet: Inlet<K>,
@@ -77,7 +79,7 @@ impl<'a, A: Drop, C: Drop, K: DeskName, R: Wait + Clock> Ends<'a, A, C, K, R> {
     pub(crate) fn add_clock(
         &mut self,
         rt: &'a R,
-        shared: &'a Shared<K>,
+        shared: &'a Shared<K, S>,
         count: Count,
         counts: &'a ClientCounts,
         is_over: &'a AtomicBool,
@@ -92,15 +94,22 @@ impl<'a, A: Drop, C: Drop, K: DeskName, R: Wait + Clock> Ends<'a, A, C, K, R> {
 }
 
 /// Lines over the inlets and outlets of a desk: each inlet of a client or port with the outlet at its position.
-pub(crate) fn ends_of<'a, A: Drop, C: Drop, K: DeskName, R: Wait + Clock>(
+pub(crate) fn ends_of<
+    'a,
+    A: Drop,
+    C: Drop,
+    K: DeskName,
+    R: Wait + Clock,
+    S: BuildHasher + Drop,
+>(
     rt: &'a R,
     alloc: Global,
-    shared: &'a Shared<K>,
+    shared: &'a Shared<K, S>,
     inlets: Vec<Inlet<K>>,
     outlets: Vec<Outlet<K>>,
     clients: Vec<CountedLinks<'a, A>>,
     ports: Vec<C>,
-) -> Result<Ends<'a, A, C, K, R>, AllocError> {
+) -> Result<Ends<'a, A, C, K, R, S>, AllocError> {
     let mut accepting = clients.into_iter();
     let mut connecting = ports.into_iter();
     let mut ends = Ends::new(alloc);

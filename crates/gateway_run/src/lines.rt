@@ -13,6 +13,7 @@ use gate_events::{ClientNumber, PortNumber};
 use gate_serving::{Line, LinkFault, Worker};
 use run_lines::{ClientCounts, CountedLinks, RunGate, RunOpener, RunPeer, Ticks};
 use std::alloc::{AllocError, Global};
+use std::hash::BuildHasher;
 use std::sync::Wait;
 use std::sync::atomic::AtomicBool;
 use std::time::{Clock, Duration};
@@ -31,17 +32,18 @@ fn between_ticks() -> Duration {
 }
 
 /// A reader's worker over an inlet.
-pub(crate) type Reading<'a, K, R> = Worker<InletGate<'a, K>, RunClock<'a, R>>;
+pub(crate) type Reading<'a, K, R, S> = Worker<InletGate<'a, K, S>, RunClock<'a, R>>;
 
 /// A writer's worker over an outlet; that of the clock has none.
-pub(crate) type Writing<'a, K, R> = Worker<RunGate<OutletGate<'a, K>>, BellClock<'a, K, R>>;
+pub(crate) type Writing<'a, K, R, S> =
+    Worker<RunGate<OutletGate<'a, K, S>>, BellClock<'a, K, R, S>>;
 
 /// A line of a gateway.
-pub(crate) type RunLine<'a, A, C, K, R> = Line<
+pub(crate) type RunLine<'a, A, C, K, R, S> = Line<
     RunPeer<'a>,
     RunOpener<CountedLinks<'a, A>, C>,
-    Reading<'a, K, R>,
-    Writing<'a, K, R>,
+    Reading<'a, K, R, S>,
+    Writing<'a, K, R, S>,
 >;
 
 /// How many clients and ports there are.
@@ -52,14 +54,14 @@ pub(crate) struct Count {
 }
 
 /// The line of a client over these ends.
-pub(crate) fn client_line<'a, A, C, K: DeskName, R: Wait + Clock>(
+pub(crate) fn client_line<'a, A, C, K: DeskName, R: Wait + Clock, S: BuildHasher + Drop>(
     rt: &'a R,
-    shared: &'a Shared<K>,
+    shared: &'a Shared<K, S>,
     client: ClientNumber,
     opener: CountedLinks<'a, A>,
     inlet: Inlet<K>,
     outlet: Outlet<K>,
-) -> RunLine<'a, A, C, K, R>
+) -> RunLine<'a, A, C, K, R, S>
     ensures peer { source_of result.peer ≡ sources.Client client }
     ensures told { recipient_of result.peer ≡ Some (recipients.Client client) }
     ensures inlet { result.reader.gate.inlet ≡ inlet }
@@ -84,14 +86,14 @@ pub(crate) fn client_line<'a, A, C, K: DeskName, R: Wait + Clock>(
 }
 
 /// The line of a port over these ends.
-pub(crate) fn port_line<'a, A, C, K: DeskName, R: Wait + Clock>(
+pub(crate) fn port_line<'a, A, C, K: DeskName, R: Wait + Clock, S: BuildHasher + Drop>(
     rt: &'a R,
-    shared: &'a Shared<K>,
+    shared: &'a Shared<K, S>,
     port: PortNumber,
     opener: C,
     inlet: Inlet<K>,
     outlet: Outlet<K>,
-) -> RunLine<'a, A, C, K, R>
+) -> RunLine<'a, A, C, K, R, S>
     ensures peer { source_of result.peer ≡ sources.Port port }
     ensures told { recipient_of result.peer ≡ Some (recipients.Port port) }
     ensures inlet { result.reader.gate.inlet ≡ inlet }
@@ -116,14 +118,14 @@ pub(crate) fn port_line<'a, A, C, K: DeskName, R: Wait + Clock>(
 }
 
 /// The line of the clock over its inlet, with one link, on which time passes until `is_over` is set.
-pub(crate) fn clock_line<'a, A, C, K: DeskName, R: Wait + Clock>(
+pub(crate) fn clock_line<'a, A, C, K: DeskName, R: Wait + Clock, S: BuildHasher + Drop>(
     rt: &'a R,
-    shared: &'a Shared<K>,
+    shared: &'a Shared<K, S>,
     count: Count,
     counts: &'a ClientCounts,
     is_over: &'a AtomicBool,
     inlet: Inlet<K>,
-) -> RunLine<'a, A, C, K, R>
+) -> RunLine<'a, A, C, K, R, S>
     ensures peer { source_of result.peer ≡ sources.Clock }
     ensures told { recipient_of result.peer ≡ None }
     ensures inlet { result.reader.gate.inlet ≡ inlet }
@@ -170,7 +172,7 @@ impl<K: DeskName> Left<K> {
     }
 
     /// Ends the inlet of a gate, and keeps what was put.
-    fn end_inlet(&mut self, gate: InletGate<'_, K>) -> Result<(), AllocError> {
+    fn end_inlet<S: BuildHasher + Drop>(&mut self, gate: InletGate<'_, K, S>) -> Result<(), AllocError> {
         if let Some(put) = gate.finish() {
             self.finished.push(put)?;
         }
@@ -178,7 +180,10 @@ impl<K: DeskName> Left<K> {
     }
 
     /// Ends the outlet of a gate, where it has one, and keeps what was taken.
-    fn end_outlet(&mut self, gate: RunGate<OutletGate<'_, K>>) -> Result<(), AllocError> {
+    fn end_outlet<S: BuildHasher + Drop>(
+        &mut self,
+        gate: RunGate<OutletGate<'_, K, S>>,
+    ) -> Result<(), AllocError> {
         match gate {
             RunGate::Gate(gate) => {
                 self.finished.push(gate.finish())?;
@@ -190,9 +195,9 @@ impl<K: DeskName> Left<K> {
 }
 
 /// What is left of lines: ends their ends, and keeps what was put and taken, and the first fault.
-pub(crate) fn left_of<'a, A: Drop, C: Drop, K: DeskName, R>(
+pub(crate) fn left_of<'a, A: Drop, C: Drop, K: DeskName, R, S: BuildHasher + Drop>(
     alloc: Global,
-    lines: Vec<RunLine<'a, A, C, K, R>>,
+    lines: Vec<RunLine<'a, A, C, K, R, S>>,
 ) -> Result<Left<K>, AllocError> {
     let mut left = Left::new(alloc);
     for line in lines {

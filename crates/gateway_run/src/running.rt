@@ -11,6 +11,7 @@ use gate_core::Settings;
 use gate_serving::{Closer, Opener, serve};
 use run_lines::{ClientCounts, CountedLinks};
 use std::alloc::{AllocError, Global};
+use std::hash::BuildHasher;
 use std::io::{Read, Write};
 use std::marker::Brand;
 use std::sync::Wait;
@@ -18,13 +19,14 @@ use std::sync::atomic::AtomicBool;
 use std::thread::Threads;
 use std::time::Clock;
 
-/// Serves a gateway of these settings until each client's links have been served, then sets `is_over`, has the ports'
+/// Serves a gateway of these settings, with its core's indexes over a hasher, until each client's links have been served, then sets `is_over`, has the ports'
 /// links end, and gives the day. Where `is_over` is set before, by somebody else, it ends the same way.
 ///
 /// `NoMemory` and `NoThread` come once all that was begun has ended; the day is lost with them.
-pub fn run<R, A, C>(
+pub fn run<R, A, C, S>(
     rt: &R,
     alloc: Global,
+    hasher: S,
     settings: Settings,
     plan: RunPlan<A, C>,
     is_over: &AtomicBool,
@@ -39,20 +41,21 @@ where
     C::Reader: Read + Send + Drop,
     C::Writer: Write + Send + Drop,
     C::Closer: Closer + Send + Drop,
+    S: BuildHasher + Clone + Drop + Send,
 {
     let count = Count {
         clients: settings.clients().len() as u16,
         ports: settings.ports().len() as u16,
     };
-    let parts = Parts::new(alloc, settings)?;
-    run_desk::<Brand, R, A, C>(rt, alloc, parts, count, plan, is_over)
+    let parts = Parts::with_hasher(alloc, hasher, settings)?;
+    run_desk::<Brand, R, A, C, S>(rt, alloc, parts, count, plan, is_over)
 }
 
 /// Opens the desk of these parts, serves it and closes it.
-fn run_desk<K, R, A, C>(
+fn run_desk<K, R, A, C, S>(
     rt: &R,
     alloc: Global,
-    parts: Parts,
+    parts: Parts<S>,
     count: Count,
     plan: RunPlan<A, C>,
     is_over: &AtomicBool,
@@ -68,10 +71,11 @@ where
     C::Reader: Read + Send + Drop,
     C::Writer: Write + Send + Drop,
     C::Closer: Closer + Send + Drop,
+    S: BuildHasher + Drop + Send,
     requires named { (parts.inlets ≡ K.inlets) × (parts.outlets ≡ K.outlets) }
     requires clock { 0 < length parts.inlets }
 {
-    let (shared, inlets, outlets) = open_desk::<K>(alloc, parts)?;
+    let (shared, inlets, outlets) = open_desk::<K, S>(alloc, parts)?;
     let counts = ClientCounts::of(plan.clients.len().min(usize::from(count.clients)) as u32);
     let left = serve_desk(
         rt, alloc, count, &shared, &counts, inlets, outlets, plan, is_over,
@@ -84,11 +88,11 @@ where
 
 /// Serves the ends of a desk, the last inlet being the clock's, until the clients' links have been served, and ends
 /// them.
-fn serve_desk<'a, K, R, A, C>(
+fn serve_desk<'a, K, R, A, C, S>(
     rt: &'a R,
     alloc: Global,
     count: Count,
-    shared: &'a Shared<K>,
+    shared: &'a Shared<K, S>,
     counts: &'a ClientCounts,
     inlets: Vec<Inlet<K>>,
     outlets: Vec<Outlet<K>>,
@@ -106,6 +110,7 @@ where
     C::Reader: Read + Send + Drop,
     C::Writer: Write + Send + Drop,
     C::Closer: Closer + Send + Drop,
+    S: BuildHasher + Drop + Send,
     requires clock { 0 < length inlets.items }
 {
     let mut inlets = inlets;

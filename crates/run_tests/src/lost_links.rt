@@ -8,6 +8,7 @@ use market_book::Choice;
 use settings_file::{SettingsFile, read};
 use std::alloc::Global;
 use std::net::{Net, TcpListener, TcpStream};
+use std::hash::RandomState;
 use std::sync::atomic::{AtomicBool, Ordering};
 use std::test::Fail;
 use std::thread;
@@ -150,6 +151,7 @@ fn a_client_and_a_port_lose_their_links(rt: HostRuntime) -> Result<(), Fail> {
     let file = settings(alloc, [&one, &two], [&first_address, &second_address])?;
     let same = settings(alloc, [&one, &two], [&first_address, &second_address])?;
     let (one, two) = (one.as_str(), two.as_str());
+    let hasher = RandomState::new(rt)?;
     let is_past = AtomicBool::new(false);
     let is_past = &is_past;
     let mut journal = Vec::new(alloc);
@@ -160,7 +162,7 @@ fn a_client_and_a_port_lose_their_links(rt: HostRuntime) -> Result<(), Fail> {
         let second = scope.spawn(move || serve_twice(rt, alloc, second, u32::MAX, is_past));
         let one = scope.spawn(move || come_again(rt, alloc, one));
         let two = scope.spawn(move || go_and_come(rt, alloc, two));
-        let status = match run_settings(rt, alloc, file, 2) {
+        let status = match run_settings(rt, alloc, hasher, file, 2) {
             Ok(day) => end_day(alloc, &day, &mut journal, &mut output, &mut faults),
             Err(fault) => tell(fault, &mut faults),
         };

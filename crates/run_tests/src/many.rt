@@ -7,6 +7,7 @@ use settings_file::{SettingsFile, read};
 use std::alloc::Global;
 use std::io::Write;
 use std::net::{Net, TcpListener, TcpStream};
+use std::hash::RandomState;
 use std::sync::atomic::{AtomicBool, Ordering};
 use std::test::Fail;
 use std::thread;
@@ -142,10 +143,11 @@ fn all_clients_on_all_ports_come_and_go(rt: HostRuntime) -> Result<(), Fail> {
         return Err(Fail::new("no memory"));
     };
     let addresses = addresses.as_slice();
+    let hasher = RandomState::new(rt)?;
     let (ran, ended) = thread::scope(thread::scope_env(), rt, |scope| {
         let markets = scope.spawn(move || accept_all(rt, alloc, markets, is_past));
         let clients = scope.spawn(move || come_and_go(rt, alloc, addresses));
-        let ran = run(rt, alloc, settings, plan, is_over);
+        let ran = run(rt, alloc, hasher, settings, plan, is_over);
         is_past.store(true, Ordering::SeqCst);
         let (Ok(markets), Ok(clients)) = (markets, clients) else {
             return (ran, Err(DemoFault::NoThread));

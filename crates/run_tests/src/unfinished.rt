@@ -2,6 +2,7 @@
 
 use gateway_demo::show_demo;
 use market_book::Choice;
+use std::hash::RandomState;
 use std::test::Fail;
 use std::time::Duration;
 
@@ -12,7 +13,8 @@ fn a_market_that_fills_nothing(rt: HostRuntime) -> Result<(), Fail> {
     let mut faults = Vec::new(alloc);
     let patience = Duration::from_millis(500);
     let answer = Choice::AcceptDead;
-    let status = show_demo(&rt, alloc, patience, answer, &mut output, &mut faults);
+    let hasher = RandomState::new(&rt)?;
+    let status = show_demo(&rt, alloc, hasher, patience, answer, &mut output, &mut faults);
     assert_eq!(rt; status, 1);
     assert!(rt; output.is_empty());
     assert!(rt; faults.as_slice() == b"demo: not finished\n".as_slice());

@@ -9,6 +9,7 @@ use settings_file::{SettingsFile, read};
 use std::alloc::Global;
 use std::io::{Read, Write};
 use std::net::{Net, TcpListener, TcpStream};
+use std::hash::RandomState;
 use std::sync::atomic::{AtomicBool, Ordering};
 use std::test::Fail;
 use std::thread;
@@ -124,10 +125,11 @@ fn a_payload_outside_the_profile_ends_its_port_alone(rt: HostRuntime) -> Result<
         ports: vec![in alloc; Connector::new(rt, &market_address, 1, is_over)]?,
     };
     let address = address.as_str();
+    let hasher = RandomState::new(rt)?;
     let (ran, ended) = thread::scope(thread::scope_env(), rt, |scope| {
         let market = scope.spawn(move || say_nothing_known(rt, alloc, market, is_past, has_closed));
         let client = scope.spawn(move || buy_twice(rt, alloc, address, has_closed));
-        let ran = run(rt, alloc, settings, plan, is_over);
+        let ran = run(rt, alloc, hasher, settings, plan, is_over);
         is_past.store(true, Ordering::SeqCst);
         let (Ok(market), Ok(client)) = (market, client) else {
             return (ran, Err(DemoFault::NoThread));

@@ -4,8 +4,7 @@ use Rattle.std.specs.List.{FoldsTo}
 use Rattle.gate_journal.specs.Kept.{Kept, nothing_kept, turns}
 use Rattle.gate_core.specs.Core.{IsAfter}
 use Rattle.script_lines.specs.declared.line.Line.{Line}
-use Rattle.script_steps.specs.declared.runner.Runner.{Runner}
-use Rattle.script_steps.specs.Standing.{IsStep, IsWarm, RunSoFar, opening_lines}
+use Rattle.script_steps.specs.Standing.{IsStep, IsWarm, RunSoFar, Runner, opening_lines}
 use Rattle.script_steps.specs.Settings.{fixed}
 use Rattle.script_steps.specs.Steps.{GoesOn}
 use Rattle.script_steps.proofs.Going.{same-on, both-on, from-nothing}

@@ -9,12 +9,17 @@ use Rattle.script_lines.specs.declared.port.Port.TheVariants as port
 use Rattle.script_lines.specs.declared.line.Line.{Line}
 use Rattle.script_lines.specs.declared.line.Line.TheVariants as line
 use Rattle.script_lines.specs.Lines.{SaysLine}
-use Rattle.gate_core.specs.Core.{IsAfter}
+use Rattle.gate_core.specs.Core.{CoreState, IsAfter}
 use Rattle.gate_journal.specs.Kept.{Kept, nothing_kept}
-use Rattle.script_steps.specs.declared.runner.Runner.{Runner}
+use Rattle.script_steps.specs.declared.events.Links.{Links}
 use Rattle.script_steps.specs.Lines.{NoLinks}
 use Rattle.script_steps.specs.Settings.{fixed}
 use Rattle.script_steps.specs.Steps.{GoesOn, KeepsLine}
+
+-- the core, and what the lines have told of links and of the time
+pub record Runner : Type 0 where
+  pub core : CoreState
+  pub links : Links
 
 -- ---- lines
 

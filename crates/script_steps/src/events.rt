@@ -16,6 +16,7 @@ use gate_core::{ClientFrame, ClientNumber, Core, Event, PortNumber};
 use script_lines::{Client, Line, LineFault, Port};
 use soup_packets::Packet;
 use std::alloc::{AllocError, Global};
+use std::hash::BuildHasher;
 
 /// The moment of a script, and the last link of each client and port.
 #[derive(Drop)]
@@ -48,10 +49,10 @@ impl Links {
     ///
     /// `NotUnderstood` where a client's message would be too long a frame, and where a reader of bytes says that it
     /// reads no more: of no other line.
-    pub fn events_of(
+    pub fn events_of<S: BuildHasher + Drop>(
         &mut self,
         alloc: Global,
-        core: &Core,
+        core: &Core<S>,
         line: Line,
     ) -> Result<Vec<Event>, LineFault>
         ensures events { IfOk result (λ events. Becomes core.now line self.old self.new events.items) }
@@ -150,10 +151,10 @@ impl Links {
     }
 
     /// A client's message: a frame of these fields, with the number that the core expects unless they have one.
-    fn client_message(
+    fn client_message<S: BuildHasher + Drop>(
         &self,
         alloc: Global,
-        core: &Core,
+        core: &Core<S>,
         client: Client,
         fields: &Fields,
     ) -> Result<Vec<Event>, LineFault>

@@ -15,16 +15,28 @@ use gate_core::{Core, Event};
 use gate_journal::History;
 use script_lines::{Client, Line, LineFault, Port, line_of};
 use std::alloc::{AllocError, Global};
+use std::hash::{BuildHasher, BuildHasherDefault, FoldHasher};
+use std::marker::Model;
 
 /// The gateway's core with the settings of a script, and what the script's lines have told of links and of the time.
+///
+/// The core's indexes are over any hasher, which changes nothing but how fast they are.
 #[derive(Drop)]
-pub struct Runner {
-    pub core: Core,
-    pub links: Links,
+pub struct Runner<S: BuildHasher + Drop = BuildHasherDefault<FoldHasher>> {
+    core: Core<S>,
+    links: Links,
+}
+
+impl<S: BuildHasher + Drop> Model for Runner<S> {
+    ghost use Rattle.script_steps.specs.Standing as standing;
+
+    ghost Value = { standing.Runner };
+
+    ghost view = { λ r. record { core = r.core; links = r.links } };
 }
 
 impl Runner {
-    /// A runner of which no line was stepped. No link is up.
+    /// A runner of which no line was stepped, with the fixed seed. No link is up.
     pub fn cold(alloc: Global) -> Result<Runner, AllocError>
         ensures { IfOk result IsCold }
     {
@@ -34,7 +46,22 @@ impl Runner {
             links: Links::new(alloc),
         })
     }
+}
 
+impl<S: BuildHasher + Clone + Drop> Runner<S> {
+    /// A runner of which no line was stepped, with a hasher. No link is up.
+    pub fn cold_with_hasher(alloc: Global, hasher: S) -> Result<Runner<S>, AllocError>
+        ensures { IfOk result IsCold }
+    {
+        let settings = fixed_settings(alloc)?;
+        Ok(Runner {
+            core: Core::with_hasher(alloc, hasher, &settings)?,
+            links: Links::new(alloc),
+        })
+    }
+}
+
+impl<S: BuildHasher + Drop> Runner<S> {
     /// Steps the line of this text, and keeps its events with the batches that they give. `NotUnderstood` where it is
     /// none of the tables' lines, and where `step` answers it.
     pub fn take(&mut self, alloc: Global, text: &[u8], kept: &mut History) -> Result<(), LineFault>
@@ -59,9 +86,9 @@ impl Runner {
 }
 
 /// Steps events in their order, and keeps each with its batch.
-fn step_events(
+fn step_events<S: BuildHasher + Drop>(
     alloc: Global,
-    core: &mut Core,
+    core: &mut Core<S>,
     events: Vec<Event>,
     kept: &mut History,
 ) -> Result<(), AllocError>
@@ -75,9 +102,9 @@ fn step_events(
 }
 
 /// Steps an event, and keeps it with its batch.
-fn step_event(
+fn step_event<S: BuildHasher + Drop>(
     alloc: Global,
-    core: &mut Core,
+    core: &mut Core<S>,
     event: Event,
     kept: &mut History,
 ) -> Result<(), AllocError>
@@ -89,12 +116,17 @@ fn step_event(
     Ok(())
 }
 
-/// A runner whose clients are logged on, and whose ports are logged in, on their first links at moment 0. What was
-/// stepped for it is kept.
-pub fn warm_runner(alloc: Global, kept: &mut History) -> Result<Runner, LineFault>
+/// A runner of which no line was stepped, once its clients are logged on and its ports are logged in, on their first
+/// links at moment 0. What was stepped for it is kept.
+pub fn warm_runner<S: BuildHasher + Drop>(
+    alloc: Global,
+    cold: Runner<S>,
+    kept: &mut History,
+) -> Result<Runner<S>, LineFault>
+    requires { IsCold cold }
     ensures { IfOk result (λ runner. kept.old ≡ nothing_kept → IsWarm (record { runner = runner; kept = kept.new })) }
 {
-    let mut runner = Runner::cold(alloc)?;
+    let mut runner = cold;
     log_on(alloc, &mut runner, Client::First, kept)?;
     log_on(alloc, &mut runner, Client::Second, kept)?;
     log_on(alloc, &mut runner, Client::Third, kept)?;
@@ -106,9 +138,9 @@ pub fn warm_runner(alloc: Global, kept: &mut History) -> Result<Runner, LineFaul
 /// A client comes up and logs on, with a heartbeat every 30 seconds.
 ///
 /// Source: FIX 4.4 Volume 2, "Logon".
-fn log_on(
+fn log_on<S: BuildHasher + Drop>(
     alloc: Global,
-    runner: &mut Runner,
+    runner: &mut Runner<S>,
     client: Client,
     kept: &mut History,
 ) -> Result<(), LineFault>
@@ -135,9 +167,9 @@ fn logon(alloc: Global) -> Result<Fields, AllocError>
 }
 
 /// A port comes up and is logged in.
-fn log_in(
+fn log_in<S: BuildHasher + Drop>(
     alloc: Global,
-    runner: &mut Runner,
+    runner: &mut Runner<S>,
     port: Port,
     kept: &mut History,
 ) -> Result<(), LineFault>

@@ -17,8 +17,9 @@ use fix_types::AppMsg;
 use gate_events::{Batch, ClientFrame, ClientNumber, PortNumber, told_client, told_port};
 use gate_sessions::{Issues, client_frame};
 use std::alloc::{AllocError, Global};
+use std::hash::BuildHasher;
 
-impl Parts {
+impl<S: BuildHasher + Drop> Parts<S> {
     /// A frame on a client's current link: what its session delivers is a turn of the order level.
     pub(crate) fn client_message(
         &mut self,

@@ -13,8 +13,9 @@ use super::{Parts, place_of};
 use gate_events::{Batch, ClientNumber, only_outs, told_client};
 use gate_sessions::{client_gone, client_tick, client_up};
 use std::alloc::{AllocError, Global};
+use std::hash::BuildHasher;
 
-impl Parts {
+impl<S: BuildHasher + Drop> Parts<S> {
     /// A client's link is up: the session is told, or, where another is current, the new one is closed.
     pub(crate) fn client_up(
         &mut self,

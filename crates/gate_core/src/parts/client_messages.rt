@@ -18,6 +18,7 @@ use order_core::{CoreOut, PortState};
 use ouch_codec::Inbound;
 use soup_session::PortOut;
 use std::alloc::{AllocError, Global};
+use std::hash::BuildHasher;
 
 /// What comes of a message that a client's session delivered.
 #[derive(Debug, Drop)]
@@ -28,7 +29,7 @@ pub(crate) struct Asked {
     pub port_outs: Vec<PortOut>,
 }
 
-impl Parts {
+impl<S: BuildHasher + Drop> Parts<S> {
     /// A message that a client's session delivered: the order level's turn, its bodies issued to the client and its
     /// messages sent on the client's port, which stands at this place.
     pub(crate) fn ask(

@@ -10,8 +10,9 @@ ghost use Rattle.gate_core.specs.Targets.{client_for, clients_port, known_client
 use super::Parts;
 use crate::targets::Targets;
 use gate_events::{ClientNumber, Event, PortNumber};
+use std::hash::BuildHasher;
 
-impl Parts {
+impl<S: BuildHasher + Drop> Parts<S> {
     /// Whom the batch of an event may name.
     pub(crate) fn targets(&self, event: &Event) -> Targets
         requires shaped { IsShaped self.now }

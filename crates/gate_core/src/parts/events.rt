@@ -12,8 +12,9 @@ ghost use Rattle.gate_core.specs.Steps.{Grows, Ready, Stepped};
 use super::Parts;
 use gate_events::{Batch, Event};
 use std::alloc::{AllocError, Global};
+use std::hash::BuildHasher;
 
-impl Parts {
+impl<S: BuildHasher + Drop> Parts<S> {
     /// Steps an event.
     pub(crate) fn event(&mut self, alloc: Global, event: &Event) -> Result<Batch, AllocError>
         requires shaped { IsShaped self.old }

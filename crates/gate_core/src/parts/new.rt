@@ -16,10 +16,18 @@ use gate_sessions::{ClientLine, PortLine};
 use gate_settings::{ClientSettings, Settings};
 use order_core::{ClientTerms, OrderCore};
 use std::alloc::{AllocError, Global};
+use std::hash::BuildHasher;
 
-impl Parts {
-    /// The parts of these settings before the first event.
-    pub(crate) fn new(alloc: Global, settings: &Settings) -> Result<Parts, AllocError>
+impl<S: BuildHasher + Drop> Parts<S> {
+    /// The parts of these settings before the first event, with the order level of their clients.
+    pub(crate) fn new(
+        alloc: Global,
+        settings: &Settings,
+        orders: OrderCore<S>,
+    ) -> Result<Parts<S>, AllocError>
+        requires after { IsAfterTurns (terms settings.now) [] orders }
+        requires clients { core_clients orders ≡ length settings.now.clients }
+        requires issued { core_numbers orders ≡ 0 }
         ensures parts { IfOk result (λ parts. ArePartsOf settings.now nothing_yet parts) }
         ensures shaped { IfOk result (λ parts. IsShaped parts) }
         ensures numbers { IfOk result (λ parts. HasNumbers 0 parts) }
@@ -28,7 +36,7 @@ impl Parts {
             clients: client_lines(alloc, settings)?,
             ports: port_lines(alloc, settings)?,
             client_ports: client_ports(alloc, settings)?,
-            orders: orders(alloc, settings)?,
+            orders,
         })
     }
 }
@@ -91,14 +99,28 @@ fn client_ports(alloc: Global, settings: &Settings) -> Result<Vec<u16>, AllocErr
     Ok(ports)
 }
 
-/// The order level of these clients, with no orders.
-fn orders(alloc: Global, settings: &Settings) -> Result<OrderCore, AllocError>
+/// The order level of these clients, with no orders, with the fixed seed.
+pub(crate) fn orders(alloc: Global, settings: &Settings) -> Result<OrderCore, AllocError>
     ensures after { IfOk result (λ orders. IsAfterTurns (terms settings.now) [] orders) }
     ensures clients { IfOk result (λ orders. core_clients orders ≡ length settings.now.clients) }
     ensures issued { IfOk result (λ orders. core_numbers orders ≡ 0) }
 {
     let terms = client_terms(alloc, settings)?;
     OrderCore::new(alloc, &terms)
+}
+
+/// The order level of these clients, with no orders, with a hasher.
+pub(crate) fn orders_with_hasher<S: BuildHasher + Clone + Drop>(
+    alloc: Global,
+    hasher: S,
+    settings: &Settings,
+) -> Result<OrderCore<S>, AllocError>
+    ensures after { IfOk result (λ orders. IsAfterTurns (terms settings.now) [] orders) }
+    ensures clients { IfOk result (λ orders. core_clients orders ≡ length settings.now.clients) }
+    ensures issued { IfOk result (λ orders. core_numbers orders ≡ 0) }
+{
+    let terms = client_terms(alloc, settings)?;
+    OrderCore::with_hasher(alloc, hasher, &terms)
 }
 
 /// The terms of each client, by the client's place.

@@ -16,8 +16,9 @@ use gate_events::{Batch, PortNumber, told_port};
 use gate_sessions::{port_gone, port_tick, port_up};
 use soup_session::PortState;
 use std::alloc::{AllocError, Global};
+use std::hash::BuildHasher;
 
-impl Parts {
+impl<S: BuildHasher + Drop> Parts<S> {
     /// A port's link is up: the session is told, and may close it at once; or, where another is current, the new one
     /// is closed.
     pub(crate) fn port_up(

@@ -19,8 +19,9 @@ use gate_sessions::port_packet;
 use soup_packets::Packet;
 use soup_session::{PortFault, PortOut, PortState, PortTurn};
 use std::alloc::{AllocError, Global};
+use std::hash::BuildHasher;
 
-impl Parts {
+impl<S: BuildHasher + Drop> Parts<S> {
     /// A packet on a port's current link: a payload that its session delivers is a turn of the order level; where the
     /// port comes up, all that is outstanding on it is sent.
     pub(crate) fn port_packet(

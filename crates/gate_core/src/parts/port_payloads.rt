@@ -25,6 +25,7 @@ use gate_sessions::{Issues, port_fail};
 use order_core::{MarketError, MarketFault};
 use soup_session::{PortFault, PortOut, PortState};
 use std::alloc::{AllocError, Global};
+use std::hash::BuildHasher;
 
 /// What the order level makes of a payload.
 #[derive(Debug, Drop)]
@@ -38,7 +39,7 @@ pub(crate) enum Judged {
     Faulty(PortFault),
 }
 
-impl Parts {
+impl<S: BuildHasher + Drop> Parts<S> {
     /// The order level's turn of a payload of the port at a place.
     pub(crate) fn judge(
         &mut self,
@@ -114,7 +115,7 @@ impl Parts {
         requires client { client < length self.old.clients.items }
         requires shaped { IsShaped self.old }
         ensures step { IfOk result (λ b. (s : Settings) (v : Lists) (link : ℕ) (packet : Packet) (payload : List ℕ)
-            (g : Parts)
+            (g : Parts S S.Hasher)
             → AfterPacket s (place + 1) link at packet (Some payload) said.now v g
             → PayloadIsTold s (place + 1) payload (Some client) (map body_fields bodies.now)
             (port_called (place + 1) (OnPacket packet at) v) self.old
@@ -138,7 +139,7 @@ impl Parts {
         requires place { place < length self.old.ports.items }
         requires shaped { IsShaped self.old }
         ensures step { IfOk result (λ b. (s : Settings) (v : Lists) (link at : ℕ) (packet : Packet) (payload : List ℕ)
-            (g : Parts)
+            (g : Parts S S.Hasher)
             → AfterPacket s (place + 1) link at packet (Some payload) said.now v g
             → PayloadIsTold s (place + 1) payload None [] (port_called (place + 1) (OnPacket packet at) v) self.old
             → Stepped s (PortPacket (place + 1) link at packet) (batch_seen b) v self.new) }
@@ -159,7 +160,7 @@ impl Parts {
         requires place { place < length self.old.ports.items }
         requires shaped { IsShaped self.old }
         ensures step { IfOk result (λ b. (s : Settings) (v : Lists) (link at : ℕ) (packet : Packet) (payload : List ℕ)
-            (g : Parts)
+            (g : Parts S S.Hasher)
             → AfterPacket s (place + 1) link at packet (Some payload) said.now v g
             → IsFaulty s (place + 1) payload fault (port_called (place + 1) (OnPacket packet at) v) self.old
             → Stepped s (PortPacket (place + 1) link at packet) (batch_seen b) v self.new) }

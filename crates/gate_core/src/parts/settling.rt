@@ -5,8 +5,9 @@ ghost use Rattle.gate_core.specs.State.{parts_now, parts_settled};
 
 use super::Parts;
 use gate_sessions::{clients_settle, clients_undo, ports_settle, ports_undo};
+use std::hash::BuildHasher;
 
-impl Parts {
+impl<S: BuildHasher + Drop> Parts<S> {
     /// From now on the parts can be put back to how they are now. Takes no memory.
     pub(crate) fn settle(&mut self)
         ensures now { parts_now self.new ≡ parts_now self.old }

@@ -4,7 +4,7 @@ use Rattle.desk_steps.proofs.Draining.{drained-agree, drained-goes, drained-less
 use Rattle.desk_steps.proofs.closing.drain.Goals as goal
 
 pub loop-init : goal.loop-init
-loop-init c = record {
+loop-init g c = record {
   agrees = λ inlets outlets h. h;
   goes_on = goes-nowhere c.args.recorded.now;
   shrinks = shrinks-none c.args.side.now.seats;
@@ -12,13 +12,13 @@ loop-init c = record {
 }
 
 pub drain_one-requires : goal.drain_one-requires
-drain_one-requires c = record {
+drain_one-requires g c = record {
   inside = omega (arith, c.requires.inside, c.loop.invariant.shrinks.count);
   some = λ a at. omega (arith, c.loop.invariant.knows a at);
 }
 
 pub loop-preserved : goal.loop-preserved
-loop-preserved c =
+loop-preserved g c =
     let s : DeskState = record { recorded = c.loop.recorded; side = c.loop.side } in
     let t : DeskState = record { recorded = c.drain_one.new.recorded; side = c.drain_one.new.side } in
     let did = c.in_ok-drain_one.ensures.ok in
@@ -30,5 +30,5 @@ loop-preserved c =
     }
 
 pub returns-in_err-drain_one-clause-agrees : goal.returns-in_err-drain_one-clause-agrees
-returns-in_err-drain_one-clause-agrees c = λ inlets outlets h.
+returns-in_err-drain_one-clause-agrees g c = λ inlets outlets h.
     same-agree inlets outlets c.loop.recorded c.drain_one.new.recorded c.loop.side c.drain_one.new.side c.in_err-drain_one.ensures.err.0 c.in_err-drain_one.ensures.err.1 (c.loop.invariant.agrees inlets outlets h)

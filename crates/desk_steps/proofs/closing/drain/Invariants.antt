@@ -7,7 +7,7 @@ use Rattle.desk_steps.proofs.closing.drain.Given as goal
 
 -- so many of the events that were known are stepped
 abbrev pub invariant-loop : goal.invariant-loop
-invariant-loop l = record {
+invariant-loop g l = record {
   agrees : (inlets : List NamedInlet) (outlets : List NamedOutlet)
       → Agrees inlets outlets (record { recorded = l.initial.recorded; side = l.initial.side })
       → Agrees inlets outlets (record { recorded = l.recorded; side = l.side });

@@ -4,7 +4,7 @@ use Rattle.desk_steps.proofs.Turns.{went-more}
 use Rattle.desk_steps.proofs.turning.round.Goals as goal
 
 pub loop-place-init : goal.loop-place-init
-loop-place-init c = record {
+loop-place-init g c = record {
   went = ([], refl, refl, refl);
   size = sym c.inlets-place-end.ensures;
   end = c.inlets-place-end.ensures;
@@ -12,10 +12,10 @@ loop-place-init c = record {
 }
 
 pub count-requires : goal.count-requires
-count-requires c = record { few = omega (arith, c.loop-place.invariant.few, c.loop-place.invariant.end, c.requires.few) }
+count-requires g c = record { few = omega (arith, c.loop-place.invariant.few, c.loop-place.invariant.end, c.requires.few) }
 
 pub loop-place-preserved : goal.loop-place-preserved
-loop-place-preserved c =
+loop-place-preserved g c =
     let s : DeskState = record { recorded = c.args.recorded.now; side = c.args.side.now } in
     let m : DeskState = record { recorded = c.loop-place.recorded; side = c.loop-place.side } in
     let t : DeskState = record { recorded = c.turn_at.new.recorded; side = c.turn_at.new.side } in

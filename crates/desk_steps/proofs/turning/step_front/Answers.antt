@@ -2,18 +2,18 @@ use Rattle.desk_steps.proofs.Turns.{first-some, stepped}
 use Rattle.desk_steps.proofs.turning.step_front.Goals as goal
 
 pub front-requires : goal.front-requires
-front-requires c = record {
+front-requires g c = record {
   inside = c.requires.inside;
   some = λ a at. first-some (c.requires.own a at).0 a (c.requires.own a at).1;
 }
 
 pub pop-requires : goal.pop-requires
-pop-requires c = record {
+pop-requires g c = record {
   inside = c.requires.inside;
   some = λ a at. first-some (c.requires.own a at).0 a (c.requires.own a at).1;
 }
 
 pub returns-clause-ok : goal.returns-clause-ok
-returns-clause-ok c =
+returns-clause-ok g c =
     stepped c.args.place c.args.recorded.now c.step.new.self c.args.side.now c.pop.new.self c.tell.new.self c.front.result.now c.pop.result c.in_ok-said.said c.requires.inside c.requires.own c.front.ensures c.in_ok-said.ensures.ok
     c.pop.ensures.seats c.pop.ensures.ways c.pop.ensures.counts c.tell.ensures.seats c.tell.ensures.ways c.tell.ensures.counts

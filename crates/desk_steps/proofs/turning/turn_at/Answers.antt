@@ -5,13 +5,13 @@ use Rattle.desk_steps.proofs.Turns.{IsFirst, at-same, dropped, looked-in, looked
 use Rattle.desk_steps.proofs.turning.turn_at.Goals as goal
 
 pub returns-then-is_empty-clause-ok : goal.returns-then-is_empty-clause-ok
-returns-then-is_empty-clause-ok c = (
+returns-then-is_empty-clause-ok g c = (
   looked-in c.args.place c.args.recorded.now c.args.side.now c.is_empty.new.self c.is_empty.ensures.seats c.is_empty.ensures.ways c.is_empty.ensures.counts,
   c.is_empty.ensures.none c.if-is_empty.true,
 )
 
 pub returns-then-not-is_from-clause-ok : goal.returns-then-not-is_from-clause-ok
-returns-then-not-is_from-clause-ok c = (
+returns-then-not-is_from-clause-ok g c = (
   record { recorded = c.args.recorded.now; side = c.is_empty.new.self },
   looked-in c.args.place c.args.recorded.now c.args.side.now c.is_empty.new.self c.is_empty.ensures.seats c.is_empty.ensures.ways c.is_empty.ensures.counts,
   dropped c.args.place c.args.recorded.now c.is_empty.new.self c.pop.new.self c.front-event.result.now c.pop.result c.source.result
@@ -19,7 +19,7 @@ returns-then-not-is_from-clause-ok c = (
 )
 
 pub returns-then-not-has_room-clause-ok : goal.returns-then-not-has_room-clause-ok
-returns-then-not-has_room-clause-ok c =
+returns-then-not-has_room-clause-ok g c =
     let looks = looked-in c.args.place c.args.recorded.now c.args.side.now c.is_empty.new.self c.is_empty.ensures.seats c.is_empty.ensures.ways c.is_empty.ensures.counts in (
       looked-out c.args.place c.args.recorded.now c.args.side.now c.is_empty.new.self c.has_room.new.self looks c.has_room.ensures.seats c.has_room.ensures.ways c.has_room.ensures.counts,
       waits c.args.place c.args.recorded.now c.has_room.new.self c.front-event.result.now c.source.result c.targets-targets.result.client c.targets-targets.result.port
@@ -30,7 +30,7 @@ returns-then-not-has_room-clause-ok c =
     )
 
 pub step_front-requires : goal.step_front-requires
-step_front-requires c = record {
+step_front-requires g c = record {
   inside = omega (arith, c.requires.inside, c.is_empty.ensures.seats.count, ap length c.has_room.ensures.seats);
   own = own-first c.args.place c.has_room.new.self.seats c.front-event.result.now c.source.result
       (at-same c.args.place (IsFirst c.front-event.result.now) c.is_empty.new.self.seats c.has_room.new.self.seats c.has_room.ensures.seats c.front-event.ensures)
@@ -39,7 +39,7 @@ step_front-requires c = record {
 }
 
 pub returns-clause-ok : goal.returns-clause-ok
-returns-clause-ok c =
+returns-clause-ok g c =
     let looks = looked-in c.args.place c.args.recorded.now c.args.side.now c.is_empty.new.self c.is_empty.ensures.seats c.is_empty.ensures.ways c.is_empty.ensures.counts in
     let m : DeskState = record { recorded = c.args.recorded.now; side = c.has_room.new.self } in
     let t : DeskState = record { recorded = c.step_front.new.recorded; side = c.step_front.new.side } in (

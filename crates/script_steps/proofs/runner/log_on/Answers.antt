@@ -6,7 +6,7 @@ use Rattle.script_steps.specs.Standing.{RunSoFar}
 use Rattle.script_steps.proofs.runner.log_on.Goals as goal
 
 pub returns : goal.returns
-returns c =
+returns g c =
     let up : RunSoFar = record { runner = c.step.new.self; kept = c.step.new.kept } in
     let on : RunSoFar = record { runner = c.step-2.new.self; kept = c.step-2.new.kept } in
     let message = subst (λ (fields : List Field). KeepsLine c.step.new.self.core (line.ClientMessage c.args.client fields) c.step.new.self.links c.step-2.new.self.links c.step.new.kept c.step-2.new.kept)

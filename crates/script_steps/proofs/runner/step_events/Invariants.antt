@@ -4,7 +4,7 @@ use Rattle.script_steps.specs.Steps.{GoesOn}
 use Rattle.script_steps.proofs.runner.step_events.Given as goal
 
 abbrev pub invariant-loop-event : goal.invariant-loop-event
-invariant-loop-event l = record {
+invariant-loop-event g l = record {
   on : GoesOn l.initial.core l.initial.kept l.core l.kept;
   events : l.kept.events ≡ l.initial.kept.events ++ l.yielded;
 }

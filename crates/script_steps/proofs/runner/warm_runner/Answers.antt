@@ -8,8 +8,8 @@ use Rattle.script_steps.proofs.Stepping.{folds-append}
 use Rattle.script_steps.proofs.runner.warm_runner.Goals as goal
 
 pub returns : goal.returns
-returns c =
-    let cold : RunSoFar = record { runner = c.in_ok-runner.runner; kept = c.args.kept.now } in
+returns g c =
+    let cold : RunSoFar = record { runner = c.args.cold; kept = c.args.kept.now } in
     let first : RunSoFar = record { runner = c.log_on.new.runner; kept = c.log_on.new.kept } in
     let second : RunSoFar = record { runner = c.log_on-2.new.runner; kept = c.log_on-2.new.kept } in
     let third : RunSoFar = record { runner = c.log_on-3.new.runner; kept = c.log_on-3.new.kept } in
@@ -19,4 +19,4 @@ returns c =
     let from_third = folds-append IsStep second (logs_on_lines client.Third) third (logs_in_lines port.First ++ logs_in_lines port.Second) warm c.in_ok-log_on-3.ensures ports in
     let from_second = folds-append IsStep first (logs_on_lines client.Second) second (logs_on_lines client.Third ++ (logs_in_lines port.First ++ logs_in_lines port.Second)) warm c.in_ok-log_on-2.ensures from_third in
     let steps = folds-append IsStep cold (logs_on_lines client.First) first (logs_on_lines client.Second ++ (logs_on_lines client.Third ++ (logs_in_lines port.First ++ logs_in_lines port.Second))) warm c.in_ok-log_on.ensures from_second in
-    λ none. (cold.runner, c.in_ok-runner.ensures, subst (λ (kept : Kept). FoldsTo IsStep (record { runner = cold.runner; kept = kept }) opening_lines warm) none steps)
+    λ none. (cold.runner, c.requires, subst (λ (kept : Kept). FoldsTo IsStep (record { runner = cold.runner; kept = kept }) opening_lines warm) none steps)

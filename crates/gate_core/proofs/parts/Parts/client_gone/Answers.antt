@@ -8,9 +8,9 @@ use Rattle.gate_core.proofs.ClientLinks.{client-gone}
 use Rattle.gate_core.proofs.parts.Parts.client_gone.Goals as goal
 
 pub returns-clause-step : goal.returns-clause-step
-returns-clause-step c s v ready =
+returns-clause-step g c s v ready =
     let place = c.in-Some.place in
-    let new : Parts = record { clients = c.client_gone.new.lines; ports = c.args.self.now.ports; client_ports = c.args.self.now.client_ports; orders = c.args.self.now.orders } in
+    let new : Parts _ _ = record { clients = c.client_gone.new.lines; ports = c.args.self.now.ports; client_ports = c.args.self.now.client_ports; orders = c.args.self.now.orders } in
     let is = c.in-Some.ensures.place.0 in
     subst (λ (b : Batch). Stepped s (ClientGone c.args.client c.args.link c.args.at) b v new) (sym c.empty-2.ensures)
     (subst (λ (n : ℕ). Stepped s (ClientGone n c.args.link c.args.at) empty v new) (sym is)

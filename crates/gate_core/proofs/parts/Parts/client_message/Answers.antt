@@ -13,13 +13,13 @@ use Rattle.gate_core.proofs.Parted.{clients-parts}
 use Rattle.gate_core.proofs.parts.Parts.client_message.Goals as goal
 
 pub returns-in-Some-app-clause-step : goal.returns-in-Some-app-clause-step
-returns-in-Some-app-clause-step c =
+returns-in-Some-app-clause-step g c =
     IfOk-weaker c.message_delivered.result _ _
     (λ b step s v ready.
     let n = c.in-Some.place + 1 in
     let is = c.in-Some.ensures.place.0 in
     let answer = c.in_ok-outs.ensures.answers s v.client_calls ready.parts.clients in
-    let mid : Parts = record { clients = c.client_frame.new.lines; ports = c.args.self.now.ports; client_ports = c.args.self.now.client_ports; orders = c.args.self.now.orders } in
+    let mid : Parts _ _ = record { clients = c.client_frame.new.lines; ports = c.args.self.now.ports; client_ports = c.args.self.now.client_ports; orders = c.args.self.now.orders } in
     let heard : AfterFrame s n c.args.link c.args.at c.fields.result.now (Some c.in-Some-app.message) c.in_ok-outs.field-0.outs.items v mid = record {
       on = subst (λ (k : ℕ). (has_client s k && is_the_number c.args.link (v.client_link k)) ≡ true) is (sym (c.in-Some.ensures.on s v ready.parts));
       app_is = sym answer.app ∙ c.in-Some-app.is;
@@ -35,13 +35,13 @@ returns-in-Some-app-clause-step c =
     c.message_delivered.ensures.step
 
 pub returns-in-None-clause-step : goal.returns-in-None-clause-step
-returns-in-None-clause-step c =
+returns-in-None-clause-step g c =
     IfOk-weaker c.no_message_delivered.result _ _
     (λ b step s v ready.
     let n = c.in-Some.place + 1 in
     let is = c.in-Some.ensures.place.0 in
     let answer = c.in_ok-outs.ensures.answers s v.client_calls ready.parts.clients in
-    let mid : Parts = record { clients = c.client_frame.new.lines; ports = c.args.self.now.ports; client_ports = c.args.self.now.client_ports; orders = c.args.self.now.orders } in
+    let mid : Parts _ _ = record { clients = c.client_frame.new.lines; ports = c.args.self.now.ports; client_ports = c.args.self.now.client_ports; orders = c.args.self.now.orders } in
     let heard : AfterFrame s n c.args.link c.args.at c.fields.result.now None c.in_ok-outs.field-0.outs.items v mid = record {
       on = subst (λ (k : ℕ). (has_client s k && is_the_number c.args.link (v.client_link k)) ≡ true) is (sym (c.in-Some.ensures.on s v ready.parts));
       app_is = sym answer.app ∙ c.in-None.is;
@@ -57,12 +57,12 @@ returns-in-None-clause-step c =
     c.no_message_delivered.ensures.step
 
 pub returns-in-Some-app-clause-grows : goal.returns-in-Some-app-clause-grows
-returns-in-Some-app-clause-grows c =
-    let mid : Parts = record { clients = c.client_frame.new.lines; ports = c.args.self.now.ports; client_ports = c.args.self.now.client_ports; orders = c.args.self.now.orders } in
+returns-in-Some-app-clause-grows g c =
+    let mid : Parts _ _ = record { clients = c.client_frame.new.lines; ports = c.args.self.now.ports; client_ports = c.args.self.now.client_ports; orders = c.args.self.now.orders } in
     grows-then 0 0 3 0 c.args.self.now mid _ (clients-grow c.args.self.now mid c.client_frame.ensures.length c.client_frame.ensures.settled refl refl refl) c.message_delivered.ensures.grows
 
 pub returns-in-None-clause-grows : goal.returns-in-None-clause-grows
-returns-in-None-clause-grows c =
-    let mid : Parts = record { clients = c.client_frame.new.lines; ports = c.args.self.now.ports; client_ports = c.args.self.now.client_ports; orders = c.args.self.now.orders } in
+returns-in-None-clause-grows g c =
+    let mid : Parts _ _ = record { clients = c.client_frame.new.lines; ports = c.args.self.now.ports; client_ports = c.args.self.now.client_ports; orders = c.args.self.now.orders } in
     grows-within 0 3 0 c.args.self.now _ (omega arith)
     (grows-then 0 0 0 0 c.args.self.now mid _ (clients-grow c.args.self.now mid c.client_frame.ensures.length c.client_frame.ensures.settled refl refl refl) c.no_message_delivered.ensures.grows)

@@ -16,10 +16,10 @@ use Rattle.gate_core.proofs.Growing.{clients-grow}
 use Rattle.gate_core.proofs.parts.Parts.client_tick.Goals as goal
 
 pub returns-clause-step : goal.returns-clause-step
-returns-clause-step c s v ready =
+returns-clause-step g c s v ready =
     let place = c.in-Some.place in
     let n = place + 1 in
-    let new : Parts = record { clients = c.told_client.new.lines; ports = c.args.self.now.ports; client_ports = c.args.self.now.client_ports; orders = c.args.self.now.orders } in
+    let new : Parts _ _ = record { clients = c.told_client.new.lines; ports = c.args.self.now.ports; client_ports = c.args.self.now.client_ports; orders = c.args.self.now.orders } in
     let is = c.in-Some.ensures.place.0 in
     let outs = map link_out_seen c.in_ok-outs.outs.items in
     let links = c.in_ok-client_tick.ensures.links v.client_link ready.parts.client_links in
@@ -40,9 +40,9 @@ returns-clause-step c s v ready =
     (c.told_client.ensures.length ∙ c.client_tick.ensures.length) refl refl refl))
 
 pub returns-in_err-outs-clause-grows : goal.returns-in_err-outs-clause-grows
-returns-in_err-outs-clause-grows c =
+returns-in_err-outs-clause-grows g c =
     clients-grow c.args.self.now _ (c.told_client.ensures.length ∙ c.client_tick.ensures.length) (λ was kept. c.told_client.ensures.settled was (c.client_tick.ensures.settled was kept)) refl refl refl
 
 pub returns-clause-grows : goal.returns-clause-grows
-returns-clause-grows c =
+returns-clause-grows g c =
     clients-grow c.args.self.now _ (c.told_client.ensures.length ∙ c.client_tick.ensures.length) (λ was kept. c.told_client.ensures.settled was (c.client_tick.ensures.settled was kept)) refl refl refl

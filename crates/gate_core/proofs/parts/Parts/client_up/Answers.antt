@@ -9,9 +9,9 @@ use Rattle.gate_core.proofs.ClientLinks.{client-comes, client-again, client-refu
 use Rattle.gate_core.proofs.parts.Parts.client_up.Goals as goal
 
 pub returns-in-None-clause-step : goal.returns-in-None-clause-step
-returns-in-None-clause-step c s v ready =
+returns-in-None-clause-step g c s v ready =
     let place = c.in-Some.place in
-    let new : Parts = record { clients = c.client_up.new.lines; ports = c.args.self.now.ports; client_ports = c.args.self.now.client_ports; orders = c.args.self.now.orders } in
+    let new : Parts _ _ = record { clients = c.client_up.new.lines; ports = c.args.self.now.ports; client_ports = c.args.self.now.client_ports; orders = c.args.self.now.orders } in
     let is = c.in-Some.ensures.place.0 in
     subst (λ (b : Batch). Stepped s (ClientUp c.args.client c.args.link c.args.at) b v new) (sym c.empty-in-None.ensures)
     (subst (λ (n : ℕ). Stepped s (ClientUp n c.args.link c.args.at) empty v new) (sym is)
@@ -22,7 +22,7 @@ returns-in-None-clause-step c s v ready =
     c.client_up.ensures.length refl refl refl))
 
 pub returns-in-Some-client_link-clause-step : goal.returns-in-Some-client_link-clause-step
-returns-in-Some-client_link-clause-step c s v ready =
+returns-in-Some-client_link-clause-step g c s v ready =
     let place = c.in-Some.place in
     let is = c.in-Some.ensures.place.0 in
     subst (λ (b : Batch). Stepped s (ClientUp c.args.client c.args.link c.args.at) b v c.args.self.now) (sym c.empty-in-Some-client_link.ensures)
@@ -32,7 +32,7 @@ returns-in-Some-client_link-clause-step c s v ready =
     (sym (c.client_link.ensures.link s v ready.parts) ∙ c.in-Some-client_link.is) c.if-current-link.true ready))
 
 pub returns-in-Some-2-clause-step : goal.returns-in-Some-2-clause-step
-returns-in-Some-2-clause-step c =
+returns-in-Some-2-clause-step g c =
     let place = c.in-Some.place in
     let is = c.in-Some.ensures.place.0 in
     IfOk-weaker c.refused_client.result _ _

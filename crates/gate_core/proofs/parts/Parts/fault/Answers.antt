@@ -17,26 +17,26 @@ use Rattle.gate_law.proofs.Messages.{reads-after}
 use Rattle.gate_core.proofs.parts.Parts.fault.Goals as goal
 
 pub returns-in_err-turn-in-Up-clause-grows : goal.returns-in_err-turn-in-Up-clause-grows
-returns-in_err-turn-in-Up-clause-grows c = ports-grow c.args.self.now _ c.port_fail.ensures.length c.port_fail.ensures.next c.port_fail.ensures.settled refl refl refl
+returns-in_err-turn-in-Up-clause-grows g c = ports-grow c.args.self.now _ c.port_fail.ensures.length c.port_fail.ensures.next c.port_fail.ensures.settled refl refl refl
 
 pub returns-in_err-port_out-in-Up-clause-grows : goal.returns-in_err-port_out-in-Up-clause-grows
-returns-in_err-port_out-in-Up-clause-grows c =
+returns-in_err-port_out-in-Up-clause-grows g c =
     ports-grow c.args.self.now _ (c.told_port.ensures.length ∙ c.port_fail.ensures.length)
     (λ n within. c.told_port.ensures.next n (c.port_fail.ensures.next n within)) (λ was kept. c.told_port.ensures.settled was (c.port_fail.ensures.settled was kept)) refl refl refl
 
 pub returns-in_ok-port_out-in-Up-clause-grows : goal.returns-in_ok-port_out-in-Up-clause-grows
-returns-in_ok-port_out-in-Up-clause-grows c =
+returns-in_ok-port_out-in-Up-clause-grows g c =
     ports-grow c.args.self.now _ (c.told_port.ensures.length ∙ c.port_fail.ensures.length)
     (λ n within. c.told_port.ensures.next n (c.port_fail.ensures.next n within)) (λ was kept. c.told_port.ensures.settled was (c.port_fail.ensures.settled was kept)) refl refl refl
 
 pub returns-in_ok-port_out-in-Up-clause-step : goal.returns-in_ok-port_out-in-Up-clause-step
-returns-in_ok-port_out-in-Up-clause-step c s v link at packet payload g given faulty =
+returns-in_ok-port_out-in-Up-clause-step g c s v link at packet payload g given faulty =
     let p = c.args.place + 1 in
     let k = c.args.fault in
     let t = heard_turn p payload 0 [] (Some (fault_number k)) in
     let w : Lists = turned (Some t) (port_called p (OnPacket packet at) v) in
-    let mid : Parts = record { clients = c.args.self.now.clients; ports = c.port_fail.new.lines; client_ports = c.args.self.now.client_ports; orders = c.args.self.now.orders } in
-    let new : Parts = record { clients = c.args.self.now.clients; ports = c.told_port.new.lines; client_ports = c.args.self.now.client_ports; orders = c.args.self.now.orders } in
+    let mid : Parts _ _ = record { clients = c.args.self.now.clients; ports = c.port_fail.new.lines; client_ports = c.args.self.now.client_ports; orders = c.args.self.now.orders } in
+    let new : Parts _ _ = record { clients = c.args.self.now.clients; ports = c.told_port.new.lines; client_ports = c.args.self.now.client_ports; orders = c.args.self.now.orders } in
     let answer = c.in_ok-turn-in-Up.ensures.answers s w.port_calls faulty.parts.ports in
     let parts = ports-parts s p (Fail k ∷ []) w c.args.self.now mid faulty.parts (c.in_ok-turn-in-Up.ensures.leave s w.port_calls faulty.parts.ports)
     (c.port_fail.ensures.links w.port_link faulty.parts.port_links) c.port_fail.ensures.length refl refl refl in
@@ -50,7 +50,7 @@ returns-in_ok-port_out-in-Up-clause-step c s v link at packet payload g given fa
 
 -- the payload was given only while the port was up, and it still is
 pub returns-in_default : goal.returns-in_default
-returns-in_default c = record {
+returns-in_default g c = record {
   step = λ s v link at packet payload g given faulty.
       let p = c.args.place + 1 in
       let calls = (port_called p (OnPacket packet at) v).port_calls p in

@@ -5,7 +5,7 @@ use Rattle.gate_core.proofs.Parted.{clients-parts}
 use Rattle.gate_core.proofs.parts.Parts.issue.Goals as goal
 
 pub returns-clause-issued : goal.returns-clause-issued
-returns-clause-issued c s v parts =
+returns-clause-issued g c s v parts =
     let bodies = map body_fields c.args.bodies.now in
     record {
       parts = clients-parts s (c.args.place + 1) (issues c.args.at bodies) v c.args.self.now _ parts

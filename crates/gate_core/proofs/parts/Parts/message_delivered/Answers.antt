@@ -18,19 +18,19 @@ use Rattle.gate_law.proofs.Messages.{reads-sends}
 use Rattle.gate_core.proofs.parts.Parts.message_delivered.Goals as goal
 
 pub returns-in_err-client_out-clause-grows : goal.returns-in_err-client_out-clause-grows
-returns-in_err-client_out-clause-grows c =
+returns-in_err-client_out-clause-grows g c =
     grows-then 3 0 0 0 _ _ _ c.ask.ensures.grows (clients-grow c.ask.new.self _ c.told_client.ensures.length c.told_client.ensures.settled refl refl refl)
 
 pub returns-in_err-port_out-clause-grows : goal.returns-in_err-port_out-clause-grows
-returns-in_err-port_out-clause-grows c =
+returns-in_err-port_out-clause-grows g c =
     grows-then 3 0 0 0 _ _ _ c.ask.ensures.grows (lines-grow c.ask.new.self _ c.told_client.ensures.length c.told_port.ensures.length c.told_port.ensures.next c.told_client.ensures.settled c.told_port.ensures.settled refl refl)
 
 pub returns-clause-grows : goal.returns-clause-grows
-returns-clause-grows c =
+returns-clause-grows g c =
     grows-then 3 0 0 0 _ _ _ c.ask.ensures.grows (lines-grow c.ask.new.self _ c.told_client.ensures.length c.told_port.ensures.length c.told_port.ensures.next c.told_client.ensures.settled c.told_port.ensures.settled refl refl)
 
 pub returns-clause-step : goal.returns-clause-step
-returns-clause-step c s v link frame heard =
+returns-clause-step g c s v link frame heard =
     let n = c.args.place + 1 in
     let port = c.port_at-port.result in
     let p = port_of s n in
@@ -41,7 +41,7 @@ returns-clause-step c s v link frame heard =
     let asked : IsAsked s n c.args.at c.args.message.now out w c.ask.new.self = c.in_ok-reports.ensures.asked s w ready is in
     let t = orders_turn_of s n c.args.message.now asked.core v in
     let x : Lists = after_turn s n c.args.at t w in
-    let new : Parts = record { clients = c.told_client.new.lines; ports = c.told_port.new.lines; client_ports = c.ask.new.self.client_ports; orders = c.ask.new.self.orders } in
+    let new : Parts _ _ = record { clients = c.told_client.new.lines; ports = c.told_port.new.lines; client_ports = c.ask.new.self.client_ports; orders = c.ask.new.self.orders } in
     let client_out = map link_out_seen c.in_ok-client_out.client_out.items in
     let port_out = map link_out_seen c.in_ok-port_out.port_out.items in
     let lines = c.in_ok-client_out.ensures.outs x.client_link asked.parts.client_links in

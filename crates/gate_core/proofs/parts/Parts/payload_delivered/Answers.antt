@@ -11,7 +11,7 @@ use Rattle.gate_core.proofs.Growing.{grows-then}
 use Rattle.gate_core.proofs.parts.Parts.payload_delivered.Goals as goal
 
 pub returns-in-Told-Some-default-clause-step : goal.returns-in-Told-Some-default-clause-step
-returns-in-Told-Some-default-clause-step c =
+returns-in-Told-Some-default-clause-step g c =
     IfOk-weaker c.tell.result _ _
     (λ b step s v link packet given.
     let p = c.args.place + 1 in
@@ -24,10 +24,10 @@ returns-in-Told-Some-default-clause-step c =
     c.tell.ensures.step
 
 pub returns-in-Told-Some-default-clause-grows : goal.returns-in-Told-Some-default-clause-grows
-returns-in-Told-Some-default-clause-grows c = grows-then 3 0 0 0 _ _ _ c.judge.ensures.grows c.tell.ensures.grows
+returns-in-Told-Some-default-clause-grows g c = grows-then 3 0 0 0 _ _ _ c.judge.ensures.grows c.tell.ensures.grows
 
 pub returns-in-Told-None-default-clause-step : goal.returns-in-Told-None-default-clause-step
-returns-in-Told-None-default-clause-step c =
+returns-in-Told-None-default-clause-step g c =
     IfOk-weaker c.tell_nobody.result _ _
     (λ b step s v link packet given.
     let p = c.args.place + 1 in
@@ -41,10 +41,10 @@ returns-in-Told-None-default-clause-step c =
     c.tell_nobody.ensures.step
 
 pub returns-in-Told-None-default-clause-grows : goal.returns-in-Told-None-default-clause-grows
-returns-in-Told-None-default-clause-grows c = grows-then 3 0 0 0 _ _ _ c.judge.ensures.grows c.tell_nobody.ensures.grows
+returns-in-Told-None-default-clause-grows g c = grows-then 3 0 0 0 _ _ _ c.judge.ensures.grows c.tell_nobody.ensures.grows
 
 pub returns-in-Faulty-clause-step : goal.returns-in-Faulty-clause-step
-returns-in-Faulty-clause-step c =
+returns-in-Faulty-clause-step g c =
     IfOk-weaker c.fault.result _ _
     (λ b step s v link packet given.
     let p = c.args.place + 1 in
@@ -55,4 +55,4 @@ returns-in-Faulty-clause-step c =
     c.fault.ensures.step
 
 pub returns-in-Faulty-clause-grows : goal.returns-in-Faulty-clause-grows
-returns-in-Faulty-clause-grows c = grows-then 3 0 0 0 _ _ _ c.judge.ensures.grows c.fault.ensures.grows
+returns-in-Faulty-clause-grows g c = grows-then 3 0 0 0 _ _ _ c.judge.ensures.grows c.fault.ensures.grows

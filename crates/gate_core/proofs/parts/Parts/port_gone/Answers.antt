@@ -9,9 +9,9 @@ use Rattle.gate_core.proofs.PortLinks.{port-gone}
 use Rattle.gate_core.proofs.parts.Parts.port_gone.Goals as goal
 
 pub returns-clause-step : goal.returns-clause-step
-returns-clause-step c s v ready =
+returns-clause-step g c s v ready =
     let place = c.in-Some.place in
-    let new : Parts = record { clients = c.args.self.now.clients; ports = c.port_gone.new.lines; client_ports = c.args.self.now.client_ports; orders = c.args.self.now.orders } in
+    let new : Parts _ _ = record { clients = c.args.self.now.clients; ports = c.port_gone.new.lines; client_ports = c.args.self.now.client_ports; orders = c.args.self.now.orders } in
     let is = c.in-Some.ensures.place.0 in
     subst (λ (b : Batch). Stepped s (PortGone c.args.port c.args.link c.args.at) b v new) (sym c.empty-2.ensures)
     (subst (λ (n : ℕ). Stepped s (PortGone n c.args.link c.args.at) empty v new) (sym is)
@@ -21,6 +21,6 @@ returns-clause-step c s v ready =
     c.port_gone.ensures.length refl refl refl))
 
 pub returns-clause-grows : goal.returns-clause-grows
-returns-clause-grows c =
-    let new : Parts = record { clients = c.args.self.now.clients; ports = c.port_gone.new.lines; client_ports = c.args.self.now.client_ports; orders = c.args.self.now.orders } in
+returns-clause-grows g c =
+    let new : Parts _ _ = record { clients = c.args.self.now.clients; ports = c.port_gone.new.lines; client_ports = c.args.self.now.client_ports; orders = c.args.self.now.orders } in
     ports-grow c.args.self.now new c.port_gone.ensures.length c.port_gone.ensures.next c.port_gone.ensures.settled refl refl refl

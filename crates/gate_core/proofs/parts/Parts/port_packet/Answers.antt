@@ -13,12 +13,12 @@ use Rattle.gate_core.proofs.PortPackets.{after-packet}
 use Rattle.gate_core.proofs.parts.Parts.port_packet.Goals as goal
 
 pub returns-in-Some-payload-clause-step : goal.returns-in-Some-payload-clause-step
-returns-in-Some-payload-clause-step c =
+returns-in-Some-payload-clause-step g c =
     IfOk-weaker c.payload_delivered.result _ _
     (λ b step s v ready.
     let p = c.in-Some.place + 1 in
     let is = c.in-Some.ensures.place.0 in
-    let mid : Parts = record { clients = c.args.self.now.clients; ports = c.port_packet.new.lines; client_ports = c.args.self.now.client_ports; orders = c.args.self.now.orders } in
+    let mid : Parts _ _ = record { clients = c.args.self.now.clients; ports = c.port_packet.new.lines; client_ports = c.args.self.now.client_ports; orders = c.args.self.now.orders } in
     let on = subst (λ (k : ℕ). (has_port s k && is_the_number c.args.link (v.port_link k)) ≡ true) is (sym (c.in-Some.ensures.on s v ready.parts)) in
     let given = after-packet s v p c.args.link c.args.at c.args.packet.now c.in_ok-outs.field-0 c.args.self.now mid on
     (c.in_ok-outs.ensures.answers s v.port_calls ready.parts.ports) ready (c.in_ok-outs.ensures.leave s v.port_calls ready.parts.ports)
@@ -31,16 +31,16 @@ returns-in-Some-payload-clause-step c =
     c.payload_delivered.ensures.step
 
 pub returns-in-Some-payload-clause-grows : goal.returns-in-Some-payload-clause-grows
-returns-in-Some-payload-clause-grows c =
+returns-in-Some-payload-clause-grows g c =
     grows-then 0 1 3 0 _ _ _ (packets-grow 1 c.args.self.now _ c.port_packet.ensures.length c.port_packet.ensures.next c.port_packet.ensures.settled refl refl refl) c.payload_delivered.ensures.grows
 
 pub returns-in-None-clause-step : goal.returns-in-None-clause-step
-returns-in-None-clause-step c =
+returns-in-None-clause-step g c =
     IfOk-weaker c.no_payload_delivered.result _ _
     (λ b step s v ready.
     let p = c.in-Some.place + 1 in
     let is = c.in-Some.ensures.place.0 in
-    let mid : Parts = record { clients = c.args.self.now.clients; ports = c.port_packet.new.lines; client_ports = c.args.self.now.client_ports; orders = c.args.self.now.orders } in
+    let mid : Parts _ _ = record { clients = c.args.self.now.clients; ports = c.port_packet.new.lines; client_ports = c.args.self.now.client_ports; orders = c.args.self.now.orders } in
     let on = subst (λ (k : ℕ). (has_port s k && is_the_number c.args.link (v.port_link k)) ≡ true) is (sym (c.in-Some.ensures.on s v ready.parts)) in
     let given = after-packet s v p c.args.link c.args.at c.args.packet.now c.in_ok-outs.field-0 c.args.self.now mid on
     (c.in_ok-outs.ensures.answers s v.port_calls ready.parts.ports) ready (c.in_ok-outs.ensures.leave s v.port_calls ready.parts.ports)
@@ -52,6 +52,6 @@ returns-in-None-clause-step c =
     c.no_payload_delivered.ensures.step
 
 pub returns-in-None-clause-grows : goal.returns-in-None-clause-grows
-returns-in-None-clause-grows c =
+returns-in-None-clause-grows g c =
     grows-within 0 3 1 _ _ (omega arith)
     (grows-then 0 1 0 0 _ _ _ (packets-grow 1 c.args.self.now _ c.port_packet.ensures.length c.port_packet.ensures.next c.port_packet.ensures.settled refl refl refl) c.no_payload_delivered.ensures.grows)

@@ -15,10 +15,10 @@ use Rattle.gate_law.proofs.Messages.{reads-after}
 use Rattle.gate_core.proofs.parts.Parts.port_tick.Goals as goal
 
 pub returns-clause-step : goal.returns-clause-step
-returns-clause-step c s v ready =
+returns-clause-step g c s v ready =
     let place = c.in-Some.place in
     let n = place + 1 in
-    let new : Parts = record { clients = c.args.self.now.clients; ports = c.told_port.new.lines; client_ports = c.args.self.now.client_ports; orders = c.args.self.now.orders } in
+    let new : Parts _ _ = record { clients = c.args.self.now.clients; ports = c.told_port.new.lines; client_ports = c.args.self.now.client_ports; orders = c.args.self.now.orders } in
     let is = c.in-Some.ensures.place.0 in
     let outs = map link_out_seen c.in_ok-outs.outs.items in
     let links = c.in_ok-turn.ensures.links v.port_link ready.parts.port_links in
@@ -35,16 +35,16 @@ returns-clause-step c s v ready =
     (c.told_port.ensures.length ∙ c.port_tick.ensures.length) refl refl refl))
 
 pub returns-in_err-turn-clause-grows : goal.returns-in_err-turn-clause-grows
-returns-in_err-turn-clause-grows c =
-    let new : Parts = record { clients = c.args.self.now.clients; ports = c.port_tick.new.lines; client_ports = c.args.self.now.client_ports; orders = c.args.self.now.orders } in
+returns-in_err-turn-clause-grows g c =
+    let new : Parts _ _ = record { clients = c.args.self.now.clients; ports = c.port_tick.new.lines; client_ports = c.args.self.now.client_ports; orders = c.args.self.now.orders } in
     ports-grow c.args.self.now new c.port_tick.ensures.length c.port_tick.ensures.next c.port_tick.ensures.settled refl refl refl
 
 pub returns-in_err-outs-clause-grows : goal.returns-in_err-outs-clause-grows
-returns-in_err-outs-clause-grows c =
-    let new : Parts = record { clients = c.args.self.now.clients; ports = c.told_port.new.lines; client_ports = c.args.self.now.client_ports; orders = c.args.self.now.orders } in
+returns-in_err-outs-clause-grows g c =
+    let new : Parts _ _ = record { clients = c.args.self.now.clients; ports = c.told_port.new.lines; client_ports = c.args.self.now.client_ports; orders = c.args.self.now.orders } in
     ports-grow c.args.self.now new (c.told_port.ensures.length ∙ c.port_tick.ensures.length) (λ n within. c.told_port.ensures.next n (c.port_tick.ensures.next n within)) (λ was kept. c.told_port.ensures.settled was (c.port_tick.ensures.settled was kept)) refl refl refl
 
 pub returns-clause-grows : goal.returns-clause-grows
-returns-clause-grows c =
-    let new : Parts = record { clients = c.args.self.now.clients; ports = c.told_port.new.lines; client_ports = c.args.self.now.client_ports; orders = c.args.self.now.orders } in
+returns-clause-grows g c =
+    let new : Parts _ _ = record { clients = c.args.self.now.clients; ports = c.told_port.new.lines; client_ports = c.args.self.now.client_ports; orders = c.args.self.now.orders } in
     ports-grow c.args.self.now new (c.told_port.ensures.length ∙ c.port_tick.ensures.length) (λ n within. c.told_port.ensures.next n (c.port_tick.ensures.next n within)) (λ was kept. c.told_port.ensures.settled was (c.port_tick.ensures.settled was kept)) refl refl refl

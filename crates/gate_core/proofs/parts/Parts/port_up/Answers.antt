@@ -16,10 +16,10 @@ use Rattle.gate_law.proofs.Messages.{reads-after}
 use Rattle.gate_core.proofs.parts.Parts.port_up.Goals as goal
 
 pub returns-in_ok-outs-in-None-clause-step : goal.returns-in_ok-outs-in-None-clause-step
-returns-in_ok-outs-in-None-clause-step c s v ready =
+returns-in_ok-outs-in-None-clause-step g c s v ready =
     let place = c.in-Some.place in
     let n = place + 1 in
-    let new : Parts = record { clients = c.args.self.now.clients; ports = c.told_port.new.lines; client_ports = c.args.self.now.client_ports; orders = c.args.self.now.orders } in
+    let new : Parts _ _ = record { clients = c.args.self.now.clients; ports = c.told_port.new.lines; client_ports = c.args.self.now.client_ports; orders = c.args.self.now.orders } in
     let is = c.in-Some.ensures.place.0 in
     let outs = map link_out_seen c.in_ok-outs-in-None.outs.items in
     let after = link_set n (Some c.args.link) v.port_link in
@@ -38,7 +38,7 @@ returns-in_ok-outs-in-None-clause-step c s v ready =
     (c.told_port.ensures.length ∙ c.port_up.ensures.length) refl refl refl))
 
 pub returns-in-Some-port_link-clause-step : goal.returns-in-Some-port_link-clause-step
-returns-in-Some-port_link-clause-step c s v ready =
+returns-in-Some-port_link-clause-step g c s v ready =
     let place = c.in-Some.place in
     let is = c.in-Some.ensures.place.0 in
     subst (λ (b : Batch). Stepped s (PortUp c.args.port c.args.link c.args.at) b v c.args.self.now) (sym c.empty-in-Some-port_link.ensures)
@@ -48,7 +48,7 @@ returns-in-Some-port_link-clause-step c s v ready =
     (sym (c.port_link.ensures.link s v ready.parts) ∙ c.in-Some-port_link.is) c.if-current-link.true ready))
 
 pub returns-in-Some-2-clause-step : goal.returns-in-Some-2-clause-step
-returns-in-Some-2-clause-step c =
+returns-in-Some-2-clause-step g c =
     let place = c.in-Some.place in
     let is = c.in-Some.ensures.place.0 in
     IfOk-weaker c.refused_port.result _ _
@@ -61,16 +61,16 @@ returns-in-Some-2-clause-step c =
     c.refused_port.ensures
 
 pub returns-in_err-turn-in-None-clause-grows : goal.returns-in_err-turn-in-None-clause-grows
-returns-in_err-turn-in-None-clause-grows c =
-    let new : Parts = record { clients = c.args.self.now.clients; ports = c.port_up.new.lines; client_ports = c.args.self.now.client_ports; orders = c.args.self.now.orders } in
+returns-in_err-turn-in-None-clause-grows g c =
+    let new : Parts _ _ = record { clients = c.args.self.now.clients; ports = c.port_up.new.lines; client_ports = c.args.self.now.client_ports; orders = c.args.self.now.orders } in
     ports-grow c.args.self.now new c.port_up.ensures.length c.port_up.ensures.next c.port_up.ensures.settled refl refl refl
 
 pub returns-in_err-outs-in-None-clause-grows : goal.returns-in_err-outs-in-None-clause-grows
-returns-in_err-outs-in-None-clause-grows c =
-    let new : Parts = record { clients = c.args.self.now.clients; ports = c.told_port.new.lines; client_ports = c.args.self.now.client_ports; orders = c.args.self.now.orders } in
+returns-in_err-outs-in-None-clause-grows g c =
+    let new : Parts _ _ = record { clients = c.args.self.now.clients; ports = c.told_port.new.lines; client_ports = c.args.self.now.client_ports; orders = c.args.self.now.orders } in
     ports-grow c.args.self.now new (c.told_port.ensures.length ∙ c.port_up.ensures.length) (λ n within. c.told_port.ensures.next n (c.port_up.ensures.next n within)) (λ was kept. c.told_port.ensures.settled was (c.port_up.ensures.settled was kept)) refl refl refl
 
 pub returns-in_ok-outs-in-None-clause-grows : goal.returns-in_ok-outs-in-None-clause-grows
-returns-in_ok-outs-in-None-clause-grows c =
-    let new : Parts = record { clients = c.args.self.now.clients; ports = c.told_port.new.lines; client_ports = c.args.self.now.client_ports; orders = c.args.self.now.orders } in
+returns-in_ok-outs-in-None-clause-grows g c =
+    let new : Parts _ _ = record { clients = c.args.self.now.clients; ports = c.told_port.new.lines; client_ports = c.args.self.now.client_ports; orders = c.args.self.now.orders } in
     ports-grow c.args.self.now new (c.told_port.ensures.length ∙ c.port_up.ensures.length) (λ n within. c.told_port.ensures.next n (c.port_up.ensures.next n within)) (λ was kept. c.told_port.ensures.settled was (c.port_up.ensures.settled was kept)) refl refl refl

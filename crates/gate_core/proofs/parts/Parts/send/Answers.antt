@@ -8,11 +8,11 @@ use Rattle.gate_core.proofs.Parted.{ports-parts, unsent, not-up}
 use Rattle.gate_core.proofs.parts.Parts.send.Goals as goal
 
 pub returns-in_err-outs-in-Up-clause-grows : goal.returns-in_err-outs-in-Up-clause-grows
-returns-in_err-outs-in-Up-clause-grows c =
+returns-in_err-outs-in-Up-clause-grows g c =
     ports-grow c.args.self.now _ c.port_send_all.ensures.length c.port_send_all.ensures.next c.port_send_all.ensures.settled refl refl refl
 
 pub returns-in_ok-outs-in-Up-clause-sent : goal.returns-in_ok-outs-in-Up-clause-sent
-returns-in_ok-outs-in-Up-clause-sent c s v parts only =
+returns-in_ok-outs-in-Up-clause-sent g c s v parts only =
     record {
       parts = ports-parts s (c.args.place + 1) (sends c.args.at (map inbound_bytes c.args.messages.now)) v c.args.self.now _ parts
           (c.in_ok-outs-in-Up.ensures.leave s v.port_calls parts.ports) (c.port_send_all.ensures.links v.port_link parts.port_links)
@@ -21,11 +21,11 @@ returns-in_ok-outs-in-Up-clause-sent c s v parts only =
     }
 
 pub returns-in_ok-outs-in-Up-clause-grows : goal.returns-in_ok-outs-in-Up-clause-grows
-returns-in_ok-outs-in-Up-clause-grows c =
+returns-in_ok-outs-in-Up-clause-grows g c =
     ports-grow c.args.self.now _ c.port_send_all.ensures.length c.port_send_all.ensures.next c.port_send_all.ensures.settled refl refl refl
 
 pub returns-in_default : goal.returns-in_default
-returns-in_default c = record {
+returns-in_default g c = record {
   sent = λ s v parts only.
       let leaves = parts.ports c.args.place c.index.result.now (slice_get_read c.args.self.now.ports.items _ c.args.place c.index.result.now refl c.requires.place c.index.ensures) in
       let stands = c.state.ensures.state s (c.args.place + 1) (v.port_calls (c.args.place + 1)) leaves in

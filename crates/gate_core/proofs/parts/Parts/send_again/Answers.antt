@@ -12,7 +12,7 @@ use Rattle.gate_core.proofs.PortPackets.{comes-up}
 use Rattle.gate_core.proofs.parts.Parts.send_again.Goals as goal
 
 pub returns-clause-sent : goal.returns-clause-sent
-returns-clause-sent c =
+returns-clause-sent g c =
     let p = c.args.place + 1 in
     let ms = map inbound_bytes c.deref.result.now in
     IfOk-weaker c.send.result _ _

@@ -6,7 +6,7 @@ use Rattle.gate_core.proofs.Taking.{has-place, taken}
 use Rattle.gate_core.proofs.parts.Parts.take.Goals as goal
 
 pub returns-clause-turn : goal.returns-clause-turn
-returns-clause-turn c s v ready =
+returns-clause-turn g c s v ready =
     let n = c.args.place + 1 in
     let port = c.port_at-port.result in
     let parts = ready.parts in

@@ -17,19 +17,19 @@ use Rattle.gate_law.proofs.Messages.{reads-after}
 use Rattle.gate_core.proofs.parts.Parts.tell.Goals as goal
 
 pub returns-in_err-client_out-clause-grows : goal.returns-in_err-client_out-clause-grows
-returns-in_err-client_out-clause-grows c =
+returns-in_err-client_out-clause-grows g c =
     grows-then 0 0 0 0 _ _ _ c.issue.ensures.grows (clients-grow c.issue.new.self _ c.told_client.ensures.length c.told_client.ensures.settled refl refl refl)
 
 pub returns-in_err-port_out-clause-grows : goal.returns-in_err-port_out-clause-grows
-returns-in_err-port_out-clause-grows c =
+returns-in_err-port_out-clause-grows g c =
     grows-then 0 0 0 0 _ _ _ c.issue.ensures.grows (lines-grow c.issue.new.self _ c.told_client.ensures.length c.told_port.ensures.length c.told_port.ensures.next c.told_client.ensures.settled c.told_port.ensures.settled refl refl)
 
 pub returns-clause-grows : goal.returns-clause-grows
-returns-clause-grows c =
+returns-clause-grows g c =
     grows-then 0 0 0 0 _ _ _ c.issue.ensures.grows (lines-grow c.issue.new.self _ c.told_client.ensures.length c.told_port.ensures.length c.told_port.ensures.next c.told_client.ensures.settled c.told_port.ensures.settled refl refl)
 
 pub returns-clause-step : goal.returns-clause-step
-returns-clause-step c s v link packet payload g given told =
+returns-clause-step g c s v link packet payload g given told =
     let p = c.args.place + 1 in
     let q = c.args.client in
     let n = q + 1 in
@@ -38,7 +38,7 @@ returns-clause-step c s v link packet payload g given told =
     let w : Lists = port_called p (OnPacket packet c.args.at) v in
     let x : Lists = client_called_all n (issues c.args.at bs) (turned (Some t) w) in
     let issued = c.in_ok-reports.ensures.issued s (turned (Some t) w) told.parts in
-    let new : Parts = record { clients = c.told_client.new.lines; ports = c.told_port.new.lines; client_ports = c.issue.new.self.client_ports; orders = c.issue.new.self.orders } in
+    let new : Parts _ _ = record { clients = c.told_client.new.lines; ports = c.told_port.new.lines; client_ports = c.issue.new.self.client_ports; orders = c.issue.new.self.orders } in
     let out = c.in_ok-reports.field-0 in
     let client_out = map link_out_seen c.in_ok-client_out.client_out.items in
     let port_out = map link_out_seen c.in_ok-port_out.port_out.items in

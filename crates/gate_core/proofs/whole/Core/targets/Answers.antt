@@ -8,15 +8,15 @@ use Rattle.gate_law.proofs.Counted.{turns-few as no-more-turns}
 use Rattle.gate_core.proofs.whole.Core.targets.Goals as goal
 
 pub returns-clause-client : goal.returns-clause-client
-returns-clause-client c s before is =
+returns-clause-client g c s before is =
     let few : length (lists s before).turns < 2 ^ 58 = omega (arith, turns-few no-more-turns s before) in
     c.targets.ensures.client s (lists s before) (parts-of s before _ (fields-of s before (record { parts = c.self.inside.parts; events = c.self.inside.events }) _ c.args.self.now c.self.view_is is)) few
 
 pub returns-clause-port : goal.returns-clause-port
-returns-clause-port c s before is = c.targets.ensures.port s (lists s before) (parts-of s before _ (fields-of s before (record { parts = c.self.inside.parts; events = c.self.inside.events }) _ c.args.self.now c.self.view_is is))
+returns-clause-port g c s before is = c.targets.ensures.port s (lists s before) (parts-of s before _ (fields-of s before (record { parts = c.self.inside.parts; events = c.self.inside.events }) _ c.args.self.now c.self.view_is is))
 
 pub returns-clause-named : goal.returns-clause-named
-returns-clause-named c s before batch is holds =
+returns-clause-named g c s before batch is holds =
     let few : length (lists s before).turns < 2 ^ 58 = omega (arith, turns-few no-more-turns s before) in
     let parts = parts-of s before _ (fields-of s before (record { parts = c.self.inside.parts; events = c.self.inside.events }) _ c.args.self.now c.self.view_is is) in
     let named = names-targets s before (event_seen c.args.event.now) batch holds in (
