@@ -19,7 +19,7 @@ from .server import PASSWORD, USER, Server
 
 FORK = multiprocessing.get_context("fork")
 EVENT = re.compile(r"\d{8}-\d\d:\d\d:\d\d\.\d{3} ([CP]\d+) "
-                   r"(up|gone|closed by the gateway|link fault [123]|sent 35=[235])(: [^:]*|\|49=[ -~]*)?")
+                   r"(up|gone|closed by the gateway|link fault [123]|port fault [1-6]|sent 35=[235])(: [^:]*|\|49=[ -~]*)?")
 SETTLES, CLOSES, LEAVES = 90.0, 40.0, 60.0
 
 
@@ -196,6 +196,13 @@ class Day:
         if ran.returncode != 0 or ran.stdout != output or ran.stderr:
             yield f"seed {self.plan.seed}: the journal's audit is another: {ran.returncode} {ran.stderr[:200]!r}"
 
+    def port_faults(self, faults):
+        """Each port that is faulted is told of once, by its fault's number, and no other."""
+        states = {f"P{i + 1}": HOSTILE.get(it.hostile, b"").decode() for i, it in enumerate(self.plan.markets)}
+        wanted = Counter(each for each in states.items() if each[1].isdigit())
+        if faults != wanted:
+            self.complaints.append(f"seed {self.plan.seed}: told of port faults {dict(faults)}, not {dict(wanted)}")
+
     def port_states(self, clients):
         for client, plan in zip(clients, self.plan.clients):
             wanted = HOSTILE.get(self.plan.markets[plan.port].hostile, b"")
@@ -204,7 +211,7 @@ class Day:
 
     def events(self):
         """The lines on standard error by kind; another line is a complaint."""
-        counts, ups = Counter(), Counter()
+        counts, ups, faults = Counter(), Counter(), Counter()
         for line in Path(self.folder, "errors").read_text(errors="replace").splitlines():
             found = EVENT.fullmatch(line)
             counts[f"{found[1][0]} {found[2]}{kind_of(found)}" if found else "unforeseen"] += 1
@@ -212,6 +219,9 @@ class Day:
                 self.complaints.append(f"seed {self.plan.seed}: on standard error: {line[:300]}")
             elif found[2] == "up":
                 ups[found[1]] += 1
+            elif found[2].startswith("port fault"):
+                faults[found[1], found[2][-1:]] += 1
+        self.port_faults(faults)
         for name, count in ups.items():
             if count > self.plan.links or name[0] == "C" and count < self.plan.links:
                 self.complaints.append(f"seed {self.plan.seed}: {name} had {count} links of {self.plan.links}")

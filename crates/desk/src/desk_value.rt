@@ -3,7 +3,7 @@
 use desk_ends::{DeskName, Finished};
 use desk_side::Side;
 use desk_steps::{RecordedCore, Turned, round, settle};
-use gate_core::Settings;
+use gate_core::{PortFault, Settings};
 use gate_journal::History;
 use std::alloc::{AllocError, Global};
 use std::hash::{BuildHasher, BuildHasherDefault, FoldHasher};
@@ -40,7 +40,9 @@ pub struct Closed {
 
 impl<K: DeskName, S: BuildHasher + Drop> Desk<K, S> {
     ghost use Rattle.std.specs.Prelude.{◌≡◌, IfOk, OnOk, OnErr};
+    ghost use Rattle.gate_law.specs.After.{lists};
     ghost use Rattle.gate_law.specs.Holds.{Holds};
+    ghost use Rattle.gate_core.specs.Expected.{fault_now};
     ghost use Rattle.gate_journal.specs.Kept.{turns};
     ghost use Rattle.desk_steps.specs.Agreeing.{Agrees, AreNamed};
     ghost use Rattle.desk_steps.specs.Settling.{AreSettled, GoesOn};
@@ -75,6 +77,14 @@ impl<K: DeskName, S: BuildHasher + Drop> Desk<K, S> {
         ensures { self.new ≡ self.old }
     {
         self.side.take_rung()
+    }
+
+    /// Why a port is faulted; `None` of one that isn't, and of one that the settings don't have. Takes no memory.
+    pub fn port_fault(&self, port: u16) -> Option<PortFault>
+        ensures { result ≡ fault_now self.now.recorded.settings port
+            ((lists self.now.recorded.settings (turns self.now.recorded.kept)).port_calls port) }
+    {
+        self.recorded.port_fault(port)
     }
 
     /// The history so far: all that is promised holds of it.

@@ -3,6 +3,7 @@
 use crate::desk_value::{Closed, Desk};
 use desk_ends::{DeskName, Finished};
 use desk_steps::Turned;
+use gate_core::PortFault;
 use std::alloc::{AllocError, Global};
 use std::hash::{BuildHasher, BuildHasherDefault, FoldHasher};
 use std::sync::{Mutex, Wait};
@@ -76,6 +77,13 @@ impl<K: DeskName, S: BuildHasher + Drop> Shared<K, S> {
         if let Some(bell) = self.bells.get(outlet) {
             bell.unpark();
         }
+    }
+
+    /// Why a port is faulted, once the lock could be had; `None` of one that isn't.
+    pub fn port_fault(&self, rt: &impl Wait, port: u16) -> Option<PortFault> {
+        let guard = self.desk.lock(rt);
+        let desk = &*guard;
+        desk.port_fault(port)
     }
 
     /// Ends the desk: steps what is left of what finished inlets put, and gives the history and the settings.

@@ -7,7 +7,7 @@ ghost use Rattle.gate_core.specs.Core.{turn_of};
 ghost use Rattle.desk_side.specs.Said.{IsSaid};
 
 use desk_side::Said;
-use gate_core::{Batch, Core, Event, Settings, Targets};
+use gate_core::{Batch, Core, Event, PortFault, Settings, Targets};
 use gate_journal::History;
 use std::alloc::{AllocError, Global};
 use std::hash::{BuildHasher, BuildHasherDefault, FoldHasher};
@@ -81,6 +81,7 @@ impl<S: BuildHasher + Drop> RecordedCore<S> {
     ghost use Rattle.gate_law.specs.Holds.{Holds};
     ghost use Rattle.gate_law.specs.Promises.{IsAmong};
     ghost use Rattle.gate_events.specs.Seen.{event_seen};
+    ghost use Rattle.gate_core.specs.Expected.{fault_now};
     ghost use Rattle.gate_core.specs.Targets.{client_for, port_for};
     ghost use Rattle.gate_journal.specs.Kept.{turns};
     ghost use Rattle.desk_steps.specs.Recorded.{IsStep};
@@ -111,6 +112,14 @@ impl<S: BuildHasher + Drop> RecordedCore<S> {
                 Err(error)
             }
         }
+    }
+
+    /// Why a port is faulted; `None` of one that isn't, and of one that the settings don't have. Takes no memory.
+    pub fn port_fault(&self, port: u16) -> Option<PortFault>
+        ensures { result ≡ fault_now self.now.settings port
+            ((lists self.now.settings (turns self.now.kept)).port_calls port) }
+    {
+        self.core.port_fault(port)
     }
 
     /// The settings.

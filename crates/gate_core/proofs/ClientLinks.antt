@@ -137,7 +137,7 @@ pub client-frame : {S H : Type 0} (s : Settings) (v : Lists) (g new : Parts S H)
     → ClientsLeave s (called c (at, OnMessage frame) v.client_calls) new.clients.items
     → ClientLinks (unlinked c outs v.client_link) new.clients.items
     → length new.clients.items ≡ length g.clients.items
-    → Stepped s (ClientMessage c link at frame) (batch_of c [] outs 0 [] None) v (record { clients = new.clients; ports = g.ports; client_ports = g.client_ports; orders = g.orders })
+    → Stepped {S = S} {H = H} s (ClientMessage c link at frame) (batch_of c [] outs 0 [] None) v (record { clients = new.clients; ports = g.ports; client_ports = g.client_ports; orders = g.orders })
 client-frame s v g new c link at frame said outs heard lines leave links count =
     client-event s (ClientMessage c link at frame) v g _ c Stays ((at, OnMessage frame) ∷ []) outs (rw (heard.on, heard.app_is) refl) lines
     (append-none (report_issued s c (v.client_calls c) (at, OnMessage frame)) (no-frame-report s c at frame (v.client_calls c)))

@@ -5,7 +5,7 @@ ghost use Rattle.std.specs.Prelude.{[], ◌∷◌, ◌≡◌, length, IfOk, OnEr
 use crate::parts::Parts;
 use crate::parts::new::{orders, orders_with_hasher};
 use crate::targets::Targets;
-use gate_events::{Batch, Event};
+use gate_events::{Batch, Event, PortFault};
 use gate_settings::Settings;
 use order_core::OrderCore;
 use std::alloc::{AllocError, Global};
@@ -85,7 +85,7 @@ impl<S: BuildHasher + Drop> Core<S> {
     ghost use Rattle.gate_law.specs.Promises.{IsAmong};
     ghost use Rattle.gate_core.specs.Core.{IsAfter, turn_of};
     ghost use Rattle.order_core.specs.State.{IsAfterTurns, core_clients, core_numbers};
-    ghost use Rattle.gate_core.specs.Expected.{next_expected};
+    ghost use Rattle.gate_core.specs.Expected.{fault_now, next_expected};
     ghost use Rattle.gate_events.specs.Seen.{event_seen};
     ghost use Rattle.gate_core.specs.Targets.{client_for, port_for};
 
@@ -195,5 +195,13 @@ impl<S: BuildHasher + Drop> Core<S> {
             → result ≡ next_expected s client ((lists s before).client_calls client) }
     {
         self.parts.next_in(client)
+    }
+
+    /// Why a port is faulted; `None` of one that isn't, and of one that the settings don't have. Takes no memory.
+    pub fn port_fault(&self, port: u16) -> Option<PortFault>
+        ensures { (s : law.Settings) (before : History) → IsAfter s before self.now
+            → result ≡ fault_now s port ((lists s before).port_calls port) }
+    {
+        self.parts.port_fault(port)
     }
 }

@@ -234,7 +234,8 @@ where
         + Clock
         + Net<Listener = TcpListener, Stream = TcpStream>
         + RandomSource
-        + Print,
+        + Print
+        + Eprint,
 {
     let Ok(hasher) = RandomState::new(rt) else {
         return no_seed(faults);

@@ -77,7 +77,7 @@ pub fn show_demo<R, S, W: Write, F: Write>(
     faults: &mut F,
 ) -> u8
 where
-    R: Threads + Wait + Sync + Clock + Net<Listener = TcpListener, Stream = TcpStream>,
+    R: Threads + Wait + Sync + Clock + Eprint + Net<Listener = TcpListener, Stream = TcpStream>,
     S: BuildHasher + Clone + Drop + Send,
     ensures status { result ≤ 1 }
     ensures told { result ≡ 0 → IsTold (W.contents output.old) (W.contents output.new) }
@@ -112,7 +112,7 @@ pub fn demo<R, S>(
     answer: Choice,
 ) -> Result<Day, DemoFault>
 where
-    R: Threads + Wait + Sync + Clock + Net<Listener = TcpListener, Stream = TcpStream>,
+    R: Threads + Wait + Sync + Clock + Eprint + Net<Listener = TcpListener, Stream = TcpStream>,
     S: BuildHasher + Clone + Drop + Send,
 {
     let is_over = AtomicBool::new(false);
@@ -131,7 +131,7 @@ fn demonstrate<R, S>(
     is_past: &AtomicBool,
 ) -> Result<Day, DemoFault>
 where
-    R: Threads + Wait + Sync + Clock + Net<Listener = TcpListener, Stream = TcpStream>,
+    R: Threads + Wait + Sync + Clock + Eprint + Net<Listener = TcpListener, Stream = TcpStream>,
     S: BuildHasher + Clone + Drop + Send,
 {
     let (first, first_address) = loopback(rt, alloc)?;

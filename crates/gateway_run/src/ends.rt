@@ -4,6 +4,7 @@ ghost use Rattle.std.specs.Prelude.{◌≡◌, All};
 ghost use Rattle.gateway_run.specs.Own.{of_gate, recipient_of, source_of};
 
 use crate::lines::{Count, RunLine, client_line, clock_line, port_line};
+use crate::port_faults::PortLinks;
 use desk::{DeskName, Inlet, Outlet, Shared};
 use gate_events::{ClientNumber, PortNumber, Recipient, Source};
 use run_lines::{ClientCounts, CountedLinks};
@@ -30,7 +31,7 @@ pub(crate) struct Ends<'a, A, C, K: DeskName, R, S: BuildHasher + Drop> {
     ghost takes_own: { All (λ l. of_gate (λ g. g.outlet.to) l.writer.gate ≡ recipient_of l.peer) lines.items },
 }
 
-impl<'a, A: Drop, C: Drop, K: DeskName, R: Wait + Clock, S: BuildHasher + Drop>
+impl<'a, A: Drop, C: Drop, K: DeskName, R: Wait + Clock + Eprint, S: BuildHasher + Drop>
     Ends<'a, A, C, K, R, S> {
     /// No line yet.
     fn new(alloc: Global) -> Ends<'a, A, C, K, R, S> {
@@ -69,7 +70,8 @@ impl<'a, A: Drop, C: Drop, K: DeskName, R: Wait + Clock, S: BuildHasher + Drop>
         outlet: Outlet<K>,
     ) -> Result<(), AllocError> {
         if inlet.source() == Source::Port(port) && outlet.recipient() == Recipient::Port(port) {
-            let line = port_line(rt, shared, port, opener, inlet, outlet);
+            let links = PortLinks::new(rt, shared, port, opener);
+            let line = port_line(rt, shared, port, links, inlet, outlet);
             self.lines.push(line)?;
         }
         Ok(())
@@ -99,7 +101,7 @@ pub(crate) fn ends_of<
     A: Drop,
     C: Drop,
     K: DeskName,
-    R: Wait + Clock,
+    R: Wait + Clock + Eprint,
     S: BuildHasher + Drop,
 >(
     rt: &'a R,

@@ -9,6 +9,7 @@ mod ends;
 mod fault;
 mod frames;
 mod lines;
+mod port_faults;
 mod running;
 mod telling;
 

@@ -7,6 +7,7 @@ ghost use Rattle.gateway_run.specs.Own.{of_gate, recipient_of, source_of};
 ghost use Rattle.run_lines.specs.declared.gate.RunGate.TheVariants as gates;
 
 use crate::clock::RunClock;
+use crate::port_faults::PortLinks;
 use desk::{DeskName, Finished, Inlet, Outlet, Shared};
 use desk_gates::{BellClock, InletGate, OutletGate};
 use gate_events::{ClientNumber, PortNumber};
@@ -41,7 +42,7 @@ pub(crate) type Writing<'a, K, R, S> =
 /// A line of a gateway.
 pub(crate) type RunLine<'a, A, C, K, R, S> = Line<
     RunPeer<'a>,
-    RunOpener<CountedLinks<'a, A>, C>,
+    RunOpener<CountedLinks<'a, A>, PortLinks<'a, C, K, R, S>>,
     Reading<'a, K, R, S>,
     Writing<'a, K, R, S>,
 >;
@@ -90,7 +91,7 @@ pub(crate) fn port_line<'a, A, C, K: DeskName, R: Wait + Clock, S: BuildHasher +
     rt: &'a R,
     shared: &'a Shared<K, S>,
     port: PortNumber,
-    opener: C,
+    opener: PortLinks<'a, C, K, R, S>,
     inlet: Inlet<K>,
     outlet: Outlet<K>,
 ) -> RunLine<'a, A, C, K, R, S>

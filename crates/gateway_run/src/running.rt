@@ -32,7 +32,7 @@ pub fn run<R, A, C, S>(
     is_over: &AtomicBool,
 ) -> Result<Day, RunFault>
 where
-    R: Threads + Wait + Sync + Clock,
+    R: Threads + Wait + Sync + Clock + Eprint,
     A: Opener + Send + Drop,
     A::Reader: Read + Send + Drop,
     A::Writer: Write + Send + Drop,
@@ -62,7 +62,7 @@ fn run_desk<K, R, A, C, S>(
 ) -> Result<Day, RunFault>
 where
     K: DeskName + Send + Sync,
-    R: Threads + Wait + Sync + Clock,
+    R: Threads + Wait + Sync + Clock + Eprint,
     A: Opener + Send + Drop,
     A::Reader: Read + Send + Drop,
     A::Writer: Write + Send + Drop,
@@ -101,7 +101,7 @@ fn serve_desk<'a, K, R, A, C, S>(
 ) -> Result<Left<K>, RunFault>
 where
     K: DeskName + Send + Sync,
-    R: Threads + Wait + Sync + Clock,
+    R: Threads + Wait + Sync + Clock + Eprint,
     A: Opener + Send + Drop,
     A::Reader: Read + Send + Drop,
     A::Writer: Write + Send + Drop,

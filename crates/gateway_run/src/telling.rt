@@ -61,6 +61,13 @@ impl<'a, R: Clock + Eprint> Teller<'a, R> {
         );
     }
 
+    /// Tells why a port is faulted, by the fault's number and name.
+    pub(crate) fn tell_port_fault(&self, number: u8, name: &str) {
+        let at = self.now();
+        let at = str::from_utf8(&at).unwrap_or("");
+        let _ = eprintln!(self.rt; "{at} {} port fault {number}: {name}", self.whose);
+    }
+
     /// Now, as UTCTimestamp; the first moment of 1970 where the system's can't be had.
     fn now(&self) -> [u8; 21] {
         match self.rt.since_1970() {

@@ -10,11 +10,13 @@ ghost use Rattle.gate_sessions.specs.Lines.{IsUpAt};
 ghost use Rattle.gate_events.specs.Seen.{batch_seen};
 ghost use Rattle.gate_core.specs.State.{ArePartsOf};
 ghost use Rattle.gate_core.specs.Steps.{Grows, Ready, Stepped};
+ghost use Rattle.gate_core.specs.Expected.{fault_now};
 
+use super::port_packets::fault_of;
 use super::{Parts, place_of};
 use gate_events::{Batch, PortNumber, told_port};
 use gate_sessions::{port_gone, port_tick, port_up};
-use soup_session::PortState;
+use soup_session::{PortFault, PortState};
 use std::alloc::{AllocError, Global};
 use std::hash::BuildHasher;
 
@@ -102,6 +104,15 @@ impl<S: BuildHasher + Drop> Parts<S> {
         ensures up { is_up result ≡ true → IsUpAt place self.now.ports.items }
     {
         self.ports[place].state()
+    }
+
+    /// The fault of a port, where the settings have the port and it is faulted.
+    pub(crate) fn port_fault(&self, port: u16) -> Option<PortFault>
+        ensures { (s : Settings) (v : Lists) → ArePartsOf s v self.now
+            → result ≡ fault_now s port (v.port_calls port) }
+    {
+        let place = self.port_place(PortNumber::of(port)?)?;
+        fault_of(self.port_state(place))
     }
 
     /// The place of a port of which this link is the current one.

@@ -100,7 +100,7 @@ impl<S: BuildHasher + Drop> Parts<S> {
 }
 
 /// The fault of a port that is faulted.
-fn fault_of(state: PortState) -> Option<PortFault>
+pub(super) fn fault_of(state: PortState) -> Option<PortFault>
     ensures { result ≡ fault_in state }
 {
     match state {

@@ -30,7 +30,7 @@ returns-in_ok-port_out-in-Up-clause-grows g c =
     (λ n within. c.told_port.ensures.next n (c.port_fail.ensures.next n within)) (λ was kept. c.told_port.ensures.settled was (c.port_fail.ensures.settled was kept)) refl refl refl
 
 pub returns-in_ok-port_out-in-Up-clause-step : goal.returns-in_ok-port_out-in-Up-clause-step
-returns-in_ok-port_out-in-Up-clause-step g c s v link at packet payload g given faulty =
+returns-in_ok-port_out-in-Up-clause-step it c s v link at packet payload g given faulty =
     let p = c.args.place + 1 in
     let k = c.args.fault in
     let t = heard_turn p payload 0 [] (Some (fault_number k)) in

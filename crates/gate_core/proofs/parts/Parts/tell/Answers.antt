@@ -29,7 +29,7 @@ returns-clause-grows g c =
     grows-then 0 0 0 0 _ _ _ c.issue.ensures.grows (lines-grow c.issue.new.self _ c.told_client.ensures.length c.told_port.ensures.length c.told_port.ensures.next c.told_client.ensures.settled c.told_port.ensures.settled refl refl)
 
 pub returns-clause-step : goal.returns-clause-step
-returns-clause-step g c s v link packet payload g given told =
+returns-clause-step it c s v link packet payload g given told =
     let p = c.args.place + 1 in
     let q = c.args.client in
     let n = q + 1 in

@@ -18,7 +18,7 @@ pub returns-clause-grows : goal.returns-clause-grows
 returns-clause-grows g c = ports-grow c.args.self.now _ c.told_port.ensures.length c.told_port.ensures.next c.told_port.ensures.settled refl refl refl
 
 pub returns-clause-step : goal.returns-clause-step
-returns-clause-step g c s v link at packet payload g given told =
+returns-clause-step it c s v link at packet payload g given told =
     let p = c.args.place + 1 in
     let new : Parts _ _ = record { clients = c.args.self.now.clients; ports = c.told_port.new.lines; client_ports = c.args.self.now.client_ports; orders = c.args.self.now.orders } in
     subst (λ (b : Batch). Stepped s (PortPacket p link at packet) b v new)

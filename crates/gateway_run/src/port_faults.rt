@@ -1,0 +1,89 @@
+//! What is told of a port that is faulted.
+
+use crate::telling::{Teller, Whose};
+use desk::{DeskName, Shared};
+use gate_core::{PortFault, PortNumber};
+use gate_serving::{LinkEnd, LinkFault, Opened, Opener};
+use std::hash::BuildHasher;
+use std::sync::Wait;
+use std::time::Clock;
+
+/// The links of a port, of which its fault is told once: as the link that ended by it is gone, or before the next.
+#[derive(Drop)]
+pub(crate) struct PortLinks<'a, C, K: DeskName, R, S: BuildHasher + Drop> {
+    rt: &'a R,
+    shared: &'a Shared<K, S>,
+    port: PortNumber,
+    opener: C,
+    is_told: bool,
+}
+
+impl<'a, C, K: DeskName, R: Wait + Clock + Eprint, S: BuildHasher + Drop>
+    PortLinks<'a, C, K, R, S>
+{
+    /// Of this port. Takes no memory.
+    pub(crate) fn new(
+        rt: &'a R,
+        shared: &'a Shared<K, S>,
+        port: PortNumber,
+        opener: C,
+    ) -> PortLinks<'a, C, K, R, S>
+    {
+        PortLinks {
+            rt,
+            shared,
+            port,
+            opener,
+            is_told: false,
+        }
+    }
+
+    /// Tells why the port is faulted, where it is and that wasn't told.
+    fn look(&mut self) {
+        if self.is_told {
+            return;
+        }
+        let number = self.port.number();
+        if let Some(fault) = self.shared.port_fault(self.rt, number) {
+            self.is_told = true;
+            let teller = Teller::new(self.rt, Whose::Port(usize::from(number)));
+            teller.tell_port_fault(fault.number(), name_of(fault));
+        }
+    }
+}
+
+impl<'a, C: Opener, K: DeskName, R: Wait + Clock + Eprint, S: BuildHasher + Drop> Opener
+    for PortLinks<'a, C, K, R, S>
+{
+    ghost opened = { λ t. C.opened t.opener };
+
+    ghost has_ended = { λ t. C.has_ended t.opener };
+
+    type Reader = C::Reader;
+
+    type Writer = C::Writer;
+
+    type Closer = C::Closer;
+
+    fn open(&mut self) -> Option<Result<Opened<C::Reader, C::Writer, C::Closer>, LinkFault>> {
+        self.look();
+        self.opener.open()
+    }
+
+    fn ended(&mut self, end: LinkEnd) {
+        self.opener.ended(end);
+        self.look();
+    }
+}
+
+/// A fault's name, for an operator.
+fn name_of(fault: PortFault) -> &'static str {
+    match fault {
+        PortFault::StrangePacket => "a packet or payload that can't be read",
+        PortFault::UnknownToken => "a token that no order of this port has",
+        PortFault::NotLawful => "a message that its order doesn't allow",
+        PortFault::OutsideProfile => "a message outside the profile",
+        PortFault::SequenceGap => "a login with a number above the next one",
+        PortFault::OtherSession => "a login of another session",
+    }
+}
