@@ -69,11 +69,7 @@ impl<S: BuildHasher + Clone + Drop> Parts<S> {
     ghost use Rattle.desk.specs.Offered.{AreFor};
 
     /// The same, with the core's indexes over a hasher.
-    pub fn with_hasher(
-        alloc: Global,
-        hasher: S,
-        settings: Settings,
-    ) -> Result<Parts<S>, AllocError>
+    pub fn with_hasher(alloc: Global, hasher: S, settings: Settings) -> Result<Parts<S>, AllocError>
         ensures settings { IfOk result (λ parts. parts.settings ≡ settings) }
         ensures rings { IfOk result (λ parts. AreFor (length settings.clients) (length settings.ports) parts) }
     {

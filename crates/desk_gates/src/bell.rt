@@ -34,7 +34,8 @@ impl<'a, K: DeskName, R: Wait + time::Clock, S: BuildHasher + Drop> BellClock<'a
     }
 }
 
-impl<'a, K: DeskName, R: Wait + time::Clock, S: BuildHasher + Drop> Clock for BellClock<'a, K, R, S> {
+impl<'a, K: DeskName, R: Wait + time::Clock, S: BuildHasher + Drop> Clock
+    for BellClock<'a, K, R, S> {
     /// The system's moment, or the last one told where the system's is before it or can't be had.
     fn now_ms(&mut self) -> u64 {
         if let Ok(since) = self.rt.since_1970() {

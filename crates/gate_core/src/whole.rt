@@ -63,11 +63,7 @@ impl<S: BuildHasher + Clone + Drop> Core<S> {
     ghost use Rattle.gate_core.specs.Core.{IsAfter};
 
     /// The core of these settings before the first event, with a hasher.
-    pub fn with_hasher(
-        alloc: Global,
-        hasher: S,
-        settings: &Settings,
-    ) -> Result<Core<S>, AllocError>
+    pub fn with_hasher(alloc: Global, hasher: S, settings: &Settings) -> Result<Core<S>, AllocError>
         ensures after { IfOk result (λ core. IsAfter settings.now [] core) }
         ensures settled { IfOk result (λ core. core.settled ≡ core.now) }
     {

@@ -31,8 +31,14 @@ pub(crate) struct Ends<'a, A, C, K: DeskName, R, S: BuildHasher + Drop> {
     ghost takes_own: { All (λ l. of_gate (λ g. g.outlet.to) l.writer.gate ≡ recipient_of l.peer) lines.items },
 }
 
-impl<'a, A: Drop, C: Drop, K: DeskName, R: Wait + Clock + Eprint, S: BuildHasher + Drop>
-    Ends<'a, A, C, K, R, S> {
+impl<'a, A: Drop, C: Drop, K: DeskName, R: Wait + Clock + Eprint, S: BuildHasher + Drop> Ends<
+    'a,
+    A,
+    C,
+    K,
+    R,
+    S,
+> {
     /// No line yet.
     fn new(alloc: Global) -> Ends<'a, A, C, K, R, S> {
         Ends {

@@ -36,8 +36,10 @@ fn between_ticks() -> Duration {
 pub(crate) type Reading<'a, K, R, S> = Worker<InletGate<'a, K, S>, RunClock<'a, R>>;
 
 /// A writer's worker over an outlet; that of the clock has none.
-pub(crate) type Writing<'a, K, R, S> =
-    Worker<RunGate<OutletGate<'a, K, S>>, BellClock<'a, K, R, S>>;
+pub(crate) type Writing<'a, K, R, S> = Worker<
+    RunGate<OutletGate<'a, K, S>>,
+    BellClock<'a, K, R, S>,
+>;
 
 /// A line of a gateway.
 pub(crate) type RunLine<'a, A, C, K, R, S> = Line<
@@ -173,7 +175,10 @@ impl<K: DeskName> Left<K> {
     }
 
     /// Ends the inlet of a gate, and keeps what was put.
-    fn end_inlet<S: BuildHasher + Drop>(&mut self, gate: InletGate<'_, K, S>) -> Result<(), AllocError> {
+    fn end_inlet<S: BuildHasher + Drop>(
+        &mut self,
+        gate: InletGate<'_, K, S>,
+    ) -> Result<(), AllocError> {
         if let Some(put) = gate.finish() {
             self.finished.push(put)?;
         }

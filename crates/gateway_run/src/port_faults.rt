@@ -18,17 +18,20 @@ pub(crate) struct PortLinks<'a, C, K: DeskName, R, S: BuildHasher + Drop> {
     is_told: bool,
 }
 
-impl<'a, C, K: DeskName, R: Wait + Clock + Eprint, S: BuildHasher + Drop>
-    PortLinks<'a, C, K, R, S>
-{
+impl<'a, C, K: DeskName, R: Wait + Clock + Eprint, S: BuildHasher + Drop> PortLinks<
+    'a,
+    C,
+    K,
+    R,
+    S,
+> {
     /// Of this port. Takes no memory.
     pub(crate) fn new(
         rt: &'a R,
         shared: &'a Shared<K, S>,
         port: PortNumber,
         opener: C,
-    ) -> PortLinks<'a, C, K, R, S>
-    {
+    ) -> PortLinks<'a, C, K, R, S> {
         PortLinks {
             rt,
             shared,
@@ -53,8 +56,7 @@ impl<'a, C, K: DeskName, R: Wait + Clock + Eprint, S: BuildHasher + Drop>
 }
 
 impl<'a, C: Opener, K: DeskName, R: Wait + Clock + Eprint, S: BuildHasher + Drop> Opener
-    for PortLinks<'a, C, K, R, S>
-{
+    for PortLinks<'a, C, K, R, S> {
     ghost opened = { λ t. C.opened t.opener };
 
     ghost has_ended = { λ t. C.has_ended t.opener };

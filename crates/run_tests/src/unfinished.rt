@@ -14,7 +14,15 @@ fn a_market_that_fills_nothing(rt: HostRuntime) -> Result<(), Fail> {
     let patience = Duration::from_millis(500);
     let answer = Choice::AcceptDead;
     let hasher = RandomState::new(&rt)?;
-    let status = show_demo(&rt, alloc, hasher, patience, answer, &mut output, &mut faults);
+    let status = show_demo(
+        &rt,
+        alloc,
+        hasher,
+        patience,
+        answer,
+        &mut output,
+        &mut faults,
+    );
     assert_eq!(rt; status, 1);
     assert!(rt; output.is_empty());
     assert!(rt; faults.as_slice() == b"demo: not finished\n".as_slice());
