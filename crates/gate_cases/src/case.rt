@@ -1,8 +1,10 @@
 //! A case: a script with what it prints.
 
 use crate::between::{Named, push_line};
-use gate_lines::{Flags, run_script};
+use gate_lines::{Flags, run_script, run_script_with};
+use other_hashers::{Nothing, Seeded};
 use std::alloc::{AllocError, Global};
+use std::hash::BuildHasher;
 use std::io::{self, Write};
 
 /// A script, and what it has to print and to tell.
@@ -140,13 +142,45 @@ impl Case {
     }
 }
 
-/// Whether a script prints this and ends as it is to: at its end, or at a line that isn't understood where that is
-/// told.
+/// Whether a script prints this and ends as it is to, with the fixed seed, with two others, and with a hasher that
+/// answers 0 for everything.
 fn has_run(alloc: Global, flags: Flags, script: &[u8], wanted: &[u8], told: &[u8]) -> bool {
     let mut input = script;
     let mut output = Vec::new(alloc);
     let mut faults = Vec::new(alloc);
     let status = run_script(alloc, flags, &mut input, &mut output, &mut faults);
+    has_ended(status, &output, &faults, wanted, told)
+        && has_run_with(alloc, Seeded::of(1), flags, script, wanted, told)
+        && has_run_with(alloc, Seeded::of(2), flags, script, wanted, told)
+        && has_run_with(alloc, Nothing, flags, script, wanted, told)
+}
+
+/// The same with a hasher.
+fn has_run_with<S: BuildHasher + Clone + Drop>(
+    alloc: Global,
+    hasher: S,
+    flags: Flags,
+    script: &[u8],
+    wanted: &[u8],
+    told: &[u8],
+) -> bool {
+    let mut input = script;
+    let mut output = Vec::new(alloc);
+    let mut faults = Vec::new(alloc);
+    let status = run_script_with(
+        alloc,
+        hasher,
+        flags,
+        &mut input,
+        &mut output,
+        &mut faults,
+    );
+    has_ended(status, &output, &faults, wanted, told)
+}
+
+/// Whether what was printed is this, and the end is a script's own, or that of a line that isn't understood where that
+/// is told.
+fn has_ended(status: u8, output: &[u8], faults: &[u8], wanted: &[u8], told: &[u8]) -> bool {
     let ends = if told.is_empty() { 0 } else { 2 };
-    status == ends && output.as_slice() == wanted && faults.as_slice() == told
+    status == ends && output == wanted && faults == told
 }

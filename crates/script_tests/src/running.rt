@@ -1,7 +1,8 @@
 //! Running a script over memory.
 
-use gate_lines::{Flags, run_script};
+use gate_lines::{Flags, run_script, run_script_with};
 use std::alloc::{AllocError, Global};
+use std::hash::BuildHasher;
 use std::process::Abort;
 use std::str;
 
@@ -26,6 +27,19 @@ pub fn run_of(alloc: Global, script: &[u8]) -> Run {
     let mut output = Vec::new(alloc);
     let mut faults = Vec::new(alloc);
     let status = run_script(alloc, PLAIN, &mut input, &mut output, &mut faults);
+    Run {
+        output,
+        faults,
+        status,
+    }
+}
+
+/// Runs a script with a hasher.
+pub fn run_with<S: BuildHasher + Clone + Drop>(alloc: Global, hasher: S, script: &[u8]) -> Run {
+    let mut input = script;
+    let mut output = Vec::new(alloc);
+    let mut faults = Vec::new(alloc);
+    let status = run_script_with(alloc, hasher, PLAIN, &mut input, &mut output, &mut faults);
     Run {
         output,
         faults,
