@@ -20,6 +20,8 @@ from .server import PASSWORD, USER, Server
 FORK = multiprocessing.get_context("fork")
 EVENT = re.compile(r"\d{8}-\d\d:\d\d:\d\d\.\d{3} ([CP]\d+) "
                    r"(up|gone|closed by the gateway|link fault [123]|port fault [1-6]|sent 35=[235])(: [^:]*|\|49=[ -~]*)?")
+# what is told in place of a frame that there was no memory for
+UNSHOWN = re.compile(r"\d{8}-\d\d:\d\d:\d\d\.\d{3} C\d+ sent a Reject, a ResendRequest or a Logout")
 SETTLES, CLOSES, LEAVES = 90.0, 40.0, 60.0
 
 
@@ -213,6 +215,9 @@ class Day:
         """The lines on standard error by kind; another line is a complaint."""
         counts, ups, faults = Counter(), Counter(), Counter()
         for line in Path(self.folder, "errors").read_text(errors="replace").splitlines():
+            if self.refusing and UNSHOWN.fullmatch(line):
+                counts["C sent what isn't shown"] += 1
+                continue
             found = EVENT.fullmatch(line)
             counts[f"{found[1][0]} {found[2]}{kind_of(found)}" if found else "unforeseen"] += 1
             if not found:
