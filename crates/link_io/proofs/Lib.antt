@@ -3,3 +3,4 @@ mod Sending
 pub mod Going
 mod Framing
 mod Packeting
+mod Answering

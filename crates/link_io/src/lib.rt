@@ -13,6 +13,7 @@ mod piece;
 mod port_packets;
 mod progress;
 mod reader;
+mod streams;
 mod writer;
 
 pub use client_frames::ClientFrames;
@@ -23,4 +24,5 @@ pub use link_fault::LinkFault;
 pub use port_packets::PortPackets;
 pub use progress::Progress;
 pub use reader::{ClientReader, PortReader, Reader};
+pub use streams::{Sink, Source};
 pub use writer::{BatchWriter, Wrote};

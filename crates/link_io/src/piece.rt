@@ -2,9 +2,10 @@
 
 ghost use Rattle.std.specs.Prelude.{◌≡◌, [], length};
 ghost use Rattle.link_io.specs.Reading.{Fills};
+ghost use Rattle.link_io.specs.Answered.{FillsBy};
 
 use crate::link_fault::LinkFault;
-use std::io::Read;
+use crate::streams::Source;
 use std::marker::Model;
 
 /// The most bytes of one read.
@@ -39,11 +40,12 @@ impl Piece {
     }
 
     /// Reads once, and gives how many bytes came: none where the stream is at its end.
-    pub(crate) fn fill<R: Read>(&mut self, stream: &mut R) -> Result<usize, LinkFault>
-        ensures { Fills result self.new (R.remaining stream.old) (R.remaining stream.new) }
+    pub(crate) fn fill<R: Source>(&mut self, stream: &mut R) -> Result<usize, LinkFault>
+        ensures fills { Fills result self.new (R.remaining stream.old) (R.remaining stream.new) }
+        ensures answered { FillsBy R.did_read result stream.old stream.new }
     {
         self.length = 0;
-        match stream.read(&mut self.bytes) {
+        match stream.read_once(&mut self.bytes) {
             Ok(count) => {
                 self.length = count;
                 Ok(count)

@@ -3,6 +3,7 @@
 ghost use Rattle.std.specs.Prelude.{◌≡◌, ◌≤◌, ◌-◌, None, Some, Err, true, false, [], ◌++◌, OnOk, OnErr, IfOk};
 ghost use Rattle.link_io.specs.Limits.{refusal, limit_after};
 ghost use Rattle.link_io.specs.Reading.{AreAt, offered_list, FeedsPiece, Gave, MakesNext, Offers, Puts, Reads};
+ghost use Rattle.link_io.specs.Answered.{ReadsBy};
 ghost use Rattle.link_io.specs.Decoding.{MadeOfFrames, MadeOfPackets};
 ghost use Rattle.link_io.specs.declared.link_fault.LinkFault.{LinkFault as Fault};
 
@@ -14,9 +15,9 @@ use crate::link_fault::LinkFault;
 use crate::piece::Piece;
 use crate::port_packets::PortPackets;
 use crate::progress::Progress;
+use crate::streams::Source;
 use gate_events::{ClientNumber, Event, PortNumber};
 use std::alloc::{AllocError, Global};
-use std::io::Read;
 use std::marker::Model;
 
 /// Reads a link's stream, and puts the events that its decoder makes of it.
@@ -102,7 +103,7 @@ impl<D: Decoder> Reader<D> {
     /// `ReadFailed` where the read failed, `Malformed` where too long a frame or an empty packet follows: the events
     /// before it are put. `StepLimit` at the last step, without a read. After `NoMemory` what was read stays, and the
     /// next step goes on with it. After any other fault each step answers the same and does nothing.
-    pub fn step<R: Read, G: Gate>(
+    pub fn step<R: Source, G: Gate>(
         &mut self,
         alloc: Global,
         stream: &mut R,
@@ -111,6 +112,7 @@ impl<D: Decoder> Reader<D> {
     ) -> Result<Progress, LinkFault>
         ensures reads { refusal self.old.limit ≡ None → Reads D.made D.are_all at result self.old self.new
             (G.was_put gate.old) (G.was_put gate.new) (R.remaining stream.old) (R.remaining stream.new) }
+        ensures answered { refusal self.old.limit ≡ None → ReadsBy R.did_read result stream.old stream.new }
         ensures refused { (fault : Fault) → refusal self.old.limit ≡ Some fault
             → (result ≡ Err fault) × (stream.new ≡ stream.old) × (gate.new ≡ gate.old) }
         ensures limit { self.new.limit ≡ limit_after self.old.limit result }
@@ -128,7 +130,7 @@ impl<D: Decoder> Reader<D> {
     }
 
     /// The same, of a link that goes on.
-    fn read_on<R: Read, G: Gate>(
+    fn read_on<R: Source, G: Gate>(
         &mut self,
         alloc: Global,
         stream: &mut R,
@@ -137,6 +139,7 @@ impl<D: Decoder> Reader<D> {
     ) -> Result<Progress, LinkFault>
         ensures reads { Reads D.made D.are_all at result self.old self.new
             (G.was_put gate.old) (G.was_put gate.new) (R.remaining stream.old) (R.remaining stream.new) }
+        ensures answered { ReadsBy R.did_read result stream.old stream.new }
         ensures limit { self.new.limit ≡ self.old.limit }
         ensures source { D.source self.new.decoder ≡ D.source self.old.decoder }
         ensures none_taken { G.was_taken gate.new ≡ G.was_taken gate.old }

@@ -1,18 +1,19 @@
 //! The writer of a link.
 
 ghost use Rattle.std.specs.Prelude.{◌≡◌, ◌≤◌, ◌+◌, ◌-◌, ◌++◌, ◌∷◌, ◌||◌, not, nat_lt, ℕ, List, [], None, Err, length};
-ghost use Rattle.std.specs.Prelude.{true, false, IfOk, OnOk, OnErr, MatchResult};
+ghost use Rattle.std.specs.Prelude.{true, false, IfOk, IfErr, OnOk, OnErr, MatchResult};
 ghost use Rattle.gate_events.specs.Seen.{link_out_seen};
 ghost use Rattle.link_io.specs.Limits.{refusal, limit_after};
+ghost use Rattle.link_io.specs.Answered.{FailedWrite};
 ghost use Rattle.link_io.specs.Writing.{bytes_told, Joins, TakesList, Refills, Sends, Writes};
 ghost use Rattle.link_io.specs.declared.link_fault.LinkFault.{LinkFault as Fault};
 
 use crate::gate::Gate;
 use crate::limit::Limit;
 use crate::link_fault::LinkFault;
+use crate::streams::Sink;
 use gate_events::{LinkOut, closes_link};
 use std::alloc::{AllocError, Global};
-use std::io::Write;
 use std::marker::Model;
 
 /// The most lists that are taken before they are written.
@@ -109,7 +110,7 @@ impl BatchWriter {
     /// `WriteFailed` where a write fails or takes no byte: of what was to be written the first bytes went out.
     /// `StepLimit` at the last step, without a write. After `NoMemory` nothing was written in the step: what was taken
     /// is kept, and the next step goes on with it. After any other fault each step answers the same and does nothing.
-    pub fn step<W: Write, G: Gate>(
+    pub fn step<W: Sink, G: Gate>(
         &mut self,
         alloc: Global,
         stream: &mut W,
@@ -117,6 +118,8 @@ impl BatchWriter {
     ) -> Result<Wrote, LinkFault>
         ensures writes { refusal self.old.limit ≡ None → Writes result self.old self.new
             (G.was_taken gate.old) (G.was_taken gate.new) (W.contents stream.old) (W.contents stream.new) }
+        ensures failed { refusal self.old.limit ≡ None → IfErr result (λ fault.
+            fault ≡ LinkFault.WriteFailed → FailedWrite W.did_write stream.new) }
         ensures refused { (fault : Fault) → refusal self.old.limit ≡ Some fault
             → (result ≡ Err fault) × (stream.new ≡ stream.old) × (gate.new ≡ gate.old) }
         ensures limit { self.new.limit ≡ limit_after self.old.limit result }
@@ -133,7 +136,7 @@ impl BatchWriter {
     }
 
     /// The same, of a link that goes on.
-    fn write_lists<W: Write, G: Gate>(
+    fn write_lists<W: Sink, G: Gate>(
         &mut self,
         alloc: Global,
         stream: &mut W,
@@ -141,6 +144,7 @@ impl BatchWriter {
     ) -> Result<Wrote, LinkFault>
         ensures writes { Writes result self.old self.new
             (G.was_taken gate.old) (G.was_taken gate.new) (W.contents stream.old) (W.contents stream.new) }
+        ensures failed { IfErr result (λ fault. fault ≡ LinkFault.WriteFailed → FailedWrite W.did_write stream.new) }
         ensures limit { self.new.limit ≡ self.old.limit }
         ensures none_put { G.was_put gate.new ≡ G.was_put gate.old }
     {
@@ -256,12 +260,13 @@ fn append_told(bytes: &mut Vec<u8>, link: u64, out: &LinkOut) -> Result<(), Allo
 }
 
 /// Writes all of these bytes. A write that takes none of some failed.
-fn write_out<W: Write>(stream: &mut W, bytes: &[u8]) -> Result<(), LinkFault>
-    ensures { Sends result bytes.now (W.contents stream.old) (W.contents stream.new) }
+fn write_out<W: Sink>(stream: &mut W, bytes: &[u8]) -> Result<(), LinkFault>
+    ensures sends { Sends result bytes.now (W.contents stream.old) (W.contents stream.new) }
+    ensures failed { OnErr result (FailedWrite W.did_write stream.new) }
 {
     let mut rest = bytes;
     while !rest.is_empty() {
-        match stream.write(rest) {
+        match stream.write_once(rest) {
             Ok(0) | Err(_) => return Err(LinkFault::WriteFailed),
             Ok(count) => {
                 let (_, left) = rest.split_at(count);

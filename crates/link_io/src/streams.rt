@@ -1,0 +1,57 @@
+//! The streams that links are read from and written onto, and what their calls answered.
+
+use std::io::{self, Read, Write};
+
+/// A stream that bytes are read from, and what its reads answered. Every `Read` is one.
+///
+/// `Read` has no word for a read that failed. Contracts say it by `did_read`, which nothing gives but a call: an engine
+/// is proved for any `Source`, so it can tell of no read that was not made, and of none another answer.
+pub trait Source: Read {
+    ghost use Rattle.std.specs.Prelude.{ℕ, Option, Some, None, IfOk, OnErr};
+    ghost use Rattle.std.specs.Io.{ReadsAtMost};
+    ghost use Rattle.std.specs.Io.KnownBytes.{ReadConsumes};
+
+    // A read of the first gave so many bytes, or failed where no number is said, and left the second.
+    ghost did_read: { Self → Option ℕ → Self → Type 0 };
+
+    /// Reads once: what `read` does.
+    fn read_once(&mut self, buf: &mut [u8]) -> io::Result<usize>
+        ensures bound { ReadsAtMost result buf.new }
+        ensures bytes { ReadConsumes (Self.remaining self.old) (Self.remaining self.new) result buf.new }
+        ensures gave { IfOk result (λ count. did_read self.old (Some count) self.new) }
+        ensures failed { OnErr result (did_read self.old None self.new) };
+}
+
+impl<R: Read> Source for R {
+    ghost did_read = { λ _ _ _. Unit {0} };
+
+    fn read_once(&mut self, buf: &mut [u8]) -> io::Result<usize> {
+        self.read(buf)
+    }
+}
+
+/// A stream that bytes are written onto, and what its writes answered. Every `Write` is one. Contracts say it by
+/// `did_write`, as they do of a `Source`.
+pub trait Sink: Write {
+    ghost use Rattle.std.specs.Prelude.{ℕ, List, Option, Some, None, IfOk, OnErr};
+    ghost use Rattle.std.specs.Io.{WritesAtMost};
+    ghost use Rattle.std.specs.Io.KnownBytes.{WriteAppends};
+
+    // A write of these bytes onto the first took so many, or failed where no number is said, and left the second.
+    ghost did_write: { Self → List ℕ → Option ℕ → Self → Type 0 };
+
+    /// Writes once: what `write` does.
+    fn write_once(&mut self, buf: &[u8]) -> io::Result<usize>
+        ensures bound { WritesAtMost result buf.now }
+        ensures bytes { WriteAppends (Self.contents self.old) (Self.contents self.new) result buf.now }
+        ensures took { IfOk result (λ count. did_write self.old buf.now (Some count) self.new) }
+        ensures failed { OnErr result (did_write self.old buf.now None self.new) };
+}
+
+impl<W: Write> Sink for W {
+    ghost did_write = { λ _ _ _ _. Unit {0} };
+
+    fn write_once(&mut self, buf: &[u8]) -> io::Result<usize> {
+        self.write(buf)
+    }
+}
