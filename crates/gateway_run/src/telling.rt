@@ -77,17 +77,23 @@ impl<'a, R: Clock + Eprint> Teller<'a, R> {
     }
 }
 
-/// An opener that tells of each of its links: `up`, `gone`, `closed by the gateway`, `link fault n`.
+/// An opener that tells of each of its links: `up`, `gone`, `closed by the gateway`, `link fault n`. Of links that can't
+/// be opened, one after the other, it tells once.
 #[derive(Drop)]
 pub(crate) struct Telling<'a, O, R> {
     teller: Teller<'a, R>,
     opener: O,
+    is_in_vain: bool,
 }
 
 impl<'a, O, R: Clock + Eprint> Telling<'a, O, R> {
     /// Of these links. Takes no memory.
     pub(crate) fn new(teller: Teller<'a, R>, opener: O) -> Telling<'a, O, R> {
-        Telling { teller, opener }
+        Telling {
+            teller,
+            opener,
+            is_in_vain: false,
+        }
     }
 }
 
@@ -104,8 +110,11 @@ impl<'a, O: Opener, R: Clock + Eprint> Opener for Telling<'a, O, R> {
 
     fn open(&mut self) -> Option<Result<Opened<O::Reader, O::Writer, O::Closer>, LinkFault>> {
         let opened = self.opener.open();
+        let was_in_vain = self.is_in_vain;
+        self.is_in_vain = matches!(opened, Some(Err(_)));
         match &opened {
             Some(Ok(_)) => self.teller.tell("up"),
+            Some(Err(_)) if was_in_vain => {}
             Some(Err(fault)) => self.teller.tell_fault(*fault),
             None => {}
         }

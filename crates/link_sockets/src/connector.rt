@@ -16,7 +16,8 @@ fn longest_connect() -> Duration {
     Duration::from_secs(10)
 }
 
-/// Connects to an address up to so many times, again a second after a link has ended or couldn't be opened.
+/// Connects to an address up to so many times, again a second after a link has ended or couldn't be opened. Connecting
+/// in vain is none of these times.
 #[derive(Drop)]
 pub struct Connector<'a, R> {
     rt: &'a R,
@@ -86,7 +87,6 @@ impl<'a, R: Net<Listener = TcpListener, Stream = TcpStream> + Clock> Opener for 
             self.left = 0;
             return None;
         }
-        self.left -= 1;
         self.is_first = false;
         let opened = match connected(self.rt, self.address) {
             Ok(stream) => link_of(self.rt, stream, self.is_over),
@@ -94,6 +94,7 @@ impl<'a, R: Net<Listener = TcpListener, Stream = TcpStream> + Clock> Opener for 
         };
         match opened {
             Ok(link) => {
+                self.left -= 1;
                 self.opened += 1;
                 Some(Ok(link))
             }

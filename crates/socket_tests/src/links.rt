@@ -147,6 +147,8 @@ fn a_port_is_connected_again_after_a_second(rt: HostRuntime) -> Result<(), Fail>
     drop(listener);
     assert!(rt; matches!(connector.open(), Some(Err(LinkFault::ReadFailed))));
     assert!(rt; shown(&rt)?.saturating_sub(before) >= second.saturating_add(900));
+    assert!(rt; matches!(connector.open(), Some(Err(LinkFault::ReadFailed))));
+    is_over.store(true, Ordering::SeqCst);
     assert!(rt; connector.open().is_none());
     Ok(())
 }
