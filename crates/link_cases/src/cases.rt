@@ -1,6 +1,7 @@
 //! The lines of the cases, one after another.
 
 use crate::chance::Chance;
+use crate::endless::read_endless;
 use crate::reading::read_stream;
 use crate::recorded::{Form, stream_of};
 use crate::tally::Tally;
@@ -38,6 +39,11 @@ impl Cases {
     pub fn step<W: Write>(&mut self, alloc: Global, text: &[u8], output: &mut W) -> io::Result<()> {
         if text.is_empty() || text.starts_with(b"#") {
             return Ok(());
+        }
+        if let Some(steps) = steps_of(text) {
+            output.write_all(text)?;
+            output.write_all(b": ")?;
+            return read_endless(alloc, steps).print(output);
         }
         let is_done = match making_of(text) {
             Some((making, seed, count)) => {
@@ -123,6 +129,11 @@ fn making_of(text: &[u8]) -> Option<(Making, u64, u64)> {
         decimal_digits::number_of(seed)?,
         decimal_digits::number_of(count)?,
     ))
+}
+
+/// `steps COUNT`.
+fn steps_of(text: &[u8]) -> Option<u64> {
+    decimal_digits::number_of(text.strip_prefix(b"steps ")?)
 }
 
 /// What stands before the first space, and behind it.

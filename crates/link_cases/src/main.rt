@@ -7,6 +7,7 @@
 mod cases;
 mod chance;
 mod changing;
+mod endless;
 mod gate;
 mod plain_frames;
 mod plain_packets;

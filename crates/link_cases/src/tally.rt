@@ -40,7 +40,7 @@ impl Tally {
 }
 
 /// A number, and what is counted.
-fn print_count<W: Write>(output: &mut W, count: u64, of: &[u8]) -> io::Result<()> {
+pub fn print_count<W: Write>(output: &mut W, count: u64, of: &[u8]) -> io::Result<()> {
     let mut digits = itoa::Buffer::new();
     output.write_all(digits.format(count).as_bytes())?;
     output.write_all(of)

@@ -1,0 +1,79 @@
+//! A stream without an end, read to the last step.
+
+use crate::chance::Chance;
+use crate::gate::Kept;
+use crate::tally::print_count;
+use link_io::{ClientNumber, ClientReader, LinkFault, Progress};
+use std::alloc::Global;
+use std::io::{self, Read, Write};
+
+/// A stream that gives `x` for ever, a byte a read.
+#[derive(Drop)]
+struct Endless {
+    reads: u64,
+}
+
+impl Read for Endless {
+    fn read(&mut self, buf: &mut [u8]) -> io::Result<usize> {
+        self.reads = self.reads.saturating_add(1);
+        match buf {
+            [place, ..] => {
+                *place = b'x';
+                Ok(1)
+            }
+            [] => Ok(0),
+        }
+    }
+}
+
+/// What a reader of so many steps did.
+#[derive(Clone, Copy)]
+pub struct LastStep {
+    /// The bytes of all steps, and how many reads were made, up to the step behind the last one.
+    bytes: u64,
+    reads: u64,
+    /// The step that answered a fault, from 1, and the fault's number; 0 where none did, or the step behind it
+    /// answered another.
+    step: u64,
+    fault: u8,
+}
+
+impl LastStep {
+    /// Prints it.
+    pub fn print<W: Write>(self, output: &mut W) -> io::Result<()> {
+        print_count(output, self.bytes, b" bytes by ")?;
+        print_count(output, self.reads, b" reads, step ")?;
+        print_count(output, self.step, b" is fault ")?;
+        print_count(output, u64::from(self.fault), b"\n")
+    }
+}
+
+/// Steps a client's reader that has so many steps, 1 at least, over `x` for ever up to its fault, and once more.
+pub fn read_endless(alloc: Global, steps: u64) -> LastStep {
+    let mut stream = Endless { reads: 0 };
+    let mut gate = Kept::new(alloc, Chance::of(0, 0), 2);
+    let mut reader = ClientReader::new(alloc, ClientNumber::new(3), 7, steps.max(1));
+    let mut last = LastStep {
+        bytes: 0,
+        reads: 0,
+        step: 0,
+        fault: 0,
+    };
+    for step in 1..=steps.max(1) {
+        match reader.step(alloc, &mut stream, &mut gate, step) {
+            Ok(Progress::Read(count)) => last.bytes = last.bytes.saturating_add(count as u64),
+            Ok(_) => {}
+            Err(fault) => {
+                last.step = step;
+                last.fault = fault.number();
+                break;
+            }
+        }
+    }
+    let again = reader.step(alloc, &mut stream, &mut gate, steps);
+    if again != Err(LinkFault::StepLimit) {
+        last.fault = 0;
+    }
+    last.reads = stream.reads;
+    last
+}
