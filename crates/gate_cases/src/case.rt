@@ -167,14 +167,7 @@ fn has_run_with<S: BuildHasher + Clone + Drop>(
     let mut input = script;
     let mut output = Vec::new(alloc);
     let mut faults = Vec::new(alloc);
-    let status = run_script_with(
-        alloc,
-        hasher,
-        flags,
-        &mut input,
-        &mut output,
-        &mut faults,
-    );
+    let status = run_script_with(alloc, hasher, flags, &mut input, &mut output, &mut faults);
     has_ended(status, &output, &faults, wanted, told)
 }
 
