@@ -24,7 +24,7 @@ pub fn fill<K: DeskName, R: Wait>(
 ) -> Result<(), AllocError>
     requires named { (parts.inlets ≡ K.inlets) × (parts.outlets ≡ K.outlets) }
 {
-    let (shared, mut inlets, mut outlets) = open_desk::<K>(alloc, parts)?;
+    let (shared, mut inlets, mut outlets) = open_desk::<K, _>(alloc, parts)?;
     play(rt, alloc, &shared, &mut inlets, &mut outlets, shown)?;
     close(alloc, shared, inlets, outlets, shown)
 }

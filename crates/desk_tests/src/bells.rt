@@ -28,7 +28,7 @@ fn rings<K: DeskName, R: Wait + Abort + Clock>(
 ) -> Result<(), Fail>
     requires named { (parts.inlets ≡ K.inlets) × (parts.outlets ≡ K.outlets) }
 {
-    let (shared, mut inlets, _outlets) = open_desk::<K>(alloc, parts)?;
+    let (shared, mut inlets, _outlets) = open_desk::<K, _>(alloc, parts)?;
     let second = inlets.get_mut(1).ok_or("an inlet")?;
     assert!(rt; put(second, second_up(1)));
     assert_eq!(rt; shared.turn(rt, alloc)?, Turned { steps: 1, held: 0 });

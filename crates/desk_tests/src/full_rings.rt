@@ -23,7 +23,7 @@ fn ticks_and_one_more(rt: HostRuntime) -> Result<(), Fail> {
 fn ticks<K: DeskName, R: Wait + Abort>(rt: &R, alloc: Global, parts: Parts) -> Result<(), Fail>
     requires named { (parts.inlets ≡ K.inlets) × (parts.outlets ≡ K.outlets) }
 {
-    let (shared, mut inlets, _outlets) = open_desk::<K>(alloc, parts)?;
+    let (shared, mut inlets, _outlets) = open_desk::<K, _>(alloc, parts)?;
     assert_eq!(rt; inlets.len(), 6);
     let mut clock = inlets.pop().ok_or("an inlet")?;
     assert_eq!(rt; clock.position(), 5);
@@ -48,7 +48,7 @@ fn held_and_stepped(rt: HostRuntime) -> Result<(), Fail> {
 fn holds<K: DeskName, R: Wait + Abort>(rt: &R, alloc: Global, parts: Parts) -> Result<(), Fail>
     requires named { (parts.inlets ≡ K.inlets) × (parts.outlets ≡ K.outlets) }
 {
-    let (shared, mut inlets, mut outlets) = open_desk::<K>(alloc, parts)?;
+    let (shared, mut inlets, mut outlets) = open_desk::<K, _>(alloc, parts)?;
     let one = Turned { steps: 1, held: 0 };
     {
         let client = inlets.get_mut(0).ok_or("an inlet")?;

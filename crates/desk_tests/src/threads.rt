@@ -38,7 +38,7 @@ fn work<K: DeskName + Send + Sync, R: Threads + Wait + Sync + Abort>(
 ) -> Result<(), Fail>
     requires named { (parts.inlets ≡ K.inlets) × (parts.outlets ≡ K.outlets) }
 {
-    let (shared, mut inlets, mut outlets) = open_desk::<K>(alloc, parts)?;
+    let (shared, mut inlets, mut outlets) = open_desk::<K, _>(alloc, parts)?;
     let clock = inlets.pop().ok_or("an inlet")?;
     inlets.truncate(1);
     let client = inlets.pop().ok_or("an inlet")?;

@@ -78,7 +78,7 @@ pub fn show_demo<R, S, W: Write, F: Write>(
 ) -> u8
 where
     R: Threads + Wait + Sync + Clock + Eprint + Net<Listener = TcpListener, Stream = TcpStream>,
-    S: BuildHasher + Clone + Drop + Send,
+    S: BuildHasher + Clone + Drop + Send + Sync,
     ensures status { result ≤ 1 }
     ensures told { result ≡ 0 → IsTold (W.contents output.old) (W.contents output.new) }
 {
@@ -113,7 +113,7 @@ pub fn demo<R, S>(
 ) -> Result<Day, DemoFault>
 where
     R: Threads + Wait + Sync + Clock + Eprint + Net<Listener = TcpListener, Stream = TcpStream>,
-    S: BuildHasher + Clone + Drop + Send,
+    S: BuildHasher + Clone + Drop + Send + Sync,
 {
     let is_over = AtomicBool::new(false);
     let is_past = AtomicBool::new(false);
@@ -132,7 +132,7 @@ fn demonstrate<R, S>(
 ) -> Result<Day, DemoFault>
 where
     R: Threads + Wait + Sync + Clock + Eprint + Net<Listener = TcpListener, Stream = TcpStream>,
-    S: BuildHasher + Clone + Drop + Send,
+    S: BuildHasher + Clone + Drop + Send + Sync,
 {
     let (first, first_address) = loopback(rt, alloc)?;
     let (second, second_address) = loopback(rt, alloc)?;

@@ -29,7 +29,7 @@ pub fn run_settings<R, S>(
 ) -> Result<Day, RunFault>
 where
     R: Threads + Wait + Sync + Clock + Eprint + Net<Listener = TcpListener, Stream = TcpStream>,
-    S: BuildHasher + Clone + Drop + Send,
+    S: BuildHasher + Clone + Drop + Send + Sync,
 {
     let SettingsFile {
         settings,

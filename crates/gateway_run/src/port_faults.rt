@@ -1,5 +1,7 @@
 //! What is told of a port that is faulted.
 
+ghost use Rattle.std.specs.Prelude.{◌≡◌};
+
 use crate::telling::{Teller, Whose};
 use desk::{DeskName, Shared};
 use gate_core::{PortFault, PortNumber};
@@ -42,7 +44,9 @@ impl<'a, C, K: DeskName, R: Wait + Clock + Eprint, S: BuildHasher + Drop> PortLi
     }
 
     /// Tells why the port is faulted, where it is and that wasn't told.
-    fn look(&mut self) {
+    fn look(&mut self)
+        ensures { self.new.opener ≡ self.old.opener }
+    {
         if self.is_told {
             return;
         }

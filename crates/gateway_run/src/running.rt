@@ -41,7 +41,7 @@ where
     C::Reader: Read + Send + Drop,
     C::Writer: Write + Send + Drop,
     C::Closer: Closer + Send + Drop,
-    S: BuildHasher + Clone + Drop + Send,
+    S: BuildHasher + Clone + Drop + Send + Sync,
 {
     let count = Count {
         clients: settings.clients().len() as u16,
@@ -71,7 +71,7 @@ where
     C::Reader: Read + Send + Drop,
     C::Writer: Write + Send + Drop,
     C::Closer: Closer + Send + Drop,
-    S: BuildHasher + Drop + Send,
+    S: BuildHasher + Drop + Send + Sync,
     requires named { (parts.inlets ≡ K.inlets) × (parts.outlets ≡ K.outlets) }
     requires clock { 0 < length parts.inlets }
 {
@@ -110,7 +110,7 @@ where
     C::Reader: Read + Send + Drop,
     C::Writer: Write + Send + Drop,
     C::Closer: Closer + Send + Drop,
-    S: BuildHasher + Drop + Send,
+    S: BuildHasher + Drop + Send + Sync,
     requires clock { 0 < length inlets.items }
 {
     let mut inlets = inlets;
