@@ -11,7 +11,7 @@ use gateway_run::{Day, RunFault, RunPlan, audit_day, run};
 use link_sockets::{Acceptor, Connector, Opened, Opener};
 use market_book::Choice;
 use std::alloc::{AllocError, Global};
-use std::hash::BuildHasher;
+use std::hash::RandomState;
 use std::io::{Read, Write};
 use std::net::{Net, TcpListener, TcpStream};
 use std::sync::Wait;
@@ -67,10 +67,10 @@ pub fn connected<R: Net<Listener = TcpListener, Stream = TcpStream>>(
 /// Answers its program's status: 0 where both accounts of each order agree; else 1, with a line on `faults`: `demo: not
 /// finished` where a client waited so long for what didn't come, `gateway: link fault n` for a socket that couldn't be
 /// had or failed, `gateway: no thread`, `out of memory`, and what `audit_day` tells.
-pub fn show_demo<R, S, W: Write, F: Write>(
+pub fn show_demo<R, W: Write, F: Write>(
     rt: &R,
     alloc: Global,
-    hasher: S,
+    hasher: RandomState,
     patience: Duration,
     answer: Choice,
     output: &mut W,
@@ -78,7 +78,6 @@ pub fn show_demo<R, S, W: Write, F: Write>(
 ) -> u8
 where
     R: Threads + Wait + Sync + Clock + Eprint + Net<Listener = TcpListener, Stream = TcpStream>,
-    S: BuildHasher + Clone + Drop + Send + Sync,
     ensures status { result ≤ 1 }
     ensures told { result ≡ 0 → IsTold (W.contents output.old) (W.contents output.new) }
 {
@@ -104,16 +103,15 @@ fn tell<F: Write>(fault: DemoFault, faults: &mut F) -> u8
 /// Runs the gateway on loopback between two clients and a market of this answer to each order, until each client's
 /// three orders are filled, and gives its day. A client waits so long at most for each thing that is to come. The
 /// gateway's indexes are over a hasher.
-pub fn demo<R, S>(
+pub fn demo<R>(
     rt: &R,
     alloc: Global,
-    hasher: S,
+    hasher: RandomState,
     patience: Duration,
     answer: Choice,
 ) -> Result<Day, DemoFault>
 where
     R: Threads + Wait + Sync + Clock + Eprint + Net<Listener = TcpListener, Stream = TcpStream>,
-    S: BuildHasher + Clone + Drop + Send + Sync,
 {
     let is_over = AtomicBool::new(false);
     let is_past = AtomicBool::new(false);
@@ -121,10 +119,10 @@ where
 }
 
 /// The same with these flags: `is_over` ends the gateway, and `is_past` the market behind it.
-fn demonstrate<R, S>(
+fn demonstrate<R>(
     rt: &R,
     alloc: Global,
-    hasher: S,
+    hasher: RandomState,
     patience: Duration,
     answer: Choice,
     is_over: &AtomicBool,
@@ -132,7 +130,6 @@ fn demonstrate<R, S>(
 ) -> Result<Day, DemoFault>
 where
     R: Threads + Wait + Sync + Clock + Eprint + Net<Listener = TcpListener, Stream = TcpStream>,
-    S: BuildHasher + Clone + Drop + Send + Sync,
 {
     let (first, first_address) = loopback(rt, alloc)?;
     let (second, second_address) = loopback(rt, alloc)?;

@@ -9,7 +9,7 @@ use crate::telling::{Teller, Telling, Whose};
 use link_sockets::{Acceptor, Connector};
 use settings_file::SettingsFile;
 use std::alloc::{AllocError, Global};
-use std::hash::BuildHasher;
+use std::hash::RandomState;
 use std::net::{Net, TcpListener, TcpStream};
 use std::sync::Wait;
 use std::sync::atomic::AtomicBool;
@@ -20,16 +20,15 @@ use std::time::Clock;
 /// port at most, and gives its day. Tells on standard error of each link that comes and goes.
 ///
 /// `NoMemory` and `NoThread` come as `run` has them.
-pub fn run_settings<R, S>(
+pub fn run_settings<R>(
     rt: &R,
     alloc: Global,
-    hasher: S,
+    hasher: RandomState,
     file: SettingsFile,
     links: u32,
 ) -> Result<Day, RunFault>
 where
     R: Threads + Wait + Sync + Clock + Eprint + Net<Listener = TcpListener, Stream = TcpStream>,
-    S: BuildHasher + Clone + Drop + Send + Sync,
 {
     let SettingsFile {
         settings,

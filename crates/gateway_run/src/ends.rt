@@ -9,7 +9,7 @@ use desk::{DeskName, Inlet, Outlet, Shared};
 use gate_events::{ClientNumber, PortNumber, Recipient, Source};
 use run_lines::{ClientCounts, CountedLinks};
 use std::alloc::{AllocError, Global};
-use std::hash::BuildHasher;
+use std::hash::RandomState;
 use std::sync::Wait;
 use std::sync::atomic::AtomicBool;
 use std::time::Clock;
@@ -25,22 +25,15 @@ pub struct RunPlan<A, C> {
 /// The lines of a desk's clients, of its ports and of its clock, in this order. Its type keeps that each puts the events
 /// of its own client, port or clock, and takes what that is told.
 #[derive(Drop)]
-pub(crate) struct Ends<'a, A, C, K: DeskName, R, S: BuildHasher + Drop> {
-    pub(crate) lines: Vec<RunLine<'a, A, C, K, R, S>>,
+pub(crate) struct Ends<'a, A, C, K: DeskName, R> {
+    pub(crate) lines: Vec<RunLine<'a, A, C, K, R>>,
     ghost puts_own: { All (λ l. l.reader.gate.inlet.source ≡ source_of l.peer) lines.items },
     ghost takes_own: { All (λ l. of_gate (λ g. g.outlet.to) l.writer.gate ≡ recipient_of l.peer) lines.items },
 }
 
-impl<'a, A: Drop, C: Drop, K: DeskName, R: Wait + Clock + Eprint, S: BuildHasher + Drop> Ends<
-    'a,
-    A,
-    C,
-    K,
-    R,
-    S,
-> {
+impl<'a, A: Drop, C: Drop, K: DeskName, R: Wait + Clock + Eprint> Ends<'a, A, C, K, R> {
     /// No line yet.
-    fn new(alloc: Global) -> Ends<'a, A, C, K, R, S> {
+    fn new(alloc: Global) -> Ends<'a, A, C, K, R> {
         Ends {
             lines: Vec::new(alloc),
         }
@@ -50,7 +43,7 @@ impl<'a, A: Drop, C: Drop, K: DeskName, R: Wait + Clock + Eprint, S: BuildHasher
     fn add_client(
         &mut self,
         rt: &'a R,
-        shared: &'a Shared<K, S>,
+        shared: &'a Shared<K, RandomState>,
         client: ClientNumber,
         opener: CountedLinks<'a, A>,
         inlet: Inlet<K>,
@@ -69,7 +62,7 @@ impl<'a, A: Drop, C: Drop, K: DeskName, R: Wait + Clock + Eprint, S: BuildHasher
     fn add_port(
         &mut self,
         rt: &'a R,
-        shared: &'a Shared<K, S>,
+        shared: &'a Shared<K, RandomState>,
         port: PortNumber,
         opener: C,
         inlet: Inlet<K>,
@@ -87,7 +80,7 @@ impl<'a, A: Drop, C: Drop, K: DeskName, R: Wait + Clock + Eprint, S: BuildHasher
     pub(crate) fn add_clock(
         &mut self,
         rt: &'a R,
-        shared: &'a Shared<K, S>,
+        shared: &'a Shared<K, RandomState>,
         count: Count,
         counts: &'a ClientCounts,
         is_over: &'a AtomicBool,
@@ -102,22 +95,15 @@ impl<'a, A: Drop, C: Drop, K: DeskName, R: Wait + Clock + Eprint, S: BuildHasher
 }
 
 /// Lines over the inlets and outlets of a desk: each inlet of a client or port with the outlet at its position.
-pub(crate) fn ends_of<
-    'a,
-    A: Drop,
-    C: Drop,
-    K: DeskName,
-    R: Wait + Clock + Eprint,
-    S: BuildHasher + Drop,
->(
+pub(crate) fn ends_of<'a, A: Drop, C: Drop, K: DeskName, R: Wait + Clock + Eprint>(
     rt: &'a R,
     alloc: Global,
-    shared: &'a Shared<K, S>,
+    shared: &'a Shared<K, RandomState>,
     inlets: Vec<Inlet<K>>,
     outlets: Vec<Outlet<K>>,
     clients: Vec<CountedLinks<'a, A>>,
     ports: Vec<C>,
-) -> Result<Ends<'a, A, C, K, R, S>, AllocError> {
+) -> Result<Ends<'a, A, C, K, R>, AllocError> {
     let mut accepting = clients.into_iter();
     let mut connecting = ports.into_iter();
     let mut ends = Ends::new(alloc);

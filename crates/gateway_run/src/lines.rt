@@ -14,7 +14,7 @@ use gate_events::{ClientNumber, PortNumber};
 use gate_serving::{Line, LinkFault, Worker};
 use run_lines::{ClientCounts, CountedLinks, RunGate, RunOpener, RunPeer, Ticks};
 use std::alloc::{AllocError, Global};
-use std::hash::BuildHasher;
+use std::hash::RandomState;
 use std::sync::Wait;
 use std::sync::atomic::AtomicBool;
 use std::time::{Clock, Duration};
@@ -33,20 +33,20 @@ fn between_ticks() -> Duration {
 }
 
 /// A reader's worker over an inlet.
-pub(crate) type Reading<'a, K, R, S> = Worker<InletGate<'a, K, S>, RunClock<'a, R>>;
+pub(crate) type Reading<'a, K, R> = Worker<InletGate<'a, K, RandomState>, RunClock<'a, R>>;
 
 /// A writer's worker over an outlet; that of the clock has none.
-pub(crate) type Writing<'a, K, R, S> = Worker<
-    RunGate<OutletGate<'a, K, S>>,
-    BellClock<'a, K, R, S>,
+pub(crate) type Writing<'a, K, R> = Worker<
+    RunGate<OutletGate<'a, K, RandomState>>,
+    BellClock<'a, K, R, RandomState>,
 >;
 
 /// A line of a gateway.
-pub(crate) type RunLine<'a, A, C, K, R, S> = Line<
+pub(crate) type RunLine<'a, A, C, K, R> = Line<
     RunPeer<'a>,
-    RunOpener<CountedLinks<'a, A>, PortLinks<'a, C, K, R, S>>,
-    Reading<'a, K, R, S>,
-    Writing<'a, K, R, S>,
+    RunOpener<CountedLinks<'a, A>, PortLinks<'a, C, K, R>>,
+    Reading<'a, K, R>,
+    Writing<'a, K, R>,
 >;
 
 /// How many clients and ports there are.
@@ -57,14 +57,14 @@ pub(crate) struct Count {
 }
 
 /// The line of a client over these ends.
-pub(crate) fn client_line<'a, A, C, K: DeskName, R: Wait + Clock, S: BuildHasher + Drop>(
+pub(crate) fn client_line<'a, A, C, K: DeskName, R: Wait + Clock>(
     rt: &'a R,
-    shared: &'a Shared<K, S>,
+    shared: &'a Shared<K, RandomState>,
     client: ClientNumber,
     opener: CountedLinks<'a, A>,
     inlet: Inlet<K>,
     outlet: Outlet<K>,
-) -> RunLine<'a, A, C, K, R, S>
+) -> RunLine<'a, A, C, K, R>
     ensures peer { source_of result.peer ≡ sources.Client client }
     ensures told { recipient_of result.peer ≡ Some (recipients.Client client) }
     ensures inlet { result.reader.gate.inlet ≡ inlet }
@@ -89,14 +89,14 @@ pub(crate) fn client_line<'a, A, C, K: DeskName, R: Wait + Clock, S: BuildHasher
 }
 
 /// The line of a port over these ends.
-pub(crate) fn port_line<'a, A, C, K: DeskName, R: Wait + Clock, S: BuildHasher + Drop>(
+pub(crate) fn port_line<'a, A, C, K: DeskName, R: Wait + Clock>(
     rt: &'a R,
-    shared: &'a Shared<K, S>,
+    shared: &'a Shared<K, RandomState>,
     port: PortNumber,
-    opener: PortLinks<'a, C, K, R, S>,
+    opener: PortLinks<'a, C, K, R>,
     inlet: Inlet<K>,
     outlet: Outlet<K>,
-) -> RunLine<'a, A, C, K, R, S>
+) -> RunLine<'a, A, C, K, R>
     ensures peer { source_of result.peer ≡ sources.Port port }
     ensures told { recipient_of result.peer ≡ Some (recipients.Port port) }
     ensures inlet { result.reader.gate.inlet ≡ inlet }
@@ -121,14 +121,14 @@ pub(crate) fn port_line<'a, A, C, K: DeskName, R: Wait + Clock, S: BuildHasher +
 }
 
 /// The line of the clock over its inlet, with one link, on which time passes until `is_over` is set.
-pub(crate) fn clock_line<'a, A, C, K: DeskName, R: Wait + Clock, S: BuildHasher + Drop>(
+pub(crate) fn clock_line<'a, A, C, K: DeskName, R: Wait + Clock>(
     rt: &'a R,
-    shared: &'a Shared<K, S>,
+    shared: &'a Shared<K, RandomState>,
     count: Count,
     counts: &'a ClientCounts,
     is_over: &'a AtomicBool,
     inlet: Inlet<K>,
-) -> RunLine<'a, A, C, K, R, S>
+) -> RunLine<'a, A, C, K, R>
     ensures peer { source_of result.peer ≡ sources.Clock }
     ensures told { recipient_of result.peer ≡ None }
     ensures inlet { result.reader.gate.inlet ≡ inlet }
@@ -175,10 +175,7 @@ impl<K: DeskName> Left<K> {
     }
 
     /// Ends the inlet of a gate, and keeps what was put.
-    fn end_inlet<S: BuildHasher + Drop>(
-        &mut self,
-        gate: InletGate<'_, K, S>,
-    ) -> Result<(), AllocError> {
+    fn end_inlet(&mut self, gate: InletGate<'_, K, RandomState>) -> Result<(), AllocError> {
         if let Some(put) = gate.finish() {
             self.finished.push(put)?;
         }
@@ -186,9 +183,9 @@ impl<K: DeskName> Left<K> {
     }
 
     /// Ends the outlet of a gate, where it has one, and keeps what was taken.
-    fn end_outlet<S: BuildHasher + Drop>(
+    fn end_outlet(
         &mut self,
-        gate: RunGate<OutletGate<'_, K, S>>,
+        gate: RunGate<OutletGate<'_, K, RandomState>>,
     ) -> Result<(), AllocError> {
         match gate {
             RunGate::Gate(gate) => {
@@ -201,9 +198,9 @@ impl<K: DeskName> Left<K> {
 }
 
 /// What is left of lines: ends their ends, and keeps what was put and taken, and the first fault.
-pub(crate) fn left_of<'a, A: Drop, C: Drop, K: DeskName, R, S: BuildHasher + Drop>(
+pub(crate) fn left_of<'a, A: Drop, C: Drop, K: DeskName, R>(
     alloc: Global,
-    lines: Vec<RunLine<'a, A, C, K, R, S>>,
+    lines: Vec<RunLine<'a, A, C, K, R>>,
 ) -> Result<Left<K>, AllocError> {
     let mut left = Left::new(alloc);
     for line in lines {

@@ -6,34 +6,28 @@ use crate::telling::{Teller, Whose};
 use desk::{DeskName, Shared};
 use gate_core::{PortFault, PortNumber};
 use gate_serving::{LinkEnd, LinkFault, Opened, Opener};
-use std::hash::BuildHasher;
+use std::hash::RandomState;
 use std::sync::Wait;
 use std::time::Clock;
 
 /// The links of a port, of which its fault is told once: as the link that ended by it is gone, or before the next.
 #[derive(Drop)]
-pub(crate) struct PortLinks<'a, C, K: DeskName, R, S: BuildHasher + Drop> {
+pub(crate) struct PortLinks<'a, C, K: DeskName, R> {
     rt: &'a R,
-    shared: &'a Shared<K, S>,
+    shared: &'a Shared<K, RandomState>,
     port: PortNumber,
     opener: C,
     is_told: bool,
 }
 
-impl<'a, C, K: DeskName, R: Wait + Clock + Eprint, S: BuildHasher + Drop> PortLinks<
-    'a,
-    C,
-    K,
-    R,
-    S,
-> {
+impl<'a, C, K: DeskName, R: Wait + Clock + Eprint> PortLinks<'a, C, K, R> {
     /// Of this port. Takes no memory.
     pub(crate) fn new(
         rt: &'a R,
-        shared: &'a Shared<K, S>,
+        shared: &'a Shared<K, RandomState>,
         port: PortNumber,
         opener: C,
-    ) -> PortLinks<'a, C, K, R, S> {
+    ) -> PortLinks<'a, C, K, R> {
         PortLinks {
             rt,
             shared,
@@ -59,8 +53,7 @@ impl<'a, C, K: DeskName, R: Wait + Clock + Eprint, S: BuildHasher + Drop> PortLi
     }
 }
 
-impl<'a, C: Opener, K: DeskName, R: Wait + Clock + Eprint, S: BuildHasher + Drop> Opener
-    for PortLinks<'a, C, K, R, S> {
+impl<'a, C: Opener, K: DeskName, R: Wait + Clock + Eprint> Opener for PortLinks<'a, C, K, R> {
     ghost opened = { λ t. C.opened t.opener };
 
     ghost has_ended = { λ t. C.has_ended t.opener };

@@ -11,7 +11,7 @@ use gate_core::Settings;
 use gate_serving::{Closer, Opener, serve};
 use run_lines::{ClientCounts, CountedLinks};
 use std::alloc::{AllocError, Global};
-use std::hash::BuildHasher;
+use std::hash::RandomState;
 use std::io::{Read, Write};
 use std::marker::Brand;
 use std::sync::Wait;
@@ -23,10 +23,10 @@ use std::time::Clock;
 /// links end, and gives the day. Where `is_over` is set before, by somebody else, it ends the same way.
 ///
 /// `NoMemory` and `NoThread` come once all that was begun has ended; the day is lost with them.
-pub fn run<R, A, C, S>(
+pub fn run<R, A, C>(
     rt: &R,
     alloc: Global,
-    hasher: S,
+    hasher: RandomState,
     settings: Settings,
     plan: RunPlan<A, C>,
     is_over: &AtomicBool,
@@ -41,21 +41,20 @@ where
     C::Reader: Read + Send + Drop,
     C::Writer: Write + Send + Drop,
     C::Closer: Closer + Send + Drop,
-    S: BuildHasher + Clone + Drop + Send + Sync,
 {
     let count = Count {
         clients: settings.clients().len() as u16,
         ports: settings.ports().len() as u16,
     };
     let parts = Parts::with_hasher(alloc, hasher, settings)?;
-    run_desk::<Brand, R, A, C, S>(rt, alloc, parts, count, plan, is_over)
+    run_desk::<Brand, R, A, C>(rt, alloc, parts, count, plan, is_over)
 }
 
 /// Opens the desk of these parts, serves it and closes it.
-fn run_desk<K, R, A, C, S>(
+fn run_desk<K, R, A, C>(
     rt: &R,
     alloc: Global,
-    parts: Parts<S>,
+    parts: Parts<RandomState>,
     count: Count,
     plan: RunPlan<A, C>,
     is_over: &AtomicBool,
@@ -71,11 +70,10 @@ where
     C::Reader: Read + Send + Drop,
     C::Writer: Write + Send + Drop,
     C::Closer: Closer + Send + Drop,
-    S: BuildHasher + Drop + Send + Sync,
     requires named { (parts.inlets ≡ K.inlets) × (parts.outlets ≡ K.outlets) }
     requires clock { 0 < length parts.inlets }
 {
-    let (shared, inlets, outlets) = open_desk::<K, S>(alloc, parts)?;
+    let (shared, inlets, outlets) = open_desk::<K, RandomState>(alloc, parts)?;
     let counts = ClientCounts::of(plan.clients.len().min(usize::from(count.clients)) as u32);
     let left = serve_desk(
         rt, alloc, count, &shared, &counts, inlets, outlets, plan, is_over,
@@ -88,11 +86,11 @@ where
 
 /// Serves the ends of a desk, the last inlet being the clock's, until the clients' links have been served, and ends
 /// them.
-fn serve_desk<'a, K, R, A, C, S>(
+fn serve_desk<'a, K, R, A, C>(
     rt: &'a R,
     alloc: Global,
     count: Count,
-    shared: &'a Shared<K, S>,
+    shared: &'a Shared<K, RandomState>,
     counts: &'a ClientCounts,
     inlets: Vec<Inlet<K>>,
     outlets: Vec<Outlet<K>>,
@@ -110,7 +108,6 @@ where
     C::Reader: Read + Send + Drop,
     C::Writer: Write + Send + Drop,
     C::Closer: Closer + Send + Drop,
-    S: BuildHasher + Drop + Send + Sync,
     requires clock { 0 < length inlets.items }
 {
     let mut inlets = inlets;

@@ -14,5 +14,5 @@ returns-in_err-run_lines-clause-stopped g c =
 
 pub returns-in_err-runner-clause-stopped : goal.returns-in_err-runner-clause-stopped
 returns-in_err-runner-clause-stopped g c =
-    passed-on c.from_residual.result c.in_err-runner.field-0.0 _ c.from_residual.ensures.1
+    passed-on c.from_residual-in_err-runner.result c.in_err-runner.field-0.0 _ c.from_residual-in_err-runner.ensures.1
     (not-begun (g.R.Read.remaining c.args.input.now) c.args.flags c.in_err-runner.field-0.0 (g.W.Write.contents c.args.output.now))
