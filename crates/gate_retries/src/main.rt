@@ -4,12 +4,15 @@
 
 use batch_lines::{Flags, batch_text};
 use gate_core::{Batch, Core, Event};
-use gate_journal::History;
-use script_lines::LineFault;
-use script_steps::{Runner, fixed_settings, warm_runner};
+use gate_lines::script_history;
+use script_steps::fixed_settings;
 use std::alloc::{AllocError, Global};
-use std::io::{self, BufRead, BufReader, ErrorKind, Write};
+use std::io::{self, ErrorKind, Write};
 use std::process::ExitCode;
+
+/// The events that come before the first line of a script: each of its three clients comes up and logs on, each of its
+/// two ports comes up and is logged in.
+const LOGON_EVENTS: usize = 10;
 
 fn main(rt: HostRuntime) -> ExitCode {
     match run(&rt) {
@@ -23,42 +26,26 @@ fn main(rt: HostRuntime) -> ExitCode {
 
 fn run(rt: &HostRuntime) -> io::Result<()> {
     let alloc = rt.alloc();
-    let mut kept = History::new(alloc);
-    let begun = keep_script(alloc, rt, &mut kept)?;
+    let Ok(kept) = script_history(alloc, &mut rt.reader()) else {
+        return Err(io::Error::from(ErrorKind::InvalidData));
+    };
     let mut core = Core::new(alloc, &fixed_settings(alloc)?)?;
     let mut output = io::writer(rt);
     for (i, event) in kept.events().iter().enumerate() {
-        let batch = made_again(alloc, &mut core, event)?;
-        let text = printed(alloc, &batch)?;
-        if i >= begun {
+        let text = made_again(alloc, &mut core, event)?;
+        if i >= LOGON_EVENTS {
             output.write_all(text.as_slice())?;
         }
     }
     Ok(())
 }
 
-/// Keeps the events of the script on standard input, and tells how many come before its first line.
-fn keep_script(alloc: Global, rt: &HostRuntime, kept: &mut History) -> io::Result<usize> {
-    let cold = Runner::cold(alloc)?;
-    let Ok(mut runner) = warm_runner(alloc, cold, kept) else {
-        return Err(io::Error::from(ErrorKind::OutOfMemory));
-    };
-    let begun = kept.events().len();
-    for line in BufReader::new(alloc, rt.reader())?.lines(alloc) {
-        match runner.take(alloc, line?.as_str().as_bytes(), kept) {
-            Ok(()) => {}
-            Err(LineFault::NoMemory) => return Err(io::Error::from(ErrorKind::OutOfMemory)),
-            Err(LineFault::NotUnderstood) => return Err(io::Error::from(ErrorKind::InvalidData)),
-        }
-    }
-    Ok(begun)
-}
-
-/// Steps an event, undoes it, and steps it again.
-fn made_again(alloc: Global, core: &mut Core, event: &Event) -> Result<Batch, AllocError> {
+/// Steps an event, undoes it, and steps it again: what its batch tells.
+fn made_again(alloc: Global, core: &mut Core, event: &Event) -> Result<Vec<u8>, AllocError> {
     let _undone = stepped(alloc, core, event)?;
     core.undo();
-    stepped(alloc, core, event)
+    let batch = stepped(alloc, core, event)?;
+    printed(alloc, &batch)
 }
 
 /// Steps an event, once more where memory runs out.
