@@ -1,0 +1,18 @@
+#!/bin/sh
+# scripts/try-wrong-bodies.sh [CRATE..]: tries the wrong bodies of scripts/wrong-bodies/ that the gate no longer tries,
+# of the crates named or of all. Each CRATE's edits are put into its must-fail/ in a clone beside, and `rt must-fail`
+# says of each whether the prover refused it. Below a crate everything is proved first, unless it is kept.
+set -e
+top=$(cd "$(dirname "$0")/.." && pwd)
+room=$(mktemp -d)
+trap 'rm -rf "$room"' EXIT
+git clone -q "$top" "$room/tree"
+cd "$room/tree"
+if [ $# = 0 ]; then
+    set -- $(ls scripts/wrong-bodies)
+fi
+for crate in "$@"; do
+    mkdir -p "crates/$crate/must-fail"
+    cp "scripts/wrong-bodies/$crate/"*.edit "crates/$crate/must-fail/"
+done
+rt must-fail "$@"
