@@ -3,7 +3,7 @@
 ghost use Rattle.std.specs.Prelude.{◌≡◌};
 
 use super::events::put;
-use desk::{DeskName, Parts, Turned, open_desk};
+use desk::{DeskName, Inlet, Parts, Shared, Turned, open_desk};
 use gate_core::{ClientNumber, Event};
 use script_steps::fixed_settings;
 use std::alloc::Global;
@@ -30,10 +30,29 @@ fn rings<K: DeskName, R: Wait + Abort + Clock>(
 {
     let (shared, mut inlets, _outlets) = open_desk::<K, _>(alloc, parts)?;
     let second = inlets.get_mut(1).ok_or("an inlet")?;
-    assert!(rt; put(second, second_up(1)));
+    turn_with(rt, alloc, &shared, second, 1)?;
+    turn_with(rt, alloc, &shared, second, 2)?;
+    nap_by_bells(rt, &shared)
+}
+
+/// Has the desk step one event, which tells the second client something.
+fn turn_with<K: DeskName, R: Wait + Abort>(
+    rt: &R,
+    alloc: Global,
+    shared: &Shared<K>,
+    second: &mut Inlet<K>,
+    link: u64,
+) -> Result<(), Fail> {
+    assert!(rt; put(second, second_up(link)));
     assert_eq!(rt; shared.turn(rt, alloc)?, Turned { steps: 1, held: 0 });
-    assert!(rt; put(second, second_up(2)));
-    assert_eq!(rt; shared.turn(rt, alloc)?, Turned { steps: 1, held: 0 });
+    Ok(())
+}
+
+/// The second outlet's bell rang, and the first one's didn't before it is rung by hand.
+fn nap_by_bells<K: DeskName, R: Wait + Abort + Clock>(
+    rt: &R,
+    shared: &Shared<K>,
+) -> Result<(), Fail> {
     let start = Instant::now(rt).ok().ok_or("a clock")?;
     shared.nap(rt, 1, Duration::from_secs(10));
     let rung = start.elapsed(rt).ok().ok_or("a clock")?;

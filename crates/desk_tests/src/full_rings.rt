@@ -3,8 +3,10 @@
 ghost use Rattle.std.specs.Prelude.{◌≡◌};
 
 use super::events::{logon, put, test_request, tick, up};
-use desk::{DeskName, Finished, Inlet, Outlet, Parts, Turned, open_desk};
+use desk::{DeskName, Finished, Inlet, Outlet, Parts, Shared, Turned, open_desk};
+use gate_core::ClientNumber;
 use gate_events::Source;
+use gate_journal::History;
 use script_steps::fixed_settings;
 use std::alloc::Global;
 use std::marker::Brand;
@@ -26,14 +28,24 @@ fn ticks<K: DeskName, R: Wait + Abort>(rt: &R, alloc: Global, parts: Parts) -> R
     let (shared, mut inlets, _outlets) = open_desk::<K, _>(alloc, parts)?;
     assert_eq!(rt; inlets.len(), 6);
     let mut clock = inlets.pop().ok_or("an inlet")?;
+    fill_with_ticks(rt, alloc, &shared, &mut clock)
+}
+
+/// The ring of the clock takes 1,024 ticks, and one more once one was stepped.
+fn fill_with_ticks<K: DeskName, R: Wait + Abort>(
+    rt: &R,
+    alloc: Global,
+    shared: &Shared<K>,
+    clock: &mut Inlet<K>,
+) -> Result<(), Fail> {
     assert_eq!(rt; clock.position(), 5);
     assert_eq!(rt; clock.source(), Source::Clock);
     for _ in 0..1_024 {
-        assert!(rt; put(&mut clock, tick()));
+        assert!(rt; put(clock, tick()));
     }
-    assert!(rt; !put(&mut clock, tick()));
+    assert!(rt; !put(clock, tick()));
     assert_eq!(rt; shared.turn(rt, alloc)?, Turned { steps: 1, held: 0 });
-    assert!(rt; put(&mut clock, tick()));
+    assert!(rt; put(clock, tick()));
     Ok(())
 }
 
@@ -49,30 +61,54 @@ fn holds<K: DeskName, R: Wait + Abort>(rt: &R, alloc: Global, parts: Parts) -> R
     requires named { (parts.inlets ≡ K.inlets) × (parts.outlets ≡ K.outlets) }
 {
     let (shared, mut inlets, mut outlets) = open_desk::<K, _>(alloc, parts)?;
-    let one = Turned { steps: 1, held: 0 };
-    {
-        let client = inlets.get_mut(0).ok_or("an inlet")?;
-        assert!(rt; put(client, up()));
-        assert_eq!(rt; shared.turn(rt, alloc)?, one);
-        assert!(rt; put(client, logon(alloc)?));
-        assert_eq!(rt; shared.turn(rt, alloc)?, one);
-        for number in 2..1_025 {
-            assert!(rt; put(client, test_request(alloc, number)?));
-            assert_eq!(rt; shared.turn(rt, alloc)?, one);
-        }
-        assert!(rt; put(client, test_request(alloc, 1_025)?));
-    }
-    assert_eq!(rt; shared.turn(rt, alloc)?, Turned { steps: 0, held: 1 });
-    assert!(rt; outlets.get_mut(0).ok_or("an outlet")?.take().is_some());
-    assert_eq!(rt; shared.turn(rt, alloc)?, one);
+    let client = inlets.get_mut(0).ok_or("an inlet")?;
+    let told = outlets.get_mut(0).ok_or("an outlet")?;
+    fill_outlet(rt, alloc, &shared, client)?;
+    step_after_take(rt, alloc, &shared, told)?;
     let finished = finish_all(alloc, inlets, outlets)?;
     let closed = shared.close(alloc, finished).map_err(|_| "closed")?;
-    assert_eq!(rt; closed.history.events().len(), 1_026);
-    for event in closed.history.events() {
-        assert_eq!(rt;
-            event.source(),
-            Source::Client(gate_core::ClientNumber::new(1))
-        );
+    look_at(rt, &closed.history)
+}
+
+const ONE: Turned = Turned { steps: 1, held: 0 };
+
+/// Has the client told 1,024 lists, and puts an event more.
+fn fill_outlet<K: DeskName, R: Wait + Abort>(
+    rt: &R,
+    alloc: Global,
+    shared: &Shared<K>,
+    client: &mut Inlet<K>,
+) -> Result<(), Fail> {
+    assert!(rt; put(client, up()));
+    assert_eq!(rt; shared.turn(rt, alloc)?, ONE);
+    assert!(rt; put(client, logon(alloc)?));
+    assert_eq!(rt; shared.turn(rt, alloc)?, ONE);
+    for number in 2..1_025 {
+        assert!(rt; put(client, test_request(alloc, number)?));
+        assert_eq!(rt; shared.turn(rt, alloc)?, ONE);
+    }
+    assert!(rt; put(client, test_request(alloc, 1_025)?));
+    Ok(())
+}
+
+/// The event is held until a list is taken.
+fn step_after_take<K: DeskName, R: Wait + Abort>(
+    rt: &R,
+    alloc: Global,
+    shared: &Shared<K>,
+    told: &mut Outlet<K>,
+) -> Result<(), Fail> {
+    assert_eq!(rt; shared.turn(rt, alloc)?, Turned { steps: 0, held: 1 });
+    assert!(rt; told.take().is_some());
+    assert_eq!(rt; shared.turn(rt, alloc)?, ONE);
+    Ok(())
+}
+
+/// The history has all that was put, each event of the first client.
+fn look_at<R: Abort>(rt: &R, history: &History) -> Result<(), Fail> {
+    assert_eq!(rt; history.events().len(), 1_026);
+    for event in history.events() {
+        assert_eq!(rt; event.source(), Source::Client(ClientNumber::new(1)));
     }
     Ok(())
 }

@@ -6,6 +6,7 @@ use super::events::tick;
 use desk::{DeskName, Finished, Inlet, Outlet, Parts, Shared, open_desk};
 use gate_core::{ClientNumber, Event};
 use gate_events::Source;
+use gate_journal::History;
 use script_steps::fixed_settings;
 use std::alloc::{AllocError, Global};
 use std::marker::Brand;
@@ -52,9 +53,13 @@ fn work<K: DeskName + Send + Sync, R: Threads + Wait + Sync + Abort>(
         outlet.finish(),
     ]?;
     let closed = shared.close(alloc, finished).map_err(|_| "closed")?;
-    let of_client = Source::Client(ClientNumber::new(1));
-    assert_eq!(rt; closed.history.events().len(), 2 * EACH as usize);
-    let from_client = closed.history.from(alloc, of_client)?;
+    look_at(rt, alloc, &closed.history)
+}
+
+/// The history has what both threads put, that of the client in its order.
+fn look_at<R: Abort>(rt: &R, alloc: Global, history: &History) -> Result<(), Fail> {
+    assert_eq!(rt; history.events().len(), 2 * EACH as usize);
+    let from_client = history.from(alloc, Source::Client(ClientNumber::new(1)))?;
     assert_eq!(rt; from_client.len(), EACH as usize);
     for (at, event) in from_client.iter().enumerate() {
         match event {
@@ -62,10 +67,8 @@ fn work<K: DeskName + Send + Sync, R: Threads + Wait + Sync + Abort>(
             _ => return Err(Fail::new("no other event was put")),
         }
     }
-    assert_eq!(rt;
-        closed.history.from(alloc, Source::Clock)?.len(),
-        EACH as usize
-    );
+    let of_clock = history.from(alloc, Source::Clock)?;
+    assert_eq!(rt; of_clock.len(), EACH as usize);
     Ok(())
 }
 

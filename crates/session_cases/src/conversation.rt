@@ -4,7 +4,7 @@ use crate::line::Line;
 use crate::shown::{fields_of, from_client, show_turn, with_soh};
 use fix_fields::{Fields, Text};
 use fix_framing::{FrameFault, Framer};
-use fix_session::Session;
+use fix_session::{IssuedTurn, Session, SessionTurn};
 use fix_types::{AppBody, CancelReject, Report};
 use fix_values::TextFault;
 use std::alloc::{AllocError, Global};
@@ -12,7 +12,8 @@ use wire_law::TextWire;
 
 /// A conversation with one session, and what its last step showed.
 ///
-/// Each call is made and put back first, so what a step shows also says that nothing was left of that.
+/// Each call is made and put back first, so what a step shows also says that nothing was left of that. A call that
+/// wants for memory is made again: it has to have left the session as it was.
 #[derive(Drop)]
 pub struct Conversation {
     session: Session,
@@ -62,44 +63,67 @@ impl Conversation {
     }
 
     fn link(&mut self, alloc: Global, is_up: bool) -> Result<(), AllocError> {
-        self.session.settle();
-        let _put_back = self.session.on_link(alloc, is_up, self.at);
-        self.session.undo();
+        self.link_in_vain(alloc, is_up);
         let turn = self.session.on_link(alloc, is_up, self.at);
         show_turn(alloc, &mut self.shown, &turn, self.is_whole)
     }
 
-    /// Time passes. A call that wants for memory is made again: it has to have left the session as it was.
-    fn tick(&mut self, alloc: Global) -> Result<(), AllocError> {
+    /// The link comes up or goes, and that is put back.
+    fn link_in_vain(&mut self, alloc: Global, is_up: bool) {
         self.session.settle();
-        let _put_back = self.session.on_tick(alloc, self.at);
+        let _ = self.session.on_link(alloc, is_up, self.at);
         self.session.undo();
-        let turn = match self.session.on_tick(alloc, self.at) {
-            Ok(turn) => turn,
-            Err(_) => self.session.on_tick(alloc, self.at)?,
-        };
+    }
+
+    fn tick(&mut self, alloc: Global) -> Result<(), AllocError> {
+        self.tick_in_vain(alloc);
+        let turn = self.tick_again(alloc)?;
         show_turn(alloc, &mut self.shown, &turn, self.is_whole)
     }
 
-    /// Issues a body, and again where memory is wanting; false where the text is none.
+    /// Time passes, and that is put back.
+    fn tick_in_vain(&mut self, alloc: Global) {
+        self.session.settle();
+        let _ = self.session.on_tick(alloc, self.at);
+        self.session.undo();
+    }
+
+    /// Time passes, and again where memory is wanting.
+    fn tick_again(&mut self, alloc: Global) -> Result<SessionTurn, AllocError> {
+        match self.session.on_tick(alloc, self.at) {
+            Ok(turn) => Ok(turn),
+            Err(_) => self.session.on_tick(alloc, self.at),
+        }
+    }
+
+    /// Issues a body; false where the text is none.
     fn issue(&mut self, alloc: Global, text: &[u8]) -> Result<bool, AllocError> {
-        let Some(fields) = fields_of(alloc, text)? else {
+        let Some(body) = body_in(alloc, text)? else {
             return Ok(false);
         };
-        let body = match body_of(alloc, &fields) {
-            Ok(body) => body,
-            Err(TextFault::NoMemory) => return Err(AllocError),
-            Err(TextFault::Refused(_)) => return Ok(false),
-        };
-        self.session.settle();
-        let _put_back = self.session.issue(alloc, &body, self.at);
-        self.session.undo();
-        let issued = match self.session.issue(alloc, &body, self.at) {
-            Ok(issued) => issued,
-            Err(_) => self.session.issue(alloc, &body, self.at)?,
-        };
-        show_turn(alloc, &mut self.shown, &issued.turn, self.is_whole)?;
+        self.issue_body(alloc, &body)?;
         Ok(true)
+    }
+
+    fn issue_body(&mut self, alloc: Global, body: &AppBody) -> Result<(), AllocError> {
+        self.issue_in_vain(alloc, body);
+        let issued = self.issue_again(alloc, body)?;
+        show_turn(alloc, &mut self.shown, &issued.turn, self.is_whole)
+    }
+
+    /// Issues a body, and that is put back.
+    fn issue_in_vain(&mut self, alloc: Global, body: &AppBody) {
+        self.session.settle();
+        let _ = self.session.issue(alloc, body, self.at);
+        self.session.undo();
+    }
+
+    /// Issues a body, and again where memory is wanting.
+    fn issue_again(&mut self, alloc: Global, body: &AppBody) -> Result<IssuedTurn, AllocError> {
+        match self.session.issue(alloc, body, self.at) {
+            Ok(issued) => Ok(issued),
+            Err(_) => self.session.issue(alloc, body, self.at),
+        }
     }
 
     fn message_of(&mut self, alloc: Global, fields: Option<Fields>) -> Result<bool, AllocError> {
@@ -112,16 +136,29 @@ impl Conversation {
         }
     }
 
-    /// A message comes, and again where memory is wanting.
     fn message(&mut self, alloc: Global, message: &Fields) -> Result<(), AllocError> {
-        self.session.settle();
-        let _put_back = self.session.on_message(alloc, message, self.at);
-        self.session.undo();
-        let turn = match self.session.on_message(alloc, message, self.at) {
-            Ok(turn) => turn,
-            Err(_) => self.session.on_message(alloc, message, self.at)?,
-        };
+        self.message_in_vain(alloc, message);
+        let turn = self.message_again(alloc, message)?;
         show_turn(alloc, &mut self.shown, &turn, self.is_whole)
+    }
+
+    /// A message comes, and that is put back.
+    fn message_in_vain(&mut self, alloc: Global, message: &Fields) {
+        self.session.settle();
+        let _ = self.session.on_message(alloc, message, self.at);
+        self.session.undo();
+    }
+
+    /// A message comes, and again where memory is wanting.
+    fn message_again(
+        &mut self,
+        alloc: Global,
+        message: &Fields,
+    ) -> Result<SessionTurn, AllocError> {
+        match self.session.on_message(alloc, message, self.at) {
+            Ok(turn) => Ok(turn),
+            Err(_) => self.session.on_message(alloc, message, self.at),
+        }
     }
 
     /// Bytes come, and the messages that they end.
@@ -136,6 +173,18 @@ impl Conversation {
             Err(FrameFault::TooLong) => self.shown.extend_from_slice(b"too long\n"),
             Err(FrameFault::NoMemory) => Err(AllocError),
         }
+    }
+}
+
+/// The report or the cancel reject that a text's fields say; none where they say neither.
+fn body_in(alloc: Global, text: &[u8]) -> Result<Option<AppBody>, AllocError> {
+    let Some(fields) = fields_of(alloc, text)? else {
+        return Ok(None);
+    };
+    match body_of(alloc, &fields) {
+        Ok(body) => Ok(Some(body)),
+        Err(TextFault::NoMemory) => Err(AllocError),
+        Err(TextFault::Refused(_)) => Ok(None),
     }
 }
 
