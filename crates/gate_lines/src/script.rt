@@ -1,14 +1,15 @@
 //! A script from its reader to its writers.
 
 ghost use Rattle.std.specs.Prelude.{◌≡◌, ◌≤◌, ◌⊎◌, ℕ, IfOk, IfErr, IfSome, OnOk, Err, map};
-ghost use Rattle.std.specs.List.{flat_map};
+ghost use Rattle.std.specs.List.{flat_map, FoldsTo};
 ghost use Rattle.std.specs.Io.KnownBytes.{Keeps};
 ghost use Rattle.batch_lines.specs.Lines.{shown_batch};
 ghost use Rattle.gate_events.specs.Seen.{batch_seen};
 ghost use Rattle.gate_law.specs.Holds.{Holds};
 ghost use Rattle.gate_journal.specs.Kept.{nothing_kept, turns};
 ghost use Rattle.text_lines.specs.Unread.{lines_of};
-ghost use Rattle.script_steps.specs.Standing.{IsCold, IsWarm, StepsText};
+ghost use Rattle.script_steps.specs.Standing.{IsCold, IsTextStep, IsWarm, StepsText};
+ghost use Rattle.script_steps.specs.Steps.{GoesOn};
 ghost use Rattle.gate_lines.specs.Scripts.{BeginsScript, ComesTo, Prints, PrintsAll, PrintsLine, StopsScript};
 ghost use Rattle.gate_lines.specs.Scripts.{StopsAmong, WritesNothing};
 ghost use Rattle.script_steps.specs.Settings.{fixed};
@@ -190,12 +191,28 @@ pub fn script_history<R: Read>(alloc: Global, input: &mut R) -> Result<History, 
     let mut kept = History::new(alloc);
     let cold = Runner::cold(alloc)?;
     let mut runner = started(alloc, cold, &mut kept)?;
+    step_lines(alloc, &mut runner, input, &mut kept)?;
+    Ok(kept)
+}
+
+/// Steps the lines that `input` gives, to its end.
+fn step_lines<S: BuildHasher + Drop, R: Read>(
+    alloc: Global,
+    runner: &mut Runner<S>,
+    input: &mut R,
+    kept: &mut History,
+) -> Result<(), Stop>
+    ensures on { OnOk result (GoesOn runner.old.core kept.old runner.new.core kept.new) }
+    ensures lines { OnOk result (IfSome (R.remaining input.old) (λ text. FoldsTo IsTextStep
+        (record { runner = runner.old; kept = kept.old }) (lines_of text)
+        (record { runner = runner.new; kept = kept.new }))) }
+{
     let mut lines = Lines::new();
     for number in 1..MOST_LINES {
         let Some(line) = lines.next(alloc, input)? else {
-            return Ok(kept);
+            return Ok(());
         };
-        step_line(alloc, &mut runner, number, line.as_slice(), &mut kept)?;
+        step_line(alloc, runner, number, line.as_slice(), kept)?;
     }
     Err(Stop::Stream)
 }

@@ -29,10 +29,17 @@ fn run(rt: &HostRuntime) -> io::Result<()> {
     let Ok(kept) = script_history(alloc, &mut rt.reader()) else {
         return Err(io::Error::from(ErrorKind::InvalidData));
     };
-    let mut core = Core::new(alloc, &fixed_settings(alloc)?)?;
+    let settings = fixed_settings(alloc)?;
+    let mut core = Core::new(alloc, &settings)?;
+    step_all(rt, &mut core, kept.events())
+}
+
+/// Steps the events, and prints what those behind the logons tell.
+fn step_all(rt: &HostRuntime, core: &mut Core, events: &[Event]) -> io::Result<()> {
+    let alloc = rt.alloc();
     let mut output = io::writer(rt);
-    for (i, event) in kept.events().iter().enumerate() {
-        let text = made_again(alloc, &mut core, event)?;
+    for (i, event) in events.iter().enumerate() {
+        let text = made_again(alloc, core, event)?;
         if i >= LOGON_EVENTS {
             output.write_all(text.as_slice())?;
         }

@@ -5,6 +5,7 @@ ghost use Rattle.std.specs.List.{FoldsTo};
 ghost use Rattle.gate_journal.specs.Kept.{nothing_kept};
 ghost use Rattle.script_steps.specs.Lines.{MayStop, MayStopAt};
 ghost use Rattle.script_steps.specs.Standing.{IsCold, IsStep, IsWarm, StepsText, logs_in_lines, logs_on_lines};
+ghost use Rattle.script_steps.specs.Standing.{opening_lines};
 ghost use Rattle.script_steps.specs.Standing as spec;
 ghost use Rattle.script_steps.specs.Steps.{GoesOn, KeepsLine};
 
@@ -127,12 +128,25 @@ pub fn warm_runner<S: BuildHasher + Drop>(
     ensures { IfOk result (λ runner. kept.old ≡ nothing_kept → IsWarm (record { runner = runner; kept = kept.new })) }
 {
     let mut runner = cold;
-    log_on(alloc, &mut runner, Client::First, kept)?;
-    log_on(alloc, &mut runner, Client::Second, kept)?;
-    log_on(alloc, &mut runner, Client::Third, kept)?;
-    log_in(alloc, &mut runner, Port::First, kept)?;
-    log_in(alloc, &mut runner, Port::Second, kept)?;
+    open_sessions(alloc, &mut runner, kept)?;
     Ok(runner)
+}
+
+/// All clients come up and log on, then all ports come up and are logged in.
+fn open_sessions<S: BuildHasher + Drop>(
+    alloc: Global,
+    runner: &mut Runner<S>,
+    kept: &mut History,
+) -> Result<(), LineFault>
+    ensures { OnOk result (FoldsTo IsStep (record { runner = runner.old; kept = kept.old }) opening_lines
+        (record { runner = runner.new; kept = kept.new })) }
+{
+    log_on(alloc, runner, Client::First, kept)?;
+    log_on(alloc, runner, Client::Second, kept)?;
+    log_on(alloc, runner, Client::Third, kept)?;
+    log_in(alloc, runner, Port::First, kept)?;
+    log_in(alloc, runner, Port::Second, kept)?;
+    Ok(())
 }
 
 /// A client comes up and logs on, with a heartbeat every 30 seconds.
