@@ -13,10 +13,16 @@ use std::time::Duration;
 /// A desk that threads share.
 ///
 /// Beside the lock there is a bell for each outlet: a turn that told it something rings it, once the lock is free.
-#[derive(Drop)]
 pub struct Shared<K: DeskName, S: BuildHasher + Drop = BuildHasherDefault<FoldHasher>> {
     desk: Mutex<Desk<K, S>>,
     bells: Vec<Parker>,
+}
+
+// Not derived: then each way out drops it in one call (docs/DECISIONS.md, "Drops").
+impl<K: DeskName, S: BuildHasher + Drop> Drop for Shared<K, S> {
+    fn drop(self) {
+        let Shared { desk: _, bells: _ } = self;
+    }
 }
 
 impl<K: DeskName, S: BuildHasher + Drop> Shared<K, S> {
