@@ -17,7 +17,7 @@ pub issued : (s old : State) (at : ℕ) (kind : Kind) (body : Message) (turn : S
     → latest ≡ max s.latest at
     → phase ≡ (if is_logged_on s.phase then on_written latest s.phase else s.phase)
     → given ≡ s.given ++ Some (record { kind = kind; body = body; at = latest }) ∷ []
-    → map told_bytes turn.outs.items ≡ map (told_of_out old.gate old.client) (if is_logged_on s.phase then Write (fresh (next_out old) kind body (max old.latest at)) ∷ [] else [])
+    → map told_bytes turn.outs.items ≡ map (told_of_out old.gate old.client) (if is_logged_on s.phase then Write (fresh (next_out old) kind body latest) ∷ [] else [])
     → turn.app ≡ None
     → Meets old (step old at (Issue kind body)) turn (record s { phase = phase; given = given; latest = latest })
 issued s old at kind body turn latest phase given same last stands keeps outs app =
@@ -25,7 +25,8 @@ issued s old at kind body turn latest phase given same last stands keeps outs ap
     let now : phase ≡ (if is_logged_on s.phase then on_written (max s.latest at) s.phase else s.phase) =
     stands ∙ ap (λ (l : ℕ). if is_logged_on s.phase then on_written l s.phase else s.phase) last in
     let keep = keeps ∙ ap (λ (l : ℕ). s.given ++ Some (record { kind = kind; body = body; at = l }) ∷ []) last in
-    let told = subst (λ (o : State). map told_bytes turn.outs.items ≡ map (told_of_out o.gate o.client) (if is_logged_on s.phase then Write (fresh (next_out o) kind body (max o.latest at)) ∷ [] else [])) (sym same) outs in
+    let told = subst (λ (o : State). map told_bytes turn.outs.items ≡ map (told_of_out o.gate o.client) (if is_logged_on s.phase then Write (fresh (next_out o) kind body latest) ∷ [] else [])) (sym same) outs
+    ∙ ap (λ (l : ℕ). map (told_of_out s.gate s.client) (if is_logged_on s.phase then Write (fresh (next_out s) kind body l) ∷ [] else [])) last in
     subst (λ (o : State). Meets o (step o at (Issue kind body)) turn (record s { phase = phase; given = given; latest = latest })) same (record {
       outs = told;
       app = app;

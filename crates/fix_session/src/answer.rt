@@ -137,12 +137,7 @@ fn act(
 }
 
 /// Answers a TestRequest.
-fn echo(
-    alloc: Global,
-    draft: &mut Draft,
-    session: &Session,
-    m: &Fields,
-) -> Result<(), AllocError>
+fn echo(alloc: Global, draft: &mut Draft, session: &Session, m: &Fields) -> Result<(), AllocError>
     ensures { OnOk result (made session.now.session draft.new
         ≡ perform (made session.now.session draft.old) (Say Heartbeat (tags.field 112 (tags.text 112 m.now) ∷ []))) }
 {

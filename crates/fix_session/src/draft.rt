@@ -152,12 +152,7 @@ impl Draft {
     }
 
     /// A frame under the next number, which isn't kept.
-    pub fn say(
-        &mut self,
-        session: &Session,
-        kind: Kind,
-        body: Fields,
-    ) -> Result<(), AllocError>
+    pub fn say(&mut self, session: &Session, kind: Kind, body: Fields) -> Result<(), AllocError>
         ensures { OnOk result (made session.now.session self.new
             ≡ said kind body (made session.now.session self.old)) }
     {
@@ -232,11 +227,7 @@ impl Draft {
     }
 
     /// A Logout without a reason, and the end.
-    pub fn log_out_silently(
-        &mut self,
-        alloc: Global,
-        session: &Session,
-    ) -> Result<(), AllocError>
+    pub fn log_out_silently(&mut self, alloc: Global, session: &Session) -> Result<(), AllocError>
         ensures { OnOk result (made session.now.session self.new
             ≡ fold perform (made session.now.session self.old) log_out_silently) }
     {

@@ -98,7 +98,7 @@ pub struct IssuedTurn {
 impl Session {
     ghost use Rattle.session_law.specs.Session.{next_out, new_session, quiet, Given, fresh};
     ghost use Rattle.session_law.specs.Runs.{SessionHistory, Leaves, turn_after, step, Call, OnLink, OnMessage, OnTick};
-    ghost use Rattle.session_law.specs.Runs.{Issue, at_moment, heard, by_rows};
+    ghost use Rattle.session_law.specs.Runs.{Issue, at_moment, heard, by_rows, issued_frame};
     ghost use Rattle.session_law.specs.Expected.{expected};
     ghost use Rattle.session_law.specs.Numbers.{SessionHeadline, given};
     ghost use Rattle.session_law.specs.Table.{asked_number, logon_rows, logged_on_rows, message_number, resets};
@@ -191,8 +191,7 @@ impl Session {
             (turn_after self.old.session at (call_of_body body.now))) }
         ensures report { IfOk result (λ issued. issued.report
             ≡ frame_fields stamp_text self.old.session.gate self.old.session.client
-            (fresh (next_out self.old.session) (issues.issued_kind body.now) (issues.issued_body body.now)
-            (at_moment at self.old.session).latest)) }
+            (issued_frame self.old.session at (issues.issued_kind body.now) (issues.issued_body body.now))) }
         ensures leaves { OnOk result ((gate client : List ℕ) (h : SessionHistory)
             → Leaves gate client h self.old.session
             → Leaves gate client (turn_after self.old.session at (call_of_body body.now) ∷ h) self.new.session) }
@@ -318,7 +317,7 @@ impl Session {
             (step self.old.session at (Issue kind body.now)) issued.turn self.new.session) }
         ensures report { IfOk result (λ issued. issued.report
             ≡ frame_fields stamp_text self.old.session.gate self.old.session.client
-            (fresh (next_out self.old.session) kind body.now (at_moment at self.old.session).latest)) }
+            (issued_frame self.old.session at kind body.now)) }
         ensures settled { self.new.settled ≡ self.old.settled }
         ensures err { OnErr result (self.new ≡ self.old) }
     {

@@ -16,5 +16,5 @@ returns-clause-meets c =
     c.max-now.ensures
     c.phase_issued-self-inside.ensures
     keeps
-    (c.in_ok-outs.ensures old.gate old.client (fresh (next_out old) c.args.kind c.args.body.now (max old.latest c.args.at)) c.in_ok-report.ensures)
+    (c.in_ok-outs.ensures old.gate old.client (fresh (next_out old) c.args.kind c.args.body.now c.max-now.result) c.in_ok-report.ensures)
     refl
