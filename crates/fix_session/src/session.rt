@@ -35,7 +35,7 @@ pub struct Session {
     /// What each number from 1 was given to: a body that is kept, or a frame that is gap filled; and how that was when
     /// it was settled last.
     given: UndoBodies,
-    /// The session's time: the latest moment of all calls. It never goes back, and all that is written or kept bears it.
+    /// The session's time, which all that is written or kept bears: the latest moment of all calls. It never goes back.
     latest: u64,
     /// The rest of how it was when it was settled last.
     settled: Settled,

@@ -46,8 +46,8 @@ client_outs s client before [] = []
 client_outs s client before (call ∷ calls) = (client_answer s client before call).outs
     ++ client_outs s client (call ∷ before) calls
 
--- An issued body is reported as the fields of its frame, with the number that it takes and at the session's time, be the
--- frame written or not.
+-- An issued body is reported as the fields of its frame, with the number that it takes and at the session's time, be
+-- the frame written or not.
 abbrev report_by : Settings → ℕ → List Timed → ℕ → Call → List Message
 report_by s client before at (OnLink is_up) = []
 report_by s client before at (OnMessage m) = []
