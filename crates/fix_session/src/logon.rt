@@ -27,28 +27,28 @@ pub fn answer_logon(
     at: u64,
 ) -> Result<Draft, AllocError>
     ensures { IfOk result (λ draft. made session.now.session draft
-        ≡ answered at (heard (at_moment at session.now.session))
+        ≡ answered (heard (at_moment at session.now.session))
         (logon_answer m.now (table.message_number m.now) row)) }
 {
     match row {
         LogonRow::NotAnswered => {
             let mut draft = Draft::heard_at(alloc, session, at);
-            draft.shut(session, at)?;
+            draft.shut(session)?;
             Ok(draft)
         }
         LogonRow::TooLow { expected } => {
             let mut draft = Draft::heard_at(alloc, session, at);
-            too_low(alloc, &mut draft, session, expected, numbered(m), at)?;
+            too_low(alloc, &mut draft, session, expected, numbered(m))?;
             Ok(draft)
         }
         LogonRow::LogsOn { interval, resets } => {
             let mut draft = open(alloc, session, m, interval, resets, at)?;
-            draft.grow(session, at);
+            draft.grow(session);
             Ok(draft)
         }
         LogonRow::LogsOnWithGap { interval, resets } => {
             let mut draft = open(alloc, session, m, interval, resets, at)?;
-            draft.ask_again(alloc, session, numbered(m), at)?;
+            draft.ask_again(alloc, session, numbered(m))?;
             Ok(draft)
         }
     }
@@ -64,12 +64,12 @@ fn open(
     at: u64,
 ) -> Result<Draft, AllocError>
     ensures opened { IfOk result (λ draft. made session.now.session draft
-        ≡ logon_opened at (heard (at_moment at session.now.session))
+        ≡ logon_opened (heard (at_moment at session.now.session))
         (Some (record { interval_text = tags.text 108 m.now; interval = interval; resets = resets }))) }
     ensures expected { IfOk result (λ draft. draft.expected ≤ 10 ^ 18) }
 {
     let body = logon_body(alloc, m, resets)?;
     let mut draft = Draft::opened_at(alloc, session, interval, resets, at);
-    draft.say(session, Kind::Logon, body, at)?;
+    draft.say(session, Kind::Logon, body)?;
     Ok(draft)
 }
