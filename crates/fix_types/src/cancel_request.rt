@@ -72,8 +72,8 @@ impl TextWire<Fields, TextFault> for CancelRequest {
     }
 }
 
-/// The cancel request that fields say, which meet no refusal.
-fn read_cancel_request(alloc: Global, fields: &Fields) -> Result<CancelRequest, AllocError>
+/// The cancel request that fields say, which meet no refusal. Two growths.
+pub fn read_cancel_request(alloc: Global, fields: &Fields) -> Result<CancelRequest, AllocError>
     requires { requests.cancel_refusal fields.now ≡ None }
     ensures said { IfOk result (λ request. request ≡ cancel_request_of fields.now) }
     ensures kept { IfOk result IsCancelRequest }
