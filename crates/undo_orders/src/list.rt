@@ -10,7 +10,7 @@ ghost use Rattle.undo_list.specs.Undoing.{IsWithin};
 ghost use Rattle.undo_orders.specs.PuttingBack.{changed_at};
 
 use hint_index::SettledList;
-use orders::{Cancelling, Change, EarlierOrder, Order, Replacing};
+use orders::{Boxed, Cancelling, Change, EarlierOrder, Order, Replacing};
 use std::alloc::{AllocError, Global};
 use std::marker::Model;
 
@@ -132,7 +132,8 @@ impl UndoOrders {
     {
         let earlier = self.orders[place].before_request(alloc)?;
         self.changed.reserve(1)?;
-        self.orders[place].accept_replace(replacing);
+        let boxed = Boxed::new(alloc, replacing)?;
+        self.orders[place].accept_replace(boxed);
         self.changed.push_reserved(Was { place, earlier });
         Ok(())
     }
@@ -152,7 +153,8 @@ impl UndoOrders {
     {
         let earlier = self.orders[place].before_request(alloc)?;
         self.changed.reserve(1)?;
-        self.orders[place].accept_cancel(cancelling);
+        let boxed = Boxed::new(alloc, cancelling)?;
+        self.orders[place].accept_cancel(boxed);
         self.changed.push_reserved(Was { place, earlier });
         Ok(())
     }
