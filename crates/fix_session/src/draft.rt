@@ -21,7 +21,7 @@ pub struct Resend {
 }
 
 /// What a call gives, as far as it is made.
-#[derive(Debug, Drop)]
+#[derive(Debug)]
 pub struct Draft {
     pub phase: Phase,
     pub expected: u64,
@@ -38,6 +38,12 @@ pub struct Draft {
     pub app: Option<AppMsg>,
 }
 
+impl Drop for Draft {
+    fn drop(self) {
+        let Draft { phase: _, expected: _, latest: _, resets: _, slots: _, resends: _, outs: _, app: _ } = self;
+    }
+}
+
 impl Draft {
     ghost use Rattle.session_law.specs.Runs.{at_moment, heard};
     ghost use Rattle.session_law.specs.Table.{is_logged_on};
@@ -48,6 +54,24 @@ impl Draft {
     ghost use Rattle.session_law.specs.Table.{reject_act, log_out, log_out_silently};
     ghost use Rattle.fix_fields.specs.Field.{IsValue};
     ghost use Rattle.fix_session.specs.Made.{made};
+
+    /// What the numbers that it takes are given to, and the message that is delivered.
+    pub fn into_parts(self) -> (KeptBodies, Option<AppMsg>)
+        ensures slots { result.0 ≡ self.slots }
+        ensures app { result.1 ≡ self.app }
+    {
+        let Draft {
+            phase: _,
+            expected: _,
+            latest: _,
+            resets: _,
+            slots,
+            resends: _,
+            outs: _,
+            app,
+        } = self;
+        (slots, app)
+    }
 
     /// Nothing yet, at this moment.
     pub fn at(alloc: Global, session: &Session, at: u64) -> Draft

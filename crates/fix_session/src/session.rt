@@ -25,7 +25,7 @@ use std::marker::Model;
 ///
 /// After an error, which is always that memory ran out, the session is as it was. `settle` and `undo` put calls back
 /// that succeeded: no call but these two changes how it was when it was settled.
-#[derive(Debug, Drop)]
+#[derive(Debug)]
 pub struct Session {
     gate: Text,
     client: Text,
@@ -39,6 +39,12 @@ pub struct Session {
     latest: u64,
     /// The rest of how it was when it was settled last.
     settled: Settled,
+}
+
+impl Drop for Session {
+    fn drop(self) {
+        let Session { gate: _, client: _, phase: _, expected: _, given: _, latest: _, settled: _ } = self;
+    }
 }
 
 /// How a session was when it was settled, but for its names, which stay, and what numbers were given to.
@@ -433,14 +439,14 @@ impl Session {
         ensures err { OnErr result (self.new ≡ self.old) }
     {
         let outs = self.drafted_outs(alloc, &draft)?;
-        self.given.give(alloc, draft.resets, draft.slots)?;
-        self.phase = draft.phase;
-        self.expected = draft.expected;
-        self.latest = draft.latest;
-        Ok(SessionTurn {
-            outs,
-            app: draft.app,
-        })
+        let (resets, phase) = (draft.resets, draft.phase);
+        let (expected, latest) = (draft.expected, draft.latest);
+        let (slots, app) = draft.into_parts();
+        self.given.give(alloc, resets, slots)?;
+        self.phase = phase;
+        self.expected = expected;
+        self.latest = latest;
+        Ok(SessionTurn { outs, app })
     }
 
     /// What a draft has made for the link, in bytes.

@@ -15,12 +15,18 @@ use wire_law::TextWire;
 /// What a client asks with a cancel: that no more of an order is executed.
 ///
 /// Source: FIX 4.4 Volume 4, "Order Cancel Request"; of its tags the two ids alone are read, the rest is passed over.
-#[derive(Debug, Drop)]
+#[derive(Debug)]
 pub struct CancelRequest {
     /// ClOrdID (11): the request's own.
     pub cl_ord_id: ClOrdId,
     /// OrigClOrdID (41): that of the order, or of the last replace of it.
     pub orig_cl_ord_id: ClOrdId,
+}
+
+impl Drop for CancelRequest {
+    fn drop(self) {
+        let CancelRequest { cl_ord_id: _, orig_cl_ord_id: _ } = self;
+    }
 }
 
 impl CancelRequest {
