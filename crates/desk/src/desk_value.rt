@@ -14,11 +14,20 @@ use std::marker::{Model, PhantomData};
 /// Its type keeps that they agree, whichever thread had the lock: the core is the one that the history leaves, with all
 /// that is promised of that; the ends are those that the desk's name names; what came out of an inlet's ring is what
 /// the history has of its source; what went into an outlet's ring is what the batches told it, or a beginning of that.
-#[derive(Drop)]
 pub struct Desk<K: DeskName, S: BuildHasher + Drop = BuildHasherDefault<FoldHasher>> {
     recorded: RecordedCore<S>,
     side: Side,
     of: PhantomData<K>,
+}
+
+impl<K: DeskName, S: BuildHasher + Drop> Drop for Desk<K, S> {
+    fn drop(self) {
+        let Desk {
+            recorded: _,
+            side: _,
+            of: _,
+        } = self;
+    }
 }
 
 impl<K: DeskName, S: BuildHasher + Drop> Model for Desk<K, S> {

@@ -13,10 +13,15 @@ use std::time::Duration;
 /// A desk that threads share.
 ///
 /// Beside the lock there is a bell for each outlet: a turn that told it something rings it, once the lock is free.
-#[derive(Drop)]
 pub struct Shared<K: DeskName, S: BuildHasher + Drop = BuildHasherDefault<FoldHasher>> {
     desk: Mutex<Desk<K, S>>,
     bells: Vec<Parker>,
+}
+
+impl<K: DeskName, S: BuildHasher + Drop> Drop for Shared<K, S> {
+    fn drop(self) {
+        let Shared { desk: _, bells: _ } = self;
+    }
 }
 
 impl<K: DeskName, S: BuildHasher + Drop> Shared<K, S> {

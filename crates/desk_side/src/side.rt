@@ -11,7 +11,6 @@ use std::marker::Model;
 
 /// All rings of a desk, from the desk's side: a seat for each client, each port and the clock, and a way for each
 /// client and each port. Contracts see them by position.
-#[derive(Drop)]
 pub struct Side {
     clients: usize,
     ports: usize,
@@ -19,6 +18,18 @@ pub struct Side {
     ways: Vec<Way>,
     /// A bit for each way into whose ring a list went since they were taken, by position.
     rung: u128,
+}
+
+impl Drop for Side {
+    fn drop(self) {
+        let Side {
+            clients: _,
+            ports: _,
+            seats: _,
+            ways: _,
+            rung: _,
+        } = self;
+    }
 }
 
 impl Model for Side {

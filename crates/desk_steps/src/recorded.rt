@@ -15,11 +15,21 @@ use std::marker::Model;
 
 /// A core with the history of all that it was stepped by. Contracts see its settings and what the history keeps; the
 /// core is the one that the history leaves. Its indexes are over any hasher.
-#[derive(Debug, Drop)]
+#[derive(Debug)]
 pub struct RecordedCore<S: BuildHasher + Drop = BuildHasherDefault<FoldHasher>> {
     settings: Settings,
     core: Core<S>,
     history: History,
+}
+
+impl<S: BuildHasher + Drop> Drop for RecordedCore<S> {
+    fn drop(self) {
+        let RecordedCore {
+            settings: _,
+            core: _,
+            history: _,
+        } = self;
+    }
 }
 
 impl<S: BuildHasher + Drop> Model for RecordedCore<S> {
@@ -143,7 +153,12 @@ impl<S: BuildHasher + Drop> RecordedCore<S> {
         ensures history { result.1 ≡ self.kept }
         ensures holds { Holds self.settings (turns self.kept) }
     {
-        (self.settings, self.history)
+        let RecordedCore {
+            settings,
+            core: _,
+            history,
+        } = self;
+        (settings, history)
     }
 }
 

@@ -40,7 +40,16 @@ pub struct Draft {
 
 impl Drop for Draft {
     fn drop(self) {
-        let Draft { phase: _, expected: _, latest: _, resets: _, slots: _, resends: _, outs: _, app: _ } = self;
+        let Draft {
+            phase: _,
+            expected: _,
+            latest: _,
+            resets: _,
+            slots: _,
+            resends: _,
+            outs: _,
+            app: _,
+        } = self;
     }
 }
 

@@ -43,7 +43,15 @@ pub struct Session {
 
 impl Drop for Session {
     fn drop(self) {
-        let Session { gate: _, client: _, phase: _, expected: _, given: _, latest: _, settled: _ } = self;
+        let Session {
+            gate: _,
+            client: _,
+            phase: _,
+            expected: _,
+            given: _,
+            latest: _,
+            settled: _,
+        } = self;
     }
 }
 

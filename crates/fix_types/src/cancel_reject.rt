@@ -35,7 +35,15 @@ pub struct CancelReject {
 
 impl Drop for CancelReject {
     fn drop(self) {
-        let CancelReject { order_id: _, cl_ord_id: _, orig_cl_ord_id: _, ord_status: _, cxl_rej_response_to: _, cxl_rej_reason: _, text: _ } = self;
+        let CancelReject {
+            order_id: _,
+            cl_ord_id: _,
+            orig_cl_ord_id: _,
+            ord_status: _,
+            cxl_rej_response_to: _,
+            cxl_rej_reason: _,
+            text: _,
+        } = self;
     }
 }
 

@@ -25,7 +25,10 @@ pub struct CancelRequest {
 
 impl Drop for CancelRequest {
     fn drop(self) {
-        let CancelRequest { cl_ord_id: _, orig_cl_ord_id: _ } = self;
+        let CancelRequest {
+            cl_ord_id: _,
+            orig_cl_ord_id: _,
+        } = self;
     }
 }
 

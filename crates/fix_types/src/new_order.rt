@@ -40,7 +40,18 @@ pub struct NewOrder {
 
 impl Drop for NewOrder {
     fn drop(self) {
-        let NewOrder { cl_ord_id: _, side: _, symbol: _, order_qty: _, ord_type: _, price: _, time_in_force: _, exec_inst: _, order_capacity: _, min_qty: _ } = self;
+        let NewOrder {
+            cl_ord_id: _,
+            side: _,
+            symbol: _,
+            order_qty: _,
+            ord_type: _,
+            price: _,
+            time_in_force: _,
+            exec_inst: _,
+            order_capacity: _,
+            min_qty: _,
+        } = self;
     }
 }
 

@@ -15,7 +15,7 @@ use wire_law::TextWire;
 ///
 /// Side, symbol and capacity can't be replaced: they may be missing, and are judged where they are there.
 /// Source: FIX 4.4 Volume 4, "Order Cancel/Replace Request"; tags that it doesn't name here are passed over.
-#[derive(Debug)]
+#[derive(Debug, Drop)]
 pub struct ReplaceRequest {
     /// ClOrdID (11): the request's own.
     pub cl_ord_id: ClOrdId,
@@ -39,12 +39,6 @@ pub struct ReplaceRequest {
     pub order_capacity: Option<Character>,
     /// MinQty (110).
     pub min_qty: Option<FloatText>,
-}
-
-impl Drop for ReplaceRequest {
-    fn drop(self) {
-        let ReplaceRequest { cl_ord_id: _, orig_cl_ord_id: _, side: _, symbol: _, order_qty: _, ord_type: _, price: _, time_in_force: _, exec_inst: _, order_capacity: _, min_qty: _ } = self;
-    }
 }
 
 impl ReplaceRequest {

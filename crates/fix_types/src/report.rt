@@ -55,7 +55,27 @@ pub struct Report {
 
 impl Drop for Report {
     fn drop(self) {
-        let Report { order_id: _, cl_ord_id: _, orig_cl_ord_id: _, exec_id: _, exec_ref_id: _, exec_type: _, ord_status: _, ord_rej_reason: _, exec_restatement_reason: _, symbol: _, side: _, order_qty: _, price: _, last_qty: _, last_px: _, leaves_qty: _, cum_qty: _, avg_px: _, text: _ } = self;
+        let Report {
+            order_id: _,
+            cl_ord_id: _,
+            orig_cl_ord_id: _,
+            exec_id: _,
+            exec_ref_id: _,
+            exec_type: _,
+            ord_status: _,
+            ord_rej_reason: _,
+            exec_restatement_reason: _,
+            symbol: _,
+            side: _,
+            order_qty: _,
+            price: _,
+            last_qty: _,
+            last_px: _,
+            leaves_qty: _,
+            cum_qty: _,
+            avg_px: _,
+            text: _,
+        } = self;
     }
 }
 

@@ -30,7 +30,7 @@ pub struct ToldTrade {
 }
 
 /// An accepted order. Contracts see it as `order_machine`'s record.
-#[derive(Debug, Drop)]
+#[derive(Debug)]
 pub struct Order {
     /// How far it has come.
     pub progress: Progress,
@@ -61,6 +61,25 @@ pub struct Order {
     ghost first_total_set: { first_total ≡ total_of (new_order_fields message) },
     ghost total_set: { progress.stage ≡ Waiting → progress.total ≡ total_of (new_order_fields message) },
     ghost replace_set: { progress.tokens + length (option_to_list replace) ≤ 65_536 },
+}
+
+impl Drop for Order {
+    fn drop(self) {
+        let Order {
+            progress: _,
+            token: _,
+            client: _,
+            order_id: _,
+            token_number: _,
+            earlier: _,
+            message: _,
+            first_total: _,
+            renamed: _,
+            trades: _,
+            replace: _,
+            cancel: _,
+        } = self;
+    }
 }
 
 impl Model for Order {

@@ -22,10 +22,15 @@ use std::marker::Model;
 /// The gateway's core with the settings of a script, and what the script's lines have told of links and of the time.
 ///
 /// The core's indexes are over any hasher, which changes nothing but how fast they are.
-#[derive(Drop)]
 pub struct Runner<S: BuildHasher + Drop = BuildHasherDefault<FoldHasher>> {
     core: Core<S>,
     links: Links,
+}
+
+impl<S: BuildHasher + Drop> Drop for Runner<S> {
+    fn drop(self) {
+        let Runner { core: _, links: _ } = self;
+    }
 }
 
 impl<S: BuildHasher + Drop> Model for Runner<S> {

@@ -20,10 +20,16 @@ use std::marker::Model;
 /// again. Contracts see the list of both.
 ///
 /// The text of all kept bodies lies in one buffer, as it was written, beside a list of their places.
-#[derive(Debug, Drop)]
+#[derive(Debug)]
 pub struct KeptBodies {
     text: Vec<u8>,
     places: Vec<KeptPlace>,
+}
+
+impl Drop for KeptBodies {
+    fn drop(self) {
+        let KeptBodies { text: _, places: _ } = self;
+    }
 }
 
 impl Model for KeptBodies {

@@ -24,13 +24,23 @@ pub(crate) struct Was {
 /// The accepted orders, the oldest first. Contracts see the list as it is now, and as it was settled.
 ///
 /// Before the first `settle` it counts as settled with no orders.
-#[derive(Debug, Drop)]
+#[derive(Debug)]
 pub struct UndoOrders {
     orders: Vec<Order>,
     /// How many orders there were when it was settled.
     count: usize,
     /// What was changed since, the newest last.
     changed: Vec<Was>,
+}
+
+impl Drop for UndoOrders {
+    fn drop(self) {
+        let UndoOrders {
+            orders: _,
+            count: _,
+            changed: _,
+        } = self;
+    }
 }
 
 impl Model for UndoOrders {
