@@ -20,6 +20,7 @@ pub struct Desk<K: DeskName, S: BuildHasher + Drop = BuildHasherDefault<FoldHash
     of: PhantomData<K>,
 }
 
+// Not derived: then each way out drops it in one call (docs/DECISIONS.md, "Drops").
 impl<K: DeskName, S: BuildHasher + Drop> Drop for Desk<K, S> {
     fn drop(self) {
         let Desk {

@@ -18,6 +18,7 @@ pub struct Shared<K: DeskName, S: BuildHasher + Drop = BuildHasherDefault<FoldHa
     bells: Vec<Parker>,
 }
 
+// Not derived: then each way out drops it in one call (docs/DECISIONS.md, "Drops").
 impl<K: DeskName, S: BuildHasher + Drop> Drop for Shared<K, S> {
     fn drop(self) {
         let Shared { desk: _, bells: _ } = self;

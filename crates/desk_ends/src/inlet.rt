@@ -15,6 +15,7 @@ pub struct Inlet<K: DeskName> {
     of: PhantomData<K>,
 }
 
+// Not derived: then each way out drops it in one call (docs/DECISIONS.md, "Drops").
 impl<K: DeskName> Drop for Inlet<K> {
     fn drop(self) {
         let Inlet {

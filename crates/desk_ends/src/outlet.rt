@@ -15,6 +15,7 @@ pub struct Outlet<K: DeskName> {
     of: PhantomData<K>,
 }
 
+// Not derived: then each way out drops it in one call (docs/DECISIONS.md, "Drops").
 impl<K: DeskName> Drop for Outlet<K> {
     fn drop(self) {
         let Outlet {

@@ -20,6 +20,7 @@ pub struct Side {
     rung: u128,
 }
 
+// Not derived: then each way out drops it in one call (docs/DECISIONS.md, "Drops").
 impl Drop for Side {
     fn drop(self) {
         let Side {

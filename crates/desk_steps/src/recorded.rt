@@ -22,6 +22,7 @@ pub struct RecordedCore<S: BuildHasher + Drop = BuildHasherDefault<FoldHasher>> 
     history: History,
 }
 
+// Not derived: then each way out drops it in one call (docs/DECISIONS.md, "Drops").
 impl<S: BuildHasher + Drop> Drop for RecordedCore<S> {
     fn drop(self) {
         let RecordedCore {

@@ -38,6 +38,7 @@ pub struct Draft {
     pub app: Option<AppMsg>,
 }
 
+// Not derived: then each way out drops it in one call (docs/DECISIONS.md, "Drops").
 impl Drop for Draft {
     fn drop(self) {
         let Draft {

@@ -41,6 +41,7 @@ pub struct Session {
     settled: Settled,
 }
 
+// Not derived: then each way out drops it in one call (docs/DECISIONS.md, "Drops").
 impl Drop for Session {
     fn drop(self) {
         let Session {

@@ -33,6 +33,7 @@ pub struct CancelReject {
     pub text: Text,
 }
 
+// Not derived: then each way out drops it in one call (docs/DECISIONS.md, "Drops").
 impl Drop for CancelReject {
     fn drop(self) {
         let CancelReject {

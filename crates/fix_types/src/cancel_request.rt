@@ -23,6 +23,7 @@ pub struct CancelRequest {
     pub orig_cl_ord_id: ClOrdId,
 }
 
+// Not derived: then each way out drops it in one call (docs/DECISIONS.md, "Drops").
 impl Drop for CancelRequest {
     fn drop(self) {
         let CancelRequest {

@@ -38,6 +38,7 @@ pub struct NewOrder {
     pub min_qty: Option<FloatText>,
 }
 
+// Not derived: then each way out drops it in one call (docs/DECISIONS.md, "Drops").
 impl Drop for NewOrder {
     fn drop(self) {
         let NewOrder {

@@ -53,6 +53,7 @@ pub struct Report {
     pub text: Option<Text>,
 }
 
+// Not derived: then each way out drops it in one call (docs/DECISIONS.md, "Drops").
 impl Drop for Report {
     fn drop(self) {
         let Report {

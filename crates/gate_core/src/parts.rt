@@ -27,6 +27,7 @@ pub(crate) struct Parts<S: BuildHasher + Drop = BuildHasherDefault<FoldHasher>> 
     pub(crate) orders: OrderCore<S>,
 }
 
+// Not derived: then each way out drops it in one call (docs/DECISIONS.md, "Drops").
 impl<S: BuildHasher + Drop> Drop for Parts<S> {
     fn drop(self) {
         let Parts {

@@ -31,6 +31,7 @@ pub struct Core<S: BuildHasher + Drop = BuildHasherDefault<FoldHasher>> {
     settled_events: u64,
 }
 
+// Not derived: then each way out drops it in one call (docs/DECISIONS.md, "Drops").
 impl<S: BuildHasher + Drop> Drop for Core<S> {
     fn drop(self) {
         let Core {

@@ -35,6 +35,7 @@ pub struct Batch {
     ghost for_port: { is_some port ≡ not ((length port_out.items == 0) && not (is_some fault)) },
 }
 
+// Not derived: then each way out drops it in one call (docs/DECISIONS.md, "Drops").
 impl Drop for Batch {
     fn drop(self) {
         let Batch {

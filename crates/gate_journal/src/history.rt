@@ -14,6 +14,7 @@ pub struct History {
     batches: Vec<Batch>,
 }
 
+// Not derived: then each way out drops it in one call (docs/DECISIONS.md, "Drops").
 impl Drop for History {
     fn drop(self) {
         let History {

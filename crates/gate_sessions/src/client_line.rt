@@ -23,6 +23,7 @@ pub struct ClientLine {
     pub is_touched: bool,
 }
 
+// Not derived: then each way out drops it in one call (docs/DECISIONS.md, "Drops").
 impl Drop for ClientLine {
     fn drop(self) {
         let ClientLine {

@@ -21,6 +21,7 @@ pub struct PortLine {
     pub settled_link: Option<u64>,
 }
 
+// Not derived: then each way out drops it in one call (docs/DECISIONS.md, "Drops").
 impl Drop for PortLine {
     fn drop(self) {
         let PortLine {

@@ -50,6 +50,7 @@ pub struct BatchWriter {
     limit: Limit,
 }
 
+// Not derived: then each way out drops it in one call (docs/DECISIONS.md, "Drops").
 impl Drop for BatchWriter {
     fn drop(self) {
         let BatchWriter {

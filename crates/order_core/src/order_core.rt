@@ -30,6 +30,7 @@ pub struct OrderCore<S: BuildHasher + Drop = BuildHasherDefault<FoldHasher>> {
     asked: AskedMessages,
 }
 
+// Not derived: then each way out drops it in one call (docs/DECISIONS.md, "Drops").
 impl<S: BuildHasher + Drop> Drop for OrderCore<S> {
     fn drop(self) {
         let OrderCore {

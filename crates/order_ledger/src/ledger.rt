@@ -38,6 +38,7 @@ pub struct OrderLedger<S: BuildHasher + Drop = BuildHasherDefault<FoldHasher>> {
     settled_exec_ids: u64,
 }
 
+// Not derived: then each way out drops it in one call (docs/DECISIONS.md, "Drops").
 impl<S: BuildHasher + Drop> Drop for OrderLedger<S> {
     fn drop(self) {
         let OrderLedger {

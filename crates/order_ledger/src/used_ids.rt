@@ -85,6 +85,7 @@ pub struct UsedIds<S: BuildHasher + Drop = BuildHasherDefault<FoldHasher>> {
     keys: HintIndex<TextKey, S>,
 }
 
+// Not derived: then each way out drops it in one call (docs/DECISIONS.md, "Drops").
 impl<S: BuildHasher + Drop> Drop for UsedIds<S> {
     fn drop(self) {
         let UsedIds { ids: _, keys: _ } = self;

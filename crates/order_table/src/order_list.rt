@@ -29,6 +29,7 @@ pub(crate) struct OrderList<S: BuildHasher + Drop = BuildHasherDefault<FoldHashe
     names: HintIndex<NameKey, S>,
 }
 
+// Not derived: then each way out drops it in one call (docs/DECISIONS.md, "Drops").
 impl<S: BuildHasher + Drop> Drop for OrderList<S> {
     fn drop(self) {
         let OrderList {

@@ -56,6 +56,7 @@ pub struct Table<S: BuildHasher + Drop = BuildHasherDefault<FoldHasher>> {
     ghost settled_counted: { IsCounted tokens.settled open_counts.settled orders.settled },
 }
 
+// Not derived: then each way out drops it in one call (docs/DECISIONS.md, "Drops").
 impl<S: BuildHasher + Drop> Drop for Table<S> {
     fn drop(self) {
         let Table {

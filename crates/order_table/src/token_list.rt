@@ -23,6 +23,7 @@ pub(crate) struct TokenList<S: BuildHasher + Drop = BuildHasherDefault<FoldHashe
     texts: HintIndex<TokenKey, S>,
 }
 
+// Not derived: then each way out drops it in one call (docs/DECISIONS.md, "Drops").
 impl<S: BuildHasher + Drop> Drop for TokenList<S> {
     fn drop(self) {
         let TokenList {

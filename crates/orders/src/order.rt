@@ -63,6 +63,7 @@ pub struct Order {
     ghost replace_set: { progress.tokens + length (option_to_list replace) ≤ 65_536 },
 }
 
+// Not derived: then each way out drops it in one call (docs/DECISIONS.md, "Drops").
 impl Drop for Order {
     fn drop(self) {
         let Order {

@@ -26,6 +26,7 @@ pub struct Cancelling {
     pub second: Option<[u8; 14]>,
 }
 
+// Not derived: then each way out drops it in one call (docs/DECISIONS.md, "Drops").
 impl Drop for Cancelling {
     fn drop(self) {
         let Cancelling {

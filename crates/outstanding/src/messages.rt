@@ -37,6 +37,7 @@ pub struct AskedMessages {
     ghost none_answered: { has_answered ≡ false → filter is_unanswered messages.items ≡ messages.items },
 }
 
+// Not derived: then each way out drops it in one call (docs/DECISIONS.md, "Drops").
 impl Drop for AskedMessages {
     fn drop(self) {
         let AskedMessages {

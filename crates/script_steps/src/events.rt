@@ -28,6 +28,7 @@ pub struct Links {
     pub ports: [PortLink; 2],
 }
 
+// Not derived: then each way out drops it in one call (docs/DECISIONS.md, "Drops").
 impl Drop for Links {
     fn drop(self) {
         let Links {

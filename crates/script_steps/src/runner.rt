@@ -27,6 +27,7 @@ pub struct Runner<S: BuildHasher + Drop = BuildHasherDefault<FoldHasher>> {
     links: Links,
 }
 
+// Not derived: then each way out drops it in one call (docs/DECISIONS.md, "Drops").
 impl<S: BuildHasher + Drop> Drop for Runner<S> {
     fn drop(self) {
         let Runner { core: _, links: _ } = self;

@@ -26,6 +26,7 @@ pub struct KeptBodies {
     places: Vec<KeptPlace>,
 }
 
+// Not derived: then each way out drops it in one call (docs/DECISIONS.md, "Drops").
 impl Drop for KeptBodies {
     fn drop(self) {
         let KeptBodies { text: _, places: _ } = self;

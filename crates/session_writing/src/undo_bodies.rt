@@ -21,6 +21,7 @@ pub struct UndoBodies {
     before: Option<KeptBodies>,
 }
 
+// Not derived: then each way out drops it in one call (docs/DECISIONS.md, "Drops").
 impl Drop for UndoBodies {
     fn drop(self) {
         let UndoBodies {

@@ -29,6 +29,7 @@ pub struct PortSession {
     settled: Port,
 }
 
+// Not derived: then each way out drops it in one call (docs/DECISIONS.md, "Drops").
 impl Drop for PortSession {
     fn drop(self) {
         let PortSession {

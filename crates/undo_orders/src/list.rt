@@ -33,6 +33,7 @@ pub struct UndoOrders {
     changed: Vec<Was>,
 }
 
+// Not derived: then each way out drops it in one call (docs/DECISIONS.md, "Drops").
 impl Drop for UndoOrders {
     fn drop(self) {
         let UndoOrders {
