@@ -150,23 +150,23 @@ fn a_head_of_too_long_a_frame(rt: HostRuntime) -> Result<(), Fail> {
 }
 
 /// What is put of a port's stream by two steps, of which each has to find an empty packet.
-fn put_before_fault(rt: &HostRuntime, stream: &[u8]) -> Result<Vec<u8>, Fail> {
-    let mut gate = Kept::new(rt.alloc());
-    let mut reader = port_reader(rt.alloc(), 100);
+fn put_before_fault<R: Abort>(rt: &R, alloc: Global, stream: &[u8]) -> Result<Vec<u8>, Fail> {
+    let mut gate = Kept::new(alloc);
+    let mut reader = port_reader(alloc, 100);
     let mut stream = pieces(stream, 4_096, 100);
     for _ in 0..2 {
-        let done = reader.step(rt.alloc(), &mut stream, &mut gate, 5);
+        let done = reader.step(alloc, &mut stream, &mut gate, 5);
         assert_eq!(rt; done, Err(LinkFault::Malformed));
     }
-    Ok(told(rt.alloc(), gate.events.as_slice())?)
+    Ok(told(alloc, gate.events.as_slice())?)
 }
 
 #[test]
 fn an_empty_packet_and_one_before_it(rt: HostRuntime) -> Result<(), Fail> {
-    let events = put_before_fault(&rt, b"\x00\x00")?;
-    assert_eq!(&rt; events.as_slice(), b"".as_slice());
-    let events = put_before_fault(&rt, b"\x00\x01H\x00\x00")?;
-    assert_eq!(&rt; events.as_slice(), FROM_PORT.as_slice());
+    let events = put_before_fault(&rt, rt.alloc(), b"\x00\x00")?;
+    assert_eq!(rt; events.as_slice(), b"".as_slice());
+    let events = put_before_fault(&rt, rt.alloc(), b"\x00\x01H\x00\x00")?;
+    assert_eq!(rt; events.as_slice(), FROM_PORT.as_slice());
     Ok(())
 }
 
@@ -190,20 +190,21 @@ fn a_reader_that_fails_at_each_read(rt: HostRuntime) -> Result<(), Fail> {
 }
 
 /// The gate is full: the first event waits at each step, and nothing more is read.
-fn hold(
-    rt: &HostRuntime,
+fn hold<R: Abort>(
+    rt: &R,
+    alloc: Global,
     reader: &mut ClientReader,
     stream: &mut Pieces<'_>,
     gate: &mut Kept,
 ) -> Result<(), Fail> {
     gate.is_full = true;
     for at in 5..10 {
-        let done = reader.step(rt.alloc(), stream, gate, at);
+        let done = reader.step(alloc, stream, gate, at);
         assert_eq!(rt; done, Ok(Progress::Held));
         assert_eq!(rt; stream.reads_left, 0);
     }
     gate.is_full = false;
-    let done = reader.step(rt.alloc(), stream, gate, 5);
+    let done = reader.step(alloc, stream, gate, 5);
     assert_eq!(rt; done, Err(LinkFault::ReadFailed));
     Ok(())
 }
@@ -213,9 +214,15 @@ fn an_event_that_is_given_back_is_put_next(rt: HostRuntime) -> Result<(), Fail> 
     let expected = [FROM_CLIENT.as_slice(), FROM_CLIENT.as_slice()].concat(rt.alloc())?;
     let mut gate = Kept::new(rt.alloc());
     let mut reader = client_reader(rt.alloc(), 100);
-    hold(&rt, &mut reader, &mut pieces(TWO, 4_096, 1), &mut gate)?;
+    hold(
+        &rt,
+        rt.alloc(),
+        &mut reader,
+        &mut pieces(TWO, 4_096, 1),
+        &mut gate,
+    )?;
     let events = told(rt.alloc(), gate.events.as_slice())?;
-    assert_eq!(&rt; events.as_slice(), expected.as_slice());
+    assert_eq!(rt; events.as_slice(), expected.as_slice());
     Ok(())
 }
 

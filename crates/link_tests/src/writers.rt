@@ -47,11 +47,11 @@ fn torn(alloc: Global, size: usize, writes_left: usize) -> Torn {
 }
 
 /// Writes what lies there up to the `Close`, so many bytes a write.
-fn write_up_to_close(rt: &HostRuntime, size: usize) -> Result<(), Fail> {
-    let mut gate = gate_of_lists(rt.alloc())?;
-    let mut stream = torn(rt.alloc(), size, 100);
-    let mut writer = BatchWriter::new(rt.alloc(), 1, 7, 100);
-    let wrote = writer.step(rt.alloc(), &mut stream, &mut gate);
+fn write_up_to_close<R: Abort>(rt: &R, alloc: Global, size: usize) -> Result<(), Fail> {
+    let mut gate = gate_of_lists(alloc)?;
+    let mut stream = torn(alloc, size, 100);
+    let mut writer = BatchWriter::new(alloc, 1, 7, 100);
+    let wrote = writer.step(alloc, &mut stream, &mut gate);
     assert_eq!(rt;
         wrote,
         Ok(Wrote {
@@ -68,7 +68,7 @@ fn write_up_to_close(rt: &HostRuntime, size: usize) -> Result<(), Fail> {
 #[test]
 fn lists_up_to_the_close_are_written(rt: HostRuntime) -> Result<(), Fail> {
     for size in [1, 4, 4_096] {
-        write_up_to_close(&rt, size)?;
+        write_up_to_close(&rt, rt.alloc(), size)?;
     }
     Ok(())
 }

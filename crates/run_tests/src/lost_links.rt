@@ -5,7 +5,7 @@ use gateway_run::{end_day, run_settings, tell};
 use journal_audit::audit_file;
 use link_sockets::{Acceptor, Opened, Opener};
 use market_book::Choice;
-use settings_file::{Settings, SettingsFile, read};
+use settings_file::{SettingsFile, read};
 use std::alloc::Global;
 use std::hash::RandomState;
 use std::net::{Net, TcpListener, TcpStream};
@@ -126,58 +126,45 @@ fn settings(alloc: Global, clients: [&str; 2], ports: [&str; 2]) -> Result<Setti
     read(alloc, text.as_bytes()).map_err(|_| Fail::new("the settings are refused"))
 }
 
-/// A listener on loopback, with its address.
-fn listener<R: Net<Listener = TcpListener, Stream = TcpStream>>(
-    rt: &R,
-    alloc: Global,
-) -> Result<(TcpListener, String), Fail> {
-    loopback(rt, alloc).map_err(|_| Fail::new("no listener"))
-}
-
 /// An address where nobody listens yet.
 fn free_address<R: Net<Listener = TcpListener, Stream = TcpStream>>(
     rt: &R,
     alloc: Global,
 ) -> Result<String, Fail> {
-    let (_, address) = listener(rt, alloc)?;
+    let Ok((_, address)) = loopback(rt, alloc) else {
+        return Err(Fail::new("no listener"));
+    };
     Ok(address)
 }
 
-/// What a day writes.
-#[derive(Drop)]
-struct Written {
-    journal: Vec<u8>,
-    output: Vec<u8>,
-    faults: Vec<u8>,
-}
-
-/// Runs the day, and writes its journal and its audit: the status, and how its markets and clients ended.
-fn run_day(
-    rt: &HostRuntime,
-    file: SettingsFile,
-    clients: [&str; 2],
-    ports: (TcpListener, TcpListener),
-    written: &mut Written,
-) -> Result<(u8, Result<(), DemoFault>), Fail> {
+#[test]
+fn a_client_and_a_port_lose_their_links(rt: HostRuntime) -> Result<(), Fail> {
     let alloc = rt.alloc();
+    let rt = &rt;
+    let (Ok((first, first_address)), Ok((second, second_address))) = (
+        loopback(rt, alloc),
+        loopback(rt, alloc),
+    ) else {
+        return Err(Fail::new("no listener"));
+    };
+    let (one, two) = (free_address(rt, alloc)?, free_address(rt, alloc)?);
+    let file = settings(alloc, [&one, &two], [&first_address, &second_address])?;
+    let same = settings(alloc, [&one, &two], [&first_address, &second_address])?;
+    let (one, two) = (one.as_str(), two.as_str());
     let hasher = RandomState::new(rt)?;
-    let [one, two] = clients;
-    let (first, second) = ports;
     let is_past = AtomicBool::new(false);
     let is_past = &is_past;
-    let Written {
-        journal,
-        output,
-        faults,
-    } = written;
-    Ok(thread::scope(thread::scope_env(), rt, |scope| {
+    let mut journal = Vec::new(alloc);
+    let mut output = Vec::new(alloc);
+    let mut faults = Vec::new(alloc);
+    let ended = thread::scope(thread::scope_env(), rt, |scope| {
         let first = scope.spawn(move || serve_twice(rt, alloc, first, 1, is_past));
         let second = scope.spawn(move || serve_twice(rt, alloc, second, u32::MAX, is_past));
         let one = scope.spawn(move || come_again(rt, alloc, one));
         let two = scope.spawn(move || go_and_come(rt, alloc, two));
         let status = match run_settings(rt, alloc, hasher, file, 2) {
-            Ok(day) => end_day(alloc, &day, journal, output, faults),
-            Err(fault) => tell(fault, faults),
+            Ok(day) => end_day(alloc, &day, &mut journal, &mut output, &mut faults),
+            Err(fault) => tell(fault, &mut faults),
         };
         is_past.store(true, Ordering::SeqCst);
         let (Ok(first), Ok(second), Ok(one), Ok(two)) = (first, second, one, two) else {
@@ -185,44 +172,13 @@ fn run_day(
         };
         let markets = first.join(rt).and(second.join(rt));
         (status, markets.and(one.join(rt)).and(two.join(rt)))
-    }))
-}
-
-/// The audit that the day printed, and the one that its journal gives, which is the same.
-fn look_at(rt: &HostRuntime, settings: &Settings, written: &Written) -> Result<(), Fail> {
-    let alloc = rt.alloc();
-    let (mut again, mut faults) = (Vec::new(alloc), Vec::new(alloc));
-    let status = audit_file(
-        alloc,
-        written.journal.as_slice(),
-        settings,
-        &mut again,
-        &mut faults,
-    );
-    assert_eq!(rt; status, 0);
-    assert!(rt; written.output.as_slice() == AUDIT);
-    assert!(rt; again.as_slice() == AUDIT);
-    assert!(rt; written.faults.is_empty());
+    });
+    assert!(rt; ended == (0, Ok(())));
+    assert!(rt; output.as_slice() == AUDIT);
+    let mut again = Vec::new(alloc);
+    let journal = journal.as_slice();
+    let status = audit_file(alloc, journal, &same.settings, &mut again, &mut faults);
+    assert!(rt; status == 0 && again.as_slice() == AUDIT);
     assert!(rt; faults.is_empty());
     Ok(())
-}
-
-#[test]
-fn a_client_and_a_port_lose_their_links(rt: HostRuntime) -> Result<(), Fail> {
-    let alloc = rt.alloc();
-    let (first, first_address) = listener(&rt, alloc)?;
-    let (second, second_address) = listener(&rt, alloc)?;
-    let (one, two) = (free_address(&rt, alloc)?, free_address(&rt, alloc)?);
-    let clients = [one.as_str(), two.as_str()];
-    let addresses = [first_address.as_str(), second_address.as_str()];
-    let same = settings(alloc, clients, addresses)?;
-    let mut written = Written {
-        journal: Vec::new(alloc),
-        output: Vec::new(alloc),
-        faults: Vec::new(alloc),
-    };
-    let file = settings(alloc, clients, addresses)?;
-    let ended = run_day(&rt, file, clients, (first, second), &mut written)?;
-    assert!(&rt; ended == (0, Ok(())));
-    look_at(&rt, &same.settings, &written)
 }

@@ -1,9 +1,9 @@
 //! As many clients and ports as there may be.
 
 use gateway_demo::{Client, DemoFault, connected, loopback};
-use gateway_run::{Day, RunFault, RunPlan, audit_day, run};
+use gateway_run::{RunPlan, audit_day, run};
 use link_sockets::{Acceptor, Connector, Opener};
-use settings_file::{Settings, read};
+use settings_file::{SettingsFile, read};
 use std::alloc::Global;
 use std::hash::RandomState;
 use std::io::Write;
@@ -120,23 +120,31 @@ fn plan_of<'a, R>(
     Ok(RunPlan { clients, ports })
 }
 
-/// Runs the day, while all clients come and go: its end, and how the market and the clients ended.
-fn run_day(
-    rt: &HostRuntime,
-    settings: Settings,
-    clients: (Vec<TcpListener>, &[String]),
-    markets: (Vec<TcpListener>, &[String]),
-) -> Result<(Result<Day, RunFault>, Result<(), DemoFault>), Fail> {
+#[test]
+fn all_clients_on_all_ports_come_and_go(rt: HostRuntime) -> Result<(), Fail> {
     let alloc = rt.alloc();
-    let (is_over, is_past) = (AtomicBool::new(false), AtomicBool::new(false));
-    let (is_over, is_past) = (&is_over, &is_past);
-    let (listeners, addresses) = clients;
-    let (markets, market_addresses) = markets;
-    let Ok(plan) = plan_of(rt, alloc, listeners, market_addresses, is_over) else {
+    let rt = &rt;
+    let Ok(text) = settings(alloc) else {
         return Err(Fail::new("no memory"));
     };
+    let Ok(SettingsFile { settings, .. }) = read(alloc, text.as_slice()) else {
+        return Err(Fail::new("the settings are refused"));
+    };
+    let (Ok((clients, addresses)), Ok((markets, market_addresses))) = (
+        listeners(rt, alloc, NAMES.len()),
+        listeners(rt, alloc, PORTS),
+    ) else {
+        return Err(Fail::new("no listener"));
+    };
+    let (is_over, is_past) = (AtomicBool::new(false), AtomicBool::new(false));
+    let (is_over, is_past) = (&is_over, &is_past);
+    let market_addresses = market_addresses.as_slice();
+    let Ok(plan) = plan_of(rt, alloc, clients, market_addresses, is_over) else {
+        return Err(Fail::new("no memory"));
+    };
+    let addresses = addresses.as_slice();
     let hasher = RandomState::new(rt)?;
-    Ok(thread::scope(thread::scope_env(), rt, |scope| {
+    let (ran, ended) = thread::scope(thread::scope_env(), rt, |scope| {
         let markets = scope.spawn(move || accept_all(rt, alloc, markets, is_past));
         let clients = scope.spawn(move || come_and_go(rt, alloc, addresses));
         let ran = run(rt, alloc, hasher, settings, plan, is_over);
@@ -145,49 +153,15 @@ fn run_day(
             return (ran, Err(DemoFault::NoThread));
         };
         (ran, markets.join(rt).and(clients.join(rt)))
-    }))
-}
-
-/// The audit of a day in which nobody asked for anything.
-fn look_at(rt: &HostRuntime, day: &Day) -> Result<(), Fail> {
-    let alloc = rt.alloc();
+    });
+    assert!(rt; ended == Ok(()));
+    let Ok(day) = ran else {
+        return Err(Fail::new("the gateway did not run to its end"));
+    };
     let (mut output, mut errors) = (Vec::new(alloc), Vec::new(alloc));
-    assert_eq!(rt; audit_day(alloc, day, &mut output, &mut errors), 0);
+    assert_eq!(rt; audit_day(alloc, &day, &mut output, &mut errors), 0);
     assert!(rt; output.as_slice() == b"orders 0 agree 0\n".as_slice());
     assert!(rt; errors.is_empty());
     assert!(rt; day.fault().is_none());
     Ok(())
-}
-
-#[test]
-fn all_clients_on_all_ports_come_and_go(rt: HostRuntime) -> Result<(), Fail> {
-    let alloc = rt.alloc();
-    let Ok(text) = settings(alloc) else {
-        return Err(Fail::new("no memory"));
-    };
-    let Ok(file) = read(alloc, text.as_slice()) else {
-        return Err(Fail::new("the settings are refused"));
-    };
-    let (clients, addresses) = some_listeners(&rt, alloc, NAMES.len())?;
-    let (markets, market_addresses) = some_listeners(&rt, alloc, PORTS)?;
-    let (ran, ended) = run_day(
-        &rt,
-        file.settings,
-        (clients, addresses.as_slice()),
-        (markets, market_addresses.as_slice()),
-    )?;
-    assert!(&rt; ended == Ok(()));
-    let Ok(day) = ran else {
-        return Err(Fail::new("the gateway did not run to its end"));
-    };
-    look_at(&rt, &day)
-}
-
-/// Listeners on loopback with their addresses.
-fn some_listeners(
-    rt: &HostRuntime,
-    alloc: Global,
-    count: usize,
-) -> Result<(Vec<TcpListener>, Vec<String>), Fail> {
-    listeners(rt, alloc, count).map_err(|_| Fail::new("no listener"))
 }

@@ -1,11 +1,11 @@
 //! A market that says what is no message.
 
-use gate_events::{Batch, PortFault, PortNumber};
+use gate_events::{PortFault, PortNumber};
 use gateway_demo::{Client, DemoFault, Market, Order, connected, loopback};
-use gateway_run::{Day, RunFault, RunPlan, audit_day, run};
+use gateway_run::{RunPlan, audit_day, run};
 use link_sockets::{Acceptor, Connector, Opened, Opener};
 use market_book::Choice;
-use settings_file::{Settings, read};
+use settings_file::{SettingsFile, read};
 use std::alloc::Global;
 use std::hash::RandomState;
 use std::io::{Read, Write};
@@ -101,25 +101,32 @@ fn buy_twice<R: Clock + Net<Listener = TcpListener, Stream = TcpStream>>(
     client.log_out()
 }
 
-/// Runs the day: its end, and how the market and the client ended.
-fn run_day(
-    rt: &HostRuntime,
-    settings: Settings,
-    client: (TcpListener, &str),
-    market: (TcpListener, &str),
-) -> Result<(Result<Day, RunFault>, Result<(), DemoFault>), Fail> {
+#[test]
+fn a_payload_outside_the_profile_ends_its_port_alone(rt: HostRuntime) -> Result<(), Fail> {
     let alloc = rt.alloc();
-    let (is_over, is_past) = (AtomicBool::new(false), AtomicBool::new(false));
-    let has_closed = AtomicBool::new(false);
+    let rt = &rt;
+    let (Ok((client, address)), Ok((market, market_address))) = (
+        loopback(rt, alloc),
+        loopback(rt, alloc),
+    ) else {
+        return Err(Fail::new("no listener"));
+    };
+    let Ok(SettingsFile { settings, .. }) = read(alloc, SETTINGS.as_bytes()) else {
+        return Err(Fail::new("the settings are refused"));
+    };
+    let (is_over, is_past, has_closed) = (
+        AtomicBool::new(false),
+        AtomicBool::new(false),
+        AtomicBool::new(false),
+    );
     let (is_over, is_past, has_closed) = (&is_over, &is_past, &has_closed);
-    let (client, address) = client;
-    let (market, market_address) = market;
     let plan = RunPlan {
         clients: vec![in alloc; Acceptor::of_listener(rt, client, 1, is_over)]?,
-        ports: vec![in alloc; Connector::new(rt, market_address, 1, is_over)]?,
+        ports: vec![in alloc; Connector::new(rt, &market_address, 1, is_over)]?,
     };
+    let address = address.as_str();
     let hasher = RandomState::new(rt)?;
-    Ok(thread::scope(thread::scope_env(), rt, |scope| {
+    let (ran, ended) = thread::scope(thread::scope_env(), rt, |scope| {
         let market = scope.spawn(move || say_nothing_known(rt, alloc, market, is_past, has_closed));
         let client = scope.spawn(move || buy_twice(rt, alloc, address, has_closed));
         let ran = run(rt, alloc, hasher, settings, plan, is_over);
@@ -128,51 +135,25 @@ fn run_day(
             return (ran, Err(DemoFault::NoThread));
         };
         (ran, market.join(rt).and(client.join(rt)))
-    }))
-}
-
-/// One batch has a fault: that of the port, for a payload outside the profile.
-fn look_at_faults(rt: &HostRuntime, batches: &[Batch]) -> Result<(), Fail> {
-    let faults = batches.iter().filter(|batch| batch.fault.is_some()).count();
-    assert_eq!(rt; faults, 1);
-    let told = batches.iter().any(|batch| batch.fault == Some(PortFault::OutsideProfile)
-        && batch.port == Some(PortNumber::new(1)));
-    assert!(rt; told);
-    Ok(())
-}
-
-/// The audit of the day: the order before the fault.
-fn look_at_audit(rt: &HostRuntime, day: &Day) -> Result<(), Fail> {
-    let alloc = rt.alloc();
-    let (mut output, mut errors) = (Vec::new(alloc), Vec::new(alloc));
-    assert_eq!(rt; audit_day(alloc, day, &mut output, &mut errors), 0);
-    assert!(rt; output.as_slice() == AUDIT);
-    assert!(rt; errors.is_empty());
-    Ok(())
-}
-
-#[test]
-fn a_payload_outside_the_profile_ends_its_port_alone(rt: HostRuntime) -> Result<(), Fail> {
-    let alloc = rt.alloc();
-    let (Ok((client, address)), Ok((market, market_address))) = (
-        loopback(&rt, alloc),
-        loopback(&rt, alloc),
-    ) else {
-        return Err(Fail::new("no listener"));
-    };
-    let Ok(file) = read(alloc, SETTINGS.as_bytes()) else {
-        return Err(Fail::new("the settings are refused"));
-    };
-    let (ran, ended) = run_day(
-        &rt,
-        file.settings,
-        (client, address.as_str()),
-        (market, market_address.as_str()),
-    )?;
-    assert!(&rt; ended == Ok(()));
+    });
+    assert!(rt; ended == Ok(()));
     let Ok(day) = ran else {
         return Err(Fail::new("the gateway did not run to its end"));
     };
-    look_at_faults(&rt, day.history().batches())?;
-    look_at_audit(&rt, &day)
+    let faults = day
+        .history()
+        .batches()
+        .iter()
+        .filter(|batch| batch.fault.is_some())
+        .count();
+    assert_eq!(rt; faults, 1);
+    let told = day.history().batches().iter().any(|batch| batch.fault
+        == Some(PortFault::OutsideProfile)
+        && batch.port == Some(PortNumber::new(1)));
+    assert!(rt; told);
+    let (mut output, mut errors) = (Vec::new(alloc), Vec::new(alloc));
+    assert_eq!(rt; audit_day(alloc, &day, &mut output, &mut errors), 0);
+    assert!(rt; output.as_slice() == AUDIT);
+    assert!(rt; errors.is_empty());
+    Ok(())
 }
