@@ -279,8 +279,7 @@ class Report:
     def details(self):
         yield f"  told: {show(self.sum(self.clients, 'told'))}"
         yield f"  sessions: {show(self.sum(self.clients, 'session'))}"
-        yield (f"  clients: {show(self.sum(self.clients, 'counts'))}; 52 goes back by "
-               f"{max((it['furthest_back'] for it in self.clients), default=0)} ms at most; silent beyond 108 for "
+        yield (f"  clients: {show(self.sum(self.clients, 'counts'))}; silent beyond 108 for "
                f"{max((it['silence'] for it in self.clients), default=0):.1f} s at most")
         yield f"  markets: {show(self.sum(self.markets, 'counts'))}"
         yield f"  standard error: {show(self.events)}"

@@ -72,7 +72,7 @@ fn entered<S: BuildHasher + Drop>(
     requires enter { AsksNext sender.now table.now order.now enter.now }
     ensures { IfOk result (λ o. o ≡ entered (entry_after order_id sender.now table.now order.now)) }
 {
-    Order::entered(
+    Ok(Order::entered(
         alloc,
         sender.client,
         order_id,
@@ -80,7 +80,7 @@ fn entered<S: BuildHasher + Drop>(
         table.token_count() as u64 + 1,
         order.copied(alloc)?,
         Progress::entered(enter.shares, enter.price),
-    )
+    ))
 }
 
 /// The report that an order waits for the market.

@@ -22,11 +22,22 @@ use undo_orders::UndoOrders;
 
 /// The accepted orders, the oldest first, each found by its number and by the ids that it goes by. Contracts see the
 /// list, now and as it was settled, and for how many orders more there is room.
-#[derive(Debug, Drop)]
+#[derive(Debug)]
 pub(crate) struct OrderList<S: BuildHasher + Drop = BuildHasherDefault<FoldHasher>> {
     orders: UndoOrders,
     numbers: HintIndex<NumberKey, S>,
     names: HintIndex<NameKey, S>,
+}
+
+// Not derived: then each way out drops it in one call (docs/DECISIONS.md, "Drops").
+impl<S: BuildHasher + Drop> Drop for OrderList<S> {
+    fn drop(self) {
+        let OrderList {
+            orders: _,
+            numbers: _,
+            names: _,
+        } = self;
+    }
 }
 
 impl<S: BuildHasher + Drop> Model for OrderList<S> {
@@ -233,7 +244,7 @@ fn note_names<S: BuildHasher + Drop>(
         → Covered same_name has_name_key names.new orders.now }
     ensures leads { (k : Key) → has_name_key k order.now ≡ true → LeadsTo (hint_of same_name names.new k) place }
 {
-    let own = NameKey::of(order.client, order.cl_ord_id.as_slice());
+    let own = NameKey::of(order.client, order.cl_ord_id().as_slice());
     let replace = key_of_replace(order.client, &order.replace);
     let cancel = key_of_cancel(order.client, &order.cancel);
     names.note(orders, own, place);

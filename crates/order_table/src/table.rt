@@ -46,7 +46,7 @@ impl Model for GivenToken {
 /// `undo` puts back what was there at the last `settle`, and no orders where there was none.
 ///
 /// Orders and tokens are found by indexes over any hasher, which changes nothing but how fast they are found.
-#[derive(Debug, Drop)]
+#[derive(Debug)]
 pub struct Table<S: BuildHasher + Drop = BuildHasherDefault<FoldHasher>> {
     orders: OrderList<S>,
     tokens: TokenList<S>,
@@ -54,6 +54,17 @@ pub struct Table<S: BuildHasher + Drop = BuildHasherDefault<FoldHasher>> {
     open_counts: OpenCounts,
     ghost counted: { IsCounted tokens.now open_counts.now orders.now },
     ghost settled_counted: { IsCounted tokens.settled open_counts.settled orders.settled },
+}
+
+// Not derived: then each way out drops it in one call (docs/DECISIONS.md, "Drops").
+impl<S: BuildHasher + Drop> Drop for Table<S> {
+    fn drop(self) {
+        let Table {
+            orders: _,
+            tokens: _,
+            open_counts: _,
+        } = self;
+    }
 }
 
 impl<S: BuildHasher + Drop> Model for Table<S> {

@@ -17,10 +17,20 @@ use undo_list::UndoList;
 
 /// The tokens that were given, the oldest first, each found by its port and its text. Contracts see the list, now and
 /// as it was settled, and for how many tokens more there is room.
-#[derive(Debug, Drop)]
+#[derive(Debug)]
 pub(crate) struct TokenList<S: BuildHasher + Drop = BuildHasherDefault<FoldHasher>> {
     tokens: UndoList<GivenToken>,
     texts: HintIndex<TokenKey, S>,
+}
+
+// Not derived: then each way out drops it in one call (docs/DECISIONS.md, "Drops").
+impl<S: BuildHasher + Drop> Drop for TokenList<S> {
+    fn drop(self) {
+        let TokenList {
+            tokens: _,
+            texts: _,
+        } = self;
+    }
 }
 
 impl<S: BuildHasher + Drop> Model for TokenList<S> {

@@ -5,6 +5,7 @@ ghost use Rattle.order_law.specs.declared.stage.Stage.TheVariants.{Waiting};
 ghost use Rattle.orders.specs.EarlierTrades.{most_trades};
 ghost use Rattle.wire_law.specs.Printable.{ArePrintable};
 
+use crate::boxed::Boxed;
 use crate::earlier_trades::EarlierTrades;
 use crate::progress::Progress;
 use crate::requests::{Cancelling, Replacing};
@@ -20,8 +21,8 @@ pub struct EarlierOrder {
     pub(crate) cl_ord_id: Option<ClOrdId>,
     pub(crate) progress: Progress,
     pub(crate) trades: EarlierTrades,
-    pub(crate) replace: Option<Replacing>,
-    pub(crate) cancel: Option<Cancelling>,
+    pub(crate) replace: Option<Boxed<Replacing>>,
+    pub(crate) cancel: Option<Boxed<Cancelling>>,
     ghost token_set: { ArePrintable token },
     ghost trades_set: { progress.stage ≡ Waiting → most_trades trades ≡ 0 },
     ghost counted: { progress.tokens ≤ 1 + earlier_count },

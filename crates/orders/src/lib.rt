@@ -5,6 +5,7 @@
 #![tactic(auto)]
 
 mod answering;
+mod boxed;
 mod change;
 mod copying;
 mod earlier;
@@ -16,6 +17,7 @@ mod putting_back;
 mod requests;
 mod trades;
 
+pub use boxed::Boxed;
 pub use change::Change;
 pub use earlier_order::EarlierOrder;
 pub use order::{Order, ToldTrade};

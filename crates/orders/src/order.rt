@@ -9,11 +9,13 @@ ghost use Rattle.orders.specs.Changes.{with_quantities};
 ghost use Rattle.orders.specs.Seen.{progressed};
 ghost use Rattle.wire_law.specs.Printable.{ArePrintable};
 
+use crate::answering::without;
+use crate::boxed::Boxed;
 use crate::change::Change;
 use crate::earlier::{is_among, push_earlier};
 use crate::progress::Progress;
 use crate::requests::{Cancelling, Replacing};
-use crate::trades::mark;
+use crate::trades::{make_room, mark};
 use fix_types::NewOrder;
 use fix_values::ClOrdId;
 use order_law::Trade;
@@ -28,14 +30,17 @@ pub struct ToldTrade {
 }
 
 /// An accepted order. Contracts see it as `order_machine`'s record.
-#[derive(Debug, Drop)]
+#[derive(Debug)]
 pub struct Order {
+    /// How far it has come.
+    pub progress: Progress,
+    /// The market's name for it.
+    pub token: [u8; 14],
     /// The number of its client, from 1.
     pub client: u16,
     /// OrderID (37).
     pub order_id: u64,
-    /// The market's name for it, and the number of the first that it had.
-    pub token: [u8; 14],
+    /// The number of the first token that it had.
     pub token_number: u64,
     /// The names that it had before, the oldest first.
     pub earlier: Vec<[u8; 14]>,
@@ -43,15 +48,13 @@ pub struct Order {
     pub message: NewOrder,
     /// OrderQty (38) of it, in shares.
     pub first_total: u64,
-    /// ClOrdID (11): its own, or that of the last replace of it that was done.
-    pub cl_ord_id: ClOrdId,
-    /// How far it has come.
-    pub progress: Progress,
+    /// ClOrdID (11) of the last replace of it that was done; `None` where none was, and it has its message's.
+    pub renamed: Option<ClOrdId>,
     /// Its trades, the oldest first: none while it waits.
     pub trades: Vec<ToldTrade>,
     /// The pending replace of it, and the pending cancel, which was accepted after it.
-    pub replace: Option<Replacing>,
-    pub cancel: Option<Cancelling>,
+    pub replace: Option<Boxed<Replacing>>,
+    pub cancel: Option<Boxed<Cancelling>>,
     ghost token_set: { ArePrintable token },
     ghost trades_set: { progress.stage ≡ Waiting → trades.items ≡ [] },
     ghost counted: { progress.tokens ≤ 1 + length earlier.items },
@@ -60,8 +63,28 @@ pub struct Order {
     ghost replace_set: { progress.tokens + length (option_to_list replace) ≤ 65_536 },
 }
 
+// Not derived: then each way out drops it in one call (docs/DECISIONS.md, "Drops").
+impl Drop for Order {
+    fn drop(self) {
+        let Order {
+            progress: _,
+            token: _,
+            client: _,
+            order_id: _,
+            token_number: _,
+            earlier: _,
+            message: _,
+            first_total: _,
+            renamed: _,
+            trades: _,
+            replace: _,
+            cancel: _,
+        } = self;
+    }
+}
+
 impl Model for Order {
-    ghost use Rattle.std.specs.Prelude.{[], ◌∷◌, Some, None, decimal, map, option_map, reverse};
+    ghost use Rattle.std.specs.Prelude.{[], ◌∷◌, Some, None, decimal, map, option_map, reverse, unwrap_or};
     ghost use Rattle.fix_types.specs.NewOrder.{new_order_fields};
     ghost use Rattle.order_machine.specs.OrderRecord as record_of;
     ghost use Rattle.orders.specs.Seen.{cancel_seen, replace_seen, told_seen};
@@ -77,7 +100,7 @@ impl Model for Order {
       };
       stage = o.progress.stage;
       is_refused = o.progress.is_refused;
-      id = o.cl_ord_id;
+      id = unwrap_or o.renamed o.message.cl_ord_id;
       total = o.progress.total;
       price = o.progress.price;
       unfilled = o.progress.unfilled;
@@ -104,7 +127,7 @@ impl Order {
     ghost use Rattle.orders.specs.declared.change.Change.TheVariants as changes;
 
     /// A new order that was accepted: it waits for the market. Its token is that of the number, its total and price are
-    /// what its message asks. The one error is that memory ran out.
+    /// what its message asks. It takes no memory.
     pub fn entered(
         alloc: Global,
         client: u16,
@@ -113,7 +136,7 @@ impl Order {
         token_number: u64,
         message: NewOrder,
         progress: Progress,
-    ) -> Result<Order, AllocError>
+    ) -> Order
         requires token { token ≡ token_text token_number }
         requires waits { progress.stage ≡ Waiting }
         requires refused { progress.is_refused ≡ false }
@@ -122,28 +145,27 @@ impl Order {
         requires executed { progress.executed ≡ 0 }
         requires value { progress.value ≡ 0 }
         requires tokens { progress.tokens ≡ 1 }
-        ensures { IfOk result (λ o. o ≡ entered (record {
+        ensures { result ≡ entered (record {
           client = client;
           message = new_order_fields message;
           order = decimal order_id;
           token = Some token_number;
-        })) }
+        }) }
     {
-        let cl_ord_id = ClOrdId::copied(alloc, message.cl_ord_id.as_slice())?;
-        Ok(Order {
+        Order {
+            progress,
+            token,
             client,
             order_id,
-            token,
             token_number,
             earlier: Vec::new(alloc),
             message,
             first_total: progress.total,
-            cl_ord_id,
-            progress,
+            renamed: None,
             trades: Vec::new(alloc),
             replace: None,
             cancel: None,
-        })
+        }
     }
 
     /// The order as a message of the market changes it, which fits it. `AllocError` leaves it as it was.
@@ -205,6 +227,16 @@ impl Order {
         }
     }
 
+    /// ClOrdID (11): its own, or that of the last replace of it that was done.
+    pub fn cl_ord_id(&self) -> &ClOrdId
+        ensures { result.now ≡ self.now.id }
+    {
+        match &self.renamed {
+            None => &self.message.cl_ord_id,
+            Some(renamed) => renamed,
+        }
+    }
+
     /// Whether a token is or was the one that it goes by.
     pub fn has_had(&self, token: &[u8; 14]) -> bool
         ensures { result ≡ list_any (bytes_eq token.now) self.now.tokens }
@@ -218,7 +250,7 @@ impl Order {
     {
         match &self.replace {
             None => false,
-            Some(replacing) => *token == replacing.token,
+            Some(replacing) => *token == replacing.get().token,
         }
     }
 
@@ -228,12 +260,12 @@ impl Order {
     {
         match &self.cancel {
             None => false,
-            Some(cancelling) => cancelling.is_last(token),
+            Some(cancelling) => cancelling.get().is_last(token),
         }
     }
 
     /// A replace of it is pending. It has had fewer than 65,536 tokens.
-    pub fn accept_replace(&mut self, replacing: Replacing)
+    pub fn accept_replace(&mut self, replacing: Boxed<Replacing>)
         requires { length self.old.tokens < 65_536 }
         ensures { self.new ≡ at self.old (Some (replace_of self.old replacing)) self.old.cancel }
     {
@@ -241,7 +273,7 @@ impl Order {
     }
 
     /// A cancel of it is pending.
-    pub fn accept_cancel(&mut self, cancelling: Cancelling)
+    pub fn accept_cancel(&mut self, cancelling: Boxed<Cancelling>)
         ensures { self.new ≡ at self.old self.old.replace (Some (cancel_of self.old cancelling)) }
     {
         self.cancel = Some(cancelling);
@@ -269,14 +301,15 @@ impl Order {
         ensures err { OnErr result (self.new ≡ self.old) }
     {
         self.earlier.reserve(1)?;
-        if let Some(replacing) = self.replace.take() {
+        if let Some(boxed) = self.replace.take() {
+            let replacing = boxed.into_inner();
             let live = self.token;
             let token = replacing.token;
             let message = replacing.message;
             self.progress = self.progress.replaced(shares, price);
             push_earlier(&mut self.earlier, live);
             self.token = token;
-            self.cl_ord_id = message.cl_ord_id;
+            self.renamed = Some(message.cl_ord_id);
             self.answer(live);
             if is_dead {
                 self.progress = self.progress.gone();
@@ -305,6 +338,7 @@ impl Order {
         ensures changed { IfOk result (λ nothing. self.new ≡ changed_by (changes.Traded told) self.old) }
         ensures err { OnErr result (self.new ≡ self.old) }
     {
+        make_room(&mut self.trades)?;
         self.trades.push(told)?;
         let (shares, price) = (told.trade.shares, told.trade.price);
         if shares == self.progress.unfilled {
@@ -348,7 +382,7 @@ impl Order {
     {
         self.cancel = match self.cancel.take() {
             None => None,
-            Some(cancelling) => cancelling.without(token),
+            Some(cancelling) => without(cancelling, token),
         };
     }
 
