@@ -72,15 +72,15 @@ fn entered<S: BuildHasher + Drop>(
     requires enter { AsksNext sender.now table.now order.now enter.now }
     ensures { IfOk result (λ o. o ≡ entered (entry_after order_id sender.now table.now order.now)) }
 {
-    Ok(Order::entered(
+    Order::entered(
         alloc,
         sender.client,
         order_id,
         enter.token,
         table.token_count() as u64 + 1,
-        order.copied(alloc)?,
+        order,
         Progress::entered(enter.shares, enter.price),
-    ))
+    )
 }
 
 /// The report that an order waits for the market.

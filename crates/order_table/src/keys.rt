@@ -101,7 +101,7 @@ fn is_named(client: u16, id: &[u8], order: &Order) -> bool
 fn goes_by(id: &[u8], order: &Order) -> bool
     ensures { result ≡ goes_by id.now (chained order.now) }
 {
-    order.cl_ord_id().as_slice() == id
+    order.cl_ord_id.as_slice() == id
         || (is_of_replace(id, &order.replace) || is_of_cancel(id, &order.cancel))
 }
 
@@ -140,7 +140,7 @@ impl Keyed<NameKey> for Order {
 fn has_name(order: &Order, key: &NameKey) -> bool
     ensures { result ≡ keys.has_name_key key.now order.now }
 {
-    *key == NameKey::of(order.client, order.cl_ord_id().as_slice())
+    *key == NameKey::of(order.client, order.cl_ord_id.as_slice())
         || (is_key_of_replace(key, order.client, &order.replace)
             || is_key_of_cancel(key, order.client, &order.cancel))
 }

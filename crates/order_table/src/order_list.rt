@@ -244,7 +244,7 @@ fn note_names<S: BuildHasher + Drop>(
         → Covered same_name has_name_key names.new orders.now }
     ensures leads { (k : Key) → has_name_key k order.now ≡ true → LeadsTo (hint_of same_name names.new k) place }
 {
-    let own = NameKey::of(order.client, order.cl_ord_id().as_slice());
+    let own = NameKey::of(order.client, order.cl_ord_id.as_slice());
     let replace = key_of_replace(order.client, &order.replace);
     let cancel = key_of_cancel(order.client, &order.cancel);
     names.note(orders, own, place);

@@ -15,6 +15,7 @@ mod order;
 mod progress;
 mod putting_back;
 mod requests;
+mod symbol;
 mod trades;
 
 pub use boxed::Boxed;
@@ -23,4 +24,5 @@ pub use earlier_order::EarlierOrder;
 pub use order::{Order, ToldTrade};
 pub use progress::Progress;
 pub use requests::{Cancelling, Replacing};
+pub use symbol::Symbol;
 pub use trades::mark;

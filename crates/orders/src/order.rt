@@ -15,12 +15,15 @@ use crate::change::Change;
 use crate::earlier::{is_among, push_earlier};
 use crate::progress::Progress;
 use crate::requests::{Cancelling, Replacing};
+use crate::symbol::Symbol;
 use crate::trades::{make_room, mark};
 use fix_types::NewOrder;
-use fix_values::ClOrdId;
+use fix_values::{Character, ClOrdId};
 use order_law::Trade;
 use std::alloc::{AllocError, Global};
+use std::fmt;
 use std::marker::Model;
+use std::snapshot::Snapshot;
 
 /// A trade, and the ExecID (17) under which its client was told of it.
 #[derive(Clone, Copy, Debug, PartialEq, Eq)]
@@ -30,7 +33,6 @@ pub struct ToldTrade {
 }
 
 /// An accepted order. Contracts see it as `order_machine`'s record.
-#[derive(Debug)]
 pub struct Order {
     /// How far it has come.
     pub progress: Progress,
@@ -44,12 +46,15 @@ pub struct Order {
     pub token_number: u64,
     /// The names that it had before, the oldest first.
     pub earlier: Vec<[u8; 14]>,
-    /// What its client asked.
-    pub message: NewOrder,
-    /// OrderQty (38) of it, in shares.
+    /// What its client asked, for contracts alone: it takes no memory. What of it is read again stands below.
+    pub asked: Snapshot<NewOrder>,
+    /// Symbol (55), Side (54), OrderCapacity (528) and, in shares, OrderQty (38) that its client asked.
+    pub symbol: Symbol,
+    pub side: Character,
+    pub order_capacity: Option<Character>,
     pub first_total: u64,
-    /// ClOrdID (11) of the last replace of it that was done; `None` where none was, and it has its message's.
-    pub renamed: Option<ClOrdId>,
+    /// ClOrdID (11) that it goes by: its own, or that of the last replace of it that was done.
+    pub cl_ord_id: ClOrdId,
     /// Its trades, the oldest first: none while it waits.
     pub trades: Vec<ToldTrade>,
     /// The pending replace of it, and the pending cancel, which was accepted after it.
@@ -58,9 +63,30 @@ pub struct Order {
     ghost token_set: { ArePrintable token },
     ghost trades_set: { progress.stage ≡ Waiting → trades.items ≡ [] },
     ghost counted: { progress.tokens ≤ 1 + length earlier.items },
-    ghost first_total_set: { first_total ≡ total_of (new_order_fields message) },
-    ghost total_set: { progress.stage ≡ Waiting → progress.total ≡ total_of (new_order_fields message) },
+    ghost symbol_set: { symbol ≡ asked.value.symbol },
+    ghost side_set: { side ≡ asked.value.side },
+    ghost order_capacity_set: { order_capacity ≡ asked.value.order_capacity },
+    ghost first_total_set: { first_total ≡ total_of (new_order_fields asked.value) },
+    ghost total_set: { progress.stage ≡ Waiting → progress.total ≡ total_of (new_order_fields asked.value) },
     ghost replace_set: { progress.tokens + length (option_to_list replace) ≤ 65_536 },
+}
+
+// Not derived: what is kept for contracts alone has nothing to show.
+impl fmt::Debug for Order {
+    fn fmt<W: fmt::Write>(&self, f: &mut fmt::Formatter<W>) -> fmt::Result {
+        f.debug_struct("Order")
+            .field("client", &self.client)
+            .field("order_id", &self.order_id)
+            .field("cl_ord_id", &self.cl_ord_id)
+            .field("token", &self.token)
+            .field("symbol", &self.symbol)
+            .field("side", &self.side)
+            .field("progress", &self.progress)
+            .field("trades", &self.trades)
+            .field("replace", &self.replace)
+            .field("cancel", &self.cancel)
+            .finish_non_exhaustive()
+    }
 }
 
 // Not derived: then each way out drops it in one call (docs/DECISIONS.md, "Drops").
@@ -73,9 +99,12 @@ impl Drop for Order {
             order_id: _,
             token_number: _,
             earlier: _,
-            message: _,
+            asked: _,
+            symbol: _,
+            side: _,
+            order_capacity: _,
             first_total: _,
-            renamed: _,
+            cl_ord_id: _,
             trades: _,
             replace: _,
             cancel: _,
@@ -84,7 +113,7 @@ impl Drop for Order {
 }
 
 impl Model for Order {
-    ghost use Rattle.std.specs.Prelude.{[], ◌∷◌, Some, None, decimal, map, option_map, reverse, unwrap_or};
+    ghost use Rattle.std.specs.Prelude.{[], ◌∷◌, Some, None, decimal, map, option_map, reverse};
     ghost use Rattle.fix_types.specs.NewOrder.{new_order_fields};
     ghost use Rattle.order_machine.specs.OrderRecord as record_of;
     ghost use Rattle.orders.specs.Seen.{cancel_seen, replace_seen, told_seen};
@@ -94,13 +123,13 @@ impl Model for Order {
     ghost view = { λ o. record {
       new = record {
         client = o.client;
-        message = new_order_fields o.message;
+        message = new_order_fields o.asked.value;
         order = decimal o.order_id;
         token = Some o.token_number;
       };
       stage = o.progress.stage;
       is_refused = o.progress.is_refused;
-      id = unwrap_or o.renamed o.message.cl_ord_id;
+      id = o.cl_ord_id;
       total = o.progress.total;
       price = o.progress.price;
       unfilled = o.progress.unfilled;
@@ -127,45 +156,49 @@ impl Order {
     ghost use Rattle.orders.specs.declared.change.Change.TheVariants as changes;
 
     /// A new order that was accepted: it waits for the market. Its token is that of the number, its total and price are
-    /// what its message asks. It takes no memory.
+    /// what its message asks. One growth: for its ClOrdID.
     pub fn entered(
         alloc: Global,
         client: u16,
         order_id: u64,
         token: [u8; 14],
         token_number: u64,
-        message: NewOrder,
+        message: &NewOrder,
         progress: Progress,
-    ) -> Order
+    ) -> Result<Order, AllocError>
         requires token { token ≡ token_text token_number }
+        requires symbol { length message.now.symbol ≤ 8 }
         requires waits { progress.stage ≡ Waiting }
         requires refused { progress.is_refused ≡ false }
-        requires total { progress.total ≡ total_of (new_order_fields message) }
-        requires price { progress.price ≡ limit_of (new_order_fields message) }
+        requires total { progress.total ≡ total_of (new_order_fields message.now) }
+        requires price { progress.price ≡ limit_of (new_order_fields message.now) }
         requires executed { progress.executed ≡ 0 }
         requires value { progress.value ≡ 0 }
         requires tokens { progress.tokens ≡ 1 }
-        ensures { result ≡ entered (record {
+        ensures { IfOk result (λ order. order ≡ entered (record {
           client = client;
-          message = new_order_fields message;
+          message = new_order_fields message.now;
           order = decimal order_id;
           token = Some token_number;
-        }) }
+        })) }
     {
-        Order {
+        Ok(Order {
             progress,
             token,
             client,
             order_id,
             token_number,
             earlier: Vec::new(alloc),
-            message,
+            asked: Snapshot::of(message),
+            symbol: Symbol::of(&message.symbol),
+            side: message.side,
+            order_capacity: message.order_capacity,
             first_total: progress.total,
-            renamed: None,
+            cl_ord_id: ClOrdId::copied(alloc, message.cl_ord_id.as_slice())?,
             trades: Vec::new(alloc),
             replace: None,
             cancel: None,
-        }
+        })
     }
 
     /// The order as a message of the market changes it, which fits it. `AllocError` leaves it as it was.
@@ -224,16 +257,6 @@ impl Order {
             Change::Broken(told) => self.progress.broken(told.trade.shares, told.trade.price),
             Change::Refused => self.progress.refused(),
             Change::NotReplaced(_) | Change::NotCanceled(_) => self.progress,
-        }
-    }
-
-    /// ClOrdID (11): its own, or that of the last replace of it that was done.
-    pub fn cl_ord_id(&self) -> &ClOrdId
-        ensures { result.now ≡ self.now.id }
-    {
-        match &self.renamed {
-            None => &self.message.cl_ord_id,
-            Some(renamed) => renamed,
         }
     }
 
@@ -309,7 +332,7 @@ impl Order {
             self.progress = self.progress.replaced(shares, price);
             push_earlier(&mut self.earlier, live);
             self.token = token;
-            self.renamed = Some(message.cl_ord_id);
+            self.cl_ord_id = message.cl_ord_id;
             self.answer(live);
             if is_dead {
                 self.progress = self.progress.gone();

@@ -1,6 +1,6 @@
 //! How an order is put back to what it had before it was changed.
 
-ghost use Rattle.std.specs.Prelude.{◌≡◌, ℕ, List, Option, IfOk, length, unwrap_or};
+ghost use Rattle.std.specs.Prelude.{◌≡◌, Option, IfOk, length, unwrap_or};
 ghost use Rattle.order_law.specs.declared.stage.Stage.TheVariants.{Waiting};
 ghost use Rattle.order_law.specs.History.{Entry};
 ghost use Rattle.order_machine.specs.OrderRecord.{Cancelling as CancellingRecord, OrderRecord, at};
@@ -28,7 +28,7 @@ impl Order {
             let unmarked = Vec::from_slice(alloc, &self.trades)?;
             self.before_with(alloc, None, EarlierTrades::Unmarked(unmarked))
         } else if renames(change) {
-            let cl_ord_id = ClOrdId::copied(alloc, self.cl_ord_id().as_slice())?;
+            let cl_ord_id = ClOrdId::copied(alloc, self.cl_ord_id.as_slice())?;
             self.before_with(alloc, Some(cl_ord_id), self.trades_so_far())
         } else {
             self.before_with(alloc, None, self.trades_so_far())
@@ -50,7 +50,7 @@ impl Order {
         if self.can_have_had(&earlier) {
             self.token = earlier.token;
             self.earlier.truncate(earlier.earlier_count);
-            put_id_back(&mut self.renamed, earlier.cl_ord_id);
+            put_id_back(&mut self.cl_ord_id, earlier.cl_ord_id);
             self.progress = earlier.progress;
             put_trades_back(&mut self.trades, earlier.trades);
             put_request_back(&mut self.replace, earlier.replace);
@@ -100,11 +100,11 @@ impl Order {
 }
 
 /// Puts the ClOrdID of an order back to what it was, where it was another. Takes no memory.
-fn put_id_back(renamed: &mut Option<ClOrdId>, earlier: Option<ClOrdId>)
-    ensures { (own : List ℕ) → unwrap_or renamed.new own ≡ unwrap_or earlier (unwrap_or renamed.old own) }
+fn put_id_back(cl_ord_id: &mut ClOrdId, earlier: Option<ClOrdId>)
+    ensures { cl_ord_id.new ≡ unwrap_or earlier cl_ord_id.old }
 {
     if let Some(was) = earlier {
-        *renamed = Some(was);
+        *cl_ord_id = was;
     }
 }
 

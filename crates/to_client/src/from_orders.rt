@@ -21,9 +21,9 @@ pub fn shown_of<'a>(order: &'a Order, progress: &'a Progress) -> Shown<'a>
 {
     Shown {
         order_id: order.order_id,
-        cl_ord_id: order.cl_ord_id(),
-        symbol: &order.message.symbol,
-        side: order.message.side,
+        cl_ord_id: &order.cl_ord_id,
+        symbol: &order.symbol,
+        side: order.side,
         progress,
         has_pending_cancel: order.cancel.is_some(),
         has_pending_replace: order.replace.is_some(),

@@ -1,5 +1,5 @@
-use Rattle.std.proofs.Common.{◌≡◌, true, sym, ap, ◌∙◌, subst}
-use Rattle.std.specs.Prelude.{option_map, unwrap_or}
+use Rattle.std.proofs.Common.{◌≡◌, true, ap, ◌∙◌, subst}
+use Rattle.std.specs.Prelude.{option_map}
 use Rattle.hint_index.specs.Hints.{LeadsTo, hint_of}
 use Rattle.order_machine.specs.OrderRecord.{OrderRecord}
 use Rattle.orders.specs.Seen.{cancel_seen, replace_seen}
@@ -12,11 +12,11 @@ pub returns-clause-leads : goal.returns-clause-leads
 returns-clause-leads g c =
     let o = c.order.inside in
     let h = c.note_some-2.new.names in
-    let own = unwrap_or o.renamed o.message.cl_ord_id in
+    let own = o.cl_ord_id in
     let led : (k : NameKey) → LeadsTo (hint_of same_name c.note.new.self k) c.args.place → LeadsTo (hint_of same_name h k) c.args.place =
     λ k e. c.note_some-2.ensures.keeps k (c.note_some.ensures.keeps k e) in
     subst (λ (r : OrderRecord). (k : NameKey) → has_name_key k r ≡ true → LeadsTo (hint_of same_name h k) c.args.place) c.order.view_is
     (name-leads h o.client own (option_map (replace_seen o.client o.order_id) o.replace) (option_map (cancel_seen o.client o.order_id) o.cancel) c.args.place
-    (led (name_key o.client own) (subst (λ (k : NameKey). LeadsTo (hint_of same_name c.note.new.self k) c.args.place) (c.of-own.ensures ∙ ap (name_key o.client) (c.as_slice.ensures.bytes ∙ c.cl_ord_id.ensures ∙ sym (ap (λ (r : OrderRecord). r.id) c.order.view_is))) c.note.ensures.leads))
+    (led (name_key o.client own) (subst (λ (k : NameKey). LeadsTo (hint_of same_name c.note.new.self k) c.args.place) (c.of-own.ensures ∙ ap (name_key o.client) c.as_slice.ensures.bytes) c.note.ensures.leads))
     (λ k t. c.note_some-2.ensures.keeps k (c.note_some.ensures.leads k (c.key_of_replace-replace.ensures o.order_id k t)))
     (λ k t. c.note_some-2.ensures.leads k (c.key_of_cancel-cancel.ensures o.order_id k t)))

@@ -27,7 +27,7 @@ returns-in_ok-cl_ord_id c =
     let change = c.args.change in
     let left = leaves change o in
     let marks : marks_trades change ≡ false = sym c.marks_trades.ensures ∙ c.if-marks_trades.false in
-    let id : c.in_ok-cl_ord_id.cl_ord_id ≡ o.id = c.in_ok-cl_ord_id.ensures ∙ c.as_slice.ensures.bytes ∙ c.cl_ord_id.ensures in
+    let id : c.in_ok-cl_ord_id.cl_ord_id ≡ o.id = c.in_ok-cl_ord_id.ensures ∙ c.as_slice.ensures.bytes ∙ ap (λ (x : OrderRecord). x.id) c.self.view_is in
     IfOk-weaker c.before_with-then-renames.result _ _
     (λ earlier back. back (changed_by change o)
     (goes-on (marks_trades change) (renames change) o (changed_by change o) (Some c.in_ok-cl_ord_id.cl_ord_id) c.trades_so_far.result left id

@@ -1,5 +1,5 @@
 use Rattle.std.proofs.Common.{map, reverse, sym, ap, ◌∙◌}
-use Rattle.std.specs.Prelude.{option_map, unwrap_or}
+use Rattle.std.specs.Prelude.{option_map}
 use Rattle.orders.specs.contracts.order.Order.{the_view}
 use Rattle.orders.specs.PutBack.{with_earlier}
 use Rattle.orders.specs.Seen.{cancel_seen, replace_seen, told_seen}
@@ -10,9 +10,9 @@ pub returns-then-can_have_had : goal.returns-then-can_have_had
 returns-then-can_have_had c =
     let e = c.args.earlier in
     let o = c.self.inside in
-    with-earlier-is e (the_view o) (unwrap_or c.put_id_back.new.renamed o.message.cl_ord_id) (reverse c.truncate.new.self.items) (reverse (map told_seen c.put_trades_back.new.trades.items))
+    with-earlier-is e (the_view o) c.put_id_back.new.cl_ord_id (reverse c.truncate.new.self.items) (reverse (map told_seen c.put_trades_back.new.trades.items))
     (option_map (replace_seen o.client o.order_id) c.put_request_back.new.request) (option_map (cancel_seen o.client o.order_id) c.put_request_back-then-can_have_had.new.request)
-    (c.put_id_back.ensures o.message.cl_ord_id)
+    c.put_id_back.ensures
     (ap reverse c.truncate.ensures.items ∙ oldest-of e.earlier_count o.earlier.items)
     (ap (λ ts. reverse (map told_seen ts)) c.put_trades_back.ensures.trades ∙ told-of e.trades o.trades.items)
     (ap (option_map (replace_seen o.client o.order_id)) c.put_request_back.ensures)
