@@ -3,7 +3,6 @@
 ghost use Rattle.std.specs.Prelude.{◌≡◌, ◌<◌, true, not, decimal};
 ghost use Rattle.std.specs.List.{count_by};
 ghost use Rattle.order_law.specs.Life.{is_closed};
-ghost use Rattle.order_machine.specs.Table as table;
 ghost use Rattle.order_table.specs.Held.{IsCounted};
 
 use crate::open_counts::OpenCounts;
@@ -108,9 +107,10 @@ impl<S: BuildHasher + Clone + Drop> Table<S> {
     {
         let names = hasher.clone()?;
         let texts = hasher.clone()?;
+        let replaces = hasher.clone()?;
         Ok(Table {
             orders: OrderList::with_hashers(alloc, hasher, names),
-            tokens: TokenList::with_hasher(alloc, texts),
+            tokens: TokenList::with_hashers(alloc, texts, replaces),
             open_counts: OpenCounts::new(alloc),
         })
     }
@@ -197,11 +197,11 @@ impl<S: BuildHasher + Drop> Table<S> {
         }
     }
 
-    /// How many replaces of the order with an OrderID were accepted.
+    /// How many replaces of the order with an OrderID were accepted. No token is looked at.
     pub fn replace_count(&self, order_id: u64) -> usize
         ensures { result ≡ count_by (is_replacement_of (decimal order_id)) self.now.tokens }
     {
-        count_replacements(self.tokens.as_slice(), order_id)
+        self.tokens.replace_count(order_id)
     }
 
     /// The order with an OrderID, as a message of the market changes it, which fits it. Where no order has it, nothing
@@ -313,21 +313,4 @@ fn is_open(order: &Order) -> bool
     ensures { result ≡ not (is_closed order.now.stage) }
 {
     order.progress.stage != Stage::Closed
-}
-
-/// How many tokens replaces of an order were given, of these.
-fn count_replacements(tokens: &[GivenToken], order_id: u64) -> usize
-    ensures { result ≡ count_by (table.is_replacement_of (decimal order_id)) tokens.now }
-{
-    tokens
-        .iter()
-        .filter(|given| is_replacement_of(order_id, given))
-        .count()
-}
-
-/// Whether a replace of an order was given the token.
-fn is_replacement_of(order_id: u64, given: &GivenToken) -> bool
-    ensures { result ≡ table.is_replacement_of (decimal order_id) given.now }
-{
-    given.order_id == order_id && given.is_replacement
 }
