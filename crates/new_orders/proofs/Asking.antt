@@ -1,5 +1,5 @@
 -- What a new order asks under the next token.
-use Rattle.std.proofs.Common.{◌≡◌, ℕ, ◌+◌, ◌-◌, ◌≤◌, List, ◌++◌, length, subst, sym, ap, ◌∙◌, arith}
+use Rattle.std.proofs.Common.{◌≡◌, ℕ, ◌+◌, ◌-◌, ◌≤◌, List, ◌++◌, length, subst, sym, ap, ◌∙◌, arith, length-append}
 use Rattle.std.specs.Prelude.{Option, replicate}
 use Rattle.tokens.specs.TokenText.{token_text}
 use Rattle.fix_types.specs.declared.new_order.NewOrder.{NewOrder}
@@ -15,8 +15,8 @@ use Rattle.new_orders.specs.Verdict.{AsksNext}
 -- a text that is padded to eight bytes has no more
 fits-in : (symbol stock : List ℕ) → stock ≡ symbol ++ replicate (8 - length symbol) 32 → length stock ≡ 8 → length symbol ≤ 8
 fits-in symbol stock padded eight =
-    let whole : length symbol + length (replicate (8 - length symbol) 32) ≡ 8 = sym (length-++ symbol (replicate (8 - length symbol) 32)) ∙ sym (ap length padded) ∙ eight in
-    arith whole
+    let whole : length symbol + length (replicate (8 - length symbol) 32) ≡ 8 = sym (length-append symbol (replicate (8 - length symbol) 32)) ∙ sym (ap length padded) ∙ eight in
+    omega (arith, whole)
 
 -- an Enter Order that is made of what an order asks is the next one of its client
 pub asks_next : (sender : Sender) (held : Held) (d : NewOrder) (token : List ℕ) (ask : NewAsk) (enter : EnterOrder)
