@@ -141,10 +141,11 @@ class Book:
             self.counts["session rejects lost"] += 1
 
     def next_judged(self, frame, fits):
-        """The request that this message judges: the next one, but for those whose session Reject was lost."""
+        """The request that this message judges: the next one, but for those whose session Reject was lost. One with a
+        session fault is judged by no 8 or 9, also where that has its ClOrdID, which a later one may have again."""
         while self.unjudged:
             head = self.unjudged[0]
-            if fits(head):
+            if fits(head) and not (frame.kind in (b"8", b"9") and self.skippable and head.session_fault()):
                 self.skippable, self.judged = 0, head.number
                 return self.unjudged.popleft()
             if not self.skippable or not head.session_fault():
