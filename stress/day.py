@@ -58,6 +58,7 @@ class Day:
         self.moods = [FORK.Value("i", 0) for _ in self.plan.clients]
         self.quiet = [FORK.Value("b", False) for _ in self.plan.markets]
         self.complaints, self.processes = [], []
+        self.wanted = [HOSTILE.get(it.hostile, b"") for it in self.plan.markets]
         self.refusing = Refusing(self.folder, options.refuse, self.plan.seed) if options.refuse else None
 
     def run(self):
@@ -184,6 +185,7 @@ class Day:
             self.complaints += it["complaints"]
         output = Path(self.folder, "output").read_bytes()
         if whole:
+            self.wanted = [HOSTILE.get(it["hostile"], b"") if it["said"] else b"" for it in markets]
             self.complaints += [f"seed {self.plan.seed}: {it}" for it in compare(clients, markets, output)]
             self.complaints += self.port_states(clients)
         if self.status != 0:
@@ -200,14 +202,14 @@ class Day:
 
     def port_faults(self, faults):
         """Each port that is faulted is told of once, by its fault's number, and no other."""
-        states = {f"P{i + 1}": HOSTILE.get(it.hostile, b"").decode() for i, it in enumerate(self.plan.markets)}
+        states = {f"P{i + 1}": it.decode() for i, it in enumerate(self.wanted)}
         wanted = Counter(each for each in states.items() if each[1].isdigit())
         if faults != wanted:
             self.complaints.append(f"seed {self.plan.seed}: told of port faults {dict(faults)}, not {dict(wanted)}")
 
     def port_states(self, clients):
         for client, plan in zip(clients, self.plan.clients):
-            wanted = HOSTILE.get(self.plan.markets[plan.port].hostile, b"")
+            wanted = self.wanted[plan.port]
             if client["port_state"] != wanted:
                 yield f"seed {self.plan.seed}: a port's state is {client['port_state']}, not {wanted}"
 
