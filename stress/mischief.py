@@ -64,6 +64,7 @@ class Mischief:
         if not self.client.may_lose():
             return False
         self.session.expects_end = noise.fatal(self.random, self.session, now)
+        self.fill()
         self.client.hush(now)
         return True
 
@@ -74,6 +75,7 @@ class Mischief:
         self.session.put(data, now)
         self.counts["bytes of garbage"] += len(data)
         self.client.may_be_closed = True
+        self.fill()
         self.client.hush(now)
         return True
 
@@ -81,8 +83,14 @@ class Mischief:
         if not self.client.may_lose():
             return False
         self.session.log_out(now)
+        self.fill()
         self.client.hush(now)
         return True
+
+    def fill(self):
+        """A damaged head may wait for 999 bytes more; what ends the link stands among them, so that they have to come."""
+        self.session.out += b"x" * 1_000
+        self.counts["bytes of garbage"] += 1_000
 
     def end_writing(self, now):
         """Nothing more comes from the client, which still reads: for the gateway the link is gone."""
