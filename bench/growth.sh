@@ -24,4 +24,4 @@ if [ -f "$repository/HANDLES" ]; then
     cp "$repository/HANDLES" "$work/"
 fi
 cd "$work/crates/growth"
-rt try -- "${1:-10}" "${2:-0}"
+rt try -- "${1:-10}" "${2:-0}" 100

@@ -283,6 +283,9 @@ class Client:
             self.complain(f"{len(self.book.unjudged)} without an answer, the first {self.book.unjudged[0]}")
         if self.session.out_of_place:
             self.complain(*self.session.out_of_place)
+        if self.session.went_back:
+            count = self.session.counts["moments before earlier ones"]
+            self.complain(f"{count} frames with 52 behind the one before, the first:", self.session.went_back)
         if self.session.sent_before:
             count = self.session.counts["sent again before it was sent first"]
             self.complain(f"{count} frames with 122 behind 52, the first:", self.session.sent_before)
@@ -291,4 +294,4 @@ class Client:
         return {"orders": self.book.orders, "exec_ids": self.book.exec_ids, "order_ids": self.book.order_ids,
                 "counts": self.counts, "told": self.book.counts, "session": self.session.counts,
                 "complaints": self.complaints, "port_state": self.book.port_state, "links": self.dialled,
-                "furthest_back": self.session.furthest_back, "silence": self.session.longest_silence}
+                "silence": self.session.longest_silence}

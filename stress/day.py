@@ -20,6 +20,7 @@ from .server import PASSWORD, USER, Server
 FORK = multiprocessing.get_context("fork")
 EVENT = re.compile(r"\d{8}-\d\d:\d\d:\d\d\.\d{3} ([CP]\d+) "
                    r"(up|gone|closed by the gateway|link fault [123]|port fault [1-6]|sent 35=[235])(: [^:]*|\|49=[ -~]*)?")
+SKIPPED = re.compile(r"\d{8}-\d\d:\d\d:\d\d\.\d{3} (C\d+) skipped (\d+) bytes")
 # what is told in place of a frame that there was no memory for
 UNSHOWN = re.compile(r"\d{8}-\d\d:\d\d:\d\d\.\d{3} C\d+ sent a Reject, a ResendRequest or a Logout")
 SETTLES, CLOSES, LEAVES = 90.0, 40.0, 60.0
@@ -215,10 +216,14 @@ class Day:
 
     def events(self):
         """The lines on standard error by kind; another line is a complaint."""
-        counts, ups, faults = Counter(), Counter(), Counter()
+        counts, ups, faults, skipped = Counter(), Counter(), Counter(), Counter()
         for line in Path(self.folder, "errors").read_text(errors="replace").splitlines():
             if self.refusing and UNSHOWN.fullmatch(line):
                 counts["C sent what isn't shown"] += 1
+                continue
+            if skips := SKIPPED.fullmatch(line):
+                counts["C skipped"] += 1
+                skipped[skips[1], ups[skips[1]]] = int(skips[2])
                 continue
             found = EVENT.fullmatch(line)
             counts[f"{found[1][0]} {found[2]}{kind_of(found)}" if found else "unforeseen"] += 1
@@ -228,6 +233,7 @@ class Day:
                 ups[found[1]] += 1
             elif found[2].startswith("port fault"):
                 faults[found[1], found[2][-1:]] += 1
+        counts["bytes skipped"] = sum(skipped.values())
         self.port_faults(faults)
         for name, count in ups.items():
             if count > self.plan.links or name[0] == "C" and count < self.plan.links:
@@ -242,6 +248,13 @@ class Report:
         self.events = day.events()
         self.day, self.clients, self.markets = day, clients, markets
         self.complaints = day.complaints
+        self.skipped()
+
+    def skipped(self):
+        """Bytes that are no frame are told of, and no others."""
+        garbage, skipped = self.sum(self.clients, "counts")["bytes of garbage"], self.events["bytes skipped"]
+        if skipped > garbage or garbage > 5_000 and not skipped:
+            self.complaints.append(f"seed {self.day.plan.seed}: {skipped} bytes told as skipped, of {garbage} of garbage")
 
     def is_right(self):
         return not self.complaints
@@ -281,8 +294,7 @@ class Report:
     def details(self):
         yield f"  told: {show(self.sum(self.clients, 'told'))}"
         yield f"  sessions: {show(self.sum(self.clients, 'session'))}"
-        yield (f"  clients: {show(self.sum(self.clients, 'counts'))}; 52 goes back by "
-               f"{max((it['furthest_back'] for it in self.clients), default=0)} ms at most; silent beyond 108 for "
+        yield (f"  clients: {show(self.sum(self.clients, 'counts'))}; silent beyond 108 for "
                f"{max((it['silence'] for it in self.clients), default=0):.1f} s at most")
         yield f"  markets: {show(self.sum(self.markets, 'counts'))}"
         yield f"  standard error: {show(self.events)}"

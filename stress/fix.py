@@ -82,12 +82,6 @@ def stamp():
     return time.strftime("%Y%m%d-%H:%M:%S", time.gmtime(now)).encode() + b".%03d" % (now * 1000 % 1000)
 
 
-def milliseconds(text):
-    """Of a moment, since its midnight."""
-    hours, minutes, seconds = text[9:].split(b":")
-    return (int(hours) * 60 + int(minutes)) * 60_000 + int(seconds.replace(b".", b""))
-
-
 def show(raw):
     return raw.replace(SOH, b"|").decode("latin-1")
 

@@ -2,7 +2,7 @@
 from collections import Counter, deque, namedtuple
 
 from .book import Wrong
-from .fix import milliseconds, stamp, written
+from .fix import stamp, written
 from .resends import OutOfPlace, Resends
 
 APPLICATION = (b"8", b"9", b"j")
@@ -21,7 +21,7 @@ class Session:
         self.lowest_asked, self.provoked, self.moment = 1, {}, b""
         self.counts, self.around = Counter(), deque(maxlen=10)
         self.out_of_place = None
-        self.furthest_back, self.sent_before, self.longest_silence = 0, b"", 0.0
+        self.went_back, self.sent_before, self.longest_silence = b"", b"", 0.0
         self.out = b""
         self.begin(0.0)
 
@@ -118,10 +118,10 @@ class Session:
                 self.process(self.held.pop(self.expected), now)
 
     def look_at_moments(self, frame):
-        """52 may go back from frame to frame; but what is sent again was first sent before that."""
+        """52 never goes back from frame to frame, over links too; what is sent again was first sent no later."""
         if frame[52] < self.moment:
             self.counts["moments before earlier ones"] += 1
-            self.furthest_back = max(self.furthest_back, milliseconds(self.moment) - milliseconds(frame[52]))
+            self.went_back = self.went_back or frame.raw
         self.moment = frame[52]
         if frame.repeated and frame[122] > frame[52]:
             self.counts["sent again before it was sent first"] += 1

@@ -126,7 +126,7 @@ fn cancelling_of(
     let message = request.copied(alloc)?;
     let second = match &order.replace {
         None => None,
-        Some(replacing) => Some(replacing.token),
+        Some(replacing) => Some(replacing.get().token),
     };
     Ok(Cancelling {
         message,
@@ -146,7 +146,7 @@ fn cancels_of(alloc: Global, order: &Order) -> Result<Vec<Inbound>, AllocError>
     match &order.replace {
         None => Ok(vec![in alloc; Inbound::Cancel(live)]?),
         Some(replacing) => {
-            let next = say_cancel(&replacing.token);
+            let next = say_cancel(&replacing.get().token);
             Ok(vec![in alloc; Inbound::Cancel(live), Inbound::Cancel(next)]?)
         }
     }

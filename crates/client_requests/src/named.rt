@@ -22,9 +22,9 @@ pub fn named_of<'a>(order: &'a Order, own: u8, replaces: usize) -> NamedOrder<'a
         → HasRead (named_as s order.now) result }
 {
     NamedOrder {
-        side: order.message.side,
-        symbol: &order.message.symbol,
-        capacity: capacity_of(order.message.order_capacity, own),
+        side: order.side,
+        symbol: order.symbol.as_slice(),
+        capacity: capacity_of(order.order_capacity, own),
         is_closed: order.progress.stage == Stage::Closed,
         executed: order.progress.executed,
         has_pending_cancel: order.cancel.is_some(),

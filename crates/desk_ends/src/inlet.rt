@@ -8,12 +8,23 @@ use std::marker::{Model, PhantomData};
 
 /// The end by which one thread puts the events of one source. Contracts see its position, its source, what was put and
 /// for how many events more it knows room.
-#[derive(Drop)]
 pub struct Inlet<K: DeskName> {
     at: usize,
     source: Source,
     producer: Producer<Event>,
     of: PhantomData<K>,
+}
+
+// Not derived: then each way out drops it in one call (docs/DECISIONS.md, "Drops").
+impl<K: DeskName> Drop for Inlet<K> {
+    fn drop(self) {
+        let Inlet {
+            at: _,
+            source: _,
+            producer: _,
+            of: _,
+        } = self;
+    }
 }
 
 impl<K: DeskName> Model for Inlet<K> {

@@ -8,12 +8,23 @@ use std::marker::{Model, PhantomData};
 
 /// The end by which one thread takes what the links of one client or port are told. Contracts see its position, for
 /// whom it is, what was taken and what it knows to lie in the ring.
-#[derive(Drop)]
 pub struct Outlet<K: DeskName> {
     at: usize,
     to: Recipient,
     consumer: Consumer<Told>,
     of: PhantomData<K>,
+}
+
+// Not derived: then each way out drops it in one call (docs/DECISIONS.md, "Drops").
+impl<K: DeskName> Drop for Outlet<K> {
+    fn drop(self) {
+        let Outlet {
+            at: _,
+            to: _,
+            consumer: _,
+            of: _,
+        } = self;
+    }
 }
 
 impl<K: DeskName> Model for Outlet<K> {

@@ -16,19 +16,21 @@ pub issued : (s old : State) (at : ℕ) (kind : Kind) (body : Message) (turn : S
     → s ≡ old
     → latest ≡ max s.latest at
     → phase ≡ (if is_logged_on s.phase then on_written latest s.phase else s.phase)
-    → given ≡ s.given ++ Some (record { kind = kind; body = body; at = at }) ∷ []
-    → map told_bytes turn.outs.items ≡ map (told_of_out old.gate old.client) (if is_logged_on s.phase then Write (fresh (next_out old) kind body at) ∷ [] else [])
+    → given ≡ s.given ++ Some (record { kind = kind; body = body; at = latest }) ∷ []
+    → map told_bytes turn.outs.items ≡ map (told_of_out old.gate old.client) (if is_logged_on s.phase then Write (fresh (next_out old) kind body latest) ∷ [] else [])
     → turn.app ≡ None
     → Meets old (step old at (Issue kind body)) turn (record s { phase = phase; given = given; latest = latest })
 issued s old at kind body turn latest phase given same last stands keeps outs app =
     let with : ℕ → Phase → List Slot → State = λ l p g. record s { phase = p; given = g; latest = l } in
     let now : phase ≡ (if is_logged_on s.phase then on_written (max s.latest at) s.phase else s.phase) =
     stands ∙ ap (λ (l : ℕ). if is_logged_on s.phase then on_written l s.phase else s.phase) last in
-    let told = subst (λ (o : State). map told_bytes turn.outs.items ≡ map (told_of_out o.gate o.client) (if is_logged_on s.phase then Write (fresh (next_out o) kind body at) ∷ [] else [])) (sym same) outs in
+    let keep = keeps ∙ ap (λ (l : ℕ). s.given ++ Some (record { kind = kind; body = body; at = l }) ∷ []) last in
+    let told = subst (λ (o : State). map told_bytes turn.outs.items ≡ map (told_of_out o.gate o.client) (if is_logged_on s.phase then Write (fresh (next_out o) kind body latest) ∷ [] else [])) (sym same) outs
+    ∙ ap (λ (l : ℕ). map (told_of_out s.gate s.client) (if is_logged_on s.phase then Write (fresh (next_out s) kind body l) ∷ [] else [])) last in
     subst (λ (o : State). Meets o (step o at (Issue kind body)) turn (record s { phase = phase; given = given; latest = latest })) same (record {
       outs = told;
       app = app;
       state = ap (λ (l : ℕ). with l phase given) last
           ∙ ap (λ (p : Phase). with (max s.latest at) p given) now
-          ∙ ap (λ (g : List Slot). with (max s.latest at) (if is_logged_on s.phase then on_written (max s.latest at) s.phase else s.phase) g) keeps;
+          ∙ ap (λ (g : List Slot). with (max s.latest at) (if is_logged_on s.phase then on_written (max s.latest at) s.phase else s.phase) g) keep;
     })

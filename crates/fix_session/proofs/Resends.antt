@@ -49,20 +49,20 @@ phase-resent now at given from to phase one most = by_test (nat_le from to) refl
         sym (ap (λ n. on_resent now (resent at from from (take n (drop (from - 1) given))) phase) none ∙ none-resent now at from phase)
 
 -- numbers that are sent again before all else
-pub sent : (s : State) (d : Draft) (phase : Phase) (from to at : ℕ) → (made s d).state.given ≡ s.given → d.resends ≡ None → d.outs.items ≡ [] → 1 ≤ from → to ≤ length s.given
+pub sent : (s : State) (d : Draft) (phase : Phase) (from to : ℕ) → (made s d).state.given ≡ s.given → d.resends ≡ None → d.outs.items ≡ [] → 1 ≤ from → to ≤ length s.given
     → phase ≡ (if nat_le from to then on_written d.latest d.phase else d.phase)
-    → made s (record d { phase = phase; resends = Some (record { from = from; to = to; at = at }) }) ≡ sent_again at (made s d) (Some (record { from = from; to = to }))
-sent s d phase from to at given alone silent one most is =
+    → made s (record d { phase = phase; resends = Some (record { from = from; to = to }) }) ≡ sent_again (made s d) (Some (record { from = from; to = to }))
+sent s d phase from to given alone silent one most is =
     let there = (made s d).state.given in
-    let frames = resend at there from to in
+    let frames = resend d.latest there from to in
     let with : Phase → List Out → Given = λ p outs. record { state = record s { phase = p; expected = d.expected; given = there; latest = d.latest }; outs = outs; app = d.app } in
     let many : to ≤ length there = omega (arith, ap (λ (g : List Slot). length g) given, most) in
-    let now : phase ≡ on_resent d.latest frames d.phase = is ∙ phase-resent d.latest at there from to d.phase one many in
-    let none : resent_outs s.given d.resends ++ d.outs.items ≡ [] = ap (λ (r : Option Resend). resent_outs s.given r ++ d.outs.items) alone ∙ silent in
-    let outs : map Write (resend at s.given from to) ++ d.outs.items ≡ (resent_outs s.given d.resends ++ d.outs.items) ++ map Write frames =
-    ap (λ (l : List Out). map Write (resend at s.given from to) ++ l) silent
-    ∙ append-nil (map Write (resend at s.given from to))
-    ∙ ap (λ (g : List Slot). map Write (resend at g from to)) (sym given)
+    let now : phase ≡ on_resent d.latest frames d.phase = is ∙ phase-resent d.latest d.latest there from to d.phase one many in
+    let none : resent_outs d.latest s.given d.resends ++ d.outs.items ≡ [] = ap (λ (r : Option Resend). resent_outs d.latest s.given r ++ d.outs.items) alone ∙ silent in
+    let outs : map Write (resend d.latest s.given from to) ++ d.outs.items ≡ (resent_outs d.latest s.given d.resends ++ d.outs.items) ++ map Write frames =
+    ap (λ (l : List Out). map Write (resend d.latest s.given from to) ++ l) silent
+    ∙ append-nil (map Write (resend d.latest s.given from to))
+    ∙ ap (λ (g : List Slot). map Write (resend d.latest g from to)) (sym given)
     ∙ sym (ap (λ (l : List Out). l ++ map Write frames) none) in
-    ap (λ (p : Phase). with p (map Write (resend at s.given from to) ++ d.outs.items)) now
+    ap (λ (p : Phase). with p (map Write (resend d.latest s.given from to) ++ d.outs.items)) now
     ∙ ap (λ (l : List Out). with (on_resent d.latest frames d.phase) l) outs

@@ -1,15 +1,15 @@
 -- What a draft is seen as.
-use Rattle.std.specs.Prelude.{List, [], ◌++◌, map, Option, Some, None, if◌then◌else◌}
+use Rattle.std.specs.Prelude.{ℕ, List, [], ◌++◌, map, Option, Some, None, if◌then◌else◌}
 use Rattle.session_law.specs.declared.frame.Out.{Out}
 use Rattle.session_law.specs.declared.frame.Out.TheVariants.{Write}
 use Rattle.session_law.specs.Session.{State, Slot, Given, resend}
 use Rattle.fix_session.specs.declared.draft.Draft.{Draft}
 use Rattle.fix_session.specs.declared.draft.Resend.{Resend}
 
--- the numbers that are sent again before all else, of those that were given
-abbrev pub resent_outs : List Slot → Option Resend → List Out
-resent_outs given None = []
-resent_outs given (Some r) = map Write (resend r.at given r.from r.to)
+-- the numbers that are sent again before all else at a time, of those that were given
+abbrev pub resent_outs : ℕ → List Slot → Option Resend → List Out
+resent_outs at given None = []
+resent_outs at given (Some r) = map Write (resend at given r.from r.to)
 
 -- what a draft has made of a session
 abbrev pub made : State → Draft → Given
@@ -20,6 +20,6 @@ made s d = record {
     given = (if d.resets then [] else s.given) ++ d.slots;
     latest = d.latest;
   };
-  outs = resent_outs s.given d.resends ++ d.outs.items;
+  outs = resent_outs d.latest s.given d.resends ++ d.outs.items;
   app = d.app;
 }

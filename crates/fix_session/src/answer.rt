@@ -25,7 +25,6 @@ pub fn answer(
     session: &Session,
     m: &Fields,
     row: Row,
-    at: u64,
 ) -> Result<(), AllocError>
     requires quiet { made session.now.session draft.old ≡ quiet (made session.now.session draft.old).state }
     requires given { (made session.now.session draft.old).state.given ≡ session.now.session.given }
@@ -33,44 +32,44 @@ pub fn answer(
     requires expected { draft.old.expected < 2 ^ 61 }
     requires row { RowFits m.now (length session.now.session.given) row }
     ensures { OnOk result (made session.now.session draft.new
-        ≡ answered at (made session.now.session draft.old).state
+        ≡ answered (made session.now.session draft.old).state
         (row_answer session.now.session m.now (table.message_number m.now) session.now.session.expected row)) }
 {
     match row {
-        Row::NumberMissing => draft.log_out(alloc, session, b"MsgSeqNum missing", at),
+        Row::NumberMissing => draft.log_out(alloc, session, b"MsgSeqNum missing"),
         Row::NamesWrong { is_expected, tag } => {
             if is_expected {
-                draft.grow(session, at);
-                names_wrong(alloc, draft, session, m, tag, at)
+                draft.grow(session);
+                names_wrong(alloc, draft, session, m, tag)
             } else {
-                names_wrong(alloc, draft, session, m, tag, at)
+                names_wrong(alloc, draft, session, m, tag)
             }
         }
         Row::Expects(number) => {
-            draft.expect(session, number, at);
+            draft.expect(session, number);
             Ok(())
         }
-        Row::Rejected { reason } => draft.reject(alloc, session, m, 36, reason, at),
+        Row::Rejected { reason } => draft.reject(alloc, session, m, 36, reason),
         Row::Passed => Ok(()),
-        Row::TooLow => too_low(alloc, draft, session, session.next_in(), numbered(m), at),
-        Row::LoggedOut => draft.log_out_silently(alloc, session, at),
+        Row::TooLow => too_low(alloc, draft, session, session.next_in(), numbered(m)),
+        Row::LoggedOut => draft.log_out_silently(alloc, session),
         Row::GapWithResend(Taken::SentAgain { from, to }) => {
-            draft.send_again(session, from, to, at);
-            ask_unless_waiting(alloc, draft, session, numbered(m), at)
+            draft.send_again(session, from, to);
+            ask_unless_waiting(alloc, draft, session, numbered(m))
         }
         Row::GapWithResend(taken) => {
-            act(alloc, draft, session, m, taken, at)?;
-            ask_unless_waiting(alloc, draft, session, numbered(m), at)
+            act(alloc, draft, session, m, taken)?;
+            ask_unless_waiting(alloc, draft, session, numbered(m))
         }
-        Row::Gap => ask_unless_waiting(alloc, draft, session, numbered(m), at),
+        Row::Gap => ask_unless_waiting(alloc, draft, session, numbered(m)),
         Row::Taken(Taken::SentAgain { from, to }) => {
-            draft.send_again(session, from, to, at);
-            draft.grow(session, at);
+            draft.send_again(session, from, to);
+            draft.grow(session);
             Ok(())
         }
         Row::Taken(taken) => {
-            draft.grow(session, at);
-            act(alloc, draft, session, m, taken, at)
+            draft.grow(session);
+            act(alloc, draft, session, m, taken)
         }
     }
 }
@@ -82,15 +81,14 @@ fn names_wrong(
     session: &Session,
     m: &Fields,
     tag: u32,
-    at: u64,
 ) -> Result<(), AllocError>
     ensures { OnOk result (made session.now.session draft.new
-        ≡ fold (perform at) (made session.now.session draft.old)
+        ≡ fold perform (made session.now.session draft.old)
         (table.reject_act m.now tag 9 ∷ table.log_out (codes "CompID problem"))) }
 {
     let reason = SessionRejectReason::CompIdProblem.number();
-    draft.reject(alloc, session, m, tag, reason, at)?;
-    draft.log_out(alloc, session, b"CompID problem", at)
+    draft.reject(alloc, session, m, tag, reason)?;
+    draft.log_out(alloc, session, b"CompID problem")
 }
 
 /// A ResendRequest, unless one waits.
@@ -99,15 +97,14 @@ fn ask_unless_waiting(
     draft: &mut Draft,
     session: &Session,
     received: u64,
-    at: u64,
 ) -> Result<(), AllocError>
     ensures { OnOk result (made session.now.session draft.new
-        ≡ fold (perform at) (made session.now.session draft.old) (table.ask_again session.now.session received)) }
+        ≡ fold perform (made session.now.session draft.old) (table.ask_again session.now.session received)) }
 {
     if session.is_waiting() {
         Ok(())
     } else {
-        draft.ask_again(alloc, session, received, at)
+        draft.ask_again(alloc, session, received)
     }
 }
 
@@ -118,41 +115,34 @@ fn act(
     session: &Session,
     m: &Fields,
     taken: Taken,
-    at: u64,
 ) -> Result<(), AllocError>
     requires { TakenFits m.now (length session.now.session.given) taken }
     ensures { OnOk result (made session.now.session draft.new
-        ≡ fold (perform at) (made session.now.session draft.old) (taken_answer m.now taken).acts) }
+        ≡ fold perform (made session.now.session draft.old) (taken_answer m.now taken).acts) }
 {
     match taken {
         Taken::Nothing => Ok(()),
-        Taken::Rejected { tag, reason } => draft.reject(alloc, session, m, tag, reason, at),
-        Taken::Echoed => echo(alloc, draft, session, m, at),
+        Taken::Rejected { tag, reason } => draft.reject(alloc, session, m, tag, reason),
+        Taken::Echoed => echo(alloc, draft, session, m),
         Taken::SentAgain { .. } => Ok(()),
         Taken::Expects(number) => {
-            draft.expect(session, number, at);
+            draft.expect(session, number);
             Ok(())
         }
-        Taken::LoggedOut => draft.log_out_silently(alloc, session, at),
-        Taken::AlreadyLoggedOn => draft.log_out(alloc, session, b"already logged on", at),
-        Taken::Delivered => draft.deliver(alloc, session, m, at),
-        Taken::Unsupported => unsupported(alloc, draft, session, m, at),
+        Taken::LoggedOut => draft.log_out_silently(alloc, session),
+        Taken::AlreadyLoggedOn => draft.log_out(alloc, session, b"already logged on"),
+        Taken::Delivered => draft.deliver(alloc, session, m),
+        Taken::Unsupported => unsupported(alloc, draft, session, m),
     }
 }
 
 /// Answers a TestRequest.
-fn echo(
-    alloc: Global,
-    draft: &mut Draft,
-    session: &Session,
-    m: &Fields,
-    at: u64,
-) -> Result<(), AllocError>
+fn echo(alloc: Global, draft: &mut Draft, session: &Session, m: &Fields) -> Result<(), AllocError>
     ensures { OnOk result (made session.now.session draft.new
-        ≡ perform at (made session.now.session draft.old) (Say Heartbeat (tags.field 112 (tags.text 112 m.now) ∷ []))) }
+        ≡ perform (made session.now.session draft.old) (Say Heartbeat (tags.field 112 (tags.text 112 m.now) ∷ []))) }
 {
     let body = echo_body(alloc, text(m, 112))?;
-    draft.say(session, Kind::Heartbeat, body, at)
+    draft.say(session, Kind::Heartbeat, body)
 }
 
 /// Refuses a type that isn't served. The body is kept.
@@ -161,13 +151,12 @@ fn unsupported(
     draft: &mut Draft,
     session: &Session,
     m: &Fields,
-    at: u64,
 ) -> Result<(), AllocError>
     ensures { OnOk result (made session.now.session draft.new
-        ≡ perform at (made session.now.session draft.old) (SayUnsupported (table.unsupported_body m.now))) }
+        ≡ perform (made session.now.session draft.old) (SayUnsupported (table.unsupported_body m.now))) }
 {
     let body = unsupported_body(alloc, m)?;
-    draft.say_kept(session, Kind::BusinessReject, body, at)
+    draft.say_kept(session, Kind::BusinessReject, body)
 }
 
 /// A Logout for a number that is too low.
@@ -177,12 +166,11 @@ pub fn too_low(
     session: &Session,
     expected: u64,
     received: u64,
-    at: u64,
 ) -> Result<(), AllocError>
     ensures { OnOk result (made session.now.session draft.new
-        ≡ fold (perform at) (made session.now.session draft.old) (table.too_low expected received)) }
+        ≡ fold perform (made session.now.session draft.old) (table.too_low expected received)) }
 {
     let body = too_low_body(alloc, expected, received)?;
-    draft.say(session, Kind::Logout, body, at)?;
-    draft.shut(session, at)
+    draft.say(session, Kind::Logout, body)?;
+    draft.shut(session)
 }

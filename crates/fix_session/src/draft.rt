@@ -13,20 +13,19 @@ use session_reading::application_of;
 use session_writing::{KeptBodies, ask_body, echo_body, reject_body, text_body};
 use std::alloc::{AllocError, Global};
 
-/// Numbers that are sent again, from one to another, at a moment.
+/// Numbers that are sent again, from one to another.
 #[derive(Clone, Copy, Debug)]
 pub struct Resend {
     pub from: u64,
     pub to: u64,
-    /// In milliseconds since 1970.
-    pub at: u64,
 }
 
 /// What a call gives, as far as it is made.
-#[derive(Debug, Drop)]
+#[derive(Debug)]
 pub struct Draft {
     pub phase: Phase,
     pub expected: u64,
+    /// The session's time, in milliseconds since 1970: all that is made bears it.
     pub latest: u64,
     /// Whether both numbers begin at 1 again, with nothing kept.
     pub resets: bool,
@@ -39,6 +38,22 @@ pub struct Draft {
     pub app: Option<AppMsg>,
 }
 
+// Not derived: then each way out drops it in one call (docs/DECISIONS.md, "Drops").
+impl Drop for Draft {
+    fn drop(self) {
+        let Draft {
+            phase: _,
+            expected: _,
+            latest: _,
+            resets: _,
+            slots: _,
+            resends: _,
+            outs: _,
+            app: _,
+        } = self;
+    }
+}
+
 impl Draft {
     ghost use Rattle.session_law.specs.Runs.{at_moment, heard};
     ghost use Rattle.session_law.specs.Table.{is_logged_on};
@@ -49,6 +64,24 @@ impl Draft {
     ghost use Rattle.session_law.specs.Table.{reject_act, log_out, log_out_silently};
     ghost use Rattle.fix_fields.specs.Field.{IsValue};
     ghost use Rattle.fix_session.specs.Made.{made};
+
+    /// What the numbers that it takes are given to, and the message that is delivered.
+    pub fn into_parts(self) -> (KeptBodies, Option<AppMsg>)
+        ensures slots { result.0 ≡ self.slots }
+        ensures app { result.1 ≡ self.app }
+    {
+        let Draft {
+            phase: _,
+            expected: _,
+            latest: _,
+            resets: _,
+            slots,
+            resends: _,
+            outs: _,
+            app,
+        } = self;
+        (slots, app)
+    }
 
     /// Nothing yet, at this moment.
     pub fn at(alloc: Global, session: &Session, at: u64) -> Draft
@@ -135,18 +168,17 @@ impl Draft {
         session: &Session,
         kind: Kind,
         body: Fields,
-        at: u64,
     ) -> Result<(), AllocError>
         ensures { OnOk result (made session.now.session self.new
-            ≡ kept at true kind body (made session.now.session self.old)) }
+            ≡ kept true kind body (made session.now.session self.old)) }
     {
         let number = self.next_number(session);
-        self.slots.keep(kind, printed_fields(&body), at)?;
+        self.slots.keep(kind, printed_fields(&body), self.latest)?;
         self.outs.push(Out::Write(Frame {
             number,
             kind,
             body,
-            at,
+            at: self.latest,
             first: None,
         }))?;
         self.mark_written();
@@ -154,15 +186,9 @@ impl Draft {
     }
 
     /// A frame under the next number, which isn't kept.
-    pub fn say(
-        &mut self,
-        session: &Session,
-        kind: Kind,
-        body: Fields,
-        at: u64,
-    ) -> Result<(), AllocError>
+    pub fn say(&mut self, session: &Session, kind: Kind, body: Fields) -> Result<(), AllocError>
         ensures { OnOk result (made session.now.session self.new
-            ≡ said at kind body (made session.now.session self.old)) }
+            ≡ said kind body (made session.now.session self.old)) }
     {
         let number = self.next_number(session);
         self.slots.fill()?;
@@ -170,7 +196,7 @@ impl Draft {
             number,
             kind,
             body,
-            at,
+            at: self.latest,
             first: None,
         }))?;
         self.mark_written();
@@ -178,9 +204,9 @@ impl Draft {
     }
 
     /// The session closes its link.
-    pub fn shut(&mut self, session: &Session, at: u64) -> Result<(), AllocError>
+    pub fn shut(&mut self, session: &Session) -> Result<(), AllocError>
         ensures { OnOk result (made session.now.session self.new
-            ≡ perform at (made session.now.session self.old) Shut) }
+            ≡ perform (made session.now.session self.old) Shut) }
     {
         self.outs.push(Out::Close)?;
         self.phase = Phase::Down;
@@ -188,16 +214,16 @@ impl Draft {
     }
 
     /// The expected number grows by 1.
-    pub fn grow(&mut self, session: &Session, at: u64)
+    pub fn grow(&mut self, session: &Session)
         requires { self.old.expected < 2 ^ 61 }
-        ensures { made session.now.session self.new ≡ perform at (made session.now.session self.old) Grow }
+        ensures { made session.now.session self.new ≡ perform (made session.now.session self.old) Grow }
     {
         self.expected += 1;
     }
 
     /// The expected number is this now.
-    pub fn expect(&mut self, session: &Session, number: u64, at: u64)
-        ensures { made session.now.session self.new ≡ perform at (made session.now.session self.old) (Expect number) }
+    pub fn expect(&mut self, session: &Session, number: u64)
+        ensures { made session.now.session self.new ≡ perform (made session.now.session self.old) (Expect number) }
     {
         self.expected = number;
     }
@@ -210,13 +236,12 @@ impl Draft {
         m: &Fields,
         tag: u32,
         reason: u8,
-        at: u64,
     ) -> Result<(), AllocError>
         ensures { OnOk result (made session.now.session self.new
-            ≡ perform at (made session.now.session self.old) (reject_act m.now tag reason)) }
+            ≡ perform (made session.now.session self.old) (reject_act m.now tag reason)) }
     {
         let body = reject_body(alloc, m, tag, reason)?;
-        self.say(session, Kind::Reject, body, at)
+        self.say(session, Kind::Reject, body)
     }
 
     /// A Logout with a reason, and the end.
@@ -225,29 +250,23 @@ impl Draft {
         alloc: Global,
         session: &Session,
         why: &[u8],
-        at: u64,
     ) -> Result<(), AllocError>
         requires { IsValue why.now }
         ensures { OnOk result (made session.now.session self.new
-            ≡ fold (perform at) (made session.now.session self.old) (log_out why.now)) }
+            ≡ fold perform (made session.now.session self.old) (log_out why.now)) }
     {
         let body = text_body(alloc, why)?;
-        self.say(session, Kind::Logout, body, at)?;
-        self.shut(session, at)
+        self.say(session, Kind::Logout, body)?;
+        self.shut(session)
     }
 
     /// A Logout without a reason, and the end.
-    pub fn log_out_silently(
-        &mut self,
-        alloc: Global,
-        session: &Session,
-        at: u64,
-    ) -> Result<(), AllocError>
+    pub fn log_out_silently(&mut self, alloc: Global, session: &Session) -> Result<(), AllocError>
         ensures { OnOk result (made session.now.session self.new
-            ≡ fold (perform at) (made session.now.session self.old) log_out_silently) }
+            ≡ fold perform (made session.now.session self.old) log_out_silently) }
     {
-        self.say(session, Kind::Logout, Fields::new(alloc), at)?;
-        self.shut(session, at)
+        self.say(session, Kind::Logout, Fields::new(alloc))?;
+        self.shut(session)
     }
 
     /// A ResendRequest from the expected number on, caused by this one.
@@ -256,13 +275,12 @@ impl Draft {
         alloc: Global,
         session: &Session,
         number: u64,
-        at: u64,
     ) -> Result<(), AllocError>
         ensures { OnOk result (made session.now.session self.new
-            ≡ perform at (made session.now.session self.old) (AskAgain number)) }
+            ≡ perform (made session.now.session self.old) (AskAgain number)) }
     {
         let body = ask_body(alloc, self.expected)?;
-        self.say(session, Kind::ResendRequest, body, at)?;
+        self.say(session, Kind::ResendRequest, body)?;
         if let Phase::LoggedOn(on) = self.phase {
             self.phase = Phase::LoggedOn(Logged {
                 asked: number,
@@ -273,12 +291,12 @@ impl Draft {
     }
 
     /// A TestRequest after silence.
-    pub fn test(&mut self, alloc: Global, session: &Session, at: u64) -> Result<(), AllocError>
+    pub fn test(&mut self, alloc: Global, session: &Session) -> Result<(), AllocError>
         ensures { OnOk result (made session.now.session self.new
-            ≡ perform at (made session.now.session self.old) Test) }
+            ≡ perform (made session.now.session self.old) Test) }
     {
         let body = echo_body(alloc, b"TEST")?;
-        self.say(session, Kind::TestRequest, body, at)?;
+        self.say(session, Kind::TestRequest, body)?;
         if let Phase::LoggedOn(on) = self.phase {
             self.phase = Phase::LoggedOn(Logged { tested: true, ..on });
         }
@@ -291,26 +309,25 @@ impl Draft {
         alloc: Global,
         session: &Session,
         m: &Fields,
-        at: u64,
     ) -> Result<(), AllocError>
         requires { application_refusal m.now ≡ None }
         ensures { OnOk result (made session.now.session self.new
-            ≡ perform at (made session.now.session self.old) (Deliver m.now)) }
+            ≡ perform (made session.now.session self.old) (Deliver m.now)) }
     {
         self.app = Some(application_of(alloc, m)?);
         Ok(())
     }
 
     /// Numbers sent again, where nothing else is written yet. Takes no memory.
-    pub fn send_again(&mut self, session: &Session, from: u64, to: u64, at: u64)
+    pub fn send_again(&mut self, session: &Session, from: u64, to: u64)
         requires given { (made session.now.session self.old).state.given ≡ session.now.session.given }
         requires silent { (self.old.resends ≡ None) × (self.old.outs.items ≡ []) }
         requires from { 1 ≤ from }
         requires to { to ≤ length session.now.session.given }
         ensures { made session.now.session self.new
-            ≡ sent_again at (made session.now.session self.old) (Some (record { from = from; to = to })) }
+            ≡ sent_again (made session.now.session self.old) (Some (record { from = from; to = to })) }
     {
-        self.resends = Some(Resend { from, to, at });
+        self.resends = Some(Resend { from, to });
         self.phase = phase_resent(self.phase, self.latest, from, to);
     }
 

@@ -1,12 +1,13 @@
 //! What the lines of a link that isn't logged on give.
 
-ghost use Rattle.std.specs.Prelude.{◌≡◌, ◌≤◌, ◌^◌, IfOk, Some};
-ghost use Rattle.session_law.specs.Session.{answered, logon_opened};
+ghost use Rattle.std.specs.Prelude.{◌≡◌, ◌≤◌, ◌^◌, ◌∷◌, [], IfOk, Some};
+ghost use Rattle.session_law.specs.Session.{Shut, answered, logon_opened};
 ghost use Rattle.session_law.specs.Runs.{at_moment, heard};
 ghost use Rattle.session_law.specs.Table as table;
 ghost use Rattle.fix_fields.specs.Field as tags;
 ghost use Rattle.fix_session.specs.Made.{made};
 ghost use Rattle.fix_session.specs.Logons.{logon_answer};
+ghost use Rattle.fix_session.specs.declared.judge.LogonRow.TheVariants as rows;
 
 use crate::answer::too_low;
 use crate::draft::Draft;
@@ -27,31 +28,80 @@ pub fn answer_logon(
     at: u64,
 ) -> Result<Draft, AllocError>
     ensures { IfOk result (λ draft. made session.now.session draft
-        ≡ answered at (heard (at_moment at session.now.session))
+        ≡ answered (heard (at_moment at session.now.session))
         (logon_answer m.now (table.message_number m.now) row)) }
 {
     match row {
-        LogonRow::NotAnswered => {
-            let mut draft = Draft::heard_at(alloc, session, at);
-            draft.shut(session, at)?;
-            Ok(draft)
-        }
-        LogonRow::TooLow { expected } => {
-            let mut draft = Draft::heard_at(alloc, session, at);
-            too_low(alloc, &mut draft, session, expected, numbered(m), at)?;
-            Ok(draft)
-        }
-        LogonRow::LogsOn { interval, resets } => {
-            let mut draft = open(alloc, session, m, interval, resets, at)?;
-            draft.grow(session, at);
-            Ok(draft)
-        }
+        LogonRow::NotAnswered => end(alloc, session, at),
+        LogonRow::TooLow { expected } => refuse(alloc, session, m, expected, at),
+        LogonRow::LogsOn { interval, resets } => log_on(alloc, session, m, interval, resets, at),
         LogonRow::LogsOnWithGap { interval, resets } => {
-            let mut draft = open(alloc, session, m, interval, resets, at)?;
-            draft.ask_again(alloc, session, numbered(m), at)?;
-            Ok(draft)
+            log_on_with_gap(alloc, session, m, interval, resets, at)
         }
     }
+}
+
+/// The link ends without a word.
+fn end(alloc: Global, session: &Session, at: u64) -> Result<Draft, AllocError>
+    ensures { IfOk result (λ draft. made session.now.session draft
+        ≡ answered (heard (at_moment at session.now.session)) (table.acts (Shut ∷ []))) }
+{
+    let mut draft = Draft::heard_at(alloc, session, at);
+    draft.shut(session)?;
+    Ok(draft)
+}
+
+/// A low number: a Logout, and the end.
+fn refuse(
+    alloc: Global,
+    session: &Session,
+    m: &Fields,
+    expected: u64,
+    at: u64,
+) -> Result<Draft, AllocError>
+    ensures { IfOk result (λ draft. made session.now.session draft
+        ≡ answered (heard (at_moment at session.now.session))
+        (logon_answer m.now (table.message_number m.now) (rows.TooLow expected))) }
+{
+    let mut draft = Draft::heard_at(alloc, session, at);
+    too_low(alloc, &mut draft, session, expected, numbered(m))?;
+    Ok(draft)
+}
+
+/// The client is logged on.
+fn log_on(
+    alloc: Global,
+    session: &Session,
+    m: &Fields,
+    interval: u32,
+    resets: bool,
+    at: u64,
+) -> Result<Draft, AllocError>
+    ensures { IfOk result (λ draft. made session.now.session draft
+        ≡ answered (heard (at_moment at session.now.session))
+        (logon_answer m.now (table.message_number m.now) (rows.LogsOn interval resets))) }
+{
+    let mut draft = open(alloc, session, m, interval, resets, at)?;
+    draft.grow(session);
+    Ok(draft)
+}
+
+/// The client is logged on, and the gap is asked for.
+fn log_on_with_gap(
+    alloc: Global,
+    session: &Session,
+    m: &Fields,
+    interval: u32,
+    resets: bool,
+    at: u64,
+) -> Result<Draft, AllocError>
+    ensures { IfOk result (λ draft. made session.now.session draft
+        ≡ answered (heard (at_moment at session.now.session))
+        (logon_answer m.now (table.message_number m.now) (rows.LogsOnWithGap interval resets))) }
+{
+    let mut draft = open(alloc, session, m, interval, resets, at)?;
+    draft.ask_again(alloc, session, numbered(m))?;
+    Ok(draft)
 }
 
 /// The client is logged on, and is answered by a Logon.
@@ -64,12 +114,12 @@ fn open(
     at: u64,
 ) -> Result<Draft, AllocError>
     ensures opened { IfOk result (λ draft. made session.now.session draft
-        ≡ logon_opened at (heard (at_moment at session.now.session))
+        ≡ logon_opened (heard (at_moment at session.now.session))
         (Some (record { interval_text = tags.text 108 m.now; interval = interval; resets = resets }))) }
     ensures expected { IfOk result (λ draft. draft.expected ≤ 10 ^ 18) }
 {
     let body = logon_body(alloc, m, resets)?;
     let mut draft = Draft::opened_at(alloc, session, interval, resets, at);
-    draft.say(session, Kind::Logon, body, at)?;
+    draft.say(session, Kind::Logon, body)?;
     Ok(draft)
 }

@@ -25,7 +25,7 @@ use std::marker::Model;
 ///
 /// After an error, which is always that memory ran out, the session is as it was. `settle` and `undo` put calls back
 /// that succeeded: no call but these two changes how it was when it was settled.
-#[derive(Debug, Drop)]
+#[derive(Debug)]
 pub struct Session {
     gate: Text,
     client: Text,
@@ -35,10 +35,25 @@ pub struct Session {
     /// What each number from 1 was given to: a body that is kept, or a frame that is gap filled; and how that was when
     /// it was settled last.
     given: UndoBodies,
-    /// The latest moment of all calls.
+    /// The session's time, which all that is written or kept bears: the latest moment of all calls. It never goes back.
     latest: u64,
     /// The rest of how it was when it was settled last.
     settled: Settled,
+}
+
+// Not derived: then each way out drops it in one call (docs/DECISIONS.md, "Drops").
+impl Drop for Session {
+    fn drop(self) {
+        let Session {
+            gate: _,
+            client: _,
+            phase: _,
+            expected: _,
+            given: _,
+            latest: _,
+            settled: _,
+        } = self;
+    }
 }
 
 /// How a session was when it was settled, but for its names, which stay, and what numbers were given to.
@@ -98,7 +113,7 @@ pub struct IssuedTurn {
 impl Session {
     ghost use Rattle.session_law.specs.Session.{next_out, new_session, quiet, Given, fresh};
     ghost use Rattle.session_law.specs.Runs.{SessionHistory, Leaves, turn_after, step, Call, OnLink, OnMessage, OnTick};
-    ghost use Rattle.session_law.specs.Runs.{Issue, at_moment, heard, by_rows};
+    ghost use Rattle.session_law.specs.Runs.{Issue, at_moment, heard, by_rows, issued_frame};
     ghost use Rattle.session_law.specs.Expected.{expected};
     ghost use Rattle.session_law.specs.Numbers.{SessionHeadline, given};
     ghost use Rattle.session_law.specs.Table.{asked_number, logon_rows, logged_on_rows, message_number, resets};
@@ -191,7 +206,7 @@ impl Session {
             (turn_after self.old.session at (call_of_body body.now))) }
         ensures report { IfOk result (λ issued. issued.report
             ≡ frame_fields stamp_text self.old.session.gate self.old.session.client
-            (fresh (next_out self.old.session) (issues.issued_kind body.now) (issues.issued_body body.now) at)) }
+            (issued_frame self.old.session at (issues.issued_kind body.now) (issues.issued_body body.now))) }
         ensures leaves { OnOk result ((gate client : List ℕ) (h : SessionHistory)
             → Leaves gate client h self.old.session
             → Leaves gate client (turn_after self.old.session at (call_of_body body.now) ∷ h) self.new.session) }
@@ -317,20 +332,21 @@ impl Session {
             (step self.old.session at (Issue kind body.now)) issued.turn self.new.session) }
         ensures report { IfOk result (λ issued. issued.report
             ≡ frame_fields stamp_text self.old.session.gate self.old.session.client
-            (fresh (next_out self.old.session) kind body.now at)) }
+            (issued_frame self.old.session at kind body.now)) }
         ensures settled { self.new.settled ≡ self.old.settled }
         ensures err { OnErr result (self.new ≡ self.old) }
     {
-        let report = self.next_report(alloc, kind, body, at)?;
+        let now = self.latest.max(at);
+        let report = self.next_report(alloc, kind, body, now)?;
         let outs = issued_outs(alloc, self.phase, &report)?;
-        self.given.keep(kind, printed_fields(body), at)?;
-        self.latest = self.latest.max(at);
-        self.phase = phase_issued(self.phase, self.latest);
+        self.given.keep(kind, printed_fields(body), now)?;
+        self.latest = now;
+        self.phase = phase_issued(self.phase, now);
         let turn = SessionTurn { outs, app: None };
         Ok(IssuedTurn { turn, report })
     }
 
-    /// The report of a body under the next number.
+    /// The report of a body under the next number, at this time.
     fn next_report(
         &self,
         alloc: Global,
@@ -381,7 +397,7 @@ impl Session {
     /// A frame of a link that isn't logged on.
     fn on_first(&mut self, alloc: Global, m: &Fields, at: u64) -> Result<SessionTurn, AllocError>
         requires expected { self.old.session.expected ≤ 10 ^ 18 }
-        ensures meets { IfOk result (λ turn. Meets self.old.session (by_rows at (heard (at_moment at self.old.session))
+        ensures meets { IfOk result (λ turn. Meets self.old.session (by_rows (heard (at_moment at self.old.session))
             (logon_rows self.old.session m.now (message_number m.now)
             (if resets m.now then 1 else self.old.session.expected))) turn self.new.session) }
         ensures settled { self.new.settled ≡ self.old.settled }
@@ -395,7 +411,7 @@ impl Session {
     /// A frame of a client that is logged on.
     fn on_next(&mut self, alloc: Global, m: &Fields, at: u64) -> Result<SessionTurn, AllocError>
         requires expected { self.old.session.expected ≤ 10 ^ 18 }
-        ensures meets { IfOk result (λ turn. Meets self.old.session (by_rows at (heard (at_moment at self.old.session))
+        ensures meets { IfOk result (λ turn. Meets self.old.session (by_rows (heard (at_moment at self.old.session))
             (logged_on_rows self.old.session m.now (message_number m.now) self.old.session.expected))
             turn self.new.session) }
         ensures settled { self.new.settled ≡ self.old.settled }
@@ -403,7 +419,7 @@ impl Session {
     {
         let row = judge(self, m);
         let mut draft = Draft::heard_at(alloc, self, at);
-        answer(alloc, &mut draft, self, m, row, at)?;
+        answer(alloc, &mut draft, self, m, row)?;
         self.take(alloc, draft)
     }
 
@@ -432,14 +448,14 @@ impl Session {
         ensures err { OnErr result (self.new ≡ self.old) }
     {
         let outs = self.drafted_outs(alloc, &draft)?;
-        self.given.give(alloc, draft.resets, draft.slots)?;
-        self.phase = draft.phase;
-        self.expected = draft.expected;
-        self.latest = draft.latest;
-        Ok(SessionTurn {
-            outs,
-            app: draft.app,
-        })
+        let (resets, phase) = (draft.resets, draft.phase);
+        let (expected, latest) = (draft.expected, draft.latest);
+        let (slots, app) = draft.into_parts();
+        self.given.give(alloc, resets, slots)?;
+        self.phase = phase;
+        self.expected = expected;
+        self.latest = latest;
+        Ok(SessionTurn { outs, app })
     }
 
     /// What a draft has made for the link, in bytes.
@@ -448,7 +464,7 @@ impl Session {
             ≡ map (told_of_out self.now.session.gate self.now.session.client) (made self.now.session draft.now).outs) }
     {
         let mut outs = Vec::new(alloc);
-        self.append_again(alloc, &mut outs, draft.resends)?;
+        self.append_again(alloc, &mut outs, draft.resends, draft.latest)?;
         append_written(
             alloc,
             &mut outs,
@@ -465,14 +481,15 @@ impl Session {
         alloc: Global,
         outs: &mut Vec<SessionOut>,
         resends: Option<Resend>,
+        at: u64,
     ) -> Result<(), AllocError>
         ensures { OnOk result (map told_bytes outs.new.items ≡ map told_bytes outs.old.items
             ++ map (told_of_out self.now.session.gate self.now.session.client)
-            (resent_outs self.now.session.given resends)) }
+            (resent_outs at self.now.session.given resends)) }
     {
         match resends {
             None => Ok(()),
-            Some(Resend { from, to, at }) => {
+            Some(Resend { from, to }) => {
                 let given = self.given.given();
                 given.append_resend(alloc, outs, self.gate(), self.client(), from, to, at)
             }
@@ -488,7 +505,7 @@ impl Session {
     {
         let mut draft = Draft::at(alloc, self, at);
         let due = due_at(self.phase, draft.latest);
-        do_due(alloc, &mut draft, self, due, at)?;
+        do_due(alloc, &mut draft, self, due)?;
         self.take(alloc, draft)
     }
 }

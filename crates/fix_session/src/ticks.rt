@@ -18,17 +18,16 @@ pub fn do_due(
     draft: &mut Draft,
     session: &Session,
     due: Due,
-    at: u64,
 ) -> Result<(), AllocError>
     requires quiet { made session.now.session draft.old ≡ quiet (made session.now.session draft.old).state }
     ensures { OnOk result (made session.now.session draft.new
-        ≡ answered at (made session.now.session draft.old).state (due_answer due)) }
+        ≡ answered (made session.now.session draft.old).state (due_answer due)) }
 {
     match due {
         Due::Nothing => Ok(()),
-        Due::Close => draft.shut(session, at),
-        Due::NoAnswer => draft.log_out(alloc, session, b"no answer", at),
-        Due::TestRequest => draft.test(alloc, session, at),
-        Due::Heartbeat => draft.say(session, Kind::Heartbeat, Fields::new(alloc), at),
+        Due::Close => draft.shut(session),
+        Due::NoAnswer => draft.log_out(alloc, session, b"no answer"),
+        Due::TestRequest => draft.test(alloc, session),
+        Due::Heartbeat => draft.say(session, Kind::Heartbeat, Fields::new(alloc)),
     }
 }

@@ -15,7 +15,7 @@ use wire_law::TextWire;
 /// What the gateway tells a client whose cancel or replace isn't done.
 ///
 /// Source: FIX 4.4 Volume 4, "Order Cancel Reject", with the fields that this gateway writes, in this order.
-#[derive(Debug, Drop)]
+#[derive(Debug)]
 pub struct CancelReject {
     /// OrderID (37): the gateway's number of the order; `None` is written `NONE`, where 41 names no order.
     pub order_id: Option<u64>,
@@ -31,6 +31,21 @@ pub struct CancelReject {
     pub cxl_rej_reason: u64,
     /// Text (58).
     pub text: Text,
+}
+
+// Not derived: then each way out drops it in one call (docs/DECISIONS.md, "Drops").
+impl Drop for CancelReject {
+    fn drop(self) {
+        let CancelReject {
+            order_id: _,
+            cl_ord_id: _,
+            orig_cl_ord_id: _,
+            ord_status: _,
+            cxl_rej_response_to: _,
+            cxl_rej_reason: _,
+            text: _,
+        } = self;
+    }
 }
 
 /// The tags that have to be there, in the order in which they are judged.

@@ -15,12 +15,22 @@ use wire_law::TextWire;
 /// What a client asks with a cancel: that no more of an order is executed.
 ///
 /// Source: FIX 4.4 Volume 4, "Order Cancel Request"; of its tags the two ids alone are read, the rest is passed over.
-#[derive(Debug, Drop)]
+#[derive(Debug)]
 pub struct CancelRequest {
     /// ClOrdID (11): the request's own.
     pub cl_ord_id: ClOrdId,
     /// OrigClOrdID (41): that of the order, or of the last replace of it.
     pub orig_cl_ord_id: ClOrdId,
+}
+
+// Not derived: then each way out drops it in one call (docs/DECISIONS.md, "Drops").
+impl Drop for CancelRequest {
+    fn drop(self) {
+        let CancelRequest {
+            cl_ord_id: _,
+            orig_cl_ord_id: _,
+        } = self;
+    }
 }
 
 impl CancelRequest {
@@ -72,8 +82,8 @@ impl TextWire<Fields, TextFault> for CancelRequest {
     }
 }
 
-/// The cancel request that fields say, which meet no refusal.
-fn read_cancel_request(alloc: Global, fields: &Fields) -> Result<CancelRequest, AllocError>
+/// The cancel request that fields say, which meet no refusal. Two growths.
+pub fn read_cancel_request(alloc: Global, fields: &Fields) -> Result<CancelRequest, AllocError>
     requires { requests.cancel_refusal fields.now ≡ None }
     ensures said { IfOk result (λ request. request ≡ cancel_request_of fields.now) }
     ensures kept { IfOk result IsCancelRequest }

@@ -14,7 +14,7 @@ use wire_law::TextWire;
 /// What a client asks with a new order: the texts of its fields, which are judged elsewhere.
 ///
 /// Source: FIX 4.4 Volume 4, "New Order - Single"; tags that it doesn't name here are passed over.
-#[derive(Debug, Drop)]
+#[derive(Debug)]
 pub struct NewOrder {
     /// ClOrdID (11).
     pub cl_ord_id: ClOrdId,
@@ -36,6 +36,24 @@ pub struct NewOrder {
     pub order_capacity: Option<Character>,
     /// MinQty (110).
     pub min_qty: Option<FloatText>,
+}
+
+// Not derived: then each way out drops it in one call (docs/DECISIONS.md, "Drops").
+impl Drop for NewOrder {
+    fn drop(self) {
+        let NewOrder {
+            cl_ord_id: _,
+            side: _,
+            symbol: _,
+            order_qty: _,
+            ord_type: _,
+            price: _,
+            time_in_force: _,
+            exec_inst: _,
+            order_capacity: _,
+            min_qty: _,
+        } = self;
+    }
 }
 
 impl NewOrder {

@@ -11,7 +11,7 @@ use fix_values::reading::{
 };
 use std::alloc::{AllocError, Global};
 
-/// The new order that fields say, which meet no refusal.
+/// The new order that fields say, which meet no refusal. A growth for each text.
 pub fn read_new_order(alloc: Global, fields: &Fields) -> Result<NewOrder, AllocError>
     requires { new_order_refusal fields.now ≡ None }
     ensures said { IfOk result (λ order. order ≡ new_order_of fields.now) }

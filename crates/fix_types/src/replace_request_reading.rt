@@ -11,7 +11,7 @@ use fix_values::reading::{
 };
 use std::alloc::{AllocError, Global};
 
-/// The replace request that fields say, which meet no refusal.
+/// The replace request that fields say, which meet no refusal. A growth for each text.
 pub fn read_replace_request(alloc: Global, fields: &Fields) -> Result<ReplaceRequest, AllocError>
     requires { replace_refusal fields.now ≡ None }
     ensures said { IfOk result (λ request. request ≡ replace_request_of fields.now) }

@@ -11,7 +11,7 @@ use wire_law::TextWire;
 /// What the gateway tells a client of an order. Quantities and prices are texts, since a refused order's are its own.
 ///
 /// Source: FIX 4.4 Volume 4, "Execution Report", with the fields that this gateway writes, in this order.
-#[derive(Debug, Drop)]
+#[derive(Debug)]
 pub struct Report {
     /// OrderID (37): the gateway's number of the order.
     pub order_id: u64,
@@ -51,6 +51,33 @@ pub struct Report {
     pub avg_px: Text,
     /// Text (58).
     pub text: Option<Text>,
+}
+
+// Not derived: then each way out drops it in one call (docs/DECISIONS.md, "Drops").
+impl Drop for Report {
+    fn drop(self) {
+        let Report {
+            order_id: _,
+            cl_ord_id: _,
+            orig_cl_ord_id: _,
+            exec_id: _,
+            exec_ref_id: _,
+            exec_type: _,
+            ord_status: _,
+            ord_rej_reason: _,
+            exec_restatement_reason: _,
+            symbol: _,
+            side: _,
+            order_qty: _,
+            price: _,
+            last_qty: _,
+            last_px: _,
+            leaves_qty: _,
+            cum_qty: _,
+            avg_px: _,
+            text: _,
+        } = self;
+    }
 }
 
 /// The tags that have to be there, in the order in which they are judged.

@@ -22,13 +22,24 @@ const MOST_EVENTS: u64 = 1 << 48;
 ///
 /// Orders, tokens and ClOrdIDs that were used are found by indexes over any hasher, which changes nothing but how fast
 /// they are found. With a seed that nobody else knows no client can choose ids that make it slow.
-#[derive(Debug, Drop)]
+#[derive(Debug)]
 pub struct Core<S: BuildHasher + Drop = BuildHasherDefault<FoldHasher>> {
     parts: Parts<S>,
     /// How many events were stepped.
     events: u64,
     /// How many were before the last step.
     settled_events: u64,
+}
+
+// Not derived: then each way out drops it in one call (docs/DECISIONS.md, "Drops").
+impl<S: BuildHasher + Drop> Drop for Core<S> {
+    fn drop(self) {
+        let Core {
+            parts: _,
+            events: _,
+            settled_events: _,
+        } = self;
+    }
 }
 
 impl<S: BuildHasher + Drop> Model for Core<S> {

@@ -16,7 +16,7 @@ pub enum LinkOut {
 }
 
 /// What one event gives. It names a client just where there is something for one, and a port likewise.
-#[derive(Debug, Drop)]
+#[derive(Debug)]
 pub struct Batch {
     /// The client that something is for, where there is one.
     pub client: Option<ClientNumber>,
@@ -33,4 +33,18 @@ pub struct Batch {
     pub fault: Option<PortFault>,
     ghost for_client: { is_some client ≡ not ((length reports.items == 0) && (length client_out.items == 0)) },
     ghost for_port: { is_some port ≡ not ((length port_out.items == 0) && not (is_some fault)) },
+}
+
+// Not derived: then each way out drops it in one call (docs/DECISIONS.md, "Drops").
+impl Drop for Batch {
+    fn drop(self) {
+        let Batch {
+            client: _,
+            reports: _,
+            client_out: _,
+            port: _,
+            port_out: _,
+            fault: _,
+        } = self;
+    }
 }

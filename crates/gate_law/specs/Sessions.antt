@@ -13,8 +13,8 @@ use Rattle.soup_session.specs.Table as port
 use Rattle.session_law.specs.declared.kind.Kind.{Kind}
 use Rattle.session_law.specs.declared.kind.Kind.TheVariants as kinds
 use Rattle.session_law.specs.declared.frame.Out.{Out}
-use Rattle.session_law.specs.Session.{Given, fresh, next_out}
-use Rattle.session_law.specs.Runs.{Call, OnLink, OnMessage, OnTick, Issue, Timed, step, state_after}
+use Rattle.session_law.specs.Session.{Given}
+use Rattle.session_law.specs.Runs.{Call, OnLink, OnMessage, OnTick, Issue, Timed, issued_frame, step, state_after}
 use Rattle.session_law.specs.Frames.{ToldLink, Bytes, Closed, told_of_out, frame_fields}
 use Rattle.fix_fields.specs.Field.{Message, is}
 use Rattle.order_law.specs.Verdicts as stands
@@ -46,13 +46,14 @@ client_outs s client before [] = []
 client_outs s client before (call ∷ calls) = (client_answer s client before call).outs
     ++ client_outs s client (call ∷ before) calls
 
--- An issued body is reported as the fields of its frame, with the number that it takes, be the frame written or not.
+-- An issued body is reported as the fields of its frame, with the number that it takes and at the session's time, be
+-- the frame written or not.
 abbrev report_by : Settings → ℕ → List Timed → ℕ → Call → List Message
 report_by s client before at (OnLink is_up) = []
 report_by s client before at (OnMessage m) = []
 report_by s client before at OnTick = []
 report_by s client before at (Issue kind body) = frame_fields stamp_text s.comp (client_name s client)
-    (fresh (next_out (state_after s.comp (client_name s client) before)) kind body at) ∷ []
+    (issued_frame (state_after s.comp (client_name s client) before) at kind body) ∷ []
 
 unfoldable pub report_issued : Settings → ℕ → List Timed → Timed → List Message
 report_issued s client before call = report_by s client before call.0 call.1

@@ -1,5 +1,5 @@
 -- A body that is issued, as its report says it: no field of a body has a tag that a session writes round it.
-use Rattle.std.proofs.Common.{◌≡◌, ℕ, Bool, true, not, ◌&&◌, cond, List, [], ◌∷◌, ◌++◌, Option, Some, None, map, refl, sym, ap, ◌∙◌, append-nil, append_assoc, codes}
+use Rattle.std.proofs.Common.{◌≡◌, ℕ, Bool, true, not, ◌&&◌, cond, List, [], ◌∷◌, ◌++◌, Option, Some, None, map, max, refl, sym, ap, ◌∙◌, append-nil, append_assoc, codes}
 use Rattle.std.proofs.lemmas.Bool.{and_parts}
 use Rattle.std.proofs.lemmas.List.Elements.{filter-append}
 use Rattle.fix_fields.specs.Field.{Field, Message}
@@ -10,9 +10,9 @@ use Rattle.fix_types.specs.declared.application.AppBody.TheVariants as bodies
 use Rattle.fix_types.specs.Report as report
 use Rattle.fix_types.specs.CancelReject as reject
 use Rattle.fix_types.specs.Application.{body_fields}
-use Rattle.session_law.specs.Runs.{Timed}
+use Rattle.session_law.specs.Runs.{Timed, state_after}
 use Rattle.order_law.specs.Messages.{is_header, body_of}
-use Rattle.gate_law.specs.Settings.{Settings}
+use Rattle.gate_law.specs.Settings.{Settings, client_name}
 use Rattle.gate_law.specs.Sessions.{issue, report_issued}
 use Rattle.gate_sessions.specs.Leaving.{issue_call}
 
@@ -62,7 +62,11 @@ reported kind slots moment said =
     ap (λ (said_here : List Field). record { tag = 35; value = kind } ∷ said_here) (body-said slots moment said)
     ∙ sym (appended-from (record { tag = 35; value = kind } ∷ []) slots)
 
+-- the session's time as a body is issued at a moment
+abbrev time_then : Settings → ℕ → List Timed → ℕ → ℕ
+time_then s c calls at = max (state_after s.comp (client_name s c) calls).latest at
+
 pub report-is : (s : Settings) (c : ℕ) (calls : List Timed) (at : ℕ) (body : AppBody) → map body_of (report_issued s c calls (issue_call at body)) ≡ body_fields body ∷ []
 unfolding issue_call report_issued
-report-is s c calls at (bodies.Report r) = ap (λ (m : Message). m ∷ []) (reported (codes "8") (report.report_body_slots r) (stamp_text at) refl)
-report-is s c calls at (bodies.CancelReject r) = ap (λ (m : Message). m ∷ []) (reported (codes "9") (reject.cancel_reject_body_slots r) (stamp_text at) refl)
+report-is s c calls at (bodies.Report r) = ap (λ (m : Message). m ∷ []) (reported (codes "8") (report.report_body_slots r) (stamp_text (time_then s c calls at)) refl)
+report-is s c calls at (bodies.CancelReject r) = ap (λ (m : Message). m ∷ []) (reported (codes "9") (reject.cancel_reject_body_slots r) (stamp_text (time_then s c calls at)) refl)

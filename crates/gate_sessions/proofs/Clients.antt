@@ -3,8 +3,8 @@ use Rattle.std.proofs.Common.{◌≡◌, ℕ, List, [], ◌∷◌, refl, sym, ap
 use Rattle.fix_fields.specs.Field.{Field}
 use Rattle.fix_stamp.specs.Stamp.{stamp_text}
 use Rattle.session_law.specs.declared.kind.Kind.{Kind}
-use Rattle.session_law.specs.Session.{State, fresh, next_out}
-use Rattle.session_law.specs.Runs.{Call, Issue, SessionHistory, Leaves, Timed, call_turn, turn_after, turns_after, state_after, calls_seen, step}
+use Rattle.session_law.specs.Session.{State}
+use Rattle.session_law.specs.Runs.{Call, Issue, SessionHistory, Leaves, Timed, call_turn, turn_after, turns_after, state_after, calls_seen, issued_frame, step}
 use Rattle.session_law.specs.Frames.{frame_fields, told_of_out}
 use Rattle.session_law.proofs.Runs.{after-Leaves, Leaves-after}
 use Rattle.session_law.proofs.Expects.{Leaves-named}
@@ -57,7 +57,7 @@ client-answers s c calls old at call turn tells is =
     }
 
 pub client-reports : (s : Settings) (c : ℕ) (calls : List Timed) (old : State) (at : ℕ) (kind : Kind) (body fields : List Field)
-    → fields ≡ frame_fields stamp_text old.gate old.client (fresh (next_out old) kind body at)
+    → fields ≡ frame_fields stamp_text old.gate old.client (issued_frame old at kind body)
     → ClientLeaves s c calls old → report_issued s c calls (at, Issue kind body) ≡ fields ∷ []
 unfolding ClientLeaves report_issued
 client-reports s c calls old at kind body fields are is =
@@ -65,7 +65,7 @@ client-reports s c calls old at kind body fields are is =
     let client = client_name s c in
     let now = state_after gate client calls in
     let named = Leaves-named gate client (turns_after gate client calls) now (after-Leaves gate client calls) in
-    let told : fields ≡ frame_fields stamp_text now.gate now.client (fresh (next_out now) kind body at) = subst (λ (x : State). fields ≡ frame_fields stamp_text x.gate x.client (fresh (next_out x) kind body at)) is are in
+    let told : fields ≡ frame_fields stamp_text now.gate now.client (issued_frame now at kind body) = subst (λ (x : State). fields ≡ frame_fields stamp_text x.gate x.client (issued_frame x at kind body)) is are in
     ap (λ (fs : List Field). fs ∷ []) (sym (told
-    ∙ ap (λ (g : List ℕ). frame_fields stamp_text g now.client (fresh (next_out now) kind body at)) named.0
-    ∙ ap (λ (n : List ℕ). frame_fields stamp_text gate n (fresh (next_out now) kind body at)) named.1))
+    ∙ ap (λ (g : List ℕ). frame_fields stamp_text g now.client (issued_frame now at kind body)) named.0
+    ∙ ap (λ (n : List ℕ). frame_fields stamp_text gate n (issued_frame now at kind body)) named.1))

@@ -13,7 +13,7 @@ use fix_types::AppBody;
 use std::alloc::{AllocError, Global};
 
 /// A client's current link, where it has one, and its session over all its links.
-#[derive(Debug, Drop)]
+#[derive(Debug)]
 pub struct ClientLine {
     pub link: Option<u64>,
     pub session: Session,
@@ -21,6 +21,18 @@ pub struct ClientLine {
     pub settled_link: Option<u64>,
     /// Something came since the line was settled last.
     pub is_touched: bool,
+}
+
+// Not derived: then each way out drops it in one call (docs/DECISIONS.md, "Drops").
+impl Drop for ClientLine {
+    fn drop(self) {
+        let ClientLine {
+            link: _,
+            session: _,
+            settled_link: _,
+            is_touched: _,
+        } = self;
+    }
 }
 
 impl ClientLine {

@@ -13,12 +13,23 @@ use soup_session::{PortFault, PortSession, PortState, PortTurn};
 use std::alloc::{AllocError, Global};
 
 /// A port's current link, where it has one, and its session over all its links.
-#[derive(Debug, Drop)]
+#[derive(Debug)]
 pub struct PortLine {
     pub link: Option<u64>,
     pub session: PortSession,
     /// The link when the line was settled last.
     pub settled_link: Option<u64>,
+}
+
+// Not derived: then each way out drops it in one call (docs/DECISIONS.md, "Drops").
+impl Drop for PortLine {
+    fn drop(self) {
+        let PortLine {
+            link: _,
+            session: _,
+            settled_link: _,
+        } = self;
+    }
 }
 
 impl PortLine {

@@ -1,6 +1,7 @@
-//! What is told of the frames that a client is sent: those that refuse a message, ask for messages again or end a
-//! session, so that whoever runs the gateway sees why nothing goes through.
+//! What is told of the frames of a client's link, so that whoever runs the gateway sees why nothing goes through: those
+//! that it is sent and that refuse a message, ask for messages again or end a session; and bytes that are no frame.
 
+use crate::skipped::SkipReader;
 use crate::telling::Teller;
 use gate_serving::{LinkEnd, LinkFault, Opened, Opener};
 use memchr::memmem::find;
@@ -8,7 +9,7 @@ use std::alloc::{AllocError, Global};
 use std::io::{self, Write};
 use std::time::Clock;
 
-/// An opener whose links' writers tell of such frames.
+/// An opener whose links' writers tell of such frames, and whose readers tell of such bytes.
 #[derive(Drop)]
 pub(crate) struct TellingFrames<'a, O, R> {
     teller: Teller<'a, R>,
@@ -32,7 +33,7 @@ impl<'a, O: Opener, R: Clock + Eprint> Opener for TellingFrames<'a, O, R> {
 
     ghost has_ended = { λ t. O.has_ended t.opener };
 
-    type Reader = O::Reader;
+    type Reader = SkipReader<'a, O::Reader, R>;
 
     type Writer = FrameWriter<'a, O::Writer, R>;
 
@@ -40,7 +41,7 @@ impl<'a, O: Opener, R: Clock + Eprint> Opener for TellingFrames<'a, O, R> {
 
     fn open(
         &mut self,
-    ) -> Option<Result<Opened<O::Reader, FrameWriter<'a, O::Writer, R>, O::Closer>, LinkFault>> {
+    ) -> Option<Result<Opened<Self::Reader, Self::Writer, O::Closer>, LinkFault>> {
         match self.opener.open() {
             Some(
                 Ok(
@@ -51,6 +52,7 @@ impl<'a, O: Opener, R: Clock + Eprint> Opener for TellingFrames<'a, O, R> {
                     },
                 ),
             ) => {
+                let reader = SkipReader::new(self.teller.again(), self.alloc, reader);
                 let writer = FrameWriter {
                     teller: self.teller.again(),
                     alloc: self.alloc,

@@ -11,6 +11,7 @@ mod frames;
 mod lines;
 mod port_faults;
 mod running;
+mod skipped;
 mod telling;
 
 pub use by_settings::run_settings;

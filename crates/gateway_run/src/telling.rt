@@ -61,6 +61,13 @@ impl<'a, R: Clock + Eprint> Teller<'a, R> {
         );
     }
 
+    /// Tells how many bytes of a link were part of no frame.
+    pub(crate) fn tell_skipped(&self, count: u64) {
+        let at = self.now();
+        let at = str::from_utf8(&at).unwrap_or("");
+        let _ = eprintln!(self.rt; "{at} {} skipped {count} bytes", self.whose);
+    }
+
     /// Tells why a port is faulted, by the fault's number and name.
     pub(crate) fn tell_port_fault(&self, number: u8, name: &str) {
         let at = self.now();

@@ -1,6 +1,6 @@
 //! A number with a text, as one key.
 
-ghost use Rattle.std.specs.Prelude.{◌≡◌, ◌≤◌, ◌+◌, ◌-◌, ◌++◌, ◌∷◌, [], length, take, drop, replicate};
+ghost use Rattle.std.specs.Prelude.{◌≡◌, ◌≤◌, ◌+◌, ◌-◌, ◌++◌, ◌∷◌, [], length, min, take, drop, replicate};
 ghost use Rattle.std.specs.Hash as fed;
 ghost use Rattle.hint_index.specs.TextKeys.{text_key};
 ghost use Rattle.hint_index.specs.KeyLaws.{hash-alike};
@@ -9,7 +9,8 @@ use std::hash::{Hash, Hasher};
 
 /// The key of a number with a text of up to 64 bytes: an array with its length, so that it takes no memory.
 ///
-/// Of a longer text the first 64 bytes count. Equal numbers and texts have equal keys.
+/// Of a longer text the first 64 bytes count. Equal numbers and texts have equal keys. Hashed are the number and the
+/// text, and not the zeros behind it.
 #[derive(Clone, Copy, Debug, PartialEq, Eq)]
 pub struct TextKey {
     number: u16,
@@ -50,13 +51,13 @@ fn padded(text: &[u8]) -> [u8; 64]
 }
 
 impl Hash for TextKey {
-    ghost hash_input = { λ k. fed.u16 k.number ++ k.bytes ∷ [] };
+    ghost hash_input = { λ k. fed.u16 k.number ++ take (min k.len 64) k.bytes ∷ [] };
 
     ghost respects_eq = { hash-alike };
 
-    // All bytes in one write.
+    // The text in one write.
     fn hash<H: Hasher>(&self, state: &mut H) {
         self.number.hash(state);
-        state.write(&self.bytes);
+        state.write(&self.bytes[..usize::from(self.len).min(64)]);
     }
 }

@@ -36,7 +36,7 @@ pub struct Wrote {
 /// Writes what a link is told onto its stream. What other links are told it passes over.
 ///
 /// Contracts see the bytes that were taken and not yet written, and what is still to be told of the lists taken.
-#[derive(Debug, Drop)]
+#[derive(Debug)]
 pub struct BatchWriter {
     number: u16,
     link: u64,
@@ -48,6 +48,22 @@ pub struct BatchWriter {
     is_taken: bool,
     is_closing: bool,
     limit: Limit,
+}
+
+// Not derived: then each way out drops it in one call (docs/DECISIONS.md, "Drops").
+impl Drop for BatchWriter {
+    fn drop(self) {
+        let BatchWriter {
+            number: _,
+            link: _,
+            held: _,
+            joined: _,
+            pending: _,
+            is_taken: _,
+            is_closing: _,
+            limit: _,
+        } = self;
+    }
 }
 
 impl Model for BatchWriter {

@@ -88,19 +88,39 @@ const FROM_CLIENT: &[u8; 44] =
 const FROM_PORT: &[u8; 19] =
     b"\x00\x03\x00\x00\x00\x00\x00\x00\x00\x07\x00\x00\x00\x00\x00\x00\x00\x05H";
 
+/// Steps a reader to the end of its stream.
+fn step_to_end(
+    alloc: Global,
+    reader: &mut ClientReader,
+    stream: &mut Pieces<'_>,
+    gate: &mut Kept,
+) -> Result<(), LinkFault> {
+    for _ in 0..54 {
+        if reader.step(alloc, stream, gate, 5)? == Progress::Ended {
+            break;
+        }
+    }
+    Ok(())
+}
+
+/// What is put of a stream that is read in pieces of this size.
+fn put_of(alloc: Global, stream: &[u8], size: usize) -> Result<Vec<u8>, Fail> {
+    let mut gate = Kept::new(alloc);
+    let mut reader = client_reader(alloc, 100);
+    step_to_end(
+        alloc,
+        &mut reader,
+        &mut pieces(stream, size, 100),
+        &mut gate,
+    )?;
+    Ok(told(alloc, gate.events.as_slice())?)
+}
+
 #[test]
 fn frames_are_put_however_the_stream_is_read(rt: HostRuntime) -> Result<(), Fail> {
+    let expected = [FROM_CLIENT.as_slice(), FROM_CLIENT.as_slice()].concat(rt.alloc())?;
     for size in [1, 25, 26, 27, 4_096] {
-        let mut gate = Kept::new(rt.alloc());
-        let mut stream = pieces(TWO, size, 100);
-        let mut reader = client_reader(rt.alloc(), 100);
-        for _ in 0..54 {
-            if reader.step(rt.alloc(), &mut stream, &mut gate, 5)? == Progress::Ended {
-                break;
-            }
-        }
-        let events = told(rt.alloc(), gate.events.as_slice())?;
-        let expected = [FROM_CLIENT.as_slice(), FROM_CLIENT.as_slice()].concat(rt.alloc())?;
+        let events = put_of(rt.alloc(), TWO, size)?;
         assert_eq!(rt; events.as_slice(), expected.as_slice());
     }
     Ok(())
@@ -129,22 +149,24 @@ fn a_head_of_too_long_a_frame(rt: HostRuntime) -> Result<(), Fail> {
     Ok(())
 }
 
+/// What is put of a port's stream by two steps, of which each has to find an empty packet.
+fn put_before_fault<R: Abort>(rt: &R, alloc: Global, stream: &[u8]) -> Result<Vec<u8>, Fail> {
+    let mut gate = Kept::new(alloc);
+    let mut reader = port_reader(alloc, 100);
+    let mut stream = pieces(stream, 4_096, 100);
+    for _ in 0..2 {
+        let done = reader.step(alloc, &mut stream, &mut gate, 5);
+        assert_eq!(rt; done, Err(LinkFault::Malformed));
+    }
+    Ok(told(alloc, gate.events.as_slice())?)
+}
+
 #[test]
 fn an_empty_packet_and_one_before_it(rt: HostRuntime) -> Result<(), Fail> {
-    for (stream, expected) in [
-        (b"\x00\x00".as_slice(), b"".as_slice()),
-        (b"\x00\x01H\x00\x00".as_slice(), FROM_PORT.as_slice()),
-    ] {
-        let mut gate = Kept::new(rt.alloc());
-        let mut stream = pieces(stream, 4_096, 100);
-        let mut reader = port_reader(rt.alloc(), 100);
-        for _ in 0..2 {
-            let done = reader.step(rt.alloc(), &mut stream, &mut gate, 5);
-            assert_eq!(rt; done, Err(LinkFault::Malformed));
-        }
-        let events = told(rt.alloc(), gate.events.as_slice())?;
-        assert_eq!(rt; events.as_slice(), expected);
-    }
+    let events = put_before_fault(&rt, rt.alloc(), b"\x00\x00")?;
+    assert_eq!(rt; events.as_slice(), b"".as_slice());
+    let events = put_before_fault(&rt, rt.alloc(), b"\x00\x01H\x00\x00")?;
+    assert_eq!(rt; events.as_slice(), FROM_PORT.as_slice());
     Ok(())
 }
 
@@ -167,22 +189,39 @@ fn a_reader_that_fails_at_each_read(rt: HostRuntime) -> Result<(), Fail> {
     Ok(())
 }
 
-#[test]
-fn an_event_that_is_given_back_is_put_next(rt: HostRuntime) -> Result<(), Fail> {
-    let mut gate = Kept::new(rt.alloc());
+/// The gate is full: the first event waits at each step, and nothing more is read.
+fn hold<R: Abort>(
+    rt: &R,
+    alloc: Global,
+    reader: &mut ClientReader,
+    stream: &mut Pieces<'_>,
+    gate: &mut Kept,
+) -> Result<(), Fail> {
     gate.is_full = true;
-    let mut stream = pieces(TWO, 4_096, 1);
-    let mut reader = client_reader(rt.alloc(), 100);
     for at in 5..10 {
-        let done = reader.step(rt.alloc(), &mut stream, &mut gate, at);
+        let done = reader.step(alloc, stream, gate, at);
         assert_eq!(rt; done, Ok(Progress::Held));
         assert_eq!(rt; stream.reads_left, 0);
     }
     gate.is_full = false;
-    let done = reader.step(rt.alloc(), &mut stream, &mut gate, 5);
+    let done = reader.step(alloc, stream, gate, 5);
     assert_eq!(rt; done, Err(LinkFault::ReadFailed));
-    let events = told(rt.alloc(), gate.events.as_slice())?;
+    Ok(())
+}
+
+#[test]
+fn an_event_that_is_given_back_is_put_next(rt: HostRuntime) -> Result<(), Fail> {
     let expected = [FROM_CLIENT.as_slice(), FROM_CLIENT.as_slice()].concat(rt.alloc())?;
+    let mut gate = Kept::new(rt.alloc());
+    let mut reader = client_reader(rt.alloc(), 100);
+    hold(
+        &rt,
+        rt.alloc(),
+        &mut reader,
+        &mut pieces(TWO, 4_096, 1),
+        &mut gate,
+    )?;
+    let events = told(rt.alloc(), gate.events.as_slice())?;
     assert_eq!(rt; events.as_slice(), expected.as_slice());
     Ok(())
 }

@@ -318,12 +318,20 @@ fn waits_for_another<'a, R: Threads + Wait + time::Clock + Abort + Sync>(
     let reader = reading_gate(rt, alloc, seen, u32::from(!is_first), &seen.first);
     let writer = writing_gate(rt, alloc, seen, heartbeat(alloc)?, &seen.second)?;
     let two = line_of(rt, ClientNumber::new(2), links, reader, writer);
-    let served = serve(rt, alloc, vec![in alloc; one, two]?);
-    assert!(rt; !seen.is_failed.load(Ordering::SeqCst));
-    let Ok(lines) = served else {
+    let Ok(lines) = serve(rt, alloc, vec![in alloc; one, two]?) else {
         return Err(Fail::new("not served"));
     };
-    for line in &lines {
+    look_at_both(rt, lines.as_slice(), seen)
+}
+
+/// Nobody waited in vain, and each client's events and list went through.
+fn look_at_both<'a, R: Abort>(
+    rt: &'a R,
+    lines: &[TestLine<'a, ClientNumber, R>],
+    seen: &Seen,
+) -> Result<(), Fail> {
+    assert!(rt; !seen.is_failed.load(Ordering::SeqCst));
+    for line in lines {
         assert_eq!(rt; line.fault, None);
         assert_eq!(rt; line.reader.gate.kept.events.len(), 3);
         assert_eq!(rt; line.writer.gate.kept.given.len(), 1);
@@ -355,12 +363,20 @@ fn waits_for_itself<'a, R: Threads + Wait + time::Clock + Abort + Sync>(
     let reader = reading_gate(rt, alloc, seen, 0, &seen.never);
     let writer = writing_gate(rt, alloc, seen, heartbeat(alloc)?, &seen.never)?;
     let two = line_of(rt, ClientNumber::new(2), links, reader, writer);
-    let served = serve(rt, alloc, vec![in alloc; one, two]?);
-    assert!(rt; !seen.is_failed.load(Ordering::SeqCst));
-    let Ok(lines) = served else {
+    let Ok(lines) = serve(rt, alloc, vec![in alloc; one, two]?) else {
         return Err(Fail::new("not served"));
     };
-    let [one, two] = lines.as_slice() else {
+    look_at_own(rt, lines.as_slice(), seen)
+}
+
+/// The first client didn't wait in vain.
+fn look_at_own<'a, R: Abort>(
+    rt: &'a R,
+    lines: &[TestLine<'a, ClientNumber, R>],
+    seen: &Seen,
+) -> Result<(), Fail> {
+    assert!(rt; !seen.is_failed.load(Ordering::SeqCst));
+    let [one, two] = lines else {
         return Err(Fail::new("not two lines"));
     };
     assert_eq!(rt; one.peer.number(), 1);
@@ -402,6 +418,15 @@ fn three_links<'a, R: Threads + Wait + time::Clock + Abort + Sync>(
     let [line] = lines.as_slice() else {
         return Err(Fail::new("not one line"));
     };
+    look_at_three(rt, alloc, line)
+}
+
+/// Three links were up, and came to their end; opening one failed.
+fn look_at_three<'a, R: Abort>(
+    rt: &'a R,
+    alloc: Global,
+    line: &TestLine<'a, PortNumber, R>,
+) -> Result<(), Fail> {
     assert_eq!(rt; line.fault, Some(LinkFault::ReadFailed));
     let ups = links_up(alloc, line.reader.gate.kept.events.as_slice())?;
     assert_eq!(rt; ups.as_slice(), [1, 2, 3].as_slice());
@@ -432,8 +457,17 @@ fn closed_link<'a, R: Threads + Wait + time::Clock + Abort + Sync>(
     let Ok(lines) = serve(rt, alloc, vec![in alloc; line]?) else {
         return Err(Fail::new("not served"));
     };
+    look_at_closed(rt, lines.as_slice(), seen)
+}
+
+/// The one link was closed, and shut down once.
+fn look_at_closed<'a, R: Abort>(
+    rt: &'a R,
+    lines: &[TestLine<'a, ClientNumber, R>],
+    seen: &Seen,
+) -> Result<(), Fail> {
     assert_eq!(rt; lines.len(), 1);
-    for line in &lines {
+    for line in lines {
         for end in &line.opener.ends {
             assert_eq!(rt; end.writer, Ok(WriterEnd::Closed));
         }

@@ -46,26 +46,36 @@ fn torn(alloc: Global, size: usize, writes_left: usize) -> Torn {
     }
 }
 
+/// Writes what lies there up to the `Close`, so many bytes a write.
+fn write_up_to_close<R: Abort>(rt: &R, alloc: Global, size: usize) -> Result<(), Fail> {
+    let mut gate = gate_of_lists(alloc)?;
+    let mut stream = torn(alloc, size, 100);
+    let mut writer = BatchWriter::new(alloc, 1, 7, 100);
+    let wrote = writer.step(alloc, &mut stream, &mut gate);
+    assert_eq!(rt;
+        wrote,
+        Ok(Wrote {
+            bytes: 11,
+            taken: true,
+            closed: true
+        })
+    );
+    assert_eq!(rt; stream.taken.as_slice(), BOTH.as_slice());
+    assert_eq!(rt; gate.lists.len(), 1);
+    Ok(())
+}
+
 #[test]
 fn lists_up_to_the_close_are_written(rt: HostRuntime) -> Result<(), Fail> {
-    let mut gate = gate_of_lists(rt.alloc())?;
     for size in [1, 4, 4_096] {
-        let mut stream = torn(rt.alloc(), size, 100);
-        let mut writer = BatchWriter::new(rt.alloc(), 1, 7, 100);
-        let wrote = writer.step(rt.alloc(), &mut stream, &mut gate);
-        assert_eq!(rt;
-            wrote,
-            Ok(Wrote {
-                bytes: 11,
-                taken: true,
-                closed: true
-            })
-        );
-        assert_eq!(rt; stream.taken.as_slice(), BOTH.as_slice());
-        assert_eq!(rt; gate.lists.len(), 1);
-        gate = gate_of_lists(rt.alloc())?;
+        write_up_to_close(&rt, rt.alloc(), size)?;
     }
-    gate.lists.clear();
+    Ok(())
+}
+
+#[test]
+fn where_nothing_lies_nothing_is_written(rt: HostRuntime) -> Result<(), Fail> {
+    let mut gate = Kept::new(rt.alloc());
     let mut stream = torn(rt.alloc(), 1, 100);
     let mut writer = BatchWriter::new(rt.alloc(), 1, 7, 100);
     let wrote = writer.step(rt.alloc(), &mut stream, &mut gate);

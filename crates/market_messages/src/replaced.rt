@@ -66,7 +66,7 @@ fn tell_replaced(
     let Some(replacing) = &order.replace else {
         return Ok(bodies);
     };
-    let request = Request::of_replace(&replacing.message);
+    let request = Request::of_replace(&replacing.get().message);
     let pending = pending_of(order);
     let rest = Pending {
         replace: None,

@@ -5,20 +5,19 @@ ghost use Rattle.ouch_codec.specs.Parts.{unpadded};
 ghost use Rattle.order_law.specs.Lawful.{same_terms};
 ghost use Rattle.market_messages.specs.Sides.{fix_side};
 
-use fix_fields::Text;
 use fix_values::Character;
-use orders::Order;
+use orders::{Order, Symbol};
 use ouch_codec::Side;
 
 /// Whether a stock and a side are those of an order.
 pub fn is_same_terms(order: &Order, stock: &[u8; 8], side: Side) -> bool
     ensures { result ≡ same_terms side stock.now order.now.new }
 {
-    is_stock(stock, &order.message.symbol) && is_same_side(order.message.side, side)
+    is_stock(stock, &order.symbol) && is_same_side(order.side, side)
 }
 
 /// Whether a stock is this symbol.
-fn is_stock(stock: &[u8; 8], symbol: &Text) -> bool
+fn is_stock(stock: &[u8; 8], symbol: &Symbol) -> bool
     ensures { result ≡ bytes_eq (unpadded stock.now) symbol.now }
 {
     trimmed(stock) == symbol.as_slice()

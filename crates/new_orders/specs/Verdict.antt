@@ -1,5 +1,5 @@
 -- The verdict on a new order, by the table that it comes to.
-use Rattle.std.specs.Prelude.{◌≡◌, ℕ, ◌+◌, Bool, List, Option, length}
+use Rattle.std.specs.Prelude.{◌≡◌, ◌≤◌, ℕ, ◌+◌, Bool, List, Option, length}
 use Rattle.tokens.specs.TokenText.{token_text}
 use Rattle.fix_types.specs.declared.new_order.NewOrder.{NewOrder}
 use Rattle.fix_types.specs.NewOrder.{new_order_fields}
@@ -19,11 +19,12 @@ verdict_of sender held is_used d =
     first_row (rows_of_new is_used (port_seen sender.port) (open_count held.orders sender.client) (length held.tokens)
     (new_order_fields d))
 
--- an Enter Order that says what the order asks under the next token, whatever its OrderID
+-- an Enter Order that says what the order asks under the next token, whatever its OrderID; its stock has 8 bytes
 pub record AsksNext (sender : Sender) (held : Held) (d : NewOrder) (enter : EnterOrder) : Type 0 where
   pub token : enter.token ≡ token_text (length held.tokens + 1)
   pub shares : enter.shares ≡ total_of (new_order_fields d)
   pub price : enter.price ≡ limit_of (new_order_fields d)
+  pub symbol : length d.symbol ≤ 8
   pub says : (order : List ℕ) (order_of : List ℕ → Option ℕ)
       → Says (client_standing sender.terms) order_of
       (asked_with order (token_text (length held.tokens + 1)) sender.terms.capacity (new_order_fields d))

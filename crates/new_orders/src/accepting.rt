@@ -78,7 +78,7 @@ fn entered<S: BuildHasher + Drop>(
         order_id,
         enter.token,
         table.token_count() as u64 + 1,
-        order.copied(alloc)?,
+        order,
         Progress::entered(enter.shares, enter.price),
     )
 }

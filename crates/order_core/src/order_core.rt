@@ -24,10 +24,20 @@ use std::marker::Model;
 /// beside what it became until the next `settle`.
 ///
 /// Orders, tokens and used ids are found by indexes over any hasher, which changes nothing but how fast they are found.
-#[derive(Debug, Drop)]
+#[derive(Debug)]
 pub struct OrderCore<S: BuildHasher + Drop = BuildHasherDefault<FoldHasher>> {
     ledger: OrderLedger<S>,
     asked: AskedMessages,
+}
+
+// Not derived: then each way out drops it in one call (docs/DECISIONS.md, "Drops").
+impl<S: BuildHasher + Drop> Drop for OrderCore<S> {
+    fn drop(self) {
+        let OrderCore {
+            ledger: _,
+            asked: _,
+        } = self;
+    }
 }
 
 impl<S: BuildHasher + Drop> Model for OrderCore<S> {

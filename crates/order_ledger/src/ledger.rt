@@ -24,11 +24,11 @@ use to_market::{ClientTerms, PortState};
 /// ledger with no orders where there was none.
 ///
 /// Orders, tokens and used ids are found by indexes over any hasher, which changes nothing but how fast they are found.
-#[derive(Debug, Drop)]
+#[derive(Debug)]
 pub struct OrderLedger<S: BuildHasher + Drop = BuildHasherDefault<FoldHasher>> {
-    terms: Vec<ClientTerms>,
     table: Table<S>,
     used: UsedIds<S>,
+    terms: Vec<ClientTerms>,
     /// How many new orders came: the last OrderID given.
     order_ids: u64,
     /// How many reports were issued: the last ExecID given.
@@ -36,6 +36,21 @@ pub struct OrderLedger<S: BuildHasher + Drop = BuildHasherDefault<FoldHasher>> {
     /// Both numbers as they were settled.
     settled_order_ids: u64,
     settled_exec_ids: u64,
+}
+
+// Not derived: then each way out drops it in one call (docs/DECISIONS.md, "Drops").
+impl<S: BuildHasher + Drop> Drop for OrderLedger<S> {
+    fn drop(self) {
+        let OrderLedger {
+            terms: _,
+            table: _,
+            used: _,
+            order_ids: _,
+            exec_ids: _,
+            settled_order_ids: _,
+            settled_exec_ids: _,
+        } = self;
+    }
 }
 
 impl<S: BuildHasher + Drop> Model for OrderLedger<S> {

@@ -79,10 +79,17 @@ fn is_same_id(client: u16, id: &[u8], used: &UsedId) -> bool
 
 /// The ids that clients have used, the oldest first, each found by its client and its bytes. Contracts see the list,
 /// now and as it was settled, and for how many ids more there is room.
-#[derive(Debug, Drop)]
+#[derive(Debug)]
 pub struct UsedIds<S: BuildHasher + Drop = BuildHasherDefault<FoldHasher>> {
     ids: UndoList<UsedId>,
     keys: HintIndex<TextKey, S>,
+}
+
+// Not derived: then each way out drops it in one call (docs/DECISIONS.md, "Drops").
+impl<S: BuildHasher + Drop> Drop for UsedIds<S> {
+    fn drop(self) {
+        let UsedIds { ids: _, keys: _ } = self;
+    }
 }
 
 impl<S: BuildHasher + Drop> Model for UsedIds<S> {

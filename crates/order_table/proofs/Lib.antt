@@ -5,3 +5,4 @@ mod Named
 mod Changing
 mod Standing
 mod StillOpen
+mod Replaces

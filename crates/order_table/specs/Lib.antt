@@ -2,6 +2,7 @@ pub mod Held
 pub mod Keys
 pub mod KeyLaws
 pub mod Names
+pub mod Replaces
 pub mod Rooms
 pub mod TokenKeys
 pub use Rattle.order_law.specs.Chain

@@ -2,9 +2,9 @@
 use Rattle.std.specs.Prelude.{ℕ, ◌&&◌, nat_le}
 use Rattle.order_table.specs.Held.{one_if}
 
--- one more of a list and of its index
-abbrev pub room_of_two : ℕ → ℕ → ℕ
-room_of_two list index = one_if (nat_le 1 list && nat_le 1 index)
+-- one token more, by its text, and counted
+abbrev pub room_of_token : ℕ → ℕ → ℕ → ℕ
+room_of_token list texts counts = one_if (nat_le 1 list && (nat_le 1 texts && nat_le 1 counts))
 
 -- one order more, by its number and by three names
 abbrev pub room_of_order : ℕ → ℕ → ℕ → ℕ

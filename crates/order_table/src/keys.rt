@@ -12,7 +12,7 @@ ghost use Rattle.order_table.specs.KeyLaws.{name-alike, number-alike, token-alik
 use crate::table::GivenToken;
 use crate::token_key::TokenKey;
 use hint_index::{Keyed, Sought, TextKey};
-use orders::{Cancelling, Order, Replacing};
+use orders::{Boxed, Cancelling, Order, Replacing};
 
 /// The number of an OrderID, as a key.
 #[derive(Clone, Copy, Debug, PartialEq, Eq, Hash)]
@@ -106,23 +106,23 @@ fn goes_by(id: &[u8], order: &Order) -> bool
 }
 
 /// Whether a pending replace has this ClOrdID.
-fn is_of_replace(id: &[u8], replace: &Option<Replacing>) -> bool
+fn is_of_replace(id: &[u8], replace: &Option<Boxed<Replacing>>) -> bool
     ensures { (client order_id : ℕ) → result ≡ has_id id.now (option_map (replace_seen client order_id) replace.now) }
 {
     match replace {
         None => false,
-        Some(replacing) => replacing.message.cl_ord_id.as_slice() == id,
+        Some(replacing) => replacing.get().message.cl_ord_id.as_slice() == id,
     }
 }
 
 /// Whether a pending cancel has this ClOrdID.
-fn is_of_cancel(id: &[u8], cancel: &Option<Cancelling>) -> bool
+fn is_of_cancel(id: &[u8], cancel: &Option<Boxed<Cancelling>>) -> bool
     ensures { (client order_id : ℕ) → result ≡ has_cancel_id id.now
         (option_map (cancel_seen client order_id) cancel.now) }
 {
     match cancel {
         None => false,
-        Some(cancelling) => cancelling.message.cl_ord_id.as_slice() == id,
+        Some(cancelling) => cancelling.get().message.cl_ord_id.as_slice() == id,
     }
 }
 
@@ -146,46 +146,53 @@ fn has_name(order: &Order, key: &NameKey) -> bool
 }
 
 /// Whether a key is that of a client with the id of a pending replace.
-fn is_key_of_replace(key: &NameKey, client: u16, replace: &Option<Replacing>) -> bool
+fn is_key_of_replace(key: &NameKey, client: u16, replace: &Option<Boxed<Replacing>>) -> bool
     ensures { (order_id : ℕ) → result ≡ keys.is_key_of_replace key.now client
         (option_map (replace_seen client order_id) replace.now) }
 {
     match replace {
         None => false,
-        Some(replacing) => { *key == NameKey::of(client, replacing.message.cl_ord_id.as_slice()) }
+        Some(replacing) => {
+            *key == NameKey::of(client, replacing.get().message.cl_ord_id.as_slice())
+        }
     }
 }
 
 /// Whether a key is that of a client with the id of a pending cancel.
-fn is_key_of_cancel(key: &NameKey, client: u16, cancel: &Option<Cancelling>) -> bool
+fn is_key_of_cancel(key: &NameKey, client: u16, cancel: &Option<Boxed<Cancelling>>) -> bool
     ensures { (order_id : ℕ) → result ≡ keys.is_key_of_cancel key.now client
         (option_map (cancel_seen client order_id) cancel.now) }
 {
     match cancel {
         None => false,
-        Some(cancelling) => { *key == NameKey::of(client, cancelling.message.cl_ord_id.as_slice()) }
+        Some(cancelling) => {
+            *key == NameKey::of(client, cancelling.get().message.cl_ord_id.as_slice())
+        }
     }
 }
 
 /// The key of a client with the id of a pending replace.
-pub(crate) fn key_of_replace(client: u16, replace: &Option<Replacing>) -> Option<NameKey>
+pub(crate) fn key_of_replace(client: u16, replace: &Option<Boxed<Replacing>>) -> Option<NameKey>
     ensures { (order_id : ℕ) (k : Key) → keys.is_key_of_replace k client
         (option_map (replace_seen client order_id) replace.now) ≡ true → result ≡ Some k }
 {
     match replace {
         None => None,
-        Some(replacing) => Some(NameKey::of(client, replacing.message.cl_ord_id.as_slice())),
+        Some(replacing) => Some(NameKey::of(client, replacing.get().message.cl_ord_id.as_slice())),
     }
 }
 
 /// The key of a client with the id of a pending cancel.
-pub(crate) fn key_of_cancel(client: u16, cancel: &Option<Cancelling>) -> Option<NameKey>
+pub(crate) fn key_of_cancel(client: u16, cancel: &Option<Boxed<Cancelling>>) -> Option<NameKey>
     ensures { (order_id : ℕ) (k : Key) → keys.is_key_of_cancel k client
         (option_map (cancel_seen client order_id) cancel.now) ≡ true → result ≡ Some k }
 {
     match cancel {
         None => None,
-        Some(cancelling) => Some(NameKey::of(client, cancelling.message.cl_ord_id.as_slice())),
+        Some(cancelling) => Some(NameKey::of(
+            client,
+            cancelling.get().message.cl_ord_id.as_slice(),
+        )),
     }
 }
 

@@ -22,11 +22,22 @@ use undo_orders::UndoOrders;
 
 /// The accepted orders, the oldest first, each found by its number and by the ids that it goes by. Contracts see the
 /// list, now and as it was settled, and for how many orders more there is room.
-#[derive(Debug, Drop)]
+#[derive(Debug)]
 pub(crate) struct OrderList<S: BuildHasher + Drop = BuildHasherDefault<FoldHasher>> {
     orders: UndoOrders,
     numbers: HintIndex<NumberKey, S>,
     names: HintIndex<NameKey, S>,
+}
+
+// Not derived: then each way out drops it in one call (docs/DECISIONS.md, "Drops").
+impl<S: BuildHasher + Drop> Drop for OrderList<S> {
+    fn drop(self) {
+        let OrderList {
+            orders: _,
+            numbers: _,
+            names: _,
+        } = self;
+    }
 }
 
 impl<S: BuildHasher + Drop> Model for OrderList<S> {

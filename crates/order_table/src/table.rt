@@ -3,7 +3,6 @@
 ghost use Rattle.std.specs.Prelude.{◌≡◌, ◌<◌, true, not, decimal};
 ghost use Rattle.std.specs.List.{count_by};
 ghost use Rattle.order_law.specs.Life.{is_closed};
-ghost use Rattle.order_machine.specs.Table as table;
 ghost use Rattle.order_table.specs.Held.{IsCounted};
 
 use crate::open_counts::OpenCounts;
@@ -46,7 +45,7 @@ impl Model for GivenToken {
 /// `undo` puts back what was there at the last `settle`, and no orders where there was none.
 ///
 /// Orders and tokens are found by indexes over any hasher, which changes nothing but how fast they are found.
-#[derive(Debug, Drop)]
+#[derive(Debug)]
 pub struct Table<S: BuildHasher + Drop = BuildHasherDefault<FoldHasher>> {
     orders: OrderList<S>,
     tokens: TokenList<S>,
@@ -54,6 +53,17 @@ pub struct Table<S: BuildHasher + Drop = BuildHasherDefault<FoldHasher>> {
     open_counts: OpenCounts,
     ghost counted: { IsCounted tokens.now open_counts.now orders.now },
     ghost settled_counted: { IsCounted tokens.settled open_counts.settled orders.settled },
+}
+
+// Not derived: then each way out drops it in one call (docs/DECISIONS.md, "Drops").
+impl<S: BuildHasher + Drop> Drop for Table<S> {
+    fn drop(self) {
+        let Table {
+            orders: _,
+            tokens: _,
+            open_counts: _,
+        } = self;
+    }
 }
 
 impl<S: BuildHasher + Drop> Model for Table<S> {
@@ -97,9 +107,10 @@ impl<S: BuildHasher + Clone + Drop> Table<S> {
     {
         let names = hasher.clone()?;
         let texts = hasher.clone()?;
+        let replaces = hasher.clone()?;
         Ok(Table {
             orders: OrderList::with_hashers(alloc, hasher, names),
-            tokens: TokenList::with_hasher(alloc, texts),
+            tokens: TokenList::with_hashers(alloc, texts, replaces),
             open_counts: OpenCounts::new(alloc),
         })
     }
@@ -186,11 +197,11 @@ impl<S: BuildHasher + Drop> Table<S> {
         }
     }
 
-    /// How many replaces of the order with an OrderID were accepted.
+    /// How many replaces of the order with an OrderID were accepted. No token is looked at.
     pub fn replace_count(&self, order_id: u64) -> usize
         ensures { result ≡ count_by (is_replacement_of (decimal order_id)) self.now.tokens }
     {
-        count_replacements(self.tokens.as_slice(), order_id)
+        self.tokens.replace_count(order_id)
     }
 
     /// The order with an OrderID, as a message of the market changes it, which fits it. Where no order has it, nothing
@@ -302,21 +313,4 @@ fn is_open(order: &Order) -> bool
     ensures { result ≡ not (is_closed order.now.stage) }
 {
     order.progress.stage != Stage::Closed
-}
-
-/// How many tokens replaces of an order were given, of these.
-fn count_replacements(tokens: &[GivenToken], order_id: u64) -> usize
-    ensures { result ≡ count_by (table.is_replacement_of (decimal order_id)) tokens.now }
-{
-    tokens
-        .iter()
-        .filter(|given| is_replacement_of(order_id, given))
-        .count()
-}
-
-/// Whether a replace of an order was given the token.
-fn is_replacement_of(order_id: u64, given: &GivenToken) -> bool
-    ensures { result ≡ table.is_replacement_of (decimal order_id) given.now }
-{
-    given.order_id == order_id && given.is_replacement
 }

@@ -1,33 +1,50 @@
 //! The list of tokens with its index.
 
 ghost use Rattle.std.specs.Prelude.{◌≡◌, ◌≤◌, ◌<◌, ◌^◌, ◌++◌, ◌∷◌, [], None, Some, length, reverse};
-ghost use Rattle.std.specs.Prelude.{slice_get, MatchOption, OnOk};
-ghost use Rattle.std.specs.List.{find};
+ghost use Rattle.std.specs.Prelude.{slice_get, MatchOption, OnOk, ℕ, ◌+◌, ◌&&◌, nat_eq, decimal};
+ghost use Rattle.std.specs.List.{count_by, find};
 ghost use Rattle.hint_index.specs.Newest.{IsNewest};
+ghost use Rattle.number_counts.specs.Counts.{counted, one_if};
 ghost use Rattle.order_machine.specs.Table as table;
 
 use crate::keys::ByToken;
 use crate::table::GivenToken;
 use crate::token_key::TokenKey;
 use hint_index::HintIndex;
+use number_counts::NumberCounts;
 use std::alloc::{AllocError, Global};
 use std::hash::{BuildHasher, BuildHasherDefault, FoldHasher};
 use std::marker::Model;
 use undo_list::UndoList;
 
-/// The tokens that were given, the oldest first, each found by its port and its text. Contracts see the list, now and
-/// as it was settled, and for how many tokens more there is room.
-#[derive(Debug, Drop)]
+/// The tokens that were given, the oldest first, each found by its port and its text; how many of them replaces of
+/// each order were given is counted. Contracts see the list, now and as it was settled, and for how many tokens more
+/// there is room.
+#[derive(Debug)]
 pub(crate) struct TokenList<S: BuildHasher + Drop = BuildHasherDefault<FoldHasher>> {
-    tokens: UndoList<GivenToken>,
+    /// By OrderID.
+    replaces: NumberCounts<S>,
     texts: HintIndex<TokenKey, S>,
+    tokens: UndoList<GivenToken>,
+}
+
+// Not derived: then each way out drops it in one call (docs/DECISIONS.md, "Drops").
+impl<S: BuildHasher + Drop> Drop for TokenList<S> {
+    fn drop(self) {
+        let TokenList {
+            tokens: _,
+            texts: _,
+            replaces: _,
+        } = self;
+    }
 }
 
 impl<S: BuildHasher + Drop> Model for TokenList<S> {
     ghost use Rattle.hint_index.specs.Hints.{Covered};
     ghost use Rattle.order_machine.specs.Table as table;
     ghost use Rattle.order_table.specs.Keys.{has_token_key};
-    ghost use Rattle.order_table.specs.Rooms.{room_of_two};
+    ghost use Rattle.order_table.specs.Replaces.{AreReplaces};
+    ghost use Rattle.order_table.specs.Rooms.{room_of_token};
     ghost use Rattle.order_table.specs.TokenKeys.{same_token_key};
     ghost use Rattle.undo_list.specs.Undoing.{Undoable};
 
@@ -36,11 +53,12 @@ impl<S: BuildHasher + Drop> Model for TokenList<S> {
     ghost view = { λ l. record {
       now = l.tokens.now;
       settled = l.tokens.settled;
-      pushes = room_of_two l.tokens.pushes l.texts.room;
+      pushes = room_of_token l.tokens.pushes l.texts.room l.replaces.pushes;
       changes = l.tokens.changes;
     } };
 
-    ghost invariant = { λ l. Covered same_token_key has_token_key l.texts l.tokens };
+    ghost invariant = { λ l. Covered same_token_key has_token_key l.texts l.tokens
+        × AreReplaces l.replaces.now l.tokens.now × AreReplaces l.replaces.settled l.tokens.settled };
 }
 
 impl TokenList {
@@ -52,19 +70,21 @@ impl TokenList {
         TokenList {
             tokens: UndoList::new(alloc),
             texts: HintIndex::new(alloc),
+            replaces: NumberCounts::new(alloc),
         }
     }
 }
 
 impl<S: BuildHasher + Drop> TokenList<S> {
-    /// No tokens, with a hasher. Takes no memory.
-    pub fn with_hasher(alloc: Global, hasher: S) -> TokenList<S>
+    /// No tokens, with a hasher for each index. Takes no memory.
+    pub fn with_hashers(alloc: Global, texts: S, replaces: S) -> TokenList<S>
         ensures now { result.now ≡ [] }
         ensures settled { result.settled ≡ [] }
     {
         TokenList {
             tokens: UndoList::new(alloc),
-            texts: HintIndex::with_hasher(alloc, hasher),
+            texts: HintIndex::with_hasher(alloc, texts),
+            replaces: NumberCounts::with_hasher(alloc, replaces),
         }
     }
 
@@ -94,6 +114,13 @@ impl<S: BuildHasher + Drop> TokenList<S> {
             .place_of(self.tokens.as_slice(), &key, &ByToken { port, token })
     }
 
+    /// How many tokens replaces of the order with an OrderID were given. No token is looked at.
+    pub fn replace_count(&self, order_id: u64) -> usize
+        ensures { result ≡ count_by (table.is_replacement_of (decimal order_id)) self.now.now }
+    {
+        self.replaces.of(order_id)
+    }
+
     /// Makes room for one token more. Nothing else changes, be there memory or not.
     pub fn reserve_push(&mut self) -> Result<(), AllocError>
         ensures room { OnOk result (1 ≤ self.new.pushes) }
@@ -102,6 +129,7 @@ impl<S: BuildHasher + Drop> TokenList<S> {
     {
         self.tokens.reserve_push()?;
         self.texts.reserve(1)?;
+        self.replaces.reserve()?;
         Ok(())
     }
 
@@ -114,8 +142,10 @@ impl<S: BuildHasher + Drop> TokenList<S> {
     {
         let place = self.tokens.as_slice().len();
         let key = TokenKey::of(given.port, given.token.as_slice());
+        let (order_id, is_replacement) = (given.order_id, given.is_replacement);
         self.texts.note(&self.tokens, key, place);
         self.tokens.push(given);
+        count_replacement(&mut self.replaces, order_id, is_replacement);
     }
 
     /// From now on the list is put back to how it is now. Takes no memory.
@@ -124,6 +154,7 @@ impl<S: BuildHasher + Drop> TokenList<S> {
         ensures settled { self.new.settled ≡ self.old.now }
     {
         self.tokens.settle();
+        self.replaces.settle();
     }
 
     /// Puts the list back to how it was settled. Takes no memory.
@@ -132,5 +163,23 @@ impl<S: BuildHasher + Drop> TokenList<S> {
         ensures settled { self.new.settled ≡ self.old.settled }
     {
         self.tokens.undo();
+        self.replaces.undo();
+    }
+}
+
+/// Counts a token of an order, if a replace was given it. Takes no memory.
+fn count_replacement<S: BuildHasher + Drop>(
+    replaces: &mut NumberCounts<S>,
+    order_id: u64,
+    is_replacement: bool,
+)
+    requires room { 1 ≤ replaces.old.pushes }
+    requires fits { counted order_id replaces.old.now + 1 < 2 ^ 64 }
+    ensures now { (other : ℕ) → counted other replaces.new.now
+        ≡ counted other replaces.old.now + one_if (nat_eq other order_id && is_replacement) }
+    ensures settled { replaces.new.settled ≡ replaces.old.settled }
+{
+    if is_replacement {
+        replaces.count(order_id);
     }
 }

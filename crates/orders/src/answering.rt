@@ -4,6 +4,7 @@ ghost use Rattle.std.specs.Prelude.{◌≡◌, ℕ, Some, bytes_eq, is_none, opt
 ghost use Rattle.order_machine.specs.OrderRecord.{last_after, still_after};
 ghost use Rattle.orders.specs.Seen.{cancel_seen, other_than};
 
+use crate::boxed::Boxed;
 use crate::requests::Cancelling;
 
 impl Cancelling {
@@ -14,24 +15,24 @@ impl Cancelling {
     {
         *token == self.first && is_no_other(&self.second, token)
     }
+}
 
-    /// The cancel once the Cancel Order of a token is answered; `None` where no other is left.
-    pub fn without(self, token: [u8; 14]) -> Option<Cancelling>
-        ensures { (client order_id : ℕ) → option_map (cancel_seen client order_id) result
-            ≡ still_after (bytes_eq token) (Some (cancel_seen client order_id self)) }
-    {
-        match (token == self.first, second_without(self.second, token)) {
-            (true, None) => None,
-            (true, Some(second)) => Some(Cancelling {
-                message: self.message,
-                first: second,
-                second: None,
-            }),
-            (false, second) => Some(Cancelling {
-                message: self.message,
-                first: self.first,
-                second,
-            }),
+/// A cancel once the Cancel Order of a token is answered; `None` where no other is left. Takes no memory.
+pub(crate) fn without(cancelling: Boxed<Cancelling>, token: [u8; 14]) -> Option<Boxed<Cancelling>>
+    ensures { (client order_id : ℕ) → option_map (cancel_seen client order_id) result
+        ≡ still_after (bytes_eq token) (Some (cancel_seen client order_id cancelling)) }
+{
+    let mut held = cancelling.held;
+    match (token == held.first, second_without(held.second, token)) {
+        (true, None) => None,
+        (true, Some(second)) => {
+            held.first = second;
+            held.second = None;
+            Some(Boxed { held })
+        }
+        (false, second) => {
+            held.second = second;
+            Some(Boxed { held })
         }
     }
 }

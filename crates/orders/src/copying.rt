@@ -2,6 +2,7 @@
 
 ghost use Rattle.std.specs.Prelude.{◌≡◌, IfOk};
 
+use crate::boxed::Boxed;
 use crate::requests::{Cancelling, Replacing};
 use std::alloc::{AllocError, Global};
 
@@ -37,25 +38,31 @@ impl Cancelling {
 /// The same replace in memory of its own, where there is one.
 pub(crate) fn copied_replace(
     alloc: Global,
-    replace: &Option<Replacing>,
-) -> Result<Option<Replacing>, AllocError>
+    replace: &Option<Boxed<Replacing>>,
+) -> Result<Option<Boxed<Replacing>>, AllocError>
     ensures { IfOk result (λ copy. copy ≡ replace.now) }
 {
     match replace {
         None => Ok(None),
-        Some(replacing) => Ok(Some(replacing.copied(alloc)?)),
+        Some(replacing) => {
+            let copy = replacing.get().copied(alloc)?;
+            Ok(Some(Boxed::new(alloc, copy)?))
+        }
     }
 }
 
 /// The same cancel in memory of its own, where there is one.
 pub(crate) fn copied_cancel(
     alloc: Global,
-    cancel: &Option<Cancelling>,
-) -> Result<Option<Cancelling>, AllocError>
+    cancel: &Option<Boxed<Cancelling>>,
+) -> Result<Option<Boxed<Cancelling>>, AllocError>
     ensures { IfOk result (λ copy. copy ≡ cancel.now) }
 {
     match cancel {
         None => Ok(None),
-        Some(cancelling) => Ok(Some(cancelling.copied(alloc)?)),
+        Some(cancelling) => {
+            let copy = cancelling.get().copied(alloc)?;
+            Ok(Some(Boxed::new(alloc, copy)?))
+        }
     }
 }

@@ -5,6 +5,7 @@ ghost use Rattle.order_law.specs.declared.stage.Stage.TheVariants.{Waiting};
 ghost use Rattle.orders.specs.EarlierTrades.{most_trades};
 ghost use Rattle.wire_law.specs.Printable.{ArePrintable};
 
+use crate::boxed::Boxed;
 use crate::earlier_trades::EarlierTrades;
 use crate::progress::Progress;
 use crate::requests::{Cancelling, Replacing};
@@ -13,6 +14,9 @@ use fix_values::ClOrdId;
 /// What an order had before it was changed: all that may change of it. Of the lists that only grow it has the lengths.
 #[derive(Debug, Drop)]
 pub struct EarlierOrder {
+    // These two come first: see `Order`.
+    pub(crate) replace: Option<Boxed<Replacing>>,
+    pub(crate) cancel: Option<Boxed<Cancelling>>,
     pub(crate) token: [u8; 14],
     /// How many tokens it had had before that one.
     pub(crate) earlier_count: usize,
@@ -20,8 +24,6 @@ pub struct EarlierOrder {
     pub(crate) cl_ord_id: Option<ClOrdId>,
     pub(crate) progress: Progress,
     pub(crate) trades: EarlierTrades,
-    pub(crate) replace: Option<Replacing>,
-    pub(crate) cancel: Option<Cancelling>,
     ghost token_set: { ArePrintable token },
     ghost trades_set: { progress.stage ≡ Waiting → most_trades trades ≡ 0 },
     ghost counted: { progress.tokens ≤ 1 + earlier_count },

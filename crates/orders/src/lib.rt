@@ -5,6 +5,7 @@
 #![tactic(auto)]
 
 mod answering;
+mod boxed;
 mod change;
 mod copying;
 mod earlier;
@@ -14,11 +15,14 @@ mod order;
 mod progress;
 mod putting_back;
 mod requests;
+mod symbol;
 mod trades;
 
+pub use boxed::Boxed;
 pub use change::Change;
 pub use earlier_order::EarlierOrder;
 pub use order::{Order, ToldTrade};
 pub use progress::Progress;
 pub use requests::{Cancelling, Replacing};
+pub use symbol::Symbol;
 pub use trades::mark;

@@ -9,16 +9,21 @@ ghost use Rattle.orders.specs.Changes.{with_quantities};
 ghost use Rattle.orders.specs.Seen.{progressed};
 ghost use Rattle.wire_law.specs.Printable.{ArePrintable};
 
+use crate::answering::without;
+use crate::boxed::Boxed;
 use crate::change::Change;
 use crate::earlier::{is_among, push_earlier};
 use crate::progress::Progress;
 use crate::requests::{Cancelling, Replacing};
-use crate::trades::mark;
+use crate::symbol::Symbol;
+use crate::trades::{make_room, mark};
 use fix_types::NewOrder;
-use fix_values::ClOrdId;
+use fix_values::{Character, ClOrdId};
 use order_law::Trade;
 use std::alloc::{AllocError, Global};
+use std::fmt;
 use std::marker::Model;
+use std::snapshot::Snapshot;
 
 /// A trade, and the ExecID (17) under which its client was told of it.
 #[derive(Clone, Copy, Debug, PartialEq, Eq)]
@@ -28,36 +33,85 @@ pub struct ToldTrade {
 }
 
 /// An accepted order. Contracts see it as `order_machine`'s record.
-#[derive(Debug, Drop)]
 pub struct Order {
+    // These two come first: that an order may go to another thread is searched for field by field, and no further than so
+    // many steps down.
+    /// The pending replace of it, and the pending cancel, which was accepted after it.
+    pub replace: Option<Boxed<Replacing>>,
+    pub cancel: Option<Boxed<Cancelling>>,
+    /// How far it has come.
+    pub progress: Progress,
+    /// The market's name for it.
+    pub token: [u8; 14],
     /// The number of its client, from 1.
     pub client: u16,
     /// OrderID (37).
     pub order_id: u64,
-    /// The market's name for it, and the number of the first that it had.
-    pub token: [u8; 14],
+    /// The number of the first token that it had.
     pub token_number: u64,
     /// The names that it had before, the oldest first.
     pub earlier: Vec<[u8; 14]>,
-    /// What its client asked.
-    pub message: NewOrder,
-    /// OrderQty (38) of it, in shares.
+    /// What its client asked, for contracts alone: it takes no memory. What of it is read again stands below.
+    pub asked: Snapshot<NewOrder>,
+    /// Symbol (55), Side (54), OrderCapacity (528) and, in shares, OrderQty (38) that its client asked.
+    pub symbol: Symbol,
+    pub side: Character,
+    pub order_capacity: Option<Character>,
     pub first_total: u64,
-    /// ClOrdID (11): its own, or that of the last replace of it that was done.
+    /// ClOrdID (11) that it goes by: its own, or that of the last replace of it that was done.
     pub cl_ord_id: ClOrdId,
-    /// How far it has come.
-    pub progress: Progress,
     /// Its trades, the oldest first: none while it waits.
     pub trades: Vec<ToldTrade>,
-    /// The pending replace of it, and the pending cancel, which was accepted after it.
-    pub replace: Option<Replacing>,
-    pub cancel: Option<Cancelling>,
     ghost token_set: { ArePrintable token },
     ghost trades_set: { progress.stage ≡ Waiting → trades.items ≡ [] },
     ghost counted: { progress.tokens ≤ 1 + length earlier.items },
-    ghost first_total_set: { first_total ≡ total_of (new_order_fields message) },
-    ghost total_set: { progress.stage ≡ Waiting → progress.total ≡ total_of (new_order_fields message) },
+    ghost symbol_set: { symbol ≡ asked.value.symbol },
+    ghost side_set: { side ≡ asked.value.side },
+    ghost order_capacity_set: { order_capacity ≡ asked.value.order_capacity },
+    ghost first_total_set: { first_total ≡ total_of (new_order_fields asked.value) },
+    ghost total_set: { progress.stage ≡ Waiting → progress.total ≡ total_of (new_order_fields asked.value) },
     ghost replace_set: { progress.tokens + length (option_to_list replace) ≤ 65_536 },
+}
+
+// Not derived: what is kept for contracts alone has nothing to show.
+impl fmt::Debug for Order {
+    fn fmt<W: fmt::Write>(&self, f: &mut fmt::Formatter<W>) -> fmt::Result {
+        f.debug_struct("Order")
+            .field("client", &self.client)
+            .field("order_id", &self.order_id)
+            .field("cl_ord_id", &self.cl_ord_id)
+            .field("token", &self.token)
+            .field("symbol", &self.symbol)
+            .field("side", &self.side)
+            .field("progress", &self.progress)
+            .field("trades", &self.trades)
+            .field("replace", &self.replace)
+            .field("cancel", &self.cancel)
+            .finish_non_exhaustive()
+    }
+}
+
+// Not derived: then each way out drops it in one call (docs/DECISIONS.md, "Drops").
+impl Drop for Order {
+    fn drop(self) {
+        let Order {
+            progress: _,
+            token: _,
+            client: _,
+            order_id: _,
+            token_number: _,
+            earlier: _,
+            asked: _,
+            symbol: _,
+            side: _,
+            order_capacity: _,
+            first_total: _,
+            cl_ord_id: _,
+            trades: _,
+            replace: _,
+            cancel: _,
+        } = self;
+    }
 }
 
 impl Model for Order {
@@ -71,7 +125,7 @@ impl Model for Order {
     ghost view = { λ o. record {
       new = record {
         client = o.client;
-        message = new_order_fields o.message;
+        message = new_order_fields o.asked.value;
         order = decimal o.order_id;
         token = Some o.token_number;
       };
@@ -104,42 +158,45 @@ impl Order {
     ghost use Rattle.orders.specs.declared.change.Change.TheVariants as changes;
 
     /// A new order that was accepted: it waits for the market. Its token is that of the number, its total and price are
-    /// what its message asks. The one error is that memory ran out.
+    /// what its message asks. One growth: for its ClOrdID.
     pub fn entered(
         alloc: Global,
         client: u16,
         order_id: u64,
         token: [u8; 14],
         token_number: u64,
-        message: NewOrder,
+        message: &NewOrder,
         progress: Progress,
     ) -> Result<Order, AllocError>
         requires token { token ≡ token_text token_number }
+        requires symbol { length message.now.symbol ≤ 8 }
         requires waits { progress.stage ≡ Waiting }
         requires refused { progress.is_refused ≡ false }
-        requires total { progress.total ≡ total_of (new_order_fields message) }
-        requires price { progress.price ≡ limit_of (new_order_fields message) }
+        requires total { progress.total ≡ total_of (new_order_fields message.now) }
+        requires price { progress.price ≡ limit_of (new_order_fields message.now) }
         requires executed { progress.executed ≡ 0 }
         requires value { progress.value ≡ 0 }
         requires tokens { progress.tokens ≡ 1 }
-        ensures { IfOk result (λ o. o ≡ entered (record {
+        ensures { IfOk result (λ order. order ≡ entered (record {
           client = client;
-          message = new_order_fields message;
+          message = new_order_fields message.now;
           order = decimal order_id;
           token = Some token_number;
         })) }
     {
-        let cl_ord_id = ClOrdId::copied(alloc, message.cl_ord_id.as_slice())?;
         Ok(Order {
+            progress,
+            token,
             client,
             order_id,
-            token,
             token_number,
             earlier: Vec::new(alloc),
-            message,
+            asked: Snapshot::of(message),
+            symbol: Symbol::of(&message.symbol),
+            side: message.side,
+            order_capacity: message.order_capacity,
             first_total: progress.total,
-            cl_ord_id,
-            progress,
+            cl_ord_id: ClOrdId::copied(alloc, message.cl_ord_id.as_slice())?,
             trades: Vec::new(alloc),
             replace: None,
             cancel: None,
@@ -218,7 +275,7 @@ impl Order {
     {
         match &self.replace {
             None => false,
-            Some(replacing) => *token == replacing.token,
+            Some(replacing) => *token == replacing.get().token,
         }
     }
 
@@ -228,12 +285,12 @@ impl Order {
     {
         match &self.cancel {
             None => false,
-            Some(cancelling) => cancelling.is_last(token),
+            Some(cancelling) => cancelling.get().is_last(token),
         }
     }
 
     /// A replace of it is pending. It has had fewer than 65,536 tokens.
-    pub fn accept_replace(&mut self, replacing: Replacing)
+    pub fn accept_replace(&mut self, replacing: Boxed<Replacing>)
         requires { length self.old.tokens < 65_536 }
         ensures { self.new ≡ at self.old (Some (replace_of self.old replacing)) self.old.cancel }
     {
@@ -241,7 +298,7 @@ impl Order {
     }
 
     /// A cancel of it is pending.
-    pub fn accept_cancel(&mut self, cancelling: Cancelling)
+    pub fn accept_cancel(&mut self, cancelling: Boxed<Cancelling>)
         ensures { self.new ≡ at self.old self.old.replace (Some (cancel_of self.old cancelling)) }
     {
         self.cancel = Some(cancelling);
@@ -269,7 +326,8 @@ impl Order {
         ensures err { OnErr result (self.new ≡ self.old) }
     {
         self.earlier.reserve(1)?;
-        if let Some(replacing) = self.replace.take() {
+        if let Some(boxed) = self.replace.take() {
+            let replacing = boxed.into_inner();
             let live = self.token;
             let token = replacing.token;
             let message = replacing.message;
@@ -305,6 +363,7 @@ impl Order {
         ensures changed { IfOk result (λ nothing. self.new ≡ changed_by (changes.Traded told) self.old) }
         ensures err { OnErr result (self.new ≡ self.old) }
     {
+        make_room(&mut self.trades)?;
         self.trades.push(told)?;
         let (shares, price) = (told.trade.shares, told.trade.price);
         if shares == self.progress.unfilled {
@@ -348,7 +407,7 @@ impl Order {
     {
         self.cancel = match self.cancel.take() {
             None => None,
-            Some(cancelling) => cancelling.without(token),
+            Some(cancelling) => without(cancelling, token),
         };
     }
 

@@ -9,25 +9,25 @@ use order_law::Stage;
 /// How far an order has come: its stage and its quantities. A step gives another value.
 #[derive(Clone, Copy, Debug, PartialEq, Eq)]
 pub struct Progress {
-    pub stage: Stage,
-    /// The market rejected it.
-    pub is_refused: bool,
+    /// Shares times price of the trades that stand, in 1/10,000.
+    pub value: u128,
     /// OrderQty (38), in shares.
     pub total: u64,
-    /// Price (44), in 1/10,000.
-    pub price: u32,
-    /// What is open in the market's book, in shares.
-    pub unfilled: u32,
     /// CumQty (14), in shares: without the trades that were broken.
     pub executed: u64,
     /// In shares.
     pub cancelled: u64,
-    /// Shares times price of the trades that stand, in 1/10,000.
-    pub value: u128,
-    /// How many tokens it has had: each put it into the book with 999,999 shares at most.
-    pub tokens: u32,
     /// The shares of all its trades, those that were broken too.
     ever: u64,
+    /// Price (44), in 1/10,000.
+    pub price: u32,
+    /// What is open in the market's book, in shares.
+    pub unfilled: u32,
+    /// How many tokens it has had: each put it into the book with 999,999 shares at most.
+    pub tokens: u32,
+    pub stage: Stage,
+    /// The market rejected it.
+    pub is_refused: bool,
     ghost small: { ever + unfilled + cancelled ≤ most_shares * tokens },
     ghost tokens_set: { (1 ≤ tokens) × (tokens ≤ 65_536) },
     ghost executed_set: { executed ≤ ever },

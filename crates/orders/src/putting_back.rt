@@ -99,7 +99,7 @@ impl Order {
     }
 }
 
-/// Puts a ClOrdID back to what it was, where it was another. Takes no memory.
+/// Puts the ClOrdID of an order back to what it was, where it was another. Takes no memory.
 fn put_id_back(cl_ord_id: &mut ClOrdId, earlier: Option<ClOrdId>)
     ensures { cl_ord_id.new ≡ unwrap_or earlier cl_ord_id.old }
 {

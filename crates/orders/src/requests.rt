@@ -17,11 +17,22 @@ pub struct Replacing {
 }
 
 /// A cancel that was accepted and isn't answered.
-#[derive(Debug, Drop)]
+#[derive(Debug)]
 pub struct Cancelling {
     /// What its client asked.
     pub message: CancelRequest,
     /// The tokens whose Cancel Order isn't answered: one, or two where a replace was pending.
     pub first: [u8; 14],
     pub second: Option<[u8; 14]>,
+}
+
+// Not derived: then each way out drops it in one call (docs/DECISIONS.md, "Drops").
+impl Drop for Cancelling {
+    fn drop(self) {
+        let Cancelling {
+            message: _,
+            first: _,
+            second: _,
+        } = self;
+    }
 }

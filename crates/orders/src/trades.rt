@@ -5,6 +5,18 @@ ghost use Rattle.orders.specs.Seen.{told_marked};
 
 use crate::order::ToldTrade;
 use order_law::Trade;
+use std::alloc::AllocError;
+
+/// Makes room for one trade more: of the first for that alone, since most orders have one. The trades stay.
+pub(crate) fn make_room(trades: &mut Vec<ToldTrade>) -> Result<(), AllocError>
+    ensures { trades.new.items ≡ trades.old.items }
+{
+    if trades.is_empty() {
+        trades.reserve_exact(1)
+    } else {
+        trades.reserve(1)
+    }
+}
 
 /// Marks the trades with this match number as broken.
 pub fn mark(trades: &mut Vec<ToldTrade>, match_number: u64)

@@ -26,7 +26,7 @@ pub struct AskedMessage {
 
 /// What the ports were asked and haven't answered, the oldest first. Contracts see it as it is now and as it was
 /// settled: `undo` puts back what was there at the last `settle`, and no messages where there was none.
-#[derive(Debug, Drop)]
+#[derive(Debug)]
 pub struct AskedMessages {
     messages: Vec<AskedMessage>,
     /// How many there were when they were settled.
@@ -35,6 +35,17 @@ pub struct AskedMessages {
     has_answered: bool,
     ghost within: { count ≤ length messages.items },
     ghost none_answered: { has_answered ≡ false → filter is_unanswered messages.items ≡ messages.items },
+}
+
+// Not derived: then each way out drops it in one call (docs/DECISIONS.md, "Drops").
+impl Drop for AskedMessages {
+    fn drop(self) {
+        let AskedMessages {
+            messages: _,
+            count: _,
+            has_answered: _,
+        } = self;
+    }
 }
 
 impl Model for AskedMessages {

@@ -85,28 +85,28 @@ abbrev begun : Option Logon → ℕ → ℕ
 begun None e = e
 begun (Some l) e = if l.resets then 1 else e
 
-act-expected : (at : ℕ) (g : Given) (a : Act) → (perform at g a).state.expected ≡ move a g.state.expected
-act-expected at g Grow = refl
-act-expected at g (Expect n) = refl
-act-expected at g (Say kind body) = refl
-act-expected at g Test = refl
-act-expected at g (AskAgain n) = refl
-act-expected at g (SayUnsupported body) = refl
-act-expected at g (Deliver m) = refl
-act-expected at g Shut = refl
+act-expected : (g : Given) (a : Act) → (perform g a).state.expected ≡ move a g.state.expected
+act-expected g Grow = refl
+act-expected g (Expect n) = refl
+act-expected g (Say kind body) = refl
+act-expected g Test = refl
+act-expected g (AskAgain n) = refl
+act-expected g (SayUnsupported body) = refl
+act-expected g (Deliver m) = refl
+act-expected g Shut = refl
 
-acts-expected : (at : ℕ) (acts : List Act) (g : Given) → (fold (perform at) g acts).state.expected ≡ moves acts g.state.expected
-acts-expected at [] g = refl
-acts-expected at (a ∷ acts) g = acts-expected at acts (perform at g a) ∙ ap (moves acts) (act-expected at g a)
+acts-expected : (acts : List Act) (g : Given) → (fold perform g acts).state.expected ≡ moves acts g.state.expected
+acts-expected [] g = refl
+acts-expected (a ∷ acts) g = acts-expected acts (perform g a) ∙ ap (moves acts) (act-expected g a)
 
-begun-expected : (at : ℕ) (s : State) (logon : Option Logon) (resends : Option Range) → (sent_again at (logon_opened at s logon) resends).state.expected ≡ begun logon s.expected
-begun-expected at s None None = refl
-begun-expected at s None (Some r) = refl
-begun-expected at s (Some l) None = refl
-begun-expected at s (Some l) (Some r) = refl
+begun-expected : (s : State) (logon : Option Logon) (resends : Option Range) → (sent_again (logon_opened s logon) resends).state.expected ≡ begun logon s.expected
+begun-expected s None None = refl
+begun-expected s None (Some r) = refl
+begun-expected s (Some l) None = refl
+begun-expected s (Some l) (Some r) = refl
 
-answered-expected : (at : ℕ) (s : State) (a : Answer) → (answered at s a).state.expected ≡ moves a.acts (begun a.logon s.expected)
-answered-expected at s a = acts-expected at a.acts (sent_again at (logon_opened at s a.logon) a.resends) ∙ ap (moves a.acts) (begun-expected at s a.logon a.resends)
+answered-expected : (s : State) (a : Answer) → (answered s a).state.expected ≡ moves a.acts (begun a.logon s.expected)
+answered-expected s a = acts-expected a.acts (sent_again (logon_opened s a.logon) a.resends) ∙ ap (moves a.acts) (begun-expected s a.logon a.resends)
 
 by-logon-small : (m : Message) (e k : ℕ) (logon : Option Logon) (acts : List Act) → e ≤ k → 10 ^ 18 ≤ k → ByLogon m e logon acts → moves acts (begun logon e) ≤ k
 by-logon-small m e k None acts low high h = subst (λ (n : ℕ). n ≤ k) (sym h) low
@@ -135,37 +135,37 @@ counts (Some l) = 1
 one-slot : (slots : List Slot) (slot : Slot) → length (slots ++ slot ∷ []) ≡ length slots + 1
 one-slot slots slot = length-append slots (slot ∷ [])
 
-act-given : (at : ℕ) (g : Given) (a : Act) → length (perform at g a).state.given ≡ length g.state.given + uses a
-act-given at g Grow = omega arith
-act-given at g (Expect n) = omega arith
-act-given at g (Say kind body) = one-slot g.state.given None
-act-given at g Test = one-slot g.state.given None
-act-given at g (AskAgain n) = one-slot g.state.given None
-act-given at g (SayUnsupported body) = one-slot g.state.given _
-act-given at g (Deliver m) = omega arith
-act-given at g Shut = omega arith
+act-given : (g : Given) (a : Act) → length (perform g a).state.given ≡ length g.state.given + uses a
+act-given g Grow = omega arith
+act-given g (Expect n) = omega arith
+act-given g (Say kind body) = one-slot g.state.given None
+act-given g Test = one-slot g.state.given None
+act-given g (AskAgain n) = one-slot g.state.given None
+act-given g (SayUnsupported body) = one-slot g.state.given _
+act-given g (Deliver m) = omega arith
+act-given g Shut = omega arith
 
-acts-given : (at : ℕ) (acts : List Act) (g : Given) → length (fold (perform at) g acts).state.given ≡ length g.state.given + used acts
-acts-given at [] g = omega arith
-acts-given at (a ∷ acts) g = acts-given at acts (perform at g a) ∙ ap (λ (n : ℕ). n + used acts) (act-given at g a) ∙ omega arith
+acts-given : (acts : List Act) (g : Given) → length (fold perform g acts).state.given ≡ length g.state.given + used acts
+acts-given [] g = omega arith
+acts-given (a ∷ acts) g = acts-given acts (perform g a) ∙ ap (λ (n : ℕ). n + used acts) (act-given g a) ∙ omega arith
 
 logon-given : (c : Bool) (slots : List Slot) (slot : Slot) → length ((if c then [] else slots) ++ slot ∷ []) ≤ length slots + 1
 logon-given true slots slot = omega arith
 logon-given false slots slot = omega (arith, one-slot slots slot)
 
-begun-given : (at : ℕ) (s : State) (logon : Option Logon) (resends : Option Range) → length (sent_again at (logon_opened at s logon) resends).state.given ≤ length s.given + counts logon
-begun-given at s None None = omega arith
-begun-given at s None (Some r) = omega arith
-begun-given at s (Some l) None = logon-given l.resets s.given None
-begun-given at s (Some l) (Some r) = logon-given l.resets s.given None
+begun-given : (s : State) (logon : Option Logon) (resends : Option Range) → length (sent_again (logon_opened s logon) resends).state.given ≤ length s.given + counts logon
+begun-given s None None = omega arith
+begun-given s None (Some r) = omega arith
+begun-given s (Some l) None = logon-given l.resets s.given None
+begun-given s (Some l) (Some r) = logon-given l.resets s.given None
 
 abbrev Few : ℕ → Answer → Type 0
 Few most a = counts a.logon + used a.acts ≤ most
 
-answered-given : (at : ℕ) (s : State) (a : Answer) (most : ℕ) → Few most a → length (answered at s a).state.given ≤ length s.given + most
-answered-given at s a most few =
-    let all = acts-given at a.acts (sent_again at (logon_opened at s a.logon) a.resends) in
-    let first = begun-given at s a.logon a.resends in
+answered-given : (s : State) (a : Answer) (most : ℕ) → Few most a → length (answered s a).state.given ≤ length s.given + most
+answered-given s a most few =
+    let all = acts-given a.acts (sent_again (logon_opened s a.logon) a.resends) in
+    let first = begun-given s a.logon a.resends in
     omega arith
 
 -- ---- by row
@@ -271,23 +271,23 @@ tick-few s (LoggedOn l) = silence-few l s.latest
 most-of : (e : ℕ) → (e ≤ max e (10 ^ 18)) × (10 ^ 18 ≤ max e (10 ^ 18))
 most-of e = (omega arith, omega arith)
 
-pub logged-on-little : (s : State) (at : ℕ) (m : Message) → MovesLittle 2 s (by_rows at (heard (at_moment at s)) (logged_on_rows s m (message_number m) s.expected)).state
+pub logged-on-little : (s : State) (at : ℕ) (m : Message) → MovesLittle 2 s (by_rows (heard (at_moment at s)) (logged_on_rows s m (message_number m) s.expected)).state
 logged-on-little s at m =
     let a = answer_by (logged_on_rows s m (message_number m) s.expected) in
     let k = logged-on-moves s m s.expected in
     let most = most-of s.expected in
     record {
-      expected = subst (λ (n : ℕ). n ≤ max s.expected (10 ^ 18)) (sym (answered-expected at (heard (at_moment at s)) a ∙ ap (λ (l : Option Logon). moves a.acts (begun l s.expected)) k.0 ∙ k.1)) (message-small s.gate s.client m s.expected (max s.expected (10 ^ 18)) most.0 most.1);
-      given = answered-given at (heard (at_moment at s)) a 2 (logged-on-few s m (message_number m) s.expected);
+      expected = subst (λ (n : ℕ). n ≤ max s.expected (10 ^ 18)) (sym (answered-expected (heard (at_moment at s)) a ∙ ap (λ (l : Option Logon). moves a.acts (begun l s.expected)) k.0 ∙ k.1)) (message-small s.gate s.client m s.expected (max s.expected (10 ^ 18)) most.0 most.1);
+      given = answered-given (heard (at_moment at s)) a 2 (logged-on-few s m (message_number m) s.expected);
     }
 
-pub logon-little : (s : State) (at : ℕ) (m : Message) → MovesLittle 2 s (by_rows at (heard (at_moment at s)) (logon_rows s m (message_number m) (if table.resets m then 1 else s.expected))).state
+pub logon-little : (s : State) (at : ℕ) (m : Message) → MovesLittle 2 s (by_rows (heard (at_moment at s)) (logon_rows s m (message_number m) (if table.resets m then 1 else s.expected))).state
 logon-little s at m =
     let a = answer_by (logon_rows s m (message_number m) (if table.resets m then 1 else s.expected)) in
     let most = most-of s.expected in
     record {
-      expected = subst (λ (n : ℕ). n ≤ max s.expected (10 ^ 18)) (sym (answered-expected at (heard (at_moment at s)) a)) (by-logon-small m s.expected (max s.expected (10 ^ 18)) a.logon a.acts most.0 most.1 (logon-moves s m));
-      given = answered-given at (heard (at_moment at s)) a 2 (logon-few s m (message_number m) (if table.resets m then 1 else s.expected));
+      expected = subst (λ (n : ℕ). n ≤ max s.expected (10 ^ 18)) (sym (answered-expected (heard (at_moment at s)) a)) (by-logon-small m s.expected (max s.expected (10 ^ 18)) a.logon a.acts most.0 most.1 (logon-moves s m));
+      given = answered-given (heard (at_moment at s)) a 2 (logon-few s m (message_number m) (if table.resets m then 1 else s.expected));
     }
 
 same-little : (most : ℕ) (s new : State) → new.expected ≡ s.expected → length new.given ≤ length s.given + most → MovesLittle most s new
@@ -296,7 +296,7 @@ same-little most s new same few = record {
   given = few;
 }
 
-message-little : (s : State) (at : ℕ) (m : Message) (p : Phase) → MovesLittle 2 s (by_rows at (heard (at_moment at s)) (message_rows s m p)).state
+message-little : (s : State) (at : ℕ) (m : Message) (p : Phase) → MovesLittle 2 s (by_rows (heard (at_moment at s)) (message_rows s m p)).state
 message-little s at m Down = same-little 2 s (heard (at_moment at s)) refl (omega arith)
 message-little s at m (AwaitingLogon since) = logon-little s at m
 message-little s at m (LoggedOn l) = logged-on-little s at m
@@ -305,12 +305,12 @@ tick-little : (s : State) (at : ℕ) → MovesLittle 1 s (step s at OnTick).stat
 tick-little s at =
     let st = at_moment at s in
     let a = answer_by (tick_rows st s.phase) in
-    same-little 1 s (answered at st a).state
-    (answered-expected at st a ∙ ap (λ (l : Option Logon). moves a.acts (begun l s.expected)) (tick-quiet st s.phase).1 ∙ tick-still st s.phase s.expected)
-    (answered-given at st a 1 (tick-few st s.phase))
+    same-little 1 s (answered st a).state
+    (answered-expected st a ∙ ap (λ (l : Option Logon). moves a.acts (begun l s.expected)) (tick-quiet st s.phase).1 ∙ tick-still st s.phase s.expected)
+    (answered-given st a 1 (tick-few st s.phase))
 
 pub step-little : (s : State) (at : ℕ) (call : Call) → MovesLittle (most_taken call) s (step s at call).state
 step-little s at (OnLink up) = same-little 0 s (step s at (OnLink up)).state refl (omega arith)
 step-little s at (OnMessage m) = message-little s at m s.phase
 step-little s at OnTick = tick-little s at
-step-little s at (Issue kind body) = same-little 1 s (step s at (Issue kind body)).state refl (omega (arith, one-slot s.given (Some (record { kind = kind; body = body; at = at }))))
+step-little s at (Issue kind body) = same-little 1 s (step s at (Issue kind body)).state refl (omega (arith, one-slot s.given (Some (record { kind = kind; body = body; at = max s.latest at }))))

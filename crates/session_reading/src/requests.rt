@@ -8,11 +8,10 @@ ghost use Rattle.session_law.specs.Formats.{application_refusal};
 use crate::message::is_type;
 use fix_fields::Fields;
 use fix_types::{
-    AppMsg, CancelRequest, NewOrder, ReplaceRequest, SessionRefusal, cancel_refusal,
-    new_order_refusal, replace_refusal,
+    AppMsg, SessionRefusal, cancel_refusal, new_order_refusal, read_cancel_request, read_new_order,
+    read_replace_request, replace_refusal,
 };
 use std::alloc::{AllocError, Global};
-use wire_law::TextWire;
 
 /// Whether a message is the application's: NewOrderSingle, OrderCancelRequest, OrderCancelReplaceRequest.
 pub fn is_application(m: &Fields) -> bool
@@ -34,25 +33,19 @@ pub fn refusal_of(m: &Fields) -> Option<SessionRefusal>
     }
 }
 
-/// An application message as a type. Nothing refuses it, so a reader's error is want of memory.
+/// An application message as a type. Nothing refuses it, so it isn't judged again.
 pub fn application_of(alloc: Global, m: &Fields) -> Result<AppMsg, AllocError>
     requires { application_refusal m.now ≡ None }
     ensures { IfOk result (λ said. said ≡ formats.application_of m.now) }
 {
     if is_type(m, b"D") {
-        match NewOrder::get(alloc, m) {
-            Ok(order) => Ok(AppMsg::New(order)),
-            Err(_) => Err(AllocError),
-        }
+        let order = read_new_order(alloc, m)?;
+        Ok(AppMsg::New(order))
     } else if is_type(m, b"F") {
-        match CancelRequest::get(alloc, m) {
-            Ok(request) => Ok(AppMsg::Cancel(request)),
-            Err(_) => Err(AllocError),
-        }
+        let request = read_cancel_request(alloc, m)?;
+        Ok(AppMsg::Cancel(request))
     } else {
-        match ReplaceRequest::get(alloc, m) {
-            Ok(request) => Ok(AppMsg::Replace(request)),
-            Err(_) => Err(AllocError),
-        }
+        let request = read_replace_request(alloc, m)?;
+        Ok(AppMsg::Replace(request))
     }
 }

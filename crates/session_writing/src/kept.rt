@@ -20,10 +20,17 @@ use std::marker::Model;
 /// again. Contracts see the list of both.
 ///
 /// The text of all kept bodies lies in one buffer, as it was written, beside a list of their places.
-#[derive(Debug, Drop)]
+#[derive(Debug)]
 pub struct KeptBodies {
     text: Vec<u8>,
     places: Vec<KeptPlace>,
+}
+
+// Not derived: then each way out drops it in one call (docs/DECISIONS.md, "Drops").
+impl Drop for KeptBodies {
+    fn drop(self) {
+        let KeptBodies { text: _, places: _ } = self;
+    }
 }
 
 impl Model for KeptBodies {

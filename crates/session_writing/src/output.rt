@@ -121,22 +121,26 @@ pub(crate) fn printed_frame(
         ≡ frame_fields stamp_text gate.now client.now (frame_with head (fields_in body.now))) }
 {
     let mut fields = PrintedFields::with_capacity(alloc, ROUND_A_BODY + body.len())?;
-    push_header(&mut fields, gate, client, head)?;
+    let now = stamp(head.at);
+    push_header(&mut fields, gate, client, head, &now)?;
     push_again(&mut fields, head.first)?;
     fields.append_text(body)?;
-    push_issue(&mut fields, head)?;
+    push_issue(&mut fields, head, &now)?;
     Ok(fields)
 }
 
-/// Adds the header of every frame.
+/// Adds the header of every frame, whose moment is written so.
 fn push_header(
     fields: &mut PrintedFields,
     gate: &[u8],
     client: &[u8],
     head: FrameHead,
+    now: &[u8],
 ) -> Result<(), AllocError>
     requires gate { IsValue gate.now }
     requires client { IsValue client.now }
+    requires now { now.now ≡ stamp_text head.at }
+    requires value { IsValue now.now }
     ensures { OnOk result (fields.new ≡ fields.old ++ field 35 (text_of_kind head.kind) ∷ field 49 gate.now
         ∷ field 56 client.now ∷ number_as_field 34 head.number ∷ field 52 (stamp_text head.at) ∷ []) }
 {
@@ -144,7 +148,7 @@ fn push_header(
     fields.push(49, gate)?;
     fields.push(56, client)?;
     fields.push_number(34, head.number)?;
-    fields.push(52, &stamp(head.at))
+    fields.push(52, now)
 }
 
 /// Adds PossDupFlag (43) and OrigSendingTime (122), where a frame is sent again.
@@ -160,15 +164,20 @@ fn push_again(fields: &mut PrintedFields, first: Option<u64>) -> Result<(), Allo
     }
 }
 
-/// Adds TransactTime (60) to what was issued: the moment of its issue.
-fn push_issue(fields: &mut PrintedFields, head: FrameHead) -> Result<(), AllocError>
+/// Adds TransactTime (60) to what was issued: the moment of its issue, which is that of the frame, written so, or the
+/// first one where it is sent again.
+fn push_issue(fields: &mut PrintedFields, head: FrameHead, now: &[u8]) -> Result<(), AllocError>
+    requires now { now.now ≡ stamp_text head.at }
+    requires value { IsValue now.now }
     ensures { (body : Message) → OnOk result (fields.new
         ≡ fields.old ++ issue_fields stamp_text (frame_with head body)) }
 {
-    if is_issued(head.kind) {
-        fields.push(60, &stamp(head.first.unwrap_or(head.at)))
-    } else {
-        Ok(())
+    if !is_issued(head.kind) {
+        return Ok(());
+    }
+    match head.first {
+        None => fields.push(60, now),
+        Some(first) => fields.push(60, &stamp(first)),
     }
 }
 

@@ -12,13 +12,24 @@ use std::marker::Model;
 ///
 /// Before the first `settle` it counts as settled with no numbers. What was settled is no second copy: it is the first
 /// numbers of the list, or of the list from before numbers began anew.
-#[derive(Debug, Drop)]
+#[derive(Debug)]
 pub struct UndoBodies {
     given: KeptBodies,
     /// How many numbers were given when it was settled.
     count: usize,
     /// What stood when numbers began anew, the first time since it was settled.
     before: Option<KeptBodies>,
+}
+
+// Not derived: then each way out drops it in one call (docs/DECISIONS.md, "Drops").
+impl Drop for UndoBodies {
+    fn drop(self) {
+        let UndoBodies {
+            given: _,
+            count: _,
+            before: _,
+        } = self;
+    }
 }
 
 impl Model for UndoBodies {

@@ -22,11 +22,21 @@ use wire_law::padded;
 /// leave (`leaves`). Moments are in milliseconds and are handed in; one that goes back counts as no time passed.
 /// After an error, which is always that memory ran out, the session is as it was. `settle` and `undo` put calls back
 /// that succeeded: how it was when it was settled is kept beside how it is, and no call but these two changes it.
-#[derive(Debug, Drop)]
+#[derive(Debug)]
 pub struct PortSession {
     port: Port,
     /// How it was when it was settled last.
     settled: Port,
+}
+
+// Not derived: then each way out drops it in one call (docs/DECISIONS.md, "Drops").
+impl Drop for PortSession {
+    fn drop(self) {
+        let PortSession {
+            port: _,
+            settled: _,
+        } = self;
+    }
 }
 
 impl Model for PortSession {

@@ -22,8 +22,8 @@ pub fn shown_of<'a>(order: &'a Order, progress: &'a Progress) -> Shown<'a>
     Shown {
         order_id: order.order_id,
         cl_ord_id: &order.cl_ord_id,
-        symbol: &order.message.symbol,
-        side: order.message.side,
+        symbol: &order.symbol,
+        side: order.side,
         progress,
         has_pending_cancel: order.cancel.is_some(),
         has_pending_replace: order.replace.is_some(),
@@ -37,11 +37,11 @@ pub fn pending_of<'a>(order: &'a Order) -> Pending<'a>
 {
     let replace = match &order.replace {
         None => None,
-        Some(replacing) => Some(Request::of_replace(&replacing.message)),
+        Some(replacing) => Some(Request::of_replace(&replacing.get().message)),
     };
     let cancel = match &order.cancel {
         None => None,
-        Some(cancelling) => Some(Request::of_cancel(&cancelling.message)),
+        Some(cancelling) => Some(Request::of_cancel(&cancelling.get().message)),
     };
     Pending { replace, cancel }
 }

@@ -1,9 +1,8 @@
 //! An order and a request, as what a client is told shows them.
 
-use fix_fields::Text;
 use fix_types::{CancelRequest, ReplaceRequest};
 use fix_values::{Character, ClOrdId, CxlRejResponseTo};
-use orders::Progress;
+use orders::{Progress, Symbol};
 
 /// An order as a report or reject shows it: as it is after what is told.
 #[derive(Clone, Copy)]
@@ -13,7 +12,7 @@ pub struct Shown<'a> {
     /// ClOrdID (11) that it goes by.
     pub cl_ord_id: &'a ClOrdId,
     /// Symbol (55).
-    pub symbol: &'a Text,
+    pub symbol: &'a Symbol,
     /// Side (54).
     pub side: Character,
     /// Its stage and quantities.

@@ -1,6 +1,5 @@
 //! The order that a cancel or replace names, as its table reads it.
 
-use fix_fields::Text;
 use fix_values::Character;
 
 /// What the table of requests reads of the order that a request names by its OrigClOrdID (41).
@@ -9,7 +8,7 @@ pub struct NamedOrder<'a> {
     /// Side (54) of its new order.
     pub side: Character,
     /// Symbol (55) of its new order.
-    pub symbol: &'a Text,
+    pub symbol: &'a [u8],
     /// OrderCapacity (528) of its new order, or its client's where that has none.
     pub capacity: u8,
     /// It is over.

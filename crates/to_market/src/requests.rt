@@ -201,12 +201,12 @@ fn is_other_letter(given: Option<Character>, kept: u8) -> bool
 }
 
 /// A text is given, and isn't this one.
-fn is_other_text(given: &Option<Text>, kept: &Text) -> bool
+fn is_other_text(given: &Option<Text>, kept: &[u8]) -> bool
     ensures { result ≡ is_none_of (kept.now ∷ []) given.now }
 {
     match given {
         None => false,
-        Some(text) => text.as_slice() != kept.as_slice(),
+        Some(text) => text.as_slice() != kept,
     }
 }
 

@@ -10,27 +10,38 @@ ghost use Rattle.undo_list.specs.Undoing.{IsWithin};
 ghost use Rattle.undo_orders.specs.PuttingBack.{changed_at};
 
 use hint_index::SettledList;
-use orders::{Cancelling, Change, EarlierOrder, Order, Replacing};
+use orders::{Boxed, Cancelling, Change, EarlierOrder, Order, Replacing};
 use std::alloc::{AllocError, Global};
 use std::marker::Model;
 
 /// What an order at a place had before it was changed.
 #[derive(Debug, Drop)]
 pub(crate) struct Was {
-    pub place: usize,
     pub earlier: EarlierOrder,
+    pub place: usize,
 }
 
 /// The accepted orders, the oldest first. Contracts see the list as it is now, and as it was settled.
 ///
 /// Before the first `settle` it counts as settled with no orders.
-#[derive(Debug, Drop)]
+#[derive(Debug)]
 pub struct UndoOrders {
+    /// What was changed since it was settled, the newest last.
+    changed: Vec<Was>,
     orders: Vec<Order>,
     /// How many orders there were when it was settled.
     count: usize,
-    /// What was changed since, the newest last.
-    changed: Vec<Was>,
+}
+
+// Not derived: then each way out drops it in one call (docs/DECISIONS.md, "Drops").
+impl Drop for UndoOrders {
+    fn drop(self) {
+        let UndoOrders {
+            orders: _,
+            count: _,
+            changed: _,
+        } = self;
+    }
 }
 
 impl Model for UndoOrders {
@@ -132,7 +143,8 @@ impl UndoOrders {
     {
         let earlier = self.orders[place].before_request(alloc)?;
         self.changed.reserve(1)?;
-        self.orders[place].accept_replace(replacing);
+        let boxed = Boxed::new(alloc, replacing)?;
+        self.orders[place].accept_replace(boxed);
         self.changed.push_reserved(Was { place, earlier });
         Ok(())
     }
@@ -152,7 +164,8 @@ impl UndoOrders {
     {
         let earlier = self.orders[place].before_request(alloc)?;
         self.changed.reserve(1)?;
-        self.orders[place].accept_cancel(cancelling);
+        let boxed = Boxed::new(alloc, cancelling)?;
+        self.orders[place].accept_cancel(boxed);
         self.changed.push_reserved(Was { place, earlier });
         Ok(())
     }

@@ -9,6 +9,7 @@ use Rattle.order_machine.specs.OrderRecord.{OrderRecord, last_after, shown_as}
 use Rattle.orders.specs.Changes.{changed_by, with_quantities}
 use Rattle.orders.specs.declared.change.Change.{Change}
 use Rattle.orders.specs.declared.change.Change.TheVariants as changes
+use Rattle.orders.specs.declared.requests.Replacing.{Replacing}
 use Rattle.orders.specs.Seen.{progressed, replace_seen}
 use Rattle.to_client.specs.Pending.{cancel_in}
 use Rattle.market_messages.proofs.RejectedRow.{none-replacing, the-replace}
@@ -26,8 +27,9 @@ pub returns-then-is_dead-clause-told : goal.returns-then-is_dead-clause-told
 returns-then-is_dead-clause-told c =
     let m = c.args.message.now in
     let o = c.args.order.now in
-    let q : Entry = replace_seen c.order.inside.client c.order.inside.order_id c.in-Some.replacing in
-    let some : o.replace ≡ Some q = ap (λ (x : OrderRecord). x.replace) (sym c.order.view_is) ∙ ap (option_map (replace_seen c.order.inside.client c.order.inside.order_id)) c.in-Some.is in
+    let q : Entry = replace_seen c.order.inside.client c.order.inside.order_id c.get.result.now in
+    let some : o.replace ≡ Some q = ap (λ (x : OrderRecord). x.replace) (sym c.order.view_is) ∙ ap (option_map (replace_seen c.order.inside.client c.order.inside.order_id)) c.in-Some.is
+    ∙ ap (λ (r : Replacing). Some (replace_seen c.order.inside.client c.order.inside.order_id r)) (sym c.get.ensures) in
     let cancel : Option Entry = cancel_in o.cancel in
     let p = c.progress_after-opened.result in
     let is = c.pending_of-pending.ensures p in
@@ -54,8 +56,9 @@ pub returns-clause-told : goal.returns-clause-told
 returns-clause-told c =
     let m = c.args.message.now in
     let o = c.args.order.now in
-    let q : Entry = replace_seen c.order.inside.client c.order.inside.order_id c.in-Some.replacing in
-    let some : o.replace ≡ Some q = ap (λ (x : OrderRecord). x.replace) (sym c.order.view_is) ∙ ap (option_map (replace_seen c.order.inside.client c.order.inside.order_id)) c.in-Some.is in
+    let q : Entry = replace_seen c.order.inside.client c.order.inside.order_id c.get.result.now in
+    let some : o.replace ≡ Some q = ap (λ (x : OrderRecord). x.replace) (sym c.order.view_is) ∙ ap (option_map (replace_seen c.order.inside.client c.order.inside.order_id)) c.in-Some.is
+    ∙ ap (λ (r : Replacing). Some (replace_seen c.order.inside.client c.order.inside.order_id r)) (sym c.get.ensures) in
     let cancel : Option Entry = cancel_in o.cancel in
     let p = c.progress_after-opened.result in
     let is = c.pending_of-pending.ensures p in

@@ -27,6 +27,6 @@ returns-in_err-token-clause-verdict g c =
 pub returns-clause-asks : goal.returns-clause-asks
 returns-clause-asks g c =
     asks_next c.args.sender.now c.args.table.now c.args.order.now c.in_ok-token.token c.in_ok-ask.ask c.enter_order.result
-    (search rules) c.in_ok-ask.ensures.asks
+    (search rules) c.in_ok-ask.ensures.asks c.in_ok-ask.ask.stock_set.0
     c.enter_order.ensures.token c.enter_order.ensures.shares c.enter_order.ensures.price
     (c.enter_order.ensures.says _ c.in_ok-ask.ensures.asks)

@@ -11,4 +11,4 @@ pub returns-in-Some : goal.returns-in-Some
 returns-in-Some c = λ order_id k t.
     let there = subst (λ (r : Option Replacing). is_key_of_replace k c.args.client (option_map (replace_seen c.args.client order_id) r) ≡ true) c.in-Some.is t in
     let own : k ≡ name_key c.args.client c.in-Some.replacing.message.cl_ord_id = same-name-is k (name_key c.args.client c.in-Some.replacing.message.cl_ord_id) there in
-    ap (λ (q : NameKey). Some q) (c.of.ensures ∙ ap (name_key c.args.client) c.as_slice.ensures.bytes ∙ sym own)
+    ap (λ (q : NameKey). Some q) (c.of.ensures ∙ ap (name_key c.args.client) (c.as_slice.ensures.bytes ∙ ap (λ (r : Replacing). r.message.cl_ord_id) c.get.ensures) ∙ sym own)

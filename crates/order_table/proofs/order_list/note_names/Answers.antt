@@ -12,10 +12,11 @@ pub returns-clause-leads : goal.returns-clause-leads
 returns-clause-leads g c =
     let o = c.order.inside in
     let h = c.note_some-2.new.names in
+    let own = o.cl_ord_id in
     let led : (k : NameKey) → LeadsTo (hint_of same_name c.note.new.self k) c.args.place → LeadsTo (hint_of same_name h k) c.args.place =
     λ k e. c.note_some-2.ensures.keeps k (c.note_some.ensures.keeps k e) in
     subst (λ (r : OrderRecord). (k : NameKey) → has_name_key k r ≡ true → LeadsTo (hint_of same_name h k) c.args.place) c.order.view_is
-    (name-leads h o.client o.cl_ord_id (option_map (replace_seen o.client o.order_id) o.replace) (option_map (cancel_seen o.client o.order_id) o.cancel) c.args.place
-    (led (name_key o.client o.cl_ord_id) (subst (λ (k : NameKey). LeadsTo (hint_of same_name c.note.new.self k) c.args.place) (c.of-own.ensures ∙ ap (name_key o.client) c.as_slice.ensures.bytes) c.note.ensures.leads))
+    (name-leads h o.client own (option_map (replace_seen o.client o.order_id) o.replace) (option_map (cancel_seen o.client o.order_id) o.cancel) c.args.place
+    (led (name_key o.client own) (subst (λ (k : NameKey). LeadsTo (hint_of same_name c.note.new.self k) c.args.place) (c.of-own.ensures ∙ ap (name_key o.client) c.as_slice.ensures.bytes) c.note.ensures.leads))
     (λ k t. c.note_some-2.ensures.keeps k (c.note_some.ensures.leads k (c.key_of_replace-replace.ensures o.order_id k t)))
     (λ k t. c.note_some-2.ensures.leads k (c.key_of_cancel-cancel.ensures o.order_id k t)))

@@ -6,7 +6,7 @@ use Rattle.session_law.specs.declared.kind.Kind.{Kind}
 use Rattle.fix_fields.specs.Field.{Message}
 use Rattle.session_law.specs.Frames.{frame_fields}
 use Rattle.session_law.specs.Session.{fresh, next_out}
-use Rattle.session_law.specs.Runs.{Call, Issue, step}
+use Rattle.session_law.specs.Runs.{Call, Issue, at_moment, step}
 use Rattle.fix_session.specs.Issues.{call_of_body, issued_kind}
 use Rattle.fix_session.specs.Meets.{Meets}
 use Rattle.fix_session.proofs.Turns.{tells, one-more, one-more-headline}
@@ -26,8 +26,8 @@ pub returns-clause-report : goal.returns-clause-report
 returns-clause-report c =
     let s = c.args.self.now.session in
     IfOk-weaker c.issue_step.result _ _ (λ issued is. is
-    ∙ ap (λ (k : Kind). frame_fields stamp_text s.gate s.client (fresh (next_out s) k c.in_ok-fields.fields c.args.at)) c.kind_of.ensures
-    ∙ ap (λ (b : Message). frame_fields stamp_text s.gate s.client (fresh (next_out s) (issued_kind c.args.body.now) b c.args.at)) c.in_ok-fields.ensures) c.issue_step.ensures.report
+    ∙ ap (λ (k : Kind). frame_fields stamp_text s.gate s.client (fresh (next_out s) k c.in_ok-fields.fields (at_moment c.args.at s).latest)) c.kind_of.ensures
+    ∙ ap (λ (b : Message). frame_fields stamp_text s.gate s.client (fresh (next_out s) (issued_kind c.args.body.now) b (at_moment c.args.at s).latest)) c.in_ok-fields.ensures) c.issue_step.ensures.report
 
 pub returns-clause-leaves : goal.returns-clause-leaves
 returns-clause-leaves c = IfOk-weaker c.issue_step.result _ _ (λ issued m gate client h. one-more gate client h c.args.self.now.session c.args.at (call_of_body c.args.body.now) issued.turn c.issue_step.new.self.session m) (meets c)

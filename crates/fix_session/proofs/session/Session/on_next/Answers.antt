@@ -14,7 +14,7 @@ take-requires c =
     let row = row_answer s m (message_number m) s.expected c.judge-row.result in
     let little = (logged-on-little s c.args.at m).expected in
     let same = ap (λ (g : Given). g.state.expected) c.in_ok-answer.ensures
-    ∙ ap (λ (g : Given). (answered c.args.at g.state row).state.expected) c.heard_at-draft.ensures.made
-    ∙ ap (λ (a : Answer). (answered c.args.at begun a).state.expected) (sym c.judge-row.ensures.answer) in
+    ∙ ap (λ (g : Given). (answered g.state row).state.expected) c.heard_at-draft.ensures.made
+    ∙ ap (λ (a : Answer). (answered begun a).state.expected) (sym c.judge-row.ensures.answer) in
     let low = c.requires.expected in
     record { expected = rw same (omega arith) }

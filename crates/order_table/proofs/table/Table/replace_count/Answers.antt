@@ -7,6 +7,6 @@ use Rattle.order_table.proofs.table.Table.replace_count.Goals as goal
 
 pub returns : goal.returns
 returns g c =
-    c.count_replacements.ensures ∙ ap (count_by (is_replacement_of (decimal c.args.order_id))) c.as_slice.ensures
+    c.replace_count.ensures
     ∙ sym (count-reverse (is_replacement_of (decimal c.args.order_id)) c.self.inside.tokens.now)
     ∙ ap (λ (h : Held). count_by (is_replacement_of (decimal c.args.order_id)) h.tokens) c.self.view_is

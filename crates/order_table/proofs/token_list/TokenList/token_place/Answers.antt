@@ -16,7 +16,7 @@ pub place_of-requires : goal.place_of-requires
 place_of-requires g c =
     subst (λ (xs : List GivenToken). LedBy (hint_of same_token_key c.self.inside.texts c.of-key.result) (is_token c.args.port c.args.token.now) xs) (sym c.as_slice.ensures)
     (subst (λ (k : TokenKey). LedBy (hint_of same_token_key c.self.inside.texts k) (is_token c.args.port c.args.token.now) c.self.inside.tokens.now) (sym c.of-key.ensures)
-    (led-by same_token_key has_token_key c.self.inside.texts c.self.inside.tokens.now (token_key c.args.port c.args.token.now) (is_token c.args.port c.args.token.now) c.self.invariant.now
+    (led-by same_token_key has_token_key c.self.inside.texts c.self.inside.tokens.now (token_key c.args.port c.args.token.now) (is_token c.args.port c.args.token.now) c.self.invariant.0.now
     (token-key c.args.port c.args.token.now)))
 
 pub returns : goal.returns

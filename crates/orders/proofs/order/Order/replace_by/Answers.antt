@@ -4,4 +4,4 @@ use Rattle.tokens.proofs.Digits.{printable-token}
 use Rattle.orders.proofs.order.Order.replace_by.Goals as goal
 
 pub invariant_of-self-inside-in-Some : goal.invariant_of-self-inside-in-Some
-invariant_of-self-inside-in-Some c = (printable-token c.in-Some.replacing.token c.in-Some.replacing.token_number c.in-Some.replacing.text_set, (search rules, (grind (arith, common_steps), (search rules, (search rules, (search rules, tt))))))
+invariant_of-self-inside-in-Some c = (printable-token c.into_inner-replacing.result.token c.into_inner-replacing.result.token_number c.into_inner-replacing.result.text_set, (search rules, (grind (arith, common_steps), (search rules, (search rules, (search rules, (search rules, (search rules, (search rules, tt)))))))))
