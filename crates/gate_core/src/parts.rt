@@ -20,11 +20,11 @@ use std::hash::{BuildHasher, BuildHasherDefault, FoldHasher};
 /// The lines of all clients and ports, and the order level.
 #[derive(Debug)]
 pub(crate) struct Parts<S: BuildHasher + Drop = BuildHasherDefault<FoldHasher>> {
-    pub(crate) orders: OrderCore<S>,
     pub(crate) clients: Vec<ClientLine>,
     pub(crate) ports: Vec<PortLine>,
     /// The port of each client, by the client's place.
     pub(crate) client_ports: Vec<u16>,
+    pub(crate) orders: OrderCore<S>,
 }
 
 // Not derived: then each way out drops it in one call (docs/DECISIONS.md, "Drops").

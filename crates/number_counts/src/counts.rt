@@ -17,8 +17,8 @@ use undo_list::UndoList;
 /// a number that isn't there was never counted.
 #[derive(Debug, Drop)]
 pub struct NumberCounts<S: BuildHasher + Drop = BuildHasherDefault<FoldHasher>> {
-    numbers: HintIndex<NumberKey, S>,
     counts: UndoList<NumberCount>,
+    numbers: HintIndex<NumberKey, S>,
 }
 
 impl<S: BuildHasher + Drop> Model for NumberCounts<S> {

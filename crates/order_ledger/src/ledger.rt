@@ -26,9 +26,9 @@ use to_market::{ClientTerms, PortState};
 /// Orders, tokens and used ids are found by indexes over any hasher, which changes nothing but how fast they are found.
 #[derive(Debug)]
 pub struct OrderLedger<S: BuildHasher + Drop = BuildHasherDefault<FoldHasher>> {
+    terms: Vec<ClientTerms>,
     table: Table<S>,
     used: UsedIds<S>,
-    terms: Vec<ClientTerms>,
     /// How many new orders came: the last OrderID given.
     order_ids: u64,
     /// How many reports were issued: the last ExecID given.

@@ -22,10 +22,10 @@ use undo_list::UndoList;
 /// there is room.
 #[derive(Debug)]
 pub(crate) struct TokenList<S: BuildHasher + Drop = BuildHasherDefault<FoldHasher>> {
+    tokens: UndoList<GivenToken>,
+    texts: HintIndex<TokenKey, S>,
     /// By OrderID.
     replaces: NumberCounts<S>,
-    texts: HintIndex<TokenKey, S>,
-    tokens: UndoList<GivenToken>,
 }
 
 // Not derived: then each way out drops it in one call (docs/DECISIONS.md, "Drops").

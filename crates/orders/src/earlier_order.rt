@@ -14,9 +14,6 @@ use fix_values::ClOrdId;
 /// What an order had before it was changed: all that may change of it. Of the lists that only grow it has the lengths.
 #[derive(Debug, Drop)]
 pub struct EarlierOrder {
-    // These two come first: see `Order`.
-    pub(crate) replace: Option<Boxed<Replacing>>,
-    pub(crate) cancel: Option<Boxed<Cancelling>>,
     pub(crate) token: [u8; 14],
     /// How many tokens it had had before that one.
     pub(crate) earlier_count: usize,
@@ -24,6 +21,8 @@ pub struct EarlierOrder {
     pub(crate) cl_ord_id: Option<ClOrdId>,
     pub(crate) progress: Progress,
     pub(crate) trades: EarlierTrades,
+    pub(crate) replace: Option<Boxed<Replacing>>,
+    pub(crate) cancel: Option<Boxed<Cancelling>>,
     ghost token_set: { ArePrintable token },
     ghost trades_set: { progress.stage ≡ Waiting → most_trades trades ≡ 0 },
     ghost counted: { progress.tokens ≤ 1 + earlier_count },

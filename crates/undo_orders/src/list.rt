@@ -17,8 +17,8 @@ use std::marker::Model;
 /// What an order at a place had before it was changed.
 #[derive(Debug, Drop)]
 pub(crate) struct Was {
-    pub earlier: EarlierOrder,
     pub place: usize,
+    pub earlier: EarlierOrder,
 }
 
 /// The accepted orders, the oldest first. Contracts see the list as it is now, and as it was settled.
@@ -26,11 +26,11 @@ pub(crate) struct Was {
 /// Before the first `settle` it counts as settled with no orders.
 #[derive(Debug)]
 pub struct UndoOrders {
-    /// What was changed since it was settled, the newest last.
-    changed: Vec<Was>,
     orders: Vec<Order>,
     /// How many orders there were when it was settled.
     count: usize,
+    /// What was changed since, the newest last.
+    changed: Vec<Was>,
 }
 
 // Not derived: then each way out drops it in one call (docs/DECISIONS.md, "Drops").
