@@ -34,11 +34,6 @@ pub struct ToldTrade {
 
 /// An accepted order. Contracts see it as `order_machine`'s record.
 pub struct Order {
-    // These two come first: that an order may go to another thread is searched for field by field, and no further than so
-    // many steps down.
-    /// The pending replace of it, and the pending cancel, which was accepted after it.
-    pub replace: Option<Boxed<Replacing>>,
-    pub cancel: Option<Boxed<Cancelling>>,
     /// How far it has come.
     pub progress: Progress,
     /// The market's name for it.
@@ -62,6 +57,9 @@ pub struct Order {
     pub cl_ord_id: ClOrdId,
     /// Its trades, the oldest first: none while it waits.
     pub trades: Vec<ToldTrade>,
+    /// The pending replace of it, and the pending cancel, which was accepted after it.
+    pub replace: Option<Boxed<Replacing>>,
+    pub cancel: Option<Boxed<Cancelling>>,
     ghost token_set: { ArePrintable token },
     ghost trades_set: { progress.stage ≡ Waiting → trades.items ≡ [] },
     ghost counted: { progress.tokens ≤ 1 + length earlier.items },
