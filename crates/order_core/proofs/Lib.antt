@@ -2,3 +2,4 @@ mod Turns
 mod Histories
 mod Addressed
 pub mod Standing
+pub mod Sent

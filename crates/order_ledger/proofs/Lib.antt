@@ -2,3 +2,4 @@ mod Used
 mod Terms
 mod Stepped
 mod Heard
+pub mod Sent

@@ -1,0 +1,37 @@
+-- A ledger may go to another thread where its hasher may. `search` has an end of its steps, and doesn't find it at once:
+-- so what takes the most has lemmas of its own.
+use denote.RattleType.{RattleType}
+use denote.Param.Send.{IsSend, sendable, view_send}
+use denote.Param.SendFields.{declared_send}
+use Rattle.core.specs.declared.hash.Hasher as Hasher
+use Rattle.core.specs.declared.hash.build.BuildHasher as BuildHasher
+use Rattle.std.proofs.Crossing.{crosses}
+use Rattle.orders.specs.contracts.order.Order as Order
+use Rattle.orders.specs.contracts.requests.Cancelling as Cancelling
+use Rattle.orders.specs.contracts.requests.Replacing as Replacing
+use Rattle.order_table.specs.contracts.table.Table as Table
+use Rattle.order_ledger.specs.contracts.ledger.OrderLedger as OrderLedger
+use Rattle.order_ledger.specs.contracts.used_ids.UsedIds as UsedIds
+
+replacing : IsSend Replacing.the_row
+replacing = search (sendable, crosses) depth 100 fits 500000
+
+cancelling : IsSend Cancelling.the_row
+cancelling = search (sendable, crosses) depth 100 fits 500000
+
+order : IsSend Order.the_row
+order = search (replacing, cancelling, sendable, crosses) depth 100 fits 500000
+
+module _ (S T : RattleType) (g : BuildHasher.Ghosts S.Denot T.Denot) (h : Hasher.Ghosts T.Denot) (s : IsSend S) where
+  table : IsSend (Table.the_row S T g h)
+  table = search (order, replacing, cancelling, sendable, crosses) depth 100 fits 500000
+
+  used : IsSend (UsedIds.the_row S T g h)
+  used = search (sendable, crosses) depth 100 fits 500000
+
+  abbrev number : IsSend (denote.Hole.as_row denote.Struct.Field.u64-field)
+  number = search sendable
+
+  pub ledger_send : IsSend (OrderLedger.the_row S T g h)
+  ledger_send = view_send _ _ _ _ _ (declared_send (OrderLedger.TheInside.the_type S T g h)
+      (search (sendable, crosses) depth 40, (table, (used, (number, (number, (number, (number, tt))))))))
