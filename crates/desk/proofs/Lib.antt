@@ -1,2 +1,3 @@
 mod Starting
 mod Rounding
+pub mod Sent

@@ -5,3 +5,4 @@ pub mod OneMore
 mod Cutting
 mod Comparing
 mod Draining
+pub mod Sent

@@ -19,3 +19,4 @@ pub mod Histories
 mod Naming
 mod Fields
 mod Standing
+pub mod Sent

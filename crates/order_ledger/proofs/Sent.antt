@@ -29,7 +29,7 @@ module _ (S T : RattleType) (g : BuildHasher.Ghosts S.Denot T.Denot) (h : Hasher
   used : IsSend (UsedIds.the_row S T g h)
   used = search (sendable, crosses) depth 100 fits 500000
 
-  abbrev number : IsSend (denote.Hole.as_row denote.Struct.Field.u64-field)
+  number : IsSend (denote.Hole.as_row denote.Struct.Field.u64-field)
   number = search sendable
 
   pub ledger_send : IsSend (OrderLedger.the_row S T g h)

@@ -1,0 +1,23 @@
+-- A core with its history may go to another thread where its hasher may.
+use denote.RattleType.{RattleType}
+use denote.Param.Send.{IsSend, sendable, view_send}
+use denote.Param.SendFields.{declared_send}
+use Rattle.core.specs.declared.hash.Hasher as Hasher
+use Rattle.core.specs.declared.hash.build.BuildHasher as BuildHasher
+use Rattle.std.proofs.Crossing.{crosses}
+use Rattle.desk_ends.proofs.Sent.{event_send}
+use Rattle.gate_core.proofs.Sent.{core_send}
+use Rattle.gate_events.specs.contracts.batch.Batch as Batch
+use Rattle.gate_journal.specs.contracts.history.History as History
+use Rattle.desk_steps.specs.contracts.recorded.RecordedCore as RecordedCore
+
+batch : IsSend Batch.the_row
+batch = search (sendable, crosses) depth 100 fits 500000
+
+history : IsSend History.the_row
+history = search (event_send, batch, sendable, crosses) depth 100 fits 500000
+
+module _ (S T : RattleType) (g : BuildHasher.Ghosts S.Denot T.Denot) (h : Hasher.Ghosts T.Denot) (s : IsSend S) where
+  pub recorded_send : IsSend (RecordedCore.the_row S T g h)
+  recorded_send = view_send _ _ _ _ _ (declared_send (RecordedCore.TheInside.the_type S T g h)
+      (search (sendable, crosses) depth 100 fits 500000, (core_send S T g h s, (history, tt))))
