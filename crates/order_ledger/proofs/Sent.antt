@@ -1,5 +1,5 @@
--- A ledger may go to another thread where its hasher may. `search` has an end of its steps, and doesn't find it at once:
--- so what takes the most has lemmas of its own.
+-- A ledger may go to another thread where its hasher may. A `search` takes so many steps and no more, too few for all
+-- of it at once: what takes the most has lemmas of its own.
 use denote.RattleType.{RattleType}
 use denote.Param.Send.{IsSend, sendable, view_send}
 use denote.Param.SendFields.{declared_send}
