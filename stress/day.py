@@ -252,7 +252,7 @@ class Report:
 
     def skipped(self):
         """Bytes that are no frame are told of, and no others."""
-        garbage, skipped = self.sum(self.clients, "counts")["bytes of garbage"], self.events["bytes skipped"]
+        garbage, skipped = self.sum(self.clients, "session")["bytes of garbage"], self.events["bytes skipped"]
         if skipped > garbage or garbage > 5_000 and not skipped:
             self.complaints.append(f"seed {self.day.plan.seed}: {skipped} bytes told as skipped, of {garbage} of garbage")
 
@@ -272,7 +272,7 @@ class Report:
             "asked of markets": sum(count for name, count in market.items() if len(name) == 7 and name[:6] == "asked "),
             "said by markets": sum(count for name, count in market.items() if name.startswith("said ")),
             "client links lost": client["links cut"] + client["links that the gateway closed"],
-            "port links cut": market["links cut"], "bytes of garbage": client["bytes of garbage"],
+            "port links cut": market["links cut"], "bytes of garbage": session["bytes of garbage"],
             "stalls": client["stalls"], "hostile ports": sum(it["said"] for it in self.markets),
             "refused requests": refused})
 

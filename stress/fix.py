@@ -70,6 +70,13 @@ def trailer(text):
     return b"10=%03d\x01" % (sum(text) % 256)
 
 
+def is_whole(data):
+    """Whether bytes begin with a whole frame."""
+    head = HEAD.match(data)
+    end = head.end() + int(head[1]) + 7 if head else 0
+    return 0 < end <= len(data) and data[end - 7:end] == trailer(data[:end - 7])
+
+
 def written(fields):
     """A frame of these fields, 35 first, with head and trailer."""
     body = b"".join(b"%d=%s\x01" % field for field in fields)

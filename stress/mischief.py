@@ -20,17 +20,15 @@ class Mischief:
             self.counts[kind.replace("_", " ")] += 1
 
     def garbage(self, now):
-        data = noise.garbage(self.random)
-        self.session.out += data
-        self.counts["bytes of garbage"] += len(data)
+        self.session.put_noise(noise.garbage(self.random))
 
     def damage(self, now):
         """A message with its number, of which a byte is wrong or the end is missing."""
-        before = self.session.out
+        before, heads = self.session.out, self.session.heads
         self.client.say(now)
         data = noise.damaged(self.random, self.session.out[len(before):])
-        self.session.out = before + data
-        self.counts["bytes of garbage"] += len(data)
+        self.session.out, self.session.heads = before, heads
+        self.session.put_noise(data)
 
     def test(self, now):
         self.session.test(now)
@@ -73,7 +71,7 @@ class Mischief:
             return False
         data = noise.oversized(self.random, self.session)
         self.session.put(data, now)
-        self.counts["bytes of garbage"] += len(data)
+        self.session.counts["bytes of garbage"] += len(data)
         self.client.may_be_closed = True
         self.fill()
         self.client.hush(now)
@@ -89,8 +87,7 @@ class Mischief:
 
     def fill(self):
         """A damaged head may wait for 999 bytes more; what ends the link stands among them, so that they have to come."""
-        self.session.out += b"x" * 1_000
-        self.counts["bytes of garbage"] += 1_000
+        self.session.put_noise(b"x" * 1_000)
 
     def end_writing(self, now):
         """Nothing more comes from the client, which still reads: for the gateway the link is gone."""

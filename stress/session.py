@@ -2,10 +2,12 @@
 from collections import Counter, deque, namedtuple
 
 from .book import Wrong
-from .fix import stamp, written
+from .fix import HEAD, is_whole, stamp, written
 from .resends import OutOfPlace, Resends
 
 APPLICATION = (b"8", b"9", b"j")
+# a head that waits for more than this is passed over by the gateway
+LONGEST = 8_300
 Sent = namedtuple("Sent", "kind body stamp")
 Seen = namedtuple("Seen", "kind body first")
 
@@ -31,7 +33,7 @@ class Session:
         self.held, self.gap, self.answered, self.resends = {}, 0, set(), Resends()
         self.received, self.wrote, self.tested = now, now, False
         self.awaited, self.resets, self.expects_end, self.asked_here = None, False, None, 0
-        self.out = b""
+        self.out, self.heads = b"", []
 
     # What goes out.
 
@@ -42,9 +44,21 @@ class Session:
 
     def put(self, data, now):
         self.around.append((b">", data))
-        self.out += data
+        if any(is_whole(it + data) for it in self.heads):
+            self.put_noise(b"\x01")
+        self.add(data)
         self.wrote = now
         self.counts["frames sent"] += 1
+
+    def put_noise(self, data):
+        """Bytes that aren't a frame. A head among them may not become one with what follows, as it does by chance."""
+        self.counts["bytes of garbage"] += len(data)
+        self.add(data)
+        self.heads += [data[it.start():] for it in HEAD.finditer(data)]
+
+    def add(self, data):
+        self.out += data
+        self.heads = [it + data for it in self.heads if len(it) < LONGEST]
 
     def number(self, kind, body, kept):
         """Uses up a number, and keeps a message of the application."""

@@ -2,8 +2,8 @@
 use denote.RattleType.{RattleType}
 use denote.Param.Send.{IsSend, sendable, view_send}
 use denote.Param.SendFields.{declared_send}
-use Rattle.core.specs.declared.hash.Hasher as Hasher
-use Rattle.core.specs.declared.hash.build.BuildHasher as BuildHasher
+use Rattle.std.specs.declared.hash.Hasher as Hasher
+use Rattle.std.specs.declared.hash.BuildHasher as BuildHasher
 use Rattle.std.proofs.Crossing.{crosses}
 use Rattle.order_core.proofs.Sent.{order_core_send}
 use Rattle.order_core.specs.contracts.order_core.OrderCore as OrderCore

@@ -3,8 +3,8 @@
 use denote.RattleType.{RattleType}
 use denote.Param.Send.{IsSend, sendable, view_send}
 use denote.Param.SendFields.{declared_send}
-use Rattle.core.specs.declared.hash.Hasher as Hasher
-use Rattle.core.specs.declared.hash.build.BuildHasher as BuildHasher
+use Rattle.std.specs.declared.hash.Hasher as Hasher
+use Rattle.std.specs.declared.hash.BuildHasher as BuildHasher
 use Rattle.std.proofs.Crossing.{crosses}
 use Rattle.orders.specs.contracts.order.Order as Order
 use Rattle.orders.specs.contracts.requests.Cancelling as Cancelling
