@@ -6,6 +6,7 @@ use Rattle.std.specs.declared.hash.Hasher as Hasher
 use Rattle.std.specs.declared.hash.BuildHasher as BuildHasher
 use Rattle.std.proofs.Crossing.{crosses}
 use Rattle.desk_ends.proofs.Sent.{seat_send, way_send}
+pub use Rattle.desk_ends.proofs.Sent.{inlet_send, outlet_send}
 use Rattle.desk_ends.specs.declared.name.DeskName as DeskName
 use Rattle.desk_side.specs.contracts.side.Side as Side
 use Rattle.desk_steps.proofs.Sent.{recorded_send}
