@@ -1,0 +1,51 @@
+-- What a line of a gateway holds may go to another thread, since what the threads share of a desk may be shared.
+use denote.RattleType.{RattleType}
+use denote.Ref.{NamedLft}
+use denote.Param.Send.{IsSend, IsSync, enum_send, recorded_send, sendable}
+use denote.Enum.Declared as E
+use denote.Param.SendFields.{declared_send}
+use Rattle.std.proofs.Crossing.{crosses}
+use Rattle.std.specs.declared.hash.BuildHasher as BuildHasher
+use Rattle.std.specs.declared.hash.Hasher as Hasher
+use Rattle.desk.proofs.Sent.{shared_sync}
+use Rattle.desk.specs.declared.DeskName as DeskName
+use Rattle.desk_gates.specs.contracts.bell.BellClock as BellClock
+use Rattle.run_lines.specs.contracts.counted.CountedLinks as CountedLinks
+use Rattle.run_lines.specs.contracts.opener.RunOpener as RunOpener
+use Rattle.gateway_run.specs.contracts.port_faults.PortLinks as PortLinks
+
+module _ (a : NamedLft) (K R : RattleType) (k : DeskName.Ghosts K.Denot) (r : IsSync R) where
+  pub bell_send : (S T : RattleType) (g : BuildHasher.Ghosts S.Denot T.Denot) (h : Hasher.Ghosts T.Denot) → IsSend S
+      → IsSend (BellClock.the_row a K R S T k g h)
+  bell_send S T g h s = let shared = shared_sync K S T k g h s in declared_send (BellClock.the_type a K R S T k g h) (
+    search (r, sendable),
+    (
+      search (shared, sendable) depth 40,
+      (
+        search sendable,
+        (search (sendable, crosses) depth 40, (search sendable, tt)),
+      ),
+    ),
+  )
+
+  pub port_links_send : (C : RattleType) → IsSend C → IsSend (PortLinks.the_row a C K R k)
+  port_links_send C c = declared_send (PortLinks.the_type a C K R k) (
+    search (r, sendable),
+    (
+      search (shared_sync, sendable) depth 40,
+      (
+        search sendable depth 40,
+        (search (c, sendable), (search sendable, tt)),
+      ),
+    ),
+  )
+
+pub counted_send : (a : NamedLft) (A : RattleType) → IsSend A → IsSend (CountedLinks.the_row a A)
+counted_send a A s = declared_send (CountedLinks.the_type a A)
+    (search (s, sendable) depth 40, (search (sendable, crosses) depth 40, (search (sendable, crosses) depth 40, tt)))
+
+pub opener_send : (a b : NamedLft) (A C K R : RattleType) (k : DeskName.Ghosts K.Denot) → IsSend A → IsSend C → IsSync R
+    → IsSend (RunOpener.the_row (CountedLinks.the_row a A) (PortLinks.the_row b C K R k))
+opener_send a b A C K R k s c r = let O = RunOpener.the_type (CountedLinks.the_row a A) (PortLinks.the_row b C K R k) in
+    recorded_send _ _ _ O.to_one (enum_send (E.shape O)
+    (search (counted_send a A s, port_links_send b K R k r C c, sendable) depth 40))
