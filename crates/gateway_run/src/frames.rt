@@ -39,9 +39,7 @@ impl<'a, O: Opener, R: Clock + Eprint> Opener for TellingFrames<'a, O, R> {
 
     type Closer = O::Closer;
 
-    fn open(
-        &mut self,
-    ) -> Option<Result<Opened<Self::Reader, Self::Writer, O::Closer>, LinkFault>> {
+    fn open(&mut self) -> Option<Result<Opened<Self::Reader, Self::Writer, O::Closer>, LinkFault>> {
         match self.opener.open() {
             Some(
                 Ok(
