@@ -30,7 +30,7 @@ class Client:
         self.book.may_fault = may_fault
         self.traffic = Traffic(self.random, self.book, index, plan)
         self.session = Session(b"C%d" % (index + 1), GATEWAY, plan.interval, self.deliver, self.book.skip)
-        self.counts, self.complaints = Counter(), []
+        self.counts, self.complaints, self.unread_logouts = Counter(), [], []
         self.link, self.spare, self.dialled, self.away_until = None, None, 0, 0.0
         self.may_be_closed, self.hushed_at, self.stalled_until = False, 0.0, 0.0
         self.begin = self.next_at = time.monotonic()
@@ -172,10 +172,17 @@ class Client:
         if not cut and not self.session.ended and not self.may_be_closed:
             self.complain("the gateway closed the link without a word")
         if not cut and self.session.expects_end not in (None, noise.SILENTLY) and not self.session.ended:
-            self.complain(f"no Logout {self.session.expects_end}")
+            self.miss_logout(self.session.expects_end)
         self.link = None
         self.session.logged_on = False
         self.away_until = now + (self.random.expovariate(2) if self.stage.value == TRADING else 0.0)
+
+    def miss_logout(self, text):
+        """One that isn't read has to have been sent where the link was reset, by which what came before is lost."""
+        if self.link.was_reset:
+            self.unread_logouts.append(text.decode())
+        else:
+            self.complain(f"no Logout {text}")
 
     def keep_up(self, now):
         if self.stalled_until:
@@ -294,4 +301,4 @@ class Client:
         return {"orders": self.book.orders, "exec_ids": self.book.exec_ids, "order_ids": self.book.order_ids,
                 "counts": self.counts, "told": self.book.counts, "session": self.session.counts,
                 "complaints": self.complaints, "port_state": self.book.port_state, "links": self.dialled,
-                "silence": self.session.longest_silence}
+                "unread_logouts": self.unread_logouts, "silence": self.session.longest_silence}

@@ -217,6 +217,7 @@ class Day:
     def events(self):
         """The lines on standard error by kind; another line is a complaint."""
         counts, ups, faults, skipped = Counter(), Counter(), Counter(), Counter()
+        self.logouts = []
         for line in Path(self.folder, "errors").read_text(errors="replace").splitlines():
             if self.refusing and UNSHOWN.fullmatch(line):
                 counts["C sent what isn't shown"] += 1
@@ -231,6 +232,8 @@ class Day:
                 self.complaints.append(f"seed {self.plan.seed}: on standard error: {line[:300]}")
             elif found[2] == "up":
                 ups[found[1]] += 1
+            elif found[2] == "sent 35=5":
+                self.logouts.append((found[1], found[3].rpartition("|58=")[2]))
             elif found[2].startswith("port fault"):
                 faults[found[1], found[2][-1:]] += 1
         counts["bytes skipped"] = sum(skipped.values())
@@ -249,6 +252,17 @@ class Report:
         self.day, self.clients, self.markets = day, clients, markets
         self.complaints = day.complaints
         self.skipped()
+        for number, client in enumerate(clients, 1):
+            self.unread_logouts(f"C{number}", client["unread_logouts"])
+
+    def unread_logouts(self, name, texts):
+        """What a client couldn't read, since its link was reset, was sent, or isn't shown for want of memory."""
+        for text in texts:
+            sent = [it for it in self.day.logouts if it[0] == name and it[1].startswith(text)]
+            if sent:
+                self.day.logouts.remove(sent[0])
+            elif not self.events["C sent what isn't shown"]:
+                self.complaints.append(f"seed {self.day.plan.seed}: {name} wasn't sent a Logout: {text}")
 
     def skipped(self):
         """Bytes that are no frame are told of, and no others."""

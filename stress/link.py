@@ -11,7 +11,7 @@ class Link:
         stream.setsockopt(socket.IPPROTO_TCP, socket.TCP_NODELAY, 1)
         self.stream, self.waiting = stream, b""
         self.outward, self.inward, self.hard, self.piece = outward, inward, hard, piece
-        self.is_open, self.was_cut = True, False
+        self.is_open, self.was_cut, self.was_reset = True, False, False
 
     def fileno(self):
         return self.stream.fileno()
@@ -27,6 +27,7 @@ class Link:
         except BlockingIOError:
             pass
         except OSError:
+            self.was_reset = True
             self.close()
 
     def flush_piece(self):
@@ -51,7 +52,7 @@ class Link:
         except BlockingIOError:
             return b""
         except OSError:
-            data = b""
+            data, self.was_reset = b"", True
         if not data:
             self.close()
         elif self.inward is not None:
