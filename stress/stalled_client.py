@@ -36,6 +36,8 @@ class Market:
                 self.heard.append(time.monotonic())
             except TimeoutError:
                 pass
+            except OSError:
+                return
             if self.heard and time.monotonic() - beat > 0.9:
                 beat = time.monotonic()
                 stream.sendall(struct.pack(">H", 1) + b"H")
@@ -61,7 +63,10 @@ class Client:
         for number in range(300):
             self.send(b"D", [(11, b"A%d" % number), (54, b"1"), (55, b"INTC"), (38, b"300"), (40, b"2"), (44, b"0")])
         for _ in range(4_000):
-            self.send(b"2", [(7, b"1"), (16, b"0")])
+            try:
+                self.send(b"2", [(7, b"1"), (16, b"0")])
+            except OSError:
+                return
 
 
 def main():
@@ -80,9 +85,12 @@ def main():
             time.sleep(seconds)
             for number, market in enumerate(markets, 1):
                 print(f"P{number} heard nothing for {market.longest():.1f} s")
+            silent = max(market.longest() for market in markets)
             gateway.kill()
-        print(errors.read_text(), end="")
+        told = errors.read_text()
+        print(told, end="")
+    return 1 if silent > 3.0 or "C1 link fault 2" not in told else 0
 
 
 if __name__ == "__main__":
-    main()
+    sys.exit(main())

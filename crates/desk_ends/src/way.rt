@@ -32,7 +32,7 @@ impl Model for Way {
 }
 
 impl Way {
-    ghost use Rattle.std.specs.Prelude.{◌≡◌, ◌↔◌, IsTrue, false};
+    ghost use Rattle.std.specs.Prelude.{◌≡◌, ◌≤◌, ◌↔◌, IsTrue, false};
     ghost use mathlib.Core.List.{IsPrefix};
     ghost use Rattle.rtrb.specs.Ring.{sent, known_free, received};
     ghost use Rattle.gate_events.specs.Sources.{unless_empty};
@@ -59,13 +59,13 @@ impl Way {
         self.to
     }
 
-    /// Whether a list would find no room, after a look into the ring where it knew of none. A list for a cut way needs
-    /// no room.
-    pub fn is_full(&mut self) -> bool
+    /// Whether a list would find no room beside so many places that are kept free, after a look into the ring where it
+    /// knew of no more. A list for a cut way needs no room.
+    pub fn is_full(&mut self, kept_free: usize) -> bool
         ensures looked { WayLooked self.old self.new }
-        ensures value { IsTrue result ↔ ((self.new.cut ≡ false) × (self.new.free ≡ 0)) }
+        ensures value { IsTrue result ↔ ((self.new.cut ≡ false) × (self.new.free ≤ kept_free)) }
     {
-        !self.cut && self.producer.is_full()
+        !self.cut && self.producer.cached_slots() <= kept_free && self.producer.slots() <= kept_free
     }
 
     /// A list goes into the ring, unless nothing is in it or the way is cut. Where there is no room for it, the way is

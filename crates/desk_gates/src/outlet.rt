@@ -7,11 +7,11 @@ use std::alloc::{AllocError, Global};
 use std::hash::{BuildHasher, BuildHasherDefault, FoldHasher};
 use std::sync::Wait;
 
-/// How many lists an outlet's ring has room for.
-const PLACES: u32 = 1_024;
+/// So many lists in an outlet's ring hold a client's messages.
+const FULL: u32 = 1_024;
 
-/// The gate of a writer: takes lists through an outlet. Where its ring may have been full it turns the desk once it has
-/// taken as many lists as the ring has room for, since an event may wait for that room. Nothing is put through it.
+/// The gate of a writer: takes lists through an outlet. It turns the desk once it has taken as many lists in a row as
+/// hold a client's messages, since one may wait for that room. Nothing is put through it.
 #[derive(Drop)]
 pub struct OutletGate<'a, K: DeskName, S: BuildHasher + Drop = BuildHasherDefault<FoldHasher>> {
     shared: &'a Shared<K, S>,
@@ -69,9 +69,9 @@ impl<'a, K: DeskName, S: BuildHasher + Drop> Gate for OutletGate<'a, K, S> {
         Some(told.into_outs())
     }
 
-    /// Turns once where as many lists were taken, one after another, as the ring has room for.
+    /// Turns once where as many lists were taken, one after another, as hold a client's messages.
     fn turn<R: Wait>(&mut self, rt: &R, alloc: Global) -> Result<u32, AllocError> {
-        if self.in_a_row < PLACES {
+        if self.in_a_row < FULL {
             return Ok(0);
         }
         self.in_a_row = 0;

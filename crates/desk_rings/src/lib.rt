@@ -7,5 +7,5 @@ mod making;
 mod rings;
 
 pub use handing::{inlets_of, outlets_of};
-pub use making::{RING, event_rings, told_rings};
+pub use making::{EVENTS, LISTS, event_rings, told_rings};
 pub use rings::{EventRing, ToldRing};

@@ -10,8 +10,11 @@ use rtrb::RingBuffer;
 use std::alloc::{AllocError, Global};
 use std::collections::VecDeque;
 
-/// So many items a ring holds.
-pub const RING: usize = 1_024;
+/// So many events the ring of an inlet holds.
+pub const EVENTS: usize = 1_024;
+
+/// So many lists the ring of an outlet holds.
+pub const LISTS: usize = 2_112;
 
 /// A ring for each source, in order, the desk's end of each beside the other.
 pub fn event_rings(
@@ -23,7 +26,7 @@ pub fn event_rings(
     let mut rings = VecDeque::new(alloc);
     let mut seats = Vec::new(alloc);
     for source in sources {
-        let (producer, consumer) = RingBuffer::new(alloc, RING)?;
+        let (producer, consumer) = RingBuffer::new(alloc, EVENTS)?;
         rings.push_back(EventRing {
             source: *source,
             producer,
@@ -43,7 +46,7 @@ pub fn told_rings(
     let mut ways = Vec::new(alloc);
     let mut rings = VecDeque::new(alloc);
     for to in recipients {
-        let (producer, consumer) = RingBuffer::new(alloc, RING)?;
+        let (producer, consumer) = RingBuffer::new(alloc, LISTS)?;
         ways.push(Way::new(*to, producer))?;
         rings.push_back(ToldRing { to: *to, consumer })?;
     }

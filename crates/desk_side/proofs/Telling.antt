@@ -34,23 +34,23 @@ way-stays w = record {
 }
 
 -- a way that isn't full has room, or is cut
-room-by : (v : WayState) (full : Bool) → ((v.cut ≡ false) × (v.free ≡ 0) → full ≡ true) → full ≡ false → (cut : Bool) → v.cut ≡ cut → (v.cut ≡ true) ⊎ (0 < v.free)
-room-by v full is isnt true cut = inl cut
-room-by v full is isnt false cut =
-    elim (eqb_tells v.free 0) [
+room-by : (kept : ℕ) (v : WayState) (full : Bool) → ((v.cut ≡ false) × (v.free ≤ kept) → full ≡ true) → full ≡ false → (cut : Bool) → v.cut ≡ cut → (v.cut ≡ true) ⊎ (kept < v.free)
+room-by kept v full is isnt true cut = inl cut
+room-by kept v full is isnt false cut =
+    elim (leb_tells v.free kept) [
       | inl q ↦ absurd (cc (is (cut, q.1), isnt))
       | inr q ↦ inr (omega (arith, q.1))
     ]
 
-pub has-room : (ways : List WayState) (i d : ℕ) (v w : WayState) (full : Bool) → i < length ways → d ≡ i → slice_get (slice_set ways i v) d ≡ Some w
-    → ((v.cut ≡ false) × (v.free ≡ 0) → full ≡ true) → full ≡ false → (w.cut ≡ true) ⊎ (0 < w.free)
-has-room ways i d v w full inside place at is isnt =
+pub has-room : (kept : ℕ) (ways : List WayState) (i d : ℕ) (v w : WayState) (full : Bool) → i < length ways → d ≡ i → slice_get (slice_set ways i v) d ≡ Some w
+    → ((v.cut ≡ false) × (v.free ≤ kept) → full ≡ true) → full ≡ false → (w.cut ≡ true) ⊎ (kept < w.free)
+has-room kept ways i d v w full inside place at is isnt =
     let same : v ≡ w = get-same (slice_set ways i v) i v w (get-set-same ways i v inside) (rw place at at) in
-    subst (λ (z : WayState). (z.cut ≡ true) ⊎ (0 < z.free)) same (room-by v full is isnt v.cut refl)
+    subst (λ (z : WayState). (z.cut ≡ true) ⊎ (kept < z.free)) same (room-by kept v full is isnt v.cut refl)
 
-keeps-room : (w v : WayState) → WayLooked w v → (w.cut ≡ true) ⊎ (0 < w.free) → (v.cut ≡ true) ⊎ (0 < v.free)
-keeps-room w v l (inl cut) = inl (l.2 ∙ cut)
-keeps-room w v l (inr free) = inr (omega (arith, l.3, free))
+keeps-room : (kept : ℕ) (w v : WayState) → WayLooked w v → (w.cut ≡ true) ⊎ (kept < w.free) → (v.cut ≡ true) ⊎ (kept < v.free)
+keeps-room kept w v l (inl cut) = inl (l.2 ∙ cut)
+keeps-room kept w v l (inr free) = inr (omega (arith, l.3, free))
 
 -- ---- places
 
@@ -126,19 +126,19 @@ aimed-port clients d client port to is h = ap (is_aimed client port) (is ∙ rec
 
 -- ---- room
 
-module _ (clients ports : ℕ) (client port : Option ℕ) (new : List WayState)
+module _ (kept clients ports : ℕ) (client port : Option ℕ) (new : List WayState)
     (names : (d : ℕ) (w : WayState) → slice_get new d ≡ Some w → w.name.to ≡ recipient_at clients d) (count : length new ≡ clients + ports) where
   pub have-room : (mid : List WayState) → WaysLooked mid new
-      → ((d : ℕ) (w : WayState) → client_place clients client ≡ Some d → slice_get mid d ≡ Some w → (w.cut ≡ true) ⊎ (0 < w.free))
-      → ((d : ℕ) (w : WayState) → port_place clients ports port ≡ Some d → slice_get new d ≡ Some w → (w.cut ≡ true) ⊎ (0 < w.free))
-      → HaveRoom client port new
+      → ((d : ℕ) (w : WayState) → client_place clients client ≡ Some d → slice_get mid d ≡ Some w → (w.cut ≡ true) ⊎ (kept < w.free))
+      → ((d : ℕ) (w : WayState) → port_place clients ports port ≡ Some d → slice_get new d ≡ Some w → (w.cut ≡ true) ⊎ (kept < w.free))
+      → HaveRoom kept client port new
   have-room mid looked first second d w at aim =
       elim (leb_tells (suc d) clients) [
         | inl q ↦ (
             let inside : d < clients = omega (arith, q.1) in
             let is : client ≡ Some (d + 1) = number-was (d + 1) client (sym (aimed-client clients d client port w.name.to (names d w at) inside) ∙ aim) in
             let v = come-to WayLooked mid new looked.count looked.each d w at in
-            keeps-room v.0 w v.2 (first d v.0 (client-place-is clients d client inside is) v.1)
+            keeps-room kept v.0 w v.2 (first d v.0 (client-place-is clients d client inside is) v.1)
             )
         | inr q ↦ (
             let behind : clients ≤ d = omega (arith, q.1) in
@@ -148,12 +148,12 @@ module _ (clients ports : ℕ) (client port : Option ℕ) (new : List WayState)
             )
       ]
 
-  pub client-held : (d : ℕ) (w : WayState) → client_place clients client ≡ Some d → slice_get new d ≡ Some w → w.cut ≡ false → w.free ≡ 0 → IsHeld client port new
+  pub client-held : (d : ℕ) (w : WayState) → client_place clients client ≡ Some d → slice_get new d ≡ Some w → w.cut ≡ false → w.free ≤ kept → IsHeld kept client port new
   client-held d w place at cut free =
       let was = client-place-was clients d client place in
       (d, w, at, aimed-client clients d client port w.name.to (names d w at) was.1 ∙ number-is (d + 1) client was.0, cut, free)
 
-  pub port-held : (d : ℕ) (w : WayState) → port_place clients ports port ≡ Some d → slice_get new d ≡ Some w → w.cut ≡ false → w.free ≡ 0 → IsHeld client port new
+  pub port-held : (d : ℕ) (w : WayState) → port_place clients ports port ≡ Some d → slice_get new d ≡ Some w → w.cut ≡ false → w.free ≤ kept → IsHeld kept client port new
   port-held d w place at cut free =
       let was = port-place-was clients ports d port place in
       (d, w, at, aimed-port clients d client port w.name.to (names d w at) was.1 ∙ number-is ((d - clients) + 1) port was.0, cut, free)

@@ -1,5 +1,5 @@
 -- What contracts see of the desk's side of its rings, and what its calls make of it. (Own.)
-use Rattle.std.specs.Prelude.{◌≡◌, ◌≢◌, ℕ, ◌+◌, ◌<◌, ◌⊎◌, Bool, true, false, Option, Some, slice_get, length, List}
+use Rattle.std.specs.Prelude.{◌≡◌, ◌≢◌, ℕ, ◌+◌, ◌<◌, ◌≤◌, ◌⊎◌, Bool, true, false, Option, Some, slice_get, length, List}
 use Rattle.gate_events.specs.Sources.{unless_empty}
 use Rattle.desk_ends.specs.Seats.{SeatState, WayState, WaySent}
 use Rattle.desk_side.specs.declared.said.Said.{Said}
@@ -32,12 +32,12 @@ pub record Tells (said : Said) (old new : List WayState) : Type 0 where
   pub each : (d : ℕ) (w : WayState) → slice_get old d ≡ Some w
       → (v : WayState) × (slice_get new d ≡ Some v) × WaySent (unless_empty (said_to w.name.to said)) w v
 
--- the ways of this client and of this port know of room, or are cut
-abbrev pub HaveRoom : Option ℕ → Option ℕ → List WayState → Type 0
-HaveRoom client port ways = (d : ℕ) (w : WayState) → slice_get ways d ≡ Some w → is_aimed client port w.name.to ≡ true
-    → (w.cut ≡ true) ⊎ (0 < w.free)
+-- the ways of this client and of this port know of room beside so many places that are kept free, or are cut
+abbrev pub HaveRoom : ℕ → Option ℕ → Option ℕ → List WayState → Type 0
+HaveRoom kept_free client port ways = (d : ℕ) (w : WayState) → slice_get ways d ≡ Some w
+    → is_aimed client port w.name.to ≡ true → (w.cut ≡ true) ⊎ (kept_free < w.free)
 
 -- one of them isn't cut and knows of none
-abbrev pub IsHeld : Option ℕ → Option ℕ → List WayState → Type 0
-IsHeld client port ways = (d : ℕ) × (w : WayState) × (slice_get ways d ≡ Some w) × (is_aimed client port w.name.to ≡ true)
-    × (w.cut ≡ false) × (w.free ≡ 0)
+abbrev pub IsHeld : ℕ → Option ℕ → Option ℕ → List WayState → Type 0
+IsHeld kept_free client port ways = (d : ℕ) × (w : WayState) × (slice_get ways d ≡ Some w)
+    × (is_aimed client port w.name.to ≡ true) × (w.cut ≡ false) × (w.free ≤ kept_free)

@@ -118,20 +118,21 @@ impl Side {
         pop_at(&mut self.seats, place)
     }
 
-    /// Whether lists for this client and for this port would find room, after a look. A list for a cut way needs none.
-    pub fn has_room(&mut self, client: Option<u16>, port: Option<u16>) -> bool
+    /// Whether lists for this client and for this port would find room beside so many places that are kept free, after
+    /// a look. A list for a cut way needs none.
+    pub fn has_room(&mut self, client: Option<u16>, port: Option<u16>, kept_free: usize) -> bool
         ensures seats { self.new.seats ≡ self.old.seats }
         ensures ways { WaysLooked self.old.ways self.new.ways }
         ensures counts { (self.new.clients ≡ self.old.clients) × (self.new.ports ≡ self.old.ports) }
-        ensures room { result ≡ true → HaveRoom client port self.new.ways }
-        ensures full { result ≡ false → IsHeld client port self.new.ways }
+        ensures room { result ≡ true → HaveRoom kept_free client port self.new.ways }
+        ensures full { result ≡ false → IsHeld kept_free client port self.new.ways }
     {
         let client = place_of_client(self.clients, client);
         let port = place_of_port(self.clients, self.ports, port);
-        if is_full_at(&mut self.ways, client) {
+        if is_full_at(&mut self.ways, client, kept_free) {
             return false;
         }
-        !is_full_at(&mut self.ways, port)
+        !is_full_at(&mut self.ways, port, kept_free)
     }
 
     /// What was said goes into the rings of those whom it is for. Where there is no room for it, the way is cut.

@@ -1,6 +1,6 @@
 //! Calls on the seat or the way at a place.
 
-ghost use Rattle.std.specs.Prelude.{◌≡◌, ◌<◌, ◌⊎◌, ℕ, true, false, Some, None, length, slice_get, IfSome};
+ghost use Rattle.std.specs.Prelude.{◌≡◌, ◌<◌, ◌≤◌, ◌⊎◌, ℕ, true, false, Some, None, length, slice_get, IfSome};
 ghost use Rattle.gate_events.specs.Sources.{unless_empty};
 ghost use Rattle.desk_ends.specs.Seats.{SeatState, SeatGave, SeatLooked, WayState, WaySent, WaysLooked};
 ghost use Rattle.desk_side.specs.Side.{ChangesAt};
@@ -27,19 +27,20 @@ pub(crate) fn pop_at(seats: &mut Vec<Seat>, place: usize) -> Event
     seats[place].pop()
 }
 
-/// Whether the way at this place, if there is one, isn't cut and knows of no room, after a look.
-pub(crate) fn is_full_at(ways: &mut Vec<Way>, place: Option<usize>) -> bool
+/// Whether the way at this place, if there is one, isn't cut and knows of no room beside so many places that are kept
+/// free, after a look.
+pub(crate) fn is_full_at(ways: &mut Vec<Way>, place: Option<usize>, kept_free: usize) -> bool
     requires inside { IfSome place (λ d. d < length ways.old.items) }
     ensures looked { WaysLooked ways.old.items ways.new.items }
     ensures full { result ≡ true → (d : ℕ) × (w : WayState) × (place ≡ Some d) × (slice_get ways.new.items d ≡ Some w)
-        × (w.cut ≡ false) × (w.free ≡ 0) }
+        × (w.cut ≡ false) × (w.free ≤ kept_free) }
     ensures room { result ≡ false → (d : ℕ) (w : WayState) → place ≡ Some d → slice_get ways.new.items d ≡ Some w
-        → (w.cut ≡ true) ⊎ (0 < w.free) }
+        → (w.cut ≡ true) ⊎ (kept_free < w.free) }
 {
     let Some(place) = place else {
         return false;
     };
-    ways[place].is_full()
+    ways[place].is_full(kept_free)
 }
 
 /// A list goes into the ring of the way at this place, if there is one.

@@ -1,5 +1,5 @@
 -- A step that is made where there is room cuts no way.
-use Rattle.std.proofs.Common.{◌≡◌, ℕ, ◌<◌, Bool, true, false, List, [], ◌∷◌, Option, Some, None, slice_get, refl, ap, sym, ◌∙◌, subst, inl, inr, ◌⊎◌}
+use Rattle.std.proofs.Common.{◌≡◌, ℕ, ◌<◌, Bool, true, false, List, [], ◌∷◌, Option, Some, None, slice_get, refl, ap, sym, ◌∙◌, subst, inl, inr, ◌⊎◌, arith}
 use Rattle.gate_law.specs.Events as law
 use Rattle.gate_law.specs.Events.{is_the_number}
 use Rattle.gate_law.specs.Holds.{Holds}
@@ -37,25 +37,25 @@ stays-cut : (lists : _) (w v : WayState) → WaySent lists w v → w.cut ≡ tru
 stays-cut lists w v sent cut true is = is ∙ sym cut
 stays-cut lists w v sent cut false is = absurd (cc (cut, (sent.whole is).0))
 
-way-stays : (said : Said) (client port : Option ℕ) (b : law.Batch) (w v : WayState) → IsSaid b said → IsAmong b.client client → IsAmong b.port port
-    → (is_aimed client port w.name.to ≡ true → (w.cut ≡ true) ⊎ (0 < w.free))
+way-stays : (kept : ℕ) (said : Said) (client port : Option ℕ) (b : law.Batch) (w v : WayState) → IsSaid b said → IsAmong b.client client → IsAmong b.port port
+    → (is_aimed client port w.name.to ≡ true → (w.cut ≡ true) ⊎ (kept < w.free))
     → WaySent (unless_empty (said_to w.name.to said)) w v
     → (aimed : Bool) → is_aimed client port w.name.to ≡ aimed → v.cut ≡ w.cut
-way-stays said client port b w v is one two room sent true aim =
+way-stays kept said client port b w v is one two room sent true aim =
     elim (room aim) [
       | inl cut ↦ stays-cut (unless_empty (said_to w.name.to said)) w v sent cut v.cut refl
-      | inr free ↦ sent.stays (inl free)
+      | inr free ↦ sent.stays (inl (omega (arith, free)))
     ]
-way-stays said client port b w v is one two room sent false aim = sent.stays (inr (ap unless_empty (not-aimed w.name.to client port b said is one two aim)))
+way-stays kept said client port b w v is one two room sent false aim = sent.stays (inr (ap unless_empty (not-aimed w.name.to client port b said is one two aim)))
 
 first-is : (a b : SeatState) (e f : Event) → SeatGave e a b → slice_get a.known 0 ≡ Some f → e ≡ f
 first-is a b e f g first = cc (rw (g.2) at first)
 
-pub cuts-none : (k : ℕ) (s t : DeskState) (x : Steps k s t) (client port : Option ℕ) (f : Event)
+pub cuts-none : (kept k : ℕ) (s t : DeskState) (x : Steps k s t) (client port : Option ℕ) (f : Event)
     → ((a : SeatState) → slice_get s.side.seats k ≡ Some a → slice_get a.known 0 ≡ Some f)
     → ((b : law.Batch) → Holds s.recorded.settings (record { event = event_seen f; batch = b } ∷ turns s.recorded.kept) → IsAmong b.client client × IsAmong b.port port)
-    → HaveRoom client port s.side.ways → SameCuts s.side.ways t.side.ways
-cuts-none k s t x client port f front named room d w v was now =
+    → HaveRoom kept client port s.side.ways → SameCuts s.side.ways t.side.ways
+cuts-none kept k s t x client port f front named room d w v was now =
     let seat = x.seats.there x.seat x.there in
     let same : x.event ≡ f = first-is x.seat seat.0 x.event f seat.2 (front x.seat x.there) in
     let holds : Holds s.recorded.settings (record { event = event_seen f; batch = batch_seen x.step.batch } ∷ turns s.recorded.kept) =
@@ -63,4 +63,4 @@ cuts-none k s t x client port f front named room d w v was now =
     let among = named (batch_seen x.step.batch) holds in
     let r = x.ways.each d w was in
     let sent = subst (WaySent (unless_empty (said_to w.name.to x.said)) w) (get-same t.side.ways d r.0 v r.1 now) r.2 in
-    way-stays x.said client port (batch_seen x.step.batch) w v x.step.says among.0 among.1 (λ aim. room d w was aim) sent (is_aimed client port w.name.to) refl
+    way-stays kept x.said client port (batch_seen x.step.batch) w v x.step.says among.0 among.1 (λ aim. room d w was aim) sent (is_aimed client port w.name.to) refl

@@ -11,6 +11,7 @@ use Rattle.desk_ends.specs.Seats.{SeatState, SeatGave, SeatLooked, WayState, Way
 use Rattle.desk_ends.proofs.Naming.{ways-stay}
 use Rattle.desk_ends.proofs.Places.{get-inside, get-same}
 use Rattle.desk_side.specs.declared.said.Said.{Said}
+use Rattle.desk_steps.specs.KeptFree.{kept_free}
 use Rattle.desk_side.specs.Side.{ChangesAt, IsHeld, SideState, Tells}
 use Rattle.desk_side.proofs.Moves.{ways-twice}
 use Rattle.desk_steps.specs.Recorded.{IsStep, Recorded}
@@ -99,12 +100,12 @@ dropped k recorded one two e popped source inside first is isnt pops ways counts
     }
 
 -- the first event of a ring waits
-pub waits : (k : ℕ) (recorded : Recorded) (side : SideState) (e : Event) (source : Source) (client port : _) → k < length side.seats
+pub waits : (k : ℕ) (recorded : Recorded) (side : SideState) (e : Event) (source : Source) (client port : _) (kept : ℕ) → k < length side.seats
     → At k side.seats (IsFirst e) → At k side.seats (λ a. a.name.source ≡ source) → is_from source e ≡ true
     → client ≡ client_for recorded.settings (event_seen e) (lists recorded.settings (turns recorded.kept))
-    → port ≡ port_for recorded.settings (event_seen e) → IsHeld client port side.ways
+    → port ≡ port_for recorded.settings (event_seen e) → kept ≡ kept_free (event_seen e) → IsHeld kept client port side.ways
     → Waits k (record { recorded = recorded; side = side })
-waits k recorded side e source client port inside first is mine clients ports held =
+waits k recorded side e source client port kept inside first is mine clients ports frees held =
     let a = get-inside side.seats k inside in
     record {
       event = e;
@@ -112,7 +113,7 @@ waits k recorded side e source client port inside first is mine clients ports he
       there = a.1;
       first = first a.0 a.1;
       own = subst (λ (z : Source). is_from z e ≡ true) (sym (is a.0 a.1)) mine;
-      held = rw (← clients, ← ports) held;
+      held = rw (← clients, ← ports, ← frees) held;
     }
 
 -- a look into a ring

@@ -1,5 +1,6 @@
 pub mod Recorded
 pub mod Agreeing
+pub mod KeptFree
 pub mod Turning
 pub mod Settling
 pub use Rattle.gate_core.specs.Core

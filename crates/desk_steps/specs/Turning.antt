@@ -11,6 +11,7 @@ use Rattle.desk_ends.specs.Seats.{SeatState, SeatGave, SeatLooked, WayState, Way
 use Rattle.desk_side.specs.declared.said.Said.{Said}
 use Rattle.desk_side.specs.Side.{ChangesAt, IsHeld, SideState, Tells}
 use Rattle.desk_steps.specs.Agreeing.{DeskState}
+use Rattle.desk_steps.specs.KeptFree.{kept_free}
 use Rattle.desk_steps.specs.Settling.{KnowsNone}
 use Rattle.desk_steps.specs.declared.turned.Did.{Did}
 use Rattle.desk_steps.specs.declared.turned.Did.TheVariants.{Idle, Dropped, Held, Stepped}
@@ -52,15 +53,15 @@ pub record Drops (k : ℕ) (s t : DeskState) : Type 0 where
   pub ways : t.side.ways ≡ s.side.ways
   pub counts : SameCounts s.side t.side
 
--- The first event of an inlet's ring, of the inlet's source, waits: the ring of somebody is full to whom its batch may
--- tell something.
+-- The first event of an inlet's ring, of the inlet's source, waits: in the ring of somebody to whom its batch may tell
+-- something are no more places than it leaves free.
 pub record Waits (k : ℕ) (s : DeskState) : Type 0 where
   pub event : Event
   pub seat : SeatState
   pub there : slice_get s.side.seats k ≡ Some seat
   pub first : slice_get seat.known 0 ≡ Some event
   pub own : is_from seat.name.source event ≡ true
-  pub held : IsHeld
+  pub held : IsHeld (kept_free (event_seen event))
       (client_for s.recorded.settings (event_seen event) (lists s.recorded.settings (turns s.recorded.kept)))
       (port_for s.recorded.settings (event_seen event)) s.side.ways
 

@@ -5,6 +5,7 @@
 #![tactic(auto)]
 
 mod closing;
+mod keeping_free;
 mod recorded;
 mod turned;
 mod turning;

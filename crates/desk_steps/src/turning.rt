@@ -6,6 +6,7 @@ ghost use Rattle.gate_events.specs.declared.event.Event.{Event};
 ghost use Rattle.desk_ends.specs.Seats.{SeatState};
 ghost use Rattle.desk_steps.specs.Turning.{Does, IsRefused, Looks, Rounds, Steps};
 
+use crate::keeping_free::places_kept_free;
 use crate::recorded::RecordedCore;
 use crate::turned::{Did, Turned};
 use desk_side::Side;
@@ -56,7 +57,8 @@ pub(crate) fn turn_at<S: BuildHasher + Drop>(
         return Ok(Did::Dropped);
     }
     let targets = recorded.targets(event);
-    if !side.has_room(targets.client, targets.port) {
+    let kept_free = places_kept_free(event);
+    if !side.has_room(targets.client, targets.port, kept_free) {
         return Ok(Did::Held);
     }
     step_front(recorded, side, alloc, place)?;

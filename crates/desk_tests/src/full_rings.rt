@@ -104,6 +104,28 @@ fn step_after_take<K: DeskName, R: Wait + Abort>(
     Ok(())
 }
 
+/// Behind a client that takes nothing its own messages wait, and time goes on.
+#[test]
+fn time_goes_on(rt: HostRuntime) -> Result<(), Fail> {
+    let alloc = rt.alloc();
+    let parts = Parts::new(alloc, fixed_settings(alloc)?)?;
+    goes_on::<Brand, _>(&rt, alloc, parts)
+}
+
+fn goes_on<K: DeskName, R: Wait + Abort>(rt: &R, alloc: Global, parts: Parts) -> Result<(), Fail>
+    requires named { (parts.inlets ≡ K.inlets) × (parts.outlets ≡ K.outlets) }
+{
+    let (shared, mut inlets, _outlets) = open_desk::<K, _>(alloc, parts)?;
+    let mut clock = inlets.pop().ok_or("an inlet")?;
+    let client = inlets.get_mut(0).ok_or("an inlet")?;
+    fill_outlet(rt, alloc, &shared, client)?;
+    for _ in 0..3 {
+        assert!(rt; put(&mut clock, tick()));
+        assert_eq!(rt; shared.turn(rt, alloc)?, Turned { steps: 1, held: 1 });
+    }
+    Ok(())
+}
+
 /// The history has all that was put, each event of the first client.
 fn look_at<R: Abort>(rt: &R, history: &History) -> Result<(), Fail> {
     assert_eq!(rt; history.events().len(), 1_026);

@@ -1,6 +1,8 @@
 -- Links that are read and written one after another, and lines from what their halves have done.
-use Rattle.std.proofs.Common.{◌≡◌, ⊎_elim, ℕ, ◌+◌, ◌≤◌, Bool, true, false, List, [], ◌∷◌, length, Option, Result, refl, sym, ap, ◌∙◌, subst, arith}
+use Rattle.std.proofs.Common.{◌≡◌, ⊎_elim, ℕ, ◌+◌, ◌≤◌, Bool, true, false, List, [], ◌∷◌, ◌++◌, append_assoc, length, Option, Result, refl, sym, ap, ◌∙◌, subst, arith}
 use Rattle.std.specs.List.{All, AllZip}
+use Rattle.std.proofs.lemmas.List.{append-nil}
+use mathlib.Core.List.{IsPrefix}
 use Rattle.std.proofs.lemmas.Bool.{false≢true}
 use Rattle.std.proofs.lemmas.List.Elements.{All-head, All-tail}
 use Rattle.gate_law.specs.Events.{Event, LinkOut}
@@ -65,6 +67,17 @@ module _ (reads : ℕ → Result Unit LinkFault → List Event → List Event �
 
 -- ---- links that are written
 
+pub prefix-same : {A : Type 0} (xs : List A) → IsPrefix xs xs
+prefix-same xs = ([], append-nil xs)
+
+pub prefix-trans : {A : Type 0} (xs ys zs : List A) → IsPrefix xs ys → IsPrefix ys zs → IsPrefix xs zs
+prefix-trans xs ys zs p q = (p.0 ++ q.0, sym (append_assoc xs p.0 q.0) ∙ (ap (λ w. w ++ q.0) p.1 ∙ q.1))
+
+-- what is taken behind the last link is let go
+let_go_more : (ends : List (Result WriterEnd LinkFault)) (x y z : List (List LinkOut)) → LinksWritten ends x y → IsPrefix y z → (length ends ≡ 0 → z ≡ y) → LinksWritten ends x z
+let_go_more [] x y z h more first = first refl ∙ h
+let_go_more (end ∷ before) x y z h more first = (h.0, h.1, h.2, h.3, prefix-trans h.1 y z h.4 more)
+
 pub record WrittenSoFar (count : ℕ) (taken_old taken_new : List (List LinkOut)) : Type 0 where
   pub ends : List (Result WriterEnd LinkFault)
   pub takes : LinksWritten ends taken_old taken_new
@@ -73,15 +86,15 @@ pub record WrittenSoFar (count : ℕ) (taken_old taken_new : List (List LinkOut)
 pub none_written : (x : List (List LinkOut)) → WrittenSoFar 0 x x
 none_written x = record { ends = []; takes = refl; numbers = refl }
 
-pub one_written : (count : ℕ) (end : Result WriterEnd LinkFault) (x y z : List (List LinkOut)) → WrittenSoFar count x y → OfAStream (WritesLink (count + 1) end y z) → WrittenSoFar (count + 1) x z
-one_written count end x y z h one = record {
+pub one_written : (count : ℕ) (end : Result WriterEnd LinkFault) (w x y z : List (List LinkOut)) → WrittenSoFar count w x → IsPrefix x y → (count ≡ 0 → y ≡ x) → OfAStream (WritesLink (count + 1) end y z) → WrittenSoFar (count + 1) w z
+one_written count end w x y z h more first one = record {
   ends = end ∷ h.ends;
-  takes = (y, h.takes, subst (λ (n : ℕ). OfAStream (WritesLink (n + 1) end y z)) h.numbers one);
+  takes = (y, z, let_go_more h.ends w x y h.takes more (λ e. first (h.numbers ∙ e)), subst (λ (n : ℕ). OfAStream (WritesLink (n + 1) end y z)) h.numbers one, prefix-same z);
   numbers = omega (arith, h.numbers);
 }
 
-pub all_written : (count : ℕ) (x y : List (List LinkOut)) → WrittenSoFar count x y → LineWritten x y
-all_written count x y h = (h.ends, h.takes)
+pub all_written : (count : ℕ) (w x y : List (List LinkOut)) → WrittenSoFar count w x → IsPrefix x y → (count ≡ 0 → y ≡ x) → LineWritten w y
+all_written count w x y h more first = (h.ends, let_go_more h.ends w x y h.takes more (λ e. first (h.numbers ∙ e)))
 
 -- ---- a line and its halves
 

@@ -1,5 +1,6 @@
 -- What the two workers of a line's links have put and taken when the links are over.
 use Rattle.std.specs.Prelude.{◌≡◌, ◌⊎◌, ℕ, ◌≤◌, ◌+◌, Bool, true, List, [], ◌∷◌, length, Option, Result}
+use mathlib.Core.List.{IsPrefix}
 use Rattle.gate_law.specs.Events.{Event, LinkOut}
 use Rattle.link_io.specs.declared.link_fault.LinkFault.{LinkFault}
 use Rattle.gate_workers.specs.declared.writer.WriterEnd.{WriterEnd}
@@ -21,13 +22,14 @@ LinksRead reads (end ∷ before) put_old put_new =
     (between : List Event) × LinksRead reads before put_old between
     × OfAStream (reads (length before + 1) end between put_new)
 
--- Links of a line that were written one after the other, likewise: what was taken for each, in order, and nothing else.
+-- Links of a line that were written one after the other, likewise: what was taken for each, in order. What was taken
+-- between two links, and behind the last, was let go.
 abbrev pub LinksWritten : (ends : List (Result WriterEnd LinkFault)) → (taken_old taken_new : List (List LinkOut))
     → Type 0
 LinksWritten [] taken_old taken_new = taken_new ≡ taken_old
 LinksWritten (end ∷ before) taken_old taken_new =
-    (between : List (List LinkOut)) × LinksWritten before taken_old between
-    × OfAStream (WritesLink (length before + 1) end between taken_new)
+    (between over : List (List LinkOut)) × LinksWritten before taken_old between
+    × OfAStream (WritesLink (length before + 1) end between over) × IsPrefix over taken_new
 
 -- What a line's reader has done: links were read, none that wasn't opened. Where all are over, each that was opened was
 -- read, and no further one comes.

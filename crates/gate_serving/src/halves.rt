@@ -1,6 +1,7 @@
 //! The two halves of a line: what its links are opened and read with, and what they are written with.
 
 ghost use Rattle.std.specs.Prelude.{◌≡◌, ◌≤◌, ◌<◌, true, IfNone, IfSome};
+ghost use mathlib.Core.List.{IsPrefix};
 ghost use Rattle.gate_serving.specs.Halves.{ReadsDid, WritesDid};
 ghost use Rattle.gate_serving.specs.Lines.{LineRead, LineWritten, OfAStream};
 ghost use Rattle.gate_workers.specs.WritersWork.{WritesLink};
@@ -9,7 +10,7 @@ use crate::job::Job;
 use crate::line::Worker;
 use crate::opener::{Closer, LinkEnd, Opened, Opener};
 use crate::peer::Peer;
-use crate::slot::{Given, Slot};
+use crate::slot::{Given, Next, Slot};
 use gate_workers::{Clock, Gate, LinkFault, WriterEnd};
 use std::alloc::Global;
 use std::io::{Read, Write};
@@ -217,7 +218,8 @@ where
     }
 }
 
-/// Writes links, numbered from 1 as they come, until no further one does.
+/// Writes links, numbered from 1 as they come, until no further one does. What is told between two of them is for links
+/// that are over: it is taken, and let go.
 fn write_links<R: Wait, P, H, D, W, K>(
     rt: &R,
     alloc: Global,
@@ -238,7 +240,7 @@ where
     ensures none_put { H.was_put gate.new ≡ H.was_put gate.old }
 {
     for before in 0..u64::MAX {
-        let Some(given) = slot.next(rt, flag) else {
+        let Some(given) = next_link(rt, alloc, flag, before, slot, gate) else {
             return;
         };
         let end = write_link(
@@ -253,6 +255,50 @@ where
             slot.stop(),
         );
         slot.end(rt, end);
+    }
+}
+
+/// The link behind so many, once there is one; `None` where none comes. Until then what is told links that are over is
+/// taken, so that no event waits for one of them.
+fn next_link<R: Wait, H: Gate, W: Drop, K: Drop>(
+    rt: &R,
+    alloc: Global,
+    flag: &AtomicBool,
+    before: u64,
+    slot: &Slot<W, K>,
+    gate: &mut H,
+) -> Option<Given<W, K>>
+    ensures taken { IsPrefix (H.was_taken gate.old) (H.was_taken gate.new) }
+    ensures first { before ≡ 0 → H.was_taken gate.new ≡ H.was_taken gate.old }
+    ensures none_put { H.was_put gate.new ≡ H.was_put gate.old }
+{
+    for _ in rt.forever() {
+        match slot.next(rt, flag) {
+            Next::Link(given) => return Some(given),
+            Next::Over => return None,
+            Next::NotYet => {
+                if before != 0 {
+                    let_go(rt, alloc, gate);
+                }
+            }
+        }
+    }
+    unreachable!()
+}
+
+/// How many lists are let go at most before the writer looks for a link again.
+const LET_GO: u32 = 4_096;
+
+/// Takes what lies there, and has the core stepped where its ring may have been full.
+fn let_go<R: Wait, H: Gate>(rt: &R, alloc: Global, gate: &mut H)
+    ensures taken { IsPrefix (H.was_taken gate.old) (H.was_taken gate.new) }
+    ensures none_put { H.was_put gate.new ≡ H.was_put gate.old }
+{
+    for _ in 0..LET_GO {
+        if gate.take().is_none() {
+            return;
+        }
+        let _ = gate.turn(rt, alloc);
     }
 }
 

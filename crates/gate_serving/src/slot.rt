@@ -19,6 +19,16 @@ pub(crate) struct Given<W, K> {
     pub(crate) closer: K,
 }
 
+/// What a line's writer finds between two links.
+#[derive(Drop)]
+pub(crate) enum Next<W, K> {
+    Link(Given<W, K>),
+    /// No link, for a moment.
+    NotYet,
+    /// No further link comes.
+    Over,
+}
+
 /// What lies between the two threads of a line.
 #[derive(Drop)]
 enum State<W, K> {
@@ -131,19 +141,19 @@ impl<W: Drop, K: Drop> Slot<W, K> {
         self.writer.unpark();
     }
 
-    /// The next link, once there is one; `None` where none comes, or `halt` is set and none lies there.
-    pub(crate) fn next<R: Wait>(&self, rt: &R, halt: &AtomicBool) -> Option<Given<W, K>> {
-        for _ in rt.forever() {
-            match self.take(rt, halt) {
-                State::Given(given) => {
-                    self.reader.unpark();
-                    return Some(given);
-                }
-                State::Over => return None,
-                _ => self.writer.park_timeout(rt, longest_nap()),
+    /// The link that lies there; it naps where none does. None comes any more once `halt` is set and none lies there.
+    pub(crate) fn next<R: Wait>(&self, rt: &R, halt: &AtomicBool) -> Next<W, K> {
+        match self.take(rt, halt) {
+            State::Given(given) => {
+                self.reader.unpark();
+                Next::Link(given)
+            }
+            State::Over => Next::Over,
+            _ => {
+                self.writer.park_timeout(rt, longest_nap());
+                Next::NotYet
             }
         }
-        unreachable!()
     }
 
     /// The link that lies there, `Over` where none comes, or else `Empty`.

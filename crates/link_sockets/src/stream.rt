@@ -12,9 +12,10 @@ fn longest_read() -> Duration {
     Duration::from_millis(250)
 }
 
-/// How long a write waits for a peer that doesn't read. Then it fails.
+/// How long a write waits for a peer that doesn't read. Then it ends, with the bytes that went out, and fails where none
+/// did.
 fn longest_write() -> Duration {
-    Duration::from_secs(10)
+    Duration::from_secs(5)
 }
 
 /// How often, and how long each time, a closer looks whether the peer has closed too.
@@ -49,7 +50,7 @@ impl<'a> Read for SocketReader<'a> {
     }
 }
 
-/// Writes a stream. A write fails where the peer reads nothing for ten seconds.
+/// Writes a stream. A write fails where the peer reads nothing for five seconds.
 #[derive(Drop)]
 pub struct SocketWriter {
     stream: TcpStream,

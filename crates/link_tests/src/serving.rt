@@ -21,8 +21,8 @@ const HEARTBEAT: &[u8; 26] = b"8=FIX.4.4\x019=5\x0135=0\x0110=163\x01";
 /// How often a gate pauses for another before the test has failed.
 const PAUSES: u32 = 10_000;
 
-/// A gate that doesn't return from its put of this number, from 1, until a flag is set, and sets one as a list is
-/// taken.
+/// A gate that doesn't return from its put of this number, from 1, until a flag is set, and sets one as the last list
+/// is taken.
 #[derive(Drop)]
 struct Waiting<'a, R> {
     rt: &'a R,
@@ -30,7 +30,7 @@ struct Waiting<'a, R> {
     /// The put that waits, and for what.
     waits_at: u32,
     goes_on: &'a AtomicBool,
-    /// What a taken list sets.
+    /// What the last list sets as it is taken.
     is_taken: &'a AtomicBool,
     /// What the last pause sets.
     is_failed: &'a AtomicBool,
@@ -67,7 +67,9 @@ impl<'a, R: time::Clock> Gate for Waiting<'a, R> {
 
     fn take(&mut self) -> Option<Vec<LinkOut>> {
         let list = self.kept.take()?;
-        self.is_taken.store(true, Ordering::SeqCst);
+        if self.kept.lists.is_empty() {
+            self.is_taken.store(true, Ordering::SeqCst);
+        }
         Some(list)
     }
 
@@ -458,6 +460,36 @@ fn closed_link<'a, R: Threads + Wait + time::Clock + Abort + Sync>(
         return Err(Fail::new("not served"));
     };
     look_at_closed(rt, lines.as_slice(), seen)
+}
+
+/// A client's link is closed, and it is told two heartbeats more. It isn't gone before the last one is taken.
+#[test]
+fn what_a_link_that_is_over_is_told_is_let_go(rt: HostRuntime) -> Result<(), Fail> {
+    let seen = Seen::new();
+    told_too_late(&rt, rt.alloc(), &seen)
+}
+
+fn told_too_late<'a, R: Threads + Wait + time::Clock + Abort + Sync>(
+    rt: &'a R,
+    alloc: Global,
+    seen: &'a Seen,
+) -> Result<(), Fail> {
+    let links = links_of(alloc, HEARTBEAT.as_slice(), 1, 0, seen);
+    let reader = reading_gate(rt, alloc, seen, 3, &seen.first);
+    let mut writer = writing_gate(rt, alloc, seen, heartbeat(alloc)?, &seen.first)?;
+    writer.kept.lists.push(vec![in alloc; heartbeat(alloc)?]?)?;
+    writer
+        .kept
+        .lists
+        .push(vec![in alloc; LinkOut::Close { link: 1 }]?)?;
+    let line = line_of(rt, ClientNumber::new(1), links, reader, writer);
+    let Ok(lines) = serve(rt, alloc, vec![in alloc; line]?) else {
+        return Err(Fail::new("not served"));
+    };
+    look_at_closed(rt, lines.as_slice(), seen)?;
+    assert!(rt; !seen.is_failed.load(Ordering::SeqCst));
+    assert_eq!(rt; seen.bytes.load(Ordering::SeqCst), 0);
+    Ok(())
 }
 
 /// The one link was closed, and shut down once.

@@ -23,4 +23,4 @@ returns-clause-full c so =
 pub returns-clause-room : goal.returns-clause-room
 returns-clause-room c isnt d w is at =
     let inside : c.in-Some.place < length c.args.ways.now.items = rw c.in-Some.is at c.requires.inside in
-    has-room c.args.ways.now.items c.in-Some.place d c.is_full.new.self w c.is_full.result inside (cc (is, c.in-Some.is)) at c.is_full.ensures.value.1 isnt
+    has-room c.args.kept_free c.args.ways.now.items c.in-Some.place d c.is_full.new.self w c.is_full.result inside (cc (is, c.in-Some.is)) at c.is_full.ensures.value.1 isnt

@@ -22,11 +22,11 @@ pub returns-then-not-has_room-clause-ok : goal.returns-then-not-has_room-clause-
 returns-then-not-has_room-clause-ok g c =
     let looks = looked-in c.args.place c.args.recorded.now c.args.side.now c.is_empty.new.self c.is_empty.ensures.seats c.is_empty.ensures.ways c.is_empty.ensures.counts in (
       looked-out c.args.place c.args.recorded.now c.args.side.now c.is_empty.new.self c.has_room.new.self looks c.has_room.ensures.seats c.has_room.ensures.ways c.has_room.ensures.counts,
-      waits c.args.place c.args.recorded.now c.has_room.new.self c.front-event.result.now c.source.result c.targets-targets.result.client c.targets-targets.result.port
+      waits c.args.place c.args.recorded.now c.has_room.new.self c.front-event.result.now c.source.result c.targets-targets.result.client c.targets-targets.result.port c.places_kept_free-kept_free.result
           (omega (arith, c.requires.inside, c.is_empty.ensures.seats.count, ap length c.has_room.ensures.seats))
           (at-same c.args.place (IsFirst c.front-event.result.now) c.is_empty.new.self.seats c.has_room.new.self.seats c.has_room.ensures.seats c.front-event.ensures)
           (at-same c.args.place (λ a. a.name.source ≡ c.source.result) c.is_empty.new.self.seats c.has_room.new.self.seats c.has_room.ensures.seats c.source.ensures)
-          (sym c.is_from.ensures ∙ c.if-not-is_from.false) c.targets-targets.ensures.client c.targets-targets.ensures.port (c.has_room.ensures.full c.if-not-has_room.true),
+          (sym c.is_from.ensures ∙ c.if-not-is_from.false) c.targets-targets.ensures.client c.targets-targets.ensures.port c.places_kept_free-kept_free.ensures (c.has_room.ensures.full c.if-not-has_room.true),
     )
 
 pub step_front-requires : goal.step_front-requires
@@ -46,7 +46,7 @@ returns-clause-ok g c =
       m,
       looked-out c.args.place c.args.recorded.now c.args.side.now c.is_empty.new.self c.has_room.new.self looks c.has_room.ensures.seats c.has_room.ensures.ways c.has_room.ensures.counts,
       c.in_ok-step_front.ensures.ok,
-      cuts-none c.args.place m t c.in_ok-step_front.ensures.ok c.targets-targets.result.client c.targets-targets.result.port c.front-event.result.now
+      cuts-none c.places_kept_free-kept_free.result c.args.place m t c.in_ok-step_front.ensures.ok c.targets-targets.result.client c.targets-targets.result.port c.front-event.result.now
           (at-same c.args.place (IsFirst c.front-event.result.now) c.is_empty.new.self.seats c.has_room.new.self.seats c.has_room.ensures.seats c.front-event.ensures)
           c.targets-targets.ensures.named (c.has_room.ensures.room c.if-not-has_room.false),
     )

@@ -25,7 +25,7 @@ returns-then-is_full_at-clause-full c isnt =
     c.is_full_at.ensures.looked.count (λ d w at. let r = c.is_full_at.ensures.looked.each d w at in (r.0, r.1, r.2.0)) in
     let full = c.is_full_at.ensures.full c.if-is_full_at.true in
     let place : client_place c.self.inside.clients c.args.client ≡ Some full.0 = sym c.place_of_client-client.ensures ∙ full.2 in
-    client-held c.self.inside.clients c.self.inside.ports c.args.client c.args.port c.is_full_at.new.ways.items new.recipients new.way_count full.0 full.1 place full.3 full.4 full.5
+    client-held c.args.kept_free c.self.inside.clients c.self.inside.ports c.args.client c.args.port c.is_full_at.new.ways.items new.recipients new.way_count full.0 full.1 place full.3 full.4 full.5
 
 pub invariant_of-self-2 : goal.invariant_of-self-2
 invariant_of-self-2 c =
@@ -38,7 +38,7 @@ returns-clause-room c is =
     let looked = ways-twice c.self.inside.ways.items c.is_full_at.new.ways.items c.is_full_at-2.new.ways.items c.is_full_at.ensures.looked c.is_full_at-2.ensures.looked in
     let new = ways-arranged c.self.inside.clients c.self.inside.ports c.self.inside.seats.items c.self.inside.ways.items c.is_full_at-2.new.ways.items c.self.invariant
     looked.count (λ d w at. let r = looked.each d w at in (r.0, r.1, r.2.0)) in
-    have-room c.self.inside.clients c.self.inside.ports c.args.client c.args.port c.is_full_at-2.new.ways.items new.recipients new.way_count
+    have-room c.args.kept_free c.self.inside.clients c.self.inside.ports c.args.client c.args.port c.is_full_at-2.new.ways.items new.recipients new.way_count
     c.is_full_at.new.ways.items c.is_full_at-2.ensures.looked
     (λ d w place at. c.is_full_at.ensures.room c.if-is_full_at.false d w (c.place_of_client-client.ensures ∙ place) at)
     (λ d w place at. c.is_full_at-2.ensures.room (not-true c.is_full_at-2.result is) d w (c.place_of_port-port.ensures ∙ place) at)
@@ -50,4 +50,4 @@ returns-clause-full c is =
     looked.count (λ d w at. let r = looked.each d w at in (r.0, r.1, r.2.0)) in
     let full = c.is_full_at-2.ensures.full (not-false c.is_full_at-2.result is) in
     let place : port_place c.self.inside.clients c.self.inside.ports c.args.port ≡ Some full.0 = sym c.place_of_port-port.ensures ∙ full.2 in
-    port-held c.self.inside.clients c.self.inside.ports c.args.client c.args.port c.is_full_at-2.new.ways.items new.recipients new.way_count full.0 full.1 place full.3 full.4 full.5
+    port-held c.args.kept_free c.self.inside.clients c.self.inside.ports c.args.client c.args.port c.is_full_at-2.new.ways.items new.recipients new.way_count full.0 full.1 place full.3 full.4 full.5

@@ -1,0 +1,16 @@
+-- How many places of an outlet's ring an event leaves free. The ring has 2,112: what a client says uses 1,024 of them,
+-- so that one that doesn't take its lists holds up neither its market's messages nor time; what a market says uses
+-- 1,024 more, and 64 are for time alone. (Own.)
+use Rattle.std.specs.Prelude.{ℕ}
+use Rattle.gate_law.specs.Events.{Event, ClientUp, ClientMessage, ClientGone, ClientTick, PortUp, PortPacket, PortGone}
+use Rattle.gate_law.specs.Events.{PortTick}
+
+abbrev pub kept_free : Event → ℕ
+kept_free (ClientUp client link at) = 1_088
+kept_free (ClientMessage client link at frame) = 1_088
+kept_free (ClientGone client link at) = 1_088
+kept_free (ClientTick client at) = 0
+kept_free (PortUp p link at) = 64
+kept_free (PortPacket p link at packet) = 64
+kept_free (PortGone p link at) = 64
+kept_free (PortTick p at) = 0

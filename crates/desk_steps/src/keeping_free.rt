@@ -1,0 +1,27 @@
+//! How much of an outlet's ring an event leaves free.
+
+ghost use Rattle.std.specs.Prelude.{◌≡◌};
+ghost use Rattle.gate_events.specs.Seen.{event_seen};
+ghost use Rattle.desk_steps.specs.KeptFree.{kept_free};
+
+use gate_events::Event;
+
+/// Of the 2,112 places of an outlet's ring, those that what a client says may not use: 1,024 for what markets say, and
+/// those for time.
+const FOR_MARKETS_AND_TIME: usize = 1_088;
+
+/// Those for time alone.
+const FOR_TIME: usize = 64;
+
+/// How many places of its recipients' rings an event leaves free.
+pub(crate) fn places_kept_free(event: &Event) -> usize
+    ensures { result ≡ kept_free (event_seen event.now) }
+{
+    match event {
+        Event::ClientUp { .. } | Event::ClientMessage { .. } | Event::ClientGone { .. } => {
+            FOR_MARKETS_AND_TIME
+        }
+        Event::PortUp { .. } | Event::PortPacket { .. } | Event::PortGone { .. } => FOR_TIME,
+        Event::ClientTick { .. } | Event::PortTick { .. } => 0,
+    }
+}
