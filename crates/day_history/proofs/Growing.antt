@@ -23,7 +23,7 @@ use Rattle.journal_records.proofs.Fits.{turn-writable}
 use Rattle.journal_records.proofs.InOrder.{turn-behind, turn-order}
 use Rattle.journal_records.proofs.Rows.{has}
 use Rattle.journal_records.proofs.Said.{more-batches, more-events}
-use Rattle.day_history.specs.Kept.{turn, turns_onto}
+use Rattle.day_history.specs.Kept.{day_turn, turns_onto}
 
 pub day-pushed : (pages : List (List ℕ)) (e : Event) (b : Batch) → day_fault pages ≡ None → IsTurn e b → day_fault (with_records pages (turn_records e b)) ≡ None
 day-pushed pages e b day is = day-more pages (turn_records e b) day (turn-writable e b is) (turn-order e b) (turn-behind e b)
@@ -84,15 +84,15 @@ as-many pages = same-count (day_records pages) (all-sound pages)
 -- ---- turns
 
 onto-push : (events : List Event) (batches : List Batch) (e : Event) (b : Batch) (before : History) → length events ≡ length batches
-    → turns_onto (events ++ e ∷ []) (batches ++ b ∷ []) before ≡ turn e b ∷ turns_onto events batches before
+    → turns_onto (events ++ e ∷ []) (batches ++ b ∷ []) before ≡ day_turn e b ∷ turns_onto events batches before
 onto-push [] [] e b before same = refl
 onto-push [] (x ∷ batches) e b before same = absurd (omega arith)
 onto-push (x ∷ events) [] e b before same = absurd (omega arith)
-onto-push (x ∷ events) (y ∷ batches) e b before same = onto-push events batches e b (turn x y ∷ before) (omega arith)
+onto-push (x ∷ events) (y ∷ batches) e b before same = onto-push events batches e b (day_turn x y ∷ before) (omega arith)
 
 pub turns-pushed : (pages : List (List ℕ)) (e : Event) (b : Batch) → day_fault pages ≡ None → IsTurn e b
     → turns_onto (events_in (day_records (with_records pages (turn_records e b)))) (batches_in (day_records (with_records pages (turn_records e b)))) []
-    ≡ turn e b ∷ turns_onto (events_in (day_records pages)) (batches_in (day_records pages)) []
+    ≡ day_turn e b ∷ turns_onto (events_in (day_records pages)) (batches_in (day_records pages)) []
 turns-pushed pages e b day is =
     ap (λ (es : List Event). turns_onto es (batches_in (day_records (with_records pages (turn_records e b)))) []) (events-pushed pages e b day is)
     ∙ ap (λ (bs : List Batch). turns_onto (events_in (day_records pages) ++ e ∷ []) bs []) (batches-pushed pages e b day is)

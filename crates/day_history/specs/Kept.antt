@@ -20,19 +20,19 @@ kept_in pages = record {
   pages = pages;
 }
 
-abbrev pub nothing_kept : DayKept
-nothing_kept = record { events = []; batches = []; pages = [] }
+abbrev pub no_day : DayKept
+no_day = record { events = []; batches = []; pages = [] }
 
 -- an event with its batch
-abbrev pub turn : Event → Batch → Turn
-turn e b = record { event = event_seen e; batch = b }
+abbrev pub day_turn : Event → Batch → Turn
+day_turn e b = record { event = event_seen e; batch = b }
 
 -- events with their batches, the newest first, after the turns before
 abbrev pub turns_onto : List Event → List Batch → History → History
 turns_onto [] batches before = before
 turns_onto (e ∷ events) [] before = before
-turns_onto (e ∷ events) (b ∷ batches) before = turns_onto events batches (turn e b ∷ before)
+turns_onto (e ∷ events) (b ∷ batches) before = turns_onto events batches (day_turn e b ∷ before)
 
 -- the same as the core's law has it: each event with its batch, the newest first
-abbrev pub turns : DayKept → History
-turns h = turns_onto h.events h.batches []
+abbrev pub day_turns : DayKept → History
+day_turns h = turns_onto h.events h.batches []

@@ -35,11 +35,11 @@ impl Model for DayHistory {
 }
 
 impl DayHistory {
-    ghost use Rattle.day_history.specs.Kept.{kept_in, nothing_kept, turn, turns};
+    ghost use Rattle.day_history.specs.Kept.{kept_in, no_day, day_turn, day_turns};
 
     /// No events, and no pages. Takes no memory.
     pub fn new(alloc: Global) -> DayHistory
-        ensures { result ≡ nothing_kept }
+        ensures { result ≡ no_day }
     {
         DayHistory {
             pages: DayPages::new(alloc),
@@ -54,8 +54,8 @@ impl DayHistory {
         ensures events { IfOk result (λ nothing. self.new.events ≡ self.old.events ++ event.now ∷ []) }
         ensures batches { IfOk result (λ nothing. self.new.batches
             ≡ self.old.batches ++ batch_seen batch.now ∷ []) }
-        ensures turns { IfOk result (λ nothing. turns self.new
-            ≡ turn event.now (batch_seen batch.now) ∷ turns self.old) }
+        ensures turns { IfOk result (λ nothing. day_turns self.new
+            ≡ day_turn event.now (batch_seen batch.now) ∷ day_turns self.old) }
         ensures pages { IfOk result (λ nothing. self.new.pages
             ≡ with_records self.old.pages (turn_records event.now (batch_seen batch.now))) }
         ensures err { OnErr result (self.new ≡ self.old) }

@@ -3,7 +3,7 @@ use Rattle.std.specs.Prelude.{◌≡◌, ℕ, List, Option, None}
 use Rattle.std.specs.Io.KnownBytes.{Appends}
 use Rattle.gate_law.specs.Events.{History}
 use Rattle.journal_days.specs.Day.{day_fault}
-use Rattle.day_history.specs.Kept.{kept_in, turns}
+use Rattle.day_history.specs.Kept.{kept_in, day_turns}
 use Rattle.journal_file.specs.File.{file_of}
 
 -- the pages of a day, in a file
@@ -15,7 +15,7 @@ pub record IsFile (pages : List (List ℕ)) (file : List ℕ) : Type 0 where
 pub record IsFileOf (h : History) (file : List ℕ) : Type 0 where
   pub pages : List (List ℕ)
   pub says : IsFile pages file
-  pub same : turns (kept_in pages) ≡ h
+  pub same : day_turns (kept_in pages) ≡ h
 
 -- what a writer has grew by such a file
 abbrev pub IsFileOfTurns : History → Option (List ℕ) → Option (List ℕ) → Type 0

@@ -3,7 +3,7 @@
 ghost use Rattle.std.specs.Prelude.{◌≡◌, IfOk, map};
 ghost use Rattle.gate_events.specs.Seen.{batch_seen};
 ghost use Rattle.gate_journal.specs.Kept as lists;
-ghost use Rattle.day_history.specs.Kept.{turns};
+ghost use Rattle.day_history.specs.Kept.{day_turns};
 
 use day_history::DayHistory;
 use gate_journal::History;
@@ -13,7 +13,7 @@ use std::alloc::{AllocError, Global};
 pub fn listed(alloc: Global, day: &DayHistory) -> Result<History, AllocError>
     ensures events { IfOk result (λ kept. kept.events ≡ day.now.events) }
     ensures batches { IfOk result (λ kept. map batch_seen kept.batches ≡ day.now.batches) }
-    ensures turns { IfOk result (λ kept. lists.turns kept ≡ turns day.now) }
+    ensures turns { IfOk result (λ kept. lists.turns kept ≡ day_turns day.now) }
 {
     let kept = pushed(alloc, day)?;
     Ok(kept)
@@ -38,7 +38,7 @@ fn pushed(alloc: Global, day: &DayHistory) -> Result<History, AllocError>
 pub fn paged(alloc: Global, kept: &History) -> Result<DayHistory, AllocError>
     ensures events { IfOk result (λ day. day.events ≡ kept.now.events) }
     ensures batches { IfOk result (λ day. day.batches ≡ map batch_seen kept.now.batches) }
-    ensures turns { IfOk result (λ day. turns day ≡ lists.turns kept.now) }
+    ensures turns { IfOk result (λ day. day_turns day ≡ lists.turns kept.now) }
 {
     let day = written(alloc, kept)?;
     Ok(day)

@@ -55,8 +55,8 @@ impl<K: DeskName, S: BuildHasher + Drop> Desk<K, S> {
     ghost use Rattle.gate_core.specs.Expected.{fault_now};
     ghost use Rattle.gate_journal.specs.Kept.{turns};
     ghost use Rattle.desk_steps.specs.Agreeing.{Agrees, AreNamed};
-    ghost use Rattle.desk_steps.specs.Settling.{AreSettled, GoesOn};
-    ghost use Rattle.desk_steps.specs.Turning.{IsRefused, Rounds};
+    ghost use Rattle.desk_steps.specs.Settling.{AreSettled, HistoryGoesOn};
+    ghost use Rattle.desk_steps.specs.Turning.{RoundIsRefused, Rounds};
 
     /// A desk of parts that agree.
     pub(crate) fn new(recorded: RecordedCore<S>, side: Side) -> Desk<K, S>
@@ -77,7 +77,7 @@ impl<K: DeskName, S: BuildHasher + Drop> Desk<K, S> {
     /// where that was the first step that was tried.
     pub fn round(&mut self, alloc: Global) -> Result<Turned, AllocError>
         ensures ok { IfOk result (λ turned. Rounds turned self.old self.new) }
-        ensures err { OnErr result (IsRefused self.old self.new) }
+        ensures err { OnErr result (RoundIsRefused self.old self.new) }
     {
         round(&mut self.recorded, &mut self.side, alloc)
     }
@@ -115,7 +115,7 @@ impl<K: DeskName, S: BuildHasher + Drop> Desk<K, S> {
         finished: &mut Vec<Finished<K>>,
     ) -> Result<(), AllocError>
         ensures same { finished.new.items ≡ finished.old.items }
-        ensures goes_on { GoesOn self.old.recorded self.new.recorded }
+        ensures goes_on { HistoryGoesOn self.old.recorded self.new.recorded }
         ensures settled { OnOk result (AreSettled finished.old.items self.new.recorded.kept) }
     {
         settle(&mut self.recorded, &mut self.side, alloc, finished)

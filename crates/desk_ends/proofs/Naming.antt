@@ -14,9 +14,9 @@ use Rattle.gate_events.specs.declared.event.Event.{Event}
 use Rattle.gate_events.specs.declared.source.Source.{Source}
 use Rattle.gate_events.specs.declared.source.Recipient.{Recipient}
 use Rattle.desk_ends.specs.Rings.{NamedInlet, NamedOutlet, consumer_ring, finished_ring}
-use Rattle.desk_ends.specs.Ends.{IsNamed, done_of}
+use Rattle.desk_ends.specs.Ends.{IsNamedEnd, done_of}
 use Rattle.desk_ends.specs.declared.finished.FinishedEnd.TheVariants.{Put, Took}
-use Rattle.desk_ends.specs.Seats.{IsTold, SeatState, SeatLooked, SeatsLooked, WayState, WayLooked, WaysLooked, seat_name, way_name}
+use Rattle.desk_ends.specs.Seats.{IsBorneOut, SeatState, SeatLooked, SeatsLooked, WayState, WayLooked, WaysLooked, seat_name, way_name}
 use Rattle.desk_ends.proofs.Places.{get-same}
 
 named-some : {A B : Type 0} (f : A → B) (o : Option A) (r : B) → option_map f o ≡ Some r → (x : A) × (o ≡ Some x) × (f x ≡ r)
@@ -52,9 +52,9 @@ ways-stay ways = record { count = refl; each = λ d w at. (w, at, way-stays w) }
 
 -- what a finished inlet says, once its seat has looked
 pub put-told : (inlets : List NamedInlet) (outlets : List NamedOutlet) (at : ℕ) (source : Source) (f : Finished Event Global AnyItems)
-    (seats new : List SeatState) (ways : List WayState) → map seat_name seats ≡ inlets → IsNamed inlets outlets at (Put source f)
+    (seats new : List SeatState) (ways : List WayState) → map seat_name seats ≡ inlets → IsNamedEnd inlets outlets at (Put source f)
     → SeatsLooked seats new → ((a : SeatState) → slice_get new at ≡ Some a → a.gave ++ a.known ≡ all_sent f)
-    → IsTold (done_of at (Put source f)) new ways
+    → IsBorneOut (done_of at (Put source f)) new ways
 put-told inlets outlets at source f seats new ways names is looked all =
     let name : NamedInlet = record { source = source; ring = finished_ring f } in
     let a = named seat_name seats inlets at name names is.0 in
@@ -63,9 +63,9 @@ put-told inlets outlets at source f seats new ways names is looked all =
 
 -- what a finished outlet says, once its way was compared
 pub took-told : (inlets : List NamedInlet) (outlets : List NamedOutlet) (at : ℕ) (to : Recipient) (c : Consumer (List LinkOut) Global AnyItems)
-    (ways new : List WayState) (seats : List SeatState) → map way_name ways ≡ outlets → IsNamed inlets outlets at (Took to c)
+    (ways new : List WayState) (seats : List SeatState) → map way_name ways ≡ outlets → IsNamedEnd inlets outlets at (Took to c)
     → WaysLooked ways new → ((w : WayState) → slice_get new at ≡ Some w → IsPrefix (received c) w.sent)
-    → IsTold (done_of at (Took to c)) seats new
+    → IsBorneOut (done_of at (Took to c)) seats new
 took-told inlets outlets at to c ways new seats names is looked prefix =
     let name : NamedOutlet = record { to = to; ring = consumer_ring c } in
     let w = named way_name ways outlets at name names is in

@@ -20,8 +20,8 @@ inlet_of (put_at at source events) = Some at
 inlet_of (took_at at to lists) = None
 
 -- The end is that of the ring at this position, and what an inlet put is all of its source.
-abbrev pub IsNamed : List NamedInlet → List NamedOutlet → ℕ → FinishedEnd → Type 0
-IsNamed inlets outlets at (Put source f) =
+abbrev pub IsNamedEnd : List NamedInlet → List NamedOutlet → ℕ → FinishedEnd → Type 0
+IsNamedEnd inlets outlets at (Put source f) =
     (slice_get inlets at ≡ Some (record { source = source; ring = finished_ring f }))
     × (events_from source (all_sent f) ≡ all_sent f)
-IsNamed inlets outlets at (Took to c) = slice_get outlets at ≡ Some (record { to = to; ring = consumer_ring c })
+IsNamedEnd inlets outlets at (Took to c) = slice_get outlets at ≡ Some (record { to = to; ring = consumer_ring c })

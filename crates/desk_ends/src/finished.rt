@@ -35,21 +35,21 @@ impl<K: DeskName> Model for Finished<K> {
 
     ghost Value = { Done };
 
-    ghost use Rattle.desk_ends.specs.Ends.{done_of, IsNamed};
+    ghost use Rattle.desk_ends.specs.Ends.{done_of, IsNamedEnd};
 
     ghost view = { λ s. done_of s.at s.end };
 
-    ghost invariant = { λ s. IsNamed K.inlets K.outlets s.at s.end };
+    ghost invariant = { λ s. IsNamedEnd K.inlets K.outlets s.at s.end };
 }
 
 impl<K: DeskName> Finished<K> {
     ghost use Rattle.std.specs.Prelude.{◌≡◌, map};
-    ghost use Rattle.desk_ends.specs.Ends.{done_of, inlet_of, position_of, IsNamed};
-    ghost use Rattle.desk_ends.specs.Seats.{seat_name, way_name, IsTold, SeatsLooked, SeatsStayBut, WaysLooked};
+    ghost use Rattle.desk_ends.specs.Ends.{done_of, inlet_of, position_of, IsNamedEnd};
+    ghost use Rattle.desk_ends.specs.Seats.{seat_name, way_name, IsBorneOut, SeatsLooked, SeatsStayBut, WaysLooked};
 
     /// What is left of the end of the ring at a position.
     pub fn new(at: usize, end: FinishedEnd) -> Finished<K>
-        requires named { IsNamed K.inlets K.outlets at end }
+        requires named { IsNamedEnd K.inlets K.outlets at end }
         ensures { result ≡ done_of at end }
     {
         Finished {
@@ -85,7 +85,7 @@ impl<K: DeskName> Finished<K> {
         ensures seats { SeatsLooked seats.old.items seats.new.items }
         ensures others { SeatsStayBut (inlet_of self.old) seats.old.items seats.new.items }
         ensures ways { WaysLooked ways.old.items ways.new.items }
-        ensures told { IsTold self.old seats.new.items ways.new.items }
+        ensures told { IsBorneOut self.old seats.new.items ways.new.items }
     {
         let at = self.at;
         match &mut self.end {

@@ -10,9 +10,9 @@ use Rattle.gate_events.specs.Sources.{unless_empty}
 use Rattle.desk_ends.specs.Seats.{SeatState, WayState, WayLooked, WaySent, WaysLooked}
 use Rattle.desk_ends.proofs.Places.{get-same, get-set-same}
 use Rattle.desk_side.specs.declared.said.Said.{Said}
-use Rattle.desk_side.specs.Said.{said_to}
+use Rattle.desk_side.specs.Said.{list_for}
 use Rattle.desk_side.specs.Places.{client_place, is_aimed, port_place, recipient_at}
-use Rattle.desk_side.specs.Side.{ChangesAt, HaveRoom, IsHeld, Tells}
+use Rattle.desk_side.specs.Side.{ChangesAt, HaveRoom, LacksRoom, Tells}
 use Rattle.desk_side.proofs.Moves.{come-to}
 
 -- ---- seats and ways by themselves
@@ -148,12 +148,12 @@ module _ (kept clients ports : ℕ) (client port : Option ℕ) (new : List WaySt
             )
       ]
 
-  pub client-held : (d : ℕ) (w : WayState) → client_place clients client ≡ Some d → slice_get new d ≡ Some w → w.cut ≡ false → w.free ≤ kept → IsHeld kept client port new
+  pub client-held : (d : ℕ) (w : WayState) → client_place clients client ≡ Some d → slice_get new d ≡ Some w → w.cut ≡ false → w.free ≤ kept → LacksRoom kept client port new
   client-held d w place at cut free =
       let was = client-place-was clients d client place in
       (d, w, at, aimed-client clients d client port w.name.to (names d w at) was.1 ∙ number-is (d + 1) client was.0, cut, free)
 
-  pub port-held : (d : ℕ) (w : WayState) → port_place clients ports port ≡ Some d → slice_get new d ≡ Some w → w.cut ≡ false → w.free ≤ kept → IsHeld kept client port new
+  pub port-held : (d : ℕ) (w : WayState) → port_place clients ports port ≡ Some d → slice_get new d ≡ Some w → w.cut ≡ false → w.free ≤ kept → LacksRoom kept client port new
   port-held d w place at cut free =
       let was = port-place-was clients ports d port place in
       (d, w, at, aimed-port clients d client port w.name.to (names d w at) was.1 ∙ number-is ((d - clients) + 1) port was.0, cut, free)
@@ -178,16 +178,16 @@ count-place None lists old new there nowhere = ap length (nowhere refl)
 count-place (Some i) lists old new there nowhere = (there i refl).count
 
 -- what is said to whom
-said-client : (n : ℕ) (s : Said) → s.client ≡ Some n → said_to (recipients.Client n) s ≡ s.client_told
+said-client : (n : ℕ) (s : Said) → s.client ≡ Some n → list_for (recipients.Client n) s ≡ s.client_told
 said-client n s is = rw (number-is n s.client is) refl
 
-said-port : (n : ℕ) (s : Said) → s.port ≡ Some n → said_to (recipients.Port n) s ≡ s.port_told
+said-port : (n : ℕ) (s : Said) → s.port ≡ Some n → list_for (recipients.Port n) s ≡ s.port_told
 said-port n s is = rw (number-is n s.port is) refl
 
-not-client : (n : ℕ) (s : Said) → is_the_number n s.client ≡ false → said_to (recipients.Client n) s ≡ []
+not-client : (n : ℕ) (s : Said) → is_the_number n s.client ≡ false → list_for (recipients.Client n) s ≡ []
 not-client n s isnt = rw isnt refl
 
-not-port : (n : ℕ) (s : Said) → is_the_number n s.port ≡ false → said_to (recipients.Port n) s ≡ []
+not-port : (n : ℕ) (s : Said) → is_the_number n s.port ≡ false → list_for (recipients.Port n) s ≡ []
 not-port n s isnt = rw isnt refl
 
 module _ (clients ports : ℕ) (said : Said) (old mid new : List WayState)
@@ -197,7 +197,7 @@ module _ (clients ports : ℕ) (said : Said) (old mid new : List WayState)
     (second : (d : ℕ) → port_place clients ports said.port ≡ Some d → ChangesAt d (WaySent (unless_empty said.port_told)) mid new)
     (second-none : port_place clients ports said.port ≡ None → new ≡ mid) (count : length old ≡ clients + ports) where
   abbrev Sent : Recipient → ℕ → WayState → Type 0
-  Sent to d w = (v : WayState) × (slice_get new d ≡ Some v) × WaySent (unless_empty (said_to to said)) w v
+  Sent to d w = (v : WayState) × (slice_get new d ≡ Some v) × WaySent (unless_empty (list_for to said)) w v
 
   to-client : (d : ℕ) (w : WayState) → slice_get old d ≡ Some w → d < clients → (b : Bool) → is_the_number (d + 1) said.client ≡ b → Sent (recipients.Client (d + 1)) d w
   to-client d w at inside true is =

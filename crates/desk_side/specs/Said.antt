@@ -10,6 +10,6 @@ abbrev pub IsSaid : Batch → Said → Type 0
 IsSaid b s = (s.client ≡ b.client) × (s.client_told ≡ b.client_out) × (s.port ≡ b.port) × (s.port_told ≡ b.port_out)
 
 -- what one link is told
-abbrev pub said_to : Recipient → Said → List LinkOut
-said_to (recipients.Client n) s = if is_the_number n s.client then s.client_told else []
-said_to (recipients.Port n) s = if is_the_number n s.port then s.port_told else []
+abbrev pub list_for : Recipient → Said → List LinkOut
+list_for (recipients.Client n) s = if is_the_number n s.client then s.client_told else []
+list_for (recipients.Port n) s = if is_the_number n s.port then s.port_told else []

@@ -3,7 +3,7 @@ use Rattle.std.specs.Prelude.{◌≡◌, ◌≢◌, ℕ, ◌+◌, ◌<◌, ◌�
 use Rattle.gate_events.specs.Sources.{unless_empty}
 use Rattle.desk_ends.specs.Seats.{SeatState, WayState, WaySent}
 use Rattle.desk_side.specs.declared.said.Said.{Said}
-use Rattle.desk_side.specs.Said.{said_to}
+use Rattle.desk_side.specs.Said.{list_for}
 use Rattle.desk_side.specs.Places.{is_aimed, recipient_at, source_at}
 
 -- its seats and ways, by position
@@ -30,7 +30,7 @@ pub record ChangesAt {A : Type 0} (i : ℕ) (P : A → A → Type 0) (old new : 
 pub record Tells (said : Said) (old new : List WayState) : Type 0 where
   pub count : length new ≡ length old
   pub each : (d : ℕ) (w : WayState) → slice_get old d ≡ Some w
-      → (v : WayState) × (slice_get new d ≡ Some v) × WaySent (unless_empty (said_to w.name.to said)) w v
+      → (v : WayState) × (slice_get new d ≡ Some v) × WaySent (unless_empty (list_for w.name.to said)) w v
 
 -- the ways of this client and of this port know of room beside so many places that are kept free, or are cut
 abbrev pub HaveRoom : ℕ → Option ℕ → Option ℕ → List WayState → Type 0
@@ -38,6 +38,6 @@ HaveRoom kept_free client port ways = (d : ℕ) (w : WayState) → slice_get way
     → is_aimed client port w.name.to ≡ true → (w.cut ≡ true) ⊎ (kept_free < w.free)
 
 -- one of them isn't cut and knows of none
-abbrev pub IsHeld : ℕ → Option ℕ → Option ℕ → List WayState → Type 0
-IsHeld kept_free client port ways = (d : ℕ) × (w : WayState) × (slice_get ways d ≡ Some w)
+abbrev pub LacksRoom : ℕ → Option ℕ → Option ℕ → List WayState → Type 0
+LacksRoom kept_free client port ways = (d : ℕ) × (w : WayState) × (slice_get ways d ≡ Some w)
     × (is_aimed client port w.name.to ≡ true) × (w.cut ≡ false) × (w.free ≤ kept_free)

@@ -45,9 +45,9 @@ impl Model for Side {
 
 impl Side {
     ghost use Rattle.std.specs.Prelude.{◌≡◌, ◌<◌, ℕ, true, false, Some, length, map, slice_get};
-    ghost use Rattle.desk_ends.specs.Seats.{SeatState, SeatGave, SeatLooked, SeatsLooked, SeatsStayBut, WaysLooked, IsTold, seat_name, way_name};
+    ghost use Rattle.desk_ends.specs.Seats.{SeatState, SeatGave, SeatLooked, SeatsLooked, SeatsStayBut, WaysLooked, IsBorneOut, seat_name, way_name};
     ghost use Rattle.desk_ends.specs.Ends.{inlet_of};
-    ghost use Rattle.desk_side.specs.Side.{ChangesAt, HaveRoom, IsArranged, IsHeld, Tells};
+    ghost use Rattle.desk_side.specs.Side.{ChangesAt, HaveRoom, IsArranged, LacksRoom, Tells};
 
     /// These seats and ways, for so many clients and ports.
     pub fn new(clients: usize, ports: usize, seats: Vec<Seat>, ways: Vec<Way>) -> Side
@@ -125,7 +125,7 @@ impl Side {
         ensures ways { WaysLooked self.old.ways self.new.ways }
         ensures counts { (self.new.clients ≡ self.old.clients) × (self.new.ports ≡ self.old.ports) }
         ensures room { result ≡ true → HaveRoom kept_free client port self.new.ways }
-        ensures full { result ≡ false → IsHeld kept_free client port self.new.ways }
+        ensures full { result ≡ false → LacksRoom kept_free client port self.new.ways }
     {
         let client = place_of_client(self.clients, client);
         let port = place_of_port(self.clients, self.ports, port);
@@ -173,7 +173,7 @@ impl Side {
         ensures others { SeatsStayBut (inlet_of finished.old) self.old.seats self.new.seats }
         ensures ways { WaysLooked self.old.ways self.new.ways }
         ensures counts { (self.new.clients ≡ self.old.clients) × (self.new.ports ≡ self.old.ports) }
-        ensures told { IsTold finished.old self.new.seats self.new.ways }
+        ensures told { IsBorneOut finished.old self.new.seats self.new.ways }
     {
         finished.compare(&mut self.seats, &mut self.ways);
     }

@@ -6,7 +6,7 @@ use mathlib.Core.List.{IsPrefix}
 use Rattle.gate_events.specs.declared.event.Event.{Event}
 use Rattle.desk_ends.specs.Rings.{Done, put_at, took_at, NamedInlet, NamedOutlet}
 use Rattle.desk_ends.specs.Ends.{inlet_of}
-use Rattle.desk_ends.specs.Seats.{IsTold, SeatState, SeatLooked, SeatsLooked, SeatsStayBut, WayState, WayLooked, WaysLooked, seat_name, way_name}
+use Rattle.desk_ends.specs.Seats.{IsBorneOut, SeatState, SeatLooked, SeatsLooked, SeatsStayBut, WayState, WayLooked, WaysLooked, seat_name, way_name}
 use Rattle.desk_ends.proofs.Places.{get-same}
 use Rattle.desk_steps.specs.Settling.{AreBegun, AreTold, IsBegun}
 use Rattle.desk_side.proofs.Moves.{come-to, each-same, prefix-same, prefix-trans}
@@ -39,7 +39,7 @@ begun-stays (put_at k source events) old new l begun = λ b at.
     prefix-trans events (a.0.gave ++ a.0.known) (b.gave ++ b.known) (begun a.0 a.1) (total-grows a.0 b a.2)
 begun-stays (took_at d to lists) old new l begun = begun
 
-pub told-begun : (f : Done) (seats : List SeatState) (ways : List WayState) → IsTold f seats ways → IsBegun f seats
+pub told-begun : (f : Done) (seats : List SeatState) (ways : List WayState) → IsBorneOut f seats ways → IsBegun f seats
 told-begun (put_at k source events) seats ways told = λ b at.
     let same : told.0 ≡ b = get-same seats k told.0 b told.1 at in
     subst (λ (z : SeatState). IsPrefix events (z.gave ++ z.known)) same
@@ -48,7 +48,7 @@ told-begun (took_at d to lists) seats ways told = tt
 
 -- what an inlet said stays what its seat knows, while other ends are compared that say no more than is known
 told-stays : (f g : Done) (old new : List SeatState) (ways more : List WayState) → SeatsLooked old new → SeatsStayBut (inlet_of g) old new → WaysLooked ways more
-    → IsBegun g old → IsTold g new more → IsTold f old ways → IsTold f new more
+    → IsBegun g old → IsBorneOut g new more → IsBorneOut f old ways → IsBorneOut f new more
 told-stays (took_at d to lists) g old new ways more l stay m begun here told =
     let r = m.each d told.0 told.1 in
     (r.0, r.1, ap (λ (n : NamedOutlet). n.to) r.2.0 ∙ told.2, subst (λ z. IsPrefix lists z) (sym r.2.1) told.3)
@@ -74,10 +74,10 @@ abbrev pub FirstBegun : ℕ → List Done → List SeatState → Type 0
 FirstBegun n finished seats = (i : ℕ) (f : Done) → i < n → slice_get finished i ≡ Some f → IsBegun f seats
 
 abbrev pub FirstTold : ℕ → List Done → List SeatState → List WayState → Type 0
-FirstTold n finished seats ways = (i : ℕ) (f : Done) → i < n → slice_get finished i ≡ Some f → IsTold f seats ways
+FirstTold n finished seats ways = (i : ℕ) (f : Done) → i < n → slice_get finished i ≡ Some f → IsBorneOut f seats ways
 
 pub one-begun : (i : ℕ) (finished : List Done) (g : Done) (old new : List SeatState) (more : List WayState) → slice_get finished i ≡ Some g
-    → SeatsLooked old new → IsTold g new more → FirstBegun i finished old → FirstBegun (i + 1) finished new
+    → SeatsLooked old new → IsBorneOut g new more → FirstBegun i finished old → FirstBegun (i + 1) finished new
 one-begun i finished g old new more here l told before j f lt at =
     elim (eqb_tells j i) [
       | inl q ↦ subst (λ (z : Done). IsBegun z new) (get-same finished i g f here (rw (← q.1) at)) (told-begun g new more told)
@@ -85,11 +85,11 @@ one-begun i finished g old new more here l told before j f lt at =
     ]
 
 pub one-told : (i : ℕ) (finished : List Done) (g : Done) (first old new : List SeatState) (ways more : List WayState) → slice_get finished i ≡ Some g
-    → SeatsLooked first old → SeatsLooked old new → SeatsStayBut (inlet_of g) old new → WaysLooked ways more → IsTold g new more
+    → SeatsLooked first old → SeatsLooked old new → SeatsStayBut (inlet_of g) old new → WaysLooked ways more → IsBorneOut g new more
     → AreBegun finished first → FirstTold i finished old ways → FirstTold (i + 1) finished new more
 one-told i finished g first old new ways more here came l stay m told begun before j f lt at =
     elim (eqb_tells j i) [
-      | inl q ↦ subst (λ (z : Done). IsTold z new more) (get-same finished i g f here (rw (← q.1) at)) told
+      | inl q ↦ subst (λ (z : Done). IsBorneOut z new more) (get-same finished i g f here (rw (← q.1) at)) told
       | inr q ↦ (
           let less : j < i = omega (arith, q.1) in
           told-stays f g old new ways more l stay m (begun-stays g first old came (begun i g here)) told (before j f less at)

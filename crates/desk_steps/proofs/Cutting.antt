@@ -13,11 +13,11 @@ use Rattle.gate_journal.specs.Kept.{turns}
 use Rattle.desk_ends.specs.Seats.{SeatState, SeatGave, WayState, WaySent}
 use Rattle.desk_ends.proofs.Places.{get-same}
 use Rattle.desk_side.specs.declared.said.Said.{Said}
-use Rattle.desk_side.specs.Said.{IsSaid, said_to}
+use Rattle.desk_side.specs.Said.{IsSaid, list_for}
 use Rattle.desk_side.specs.Places.{is_aimed}
 use Rattle.desk_side.specs.Side.{HaveRoom}
 use Rattle.desk_steps.specs.Agreeing.{DeskState}
-use Rattle.desk_steps.specs.Turning.{SameCuts, Steps}
+use Rattle.desk_steps.specs.Turning.{SameCuts, StepsFirst}
 
 among-not : (n : ℕ) (a target : Option ℕ) → IsAmong a target → is_the_number n target ≡ false → is_the_number n a ≡ false
 among-not n None target among isnt = refl
@@ -25,7 +25,7 @@ among-not n (Some m) target among isnt = subst (λ (z : Option ℕ). is_the_numb
 
 -- whom nothing is aimed at nothing is said to
 not-aimed : (to : Recipient) (client port : Option ℕ) (b : law.Batch) (s : Said) → IsSaid b s → IsAmong b.client client → IsAmong b.port port
-    → is_aimed client port to ≡ false → said_to to s ≡ []
+    → is_aimed client port to ≡ false → list_for to s ≡ []
 not-aimed (recipients.Client n) client port b s is among other isnt =
     let none : is_the_number n s.client ≡ false = rw (is.0) (among-not n b.client client among isnt) in
     rw none refl
@@ -39,11 +39,11 @@ stays-cut lists w v sent cut false is = absurd (cc (cut, (sent.whole is).0))
 
 way-stays : (kept : ℕ) (said : Said) (client port : Option ℕ) (b : law.Batch) (w v : WayState) → IsSaid b said → IsAmong b.client client → IsAmong b.port port
     → (is_aimed client port w.name.to ≡ true → (w.cut ≡ true) ⊎ (kept < w.free))
-    → WaySent (unless_empty (said_to w.name.to said)) w v
+    → WaySent (unless_empty (list_for w.name.to said)) w v
     → (aimed : Bool) → is_aimed client port w.name.to ≡ aimed → v.cut ≡ w.cut
 way-stays kept said client port b w v is one two room sent true aim =
     elim (room aim) [
-      | inl cut ↦ stays-cut (unless_empty (said_to w.name.to said)) w v sent cut v.cut refl
+      | inl cut ↦ stays-cut (unless_empty (list_for w.name.to said)) w v sent cut v.cut refl
       | inr free ↦ sent.stays (inl (omega (arith, free)))
     ]
 way-stays kept said client port b w v is one two room sent false aim = sent.stays (inr (ap unless_empty (not-aimed w.name.to client port b said is one two aim)))
@@ -51,7 +51,7 @@ way-stays kept said client port b w v is one two room sent false aim = sent.stay
 first-is : (a b : SeatState) (e f : Event) → SeatGave e a b → slice_get a.known 0 ≡ Some f → e ≡ f
 first-is a b e f g first = cc (rw (g.2) at first)
 
-pub cuts-none : (kept k : ℕ) (s t : DeskState) (x : Steps k s t) (client port : Option ℕ) (f : Event)
+pub cuts-none : (kept k : ℕ) (s t : DeskState) (x : StepsFirst k s t) (client port : Option ℕ) (f : Event)
     → ((a : SeatState) → slice_get s.side.seats k ≡ Some a → slice_get a.known 0 ≡ Some f)
     → ((b : law.Batch) → Holds s.recorded.settings (record { event = event_seen f; batch = b } ∷ turns s.recorded.kept) → IsAmong b.client client × IsAmong b.port port)
     → HaveRoom kept client port s.side.ways → SameCuts s.side.ways t.side.ways
@@ -62,5 +62,5 @@ cuts-none kept k s t x client port f front named room d w v was now =
     subst (λ (z : Event). Holds s.recorded.settings (record { event = event_seen z; batch = batch_seen x.step.batch } ∷ turns s.recorded.kept)) same x.step.holds in
     let among = named (batch_seen x.step.batch) holds in
     let r = x.ways.each d w was in
-    let sent = subst (WaySent (unless_empty (said_to w.name.to x.said)) w) (get-same t.side.ways d r.0 v r.1 now) r.2 in
+    let sent = subst (WaySent (unless_empty (list_for w.name.to x.said)) w) (get-same t.side.ways d r.0 v r.1 now) r.2 in
     way-stays kept x.said client port (batch_seen x.step.batch) w v x.step.says among.0 among.1 (λ aim. room d w was aim) sent (is_aimed client port w.name.to) refl

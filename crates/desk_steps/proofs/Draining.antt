@@ -12,15 +12,15 @@ use Rattle.gate_events.specs.declared.source.Source.{Source}
 use Rattle.gate_events.specs.Seen.{batch_seen}
 use Rattle.gate_events.specs.Sources.{events_from, lists_to}
 use Rattle.gate_journal.specs.Kept.{Kept, lists_kept}
-use Rattle.desk_steps.specs.Recorded.{IsStep, Recorded}
+use Rattle.desk_steps.specs.Recorded.{IsKeptStep, Recorded}
 use Rattle.desk_ends.specs.Rings.{Done, put_at, took_at, NamedInlet, NamedOutlet}
 use Rattle.desk_ends.specs.Ends.{inlet_of}
-use Rattle.desk_ends.specs.Seats.{IsTold, SeatState, SeatGave, SeatLooked, SeatsLooked, WayState, WaysLooked, seat_name, way_name}
+use Rattle.desk_ends.specs.Seats.{IsBorneOut, SeatState, SeatGave, SeatLooked, SeatsLooked, WayState, WaysLooked, seat_name, way_name}
 use Rattle.desk_ends.proofs.Places.{get-inside, get-same}
 use Rattle.desk_side.specs.Side.{ChangesAt, SideState}
 use Rattle.desk_steps.specs.Agreeing.{Agrees, DeskState}
-use Rattle.desk_steps.specs.Settling.{AreDrained, AreSettled, AreTold, GoesOn, IsSettled, KnowsNone, SeatShrinks, Shrinks}
-use Rattle.desk_steps.specs.Turning.{Drops, Steps}
+use Rattle.desk_steps.specs.Settling.{AreDrained, AreSettled, AreTold, HistoryGoesOn, IsSettled, KnowsNone, SeatShrinks, Shrinks}
+use Rattle.desk_steps.specs.Turning.{Drops, StepsFirst}
 use Rattle.desk_side.proofs.Moves.{come-to, each-change, prefix-more, prefix-same, prefix-trans}
 use Rattle.desk_steps.proofs.Keeping.{SameOwn, agrees-kept, drops-agree, way-looks}
 use Rattle.desk_steps.proofs.OneMore.{lists-append, steps-agree}
@@ -28,17 +28,17 @@ use Rattle.desk_steps.proofs.Comparing.{empty-list, prefix-whole}
 
 -- ---- the history
 
-pub goes-nowhere : (r : Recorded) → GoesOn r r
+pub goes-nowhere : (r : Recorded) → HistoryGoesOn r r
 goes-nowhere r = record { settings = refl; events = prefix-same r.kept.events; batches = prefix-same r.kept.batches }
 
-pub goes-further : (a b c : Recorded) → GoesOn a b → GoesOn b c → GoesOn a c
+pub goes-further : (a b c : Recorded) → HistoryGoesOn a b → HistoryGoesOn b c → HistoryGoesOn a c
 goes-further a b c p q = record {
   settings = q.settings ∙ p.settings;
   events = prefix-trans a.kept.events b.kept.events c.kept.events p.events q.events;
   batches = prefix-trans a.kept.batches b.kept.batches c.kept.batches p.batches q.batches;
 }
 
-step-goes : (e : Event) (said : _) (a b : Recorded) → IsStep e said a b → GoesOn a b
+step-goes : (e : Event) (said : _) (a b : Recorded) → IsKeptStep e said a b → HistoryGoesOn a b
 step-goes e said a b s = record {
   settings = s.settings;
   events = (e ∷ [], sym s.events);
@@ -46,7 +46,7 @@ step-goes e said a b s = record {
 }
 
 -- what is told grows with the batches
-lists-grow : (to : Recipient) (a b : Recorded) (lists : _) → GoesOn a b → IsPrefix lists (lists_kept to a.kept) → IsPrefix lists (lists_kept to b.kept)
+lists-grow : (to : Recipient) (a b : Recorded) (lists : _) → HistoryGoesOn a b → IsPrefix lists (lists_kept to a.kept) → IsPrefix lists (lists_kept to b.kept)
 lists-grow to a b lists g p =
     let more = g.batches.0 in
     let grown : lists_kept to b.kept ≡ lists_kept to a.kept ++ lists_to to (map batch_seen more) =
@@ -96,7 +96,7 @@ none-stays k x y s none b at =
     omega (arith, a.2.2, none a.0 a.1)
 
 -- the ring of an end that has finished is one of the desk's
-pub told-inside : (f : Done) (seats : List SeatState) (ways : List WayState) (k : ℕ) → IsTold f seats ways → inlet_of f ≡ Some k → k < length seats
+pub told-inside : (f : Done) (seats : List SeatState) (ways : List WayState) (k : ℕ) → IsBorneOut f seats ways → inlet_of f ≡ Some k → k < length seats
 told-inside (put_at j source events) seats ways k told is =
     let same : j ≡ k = cc is in
     subst (λ (z : ℕ). z < length seats) same (slice_get_within seats j told.0 told.1)
@@ -129,8 +129,8 @@ compares-agree inlets outlets s t h recorded seats ways =
 
 -- what is settled once what finished inlets put is stepped
 settled : (inlets : List NamedInlet) (outlets : List NamedOutlet) (s t : DeskState) (f : Done) → Agrees inlets outlets s → Agrees inlets outlets t
-    → GoesOn s.recorded t.recorded → Shrinks s.side.seats t.side.seats
-    → IsTold f s.side.seats s.side.ways → ((k : ℕ) → inlet_of f ≡ Some k → KnowsNone k t.side.seats) → IsSettled f t.recorded.kept
+    → HistoryGoesOn s.recorded t.recorded → Shrinks s.side.seats t.side.seats
+    → IsBorneOut f s.side.seats s.side.ways → ((k : ℕ) → inlet_of f ≡ Some k → KnowsNone k t.side.seats) → IsSettled f t.recorded.kept
 settled inlets outlets s t (put_at k source events) before after on shrinks told none =
     let a = told.0 in
     let r = shrinks.each k a told.1 in
@@ -149,26 +149,26 @@ settled inlets outlets s t (took_at d to lists) before after on shrinks told non
     (begun, prefix-whole lists (lists_kept to t.recorded.kept) begun)
 
 pub all-settled : (inlets : List NamedInlet) (outlets : List NamedOutlet) (s t : DeskState) (finished : List Done) → Agrees inlets outlets s → Agrees inlets outlets t
-    → GoesOn s.recorded t.recorded → Shrinks s.side.seats t.side.seats
+    → HistoryGoesOn s.recorded t.recorded → Shrinks s.side.seats t.side.seats
     → AreTold finished s.side.seats s.side.ways → AreDrained finished t.side.seats → AreSettled finished t.recorded.kept
 all-settled inlets outlets s t finished before after on shrinks told drained i f at =
     settled inlets outlets s t f before after on shrinks (told i f at) (λ k is. drained i f k at is)
 
 -- ---- one event more
 
-pub drained-agree : (inlets : List NamedInlet) (outlets : List NamedOutlet) (k : ℕ) (s t : DeskState) → (Steps k s t ⊎ Drops k s t) → Agrees inlets outlets s → Agrees inlets outlets t
+pub drained-agree : (inlets : List NamedInlet) (outlets : List NamedOutlet) (k : ℕ) (s t : DeskState) → (StepsFirst k s t ⊎ Drops k s t) → Agrees inlets outlets s → Agrees inlets outlets t
 drained-agree inlets outlets k s t (inl x) h = steps-agree inlets outlets k s t h x
 drained-agree inlets outlets k s t (inr x) h = drops-agree inlets outlets k s t h x
 
-pub drained-goes : (k : ℕ) (s t : DeskState) → (Steps k s t ⊎ Drops k s t) → GoesOn s.recorded t.recorded
+pub drained-goes : (k : ℕ) (s t : DeskState) → (StepsFirst k s t ⊎ Drops k s t) → HistoryGoesOn s.recorded t.recorded
 drained-goes k s t (inl x) = step-goes x.event x.said s.recorded t.recorded x.step
-drained-goes k s t (inr x) = subst (GoesOn s.recorded) (sym x.recorded) (goes-nowhere s.recorded)
+drained-goes k s t (inr x) = subst (HistoryGoesOn s.recorded) (sym x.recorded) (goes-nowhere s.recorded)
 
-pub drained-shrinks : (k : ℕ) (s t : DeskState) → (Steps k s t ⊎ Drops k s t) → Shrinks s.side.seats t.side.seats
+pub drained-shrinks : (k : ℕ) (s t : DeskState) → (StepsFirst k s t ⊎ Drops k s t) → Shrinks s.side.seats t.side.seats
 drained-shrinks k s t (inl x) = pop-shrinks k x.event s.side.seats t.side.seats x.seats
 drained-shrinks k s t (inr x) = pop-shrinks k x.event s.side.seats t.side.seats x.seats
 
-pub drained-less : (k n : ℕ) (s t : DeskState) → k < length s.side.seats → (Steps k s t ⊎ Drops k s t)
+pub drained-less : (k n : ℕ) (s t : DeskState) → k < length s.side.seats → (StepsFirst k s t ⊎ Drops k s t)
     → ((a : SeatState) → slice_get s.side.seats k ≡ Some a → length a.known ≡ n + 1)
     → (b : SeatState) → slice_get t.side.seats k ≡ Some b → length b.known ≡ n
 drained-less k n s t inside (inl x) knew = pop-less k n x.event s.side.seats t.side.seats inside x.seats knew

@@ -17,16 +17,16 @@ use Rattle.gate_events.specs.declared.source.Recipient.TheVariants as recipients
 use Rattle.gate_events.specs.Seen.{batch_seen}
 use Rattle.gate_events.specs.Sources.{events_from, is_from, is_same_source, lists_to, source_of, told_to, unless_empty}
 use Rattle.gate_journal.specs.Kept.{Kept, lists_kept}
-use Rattle.desk_steps.specs.Recorded.{IsStep, Recorded}
+use Rattle.desk_steps.specs.Recorded.{IsKeptStep, Recorded}
 use Rattle.desk_ends.specs.Rings.{NamedInlet, NamedOutlet}
 use Rattle.desk_ends.specs.Seats.{SeatState, SeatGave, WayState, WaySent, seat_name, way_name}
 use Rattle.desk_ends.proofs.Naming.{named, named-is}
 use Rattle.desk_ends.proofs.Places.{get-inside, get-same}
 use Rattle.desk_side.specs.declared.said.Said.{Said}
-use Rattle.desk_side.specs.Said.{IsSaid, said_to}
+use Rattle.desk_side.specs.Said.{IsSaid, list_for}
 use Rattle.desk_side.specs.Side.{ChangesAt, Tells}
 use Rattle.desk_steps.specs.Agreeing.{Agrees, AreNamed, DeskState, Follows}
-use Rattle.desk_steps.specs.Turning.{Does, IsRefused, Rounds, Steps, Went}
+use Rattle.desk_steps.specs.Turning.{Does, RoundIsRefused, Rounds, StepsFirst, Went}
 use Rattle.desk_steps.specs.declared.turned.Turned.{Turned}
 use Rattle.desk_steps.specs.declared.turned.Did.{Did}
 use Rattle.desk_steps.specs.declared.turned.Did.TheVariants.{Idle, Dropped, Held, Stepped}
@@ -60,7 +60,7 @@ lists-more to xs b =
     ∙ ap (λ (ls : List (List LinkOut)). lists_to to (map batch_seen xs) ++ ls) (append-nil (unless_empty (told_to to (batch_seen b)))))
 
 -- what was said is what the batch tells
-pub said-told : (to : Recipient) (b : law.Batch) (s : Said) → IsSaid b s → said_to to s ≡ told_to to b
+pub said-told : (to : Recipient) (b : law.Batch) (s : Said) → IsSaid b s → list_for to s ≡ told_to to b
 said-told (recipients.Client n) b s is = rw (is.0, is.1) refl
 said-told (recipients.Port n) b s is = rw (is.2, is.3) refl
 
@@ -84,7 +84,7 @@ get-one-more [] y z (suc i) at = absurd (cc at)
 get-one-more (x ∷ xs) y z zero at = inl at
 get-one-more (x ∷ xs) y z (suc i) at = get-one-more xs y z i at
 
-module _ (inlets : List NamedInlet) (outlets : List NamedOutlet) (k : ℕ) (s t : DeskState) (h : Agrees inlets outlets s) (x : Steps k s t) where
+module _ (inlets : List NamedInlet) (outlets : List NamedOutlet) (k : ℕ) (s t : DeskState) (h : Agrees inlets outlets s) (x : StepsFirst k s t) where
   -- a seat has the name of its place
   name-of : (i : ℕ) (a : SeatState) → slice_get s.side.seats i ≡ Some a → slice_get inlets i ≡ Some a.name
   name-of i a at = ap (λ (z : List NamedInlet). slice_get z i) (sym h.seat_names) ∙ (slice_get-map seat_name s.side.seats i ∙ ap (option_map seat_name) at)
@@ -132,14 +132,14 @@ module _ (inlets : List NamedInlet) (outlets : List NamedOutlet) (k : ℕ) (s t 
       let w = was s.side.ways t.side.ways d v x.ways.count at in
       let r = x.ways.each d w.0 w.1 in
       let same : r.0 ≡ v = get-same t.side.ways d r.0 v r.1 at in
-      let sent : WaySent (unless_empty (said_to w.0.name.to x.said)) w.0 v = subst (WaySent (unless_empty (said_to w.0.name.to x.said)) w.0) same r.2 in
-      let told : said_to w.0.name.to x.said ≡ told_to w.0.name.to (batch_seen x.step.batch) = said-told w.0.name.to (batch_seen x.step.batch) x.said x.step.says in
-      let lists : lists_kept w.0.name.to t.recorded.kept ≡ lists_kept w.0.name.to s.recorded.kept ++ unless_empty (said_to w.0.name.to x.said) =
+      let sent : WaySent (unless_empty (list_for w.0.name.to x.said)) w.0 v = subst (WaySent (unless_empty (list_for w.0.name.to x.said)) w.0) same r.2 in
+      let told : list_for w.0.name.to x.said ≡ told_to w.0.name.to (batch_seen x.step.batch) = said-told w.0.name.to (batch_seen x.step.batch) x.said x.step.says in
+      let lists : lists_kept w.0.name.to t.recorded.kept ≡ lists_kept w.0.name.to s.recorded.kept ++ unless_empty (list_for w.0.name.to x.said) =
       ap (λ (bs : List Batch). lists_to w.0.name.to (map batch_seen bs)) x.step.batches
       ∙ (lists-more w.0.name.to s.recorded.kept.batches x.step.batch
       ∙ ap (λ (z : List LinkOut). lists_kept w.0.name.to s.recorded.kept ++ unless_empty z) (sym told)) in
-      let f : Follows v (lists_kept w.0.name.to s.recorded.kept ++ unless_empty (said_to w.0.name.to x.said)) =
-      follows-step (unless_empty (said_to w.0.name.to x.said)) (lists_kept w.0.name.to s.recorded.kept) w.0 v (h.to_all d w.0 w.1) sent in
+      let f : Follows v (lists_kept w.0.name.to s.recorded.kept ++ unless_empty (list_for w.0.name.to x.said)) =
+      follows-step (unless_empty (list_for w.0.name.to x.said)) (lists_kept w.0.name.to s.recorded.kept) w.0 v (h.to_all d w.0 w.1) sent in
       subst (λ (n : NamedOutlet). Follows v (lists_kept n.to t.recorded.kept)) (sym sent.name)
       (subst (Follows v) (sym lists) f)
 
@@ -180,5 +180,5 @@ rounds-agree inlets outlets turned s t h r =
       | inr q ↦ looks-agree inlets outlets (length r.dids) r.mid t mid q.1
     ]
 
-pub refused-agree : (inlets : List NamedInlet) (outlets : List NamedOutlet) (s t : DeskState) → Agrees inlets outlets s → IsRefused s t → Agrees inlets outlets t
+pub refused-agree : (inlets : List NamedInlet) (outlets : List NamedOutlet) (s t : DeskState) → Agrees inlets outlets s → RoundIsRefused s t → Agrees inlets outlets t
 refused-agree inlets outlets s t h r = looks-agree inlets outlets (length r.dids) r.mid t (went-agree inlets outlets s r.dids r.mid h r.went) r.end

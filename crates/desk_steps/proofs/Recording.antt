@@ -10,7 +10,7 @@ use Rattle.gate_core.specs.Core.{After, CoreState, IsAfter, turn_of}
 use Rattle.gate_journal.specs.Kept.{Kept, turns}
 use Rattle.desk_side.specs.declared.said.Said.{Said}
 use Rattle.desk_side.specs.Said.{IsSaid}
-use Rattle.desk_steps.specs.Recorded.{IsStep, Recorded}
+use Rattle.desk_steps.specs.Recorded.{IsKeptStep, Recorded}
 
 pub holds-after : (s : Settings) (h : History) (core : CoreState) → IsAfter s h core → Holds s h
 unfolding IsAfter
@@ -30,9 +30,9 @@ pub step-is : (e : Event) (said : Said) (batch : Batch) (settings : Settings) (k
     → record { settings = settings; kept = kept } ≡ old
     → more.events ≡ kept.events ++ e ∷ [] → more.batches ≡ kept.batches ++ batch ∷ []
     → IsSaid (batch_seen batch) said → Holds settings (turn_of e batch ∷ turns kept)
-    → IsStep e said old (record { settings = settings; kept = more })
+    → IsKeptStep e said old (record { settings = settings; kept = more })
 step-is e said batch settings kept more old is events batches says holds =
-    subst (λ (z : Recorded). IsStep e said z (record { settings = settings; kept = more })) is
+    subst (λ (z : Recorded). IsKeptStep e said z (record { settings = settings; kept = more })) is
     (record { batch = batch; settings = refl; events = events; batches = batches; says = says; holds = holds })
 
 -- what is refused changes nothing

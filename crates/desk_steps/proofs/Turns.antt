@@ -12,11 +12,11 @@ use Rattle.desk_ends.proofs.Naming.{ways-stay}
 use Rattle.desk_ends.proofs.Places.{get-inside, get-same}
 use Rattle.desk_side.specs.declared.said.Said.{Said}
 use Rattle.desk_steps.specs.KeptFree.{kept_free}
-use Rattle.desk_side.specs.Side.{ChangesAt, IsHeld, SideState, Tells}
+use Rattle.desk_side.specs.Side.{ChangesAt, LacksRoom, SideState, Tells}
 use Rattle.desk_side.proofs.Moves.{ways-twice}
-use Rattle.desk_steps.specs.Recorded.{IsStep, Recorded}
+use Rattle.desk_steps.specs.Recorded.{IsKeptStep, Recorded}
 use Rattle.desk_steps.specs.Agreeing.{DeskState}
-use Rattle.desk_steps.specs.Turning.{Does, Drops, Looks, SameCounts, Steps, Waits, Went}
+use Rattle.desk_steps.specs.Turning.{Does, Drops, Looks, SameCounts, StepsFirst, Waits, Went}
 use Rattle.desk_steps.specs.declared.turned.Did.{Did}
 
 -- an event is the first of this seat's
@@ -58,10 +58,10 @@ popped-first k popped e old new inside first changes =
 -- the first event of a ring is stepped
 pub stepped : (k : ℕ) (recorded after : Recorded) (one two three : SideState) (e popped : Event) (said : Said) → k < length one.seats
     → ((a : SeatState) → slice_get one.seats k ≡ Some a → (f : Event) × (slice_get a.known 0 ≡ Some f) × (is_from a.name.source f ≡ true))
-    → At k one.seats (IsFirst e) → IsStep e said recorded after
+    → At k one.seats (IsFirst e) → IsKeptStep e said recorded after
     → ChangesAt k (SeatGave popped) one.seats two.seats → two.ways ≡ one.ways → SameCounts one two
     → three.seats ≡ two.seats → Tells said two.ways three.ways → SameCounts two three
-    → Steps k (record { recorded = recorded; side = one }) (record { recorded = after; side = three })
+    → StepsFirst k (record { recorded = recorded; side = one }) (record { recorded = after; side = three })
 stepped k recorded after one two three e popped said inside own first step pops ways counts seats tells more =
     let a = get-inside one.seats k inside in
     let f = own a.0 a.1 in
@@ -103,7 +103,7 @@ dropped k recorded one two e popped source inside first is isnt pops ways counts
 pub waits : (k : ℕ) (recorded : Recorded) (side : SideState) (e : Event) (source : Source) (client port : _) (kept : ℕ) → k < length side.seats
     → At k side.seats (IsFirst e) → At k side.seats (λ a. a.name.source ≡ source) → is_from source e ≡ true
     → client ≡ client_for recorded.settings (event_seen e) (lists recorded.settings (turns recorded.kept))
-    → port ≡ port_for recorded.settings (event_seen e) → kept ≡ kept_free (event_seen e) → IsHeld kept client port side.ways
+    → port ≡ port_for recorded.settings (event_seen e) → kept ≡ kept_free (event_seen e) → LacksRoom kept client port side.ways
     → Waits k (record { recorded = recorded; side = side })
 waits k recorded side e source client port kept inside first is mine clients ports frees held =
     let a = get-inside side.seats k inside in

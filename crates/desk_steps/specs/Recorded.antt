@@ -16,7 +16,7 @@ pub record Recorded : Type 0 where
   pub kept : Kept
 
 -- The event is kept with a batch, and this is what the batch tells; all that is promised holds with it.
-pub record IsStep (e : Event) (said : Said) (old new : Recorded) : Type 0 where
+pub record IsKeptStep (e : Event) (said : Said) (old new : Recorded) : Type 0 where
   pub batch : Batch
   pub settings : new.settings ≡ old.settings
   pub events : new.kept.events ≡ old.kept.events ++ e ∷ []

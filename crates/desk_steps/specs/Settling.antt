@@ -6,7 +6,7 @@ use Rattle.gate_journal.specs.Kept.{Kept, lists_kept}
 use Rattle.desk_steps.specs.Recorded.{Recorded}
 use Rattle.desk_ends.specs.Rings.{Done, put_at, took_at}
 use Rattle.desk_ends.specs.Ends.{inlet_of}
-use Rattle.desk_ends.specs.Seats.{IsTold, SeatState, WayState}
+use Rattle.desk_ends.specs.Seats.{IsBorneOut, SeatState, WayState}
 
 -- The history has just what was put. What was taken is a beginning of what it tells, and the whole where as many lists
 -- were taken.
@@ -19,7 +19,7 @@ abbrev pub AreSettled : List Done → Kept → Type 0
 AreSettled finished kept = (i : ℕ) (f : Done) → slice_get finished i ≡ Some f → IsSettled f kept
 
 -- the settings stay, and events with their batches are added at most
-pub record GoesOn (old new : Recorded) : Type 0 where
+pub record HistoryGoesOn (old new : Recorded) : Type 0 where
   pub settings : new.settings ≡ old.settings
   pub events : IsPrefix old.kept.events new.kept.events
   pub batches : IsPrefix old.kept.batches new.kept.batches
@@ -36,7 +36,7 @@ abbrev pub AreBegun : List Done → List SeatState → Type 0
 AreBegun finished seats = (i : ℕ) (f : Done) → slice_get finished i ≡ Some f → IsBegun f seats
 
 abbrev pub AreTold : List Done → List SeatState → List WayState → Type 0
-AreTold finished seats ways = (i : ℕ) (f : Done) → slice_get finished i ≡ Some f → IsTold f seats ways
+AreTold finished seats ways = (i : ℕ) (f : Done) → slice_get finished i ≡ Some f → IsBorneOut f seats ways
 
 -- a seat gave of what it was known to have, and knows the rest still
 abbrev pub SeatShrinks : SeatState → SeatState → Type 0

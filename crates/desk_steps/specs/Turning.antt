@@ -6,10 +6,10 @@ use Rattle.gate_events.specs.Seen.{event_seen}
 use Rattle.gate_events.specs.Sources.{is_from}
 use Rattle.gate_core.specs.Targets.{client_for, port_for}
 use Rattle.gate_journal.specs.Kept.{turns}
-use Rattle.desk_steps.specs.Recorded.{IsStep, Recorded}
+use Rattle.desk_steps.specs.Recorded.{IsKeptStep, Recorded}
 use Rattle.desk_ends.specs.Seats.{SeatState, SeatGave, SeatLooked, WayState, WaysLooked}
 use Rattle.desk_side.specs.declared.said.Said.{Said}
-use Rattle.desk_side.specs.Side.{ChangesAt, IsHeld, SideState, Tells}
+use Rattle.desk_side.specs.Side.{ChangesAt, LacksRoom, SideState, Tells}
 use Rattle.desk_steps.specs.Agreeing.{DeskState}
 use Rattle.desk_steps.specs.KeptFree.{kept_free}
 use Rattle.desk_steps.specs.Settling.{KnowsNone}
@@ -31,13 +31,13 @@ pub record Looks (k : ℕ) (s t : DeskState) : Type 0 where
 
 -- The first event of an inlet's ring, of the inlet's source, is stepped: it comes out of the ring, it is kept with its
 -- batch, and what that tells goes into the rings of its recipients.
-pub record Steps (k : ℕ) (s t : DeskState) : Type 0 where
+pub record StepsFirst (k : ℕ) (s t : DeskState) : Type 0 where
   pub event : Event
   pub said : Said
   pub seat : SeatState
   pub there : slice_get s.side.seats k ≡ Some seat
   pub own : is_from seat.name.source event ≡ true
-  pub step : IsStep event said s.recorded t.recorded
+  pub step : IsKeptStep event said s.recorded t.recorded
   pub seats : ChangesAt k (SeatGave event) s.side.seats t.side.seats
   pub ways : Tells said s.side.ways t.side.ways
   pub counts : SameCounts s.side t.side
@@ -61,7 +61,7 @@ pub record Waits (k : ℕ) (s : DeskState) : Type 0 where
   pub there : slice_get s.side.seats k ≡ Some seat
   pub first : slice_get seat.known 0 ≡ Some event
   pub own : is_from seat.name.source event ≡ true
-  pub held : IsHeld (kept_free (event_seen event))
+  pub held : LacksRoom (kept_free (event_seen event))
       (client_for s.recorded.settings (event_seen event) (lists s.recorded.settings (turns s.recorded.kept)))
       (port_for s.recorded.settings (event_seen event)) s.side.ways
 
@@ -74,7 +74,7 @@ abbrev pub Does : ℕ → Did → DeskState → DeskState → Type 0
 Does k Idle s t = Looks k s t × KnowsNone k t.side.seats
 Does k Dropped s t = (m : DeskState) × Looks k s m × Drops k m t
 Does k Held s t = Looks k s t × Waits k t
-Does k Stepped s t = (m : DeskState) × Looks k s m × Steps k m t × SameCuts m.side.ways t.side.ways
+Does k Stepped s t = (m : DeskState) × Looks k s m × StepsFirst k m t × SameCuts m.side.ways t.side.ways
 
 -- the turns of the first inlets, one after another, the newest first
 abbrev pub Went : DeskState → List Did → DeskState → Type 0
@@ -99,7 +99,7 @@ pub record Rounds (turned : Turned) (s t : DeskState) : Type 0 where
   pub end : ((length dids ≡ length s.side.seats) × (t ≡ mid)) ⊎ ((0 < turned.steps) × Looks (length dids) mid t)
 
 -- A round in which the first step that was tried was refused.
-pub record IsRefused (s t : DeskState) : Type 0 where
+pub record RoundIsRefused (s t : DeskState) : Type 0 where
   pub dids : List Did
   pub mid : DeskState
   pub went : Went s dids mid

@@ -7,8 +7,8 @@ ghost use Rattle.desk_ends.specs.Rings.{NamedInlet, NamedOutlet};
 ghost use Rattle.desk_ends.specs.Ends.{inlet_of};
 ghost use Rattle.desk_ends.specs.Seats.{SeatState, SeatsLooked, WaysLooked, seat_name, way_name};
 ghost use Rattle.desk_steps.specs.Agreeing.{Agrees};
-ghost use Rattle.desk_steps.specs.Settling.{AreBegun, AreDrained, AreSettled, AreTold, GoesOn, KnowsNone, Shrinks};
-ghost use Rattle.desk_steps.specs.Turning.{Drops, Steps};
+ghost use Rattle.desk_steps.specs.Settling.{AreBegun, AreDrained, AreSettled, AreTold, HistoryGoesOn, KnowsNone, Shrinks};
+ghost use Rattle.desk_steps.specs.Turning.{Drops, StepsFirst};
 
 use crate::recorded::RecordedCore;
 use crate::turning::step_front;
@@ -46,7 +46,7 @@ fn drain_one<S: BuildHasher + Drop>(
 ) -> Result<(), AllocError>
     requires inside { place < length side.old.seats }
     requires some { (a : SeatState) → slice_get side.old.seats place ≡ Some a → 0 < length a.known }
-    ensures ok { OnOk result (Steps place (record { recorded = recorded.old; side = side.old })
+    ensures ok { OnOk result (StepsFirst place (record { recorded = recorded.old; side = side.old })
         (record { recorded = recorded.new; side = side.new })
         ⊎ Drops place (record { recorded = recorded.old; side = side.old })
         (record { recorded = recorded.new; side = side.new })) }
@@ -71,7 +71,7 @@ fn drain<S: BuildHasher + Drop>(
     ensures agrees { (inlets : List NamedInlet) (outlets : List NamedOutlet)
         → Agrees inlets outlets (record { recorded = recorded.old; side = side.old })
         → Agrees inlets outlets (record { recorded = recorded.new; side = side.new }) }
-    ensures goes_on { GoesOn recorded.old recorded.new }
+    ensures goes_on { HistoryGoesOn recorded.old recorded.new }
     ensures shrinks { Shrinks side.old.seats side.new.seats }
     ensures none { OnOk result (KnowsNone place side.new.seats) }
 {
@@ -93,7 +93,7 @@ fn drain_end<K: DeskName, S: BuildHasher + Drop>(
     ensures agrees { (inlets : List NamedInlet) (outlets : List NamedOutlet)
         → Agrees inlets outlets (record { recorded = recorded.old; side = side.old })
         → Agrees inlets outlets (record { recorded = recorded.new; side = side.new }) }
-    ensures goes_on { GoesOn recorded.old recorded.new }
+    ensures goes_on { HistoryGoesOn recorded.old recorded.new }
     ensures shrinks { Shrinks side.old.seats side.new.seats }
     ensures none { OnOk result ((k : ℕ) → inlet_of finished.now ≡ Some k → KnowsNone k side.new.seats) }
 {
@@ -114,7 +114,7 @@ fn drain_all<K: DeskName, S: BuildHasher + Drop>(
     ensures agrees { (inlets : List NamedInlet) (outlets : List NamedOutlet)
         → Agrees inlets outlets (record { recorded = recorded.old; side = side.old })
         → Agrees inlets outlets (record { recorded = recorded.new; side = side.new }) }
-    ensures goes_on { GoesOn recorded.old recorded.new }
+    ensures goes_on { HistoryGoesOn recorded.old recorded.new }
     ensures shrinks { Shrinks side.old.seats side.new.seats }
     ensures none { OnOk result (AreDrained finished.now.items side.new.seats) }
 {
@@ -136,7 +136,7 @@ pub fn settle<K: DeskName, S: BuildHasher + Drop>(
     requires agrees { Agrees K.inlets K.outlets (record { recorded = recorded.old; side = side.old }) }
     ensures agrees { Agrees K.inlets K.outlets (record { recorded = recorded.new; side = side.new }) }
     ensures same { finished.new.items ≡ finished.old.items }
-    ensures goes_on { GoesOn recorded.old recorded.new }
+    ensures goes_on { HistoryGoesOn recorded.old recorded.new }
     ensures settled { OnOk result (AreSettled finished.old.items recorded.new.kept) }
 {
     compare_all(side, finished);

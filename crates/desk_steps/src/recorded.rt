@@ -95,7 +95,7 @@ impl<S: BuildHasher + Drop> RecordedCore<S> {
     ghost use Rattle.gate_core.specs.Expected.{fault_now};
     ghost use Rattle.gate_core.specs.Targets.{client_for, port_for};
     ghost use Rattle.gate_journal.specs.Kept.{turns};
-    ghost use Rattle.desk_steps.specs.Recorded.{IsStep};
+    ghost use Rattle.desk_steps.specs.Recorded.{IsKeptStep};
 
     /// Whom the batch of this event may name, if it is stepped next. Takes no memory.
     pub fn targets(&self, event: &Event) -> Targets
@@ -112,7 +112,7 @@ impl<S: BuildHasher + Drop> RecordedCore<S> {
     /// Steps an event, keeps it with its batch, and gives what the batch tells. `AllocError` leaves all as it was: the
     /// event may be stepped again, or another one.
     pub fn step(&mut self, alloc: Global, event: &Event) -> Result<Said, AllocError>
-        ensures ok { IfOk result (λ said. IsStep event.now said self.old self.new) }
+        ensures ok { IfOk result (λ said. IsKeptStep event.now said self.old self.new) }
         ensures err { OnErr result (self.new ≡ self.old) }
     {
         let batch = self.core.step(alloc, event)?;

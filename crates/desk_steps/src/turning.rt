@@ -4,7 +4,7 @@ ghost use Rattle.std.specs.Prelude.{◌≡◌, ◌<◌, ◌^◌, true, Some, len
 ghost use Rattle.gate_events.specs.Sources.{is_from};
 ghost use Rattle.gate_events.specs.declared.event.Event.{Event};
 ghost use Rattle.desk_ends.specs.Seats.{SeatState};
-ghost use Rattle.desk_steps.specs.Turning.{Does, IsRefused, Looks, Rounds, Steps};
+ghost use Rattle.desk_steps.specs.Turning.{Does, RoundIsRefused, Looks, Rounds, StepsFirst};
 
 use crate::keeping_free::places_kept_free;
 use crate::recorded::RecordedCore;
@@ -24,7 +24,7 @@ pub(crate) fn step_front<S: BuildHasher + Drop>(
     requires inside { place < length side.old.seats }
     requires own { (a : SeatState) → slice_get side.old.seats place ≡ Some a
         → (e : Event) × (slice_get a.known 0 ≡ Some e) × (is_from a.name.source e ≡ true) }
-    ensures ok { OnOk result (Steps place (record { recorded = recorded.old; side = side.old })
+    ensures ok { OnOk result (StepsFirst place (record { recorded = recorded.old; side = side.old })
         (record { recorded = recorded.new; side = side.new })) }
     ensures err { OnErr result ((recorded.new ≡ recorded.old) × (side.new ≡ side.old)) }
 {
@@ -75,7 +75,7 @@ pub fn round<S: BuildHasher + Drop>(
     requires few { length side.old.seats < 2 ^ 32 }
     ensures ok { IfOk result (λ turned. Rounds turned (record { recorded = recorded.old; side = side.old })
         (record { recorded = recorded.new; side = side.new })) }
-    ensures err { OnErr result (IsRefused (record { recorded = recorded.old; side = side.old })
+    ensures err { OnErr result (RoundIsRefused (record { recorded = recorded.old; side = side.old })
         (record { recorded = recorded.new; side = side.new })) }
 {
     let mut turned = Turned { steps: 0, held: 0 };

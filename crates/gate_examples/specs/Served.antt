@@ -3,7 +3,7 @@ use Rattle.std.specs.Prelude.{◌≡◌, true, false, List, [], ◌∷◌, refl,
 use Rattle.soup_session.specs.Table as port
 use Rattle.gate_law.specs.Settings.{ClientSettings, Settings}
 use Rattle.gate_law.specs.Limits.{is_served}
-use Rattle.gate_examples.specs.Transcript.{settings, client_of, port_user}
+use Rattle.gate_examples.specs.Transcript.{settings, client_by, port_user}
 
 abbrev with_ports : List port.LoginTerms → Settings
 with_ports terms = record settings { ports = terms }
@@ -21,7 +21,7 @@ served :
     × (is_served (with_ports (port_user ∷ record port_user { password = replicate 10 32 } ∷ [])) ≡ true)
     × (is_served (with_ports (port_user ∷ record port_user { password = replicate 11 32 } ∷ [])) ≡ false)
     × (is_served (with_clients []) ≡ false)
-    × (is_served (with_clients (client_of (codes "C1") 1 ∷ [])) ≡ true)
-    × (is_served (with_clients (client_of (codes "C1") 1 ∷ client_of (codes "C1") 2 ∷ [])) ≡ false)  -- two of one name
-    × (is_served (with_clients (client_of (codes "C 1") 1 ∷ [])) ≡ false)
+    × (is_served (with_clients (client_by (codes "C1") 1 ∷ [])) ≡ true)
+    × (is_served (with_clients (client_by (codes "C1") 1 ∷ client_by (codes "C1") 2 ∷ [])) ≡ false)  -- two of one name
+    × (is_served (with_clients (client_by (codes "C 1") 1 ∷ [])) ≡ false)
 served = (refl, refl, refl, refl, refl, refl, refl, refl, refl, refl, refl, refl)

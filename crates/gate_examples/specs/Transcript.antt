@@ -15,8 +15,8 @@ use Rattle.gate_law.specs.Events.{Event, LinkOut, Write, Close, Batch, empty, Tu
 
 -- ---- settings: clients C1 and C2 on port 1, C3 on port 2
 
-abbrev pub client_of : List ℕ → ℕ → ClientSettings
-client_of name number = record { comp = name; terms = terms_of orders.fixed_terms number }
+abbrev pub client_by : List ℕ → ℕ → ClientSettings
+client_by name number = record { comp = name; terms = terms_of orders.fixed_terms number }
 
 abbrev pub port_user : port.LoginTerms
 port_user = record { user = codes "USER01"; password = codes "PASSWORD" }
@@ -25,7 +25,7 @@ abbrev pub settings : Settings
 settings = record {
   comp = codes "GATE";
   ports = port_user ∷ port_user ∷ [];
-  clients = client_of (codes "C1") 1 ∷ client_of (codes "C2") 2 ∷ client_of (codes "C3") 3 ∷ [];
+  clients = client_by (codes "C1") 1 ∷ client_by (codes "C2") 2 ∷ client_by (codes "C3") 3 ∷ [];
 }
 
 abbrev name_of : ℕ → List ℕ

@@ -9,7 +9,7 @@ ghost use Rattle.gate_law.specs.Holds.{Holds};
 ghost use Rattle.gate_journal.specs.Kept.{nothing_kept, turns};
 ghost use Rattle.text_lines.specs.Unread.{lines_of};
 ghost use Rattle.script_steps.specs.Standing.{IsCold, IsTextStep, IsWarm, StepsText};
-ghost use Rattle.script_steps.specs.Steps.{GoesOn};
+ghost use Rattle.script_steps.specs.Steps.{ScriptGoesOn};
 ghost use Rattle.gate_lines.specs.Scripts.{BeginsScript, ComesTo, Prints, PrintsAll, PrintsLine, StopsScript};
 ghost use Rattle.gate_lines.specs.Scripts.{StopsAmong, WritesNothing};
 ghost use Rattle.script_steps.specs.Settings.{fixed};
@@ -202,7 +202,7 @@ fn step_lines<S: BuildHasher + Drop, R: Read>(
     input: &mut R,
     kept: &mut History,
 ) -> Result<(), Stop>
-    ensures on { OnOk result (GoesOn runner.old.core kept.old runner.new.core kept.new) }
+    ensures on { OnOk result (ScriptGoesOn runner.old.core kept.old runner.new.core kept.new) }
     ensures lines { OnOk result (IfSome (R.remaining input.old) (λ text. FoldsTo IsTextStep
         (record { runner = runner.old; kept = kept.old }) (lines_of text)
         (record { runner = runner.new; kept = kept.new }))) }

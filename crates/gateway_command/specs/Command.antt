@@ -32,8 +32,8 @@ abbrev pub journal : App
 journal = with_rule (new_app (codes "journal")) (required_rule (codes "script"))
 
 -- `run --settings FILE [--links N] [--journal FILE]`
-abbrev pub run : App
-run = with_rule (with_rule (with_rule (new_app (codes "run")) (required_rule (codes "settings"))) (value_rule (codes "links")))
+abbrev pub runs : App
+runs = with_rule (with_rule (with_rule (new_app (codes "run")) (required_rule (codes "settings"))) (value_rule (codes "links")))
     (value_rule (codes "journal"))
 
 -- `demo`
@@ -53,7 +53,7 @@ with_command command more = with_subcommand command more.top
 
 -- `gateway` with its subcommands
 abbrev pub gateway : App
-gateway = with_command (with_command (with_command (with_command alone run) demo) audit) journal
+gateway = with_command (with_command (with_command (with_command alone runs) demo) audit) journal
 
 -- the subcommand that `clap` finds in the words of a command line, with its arguments, and why it refuses them
 unfoldable pub gateway_found : List Text → Option (Text × List Row)
@@ -104,8 +104,8 @@ run_asked rows = option_map
     (λ (file : Text). Runs file (first_of (codes "links") rows) (first_of (codes "journal") rows))
     (first_of (codes "settings") rows)
 
-unfoldable pub asked_by : Text → List Row → Option Asking
-asked_by name rows =
+unfoldable pub asking_of : Text → List Row → Option Asking
+asking_of name rows =
     if bytes_eq name (codes "audit") then audit_asked rows
     else if bytes_eq name (codes "journal") then keep_asked rows
     else if bytes_eq name (codes "run") then run_asked rows
@@ -113,7 +113,7 @@ asked_by name rows =
     else None
 
 abbrev pub asked_in : Option (Text × List Row) → Option Asking
-asked_in = option_and_then (λ p. asked_by p.0 p.1)
+asked_in = option_and_then (λ p. asking_of p.0 p.1)
 
 -- what the words ask for
 abbrev pub asked_of : List Text → Option Asking

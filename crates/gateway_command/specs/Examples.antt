@@ -4,7 +4,7 @@ use Rattle.clap.specs.Words.{Text, Kinds}
 use Rattle.clap.specs.declared.error.kind.ErrorKind.TheVariants as kind
 use Rattle.clap.proofs.OnLiterals.{clap_on_literals}
 use Rattle.gateway_command.specs.Command.{Asking, Audits, AuditsDay, Demonstrates, Keeps, Runs}
-use Rattle.gateway_command.specs.Command.{asked_by, asked_of, gateway_found, gateway_faults, links_of}
+use Rattle.gateway_command.specs.Command.{asking_of, asked_of, gateway_found, gateway_faults, links_of}
 
 abbrev line : List Text → List Text
 line words = codes "gateway" ∷ words
@@ -20,38 +20,38 @@ abbrev Refuses : List Text → Kinds → Type 0
 Refuses words kinds = gateway_faults (line words) ≡ kinds
 
 a_script : Asks (codes "audit" ∷ codes "--script" ∷ codes "a.script" ∷ []) (Audits (codes "a.script"))
-unfolding clap_on_literals gateway_found gateway_faults asked_by
+unfolding clap_on_literals gateway_found gateway_faults asking_of
 a_script = (refl, refl)
 
 in_one_word : Asks (codes "audit" ∷ codes "--script=a.script" ∷ []) (Audits (codes "a.script"))
-unfolding clap_on_literals gateway_found gateway_faults asked_by
+unfolding clap_on_literals gateway_found gateway_faults asking_of
 in_one_word = (refl, refl)
 
 a_gateway : Asks (codes "run" ∷ codes "--settings" ∷ codes "a.toml" ∷ []) (Runs (codes "a.toml") None None)
-unfolding clap_on_literals gateway_found gateway_faults asked_by
+unfolding clap_on_literals gateway_found gateway_faults asking_of
 a_gateway = (refl, refl)
 
 a_gateway_of_two_links : Asks (codes "run" ∷ codes "--links" ∷ codes "2" ∷ codes "--settings" ∷ codes "a.toml" ∷ [])
     (Runs (codes "a.toml") (Some (codes "2")) None)
-unfolding clap_on_literals gateway_found gateway_faults asked_by
+unfolding clap_on_literals gateway_found gateway_faults asking_of
 a_gateway_of_two_links = (refl, refl)
 
 a_gateway_with_a_journal : Asks (codes "run" ∷ codes "--settings" ∷ codes "a.toml" ∷ codes "--journal" ∷ codes "a.day" ∷ [])
     (Runs (codes "a.toml") None (Some (codes "a.day")))
-unfolding clap_on_literals gateway_found gateway_faults asked_by
+unfolding clap_on_literals gateway_found gateway_faults asking_of
 a_gateway_with_a_journal = (refl, refl)
 
 a_day : Asks (codes "audit" ∷ codes "--settings" ∷ codes "a.toml" ∷ codes "--journal" ∷ codes "a.day" ∷ [])
     (AuditsDay (codes "a.day") (codes "a.toml"))
-unfolding clap_on_literals gateway_found gateway_faults asked_by
+unfolding clap_on_literals gateway_found gateway_faults asking_of
 a_day = (refl, refl)
 
 a_script_as_a_day : Asks (codes "journal" ∷ codes "--script" ∷ codes "a.script" ∷ []) (Keeps (codes "a.script"))
-unfolding clap_on_literals gateway_found gateway_faults asked_by
+unfolding clap_on_literals gateway_found gateway_faults asking_of
 a_script_as_a_day = (refl, refl)
 
 a_demonstration : Asks (codes "demo" ∷ []) Demonstrates
-unfolding clap_on_literals gateway_found gateway_faults asked_by
+unfolding clap_on_literals gateway_found gateway_faults asking_of
 a_demonstration = (refl, refl)
 
 a_missing_file : Refuses (codes "audit" ∷ codes "--script" ∷ []) (kind.InvalidValue ∷ [])
@@ -64,19 +64,19 @@ no_option = refl
 
 -- an audit of nothing; of a journal without settings; of a script with settings, or with a journal
 no_audit : Vainly (codes "audit" ∷ [])
-unfolding clap_on_literals gateway_found gateway_faults asked_by
+unfolding clap_on_literals gateway_found gateway_faults asking_of
 no_audit = (refl, refl)
 
 no_settings_of_a_day : Vainly (codes "audit" ∷ codes "--journal" ∷ codes "a.day" ∷ [])
-unfolding clap_on_literals gateway_found gateway_faults asked_by
+unfolding clap_on_literals gateway_found gateway_faults asking_of
 no_settings_of_a_day = (refl, refl)
 
 settings_of_a_script : Vainly (codes "audit" ∷ codes "--script" ∷ codes "a.script" ∷ codes "--settings" ∷ codes "a.toml" ∷ [])
-unfolding clap_on_literals gateway_found gateway_faults asked_by
+unfolding clap_on_literals gateway_found gateway_faults asking_of
 settings_of_a_script = (refl, refl)
 
 a_script_and_a_journal : Vainly (codes "audit" ∷ codes "--script" ∷ codes "a.script" ∷ codes "--journal" ∷ codes "a.day" ∷ [])
-unfolding clap_on_literals gateway_found gateway_faults asked_by
+unfolding clap_on_literals gateway_found gateway_faults asking_of
 a_script_and_a_journal = (refl, refl)
 
 no_settings : Refuses (codes "run" ∷ codes "--links" ∷ codes "2" ∷ []) (kind.MissingRequiredArgument ∷ [])

@@ -45,7 +45,7 @@ fn asked_in<'a>(matches: &ArgMatches<'a>) -> Option<Asked<'a>>
 
 /// What a subcommand asks for.
 fn asked_by<'a>(name: &str, found: &ArgMatches<'a>) -> Option<Asked<'a>>
-    ensures { option_map asked_seen result ≡ spec.asked_by name.now (rows_of (found_of found.now)) }
+    ensures { option_map asked_seen result ≡ spec.asking_of name.now (rows_of (found_of found.now)) }
 {
     match name {
         "audit" => audit_asked(found),
@@ -209,7 +209,7 @@ fn journal<'a>(alloc: Global) -> Result<Command<'a>, AllocError>
 
 /// `run --settings FILE [--links N] [--journal FILE]`.
 fn run<'a>(alloc: Global) -> Result<Command<'a>, AllocError>
-    ensures app { IfOk result (λ command. app_of command ≡ spec.run) }
+    ensures app { IfOk result (λ command. app_of command ≡ spec.runs) }
     ensures own { IfOk result (λ command. (fields_of command).has_globals ≡ false) }
 {
     let alone = Command::new(alloc, "run")

@@ -11,7 +11,7 @@ use std::alloc::{AllocError, Global};
 /// Gateway `GATE`; clients `C1` and `C2` of the firm `FIRM` on one port, whose user is `USER01` and its password
 /// `PASSWORD`.
 pub(crate) fn demo_settings(alloc: Global) -> Result<Settings, AllocError>
-    ensures { IfOk result (λ settings. settings ≡ spec.shown) }
+    ensures { IfOk result (λ settings. settings ≡ spec.demo_settings) }
 {
     let gate = Text::copied(alloc, b"GATE")?;
     let ports = vec![in alloc; port(alloc)?]?;
@@ -21,7 +21,7 @@ pub(crate) fn demo_settings(alloc: Global) -> Result<Settings, AllocError>
 
 /// Who logs in on the port.
 fn port(alloc: Global) -> Result<PortSettings, AllocError>
-    ensures { IfOk result (λ port. port ≡ spec.shown_login) }
+    ensures { IfOk result (λ port. port ≡ spec.demo_login) }
 {
     Ok(PortSettings {
         user: Vec::from_slice(alloc, b"USER01")?,
@@ -32,7 +32,7 @@ fn port(alloc: Global) -> Result<PortSettings, AllocError>
 /// A client of this name.
 fn client(alloc: Global, name: &[u8; 2]) -> Result<ClientSettings, AllocError>
     requires { IsValue name.now }
-    ensures { IfOk result (λ client. client ≡ spec.shown_client name.now) }
+    ensures { IfOk result (λ client. client ≡ spec.demo_client name.now) }
 {
     Ok(ClientSettings {
         comp: Text::copied(alloc, name)?,

@@ -10,10 +10,10 @@ use Rattle.run_lines.specs.declared.peer.RunPeer.{RunPeer}
 use Rattle.run_lines.specs.declared.peer.RunPeer.TheVariants as peers
 
 -- whom a line's events are of: its own client, port or clock
-abbrev pub source_of : RunPeer → Source
-source_of (peers.Client n) = sources.Client n
-source_of (peers.Port n) = sources.Port n
-source_of (peers.Clock ticks) = sources.Clock
+abbrev pub source_of_peer : RunPeer → Source
+source_of_peer (peers.Client n) = sources.Client n
+source_of_peer (peers.Port n) = sources.Port n
+source_of_peer (peers.Clock ticks) = sources.Clock
 
 -- who is told what it takes: its own client or port; nobody for the clock
 abbrev pub recipient_of : RunPeer → Option Recipient

@@ -16,9 +16,9 @@ pub record DayState : Type 0 where
   pub fault : Option LinkFault
 
 -- what a writer has grew by just the audit of this history by these settings
-abbrev pub IsToldOf : Settings → History → Option (List ℕ) → Option (List ℕ) → Type 0
-IsToldOf s h old new = Appends old new (shown_audit (accepted_pairs s h))
+abbrev pub AuditIsToldOf : Settings → History → Option (List ℕ) → Option (List ℕ) → Type 0
+AuditIsToldOf s h old new = Appends old new (shown_audit (accepted_pairs s h))
 
 -- the same of some history of which all that is promised holds
-abbrev pub IsTold : Option (List ℕ) → Option (List ℕ) → Type 0
-IsTold old new = (s : Settings) × (h : History) × Holds s h × IsToldOf s h old new
+abbrev pub AuditIsTold : Option (List ℕ) → Option (List ℕ) → Type 0
+AuditIsTold old new = (s : Settings) × (h : History) × Holds s h × AuditIsToldOf s h old new

@@ -3,7 +3,7 @@
 ghost use Rattle.std.specs.Prelude.{◌≡◌, ◌≤◌};
 ghost use Rattle.gate_journal.specs.Kept.{turns};
 ghost use Rattle.day_lists.specs.Files.{IsFileOfTurns};
-ghost use Rattle.gateway_run.specs.Told.{IsTold, IsToldOf};
+ghost use Rattle.gateway_run.specs.Told.{AuditIsTold, AuditIsToldOf};
 
 use crate::fault::RunFault;
 use audit_lines::write_audit;
@@ -80,8 +80,8 @@ impl Day {
 pub fn audit_day<W: Write, F: Write>(alloc: Global, day: &Day, output: &mut W, faults: &mut F) -> u8
     ensures status { result ≤ 1 }
     ensures audited { result ≡ 0
-        → IsToldOf day.now.settings (turns day.now.kept) (W.contents output.old) (W.contents output.new) }
-    ensures told { result ≡ 0 → IsTold (W.contents output.old) (W.contents output.new) }
+        → AuditIsToldOf day.now.settings (turns day.now.kept) (W.contents output.old) (W.contents output.new) }
+    ensures told { result ≡ 0 → AuditIsTold (W.contents output.old) (W.contents output.new) }
 {
     match audit(alloc, &day.history, &day.settings) {
         Ok(pairs) => write_audit(alloc, pairs.as_slice(), output, faults),
@@ -127,7 +127,7 @@ pub fn end_day<J: Write, W: Write, F: Write>(
     ensures kept { result ≡ 0
         → IsFileOfTurns (turns day.now.kept) (J.contents journal.old) (J.contents journal.new) }
     ensures audited { result ≡ 0
-        → IsToldOf day.now.settings (turns day.now.kept) (W.contents output.old) (W.contents output.new) }
+        → AuditIsToldOf day.now.settings (turns day.now.kept) (W.contents output.old) (W.contents output.new) }
 {
     let kept = keep_day(alloc, day, journal, faults);
     let audited = audit_day(alloc, day, output, faults);

@@ -1,7 +1,7 @@
 //! The ends of a desk, as lines that threads serve.
 
 ghost use Rattle.std.specs.Prelude.{◌≡◌, All};
-ghost use Rattle.gateway_run.specs.Own.{of_gate, recipient_of, source_of};
+ghost use Rattle.gateway_run.specs.Own.{of_gate, recipient_of, source_of_peer};
 
 use crate::lines::{Count, RunLine, client_line, clock_line, port_line};
 use crate::port_faults::PortLinks;
@@ -27,7 +27,7 @@ pub struct RunPlan<A, C> {
 #[derive(Drop)]
 pub(crate) struct Ends<'a, A, C, K: DeskName, R> {
     pub(crate) lines: Vec<RunLine<'a, A, C, K, R>>,
-    ghost puts_own: { All (λ l. l.reader.gate.inlet.source ≡ source_of l.peer) lines.items },
+    ghost puts_own: { All (λ l. l.reader.gate.inlet.source ≡ source_of_peer l.peer) lines.items },
     ghost takes_own: { All (λ l. of_gate (λ g. g.outlet.to) l.writer.gate ≡ recipient_of l.peer) lines.items },
 }
 

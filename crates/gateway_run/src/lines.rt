@@ -3,7 +3,7 @@
 ghost use Rattle.std.specs.Prelude.{◌≡◌, None, Some};
 ghost use Rattle.gate_events.specs.declared.source.Recipient.TheVariants as recipients;
 ghost use Rattle.gate_events.specs.declared.source.Source.TheVariants as sources;
-ghost use Rattle.gateway_run.specs.Own.{of_gate, recipient_of, source_of};
+ghost use Rattle.gateway_run.specs.Own.{of_gate, recipient_of, source_of_peer};
 ghost use Rattle.run_lines.specs.declared.gate.RunGate.TheVariants as gates;
 
 use crate::clock::RunClock;
@@ -65,7 +65,7 @@ pub(crate) fn client_line<'a, A, C, K: DeskName, R: Wait + Clock>(
     inlet: Inlet<K>,
     outlet: Outlet<K>,
 ) -> RunLine<'a, A, C, K, R>
-    ensures peer { source_of result.peer ≡ sources.Client client }
+    ensures peer { source_of_peer result.peer ≡ sources.Client client }
     ensures told { recipient_of result.peer ≡ Some (recipients.Client client) }
     ensures inlet { result.reader.gate.inlet ≡ inlet }
     ensures outlet { of_gate (λ g. g.outlet.to) result.writer.gate ≡ Some outlet.to }
@@ -97,7 +97,7 @@ pub(crate) fn port_line<'a, A, C, K: DeskName, R: Wait + Clock>(
     inlet: Inlet<K>,
     outlet: Outlet<K>,
 ) -> RunLine<'a, A, C, K, R>
-    ensures peer { source_of result.peer ≡ sources.Port port }
+    ensures peer { source_of_peer result.peer ≡ sources.Port port }
     ensures told { recipient_of result.peer ≡ Some (recipients.Port port) }
     ensures inlet { result.reader.gate.inlet ≡ inlet }
     ensures outlet { of_gate (λ g. g.outlet.to) result.writer.gate ≡ Some outlet.to }
@@ -129,7 +129,7 @@ pub(crate) fn clock_line<'a, A, C, K: DeskName, R: Wait + Clock>(
     is_over: &'a AtomicBool,
     inlet: Inlet<K>,
 ) -> RunLine<'a, A, C, K, R>
-    ensures peer { source_of result.peer ≡ sources.Clock }
+    ensures peer { source_of_peer result.peer ≡ sources.Clock }
     ensures told { recipient_of result.peer ≡ None }
     ensures inlet { result.reader.gate.inlet ≡ inlet }
     ensures nothing { result.writer.gate ≡ gates.Nothing }

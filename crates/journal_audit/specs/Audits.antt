@@ -9,7 +9,7 @@ use Rattle.gate_journal.specs.Kept as lists
 use Rattle.gate_lines.specs.Scripts.{ComesTo}
 use Rattle.script_steps.specs.Settings.{fixed}
 use Rattle.journal_pages.specs.declared.fault.PageFault.{PageFault}
-use Rattle.day_history.specs.Kept.{kept_in, turns}
+use Rattle.day_history.specs.Kept.{kept_in, day_turns}
 use Rattle.journal_file.specs.File.{IsNoFile}
 use Rattle.day_lists.specs.Files.{IsFile, IsFileOfTurns}
 
@@ -18,8 +18,8 @@ use Rattle.day_lists.specs.Files.{IsFile, IsFileOfTurns}
 pub record IsAuditOfFile (s : Settings) (file : List ℕ) (old new : Option (List ℕ)) : Type 0 where
   pub pages : List (List ℕ)
   pub says : IsFile pages file
-  pub written : Appends old new (shown_audit (pairs s (turns (kept_in pages))))
-  pub run : Holds s (turns (kept_in pages)) → Appends old new (shown_audit (accepted_pairs s (turns (kept_in pages))))
+  pub written : Appends old new (shown_audit (pairs s (day_turns (kept_in pages))))
+  pub run : Holds s (day_turns (kept_in pages)) → Appends old new (shown_audit (accepted_pairs s (day_turns (kept_in pages))))
 
 -- the file is none, for this page and fault
 pub record IsNoDaysFile (file : List ℕ) : Type 0 where

@@ -6,7 +6,7 @@ ghost use Rattle.gate_law.specs.Holds.{Holds};
 ghost use Rattle.gate_audit.specs.Pairs.{accepted_pairs, pairs};
 ghost use Rattle.audit_lines.specs.Lines.{shown_audit};
 ghost use Rattle.journal_pages.specs.declared.fault.PageFault.TheVariants.{NoMemory};
-ghost use Rattle.day_history.specs.Kept.{turns};
+ghost use Rattle.day_history.specs.Kept.{day_turns};
 ghost use Rattle.journal_audit.specs.Audits.{IsAuditOfFile, IsNoDaysFile};
 
 use audit_lines::write_audit;
@@ -26,9 +26,9 @@ fn day_pairs(
     day: &DayHistory,
     settings: &Settings,
 ) -> Result<Vec<OrderPair>, ReadingFault>
-    ensures read { IfOk result (λ list. list.items ≡ pairs settings.now (turns day.now)) }
-    ensures run { IfOk result (λ list. Holds settings.now (turns day.now)
-        → list.items ≡ accepted_pairs settings.now (turns day.now)) }
+    ensures read { IfOk result (λ list. list.items ≡ pairs settings.now (day_turns day.now)) }
+    ensures run { IfOk result (λ list. Holds settings.now (day_turns day.now)
+        → list.items ≡ accepted_pairs settings.now (day_turns day.now)) }
 {
     let kept = listed(alloc, day)?;
     let list = audit(alloc, &kept, settings)?;
@@ -73,10 +73,10 @@ fn write_day_audit<W: Write, F: Write>(
 ) -> u8
     ensures status { result ≤ 1 }
     ensures written { result ≡ 0 → Appends (W.contents output.old) (W.contents output.new)
-        (shown_audit (pairs settings.now (turns day.now))) }
-    ensures run { Holds settings.now (turns day.now) → result ≡ 0
+        (shown_audit (pairs settings.now (day_turns day.now))) }
+    ensures run { Holds settings.now (day_turns day.now) → result ≡ 0
         → Appends (W.contents output.old) (W.contents output.new)
-        (shown_audit (accepted_pairs settings.now (turns day.now))) }
+        (shown_audit (accepted_pairs settings.now (day_turns day.now))) }
 {
     match day_pairs(alloc, day, settings) {
         Ok(pairs) => write_audit(alloc, pairs.as_slice(), output, faults),

@@ -14,7 +14,7 @@ use Rattle.gate_journal.specs.Kept.{Kept, nothing_kept}
 use Rattle.script_steps.specs.declared.events.Links.{Links}
 use Rattle.script_steps.specs.Lines.{NoLinks}
 use Rattle.script_steps.specs.Settings.{fixed}
-use Rattle.script_steps.specs.Steps.{GoesOn, KeepsLine}
+use Rattle.script_steps.specs.Steps.{ScriptGoesOn, KeepsLine}
 
 -- the core, and what the lines have told of links and of the time
 pub record Runner : Type 0 where
@@ -25,7 +25,7 @@ pub record Runner : Type 0 where
 
 -- A line steps a runner: the core goes on by what is kept of it, and that is the events that the line is.
 pub record StepsLine (old : Runner) (kept : Kept) (said : Line) (new : Runner) (more : Kept) : Type 0 where
-  pub on : GoesOn old.core kept new.core more
+  pub on : ScriptGoesOn old.core kept new.core more
   pub events : KeepsLine old.core said old.links new.links kept more
 
 -- the line of this text

@@ -11,8 +11,8 @@ use Rattle.script_steps.specs.Lines.{Becomes}
 
 -- the core was stepped by the events that were kept meanwhile, in their order, each once, and gave the batches beside
 -- them: it is after them, where it was after what was kept before
-unfoldable pub GoesOn : CoreState → Kept → CoreState → Kept → Type 0
-GoesOn core kept later more =
+unfoldable pub ScriptGoesOn : CoreState → Kept → CoreState → Kept → Type 0
+ScriptGoesOn core kept later more =
     (s : Settings) (before : History) → IsAfter s (turns kept ++ before) core → IsAfter s (turns more ++ before) later
 
 -- the events that were kept are those of the line

@@ -7,7 +7,7 @@ ghost use Rattle.script_steps.specs.Lines.{MayStop, MayStopAt};
 ghost use Rattle.script_steps.specs.Standing.{IsCold, IsStep, IsWarm, StepsText, logs_in_lines, logs_on_lines};
 ghost use Rattle.script_steps.specs.Standing.{opening_lines};
 ghost use Rattle.script_steps.specs.Standing as spec;
-ghost use Rattle.script_steps.specs.Steps.{GoesOn, KeepsLine};
+ghost use Rattle.script_steps.specs.Steps.{ScriptGoesOn, KeepsLine};
 
 use crate::events::Links;
 use crate::settings::fixed_settings;
@@ -83,7 +83,7 @@ impl<S: BuildHasher + Drop> Runner<S> {
     /// Steps a line, and keeps its events with the batches that they give. `NotUnderstood` where `Links::events_of`
     /// answers it.
     pub fn step(&mut self, alloc: Global, line: Line, kept: &mut History) -> Result<(), LineFault>
-        ensures on { OnOk result (GoesOn self.old.core kept.old self.new.core kept.new) }
+        ensures on { OnOk result (ScriptGoesOn self.old.core kept.old self.new.core kept.new) }
         ensures line { OnOk result (KeepsLine self.old.core line self.old.links self.new.links kept.old kept.new) }
         ensures stopped { IsErrOf result LineFault.NotUnderstood → MayStop line }
     {
@@ -99,7 +99,7 @@ fn step_events<S: BuildHasher + Drop>(
     events: Vec<Event>,
     kept: &mut History,
 ) -> Result<(), AllocError>
-    ensures on { OnOk result (GoesOn core.old kept.old core.new kept.new) }
+    ensures on { OnOk result (ScriptGoesOn core.old kept.old core.new kept.new) }
     ensures events { OnOk result (kept.new.events ≡ kept.old.events ++ events.items) }
 {
     for event in events {
@@ -115,7 +115,7 @@ fn step_event<S: BuildHasher + Drop>(
     event: Event,
     kept: &mut History,
 ) -> Result<(), AllocError>
-    ensures on { OnOk result (GoesOn core.old kept.old core.new kept.new) }
+    ensures on { OnOk result (ScriptGoesOn core.old kept.old core.new kept.new) }
     ensures event { OnOk result (kept.new.events ≡ kept.old.events ++ event ∷ []) }
 {
     let batch = core.step(alloc, &event)?;

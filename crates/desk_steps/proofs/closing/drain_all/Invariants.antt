@@ -2,7 +2,7 @@ use Rattle.std.proofs.Common.{◌≡◌, ◌<◌, ℕ, List, Some, slice_get}
 use Rattle.desk_ends.specs.Rings.{Done, NamedInlet, NamedOutlet}
 use Rattle.desk_ends.specs.Ends.{inlet_of}
 use Rattle.desk_steps.specs.Agreeing.{Agrees}
-use Rattle.desk_steps.specs.Settling.{GoesOn, KnowsNone, Shrinks}
+use Rattle.desk_steps.specs.Settling.{HistoryGoesOn, KnowsNone, Shrinks}
 use Rattle.desk_steps.proofs.closing.drain_all.Given as goal
 
 -- the rings of the inlets so far are empty
@@ -11,7 +11,7 @@ invariant-loop-i g l = record {
   agrees : (inlets : List NamedInlet) (outlets : List NamedOutlet)
       → Agrees inlets outlets (record { recorded = l.initial.recorded; side = l.initial.side })
       → Agrees inlets outlets (record { recorded = l.recorded; side = l.side });
-  goes_on : GoesOn l.initial.recorded l.recorded;
+  goes_on : HistoryGoesOn l.initial.recorded l.recorded;
   shrinks : Shrinks l.initial.side.seats l.side.seats;
   none : (i : ℕ) (f : Done) (k : ℕ) → i < l.i → slice_get l.finished.items i ≡ Some f → inlet_of f ≡ Some k → KnowsNone k l.side.seats;
 }

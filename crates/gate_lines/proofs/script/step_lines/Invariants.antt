@@ -4,12 +4,12 @@ use Rattle.std.specs.List.{FoldsTo}
 use Rattle.text_lines.specs.Unread.{lines_left}
 use Rattle.text_lines.proofs.Given.{Leaves}
 use Rattle.script_steps.specs.Standing.{IsTextStep}
-use Rattle.script_steps.specs.Steps.{GoesOn}
+use Rattle.script_steps.specs.Steps.{ScriptGoesOn}
 use Rattle.gate_lines.proofs.script.step_lines.Given as goal
 
 abbrev pub invariant-loop-number : goal.invariant-loop-number
 invariant-loop-number g l = record {
-  on : GoesOn l.initial.runner.core l.initial.kept l.runner.core l.kept;
+  on : ScriptGoesOn l.initial.runner.core l.initial.kept l.runner.core l.kept;
   lines :
       (given : List (List ℕ))
       × FoldsTo IsTextStep (record { runner = l.initial.runner; kept = l.initial.kept }) given (record { runner = l.runner; kept = l.kept })

@@ -6,7 +6,7 @@ use Rattle.journal_days.specs.Cut.{with_records}
 use Rattle.journal_days.specs.Day.{day_fault, day_records}
 use Rattle.journal_records.specs.Days.{batches_in, events_in}
 use Rattle.journal_records.specs.Parts.{turn_records}
-use Rattle.day_history.specs.Kept.{DayKept, kept_in, turn, turns}
+use Rattle.day_history.specs.Kept.{DayKept, kept_in, day_turn, day_turns}
 use Rattle.day_history.proofs.Growing.{batches-pushed, day-pushed, events-pushed, on-err, turns-pushed}
 use Rattle.day_history.proofs.history.DayHistory.push.Goals as goal
 
@@ -39,9 +39,9 @@ pub returns-clause-turns : goal.returns-clause-turns
 returns-clause-turns c =
     let e : Event = c.args.event.now in
     let b : Batch = batch_seen c.args.batch.now in
-    ap (λ (p : List (List ℕ)). turns (kept_in p)) c.in_ok-append_turn.ensures.ok
+    ap (λ (p : List (List ℕ)). day_turns (kept_in p)) c.in_ok-append_turn.ensures.ok
     ∙ turns-pushed c.self.inside.pages e b c.self.invariant c.in_ok-append_turn.ensures.turn
-    ∙ ap (λ (k : DayKept). turn e b ∷ turns k) c.self.view_is
+    ∙ ap (λ (k : DayKept). day_turn e b ∷ day_turns k) c.self.view_is
 
 pub returns-clause-pages : goal.returns-clause-pages
 returns-clause-pages c =
