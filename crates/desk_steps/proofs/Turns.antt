@@ -12,11 +12,11 @@ use Rattle.desk_ends.proofs.Naming.{ways-stay}
 use Rattle.desk_ends.proofs.Places.{get-inside, get-same}
 use Rattle.desk_side.specs.declared.said.Said.{Said}
 use Rattle.desk_steps.specs.KeptFree.{kept_free}
-use Rattle.desk_side.specs.Side.{ChangesAt, LacksRoom, SideState, Tells}
+use Rattle.desk_side.specs.Side.{ChangesAt, HaveRoom, LacksRoom, SideState, Tells}
 use Rattle.desk_side.proofs.Moves.{ways-twice}
 use Rattle.desk_steps.specs.Recorded.{IsKeptStep, Recorded}
 use Rattle.desk_steps.specs.Agreeing.{DeskState}
-use Rattle.desk_steps.specs.Turning.{Does, Drops, Looks, SameCounts, StepsFirst, Waits, Went}
+use Rattle.desk_steps.specs.Turning.{Does, Drops, HasRoom, Looks, SameCounts, StepsFirst, Waits, Went}
 use Rattle.desk_steps.specs.declared.turned.Did.{Did}
 
 -- an event is the first of this seat's
@@ -114,6 +114,22 @@ waits k recorded side e source client port kept inside first is mine clients por
       first = first a.0 a.1;
       own = subst (λ (z : Source). is_from z e ≡ true) (sym (is a.0 a.1)) mine;
       held = rw (← clients, ← ports, ← frees) held;
+    }
+
+-- it has room
+pub has-room : (k : ℕ) (recorded : Recorded) (side : SideState) (e : Event) (client port : _) (kept : ℕ) → k < length side.seats
+    → At k side.seats (IsFirst e)
+    → client ≡ client_for recorded.settings (event_seen e) (lists recorded.settings (turns recorded.kept))
+    → port ≡ port_for recorded.settings (event_seen e) → kept ≡ kept_free (event_seen e) → HaveRoom kept client port side.ways
+    → HasRoom k (record { recorded = recorded; side = side })
+has-room k recorded side e client port kept inside first clients ports frees room =
+    let a = get-inside side.seats k inside in
+    record {
+      event = e;
+      seat = a.0;
+      there = a.1;
+      first = first a.0 a.1;
+      room = rw (← clients, ← ports, ← frees) room;
     }
 
 -- a look into a ring

@@ -9,7 +9,7 @@ use Rattle.gate_journal.specs.Kept.{turns}
 use Rattle.desk_steps.specs.Recorded.{IsKeptStep, Recorded}
 use Rattle.desk_ends.specs.Seats.{SeatState, SeatGave, SeatLooked, WayState, WaysLooked}
 use Rattle.desk_side.specs.declared.said.Said.{Said}
-use Rattle.desk_side.specs.Side.{ChangesAt, LacksRoom, SideState, Tells}
+use Rattle.desk_side.specs.Side.{ChangesAt, HaveRoom, LacksRoom, SideState, Tells}
 use Rattle.desk_steps.specs.Agreeing.{DeskState}
 use Rattle.desk_steps.specs.KeptFree.{kept_free}
 use Rattle.desk_steps.specs.Settling.{KnowsNone}
@@ -65,6 +65,17 @@ pub record Waits (k : ℕ) (s : DeskState) : Type 0 where
       (client_for s.recorded.settings (event_seen event) (lists s.recorded.settings (turns s.recorded.kept)))
       (port_for s.recorded.settings (event_seen event)) s.side.ways
 
+-- The first event of an inlet's ring has room: in the ring of each to whom its batch may tell something are more places
+-- than it leaves free, or its way is cut.
+pub record HasRoom (k : ℕ) (s : DeskState) : Type 0 where
+  pub event : Event
+  pub seat : SeatState
+  pub there : slice_get s.side.seats k ≡ Some seat
+  pub first : slice_get seat.known 0 ≡ Some event
+  pub room : HaveRoom (kept_free (event_seen event))
+      (client_for s.recorded.settings (event_seen event) (lists s.recorded.settings (turns s.recorded.kept)))
+      (port_for s.recorded.settings (event_seen event)) s.side.ways
+
 -- no way is cut that wasn't
 abbrev pub SameCuts : List WayState → List WayState → Type 0
 SameCuts old new = (d : ℕ) (w v : WayState) → slice_get old d ≡ Some w → slice_get new d ≡ Some v → v.cut ≡ w.cut
@@ -74,7 +85,8 @@ abbrev pub Does : ℕ → Did → DeskState → DeskState → Type 0
 Does k Idle s t = Looks k s t × KnowsNone k t.side.seats
 Does k Dropped s t = (m : DeskState) × Looks k s m × Drops k m t
 Does k Held s t = Looks k s t × Waits k t
-Does k Stepped s t = (m : DeskState) × Looks k s m × StepsFirst k m t × SameCuts m.side.ways t.side.ways
+Does k Stepped s t =
+    (m : DeskState) × Looks k s m × StepsFirst k m t × SameCuts m.side.ways t.side.ways × HasRoom k m
 
 -- the turns of the first inlets, one after another, the newest first
 abbrev pub Went : DeskState → List Did → DeskState → Type 0

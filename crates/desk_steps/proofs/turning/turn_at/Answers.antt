@@ -1,7 +1,7 @@
 use Rattle.std.proofs.Common.{◌≡◌, ◌∙◌, length, sym, ap, arith}
 use Rattle.desk_steps.specs.Agreeing.{DeskState}
 use Rattle.desk_steps.proofs.Cutting.{cuts-none}
-use Rattle.desk_steps.proofs.Turns.{IsFirst, at-same, dropped, looked-in, looked-out, own-first, waits}
+use Rattle.desk_steps.proofs.Turns.{IsFirst, at-same, dropped, has-room, looked-in, looked-out, own-first, waits}
 use Rattle.desk_steps.proofs.turning.turn_at.Goals as goal
 
 pub returns-then-is_empty-clause-ok : goal.returns-then-is_empty-clause-ok
@@ -49,4 +49,8 @@ returns-clause-ok g c =
       cuts-none c.places_kept_free-kept_free.result c.args.place m t c.in_ok-step_front.ensures.ok c.targets-targets.result.client c.targets-targets.result.port c.front-event.result.now
           (at-same c.args.place (IsFirst c.front-event.result.now) c.is_empty.new.self.seats c.has_room.new.self.seats c.has_room.ensures.seats c.front-event.ensures)
           c.targets-targets.ensures.named (c.has_room.ensures.room c.if-not-has_room.false),
+      has-room c.args.place c.args.recorded.now c.has_room.new.self c.front-event.result.now c.targets-targets.result.client c.targets-targets.result.port c.places_kept_free-kept_free.result
+          (omega (arith, c.requires.inside, c.is_empty.ensures.seats.count, ap length c.has_room.ensures.seats))
+          (at-same c.args.place (IsFirst c.front-event.result.now) c.is_empty.new.self.seats c.has_room.new.self.seats c.has_room.ensures.seats c.front-event.ensures)
+          c.targets-targets.ensures.client c.targets-targets.ensures.port c.places_kept_free-kept_free.ensures (c.has_room.ensures.room c.if-not-has_room.false),
     )
