@@ -32,7 +32,7 @@ class Client:
         self.session = Session(b"C%d" % (index + 1), GATEWAY, plan.interval, self.deliver, self.book.skip)
         self.counts, self.complaints, self.unread_logouts = Counter(), [], []
         self.link, self.spare, self.dialled, self.away_until = None, None, 0, 0.0
-        self.may_be_closed, self.hushed_at, self.stalled_until = False, 0.0, 0.0
+        self.may_be_closed, self.hushed_at, self.stalled_until, self.has_stalled = False, 0.0, 0.0, False
         self.begin = self.next_at = time.monotonic()
         self.tested = self.looked = 0.0
         self.last, self.bad, self.said_all = None, False, False
@@ -100,7 +100,7 @@ class Client:
         self.link, self.reader = Link(stream, *budgets, hard, piece), Reader()
         self.session.begin(now)
         self.may_be_closed, self.hushed_at, self.stalled_until, self.bad = False, 0.0, 0.0, False
-        self.said_all = False
+        self.said_all = self.has_stalled = False
         self.opened_at = now
         if may_lose and self.random.random() < 0.1:
             self.log_on_wrongly(now)
@@ -171,7 +171,8 @@ class Client:
         self.counts["links cut" if cut else "links that the gateway closed"] += 1
         if not cut and not self.session.ended and not self.may_be_closed:
             self.complain("the gateway closed the link without a word")
-        if not cut and self.session.expects_end not in (None, noise.SILENTLY) and not self.session.ended:
+        expects = self.session.expects_end not in (None, noise.SILENTLY) and not self.has_stalled
+        if not cut and expects and not self.session.ended:
             self.miss_logout(self.session.expects_end)
         self.link = None
         self.session.logged_on = False

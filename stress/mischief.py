@@ -121,6 +121,6 @@ class Mischief:
         for _ in range(count):
             begin = self.random.randint(1, reports - each + 1)
             self.session.ask_again(begin, begin + each, now)
-        client.may_be_closed = True
+        client.may_be_closed = client.has_stalled = True
         client.stalled_until = now + self.random.uniform(11, 13)
         self.counts["stalls"] += 1
