@@ -13,4 +13,4 @@ pub use desk_ends::{DeskName, Finished, Inlet, Outlet};
 pub use desk_steps::Turned;
 pub use desk_value::{Closed, Desk};
 pub use opening::{Parts, open_desk};
-pub use shared::Shared;
+pub use shared::{Shared, Turns};

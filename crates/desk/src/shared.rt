@@ -10,6 +10,15 @@ use std::sync::{Mutex, Wait};
 use std::thread::Parker;
 use std::time::Duration;
 
+/// What rounds came to that were made one after another.
+#[derive(Clone, Copy, Debug, PartialEq, Eq)]
+pub struct Turns {
+    /// The rounds that made a step.
+    pub rounds: u32,
+    /// The steps of all of them.
+    pub steps: u32,
+}
+
 /// A desk that threads share.
 ///
 /// Beside the lock there is a bell for each outlet: a turn that told it something rings it, once the lock is free.
@@ -46,6 +55,37 @@ impl<K: DeskName, S: BuildHasher + Drop> Shared<K, S> {
         let (turned, rung) = self.turn_locked(rt, alloc)?;
         self.ring_all(rung);
         Ok(turned)
+    }
+
+    /// Rounds, each under the lock, so many at most, until one makes no step. Rings the bells of the outlets that were
+    /// told something behind the last one: who wakes finds all that they were told. `AllocError` comes only where
+    /// memory is refused before a round made a step.
+    pub fn turns(&self, rt: &impl Wait, alloc: Global, most: u32) -> Result<Turns, AllocError> {
+        let mut turns = Turns {
+            rounds: 0,
+            steps: 0,
+        };
+        let mut rung = 0u128;
+        for _ in 0..most {
+            match self.turn_locked(rt, alloc) {
+                Ok((turned, told)) => {
+                    rung |= told;
+                    if turned.steps == 0 {
+                        break;
+                    }
+                    turns.rounds = turns.rounds.saturating_add(1);
+                    turns.steps = turns.steps.saturating_add(turned.steps);
+                }
+                Err(error) => {
+                    if turns.rounds == 0 {
+                        return Err(error);
+                    }
+                    break;
+                }
+            }
+        }
+        self.ring_all(rung);
+        Ok(turns)
     }
 
     /// A round under the lock, and the outlets that were told something.

@@ -10,6 +10,9 @@ use std::sync::Wait;
 /// How many turns one call of `turn` makes at most: as many as there are places in a ring.
 const MOST_TURNS: u32 = 1_024;
 
+/// How many turns are made before the bells of those that were told something ring.
+const BEFORE_BELLS: u32 = 8;
+
 /// The gate of a reader, or of the ticker: puts events through an inlet, and turns the desk as often as events were
 /// put, until a turn makes no step. Nothing is taken through it.
 #[derive(Drop)]
@@ -71,17 +74,16 @@ impl<'a, K: DeskName, S: BuildHasher + Drop> Gate for InletGate<'a, K, S> {
         None
     }
 
-    /// Turns once, and again for each further event that was put, until a turn makes no step.
+    /// Turns once, and again for each further event that was put, until a turn makes no step. Bells ring behind the last
+    /// turn, and behind each eighth before it.
     fn turn<R: Wait>(&mut self, rt: &R, alloc: Global) -> Result<u32, AllocError> {
         let mut steps = 0u32;
         for _ in 0..MOST_TURNS {
-            let turned = self.shared.turn(rt, alloc)?;
-            if turned.steps == 0 {
-                break;
-            }
-            steps = steps.saturating_add(turned.steps);
-            self.owed = self.owed.saturating_sub(1);
-            if self.owed == 0 {
+            let most = self.owed.max(1).min(BEFORE_BELLS);
+            let turns = self.shared.turns(rt, alloc, most)?;
+            steps = steps.saturating_add(turns.steps);
+            self.owed = self.owed.saturating_sub(turns.rounds);
+            if turns.rounds < most || self.owed == 0 {
                 break;
             }
         }
