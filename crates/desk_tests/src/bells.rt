@@ -3,7 +3,7 @@
 ghost use Rattle.std.specs.Prelude.{◌≡◌};
 
 use super::events::put;
-use desk::{DeskName, Inlet, Parts, Shared, Turned, open_desk};
+use desk::{DeskName, Inlet, Parts, Shared, Turned, Turns, open_desk};
 use gate_core::{ClientNumber, Event};
 use script_steps::fixed_settings;
 use std::alloc::Global;
@@ -33,6 +33,40 @@ fn rings<K: DeskName, R: Wait + Abort + Clock>(
     turn_with(rt, alloc, &shared, second, 1)?;
     turn_with(rt, alloc, &shared, second, 2)?;
     nap_by_bells(rt, &shared)
+}
+
+/// Turns ring the bell of the outlet that they told something, and end at one that makes no step.
+#[test]
+fn turns_ring_one(rt: HostRuntime) -> Result<(), Fail> {
+    let alloc = rt.alloc();
+    let parts = Parts::new(alloc, fixed_settings(alloc)?)?;
+    rings_by_turns::<Brand, _>(&rt, alloc, parts)
+}
+
+fn rings_by_turns<K: DeskName, R: Wait + Abort + Clock>(
+    rt: &R,
+    alloc: Global,
+    parts: Parts,
+) -> Result<(), Fail>
+    requires named { (parts.inlets ≡ K.inlets) × (parts.outlets ≡ K.outlets) }
+{
+    let (shared, mut inlets, _outlets) = open_desk::<K, _>(alloc, parts)?;
+    let second = inlets.get_mut(1).ok_or("an inlet")?;
+    for link in 1..4 {
+        assert!(rt; put(second, second_up(link)));
+    }
+    assert_eq!(rt; shared.turns(rt, alloc, 2)?, turns_of(2));
+    assert_eq!(rt; shared.turns(rt, alloc, 8)?, turns_of(1));
+    assert_eq!(rt; shared.turns(rt, alloc, 8)?, turns_of(0));
+    nap_by_bells(rt, &shared)
+}
+
+/// So many rounds, of one step each.
+fn turns_of(rounds: u32) -> Turns {
+    Turns {
+        rounds,
+        steps: rounds,
+    }
 }
 
 /// Has the desk step one event, which tells the second client something.
