@@ -6,9 +6,19 @@ use desk_steps::Turned;
 use gate_core::PortFault;
 use std::alloc::{AllocError, Global};
 use std::hash::{BuildHasher, BuildHasherDefault, FoldHasher};
+use std::sync::atomic::{AtomicBool, Ordering};
 use std::sync::{Mutex, Wait};
 use std::thread::Parker;
 use std::time::Duration;
+
+/// So many rounds are made under one lock at most, before the bells of those that were told something ring.
+const UNDER_ONE_LOCK: u32 = 8;
+
+/// So many rounds step what lies in a ring: it has as many places.
+const FOR_OTHERS: u32 = 1_024;
+
+/// How often one call takes the lock at most.
+const MOST_LOCKS: u32 = 256;
 
 /// What rounds came to that were made one after another.
 #[derive(Clone, Copy, Debug, PartialEq, Eq)]
@@ -24,13 +34,19 @@ pub struct Turns {
 /// Beside the lock there is a bell for each outlet: a turn that told it something rings it, once the lock is free.
 pub struct Shared<K: DeskName, S: BuildHasher + Drop = BuildHasherDefault<FoldHasher>> {
     desk: Mutex<Desk<K, S>>,
+    /// A thread that found the lock taken wants rounds made.
+    wanted: AtomicBool,
     bells: Vec<Parker>,
 }
 
 // Not derived: then each way out drops it in one call (docs/DECISIONS.md, "Drops").
 impl<K: DeskName, S: BuildHasher + Drop> Drop for Shared<K, S> {
     fn drop(self) {
-        let Shared { desk: _, bells: _ } = self;
+        let Shared {
+            desk: _,
+            wanted: _,
+            bells: _,
+        } = self;
     }
 }
 
@@ -45,6 +61,7 @@ impl<K: DeskName, S: BuildHasher + Drop> Shared<K, S> {
     pub(crate) fn new(desk: Desk<K, S>, bells: Vec<Parker>) -> Shared<K, S> {
         Shared {
             desk: Mutex::new(desk),
+            wanted: AtomicBool::new(false),
             bells,
         }
     }
@@ -57,34 +74,45 @@ impl<K: DeskName, S: BuildHasher + Drop> Shared<K, S> {
         Ok(turned)
     }
 
-    /// Rounds, each under the lock, so many at most, until one makes no step. Rings the bells of the outlets that were
-    /// told something behind the last one: who wakes finds all that they were told. `AllocError` comes only where
-    /// memory is refused before a round made a step.
-    pub fn turns(&self, rt: &impl Wait, alloc: Global, most: u32) -> Result<Turns, AllocError> {
+    /// Has so many rounds made, or fewer where one makes no step, eight at a time under the lock. Rings the bells of the
+    /// outlets that were told something once the lock is free: who wakes finds all that eight rounds told it.
+    ///
+    /// It waits for nobody. Where another thread has the lock, that one makes rounds until one makes no step once it is
+    /// free, and none is counted here. `AllocError` comes only where memory is refused before a round made a step.
+    pub fn turns(&self, alloc: Global, wanted: u32) -> Result<Turns, AllocError> {
         let mut turns = Turns {
             rounds: 0,
             steps: 0,
         };
-        let mut rung = 0u128;
-        for _ in 0..most {
-            match self.turn_locked(rt, alloc) {
-                Ok((turned, told)) => {
-                    rung |= told;
-                    if turned.steps == 0 {
-                        break;
-                    }
-                    turns.rounds = turns.rounds.saturating_add(1);
-                    turns.steps = turns.steps.saturating_add(turned.steps);
-                }
+        let mut left = wanted;
+        for _ in 0..MOST_LOCKS {
+            let _ = self.wanted.swap(true, Ordering::SeqCst);
+            let Some(mut guard) = self.desk.try_lock() else {
+                break;
+            };
+            let _ = self.wanted.swap(false, Ordering::SeqCst);
+            let desk = &mut *guard;
+            let made = rounds(desk, alloc, left.min(UNDER_ONE_LOCK), &mut turns);
+            let rung = desk.take_rung();
+            drop(guard);
+            self.ring_all(rung);
+            left = match made {
+                Ok(true) => left.saturating_sub(UNDER_ONE_LOCK),
+                Ok(false) => 0,
                 Err(error) => {
                     if turns.rounds == 0 {
                         return Err(error);
                     }
                     break;
                 }
+            };
+            if self.wanted.swap(false, Ordering::SeqCst) {
+                left = FOR_OTHERS;
+            }
+            if left == 0 {
+                break;
             }
         }
-        self.ring_all(rung);
         Ok(turns)
     }
 
@@ -147,7 +175,11 @@ impl<K: DeskName, S: BuildHasher + Drop> Shared<K, S> {
         ensures named { IfOk result (λ closed. AreNamed K.inlets closed.history.events) }
         ensures err { IfErr result (λ e. e.2.items ≡ finished.items) }
     {
-        let Shared { desk, bells } = self;
+        let Shared {
+            desk,
+            wanted: _,
+            bells,
+        } = self;
         let mut desk = desk.into_inner();
         let mut finished = finished;
         match desk.settle(alloc, &mut finished) {
@@ -155,4 +187,23 @@ impl<K: DeskName, S: BuildHasher + Drop> Shared<K, S> {
             Err(error) => Err((error, Shared::new(desk, bells), finished)),
         }
     }
+}
+
+/// Rounds, so many at most, until one makes no step, beside those that were made: whether all of them made one.
+/// `AllocError` leaves those that made one counted.
+fn rounds<K: DeskName, S: BuildHasher + Drop>(
+    desk: &mut Desk<K, S>,
+    alloc: Global,
+    most: u32,
+    turns: &mut Turns,
+) -> Result<bool, AllocError> {
+    for _ in 0..most {
+        let turned = desk.round(alloc)?;
+        if turned.steps == 0 {
+            return Ok(false);
+        }
+        turns.rounds = turns.rounds.saturating_add(1);
+        turns.steps = turns.steps.saturating_add(turned.steps);
+    }
+    Ok(true)
 }

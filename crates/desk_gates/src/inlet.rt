@@ -7,13 +7,10 @@ use std::alloc::{AllocError, Global};
 use std::hash::{BuildHasher, BuildHasherDefault, FoldHasher};
 use std::sync::Wait;
 
-/// How many turns one call of `turn` makes at most: as many as there are places in a ring.
+/// How many turns are owed at most: as many as there are places in a ring.
 const MOST_TURNS: u32 = 1_024;
 
-/// How many turns are made before the bells of those that were told something ring.
-const BEFORE_BELLS: u32 = 8;
-
-/// The gate of a reader, or of the ticker: puts events through an inlet, and turns the desk as often as events were
+/// The gate of a reader, or of the ticker: puts events through an inlet, and has the desk turned as often as events were
 /// put, until a turn makes no step. Nothing is taken through it.
 #[derive(Drop)]
 pub struct InletGate<'a, K: DeskName, S: BuildHasher + Drop = BuildHasherDefault<FoldHasher>> {
@@ -74,19 +71,11 @@ impl<'a, K: DeskName, S: BuildHasher + Drop> Gate for InletGate<'a, K, S> {
         None
     }
 
-    /// Turns once, and again for each further event that was put, until a turn makes no step. Bells ring behind the last
-    /// turn, and behind each eighth before it.
-    fn turn<R: Wait>(&mut self, rt: &R, alloc: Global) -> Result<u32, AllocError> {
-        let mut steps = 0u32;
-        for _ in 0..MOST_TURNS {
-            let most = self.owed.max(1).min(BEFORE_BELLS);
-            let turns = self.shared.turns(rt, alloc, most)?;
-            steps = steps.saturating_add(turns.steps);
-            self.owed = self.owed.saturating_sub(turns.rounds);
-            if turns.rounds < most || self.owed == 0 {
-                break;
-            }
-        }
-        Ok(steps)
+    /// Has the desk turn once, and again for each further event that was put, until a turn makes no step. Where another
+    /// thread turns it, that one does so (`Shared::turns`), and nothing is waited for.
+    fn turn<R: Wait>(&mut self, _rt: &R, alloc: Global) -> Result<u32, AllocError> {
+        let turns = self.shared.turns(alloc, self.owed.max(1))?;
+        self.owed = self.owed.saturating_sub(turns.rounds);
+        Ok(turns.steps)
     }
 }

@@ -166,9 +166,9 @@ fn events_of<K: DeskName>(
     finished: Vec<Finished<K>>,
 ) -> Result<u64, AllocError> {
     match shared.close(alloc, finished) {
-        Ok(closed) => Ok(closed.history.events().len() as u64),
+        Ok(closed) => Ok(closed.history.events(alloc)?.len() as u64),
         Err((_, shared, finished)) => match shared.close(alloc, finished) {
-            Ok(closed) => Ok(closed.history.events().len() as u64),
+            Ok(closed) => Ok(closed.history.events(alloc)?.len() as u64),
             Err((error, _, _)) => Err(error),
         },
     }

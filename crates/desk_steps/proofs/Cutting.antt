@@ -1,5 +1,5 @@
 -- A step that is made where there is room cuts no way.
-use Rattle.std.proofs.Common.{◌≡◌, ℕ, ◌<◌, Bool, true, false, List, [], ◌∷◌, Option, Some, None, slice_get, refl, ap, sym, ◌∙◌, subst, inl, inr, ◌⊎◌, arith}
+use Rattle.std.proofs.Common.{◌≡◌, ℕ, ◌<◌, Bool, true, false, [], ◌∷◌, Option, Some, None, slice_get, refl, ap, sym, ◌∙◌, subst, inl, inr, ◌⊎◌, arith}
 use Rattle.gate_law.specs.Events as law
 use Rattle.gate_law.specs.Events.{is_the_number}
 use Rattle.gate_law.specs.Holds.{Holds}
@@ -7,7 +7,7 @@ use Rattle.gate_law.specs.Promises.{IsAmong}
 use Rattle.gate_events.specs.declared.event.Event.{Event}
 use Rattle.gate_events.specs.declared.source.Recipient.{Recipient}
 use Rattle.gate_events.specs.declared.source.Recipient.TheVariants as recipients
-use Rattle.gate_events.specs.Seen.{batch_seen, event_seen}
+use Rattle.gate_events.specs.Seen.{event_seen}
 use Rattle.gate_events.specs.Sources.{unless_empty}
 use Rattle.gate_journal.specs.Kept.{turns}
 use Rattle.desk_ends.specs.Seats.{SeatState, SeatGave, WayState, WaySent}
@@ -58,9 +58,9 @@ pub cuts-none : (kept k : ℕ) (s t : DeskState) (x : StepsFirst k s t) (client 
 cuts-none kept k s t x client port f front named room d w v was now =
     let seat = x.seats.there x.seat x.there in
     let same : x.event ≡ f = first-is x.seat seat.0 x.event f seat.2 (front x.seat x.there) in
-    let holds : Holds s.recorded.settings (record { event = event_seen f; batch = batch_seen x.step.batch } ∷ turns s.recorded.kept) =
-    subst (λ (z : Event). Holds s.recorded.settings (record { event = event_seen z; batch = batch_seen x.step.batch } ∷ turns s.recorded.kept)) same x.step.holds in
-    let among = named (batch_seen x.step.batch) holds in
+    let holds : Holds s.recorded.settings (record { event = event_seen f; batch = x.step.batch } ∷ turns s.recorded.kept) =
+    subst (λ (z : Event). Holds s.recorded.settings (record { event = event_seen z; batch = x.step.batch } ∷ turns s.recorded.kept)) same x.step.holds in
+    let among = named x.step.batch holds in
     let r = x.ways.each d w was in
     let sent = subst (WaySent (unless_empty (list_for w.name.to x.said)) w) (get-same t.side.ways d r.0 v r.1 now) r.2 in
-    way-stays kept x.said client port (batch_seen x.step.batch) w v x.step.says among.0 among.1 (λ aim. room d w was aim) sent (is_aimed client port w.name.to) refl
+    way-stays kept x.said client port x.step.batch w v x.step.says among.0 among.1 (λ aim. room d w was aim) sent (is_aimed client port w.name.to) refl

@@ -1,21 +1,19 @@
 -- What is left in rings is stepped.
-use Rattle.std.proofs.Common.{◌≡◌, ◌≢◌, ℕ, ◌<◌, ◌≤◌, ◌+◌, ◌++◌, List, [], ◌∷◌, length, map, Option, Some, None, slice_get, refl, ap, sym, ◌∙◌, subst, arith, inl, inr, ◌⊎◌, append_assoc, length-append}
-use Rattle.std.proofs.lemmas.List.{append-nil, map-append}
+use Rattle.std.proofs.Common.{◌≡◌, ℕ, ◌<◌, ◌+◌, ◌++◌, List, [], ◌∷◌, length, Some, slice_get, refl, ap, sym, ◌∙◌, subst, arith, inl, inr, ◌⊎◌, append_assoc}
+use Rattle.std.proofs.lemmas.List.{append-nil}
 use Rattle.std.proofs.lemmas.Bool.Decides.{eqb_tells}
 use Rattle.std.proofs.lemmas.Option.{slice_get_within}
 use mathlib.Core.List.{IsPrefix}
 use Rattle.gate_law.specs.Events as law
-use Rattle.gate_events.specs.declared.batch.Batch.{Batch}
 use Rattle.gate_events.specs.declared.event.Event.{Event}
 use Rattle.gate_events.specs.declared.source.Recipient.{Recipient}
 use Rattle.gate_events.specs.declared.source.Source.{Source}
-use Rattle.gate_events.specs.Seen.{batch_seen}
 use Rattle.gate_events.specs.Sources.{events_from, lists_to}
-use Rattle.gate_journal.specs.Kept.{Kept, lists_kept}
+use Rattle.gate_journal.specs.Kept.{lists_kept}
 use Rattle.desk_steps.specs.Recorded.{IsKeptStep, Recorded}
 use Rattle.desk_ends.specs.Rings.{Done, put_at, took_at, NamedInlet, NamedOutlet}
 use Rattle.desk_ends.specs.Ends.{inlet_of}
-use Rattle.desk_ends.specs.Seats.{IsBorneOut, SeatState, SeatGave, SeatLooked, SeatsLooked, WayState, WaysLooked, seat_name, way_name}
+use Rattle.desk_ends.specs.Seats.{IsBorneOut, SeatState, SeatGave, SeatLooked, SeatsLooked, WayState, WaysLooked}
 use Rattle.desk_ends.proofs.Places.{get-inside, get-same}
 use Rattle.desk_side.specs.Side.{ChangesAt, SideState}
 use Rattle.desk_steps.specs.Agreeing.{Agrees, DeskState}
@@ -49,10 +47,9 @@ step-goes e said a b s = record {
 lists-grow : (to : Recipient) (a b : Recorded) (lists : _) → HistoryGoesOn a b → IsPrefix lists (lists_kept to a.kept) → IsPrefix lists (lists_kept to b.kept)
 lists-grow to a b lists g p =
     let more = g.batches.0 in
-    let grown : lists_kept to b.kept ≡ lists_kept to a.kept ++ lists_to to (map batch_seen more) =
-    ap (λ (bs : List Batch). lists_to to (map batch_seen bs)) (sym g.batches.1)
-    ∙ (ap (lists_to to) (map-append batch_seen a.kept.batches more) ∙ lists-append to (map batch_seen a.kept.batches) (map batch_seen more)) in
-    subst (λ z. IsPrefix lists z) (sym grown) (prefix-more lists (lists_kept to a.kept) (lists_to to (map batch_seen more)) p)
+    let grown : lists_kept to b.kept ≡ lists_kept to a.kept ++ lists_to to more =
+    ap (λ (bs : List law.Batch). lists_to to bs) (sym g.batches.1) ∙ lists-append to a.kept.batches more in
+    subst (λ z. IsPrefix lists z) (sym grown) (prefix-more lists (lists_kept to a.kept) (lists_to to more) p)
 
 -- ---- the seats
 

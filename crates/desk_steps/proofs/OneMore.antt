@@ -1,36 +1,32 @@
 -- A step keeps what a desk keeps, and so do turns and rounds.
-use Rattle.std.proofs.Common.{◌≡◌, ◌≢◌, ℕ, zero, suc, ◌<◌, ◌++◌, Bool, true, false, List, [], ◌∷◌, length, map, Some, slice_get, refl, ap, sym, ◌∙◌, subst, arith, inl, inr, ◌⊎◌, append_assoc, ◌==◌}
-use Rattle.std.specs.Prelude.{filter, option_map}
-use Rattle.std.proofs.lemmas.List.{append-nil, map-append}
+use Rattle.std.proofs.Common.{◌≡◌, ◌≢◌, ℕ, zero, suc, ◌++◌, Bool, true, false, List, [], ◌∷◌, length, Some, slice_get, refl, ap, sym, ◌∙◌, subst, inl, inr, ◌⊎◌, append_assoc, ◌==◌}
+use Rattle.std.specs.Prelude.{option_map}
+use Rattle.std.proofs.lemmas.List.{append-nil}
 use Rattle.std.proofs.lemmas.List.Elements.{filter-append}
 use Rattle.std.proofs.lemmas.Bool.Decides.{eqb_tells}
 use Rattle.std.proofs.lemmas.Option.{slice_get-map}
 use mathlib.Core.List.{IsPrefix}
 use Rattle.gate_law.specs.Events as law
 use Rattle.gate_law.specs.Events.{LinkOut}
-use Rattle.gate_events.specs.declared.batch.Batch.{Batch}
 use Rattle.gate_events.specs.declared.event.Event.{Event}
 use Rattle.gate_events.specs.declared.source.Source.{Source}
 use Rattle.gate_events.specs.declared.source.Source.TheVariants as sources
 use Rattle.gate_events.specs.declared.source.Recipient.{Recipient}
 use Rattle.gate_events.specs.declared.source.Recipient.TheVariants as recipients
-use Rattle.gate_events.specs.Seen.{batch_seen}
 use Rattle.gate_events.specs.Sources.{events_from, is_from, is_same_source, lists_to, source_of, told_to, unless_empty}
-use Rattle.gate_journal.specs.Kept.{Kept, lists_kept}
-use Rattle.desk_steps.specs.Recorded.{IsKeptStep, Recorded}
+use Rattle.gate_journal.specs.Kept.{lists_kept}
 use Rattle.desk_ends.specs.Rings.{NamedInlet, NamedOutlet}
 use Rattle.desk_ends.specs.Seats.{SeatState, SeatGave, WayState, WaySent, seat_name, way_name}
-use Rattle.desk_ends.proofs.Naming.{named, named-is}
-use Rattle.desk_ends.proofs.Places.{get-inside, get-same}
+use Rattle.desk_ends.proofs.Naming.{named}
+use Rattle.desk_ends.proofs.Places.{get-same}
 use Rattle.desk_side.specs.declared.said.Said.{Said}
 use Rattle.desk_side.specs.Said.{IsSaid, list_for}
-use Rattle.desk_side.specs.Side.{ChangesAt, Tells}
 use Rattle.desk_steps.specs.Agreeing.{Agrees, AreNamed, DeskState, Follows}
 use Rattle.desk_steps.specs.Turning.{Does, RoundIsRefused, Rounds, StepsFirst, Went}
 use Rattle.desk_steps.specs.declared.turned.Turned.{Turned}
 use Rattle.desk_steps.specs.declared.turned.Did.{Did}
 use Rattle.desk_steps.specs.declared.turned.Did.TheVariants.{Idle, Dropped, Held, Stepped}
-use Rattle.desk_side.proofs.Moves.{come-to, each-change, each-same, prefix-more, was}
+use Rattle.desk_side.proofs.Moves.{each-change, each-same, prefix-more, was}
 use Rattle.desk_steps.proofs.Keeping.{drops-agree, looks-agree, not-own}
 
 same-number : (m n : ℕ) → (m == n) ≡ true → m ≡ n
@@ -53,11 +49,10 @@ lists-append to (x ∷ xs) ys =
     ap (λ (ls : List (List LinkOut)). unless_empty (told_to to x) ++ ls) (lists-append to xs ys)
     ∙ sym (append_assoc (unless_empty (told_to to x)) (lists_to to xs) (lists_to to ys))
 
-lists-more : (to : Recipient) (xs : List Batch) (b : Batch) → lists_to to (map batch_seen (xs ++ b ∷ [])) ≡ lists_to to (map batch_seen xs) ++ unless_empty (told_to to (batch_seen b))
+lists-more : (to : Recipient) (xs : List law.Batch) (b : law.Batch) → lists_to to (xs ++ b ∷ []) ≡ lists_to to xs ++ unless_empty (told_to to b)
 lists-more to xs b =
-    ap (lists_to to) (map-append batch_seen xs (b ∷ []))
-    ∙ (lists-append to (map batch_seen xs) (batch_seen b ∷ [])
-    ∙ ap (λ (ls : List (List LinkOut)). lists_to to (map batch_seen xs) ++ ls) (append-nil (unless_empty (told_to to (batch_seen b)))))
+    lists-append to xs (b ∷ [])
+    ∙ ap (λ (ls : List (List LinkOut)). lists_to to xs ++ ls) (append-nil (unless_empty (told_to to b)))
 
 -- what was said is what the batch tells
 pub said-told : (to : Recipient) (b : law.Batch) (s : Said) → IsSaid b s → list_for to s ≡ told_to to b
@@ -133,9 +128,9 @@ module _ (inlets : List NamedInlet) (outlets : List NamedOutlet) (k : ℕ) (s t 
       let r = x.ways.each d w.0 w.1 in
       let same : r.0 ≡ v = get-same t.side.ways d r.0 v r.1 at in
       let sent : WaySent (unless_empty (list_for w.0.name.to x.said)) w.0 v = subst (WaySent (unless_empty (list_for w.0.name.to x.said)) w.0) same r.2 in
-      let told : list_for w.0.name.to x.said ≡ told_to w.0.name.to (batch_seen x.step.batch) = said-told w.0.name.to (batch_seen x.step.batch) x.said x.step.says in
+      let told : list_for w.0.name.to x.said ≡ told_to w.0.name.to x.step.batch = said-told w.0.name.to x.step.batch x.said x.step.says in
       let lists : lists_kept w.0.name.to t.recorded.kept ≡ lists_kept w.0.name.to s.recorded.kept ++ unless_empty (list_for w.0.name.to x.said) =
-      ap (λ (bs : List Batch). lists_to w.0.name.to (map batch_seen bs)) x.step.batches
+      ap (λ (bs : List law.Batch). lists_to w.0.name.to bs) x.step.batches
       ∙ (lists-more w.0.name.to s.recorded.kept.batches x.step.batch
       ∙ ap (λ (z : List LinkOut). lists_kept w.0.name.to s.recorded.kept ++ unless_empty z) (sym told)) in
       let f : Follows v (lists_kept w.0.name.to s.recorded.kept ++ unless_empty (list_for w.0.name.to x.said)) =

@@ -1,13 +1,11 @@
 -- What the core is after, carried along, and what one step makes of a core with its history.
 use Rattle.std.proofs.Common.{◌≡◌, Result, Ok, Err, OnErr, ◌∷◌, ◌++◌, [], refl, sym, ap, ◌∙◌, subst}
 use Rattle.gate_law.specs.Settings.{Settings}
-use Rattle.gate_law.specs.Events.{History, Turn}
+use Rattle.gate_law.specs.Events.{Batch, History}
 use Rattle.gate_law.specs.Holds.{Holds}
 use Rattle.gate_events.specs.declared.event.Event.{Event}
-use Rattle.gate_events.specs.declared.batch.Batch.{Batch}
-use Rattle.gate_events.specs.Seen.{batch_seen}
-use Rattle.gate_core.specs.Core.{After, CoreState, IsAfter, turn_of}
-use Rattle.gate_journal.specs.Kept.{Kept, turns}
+use Rattle.gate_core.specs.Core.{After, CoreState, IsAfter}
+use Rattle.gate_journal.specs.Kept.{Kept, kept_turn, turns}
 use Rattle.desk_side.specs.declared.said.Said.{Said}
 use Rattle.desk_side.specs.Said.{IsSaid}
 use Rattle.desk_steps.specs.Recorded.{IsKeptStep, Recorded}
@@ -29,7 +27,7 @@ after-turns s h g c same after = subst (λ (z : History). IsAfter s z c) (sym sa
 pub step-is : (e : Event) (said : Said) (batch : Batch) (settings : Settings) (kept more : Kept) (old : Recorded)
     → record { settings = settings; kept = kept } ≡ old
     → more.events ≡ kept.events ++ e ∷ [] → more.batches ≡ kept.batches ++ batch ∷ []
-    → IsSaid (batch_seen batch) said → Holds settings (turn_of e batch ∷ turns kept)
+    → IsSaid batch said → Holds settings (kept_turn e batch ∷ turns kept)
     → IsKeptStep e said old (record { settings = settings; kept = more })
 step-is e said batch settings kept more old is events batches says holds =
     subst (λ (z : Recorded). IsKeptStep e said z (record { settings = settings; kept = more })) is

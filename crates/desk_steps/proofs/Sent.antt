@@ -5,17 +5,12 @@ use denote.Param.SendFields.{declared_send}
 use Rattle.std.specs.declared.hash.Hasher as Hasher
 use Rattle.std.specs.declared.hash.BuildHasher as BuildHasher
 use Rattle.std.proofs.Crossing.{crosses}
-use Rattle.desk_ends.proofs.Sent.{event_send}
 use Rattle.gate_core.proofs.Sent.{core_send}
-use Rattle.gate_events.specs.contracts.batch.Batch as Batch
 use Rattle.gate_journal.specs.contracts.history.History as History
 use Rattle.desk_steps.specs.contracts.recorded.RecordedCore as RecordedCore
 
-batch : IsSend Batch.the_row
-batch = search (sendable, crosses) depth 100 fits 500000
-
 history : IsSend History.the_row
-history = search (event_send, batch, sendable, crosses) depth 100 fits 500000
+history = search (sendable, crosses) depth 100 fits 500000
 
 module _ (S T : RattleType) (g : BuildHasher.Ghosts S.Denot T.Denot) (h : Hasher.Ghosts T.Denot) (s : IsSend S) where
   pub recorded_send : IsSend (RecordedCore.the_row S T g h)

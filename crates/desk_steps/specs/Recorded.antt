@@ -1,12 +1,10 @@
 -- What contracts see of a core with its history, and what one step makes of it. (Own.)
 use Rattle.std.specs.Prelude.{◌≡◌, [], ◌∷◌, ◌++◌}
 use Rattle.gate_law.specs.Settings.{Settings}
+use Rattle.gate_law.specs.Events.{Batch}
 use Rattle.gate_law.specs.Holds.{Holds}
 use Rattle.gate_events.specs.declared.event.Event.{Event}
-use Rattle.gate_events.specs.declared.batch.Batch.{Batch}
-use Rattle.gate_events.specs.Seen.{batch_seen}
-use Rattle.gate_core.specs.Core.{turn_of}
-use Rattle.gate_journal.specs.Kept.{Kept, turns}
+use Rattle.gate_journal.specs.Kept.{Kept, kept_turn, turns}
 use Rattle.desk_side.specs.declared.said.Said.{Said}
 use Rattle.desk_side.specs.Said.{IsSaid}
 
@@ -21,5 +19,5 @@ pub record IsKeptStep (e : Event) (said : Said) (old new : Recorded) : Type 0 wh
   pub settings : new.settings ≡ old.settings
   pub events : new.kept.events ≡ old.kept.events ++ e ∷ []
   pub batches : new.kept.batches ≡ old.kept.batches ++ batch ∷ []
-  pub says : IsSaid (batch_seen batch) said
-  pub holds : Holds old.settings (turn_of e batch ∷ turns old.kept)
+  pub says : IsSaid batch said
+  pub holds : Holds old.settings (kept_turn e batch ∷ turns old.kept)

@@ -116,7 +116,7 @@ impl<S: BuildHasher + Drop> RecordedCore<S> {
         ensures err { OnErr result (self.new ≡ self.old) }
     {
         let batch = self.core.step(alloc, event)?;
-        match keep(&mut self.history, alloc, event, batch) {
+        match keep(&mut self.history, alloc, event, &batch) {
             Ok(said) => Ok(said),
             Err(error) => {
                 self.core.undo();
@@ -168,15 +168,15 @@ fn keep(
     history: &mut History,
     alloc: Global,
     event: &Event,
-    batch: Batch,
+    batch: &Batch,
 ) -> Result<Said, AllocError>
-    ensures said { IfOk result (λ said. IsSaid (batch_seen batch) said) }
+    ensures said { IfOk result (λ said. IsSaid (batch_seen batch.now) said) }
     ensures ok { IfOk result (λ said. (history.new.events ≡ history.old.events ++ event.now ∷ [])
-        × (history.new.batches ≡ history.old.batches ++ batch ∷ [])
-        × (turns history.new ≡ turn_of event.now batch ∷ turns history.old)) }
+        × (history.new.batches ≡ history.old.batches ++ batch_seen batch.now ∷ [])
+        × (turns history.new ≡ turn_of event.now batch.now ∷ turns history.old)) }
     ensures err { OnErr result (history.new ≡ history.old) }
 {
-    let said = Said::of(alloc, &batch)?;
-    history.push(event.copied(alloc)?, batch)?;
+    let said = Said::of(alloc, batch)?;
+    history.push(event, batch)?;
     Ok(said)
 }

@@ -55,9 +55,9 @@ fn rings_by_turns<K: DeskName, R: Wait + Abort + Clock>(
     for link in 1..4 {
         assert!(rt; put(second, second_up(link)));
     }
-    assert_eq!(rt; shared.turns(rt, alloc, 2)?, turns_of(2));
-    assert_eq!(rt; shared.turns(rt, alloc, 8)?, turns_of(1));
-    assert_eq!(rt; shared.turns(rt, alloc, 8)?, turns_of(0));
+    assert_eq!(rt; shared.turns(alloc, 2)?, turns_of(2));
+    assert_eq!(rt; shared.turns(alloc, 8)?, turns_of(1));
+    assert_eq!(rt; shared.turns(alloc, 8)?, turns_of(0));
     nap_by_bells(rt, &shared)
 }
 

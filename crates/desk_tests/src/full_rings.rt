@@ -67,7 +67,7 @@ fn holds<K: DeskName, R: Wait + Abort>(rt: &R, alloc: Global, parts: Parts) -> R
     step_after_take(rt, alloc, &shared, told)?;
     let finished = finish_all(alloc, inlets, outlets)?;
     let closed = shared.close(alloc, finished).map_err(|_| "closed")?;
-    look_at(rt, &closed.history)
+    look_at(rt, alloc, &closed.history)
 }
 
 const ONE: Turned = Turned { steps: 1, held: 0 };
@@ -127,9 +127,10 @@ fn goes_on<K: DeskName, R: Wait + Abort>(rt: &R, alloc: Global, parts: Parts) ->
 }
 
 /// The history has all that was put, each event of the first client.
-fn look_at<R: Abort>(rt: &R, history: &History) -> Result<(), Fail> {
-    assert_eq!(rt; history.events().len(), 1_026);
-    for event in history.events() {
+fn look_at<R: Abort>(rt: &R, alloc: Global, history: &History) -> Result<(), Fail> {
+    let events = history.events(alloc)?;
+    assert_eq!(rt; events.len(), 1_026);
+    for event in &events {
         assert_eq!(rt; event.source(), Source::Client(ClientNumber::new(1)));
     }
     Ok(())

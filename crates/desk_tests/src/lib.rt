@@ -9,3 +9,5 @@ mod events;
 mod full_rings;
 #[cfg(test)]
 mod threads;
+#[cfg(test)]
+mod turned_by_both;

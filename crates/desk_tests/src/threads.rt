@@ -58,7 +58,7 @@ fn work<K: DeskName + Send + Sync, R: Threads + Wait + Sync + Abort>(
 
 /// The history has what both threads put, that of the client in its order.
 fn look_at<R: Abort>(rt: &R, alloc: Global, history: &History) -> Result<(), Fail> {
-    assert_eq!(rt; history.events().len(), 2 * EACH as usize);
+    assert_eq!(rt; history.events(alloc)?.len(), 2 * EACH as usize);
     let from_client = history.from(alloc, Source::Client(ClientNumber::new(1)))?;
     assert_eq!(rt; from_client.len(), EACH as usize);
     for (at, event) in from_client.iter().enumerate() {

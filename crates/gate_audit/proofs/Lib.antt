@@ -1,3 +1,4 @@
+mod Decoded
 mod Lists
 mod Bodies
 mod Batches

@@ -1,16 +1,18 @@
 //! What clients have read of their orders.
 
-ghost use Rattle.std.specs.Prelude.{◌≡◌, ◌++◌, IfOk, OnOk, IsErrOf, length, map, reverse};
+ghost use Rattle.std.specs.Prelude.{◌≡◌, ◌++◌, List, IfOk, OnOk, IsErrOf, length, map, reverse};
 ghost use Rattle.order_law.specs.Headline.{Each};
 ghost use Rattle.order_accounts.specs.Held.{StaysHeld};
 ghost use Rattle.gate_law.specs.Holds.{Holds};
+ghost use Rattle.gate_events.specs.declared.event.Event.{Event};
+ghost use Rattle.gate_core.specs.Core as core;
 ghost use Rattle.gate_journal.specs.Kept.{turns};
 ghost use Rattle.gate_audit.specs.Read as read;
 
 use crate::order_reading::OrderReading;
 use crate::reports::{opens_order, reports_of, text};
 use fix_fields::{Fields, Text};
-use gate_core::{ClientNumber, Settings};
+use gate_core::{Batch, ClientNumber, Settings};
 use gate_journal::History;
 use order_accounts::{ReadingFault, reading_of};
 use std::alloc::Global;
@@ -38,10 +40,31 @@ pub fn readings(
     ensures large { IsErrOf result ReadingFault.TooLarge
         → read.AllReadHeld (length settings.now.clients) (turns history.now) → ⊥ }
 {
+    let batches = history.batches(alloc)?;
+    readings_in(alloc, batches.as_slice(), settings)
+}
+
+/// The same by the batches of a history alone, whatever the events were.
+fn readings_in(
+    alloc: Global,
+    batches: &[Batch],
+    settings: &Settings,
+) -> Result<Vec<OrderReading>, ReadingFault>
+    ensures read { (events : List Event) → length batches.now ≡ length events → IfOk result (λ list. list.items
+        ≡ read.readings (length settings.now.clients) (core.history events batches.now)) }
+    ensures accepted { (events : List Event) → length batches.now ≡ length events → IfOk result (λ list.
+        Holds settings.now (core.history events batches.now)
+        → list.items ≡ read.accepted_readings settings.now (core.history events batches.now)) }
+    ensures held { (events : List Event) → length batches.now ≡ length events
+        → OnOk result (read.AllReadHeld (length settings.now.clients) (core.history events batches.now)) }
+    ensures large { (events : List Event) → length batches.now ≡ length events
+        → IsErrOf result ReadingFault.TooLarge
+        → read.AllReadHeld (length settings.now.clients) (core.history events batches.now) → ⊥ }
+{
     let mut readings = Vec::new(alloc);
     for place in 0..settings.clients().len() {
         let client = (place + 1) as u16;
-        let reports = reports_of(alloc, ClientNumber::at_place(place), history.batches())?;
+        let reports = reports_of(alloc, ClientNumber::at_place(place), batches)?;
         read_client(alloc, client, &reports, &mut readings)?;
     }
     Ok(readings)

@@ -5,11 +5,12 @@ ghost use Rattle.order_law.specs.History as orders;
 ghost use Rattle.gate_law.specs.Settings.{port_terms};
 ghost use Rattle.gate_law.specs.After.{order_turns};
 ghost use Rattle.gate_law.specs.Holds.{Holds};
+ghost use Rattle.gate_core.specs.Core as core;
 ghost use Rattle.gate_journal.specs.Kept.{turns};
 ghost use Rattle.gate_audit.specs.Again.{called_again};
 
 use crate::port_again::PortAgain;
-use gate_core::{PortNumber, Settings};
+use gate_core::{Batch, Event, PortNumber, Settings};
 use gate_journal::History;
 use ouch_codec::Outbound;
 use std::alloc::{AllocError, Global};
@@ -36,7 +37,26 @@ pub fn handled_messages(
     ensures run { IfOk result (λ handled. Holds settings.now (turns history.now)
         → handled.items ≡ reverse (orders.handled port (order_turns settings.now (turns history.now)))) }
 {
-    let (events, batches) = (history.events(), history.batches());
+    let events = history.events(alloc)?;
+    let batches = history.batches(alloc)?;
+    handled_in(alloc, events.as_slice(), batches.as_slice(), settings, port)
+}
+
+/// The same of events with their batches.
+pub(crate) fn handled_in(
+    alloc: Global,
+    events: &[Event],
+    batches: &[Batch],
+    settings: &Settings,
+    port: PortNumber,
+) -> Result<Vec<Outbound>, AllocError>
+    requires known { port ≤ length settings.now.ports }
+    requires count { length batches.now ≡ length events.now }
+    ensures read { IfOk result (λ handled. handled.items ≡ reverse
+        (called_again (port_terms settings.now port) port (core.history events.now batches.now)).handled) }
+    ensures run { IfOk result (λ handled. Holds settings.now (core.history events.now batches.now) → handled.items
+        ≡ reverse (orders.handled port (order_turns settings.now (core.history events.now batches.now)))) }
+{
     let mut again = PortAgain::new(alloc, &settings.ports()[usize::from(port.number()) - 1]);
     for i in 0..events.len() {
         let (event, batch) = (&events[i], &batches[i]);

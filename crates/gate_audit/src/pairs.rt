@@ -6,17 +6,18 @@ ghost use Rattle.gate_law.specs.Settings.{port_of, port_terms};
 ghost use Rattle.order_accounts.specs.Held.{StaysHeld};
 ghost use Rattle.fix_fields.specs.Field.{Message};
 ghost use Rattle.order_shelves.specs.Shelved.{HasReports};
+ghost use Rattle.gate_core.specs.Core as core;
 ghost use Rattle.gate_journal.specs.Kept.{turns};
 ghost use Rattle.gate_audit.specs.Again.{called_again};
 ghost use Rattle.gate_audit.specs.Pairs as read;
 ghost use Rattle.gate_audit.specs.Read.{accepted_new_orders};
 
-use crate::messages::handled_messages;
+use crate::messages::handled_in;
 use crate::opening::Opening;
 use crate::openings::openings_of;
 use crate::order_pair::OrderPair;
 use crate::reports::shelved_reports;
-use gate_core::{ClientNumber, PortNumber, Settings};
+use gate_core::{Batch, ClientNumber, Event, PortNumber, Settings};
 use gate_journal::History;
 use order_accounts::{ReadingFault, life_of, reading_of};
 use order_law::Account;
@@ -52,17 +53,40 @@ pub fn audit(
         → read.HasTokenNumbers (read.said_to_clients (turns history.now)) → ⊥ }
     ensures ascending { IfOk result (λ list. read.AreByOrder (accepted_new_orders settings.now (turns history.now))) }
 {
-    let openings = openings_of(alloc, history.batches())?;
+    let events = history.events(alloc)?;
+    let batches = history.batches(alloc)?;
+    pairs_in(alloc, events.as_slice(), batches.as_slice(), settings)
+}
+
+/// The same of events with their batches.
+fn pairs_in(
+    alloc: Global,
+    events: &[Event],
+    batches: &[Batch],
+    settings: &Settings,
+) -> Result<Vec<OrderPair>, ReadingFault>
+    requires count { length batches.now ≡ length events.now }
+    ensures read { IfOk result (λ list. list.items
+        ≡ read.pairs settings.now (core.history events.now batches.now)) }
+    ensures run { IfOk result (λ list. Holds settings.now (core.history events.now batches.now)
+        → list.items ≡ read.accepted_pairs settings.now (core.history events.now batches.now)) }
+    ensures held { OnOk result (read.AllHeld settings.now (core.history events.now batches.now)
+        × read.HasTokenNumbers (read.said_to_clients (core.history events.now batches.now))) }
+    ensures large { IsErrOf result ReadingFault.TooLarge
+        → read.AllHeld settings.now (core.history events.now batches.now)
+        → read.HasTokenNumbers (read.said_to_clients (core.history events.now batches.now)) → ⊥ }
+{
+    let openings = openings_of(alloc, batches)?;
     let tokens = openings.given.min(MOST_SHELVES) as usize;
     let mut pairs = Vec::new(alloc);
     for place in 0..settings.clients().len() {
         let client = (place + 1) as u16;
         let number = ClientNumber::at_place(place);
         let count = openings.orders.len();
-        let reports = shelved_reports(alloc, number, history.batches(), count)?;
+        let reports = shelved_reports(alloc, number, batches, count)?;
         let own = &settings.clients()[place];
         let port = PortNumber::new(own.terms.port);
-        let heard = handled_messages(alloc, history, settings, port)?;
+        let heard = handled_in(alloc, events, batches, settings, port)?;
         let handled = MessageShelves::of(alloc, heard, tokens + 1)?;
         pair_all(
             alloc,

@@ -1,25 +1,44 @@
 -- What a history keeps.
-use Rattle.std.specs.Prelude.{List, [], map}
+use Rattle.std.specs.Prelude.{ℕ, List, [], ◌∷◌}
 use Rattle.gate_law.specs.Events as law
 use Rattle.gate_events.specs.declared.event.Event.{Event}
-use Rattle.gate_events.specs.declared.batch.Batch.{Batch}
 use Rattle.gate_events.specs.declared.source.Recipient.{Recipient}
-use Rattle.gate_events.specs.Seen.{batch_seen}
+use Rattle.gate_events.specs.Seen.{event_seen}
 use Rattle.gate_events.specs.Sources.{lists_to}
-use Rattle.gate_core.specs.Core.{history}
+use Rattle.journal_days.specs.Day.{day_records}
+use Rattle.journal_records.specs.Days.{batches_in, events_in}
 
--- events and the batches that they gave, the oldest first
+-- events and the batches that they gave, the oldest first, and the bytes of the pages that say them
 pub record Kept : Type 0 where
   pub events : List Event
-  pub batches : List Batch
+  pub batches : List law.Batch
+  pub pages : List (List ℕ)
+
+-- what pages say
+abbrev pub kept_in : List (List ℕ) → Kept
+kept_in pages = record {
+  events = events_in (day_records pages);
+  batches = batches_in (day_records pages);
+  pages = pages;
+}
 
 abbrev pub nothing_kept : Kept
-nothing_kept = record { events = []; batches = [] }
+nothing_kept = record { events = []; batches = []; pages = [] }
+
+-- an event with its batch
+abbrev pub kept_turn : Event → law.Batch → law.Turn
+kept_turn e b = record { event = event_seen e; batch = b }
+
+-- events with their batches, the newest first, after the turns before
+abbrev pub turns_onto : List Event → List law.Batch → law.History → law.History
+turns_onto [] batches before = before
+turns_onto (e ∷ events) [] before = before
+turns_onto (e ∷ events) (b ∷ batches) before = turns_onto events batches (kept_turn e b ∷ before)
 
 -- the same as the core's law has it: each event with its batch, the newest first
 abbrev pub turns : Kept → law.History
-turns h = history h.events h.batches
+turns h = turns_onto h.events h.batches []
 
 -- what the batches told one link
 abbrev pub lists_kept : Recipient → Kept → List (List law.LinkOut)
-lists_kept to h = lists_to to (map batch_seen h.batches)
+lists_kept to h = lists_to to h.batches

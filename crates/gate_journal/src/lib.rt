@@ -1,7 +1,7 @@
-//! The journal of the gateway: every event that its core was stepped by, with the batch that it gave.
+//! Events with their batches as the pages of a day, and nothing beside them.
 //!
-//! `History` is a plain list, the oldest first. It judges nothing: who pushes an event and a batch says that they
-//! belong together.
+//! What is pushed is written into the pages; what is asked is read from them. Pages that were stored or sent are a
+//! history again.
 #![tactic(auto)]
 
 mod history;

@@ -1,10 +1,9 @@
 -- What a script comes to, line after line.
-use Rattle.std.specs.Prelude.{◌≡◌, ℕ, ◌-◌, ◌⊎◌, Bool, true, false, List, [], ◌∷◌, ◌++◌, length, map, Option, ⊤}
+use Rattle.std.specs.Prelude.{◌≡◌, ℕ, ◌-◌, ◌⊎◌, Bool, true, false, List, [], ◌∷◌, ◌++◌, length, Option, ⊤}
 use Rattle.std.specs.List.{flat_map, FoldsTo}
 use Rattle.std.specs.Io.KnownBytes.{Appends, Keeps}
 use Rattle.batch_lines.specs.declared.flags.Flags.{Flags}
 use Rattle.batch_lines.specs.Lines.{shown_batch}
-use Rattle.gate_events.specs.Seen.{batch_seen}
 use Rattle.gate_journal.specs.Kept.{Kept, nothing_kept}
 use Rattle.text_lines.specs.Unread.{lines_of}
 use Rattle.script_steps.specs.Lines.{MayStopAt}
@@ -24,7 +23,7 @@ ComesTo text kept =
 
 -- what is kept, as it is printed
 abbrev pub printed_of : Flags → Kept → List ℕ
-printed_of flags kept = flat_map (shown_batch flags) (map batch_seen kept.batches)
+printed_of flags kept = flat_map (shown_batch flags) kept.batches
 
 -- a line steps a runner, and what is kept of it is written
 abbrev pub PrintsLine : Flags → Runner → List ℕ → Runner → Option (List ℕ) → Option (List ℕ) → Type 0

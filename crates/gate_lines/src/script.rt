@@ -174,7 +174,8 @@ fn print_line<S: BuildHasher + Drop, W: Write>(
 {
     let mut kept = History::new(alloc);
     step_line(alloc, runner, number, line, &mut kept)?;
-    let text = kept_text(alloc, flags, kept.batches())?;
+    let batches = kept.batches(alloc)?;
+    let text = kept_text(alloc, flags, batches.as_slice())?;
     output.write_all(text.as_slice())?;
     Ok(())
 }

@@ -31,7 +31,8 @@ fn run(rt: &HostRuntime) -> io::Result<()> {
     };
     let settings = fixed_settings(alloc)?;
     let mut core = Core::new(alloc, &settings)?;
-    step_all(rt, &mut core, kept.events())
+    let events = kept.events(alloc)?;
+    step_all(rt, &mut core, events.as_slice())
 }
 
 /// Steps the events, and prints what those behind the logons tell.

@@ -31,24 +31,55 @@ const ACCEPTED: &[u8] =
 fn a_life_begins_with_the_token_that_the_reports_count(rt: HostRuntime) -> Result<(), Fail> {
     let alloc = rt.alloc();
     let mut history = History::new(alloc);
-    history.push(tick(), told(alloc, ClientNumber::at_place(0), &FIRST)?)?;
-    history.push(tick(), told(alloc, ClientNumber::at_place(1), &SECOND)?)?;
-    history.push(port_up(1, 7), Batch::empty(alloc))?;
-    let login = packet(alloc, 1, 7, b'A', b"SESSION001                   1")?;
-    history.push(login, Batch::empty(alloc))?;
-    history.push(
-        packet(alloc, 1, 7, b'S', ACCEPTED)?,
-        told(alloc, ClientNumber::at_place(1), &OPEN)?,
-    )?;
-    let Ok(pairs) = audit(alloc, &history, &settings(alloc)?) else {
-        return Err(Fail::new("no pairs"));
-    };
-    let text = audit_text(alloc, pairs.as_slice())?;
+    tell_both(alloc, &mut history)?;
+    accept_second(alloc, &mut history)?;
+    let text = audited(alloc, &history)?;
     let expected = b"C1 A1 side 1 executed 0 open 300 cancelled 0 value 0 differ\n\
         C2 B1 side 2 executed 0 open 200 cancelled 0 value 0 agree\n\
         orders 2 agree 1\n";
     assert!(rt; text.as_slice() == expected.as_slice());
     Ok(())
+}
+
+/// Each client is told that its order is pending.
+fn tell_both(alloc: Global, history: &mut History) -> Result<(), Fail> {
+    keep(
+        history,
+        tick(),
+        told(alloc, ClientNumber::at_place(0), &FIRST)?,
+    )?;
+    keep(
+        history,
+        tick(),
+        told(alloc, ClientNumber::at_place(1), &SECOND)?,
+    )
+}
+
+/// The market accepts the second client's order, and it is told so.
+fn accept_second(alloc: Global, history: &mut History) -> Result<(), Fail> {
+    keep(history, port_up(1, 7), Batch::empty(alloc))?;
+    let login = packet(alloc, 1, 7, b'A', b"SESSION001                   1")?;
+    keep(history, login, Batch::empty(alloc))?;
+    let accepted = packet(alloc, 1, 7, b'S', ACCEPTED)?;
+    keep(
+        history,
+        accepted,
+        told(alloc, ClientNumber::at_place(1), &OPEN)?,
+    )
+}
+
+/// An event with its batch stands in the history.
+fn keep(history: &mut History, event: Event, batch: Batch) -> Result<(), Fail> {
+    history.push(&event, &batch)?;
+    Ok(())
+}
+
+/// The audit of a history, as it is printed.
+fn audited(alloc: Global, history: &History) -> Result<Vec<u8>, Fail> {
+    let Ok(pairs) = audit(alloc, history, &settings(alloc)?) else {
+        return Err(Fail::new("no pairs"));
+    };
+    Ok(audit_text(alloc, pairs.as_slice())?)
 }
 
 /// Time passes.

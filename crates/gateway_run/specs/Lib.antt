@@ -4,4 +4,4 @@ pub use Rattle.gate_law.specs.Holds
 pub use Rattle.gate_journal.specs.Kept
 pub use Rattle.gate_audit.specs.Pairs
 pub use Rattle.audit_lines.specs.Lines
-pub use Rattle.day_lists.specs.Files
+pub use Rattle.journal_file.specs.Written

@@ -2,16 +2,16 @@
 
 ghost use Rattle.std.specs.Prelude.{◌≡◌, ◌≤◌};
 ghost use Rattle.gate_journal.specs.Kept.{turns};
-ghost use Rattle.day_lists.specs.Files.{IsFileOfTurns};
+ghost use Rattle.journal_file.specs.Written.{IsFileOfTurns};
 ghost use Rattle.gateway_run.specs.Told.{AuditIsTold, AuditIsToldOf};
 
 use crate::fault::RunFault;
 use audit_lines::write_audit;
-use day_lists::write_day;
 use gate_audit::audit;
 use gate_core::Settings;
 use gate_journal::History;
 use gate_serving::LinkFault;
+use journal_file::write_day;
 use order_accounts::ReadingFault;
 use std::alloc::Global;
 use std::io::Write;
@@ -95,15 +95,14 @@ pub fn audit_day<W: Write, F: Write>(alloc: Global, day: &Day, output: &mut W, f
 
 /// Writes the history of a day to `journal`, as a day's file (`journal_file`).
 ///
-/// Answers the status that a program ends with which does so: 0 where it was written, else 1: where memory runs out,
-/// with `gateway: journal: out of memory` on `faults`, and where a write fails, with `gateway: journal: read or write
-/// failed`.
-pub fn keep_day<J: Write, F: Write>(alloc: Global, day: &Day, journal: &mut J, faults: &mut F) -> u8
+/// Answers the status that a program ends with which does so: 0 where it was written, else 1: where a write fails, with
+/// `gateway: journal: read or write failed` on `faults`. It needs no memory of its own.
+pub fn keep_day<J: Write, F: Write>(day: &Day, journal: &mut J, faults: &mut F) -> u8
     ensures status { result ≤ 1 }
     ensures kept { result ≡ 0
         → IsFileOfTurns (turns day.now.kept) (J.contents journal.old) (J.contents journal.new) }
 {
-    match write_day(alloc, &day.history, journal) {
+    match write_day(&day.history, journal) {
         Ok(()) => 0,
         Err(fault) => {
             let _ = writeln!(faults, "gateway: journal: {fault}");
@@ -129,7 +128,7 @@ pub fn end_day<J: Write, W: Write, F: Write>(
     ensures audited { result ≡ 0
         → AuditIsToldOf day.now.settings (turns day.now.kept) (W.contents output.old) (W.contents output.new) }
 {
-    let kept = keep_day(alloc, day, journal, faults);
+    let kept = keep_day(day, journal, faults);
     let audited = audit_day(alloc, day, output, faults);
     kept.max(audited)
 }

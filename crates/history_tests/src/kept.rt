@@ -1,10 +1,10 @@
 //! What was pushed is read, whole and by source and recipient.
 
-use crate::records::{history_of, page};
-use day_history::DayHistory;
+use crate::records::{first_page, history_of, page};
 use gate_events::{
     Batch, ClientNumber, Event, LinkOut, PortFault, PortNumber, Recipient, Source, Told,
 };
+use gate_journal::History;
 use std::alloc::Global;
 use std::process::Abort;
 use std::test::Fail;
@@ -61,30 +61,43 @@ fn has_one_list(lists: &[Told]) -> bool {
     }
 }
 
-/// A batch with something for a client and a port is these records, and is asked for by whom it told something.
-#[test]
-fn a_batch_is_written_and_asked_for(rt: HostRuntime) -> Result<(), Fail> {
-    let alloc = rt.alloc();
-    let mut history = DayHistory::new(alloc);
+/// A day of one event, a tick of port 2, with such a batch.
+fn one_told(alloc: Global) -> Result<History, Fail> {
+    let mut history = History::new(alloc);
     let port = PortNumber::new(2);
     history.push(&Event::PortTick { port, at: 1_000 }, &told(alloc)?)?;
-    assert_eq!(rt; history.pages()[0].as_slice(), TOLD.as_slice());
-    assert_eq!(rt; history.to(alloc, Recipient::Port(port))?.len(), 1);
-    assert_eq!(rt;
-        history
-            .to(alloc, Recipient::Client(ClientNumber::new(2)))?
-            .len(),
-        0
-    );
+    Ok(history)
+}
+
+/// A batch with something for a client and a port is these records.
+#[test]
+fn a_batch_is_written(rt: HostRuntime) -> Result<(), Fail> {
+    let history = one_told(rt.alloc())?;
+    assert_eq!(rt; first_page(&history)?, TOLD.as_slice());
+    Ok(())
+}
+
+/// It is asked for by whom it told something: one client and one port.
+#[test]
+fn a_batch_is_asked_for(rt: HostRuntime) -> Result<(), Fail> {
+    let alloc = rt.alloc();
+    let history = one_told(alloc)?;
+    let port = Recipient::Port(PortNumber::new(2));
+    let other = Recipient::Client(ClientNumber::new(2));
+    assert_eq!(rt; lists_of(alloc, &history, port)?, 1);
+    assert_eq!(rt; lists_of(alloc, &history, other)?, 0);
     let lists = history.to(alloc, Recipient::Client(ClientNumber::new(3)))?;
     assert!(rt; has_one_list(lists.as_slice()));
     Ok(())
 }
 
-/// Each kind of event, by whom it is from: two of client 1's link, two of port 1's, and two ticks are the clock's.
-#[test]
-fn events_by_source(rt: HostRuntime) -> Result<(), Fail> {
-    let alloc = rt.alloc();
+/// How many lists there are for a recipient.
+fn lists_of(alloc: Global, history: &History, to: Recipient) -> Result<usize, Fail> {
+    Ok(history.to(alloc, to)?.len())
+}
+
+/// Each kind of event: two of client 1's link, two of port 1's, and two ticks, among others' goings.
+fn of_each_kind(alloc: Global) -> Result<History, Fail> {
     let end = (15, 0, 0, 7);
     let rows = [
         (1, 1, 1, 7),
@@ -105,25 +118,48 @@ fn events_by_source(rt: HostRuntime) -> Result<(), Fail> {
         end,
     ];
     let pages = vec![in alloc; page(alloc, &rows)?]?;
-    let history = history_of(alloc, pages.as_slice())?;
-    let client = history.from(alloc, Source::Client(ClientNumber::new(1)))?;
+    history_of(alloc, pages.as_slice())
+}
+
+/// Those of client 1.
+#[test]
+fn events_of_a_client(rt: HostRuntime) -> Result<(), Fail> {
+    let alloc = rt.alloc();
+    let history = of_each_kind(alloc)?;
+    let events = history.from(alloc, Source::Client(ClientNumber::new(1)))?;
     assert!(rt;
         matches!(
-            client.as_slice(),
+            events.as_slice(),
             [Event::ClientUp { .. }, Event::ClientMessage { .. }]
         )
     );
-    let port = history.from(alloc, Source::Port(PortNumber::new(1)))?;
+    Ok(())
+}
+
+/// Those of port 1.
+#[test]
+fn events_of_a_port(rt: HostRuntime) -> Result<(), Fail> {
+    let alloc = rt.alloc();
+    let history = of_each_kind(alloc)?;
+    let events = history.from(alloc, Source::Port(PortNumber::new(1)))?;
     assert!(rt;
         matches!(
-            port.as_slice(),
+            events.as_slice(),
             [Event::PortUp { .. }, Event::PortPacket { .. }]
         )
     );
-    let ticks = history.from(alloc, Source::Clock)?;
+    Ok(())
+}
+
+/// All ticks are the clock's.
+#[test]
+fn events_of_the_clock(rt: HostRuntime) -> Result<(), Fail> {
+    let alloc = rt.alloc();
+    let history = of_each_kind(alloc)?;
+    let events = history.from(alloc, Source::Clock)?;
     assert!(rt;
         matches!(
-            ticks.as_slice(),
+            events.as_slice(),
             [Event::ClientTick { .. }, Event::PortTick { .. }]
         )
     );

@@ -1,6 +1,6 @@
 //! Records and pages by the format.
 
-use day_history::DayHistory;
+use gate_journal::History;
 use journal_pages::PageFault;
 use std::alloc::{AllocError, Global};
 use std::test::Fail;
@@ -34,15 +34,21 @@ fn payload_of(kind: u8) -> &'static [u8] {
 
 /// What reading pages comes to; `None` for a history.
 pub fn fault_of(alloc: Global, pages: &[Vec<u8>]) -> Option<(u32, PageFault)> {
-    match DayHistory::read(alloc, pages) {
+    match History::read(alloc, pages) {
         Ok(_) => None,
         Err(fault) => Some(fault),
     }
 }
 
+/// The first page of a history; where there is none the test fails.
+pub fn first_page<'a>(history: &'a History) -> Result<&'a [u8], Fail> {
+    let page = history.pages().first().ok_or("a page")?;
+    Ok(page.as_slice())
+}
+
 /// The history that pages are; where they are none the test fails.
-pub fn history_of(alloc: Global, pages: &[Vec<u8>]) -> Result<DayHistory, Fail> {
-    match DayHistory::read(alloc, pages) {
+pub fn history_of(alloc: Global, pages: &[Vec<u8>]) -> Result<History, Fail> {
+    match History::read(alloc, pages) {
         Ok(history) => Ok(history),
         Err(_) => Err(Fail::from(AllocError)),
     }

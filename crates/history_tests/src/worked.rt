@@ -1,8 +1,8 @@
 //! One event, and a day of ticks, byte for byte.
 
-use crate::records::{fault_of, history_of};
-use day_history::DayHistory;
+use crate::records::{fault_of, first_page, history_of};
 use gate_events::{Batch, ClientNumber, Event};
+use gate_journal::History;
 use journal_pages::PageFault;
 use std::alloc::Global;
 use std::process::Abort;
@@ -33,28 +33,46 @@ fn fault_of_front(size: usize) -> Option<(u32, PageFault)> {
     }
 }
 
-/// An event with an empty batch is fifty bytes, which are read as this event and no other, and written again. Of these
-/// the last is cut off, the first and the last kind are changed.
-#[test]
-fn one_event_is_fifty_bytes(rt: HostRuntime) -> Result<(), Fail> {
-    let alloc = rt.alloc();
-    let mut history = DayHistory::new(alloc);
+/// A day of that event.
+fn one_up(alloc: Global) -> Result<History, Fail> {
+    let mut history = History::new(alloc);
     let up = Event::ClientUp {
         client: ClientNumber::new(1),
         link: 1,
         at: 0,
     };
     history.push(&up, &Batch::empty(alloc))?;
+    Ok(history)
+}
+
+/// An event with an empty batch is fifty bytes.
+#[test]
+fn one_event_is_fifty_bytes(rt: HostRuntime) -> Result<(), Fail> {
+    let history = one_up(rt.alloc())?;
     assert_eq!(rt; history.pages().len(), 1);
-    assert_eq!(rt; history.pages()[0].as_slice(), ONE_UP.as_slice());
-    let again = history_of(alloc, history.pages())?;
+    assert_eq!(rt; first_page(&history)?, ONE_UP.as_slice());
+    Ok(())
+}
+
+/// They are read as this event and no other.
+#[test]
+fn fifty_bytes_are_one_event(rt: HostRuntime) -> Result<(), Fail> {
+    let alloc = rt.alloc();
+    let again = read_again(alloc)?;
+    let events = again.events(alloc)?;
     assert!(rt;
         matches!(
-        again.events(alloc)?.as_slice(),
+        events.as_slice(),
         [Event::ClientUp { client, link: 1, at: 0 }] if client.number() == 1
     )
     );
     Ok(())
+}
+
+/// The history that such a day's pages are.
+fn read_again(alloc: Global) -> Result<History, Fail> {
+    let history = one_up(alloc)?;
+    history_of(alloc, history.pages())
 }
 
 /// Its last byte is cut off; its first byte is another; its last record is of kind 16.
@@ -83,19 +101,34 @@ fn each_front_of_one_event(rt: HostRuntime) -> Result<(), Fail> {
     Ok(())
 }
 
-/// 1,425 ticks of a client, one each millisecond from 0 on, with empty batches: the last end begins a page.
-#[test]
-fn a_day_of_ticks_is_two_pages(rt: HostRuntime) -> Result<(), Fail> {
-    let alloc = rt.alloc();
-    let mut history = DayHistory::new(alloc);
+/// 1,425 ticks of a client, one each millisecond from 0 on, with empty batches.
+fn a_day_of_ticks(alloc: Global) -> Result<History, Fail> {
+    let mut history = History::new(alloc);
     let batch = Batch::empty(alloc);
     for at in 0..1_425u64 {
         let client = ClientNumber::new(1);
         history.push(&Event::ClientTick { client, at }, &batch)?;
     }
-    assert_eq!(rt; history.pages().len(), 2);
-    assert_eq!(rt; history.pages()[0].len(), 65_531);
-    assert_eq!(rt; history.pages()[1].as_slice(), LAST_END.as_slice());
-    assert_eq!(rt; history.events(alloc)?.len(), 1_425);
+    Ok(history)
+}
+
+/// The last end begins a page.
+#[test]
+fn a_day_of_ticks_is_two_pages(rt: HostRuntime) -> Result<(), Fail> {
+    let history = a_day_of_ticks(rt.alloc())?;
+    let pages = history.pages();
+    assert_eq!(rt; pages.len(), 2);
+    assert_eq!(rt; first_page(&history)?.len(), 65_531);
+    let last = pages.last().ok_or("a page")?;
+    assert_eq!(rt; last.as_slice(), LAST_END.as_slice());
+    Ok(())
+}
+
+/// It is read as so many events.
+#[test]
+fn a_day_of_ticks_is_read(rt: HostRuntime) -> Result<(), Fail> {
+    let alloc = rt.alloc();
+    let events = a_day_of_ticks(alloc)?.events(alloc)?;
+    assert_eq!(rt; events.len(), 1_425);
     Ok(())
 }

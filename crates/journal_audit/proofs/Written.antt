@@ -9,20 +9,20 @@ use Rattle.audit_lines.specs.Lines.{shown_audit}
 use Rattle.journal_pages.specs.declared.fault.PageFault.{PageFault}
 use Rattle.journal_pages.specs.declared.fault.PageFault.TheVariants as faults
 use Rattle.journal_days.specs.Day.{day_fault}
-use Rattle.day_history.specs.Kept.{DayKept, kept_in, day_turns}
+use Rattle.gate_journal.specs.Kept.{Kept, kept_in, turns}
 use Rattle.journal_file.specs.File.{IsNoFile, IsNoMemory, file_of}
 use Rattle.journal_audit.specs.Audits.{IsAuditOfFile, IsNoDaysFile}
 
-pub audited : (s : Settings) (file : List ℕ) (day : DayKept) (old new : Option (List ℕ))
+pub audited : (s : Settings) (file : List ℕ) (day : Kept) (old new : Option (List ℕ))
     → (file ≡ file_of day.pages) × (day_fault day.pages ≡ None) × (day ≡ kept_in day.pages)
-    → Appends old new (shown_audit (pairs s (day_turns day)))
-    → (Holds s (day_turns day) → Appends old new (shown_audit (accepted_pairs s (day_turns day))))
+    → Appends old new (shown_audit (pairs s (turns day)))
+    → (Holds s (turns day) → Appends old new (shown_audit (accepted_pairs s (turns day))))
     → IsAuditOfFile s file old new
 audited s file day old new says written run = record {
   pages = day.pages;
   says = record { same = says.0; day = says.1 };
-  written = subst (λ (d : DayKept). Appends old new (shown_audit (pairs s (day_turns d)))) says.2 written;
-  run = subst (λ (d : DayKept). Holds s (day_turns d) → Appends old new (shown_audit (accepted_pairs s (day_turns d)))) says.2 run;
+  written = subst (λ (d : Kept). Appends old new (shown_audit (pairs s (turns d)))) says.2 written;
+  run = subst (λ (d : Kept). Holds s (turns d) → Appends old new (shown_audit (accepted_pairs s (turns d)))) says.2 run;
 }
 
 pub no-file : (file : List ℕ) (n : ℕ) (fault : PageFault) → IsNoMemory n fault ⊎ IsNoFile file n fault → (fault ≡ faults.NoMemory → ⊥) → IsNoDaysFile file

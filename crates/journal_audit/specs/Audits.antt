@@ -1,25 +1,24 @@
 -- The audit of a day's file, and the file of a script's day.
-use Rattle.std.specs.Prelude.{◌≡◌, ℕ, List, Option}
+use Rattle.std.specs.Prelude.{ℕ, List, Option}
 use Rattle.std.specs.Io.KnownBytes.{Appends}
 use Rattle.gate_law.specs.Settings.{Settings}
 use Rattle.gate_law.specs.Holds.{Holds}
 use Rattle.gate_audit.specs.Pairs.{accepted_pairs, pairs}
 use Rattle.audit_lines.specs.Lines.{shown_audit}
-use Rattle.gate_journal.specs.Kept as lists
 use Rattle.gate_lines.specs.Scripts.{ComesTo}
 use Rattle.script_steps.specs.Settings.{fixed}
 use Rattle.journal_pages.specs.declared.fault.PageFault.{PageFault}
-use Rattle.day_history.specs.Kept.{kept_in, day_turns}
+use Rattle.gate_journal.specs.Kept.{Kept, kept_in, turns}
 use Rattle.journal_file.specs.File.{IsNoFile}
-use Rattle.day_lists.specs.Files.{IsFile, IsFileOfTurns}
+use Rattle.journal_file.specs.Written.{IsFile, IsFileOfTurns}
 
 -- What a writer has grew by just the audit of what the file says, and where all that is promised of a run holds of it,
 -- by the accounts of the orders that were accepted.
 pub record IsAuditOfFile (s : Settings) (file : List ℕ) (old new : Option (List ℕ)) : Type 0 where
   pub pages : List (List ℕ)
   pub says : IsFile pages file
-  pub written : Appends old new (shown_audit (pairs s (day_turns (kept_in pages))))
-  pub run : Holds s (day_turns (kept_in pages)) → Appends old new (shown_audit (accepted_pairs s (day_turns (kept_in pages))))
+  pub written : Appends old new (shown_audit (pairs s (turns (kept_in pages))))
+  pub run : Holds s (turns (kept_in pages)) → Appends old new (shown_audit (accepted_pairs s (turns (kept_in pages))))
 
 -- the file is none, for this page and fault
 pub record IsNoDaysFile (file : List ℕ) : Type 0 where
@@ -31,4 +30,4 @@ pub record IsNoDaysFile (file : List ℕ) : Type 0 where
 -- promised holds.
 abbrev pub IsDayOfScript : List ℕ → Option (List ℕ) → Option (List ℕ) → Type 0
 IsDayOfScript text old new =
-    (kept : lists.Kept) × ComesTo text kept × Holds fixed (lists.turns kept) × IsFileOfTurns (lists.turns kept) old new
+    (kept : Kept) × ComesTo text kept × Holds fixed (turns kept) × IsFileOfTurns (turns kept) old new

@@ -6,34 +6,18 @@ ghost use Rattle.gate_law.specs.Holds.{Holds};
 ghost use Rattle.gate_audit.specs.Pairs.{accepted_pairs, pairs};
 ghost use Rattle.audit_lines.specs.Lines.{shown_audit};
 ghost use Rattle.journal_pages.specs.declared.fault.PageFault.TheVariants.{NoMemory};
-ghost use Rattle.day_history.specs.Kept.{day_turns};
+ghost use Rattle.gate_journal.specs.Kept.{turns};
 ghost use Rattle.journal_audit.specs.Audits.{IsAuditOfFile, IsNoDaysFile};
 
 use audit_lines::write_audit;
-use day_history::DayHistory;
-use day_lists::listed;
-use gate_audit::{OrderPair, audit};
+use gate_audit::audit;
 use gate_core::Settings;
+use gate_journal::History;
 use journal_file::read_day;
 use journal_pages::PageFault;
 use order_accounts::ReadingFault;
 use std::alloc::Global;
 use std::io::Write;
-
-/// Each order that was accepted by both of its accounts, as `gate_audit::audit` has it of the history that pages say.
-fn day_pairs(
-    alloc: Global,
-    day: &DayHistory,
-    settings: &Settings,
-) -> Result<Vec<OrderPair>, ReadingFault>
-    ensures read { IfOk result (λ list. list.items ≡ pairs settings.now (day_turns day.now)) }
-    ensures run { IfOk result (λ list. Holds settings.now (day_turns day.now)
-        → list.items ≡ accepted_pairs settings.now (day_turns day.now)) }
-{
-    let kept = listed(alloc, day)?;
-    let list = audit(alloc, &kept, settings)?;
-    Ok(list)
-}
 
 /// Reads a day's file, and writes the audit of its history to `output`: a line for each order that was accepted, and one
 /// for how many there are and how many agree.
@@ -66,19 +50,19 @@ pub fn audit_file<W: Write, F: Write>(
 /// Writes the audit of a history over pages.
 fn write_day_audit<W: Write, F: Write>(
     alloc: Global,
-    day: &DayHistory,
+    day: &History,
     settings: &Settings,
     output: &mut W,
     faults: &mut F,
 ) -> u8
     ensures status { result ≤ 1 }
     ensures written { result ≡ 0 → Appends (W.contents output.old) (W.contents output.new)
-        (shown_audit (pairs settings.now (day_turns day.now))) }
-    ensures run { Holds settings.now (day_turns day.now) → result ≡ 0
+        (shown_audit (pairs settings.now (turns day.now))) }
+    ensures run { Holds settings.now (turns day.now) → result ≡ 0
         → Appends (W.contents output.old) (W.contents output.new)
-        (shown_audit (accepted_pairs settings.now (day_turns day.now))) }
+        (shown_audit (accepted_pairs settings.now (turns day.now))) }
 {
-    match day_pairs(alloc, day, settings) {
+    match audit(alloc, day, settings) {
         Ok(pairs) => write_audit(alloc, pairs.as_slice(), output, faults),
         Err(fault) => tell_unread(fault, faults),
     }

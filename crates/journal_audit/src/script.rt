@@ -4,8 +4,8 @@ ghost use Rattle.std.specs.Prelude.{◌≡◌, ◌≤◌, IfSome, OnOk};
 ghost use Rattle.std.specs.Io.KnownBytes.{Appends};
 ghost use Rattle.journal_audit.specs.Audits.{IsDayOfScript};
 
-use day_lists::write_day;
 use gate_lines::{Stop, script_history, tell};
+use journal_file::write_day;
 use std::alloc::Global;
 use std::io::{Read, Write};
 
@@ -37,6 +37,6 @@ fn written<R: Read, W: Write>(alloc: Global, input: &mut R, output: &mut W) -> R
         (λ text. IsDayOfScript text (W.contents output.old) (W.contents output.new))) }
 {
     let kept = script_history(alloc, input)?;
-    write_day(alloc, &kept, output)?;
+    write_day(&kept, output)?;
     Ok(())
 }

@@ -2,13 +2,13 @@
 
 use crate::records::{PAGE_HEAD, split};
 use crate::tally::Outcome;
-use day_history::DayHistory;
+use gate_journal::History;
 use journal_pages::PageFault;
 use std::alloc::{AllocError, Global};
 
 /// What reading pages comes to.
 pub fn outcome(alloc: Global, pages: &[Vec<u8>]) -> Result<Outcome, AllocError> {
-    match DayHistory::read(alloc, pages) {
+    match History::read(alloc, pages) {
         Err((_, PageFault::NoMemory)) => Err(AllocError),
         Err((page, fault)) => Ok(Outcome::Refused(page, fault)),
         Ok(history) => {
@@ -24,10 +24,10 @@ pub fn outcome(alloc: Global, pages: &[Vec<u8>]) -> Result<Outcome, AllocError> 
 }
 
 /// A history of the same events and batches, pushed one by one.
-pub fn pushed_again(alloc: Global, history: &DayHistory) -> Result<DayHistory, AllocError> {
+pub fn pushed_again(alloc: Global, history: &History) -> Result<History, AllocError> {
     let events = history.events(alloc)?;
     let batches = history.batches(alloc)?;
-    let mut again = DayHistory::new(alloc);
+    let mut again = History::new(alloc);
     for (event, batch) in events.iter().zip(batches.iter()) {
         again.push(event, batch)?;
     }

@@ -7,21 +7,21 @@ use Rattle.journal_pages.specs.declared.fault.PageFault.TheVariants as faults
 use Rattle.journal_days.specs.Day.{day_fault}
 
 -- a page behind its length, eight bytes, the high byte first
-abbrev pub sized : List ℕ → List ℕ
-sized page = to_be_bytes w64 (length page) ++ page
+abbrev pub sized_page : List ℕ → List ℕ
+sized_page page = to_be_bytes w64 (length page) ++ page
 
-abbrev pub sized_all : List (List ℕ) → List ℕ
-sized_all pages = flat_map sized pages
+abbrev pub sized_pages : List (List ℕ) → List ℕ
+sized_pages pages = flat_map sized_page pages
 
 -- pages, and an end: a length of 0
 abbrev pub file_of : List (List ℕ) → List ℕ
-file_of pages = sized_all pages ++ sized []
+file_of pages = sized_pages pages ++ sized_page []
 
 -- ---- what is no file
 
 -- there are fewer bytes than a length, or than it says
-abbrev pub is_cut : List ℕ → Bool
-is_cut bytes = nat_lt (length bytes) (8 + from_be_bytes w64 (take 8 bytes))
+abbrev pub is_cut_short : List ℕ → Bool
+is_cut_short bytes = nat_lt (length bytes) (8 + from_be_bytes w64 (take 8 bytes))
 
 -- none is an end
 abbrev pub AreNotEmpty : List (List ℕ) → Type 0
@@ -36,9 +36,9 @@ number_behind pages = min (length pages) 4_294_967_295
 pub record IsCutAt (n : ℕ) (file : List ℕ) : Type 0 where
   pub pages : List (List ℕ)
   pub rest : List ℕ
-  pub same : file ≡ sized_all pages ++ rest
+  pub same : file ≡ sized_pages pages ++ rest
   pub full : AreNotEmpty pages
-  pub cut : is_cut rest ≡ true
+  pub cut : is_cut_short rest ≡ true
   pub number : n ≡ number_behind pages
 
 -- a file, and something behind its end

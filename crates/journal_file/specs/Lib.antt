@@ -1,4 +1,5 @@
 pub mod File
-pub use Rattle.day_history.specs.Kept
+pub mod Written
+pub use Rattle.gate_journal.specs.Kept
 pub use Rattle.journal_days.specs.Cut
 pub use Rattle.journal_days.specs.Day

@@ -10,4 +10,4 @@ mod writing;
 
 pub use laws::files_are_read;
 pub use reading::read_day;
-pub use writing::day_file;
+pub use writing::write_day;

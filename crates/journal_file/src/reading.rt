@@ -4,10 +4,10 @@ ghost use Rattle.std.specs.Prelude.{◌≡◌, ◌⊎◌, ◌++◌, ◌∷◌, [
 ghost use Rattle.journal_pages.specs.declared.fault.PageFault.TheVariants.{Head};
 ghost use Rattle.journal_days.specs.Cut.{texts};
 ghost use Rattle.journal_days.specs.Day.{day_fault};
-ghost use Rattle.day_history.specs.Kept.{kept_in};
-ghost use Rattle.journal_file.specs.File.{IsNoFile, IsNoForm, IsNoMemory, file_of, is_cut, sized};
+ghost use Rattle.gate_journal.specs.Kept.{kept_in};
+ghost use Rattle.journal_file.specs.File.{IsNoFile, IsNoForm, IsNoMemory, file_of, is_cut_short, sized_page};
 
-use day_history::DayHistory;
+use gate_journal::History;
 use journal_pages::PageFault;
 use std::alloc::{AllocError, Global};
 
@@ -15,15 +15,15 @@ use std::alloc::{AllocError, Global};
 ///
 /// The file's form comes first: `CutShort` where a page ends before its length says, or no end stands behind the last
 /// one, with the number of the page that isn't whole; `Head` where bytes stand behind the end, with the number of the
-/// page that they would be. Then what `DayHistory::read` refuses. `NoMemory` has the number 0.
-pub fn read_day(alloc: Global, file: &[u8]) -> Result<DayHistory, (u32, PageFault)>
+/// page that they would be. Then what `History::read` refuses. `NoMemory` has the number 0.
+pub fn read_day(alloc: Global, file: &[u8]) -> Result<History, (u32, PageFault)>
     ensures { MatchResult result
         (λ history. (file.now ≡ file_of history.pages) × (day_fault history.pages ≡ None)
         × (history ≡ kept_in history.pages))
         (λ fault. IsNoMemory fault.0 fault.1 ⊎ IsNoFile file.now fault.0 fault.1) }
 {
     let pages = pages_of(alloc, file)?;
-    DayHistory::read(alloc, pages.as_slice())
+    History::read(alloc, pages.as_slice())
 }
 
 /// The pages of a file, or why it has no end behind whole pages.
@@ -77,8 +77,8 @@ fn push_page(pages: &mut Vec<Vec<u8>>, page: &[u8]) -> Result<(), AllocError>
 /// The page in front of these bytes, behind its length, and what stands behind it; `None` where there are fewer bytes
 /// than a length, or than it says.
 fn first_sized<'a>(bytes: &'a [u8]) -> Option<(&'a [u8], &'a [u8])>
-    ensures { MatchOption result (is_cut bytes.now ≡ true)
-        (λ parts. bytes.now ≡ sized parts.0.now ++ parts.1.now) }
+    ensures { MatchOption result (is_cut_short bytes.now ≡ true)
+        (λ parts. bytes.now ≡ sized_page parts.0.now ++ parts.1.now) }
 {
     let [a, b, c, d, e, f, g, h, rest @ ..] = bytes else {
         return None;

@@ -1,37 +1,45 @@
 //! A day's file, written.
 
-ghost use Rattle.std.specs.Prelude.{◌≡◌, ◌++◌, IfOk, OnOk};
+ghost use Rattle.std.specs.Prelude.{◌≡◌, OnOk};
+ghost use Rattle.std.specs.Io.KnownBytes.{Appends};
 ghost use Rattle.journal_days.specs.Cut.{texts};
-ghost use Rattle.journal_file.specs.File.{file_of, sized, sized_all};
+ghost use Rattle.gate_journal.specs.Kept.{turns};
+ghost use Rattle.journal_file.specs.File.{sized_page, sized_pages};
+ghost use Rattle.journal_file.specs.Written.{IsFileOfTurns};
 
-use day_history::DayHistory;
-use std::alloc::{AllocError, Global};
+use gate_journal::History;
+use std::io::Write;
+use text_lines::StreamFault;
 
-/// The file of a history: each page behind its length, and the end.
-pub fn day_file(alloc: Global, history: &DayHistory) -> Result<Vec<u8>, AllocError>
-    ensures { IfOk result (λ file. file.items ≡ file_of history.now.pages) }
+/// Writes a history to `output` as a day's file: each page behind its length, and the end; then the output is flushed.
+/// Takes no memory of its own.
+///
+/// `Stream` where a write fails, or the output can't be flushed, and then a part of the file may have been written.
+pub fn write_day<W: Write>(history: &History, output: &mut W) -> Result<(), StreamFault>
+    ensures { OnOk result (IsFileOfTurns (turns history.now) (W.contents output.old) (W.contents output.new)) }
 {
-    let mut file = Vec::new(alloc);
-    push_pages(&mut file, history.pages())?;
-    push_sized(&mut file, &[])?;
-    Ok(file)
+    write_pages(history.pages(), output)?;
+    write_sized(&[], output)?;
+    output.flush()?;
+    Ok(())
 }
 
-/// Adds pages, each behind its length.
-fn push_pages(file: &mut Vec<u8>, pages: &[Vec<u8>]) -> Result<(), AllocError>
-    ensures { OnOk result (file.new.items ≡ file.old.items ++ sized_all (texts pages.now)) }
+/// Writes pages, each behind its length.
+fn write_pages<W: Write>(pages: &[Vec<u8>], output: &mut W) -> Result<(), StreamFault>
+    ensures { OnOk result (Appends (W.contents output.old) (W.contents output.new) (sized_pages (texts pages.now))) }
 {
     for page in pages {
-        push_sized(file, page.as_slice())?;
+        write_sized(page.as_slice(), output)?;
     }
     Ok(())
 }
 
-/// Adds a page behind its length.
-fn push_sized(file: &mut Vec<u8>, page: &[u8]) -> Result<(), AllocError>
-    ensures { OnOk result (file.new.items ≡ file.old.items ++ sized page.now) }
+/// Writes a page behind its length.
+fn write_sized<W: Write>(page: &[u8], output: &mut W) -> Result<(), StreamFault>
+    ensures { OnOk result (Appends (W.contents output.old) (W.contents output.new) (sized_page page.now)) }
 {
     let size = (page.len() as u64).to_be_bytes();
-    file.extend_from_slice(&size)?;
-    file.extend_from_slice(page)
+    output.write_all(&size)?;
+    output.write_all(page)?;
+    Ok(())
 }

@@ -140,15 +140,10 @@ fn a_payload_outside_the_profile_ends_its_port_alone(rt: HostRuntime) -> Result<
     let Ok(day) = ran else {
         return Err(Fail::new("the gateway did not run to its end"));
     };
-    let faults = day
-        .history()
-        .batches()
-        .iter()
-        .filter(|batch| batch.fault.is_some())
-        .count();
+    let batches = day.history().batches(alloc)?;
+    let faults = batches.iter().filter(|batch| batch.fault.is_some()).count();
     assert_eq!(rt; faults, 1);
-    let told = day.history().batches().iter().any(|batch| batch.fault
-        == Some(PortFault::OutsideProfile)
+    let told = batches.iter().any(|batch| batch.fault == Some(PortFault::OutsideProfile)
         && batch.port == Some(PortNumber::new(1)));
     assert!(rt; told);
     let (mut output, mut errors) = (Vec::new(alloc), Vec::new(alloc));

@@ -119,7 +119,7 @@ fn step_event<S: BuildHasher + Drop>(
     ensures event { OnOk result (kept.new.events ≡ kept.old.events ++ event ∷ []) }
 {
     let batch = core.step(alloc, &event)?;
-    kept.push(event, batch)?;
+    kept.push(&event, &batch)?;
     Ok(())
 }
 

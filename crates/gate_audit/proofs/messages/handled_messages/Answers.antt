@@ -1,53 +1,30 @@
-use Rattle.std.proofs.Common.{◌≡◌, ◌+◌, ◌∷◌, ◌∙◌, ap, sym, arith, length, take, take_all, List, reverse}
-use Rattle.gate_events.specs.declared.event.Event.{Event}
-use Rattle.gate_events.specs.declared.batch.Batch.{Batch}
-use Rattle.gate_journal.specs.Kept.{turns}
-use Rattle.soup_session.proofs.Closes.{ends_by_close}
-use Rattle.gate_audit.proofs.Following.{handled-again}
+use Rattle.std.proofs.Common.{◌≡◌, List, map, reverse, ap, subst, ◌∙◌}
+use Rattle.std.specs.Prelude.{IfOk}
+use Rattle.order_law.specs.History as orders
 use Rattle.gate_law.specs.Settings.{port_terms}
 use Rattle.gate_law.specs.Events.{History}
-use Rattle.soup_session.specs.Table.{LoginTerms}
-use Rattle.gate_core.specs.Core.{history, turn_of}
+use Rattle.gate_law.specs.After.{order_turns}
+use Rattle.gate_law.specs.Holds.{Holds}
+use Rattle.gate_events.specs.declared.batch.Batch.{Batch}
+use Rattle.gate_events.specs.Seen.{batch_seen}
+use Rattle.gate_core.specs.Core.{history}
+use Rattle.gate_journal.specs.Kept.{turns}
 use Rattle.gate_audit.specs.Again.{called_again}
-use Rattle.gate_audit.proofs.Calling.{again-more, again-past, has-of, history-length, history-more}
+use Rattle.gate_audit.proofs.Decoded.{same-turns}
 use Rattle.gate_audit.proofs.messages.handled_messages.Goals as goal
-use Rattle.gate_audit.proofs.messages.handled_messages.Goals.{then-i-lt-MOST_EVENTS+in_ok-step, else-i-lt-MOST_EVENTS}
 
-pub loop-i-preserved : goal.loop-i-preserved
-loop-i-preserved c =
-    let terms : LoginTerms = port_terms c.args.settings.now c.args.port in
-    let p = c.args.port in
-    let es = c.events-events.result.now in
-    let bs = c.batches-batches.result.now in
-    let i = c.loop-i.i in
-    let same : length bs ≡ length es = c.batches-batches.ensures.count ∙ ap length (sym c.events-events.ensures.events) in
-    let long : length (history (take i es) (take i bs)) ≡ i = history-length es bs i same c.loop-i.auto.i-end in
-    let e = c.index-events-i.result in
-    let b = c.index-batches-i.result in
-    let more : history (take (i + 1) es) (take (i + 1) bs) ≡ turn_of e b ∷ history (take i es) (take i bs) = history-more es bs i e b same c.loop-i-test.true c.index-events-i.is c.index-batches-i.is in
-    elim c.if-i-lt-MOST_EVENTS.branch [
-      | then-i-lt-MOST_EVENTS+in_ok-step w ↦ record {
-        again = rw (w.again-is, more, again-more terms p e b (history (take i es) (take i bs)) (omega (arith, long, w.if-i-lt-MOST_EVENTS.true)))
-            (w.in_ok-step.ensures.again terms (called_again terms p (history (take i es) (take i bs))) c.loop-i.invariant.again);
-        next = rw w.again-is (omega (arith, w.in_ok-step.ensures.next, c.loop-i.invariant.next));
-      }
-      | else-i-lt-MOST_EVENTS w ↦ record {
-        again = rw (w.again-is, more, again-past terms p e b (history (take i es) (take i bs)) (omega (arith, long, w.if-i-lt-MOST_EVENTS.false))) c.loop-i.invariant.again;
-        next = rw w.again-is (omega (arith, c.loop-i.invariant.next));
-      }
-    ]
+pub returns-clause-read : goal.returns-clause-read
+returns-clause-read c =
+    let h = c.args.history.now in
+    let terms = port_terms c.args.settings.now c.args.port in
+    let is : history c.as_slice.result.now c.as_slice-2.result.now ≡ turns h =
+    same-turns _ _ h (c.as_slice.ensures.value ∙ c.in_ok-events.ensures.events) (ap (λ (l : List Batch). map batch_seen l) c.as_slice-2.ensures.value ∙ c.in_ok-batches.ensures.batches) in
+    subst (λ (z : History). IfOk c.handled_in.result (λ handled. handled.items ≡ reverse (called_again terms c.args.port z).handled)) is c.handled_in.ensures.read
 
 pub returns-clause-run : goal.returns-clause-run
-returns-clause-run c holds =
+returns-clause-run c =
+    let h = c.args.history.now in
     let s = c.args.settings.now in
-    let p = c.args.port in
-    let i = c.loop-i.i in
-    let es = c.events-events.result.now in
-    let bs = c.batches-batches.result.now in
-    let same : length bs ≡ length es = c.batches-batches.ensures.count ∙ ap length (sym c.events-events.ensures.events) in
-    let whole : history (take i es) (take i bs) ≡ turns c.args.history.now =
-    ap (λ (xs : List Event). history xs (take i bs)) (take_all i es c.loop-i-test.false ∙ c.events-events.ensures.events)
-    ∙ ap (λ (xs : List Batch). history c.args.history.now.events xs) (take_all i bs (omega (arith, same, c.loop-i-test.false)) ∙ c.batches-batches.ensures.batches) in
-    c.loop-i.invariant.again.handled
-    ∙ (ap (λ (h : History). reverse (called_again (port_terms s p) p h).handled) whole
-    ∙ ap reverse (sym (handled-again ends_by_close s p (has-of p (length s.ports) (omega (arith, c.number.ensures.value, c.number.ensures.from_one)) c.requires.known) (turns c.args.history.now) holds.run)))
+    let is : history c.as_slice.result.now c.as_slice-2.result.now ≡ turns h =
+    same-turns _ _ h (c.as_slice.ensures.value ∙ c.in_ok-events.ensures.events) (ap (λ (l : List Batch). map batch_seen l) c.as_slice-2.ensures.value ∙ c.in_ok-batches.ensures.batches) in
+    subst (λ (z : History). IfOk c.handled_in.result (λ handled. Holds s z → handled.items ≡ reverse (orders.handled c.args.port (order_turns s z)))) is c.handled_in.ensures.run

@@ -1,89 +1,43 @@
-use Rattle.std.proofs.Common.{rules, ◌≡◌, ◌<◌, ◌+◌, ◌∙◌, ℕ, List, reverse, length, ap, refl, sym, subst, subst₂, arith, Err, get_or}
-use Rattle.order_shelves.specs.Shelved.{HasReports}
-use Rattle.std.specs.Prelude.{IsErrOf}
-use Rattle.std.specs.List.{All}
-use Rattle.order_accounts.specs.declared.reading_fault.ReadingFault.{ReadingFault}
+use Rattle.std.proofs.Common.{◌≡◌, List, map, ap, subst, ◌∙◌}
+use Rattle.std.specs.Prelude.{IfOk, OnOk, IsErrOf}
 use Rattle.order_accounts.specs.declared.reading_fault.ReadingFault.TheVariants.{TooLarge}
-use Rattle.gate_law.specs.Settings.{ClientSettings, Settings, port_of}
-use Rattle.gate_law.specs.Holds.{told_by_batches}
-use Rattle.order_law.specs.History.{Terms}
-use Rattle.gate_settings.specs.Kept.{IsOnPort}
+use Rattle.gate_law.specs.Events.{History}
+use Rattle.gate_law.specs.Holds.{Holds}
 use Rattle.gate_events.specs.declared.batch.Batch.{Batch}
+use Rattle.gate_events.specs.Seen.{batch_seen}
+use Rattle.gate_core.specs.Core.{history}
 use Rattle.gate_journal.specs.Kept.{turns}
-use Rattle.soup_session.proofs.Closes.{ends_by_close}
-use Rattle.gate_audit.specs.Read.{for_clients, reports_to}
 use Rattle.gate_audit.specs.Pairs as read
-use Rattle.gate_audit.proofs.Pairing.{orders-ascend, pairs-same, terms-at}
-use Rattle.gate_audit.proofs.Whole.{held-now, held-then, pairs-more, same-tokens}
-use Rattle.gate_audit.proofs.Held.{known-more}
+use Rattle.gate_audit.proofs.Decoded.{if-ok, same-turns}
+use Rattle.gate_audit.proofs.Pairing.{orders-ascend}
 use Rattle.gate_audit.proofs.pairs.audit.Goals as goal
 
-pub loop-place-preserved : goal.loop-place-preserved
-loop-place-preserved c =
-    let s : Settings = c.args.settings.now in
-    let h = c.args.history.now in
-    let n = c.loop-place.place in
-    let inside : n < length s.clients = omega (arith, c.loop-place-test.true, c.loop-place.auto.place-end, ap length c.clients-place-end.ensures.clients) in
-    let port : c.new-port.result ≡ port_of s (n + 1) =
-    c.new-port.ensures ∙ ap (λ (x : ClientSettings). x.terms.port) c.own.view_is ∙ ap (λ (x : ClientSettings). x.terms.port) c.index-clients-place.is
-    ∙ ap (λ (xs : List ClientSettings). (get_or xs n c.index-clients-place.result).terms.port) c.clients.ensures.clients
-    ∙ sym (ap (λ (t : Terms). t.port) (terms-at s.clients n c.index-clients-place.result inside)) in
-    let same : length h.batches ≡ length h.events = ap length (sym c.batches.ensures.batches) ∙ c.batches.ensures.count in
-    let has : HasReports (reports_to (n + 1) h.batches) c.in_ok-reports.reports =
-    subst₂ (λ (k : ℕ) (bs : List Batch). HasReports (reports_to k bs) c.in_ok-reports.reports) c.at_place-number.ensures c.batches-in-loop-place.ensures.batches c.in_ok-reports.ensures in
-    let openings : c.deref.result.now ≡ reverse (read.opened_orders (reverse (read.said_by_batches h.batches))) =
-    c.deref.ensures.value ∙ c.in_ok-openings.ensures.opened ∙ ap (λ (bs : List Batch). reverse (read.opened_orders (reverse (read.said_by_batches bs)))) c.batches.ensures.batches in
-    record {
-      pairs =
-          c.in_ok-pair_all.ensures.paired (reports_to (n + 1) h.batches) has
-          ∙ pairs-more s n c.new-port.result c.loop-place.pairs.items (reports_to (n + 1) h.batches) c.in_ok-handled.handled c.deref.result.now h.events h.batches
-          same refl port (c.in_ok-handled.ensures ∙ c.in_ok-heard.ensures.read) openings c.loop-place.invariant.pairs;
-      held =
-          known-more (λ (k : ℕ). read.AreHeld (told_by_batches k (turns h)) (reverse (read.orders_of k (read.opened_orders (read.said_to_clients (turns h)))))) n c.loop-place.invariant.held
-          (held-now h.events h.batches (n + 1) same (reports_to (n + 1) h.batches) c.deref.result.now refl openings (c.in_ok-pair_all.ensures.held (reports_to (n + 1) h.batches) has));
-    }
+pub returns-clause-read : goal.returns-clause-read
+returns-clause-read c =
+    let is : history c.as_slice.result.now c.as_slice-2.result.now ≡ turns c.args.history.now =
+    same-turns _ _ c.args.history.now (c.as_slice.ensures.value ∙ c.in_ok-events.ensures.events) (ap (λ (l : List Batch). map batch_seen l) c.as_slice-2.ensures.value ∙ c.in_ok-batches.ensures.batches) in
+    subst (λ (z : History). IfOk c.pairs_in.result (λ list. list.items ≡ read.pairs c.args.settings.now z)) is c.pairs_in.ensures.read
 
 pub returns-clause-run : goal.returns-clause-run
-returns-clause-run c holds =
-    let s : Settings = c.args.settings.now in
-    let clients : length c.clients-place-end.result.now ≡ length s.clients = ap length c.clients-place-end.ensures.clients in
-    let all : c.loop-place.place ≡ length s.clients = omega (arith, clients, c.loop-place-test.false, c.loop-place.auto.place-end) in
-    let ports : All (IsOnPort (length s.ports)) s.clients = subst (λ (cs : List ClientSettings). All (IsOnPort (length s.ports)) cs) c.clients-place-end.ensures.clients c.clients-place-end.ensures.ports in
-    c.loop-place.invariant.pairs ∙ ap (for_clients (read.pairs_of s (turns c.args.history.now))) all
-    ∙ pairs-same ends_by_close s (turns c.args.history.now) ports holds
+returns-clause-run c =
+    let s = c.args.settings.now in
+    let is : history c.as_slice.result.now c.as_slice-2.result.now ≡ turns c.args.history.now =
+    same-turns _ _ c.args.history.now (c.as_slice.ensures.value ∙ c.in_ok-events.ensures.events) (ap (λ (l : List Batch). map batch_seen l) c.as_slice-2.ensures.value ∙ c.in_ok-batches.ensures.batches) in
+    subst (λ (z : History). IfOk c.pairs_in.result (λ list. Holds s z → list.items ≡ read.accepted_pairs s z)) is c.pairs_in.ensures.run
 
 pub returns-clause-held : goal.returns-clause-held
 returns-clause-held c =
-    let s : Settings = c.args.settings.now in
-    let h = c.args.history.now in
-    let same : length h.batches ≡ length h.events = ap length (sym c.batches.ensures.batches) ∙ c.batches.ensures.count in
-    let clients : length c.clients-place-end.result.now ≡ length s.clients = ap length c.clients-place-end.ensures.clients in
-    let all : c.loop-place.place ≡ length s.clients = omega (arith, clients, c.loop-place-test.false, c.loop-place.auto.place-end) in
-    let tokens : read.HasTokenNumbers (reverse (read.said_by_batches h.batches)) = subst (λ (bs : List Batch). read.HasTokenNumbers (reverse (read.said_by_batches bs))) c.batches.ensures.batches c.in_ok-openings.ensures.tokens in
-    (λ k some known. c.loop-place.invariant.held k some (omega (arith, known, all)), omega (arith, tokens, same-tokens h.events h.batches same))
+    let s = c.args.settings.now in
+    let is : history c.as_slice.result.now c.as_slice-2.result.now ≡ turns c.args.history.now =
+    same-turns _ _ c.args.history.now (c.as_slice.ensures.value ∙ c.in_ok-events.ensures.events) (ap (λ (l : List Batch). map batch_seen l) c.as_slice-2.ensures.value ∙ c.in_ok-batches.ensures.batches) in
+    subst (λ (z : History). OnOk c.pairs_in.result (read.AllHeld s z × read.HasTokenNumbers (read.said_to_clients z))) is c.pairs_in.ensures.held
+
+pub returns-clause-large : goal.returns-clause-large
+returns-clause-large c =
+    let s = c.args.settings.now in
+    let is : history c.as_slice.result.now c.as_slice-2.result.now ≡ turns c.args.history.now =
+    same-turns _ _ c.args.history.now (c.as_slice.ensures.value ∙ c.in_ok-events.ensures.events) (ap (λ (l : List Batch). map batch_seen l) c.as_slice-2.ensures.value ∙ c.in_ok-batches.ensures.batches) in
+    subst (λ (z : History). IsErrOf c.pairs_in.result TooLarge → read.AllHeld s z → read.HasTokenNumbers (read.said_to_clients z) → ⊥) is c.pairs_in.ensures.large
 
 pub returns-clause-ascending : goal.returns-clause-ascending
-returns-clause-ascending c = orders-ascend c.args.settings.now (turns c.args.history.now)
-
-pub returns-in_err-openings-clause-large : goal.returns-in_err-openings-clause-large
-returns-in_err-openings-clause-large c err held tokens =
-    let h = c.args.history.now in
-    let same : length h.batches ≡ length h.events = ap length (sym c.batches.ensures.batches) ∙ c.batches.ensures.count in
-    let by_batches : read.HasTokenNumbers (reverse (read.said_by_batches h.batches)) = omega (arith, tokens, same-tokens h.events h.batches same) in
-    let own_error : IsErrOf {E = ReadingFault} (Err c.in_err-openings.field-0.0) TooLarge = search (rules, c.from_residual.ensures, err) in
-    c.in_err-openings.ensures.large own_error (subst (λ (bs : List Batch). read.HasTokenNumbers (reverse (read.said_by_batches bs))) (sym c.batches.ensures.batches) by_batches)
-
-pub returns-in_err-pair_all-clause-large : goal.returns-in_err-pair_all-clause-large
-returns-in_err-pair_all-clause-large c err held tokens =
-    let s : Settings = c.args.settings.now in
-    let h = c.args.history.now in
-    let n = c.loop-place.place in
-    let inside : n < length s.clients = omega (arith, c.loop-place-test.true, c.loop-place.auto.place-end, ap length c.clients-place-end.ensures.clients) in
-    let same : length h.batches ≡ length h.events = ap length (sym c.batches.ensures.batches) ∙ c.batches.ensures.count in
-    let has : HasReports (reports_to (n + 1) h.batches) c.in_ok-reports.reports =
-    subst₂ (λ (k : ℕ) (bs : List Batch). HasReports (reports_to k bs) c.in_ok-reports.reports) c.at_place-number.ensures c.batches-in-loop-place.ensures.batches c.in_ok-reports.ensures in
-    let openings : c.deref.result.now ≡ reverse (read.opened_orders (reverse (read.said_by_batches h.batches))) =
-    c.deref.ensures.value ∙ c.in_ok-openings.ensures.opened ∙ ap (λ (bs : List Batch). reverse (read.opened_orders (reverse (read.said_by_batches bs)))) c.batches.ensures.batches in
-    let own_error : IsErrOf {T = Unit {0}} {E = ReadingFault} (Err c.in_err-pair_all.field-0.0) TooLarge = search (rules, c.from_residual-in_err-pair_all.ensures, err) in
-    c.in_err-pair_all.ensures.large own_error (reports_to (n + 1) h.batches) has
-    (held-then h.events h.batches (n + 1) same (reports_to (n + 1) h.batches) c.deref.result.now refl openings (held (n + 1) (omega arith) (omega (arith, inside))))
+returns-clause-ascending c = if-ok c.pairs_in.result (orders-ascend c.args.settings.now (turns c.args.history.now))

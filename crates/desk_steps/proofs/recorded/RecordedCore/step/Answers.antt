@@ -1,4 +1,5 @@
 use Rattle.std.proofs.Common.{◌∷◌, ◌∙◌, ap}
+use Rattle.gate_events.specs.Seen.{batch_seen}
 use Rattle.gate_core.specs.Core.{turn_of}
 use Rattle.gate_journal.specs.Kept.{turns}
 use Rattle.desk_steps.proofs.Recording.{after-same, after-turns, on-err, same-recorded, step-is}
@@ -17,7 +18,7 @@ invariant_of-self-in-Ok g c =
 
 pub returns-in-Ok-clause-ok : goal.returns-in-Ok-clause-ok
 returns-in-Ok-clause-ok g c =
-    step-is c.args.event.now c.in-Ok.said c.in_ok-batch.batch c.self.inside.settings c.self.inside.history _ c.args.self.now c.self.view_is c.in-Ok.ensures.ok.0 c.in-Ok.ensures.ok.1 c.in-Ok.ensures.said
+    step-is c.args.event.now c.in-Ok.said (batch_seen c.in_ok-batch.batch) c.self.inside.settings c.self.inside.history _ c.args.self.now c.self.view_is c.in-Ok.ensures.ok.0 c.in-Ok.ensures.ok.1 c.in-Ok.ensures.said
     (c.in_ok-batch.ensures.holds c.self.inside.settings (turns c.self.inside.history) c.self.invariant)
 
 pub invariant_of-self-in-Err : goal.invariant_of-self-in-Err
@@ -25,5 +26,5 @@ invariant_of-self-in-Err g c =
     after-turns c.self.inside.settings (turns c.self.inside.history) _ _ (ap turns c.in-Err.ensures.err)
     (after-same c.self.inside.settings (turns c.self.inside.history) c.self.inside.core _ (c.undo.ensures.now ∙ c.step.ensures.settled) c.self.invariant)
 
-pub returns-in-Err-clause-err : goal.returns-in-Err-clause-err
-returns-in-Err-clause-err g c = same-recorded c.self.inside.settings c.self.inside.history _ c.args.self.now c.self.view_is c.in-Err.ensures.err
+pub returns-clause-err : goal.returns-clause-err
+returns-clause-err g c = same-recorded c.self.inside.settings c.self.inside.history _ c.args.self.now c.self.view_is c.in-Err.ensures.err

@@ -1,9 +1,0 @@
-//! Events with their batches as the pages of a day, and nothing beside them.
-//!
-//! What is pushed is written into the pages; what is asked is read from them. Pages that were stored or sent are a
-//! history again.
-#![tactic(auto)]
-
-mod history;
-
-pub use history::DayHistory;

@@ -1,2 +1,0 @@
-pub mod Files
-pub use Rattle.gate_journal.specs.Kept

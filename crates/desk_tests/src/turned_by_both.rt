@@ -1,0 +1,101 @@
+//! Two threads that put events and have the desk turned, each without waiting for the other.
+
+ghost use Rattle.std.specs.Prelude.{◌≡◌};
+
+use super::events::tick;
+use desk::{DeskName, Inlet, Parts, Shared, Turned, open_desk};
+use gate_core::{ClientNumber, Event};
+use script_steps::fixed_settings;
+use std::alloc::Global;
+use std::marker::Brand;
+use std::process::Abort;
+use std::sync::Wait;
+use std::test::Fail;
+use std::thread;
+use std::thread::Threads;
+
+/// So many events each of the two puts.
+const EACH: u32 = 1_000;
+
+/// Once both have gone nothing is left in their rings: what one put while the other turned, that one stepped.
+#[test]
+fn nothing_is_left(rt: HostRuntime) -> Result<(), Fail> {
+    let alloc = rt.alloc();
+    for _ in 0..20 {
+        let parts = Parts::new(alloc, fixed_settings(alloc)?)?;
+        leaves_nothing::<Brand, _>(&rt, alloc, parts)?;
+    }
+    Ok(())
+}
+
+fn leaves_nothing<K: DeskName + Send + Sync, R: Threads + Wait + Sync + Abort>(
+    rt: &R,
+    alloc: Global,
+    parts: Parts,
+) -> Result<(), Fail>
+    requires named { (parts.inlets ≡ K.inlets) × (parts.outlets ≡ K.outlets) }
+{
+    let (shared, mut inlets, _outlets) = open_desk::<K, _>(alloc, parts)?;
+    let clock = inlets.pop().ok_or("an inlet")?;
+    inlets.truncate(1);
+    let client = inlets.pop().ok_or("an inlet")?;
+    turn_both(rt, alloc, &shared, clock, client)?;
+    assert_eq!(rt; shared.turn(rt, alloc)?, Turned { steps: 0, held: 0 });
+    Ok(())
+}
+
+/// The two threads.
+fn turn_both<K: DeskName + Send + Sync, R: Threads + Wait + Sync>(
+    rt: &R,
+    alloc: Global,
+    shared: &Shared<K>,
+    clock: Inlet<K>,
+    client: Inlet<K>,
+) -> Result<(), Fail> {
+    thread::scope(thread::scope_env(), rt, |scope| {
+        let Ok(ticks) = scope.spawn(move || put_ticks(alloc, shared, clock)) else {
+            return Err(Fail::new("no thread"));
+        };
+        let Ok(goes) = scope.spawn(move || put_gone(alloc, shared, client)) else {
+            return Err(Fail::new("no thread"));
+        };
+        let (_ticks, _goes) = (ticks.join(rt), goes.join(rt));
+        Ok(())
+    })
+}
+
+/// Puts ticks, each with a turn.
+fn put_ticks<K: DeskName>(alloc: Global, shared: &Shared<K>, inlet: Inlet<K>) -> Inlet<K> {
+    let mut inlet = inlet;
+    for _ in 0..EACH {
+        put_and_turn(alloc, shared, &mut inlet, tick());
+    }
+    inlet
+}
+
+/// Puts that links are gone, each with a turn.
+fn put_gone<K: DeskName>(alloc: Global, shared: &Shared<K>, inlet: Inlet<K>) -> Inlet<K> {
+    let mut inlet = inlet;
+    for link in 0..EACH {
+        let gone = Event::ClientGone {
+            client: ClientNumber::new(1),
+            link: u64::from(link),
+            at: 0,
+        };
+        put_and_turn(alloc, shared, &mut inlet, gone);
+    }
+    inlet
+}
+
+/// Puts an event of the inlet's source, for which there is room, and has the desk turned.
+fn put_and_turn<K: DeskName>(
+    alloc: Global,
+    shared: &Shared<K>,
+    inlet: &mut Inlet<K>,
+    event: Event,
+) {
+    if event.is_from(&inlet.source()) {
+        let _ = inlet.put(event);
+    }
+    let _ = shared.turns(alloc, 1);
+}
