@@ -7,7 +7,7 @@ use gate_core::PortFault;
 use std::alloc::{AllocError, Global};
 use std::hash::{BuildHasher, BuildHasherDefault, FoldHasher};
 use std::sync::atomic::{AtomicBool, Ordering};
-use std::sync::{Mutex, Wait};
+use std::sync::{Mutex, MutexGuard, Wait};
 use std::thread::Parker;
 use std::time::Duration;
 
@@ -34,7 +34,7 @@ pub struct Turns {
 /// Beside the lock there is a bell for each outlet: a turn that told it something rings it, once the lock is free.
 pub struct Shared<K: DeskName, S: BuildHasher + Drop = BuildHasherDefault<FoldHasher>> {
     desk: Mutex<Desk<K, S>>,
-    /// A thread that found the lock taken wants rounds made.
+    /// Rounds are wanted until one makes no step: by a thread that found the lock taken, or that stopped before.
     wanted: AtomicBool,
     bells: Vec<Parker>,
 }
@@ -86,11 +86,12 @@ impl<K: DeskName, S: BuildHasher + Drop> Shared<K, S> {
         };
         let mut left = wanted;
         for _ in 0..MOST_LOCKS {
-            let _ = self.wanted.swap(true, Ordering::SeqCst);
-            let Some(mut guard) = self.desk.try_lock() else {
-                break;
+            let Some(mut guard) = self.lock_or_leave() else {
+                return Ok(turns);
             };
-            let _ = self.wanted.swap(false, Ordering::SeqCst);
+            if self.wanted.swap(false, Ordering::SeqCst) {
+                left = FOR_OTHERS;
+            }
             let desk = &mut *guard;
             let made = rounds(desk, alloc, left.min(UNDER_ONE_LOCK), &mut turns);
             let rung = desk.take_rung();
@@ -100,20 +101,34 @@ impl<K: DeskName, S: BuildHasher + Drop> Shared<K, S> {
                 Ok(true) => left.saturating_sub(UNDER_ONE_LOCK),
                 Ok(false) => 0,
                 Err(error) => {
-                    if turns.rounds == 0 {
-                        return Err(error);
-                    }
-                    break;
+                    let _ = self.wanted.swap(true, Ordering::SeqCst);
+                    return if turns.rounds == 0 {
+                        Err(error)
+                    } else {
+                        Ok(turns)
+                    };
                 }
             };
             if self.wanted.swap(false, Ordering::SeqCst) {
                 left = FOR_OTHERS;
             }
             if left == 0 {
-                break;
+                return Ok(turns);
             }
         }
+        let _ = self.wanted.swap(true, Ordering::SeqCst);
         Ok(turns)
+    }
+
+    /// The lock, where it is free; else nothing, and who has it knows that rounds are wanted.
+    ///
+    /// It is tried once more behind the flag: who has it then looks at the flag after that, once the lock is free.
+    fn lock_or_leave(&self) -> Option<MutexGuard<'_, Desk<K, S>>> {
+        if let Some(guard) = self.desk.try_lock() {
+            return Some(guard);
+        }
+        let _ = self.wanted.swap(true, Ordering::SeqCst);
+        self.desk.try_lock()
     }
 
     /// A round under the lock, and the outlets that were told something.

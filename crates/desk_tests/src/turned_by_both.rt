@@ -15,13 +15,13 @@ use std::thread;
 use std::thread::Threads;
 
 /// So many events each of the two puts.
-const EACH: u32 = 1_000;
+const EACH: u32 = 100;
 
 /// Once both have gone nothing is left in their rings: what one put while the other turned, that one stepped.
 #[test]
 fn nothing_is_left(rt: HostRuntime) -> Result<(), Fail> {
     let alloc = rt.alloc();
-    for _ in 0..20 {
+    for _ in 0..400 {
         let parts = Parts::new(alloc, fixed_settings(alloc)?)?;
         leaves_nothing::<Brand, _>(&rt, alloc, parts)?;
     }
