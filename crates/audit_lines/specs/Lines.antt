@@ -1,7 +1,7 @@
 -- The lines of an audit.
 use Rattle.std.specs.Prelude.{ℕ, Bool, List, [], ◌∷◌, ◌++◌, codes, decimal, length, if◌then◌else◌}
 use Rattle.std.specs.List.{count_by, flat_map}
-use Rattle.order_law.specs.declared.account.Account.{Account}
+use Rattle.gate_audit.specs.order_law.declared.account.Account.{Account}
 use Rattle.gate_audit.specs.Pairs.{Pair}
 
 -- a word and a number

@@ -7,4 +7,5 @@ mod lines;
 mod write;
 
 pub use lines::audit_text;
+pub use text_lines::{Lines, StreamFault};
 pub use write::write_audit;

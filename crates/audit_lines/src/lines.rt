@@ -3,9 +3,8 @@
 ghost use Rattle.std.specs.Prelude.{◌≡◌, ◌++◌, IfOk, OnOk};
 ghost use Rattle.audit_lines.specs.Lines as shown;
 
-use gate_audit::OrderPair;
+use gate_audit::{Account, OrderPair};
 use itoa::Buffer;
-use order_law::Account;
 use std::alloc::{AllocError, Global};
 
 /// The lines of an audit: one for each order, in the order of the pairs, and last how many there are and of how many

@@ -5,9 +5,8 @@ ghost use Rattle.batch_lines.specs.Messages as shown;
 ghost use Rattle.batch_lines.specs.Layouts.{shown_message};
 
 use crate::words::{push_number, push_word};
-use ouch_codec::{Cancel, EnterOrder, Replace};
+use ouch_codec::{Cancel, EnterOrder, FixedWire, Replace};
 use std::alloc::AllocError;
-use wire_law::FixedWire;
 
 /// Adds the message that these bytes are: its type and its fields, without padding, with a space before each. Nothing
 /// where they are none.

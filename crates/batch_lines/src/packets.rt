@@ -5,9 +5,9 @@ ghost use Rattle.batch_lines.specs.Packets as shown;
 ghost use Rattle.batch_lines.specs.Words as words;
 
 use crate::messages::push_message;
+use ouch_codec::WholeWire;
 use soup_packets::Packet;
 use std::alloc::{AllocError, Global};
-use wire_law::WholeWire;
 
 /// How many bytes of a login stand before the session: the user and the password.
 const LOGIN_NAMES: usize = 16;

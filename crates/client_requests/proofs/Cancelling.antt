@@ -5,9 +5,9 @@ use Rattle.fix_types.specs.declared.application.AppBody.{AppBody}
 use Rattle.fix_types.specs.declared.cancel_request.CancelRequest.{CancelRequest}
 use Rattle.fix_types.specs.CancelRequest.{cancel_request_fields}
 use Rattle.fix_types.specs.Application.{body_fields}
-use Rattle.ouch_codec.specs.declared.inbound.Inbound.{Inbound}
+use Rattle.order_law.specs.ouch_codec.declared.inbound.Inbound.{Inbound}
 use Rattle.order_law.specs.History.{Entry}
-use Rattle.fix_fields.specs.Field.{Message}
+use Rattle.order_machine.specs.fix_fields.Field.{Message}
 use Rattle.order_law.specs.Told.{accepted_request}
 use Rattle.order_machine.specs.Machine.{tells, with_used}
 use Rattle.order_machine.specs.OrderRecord as record_of

@@ -1,14 +1,15 @@
 -- What an accepted replace comes to.
-use Rattle.std.proofs.Common.{◌≡◌, ◌≤◌, ◌<◌, ℕ, ◌+◌, Bool, true, List, [], ◌∷◌, length, refl, sym, ap, ◌∙◌, subst, decimal, Some}
+use Rattle.std.proofs.Common.{◌≡◌, ◌≤◌, ◌<◌, ℕ, ◌+◌, Bool, true, List, [], ◌∷◌, length, refl, sym, ap, ◌∙◌, subst}
+use Rattle.std.proofs.Common.{decimal, Some}
 use Rattle.std.specs.List.{count_by}
-use Rattle.tokens.specs.TokenText.{token_text}
+use Rattle.to_market.specs.tokens.TokenText.{token_text}
 use Rattle.fix_types.specs.declared.application.AppBody.{AppBody}
 use Rattle.fix_types.specs.declared.replace_request.ReplaceRequest.{ReplaceRequest}
 use Rattle.fix_types.specs.ReplaceRequest.{replace_request_fields}
 use Rattle.fix_types.specs.Application.{body_fields}
-use Rattle.ouch_codec.specs.declared.inbound.Inbound.{Inbound}
+use Rattle.order_law.specs.ouch_codec.declared.inbound.Inbound.{Inbound}
 use Rattle.order_law.specs.History.{Entry, Terms, terms_of}
-use Rattle.fix_fields.specs.Field.{Message}
+use Rattle.order_machine.specs.fix_fields.Field.{Message}
 use Rattle.order_law.specs.Told.{accepted_request}
 use Rattle.order_machine.specs.Machine.{tells, with_used}
 use Rattle.order_machine.specs.OrderRecord.{OrderRecord, at, shown_as}

@@ -2,14 +2,14 @@
 use Rattle.std.proofs.Common.{◌≡◌, ℕ, List, [], ◌∷◌, map, ap, ◌∙◌, subst, Some}
 use Rattle.std.specs.Prelude.{Option}
 use Rattle.std.specs.Str.Parse.{digits_value}
-use Rattle.ouch_codec.specs.declared.inbound.Inbound.{Inbound}
-use Rattle.ouch_codec.specs.declared.inbound.Inbound.TheVariants as inbound
-use Rattle.ouch_codec.specs.declared.inbound.cancel.Cancel.{Cancel}
-use Rattle.ouch_codec.specs.declared.inbound.replace.Replace.{Replace}
-use Rattle.ouch_codec.specs.Inbound.{inbound_bytes}
+use Rattle.order_law.specs.ouch_codec.declared.inbound.Inbound.{Inbound}
+use Rattle.order_law.specs.ouch_codec.declared.inbound.Inbound.TheVariants as inbound
+use Rattle.order_law.specs.ouch_codec.declared.inbound.cancel.Cancel.{Cancel}
+use Rattle.order_law.specs.ouch_codec.declared.inbound.replace.Replace.{Replace}
+use Rattle.order_law.specs.ouch_codec.Inbound.{inbound_bytes}
 use Rattle.order_law.specs.Asks.{Standing}
 use Rattle.order_law.specs.Headline.{Each, EachWith, Says}
-use Rattle.fix_fields.specs.Field.{Message}
+use Rattle.order_machine.specs.fix_fields.Field.{Message}
 use Rattle.order_machine.specs.OrderRecord.{OrderRecord, live_token, replacements}
 use Rattle.to_market.specs.RequestAsks.{cancel_asked_with, cancel_bytes, replace_asked_with, replace_bytes}
 use Rattle.client_requests.specs.Asked.{cancels_asked, replaces_asked}

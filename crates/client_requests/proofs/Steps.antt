@@ -4,7 +4,7 @@ use Rattle.std.specs.Prelude.{Option, option_map}
 use Rattle.fix_types.specs.declared.application.AppBody.{AppBody}
 use Rattle.fix_types.specs.Application.{body_fields}
 use Rattle.order_law.specs.History.{is_new_order}
-use Rattle.fix_fields.specs.Field.{Message, text}
+use Rattle.order_machine.specs.fix_fields.Field.{Message, text}
 use Rattle.order_law.specs.Told.{refused_request}
 use Rattle.order_law.specs.Verdicts.{Accepted, Port, first_row, rows_of_request}
 use Rattle.order_machine.specs.Machine.{accept_on, by_verdict, client_step, tells, verdict_in, with_used}

@@ -2,7 +2,7 @@
 use Rattle.std.specs.Prelude.{◌≡◌, ◌<◌, ℕ, List, [], ◌∷◌, Some, length, map}
 use Rattle.std.specs.List.{count_by}
 use Rattle.order_law.specs.History.{Asked, terms_of}
-use Rattle.fix_fields.specs.Field.{Message, text}
+use Rattle.order_machine.specs.fix_fields.Field.{Message, text}
 use Rattle.order_law.specs.Verdicts as law
 use Rattle.order_machine.specs.Machine.{verdict_in}
 use Rattle.order_machine.specs.OrderRecord.{OrderRecord, live_token, replacements}

@@ -1,6 +1,6 @@
 pub mod Asked
 pub mod Turns
-pub use Rattle.fix_fields.specs.Field
+pub use Rattle.order_machine.specs.fix_fields.Field
 pub use Rattle.fix_types.specs.Application
 pub use Rattle.fix_types.specs.CancelRequest
 pub use Rattle.fix_types.specs.ReplaceRequest
@@ -12,9 +12,11 @@ pub use Rattle.order_machine.specs.OrderRecord
 pub use Rattle.order_machine.specs.Runs
 pub use Rattle.order_machine.specs.Table
 pub use Rattle.order_table.specs.Held
-pub use Rattle.ouch_codec.specs.Inbound
+pub use Rattle.order_law.specs.ouch_codec.Inbound
 pub use Rattle.to_client.specs.Shows
 pub use Rattle.to_market.specs.Names
 pub use Rattle.to_market.specs.Refusals
 pub use Rattle.to_market.specs.RequestAsks
-pub use Rattle.tokens.specs.TokenText
+pub use Rattle.to_market.specs.tokens.TokenText
+pub use Rattle.fix_types.specs as fix_types
+pub use Rattle.orders.specs as orders

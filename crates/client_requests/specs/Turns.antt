@@ -8,11 +8,11 @@ use Rattle.fix_types.specs.declared.replace_request.ReplaceRequest.{ReplaceReque
 use Rattle.fix_types.specs.CancelRequest.{cancel_request_fields}
 use Rattle.fix_types.specs.ReplaceRequest.{replace_request_fields}
 use Rattle.fix_types.specs.Application.{body_fields}
-use Rattle.ouch_codec.specs.declared.inbound.Inbound.{Inbound}
-use Rattle.ouch_codec.specs.Inbound.{inbound_bytes}
+use Rattle.order_law.specs.ouch_codec.declared.inbound.Inbound.{Inbound}
+use Rattle.order_law.specs.ouch_codec.Inbound.{inbound_bytes}
 use Rattle.order_law.specs.Headline.{Each, EachWith, Says}
 use Rattle.order_law.specs.History.{Asked, terms_of}
-use Rattle.fix_fields.specs.Field.{Message, text}
+use Rattle.order_machine.specs.fix_fields.Field.{Message, text}
 use Rattle.order_machine.specs.Machine.{client_step, tells, with_used}
 use Rattle.order_machine.specs.OrderRecord.{OrderRecord, at}
 use Rattle.order_machine.specs.Runs.{Finds}

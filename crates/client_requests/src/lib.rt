@@ -15,7 +15,9 @@ mod sender;
 mod turns;
 
 pub use cancels::on_cancel;
+pub use fix_types::{AppBody, NewOrder};
 pub use named::shown_now;
+pub use orders::{Cancelling, Order, Progress, Replacing};
 pub use replaces::on_replace;
 pub use sender::Sender;
 pub use turns::{CancelTurn, ReplaceTurn};

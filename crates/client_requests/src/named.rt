@@ -8,11 +8,10 @@ ghost use Rattle.order_machine.specs.Table.{TableState, is_replacement_of, named
 ghost use Rattle.to_client.specs.Shows.{ShowsAs};
 ghost use Rattle.to_market.specs.Names.{HasRead};
 
-use fix_values::Character;
 use order_law::Stage;
 use orders::Order;
 use to_client::{Shown, shown_of};
-use to_market::NamedOrder;
+use to_market::{Character, NamedOrder};
 
 /// An order as the table of requests reads it: `own` is the capacity of its client, and so many replaces of it were
 /// accepted.

@@ -2,7 +2,7 @@
 
 ghost use Rattle.std.specs.Prelude.{◌≡◌, ◌∷◌, [], ℕ, None, Option, IfOk};
 ghost use Rattle.fix_types.specs.Application.{body_fields};
-ghost use Rattle.fix_fields.specs.Field.{Message};
+ghost use Rattle.order_machine.specs.fix_fields.Field.{Message};
 ghost use Rattle.order_law.specs.Told as law;
 ghost use Rattle.order_law.specs.Verdicts.{Port, first_row, rows_of_request};
 ghost use Rattle.to_client.specs.Shows.{IsRequest, ShowsAny};

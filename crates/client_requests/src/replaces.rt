@@ -2,11 +2,11 @@
 
 ghost use Rattle.std.specs.Prelude.{◌≡◌, ◌+◌, ◌≤◌, ◌<◌, ◌^◌, ℕ, List, Option, Some, None, IfOk, length, map};
 ghost use Rattle.fix_types.specs.ReplaceRequest.{replace_request_fields};
-ghost use Rattle.ouch_codec.specs.Inbound.{inbound_bytes};
-ghost use Rattle.tokens.specs.TokenText.{token_text};
+ghost use Rattle.order_law.specs.ouch_codec.Inbound.{inbound_bytes};
+ghost use Rattle.to_market.specs.tokens.TokenText.{token_text};
 ghost use Rattle.order_law.specs.Asks.{Standing};
 ghost use Rattle.order_law.specs.Headline.{Each, EachWith, Says};
-ghost use Rattle.fix_fields.specs.Field.{Message, text};
+ghost use Rattle.order_machine.specs.fix_fields.Field.{Message, text};
 ghost use Rattle.order_machine.specs.Table.{TableState};
 ghost use Rattle.order_table.specs.Held.{found_by_id};
 ghost use Rattle.to_market.specs.RequestAsks.{AsksToReplace};
@@ -19,9 +19,9 @@ use crate::refusing::{reject, unknown_row};
 use crate::sender::Sender;
 use crate::turns::ReplaceTurn;
 use fix_types::{AppBody, ReplaceRequest};
+use order_law::Inbound;
 use order_table::{GivenToken, Table};
 use orders::{Order, Replacing};
-use ouch_codec::Inbound;
 use std::alloc::{AllocError, Global};
 use std::hash::BuildHasher;
 use to_client::{Request, report_pending};

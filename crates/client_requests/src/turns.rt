@@ -1,9 +1,9 @@
 //! What a cancel or a replace comes to.
 
 use fix_types::AppBody;
+use order_law::Inbound;
 use order_table::GivenToken;
 use orders::{Cancelling, Replacing};
-use ouch_codec::Inbound;
 
 /// What a cancel comes to.
 #[derive(Drop)]

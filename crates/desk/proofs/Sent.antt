@@ -8,7 +8,7 @@ use Rattle.std.proofs.Crossing.{crosses}
 use Rattle.desk_ends.proofs.Sent.{seat_send, way_send}
 pub use Rattle.desk_ends.proofs.Sent.{inlet_send, outlet_send}
 use Rattle.desk_ends.specs.declared.name.DeskName as DeskName
-use Rattle.desk_side.specs.contracts.side.Side as Side
+use Rattle.desk_steps.specs.desk_side.contracts.side.Side as Side
 use Rattle.desk_steps.proofs.Sent.{recorded_send}
 use Rattle.desk.specs.contracts.desk_value.Desk as Desk
 use Rattle.desk.specs.contracts.shared.Shared as Shared

@@ -1,16 +1,18 @@
 -- A desk at its start agrees.
-use Rattle.std.proofs.Common.{◌≡◌, ◌≢◌, ℕ, suc, ◌<◌, ◌≤◌, ◌+◌, ◌-◌, ◌^◌, Bool, true, false, nat_lt, List, [], ◌∷◌, length, map, Some, slice_get, get_or, refl, ap, sym, ◌∙◌, subst, arith, inl, inr, ◌⊎◌, ◌==◌}
+use Rattle.std.proofs.Common.{◌≡◌, ◌≢◌, ℕ, suc, ◌<◌, ◌≤◌, ◌+◌, ◌-◌, ◌^◌, Bool, true, false, nat_lt, List, [], ◌∷◌}
+use Rattle.std.proofs.Common.{length, map, Some, slice_get, get_or, refl, ap, sym, ◌∙◌, subst, arith, inl, inr, ◌⊎◌}
+use Rattle.std.proofs.Common.{◌==◌}
 use Rattle.std.specs.Prelude.{All, filter}
 use Rattle.std.proofs.lemmas.Bool.Decides.{eqb_tells, leb_tells}
 use Rattle.std.proofs.lemmas.List.{length-map}
 use Rattle.std.proofs.lemmas.Option.{slice_get_within, get_or_from_slice_get}
 use mathlib.Core.List.{IsPrefix}
 use Rattle.gate_law.specs.Events.{LinkOut}
-use Rattle.gate_events.specs.declared.source.Source.{Source}
-use Rattle.gate_events.specs.declared.source.Source.TheVariants as sources
-use Rattle.gate_events.specs.declared.event.Event.{Event}
-use Rattle.gate_events.specs.Sources.{events_from, is_same_source}
-use Rattle.gate_journal.specs.Kept.{Kept, lists_kept, nothing_kept}
+use Rattle.desk_steps.specs.gate_events.declared.source.Source.{Source}
+use Rattle.desk_steps.specs.gate_events.declared.source.Source.TheVariants as sources
+use Rattle.desk_steps.specs.gate_events.declared.event.Event.{Event}
+use Rattle.desk_steps.specs.gate_events.Sources.{events_from, is_same_source}
+use Rattle.desk_steps.specs.gate_journal.Kept.{Kept, lists_kept, nothing_kept}
 use Rattle.desk_steps.specs.Recorded.{Recorded}
 use Rattle.desk_ends.specs.Rings.{NamedInlet, NamedOutlet}
 use Rattle.desk_ends.specs.Seats.{SeatState, WayState, seat_name, way_name}
@@ -18,9 +20,9 @@ use Rattle.desk_ends.proofs.Naming.{named}
 use Rattle.desk_rings.specs.declared.rings.EventRing.{EventRing}
 use Rattle.desk_rings.specs.declared.rings.ToldRing.{ToldRing}
 use Rattle.desk_rings.specs.Made.{IsFreshSeat, IsFreshWay, inlet_name, outlet_name}
-use Rattle.desk_side.specs.Places.{recipient_at, source_at}
-use Rattle.desk_side.specs.Opened.{IsOpened}
-use Rattle.desk_side.specs.Side.{SideState}
+use Rattle.desk_steps.specs.desk_side.Places.{recipient_at, source_at}
+use Rattle.desk_steps.specs.desk_side.Opened.{IsOpened}
+use Rattle.desk_steps.specs.desk_side.Side.{SideState}
 use Rattle.desk_steps.specs.Agreeing.{Agrees, AreApart, Follows}
 use Rattle.desk.specs.Offered.{AreFor, Offered}
 

@@ -3,5 +3,6 @@ pub use Rattle.desk_ends.specs.Rings
 pub use Rattle.desk_steps.specs.Agreeing
 pub use Rattle.desk_steps.specs.Settling
 pub use Rattle.desk_steps.specs.Turning
-pub use Rattle.gate_journal.specs.Kept
+pub use Rattle.desk_steps.specs.gate_journal.Kept
 pub use Rattle.gate_law.specs.Holds
+pub use Rattle.desk_ends.specs as desk_ends

@@ -6,8 +6,8 @@ use Rattle.desk_ends.specs.Rings.{NamedInlet, NamedOutlet}
 use Rattle.desk_rings.specs.declared.rings.EventRing.{EventRing}
 use Rattle.desk_rings.specs.declared.rings.ToldRing.{ToldRing}
 use Rattle.desk_rings.specs.Made.{IsFreshEvents, IsFreshLists, inlet_name, outlet_name}
-use Rattle.desk_side.specs.Places.{recipient_at, source_at}
-use Rattle.desk_side.specs.Side.{SideState}
+use Rattle.desk_steps.specs.desk_side.Places.{recipient_at, source_at}
+use Rattle.desk_steps.specs.desk_side.Side.{SideState}
 use Rattle.desk_steps.specs.Agreeing.{Agrees}
 
 -- the settings of the core, and which rings there are, by position

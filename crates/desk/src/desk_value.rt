@@ -1,10 +1,7 @@
 //! What lies under the lock.
 
 use desk_ends::{DeskName, Finished};
-use desk_side::Side;
-use desk_steps::{RecordedCore, Turned, round, settle};
-use gate_core::{PortFault, Settings};
-use gate_journal::History;
+use desk_steps::{History, PortFault, RecordedCore, Settings, Side, Turned, round, settle};
 use std::alloc::{AllocError, Global};
 use std::hash::{BuildHasher, BuildHasherDefault, FoldHasher};
 use std::marker::{Model, PhantomData};
@@ -52,8 +49,8 @@ impl<K: DeskName, S: BuildHasher + Drop> Desk<K, S> {
     ghost use Rattle.std.specs.Prelude.{◌≡◌, IfOk, OnOk, OnErr};
     ghost use Rattle.gate_law.specs.After.{lists};
     ghost use Rattle.gate_law.specs.Holds.{Holds};
-    ghost use Rattle.gate_core.specs.Expected.{fault_now};
-    ghost use Rattle.gate_journal.specs.Kept.{turns};
+    ghost use Rattle.desk_steps.specs.gate_core.Expected.{fault_now};
+    ghost use Rattle.desk_steps.specs.gate_journal.Kept.{turns};
     ghost use Rattle.desk_steps.specs.Agreeing.{Agrees, AreNamed};
     ghost use Rattle.desk_steps.specs.Settling.{AreSettled, HistoryGoesOn};
     ghost use Rattle.desk_steps.specs.Turning.{RoundIsRefused, Rounds};

@@ -2,8 +2,7 @@
 
 use crate::desk_value::{Closed, Desk};
 use desk_ends::{DeskName, Finished};
-use desk_steps::Turned;
-use gate_core::PortFault;
+use desk_steps::{PortFault, Turned};
 use std::alloc::{AllocError, Global};
 use std::hash::{BuildHasher, BuildHasherDefault, FoldHasher};
 use std::sync::atomic::{AtomicBool, Ordering};
@@ -53,7 +52,7 @@ impl<K: DeskName, S: BuildHasher + Drop> Drop for Shared<K, S> {
 impl<K: DeskName, S: BuildHasher + Drop> Shared<K, S> {
     ghost use Rattle.std.specs.Prelude.{◌≡◌, IfOk, IfErr};
     ghost use Rattle.gate_law.specs.Holds.{Holds};
-    ghost use Rattle.gate_journal.specs.Kept.{turns};
+    ghost use Rattle.desk_steps.specs.gate_journal.Kept.{turns};
     ghost use Rattle.desk_steps.specs.Agreeing.{AreNamed};
     ghost use Rattle.desk_steps.specs.Settling.{AreSettled};
 

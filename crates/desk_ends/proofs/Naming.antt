@@ -1,5 +1,6 @@
 -- The end that a name names.
-use Rattle.std.proofs.Common.{◌≡◌, ℕ, ◌<◌, ◌++◌, List, [], Option, Some, None, map, length, slice_get, refl, ap, sym, ◌∙◌, arith}
+use Rattle.std.proofs.Common.{◌≡◌, ℕ, ◌<◌, ◌++◌, List, [], Option, Some, None, map, length, slice_get, refl, ap, sym}
+use Rattle.std.proofs.Common.{◌∙◌, arith}
 use Rattle.std.specs.Prelude.{option_map}
 use Rattle.std.specs.Global.{Global}
 use Rattle.std.proofs.lemmas.List.{append-nil}
@@ -9,14 +10,15 @@ use Rattle.rtrb.specs.Ring.{all_sent, received}
 use Rattle.rtrb.specs.declared.consumer.Consumer.{Consumer}
 use Rattle.rtrb.specs.declared.finished.Finished.{Finished}
 use Rattle.rtrb.specs.declared.AnyItems.{AnyItems}
-use Rattle.gate_law.specs.Events.{LinkOut}
+use Rattle.gate_events.specs.gate_law.Events.{LinkOut}
 use Rattle.gate_events.specs.declared.event.Event.{Event}
 use Rattle.gate_events.specs.declared.source.Source.{Source}
 use Rattle.gate_events.specs.declared.source.Recipient.{Recipient}
 use Rattle.desk_ends.specs.Rings.{NamedInlet, NamedOutlet, consumer_ring, finished_ring}
 use Rattle.desk_ends.specs.Ends.{IsNamedEnd, done_of}
 use Rattle.desk_ends.specs.declared.finished.FinishedEnd.TheVariants.{Put, Took}
-use Rattle.desk_ends.specs.Seats.{IsBorneOut, SeatState, SeatLooked, SeatsLooked, WayState, WayLooked, WaysLooked, seat_name, way_name}
+use Rattle.desk_ends.specs.Seats.{IsBorneOut, SeatState, SeatLooked, SeatsLooked, WayState, WayLooked, WaysLooked}
+use Rattle.desk_ends.specs.Seats.{seat_name, way_name}
 use Rattle.desk_ends.proofs.Places.{get-same}
 
 named-some : {A B : Type 0} (f : A → B) (o : Option A) (r : B) → option_map f o ≡ Some r → (x : A) × (o ≡ Some x) × (f x ≡ r)

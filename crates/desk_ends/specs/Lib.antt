@@ -2,3 +2,4 @@ pub mod Rings
 pub mod Seats
 pub mod Ends
 pub use Rattle.gate_events.specs.Sources
+pub use Rattle.gate_events.specs as gate_events

@@ -15,6 +15,7 @@ mod seat;
 mod way;
 
 pub use finished::{Finished, FinishedEnd};
+pub use gate_events::{Event, Recipient, Source, Told};
 pub use inlet::Inlet;
 pub use name::DeskName;
 pub use outlet::Outlet;

@@ -1,8 +1,7 @@
 //! An inlet as a gate.
 
 use desk::{DeskName, Finished, Inlet, Shared};
-use gate_events::{Event, LinkOut};
-use gate_workers::Gate;
+use gate_workers::{Event, Gate, LinkOut};
 use std::alloc::{AllocError, Global};
 use std::hash::{BuildHasher, BuildHasherDefault, FoldHasher};
 use std::sync::Wait;
@@ -22,7 +21,7 @@ pub struct InletGate<'a, K: DeskName, S: BuildHasher + Drop = BuildHasherDefault
 
 impl<'a, K: DeskName, S: BuildHasher + Drop> InletGate<'a, K, S> {
     ghost use Rattle.std.specs.Prelude.{◌≡◌, IfSome};
-    ghost use Rattle.desk_ends.specs.Rings.{put_at};
+    ghost use Rattle.desk.specs.desk_ends.Rings.{put_at};
 
     /// The gate over an inlet of this desk. Takes no memory.
     pub fn new(shared: &'a Shared<K, S>, inlet: Inlet<K>) -> InletGate<'a, K, S>
@@ -50,7 +49,7 @@ impl<'a, K: DeskName, S: BuildHasher + Drop> InletGate<'a, K, S> {
 
 impl<'a, K: DeskName, S: BuildHasher + Drop> Gate for InletGate<'a, K, S> {
     ghost use Rattle.std.specs.Prelude.{[], map};
-    ghost use Rattle.gate_events.specs.Seen.{event_seen};
+    ghost use Rattle.gate_workers.specs.gate_events.Seen.{event_seen};
 
     ghost was_put = { λ g. map event_seen g.inlet.put };
 

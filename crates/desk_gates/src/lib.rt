@@ -7,7 +7,7 @@ mod inlet;
 mod outlet;
 
 pub use bell::BellClock;
-pub use desk::{DeskName, Inlet, Outlet, Shared};
+pub use desk::{DeskName, Finished, Inlet, Outlet, Parts, Shared, open_desk};
 pub use gate_workers::{Clock, Gate};
 pub use inlet::InletGate;
 pub use outlet::OutletGate;

@@ -1,8 +1,7 @@
 //! An outlet as a gate.
 
 use desk::{DeskName, Finished, Outlet, Shared};
-use gate_events::{Event, LinkOut};
-use gate_workers::Gate;
+use gate_workers::{Event, Gate, LinkOut};
 use std::alloc::{AllocError, Global};
 use std::hash::{BuildHasher, BuildHasherDefault, FoldHasher};
 use std::sync::Wait;
@@ -22,7 +21,7 @@ pub struct OutletGate<'a, K: DeskName, S: BuildHasher + Drop = BuildHasherDefaul
 
 impl<'a, K: DeskName, S: BuildHasher + Drop> OutletGate<'a, K, S> {
     ghost use Rattle.std.specs.Prelude.{◌≡◌};
-    ghost use Rattle.desk_ends.specs.Rings.{took_at};
+    ghost use Rattle.desk.specs.desk_ends.Rings.{took_at};
 
     /// The gate over an outlet of this desk. Takes no memory.
     pub fn new(shared: &'a Shared<K, S>, outlet: Outlet<K>) -> OutletGate<'a, K, S>

@@ -1,7 +1,7 @@
 //! Events of the first client at moment 0.
 
-use fix_fields::split;
 use gate_core::{ClientFrame, ClientNumber, Event};
+use script_steps::split;
 use std::alloc::{AllocError, Global};
 
 /// Its first link is up.

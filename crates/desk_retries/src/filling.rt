@@ -4,8 +4,7 @@ ghost use Rattle.std.specs.Prelude.{◌≡◌};
 
 use crate::events::{message, up};
 use desk::{DeskName, Finished, Inlet, Outlet, Parts, Shared, open_desk};
-use gate_core::Event;
-use gate_events::LinkOut;
+use gate_core::{Event, LinkOut};
 use std::alloc::{AllocError, Global};
 use std::sync::Wait;
 

@@ -1,14 +1,16 @@
 -- One ring more, and one end handed out.
-use Rattle.std.proofs.Common.{◌≡◌, ℕ, zero, suc, Some, slice_get, ◌<◌, ◌+◌, ◌++◌, List, [], ◌∷◌, length, map, take, get_or, ap, sym, ◌∙◌, arith, drop, subst, add-one}
+use Rattle.std.proofs.Common.{◌≡◌, ℕ, zero, suc, Some, slice_get, ◌<◌, ◌+◌, ◌++◌, List, [], ◌∷◌, length, map, take}
+use Rattle.std.proofs.Common.{get_or, ap, sym, ◌∙◌, arith, drop, subst, add-one}
 use Rattle.std.specs.Prelude.{All}
 use Rattle.std.proofs.lemmas.List.{map-append, take_more}
 use Rattle.std.proofs.lemmas.List.Elements.{All-append}
-use Rattle.gate_events.specs.declared.source.Source.{Source}
-use Rattle.gate_events.specs.declared.source.Recipient.{Recipient}
+use Rattle.desk_ends.specs.gate_events.declared.source.Source.{Source}
+use Rattle.desk_ends.specs.gate_events.declared.source.Recipient.{Recipient}
 use Rattle.desk_ends.specs.Seats.{SeatState, WayState, seat_name, way_name}
 use Rattle.desk_rings.specs.declared.rings.EventRing.{EventRing}
 use Rattle.desk_rings.specs.declared.rings.ToldRing.{ToldRing}
-use Rattle.desk_rings.specs.Made.{IsFreshEvents, IsFreshLists, IsFreshSeat, IsFreshWay, MadeEvents, MadeLists, inlet_name, outlet_name}
+use Rattle.desk_rings.specs.Made.{IsFreshEvents, IsFreshLists, IsFreshSeat, IsFreshWay, MadeEvents, MadeLists}
+use Rattle.desk_rings.specs.Made.{inlet_name, outlet_name}
 
 all-one : {A : Type 0} (P : A → Type 0) (y : A) → P y → All P (y ∷ [])
 all-one P y h zero d lt = h

@@ -4,8 +4,7 @@ ghost use Rattle.std.specs.Prelude.{IfOk};
 ghost use Rattle.desk_rings.specs.Made.{MadeEvents, MadeLists};
 
 use crate::rings::{EventRing, ToldRing};
-use desk_ends::{Seat, Way};
-use gate_events::{Recipient, Source};
+use desk_ends::{Recipient, Seat, Source, Way};
 use rtrb::RingBuffer;
 use std::alloc::{AllocError, Global};
 use std::collections::VecDeque;

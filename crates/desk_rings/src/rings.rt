@@ -1,6 +1,6 @@
 //! The ends of rings that aren't handed out yet.
 
-use gate_events::{Event, Recipient, Source, Told};
+use desk_ends::{Event, Recipient, Source, Told};
 use rtrb::{Consumer, Producer};
 
 /// The end by which the events of a source are put.

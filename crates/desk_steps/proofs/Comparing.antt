@@ -1,13 +1,15 @@
 -- Ends that have finished are compared, one after another, and then once more.
-use Rattle.std.proofs.Common.{◌≡◌, ◌≢◌, ℕ, ◌<◌, ◌+◌, ◌++◌, List, [], ◌∷◌, length, map, Option, Some, None, slice_get, refl, ap, sym, ◌∙◌, subst, arith, inl, inr, append_assoc, length-append}
+use Rattle.std.proofs.Common.{◌≡◌, ◌≢◌, ℕ, ◌<◌, ◌+◌, ◌++◌, List, [], ◌∷◌, length, map, Option, Some, None, slice_get}
+use Rattle.std.proofs.Common.{refl, ap, sym, ◌∙◌, subst, arith, inl, inr, append_assoc, length-append}
 use Rattle.std.proofs.lemmas.List.{append-nil}
 use Rattle.std.proofs.lemmas.Bool.Decides.{eqb_tells}
 use mathlib.Core.List.{IsPrefix}
 use Rattle.gate_events.specs.declared.event.Event.{Event}
-use Rattle.desk_ends.specs.Rings.{Done, put_at, took_at, NamedInlet, NamedOutlet}
-use Rattle.desk_ends.specs.Ends.{inlet_of}
-use Rattle.desk_ends.specs.Seats.{IsBorneOut, SeatState, SeatLooked, SeatsLooked, SeatsStayBut, WayState, WayLooked, WaysLooked, seat_name, way_name}
-use Rattle.desk_ends.proofs.Places.{get-same}
+use Rattle.desk_side.specs.desk_ends.Rings.{Done, put_at, took_at, NamedInlet, NamedOutlet}
+use Rattle.desk_side.specs.desk_ends.Ends.{inlet_of}
+use Rattle.desk_side.specs.desk_ends.Seats.{IsBorneOut, SeatState, SeatLooked, SeatsLooked, SeatsStayBut, WayState}
+use Rattle.desk_side.specs.desk_ends.Seats.{WayLooked, WaysLooked, seat_name, way_name}
+use Rattle.desk_side.proofs.desk_ends.Places.{get-same}
 use Rattle.desk_steps.specs.Settling.{AreBegun, AreTold, IsBegun}
 use Rattle.desk_side.proofs.Moves.{come-to, each-same, prefix-same, prefix-trans}
 

@@ -1,17 +1,18 @@
 -- A step that is made where there is room cuts no way.
-use Rattle.std.proofs.Common.{◌≡◌, ℕ, ◌<◌, Bool, true, false, [], ◌∷◌, Option, Some, None, slice_get, refl, ap, sym, ◌∙◌, subst, inl, inr, ◌⊎◌, arith}
-use Rattle.gate_law.specs.Events as law
-use Rattle.gate_law.specs.Events.{is_the_number}
-use Rattle.gate_law.specs.Holds.{Holds}
-use Rattle.gate_law.specs.Promises.{IsAmong}
+use Rattle.std.proofs.Common.{◌≡◌, ℕ, ◌<◌, Bool, true, false, [], ◌∷◌, Option, Some, None, slice_get, refl, ap, sym}
+use Rattle.std.proofs.Common.{◌∙◌, subst, inl, inr, ◌⊎◌, arith}
+use Rattle.gate_journal.specs.gate_law.Events as law
+use Rattle.gate_journal.specs.gate_law.Events.{is_the_number}
+use Rattle.gate_journal.specs.gate_law.Holds.{Holds}
+use Rattle.gate_journal.specs.gate_law.Promises.{IsAmong}
 use Rattle.gate_events.specs.declared.event.Event.{Event}
 use Rattle.gate_events.specs.declared.source.Recipient.{Recipient}
 use Rattle.gate_events.specs.declared.source.Recipient.TheVariants as recipients
 use Rattle.gate_events.specs.Seen.{event_seen}
 use Rattle.gate_events.specs.Sources.{unless_empty}
 use Rattle.gate_journal.specs.Kept.{turns}
-use Rattle.desk_ends.specs.Seats.{SeatState, SeatGave, WayState, WaySent}
-use Rattle.desk_ends.proofs.Places.{get-same}
+use Rattle.desk_side.specs.desk_ends.Seats.{SeatState, SeatGave, WayState, WaySent}
+use Rattle.desk_side.proofs.desk_ends.Places.{get-same}
 use Rattle.desk_side.specs.declared.said.Said.{Said}
 use Rattle.desk_side.specs.Said.{IsSaid, list_for}
 use Rattle.desk_side.specs.Places.{is_aimed}

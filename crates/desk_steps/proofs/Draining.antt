@@ -1,23 +1,26 @@
 -- What is left in rings is stepped.
-use Rattle.std.proofs.Common.{◌≡◌, ℕ, ◌<◌, ◌+◌, ◌++◌, List, [], ◌∷◌, length, Some, slice_get, refl, ap, sym, ◌∙◌, subst, arith, inl, inr, ◌⊎◌, append_assoc}
+use Rattle.std.proofs.Common.{◌≡◌, ℕ, ◌<◌, ◌+◌, ◌++◌, List, [], ◌∷◌, length, Some, slice_get, refl, ap, sym, ◌∙◌}
+use Rattle.std.proofs.Common.{subst, arith, inl, inr, ◌⊎◌, append_assoc}
 use Rattle.std.proofs.lemmas.List.{append-nil}
 use Rattle.std.proofs.lemmas.Bool.Decides.{eqb_tells}
 use Rattle.std.proofs.lemmas.Option.{slice_get_within}
 use mathlib.Core.List.{IsPrefix}
-use Rattle.gate_law.specs.Events as law
+use Rattle.gate_journal.specs.gate_law.Events as law
 use Rattle.gate_events.specs.declared.event.Event.{Event}
 use Rattle.gate_events.specs.declared.source.Recipient.{Recipient}
 use Rattle.gate_events.specs.declared.source.Source.{Source}
 use Rattle.gate_events.specs.Sources.{events_from, lists_to}
 use Rattle.gate_journal.specs.Kept.{lists_kept}
 use Rattle.desk_steps.specs.Recorded.{IsKeptStep, Recorded}
-use Rattle.desk_ends.specs.Rings.{Done, put_at, took_at, NamedInlet, NamedOutlet}
-use Rattle.desk_ends.specs.Ends.{inlet_of}
-use Rattle.desk_ends.specs.Seats.{IsBorneOut, SeatState, SeatGave, SeatLooked, SeatsLooked, WayState, WaysLooked}
-use Rattle.desk_ends.proofs.Places.{get-inside, get-same}
+use Rattle.desk_side.specs.desk_ends.Rings.{Done, put_at, took_at, NamedInlet, NamedOutlet}
+use Rattle.desk_side.specs.desk_ends.Ends.{inlet_of}
+use Rattle.desk_side.specs.desk_ends.Seats.{IsBorneOut, SeatState, SeatGave, SeatLooked, SeatsLooked, WayState}
+use Rattle.desk_side.specs.desk_ends.Seats.{WaysLooked}
+use Rattle.desk_side.proofs.desk_ends.Places.{get-inside, get-same}
 use Rattle.desk_side.specs.Side.{ChangesAt, SideState}
 use Rattle.desk_steps.specs.Agreeing.{Agrees, DeskState}
-use Rattle.desk_steps.specs.Settling.{AreDrained, AreSettled, AreTold, HistoryGoesOn, IsSettled, KnowsNone, SeatShrinks, Shrinks}
+use Rattle.desk_steps.specs.Settling.{AreDrained, AreSettled, AreTold, HistoryGoesOn, IsSettled, KnowsNone}
+use Rattle.desk_steps.specs.Settling.{SeatShrinks, Shrinks}
 use Rattle.desk_steps.specs.Turning.{Drops, StepsFirst}
 use Rattle.desk_side.proofs.Moves.{come-to, each-change, prefix-more, prefix-same, prefix-trans}
 use Rattle.desk_steps.proofs.Keeping.{SameOwn, agrees-kept, drops-agree, way-looks}

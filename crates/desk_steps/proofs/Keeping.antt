@@ -1,18 +1,20 @@
 -- Looks and drops keep what a desk keeps.
-use Rattle.std.proofs.Common.{◌≡◌, ℕ, ◌++◌, true, false, List, [], ◌∷◌, length, Some, slice_get, refl, ap, sym, ◌∙◌, subst}
+use Rattle.std.proofs.Common.{◌≡◌, ℕ, ◌++◌, true, false, List, [], ◌∷◌, length, Some, slice_get, refl, ap, sym, ◌∙◌}
+use Rattle.std.proofs.Common.{subst}
 use Rattle.std.specs.Prelude.{filter}
 use Rattle.std.proofs.lemmas.List.{append-nil}
 use Rattle.std.proofs.lemmas.List.Elements.{filter-append}
 use mathlib.Core.List.{IsPrefix}
-use Rattle.gate_law.specs.Events.{LinkOut}
+use Rattle.gate_journal.specs.gate_law.Events.{LinkOut}
 use Rattle.gate_events.specs.declared.event.Event.{Event}
 use Rattle.gate_events.specs.declared.source.Source.{Source}
 use Rattle.gate_events.specs.Sources.{events_from, is_from}
 use Rattle.gate_journal.specs.Kept.{lists_kept}
 use Rattle.desk_steps.specs.Recorded.{Recorded}
-use Rattle.desk_ends.specs.Rings.{NamedInlet, NamedOutlet}
-use Rattle.desk_ends.specs.Seats.{SeatState, SeatGave, SeatLooked, WayState, WayLooked, WaysLooked, seat_name, way_name}
-use Rattle.desk_ends.proofs.Places.{get-same}
+use Rattle.desk_side.specs.desk_ends.Rings.{NamedInlet, NamedOutlet}
+use Rattle.desk_side.specs.desk_ends.Seats.{SeatState, SeatGave, SeatLooked, WayState, WayLooked, WaysLooked}
+use Rattle.desk_side.specs.desk_ends.Seats.{seat_name, way_name}
+use Rattle.desk_side.proofs.desk_ends.Places.{get-same}
 use Rattle.desk_side.specs.Side.{ChangesAt}
 use Rattle.desk_steps.specs.Agreeing.{Agrees, AreNamed, DeskState, Follows}
 use Rattle.desk_steps.specs.Turning.{Drops, Looks}

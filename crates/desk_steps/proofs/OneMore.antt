@@ -1,13 +1,14 @@
 -- A step keeps what a desk keeps, and so do turns and rounds.
-use Rattle.std.proofs.Common.{◌≡◌, ◌≢◌, ℕ, zero, suc, ◌++◌, Bool, true, false, List, [], ◌∷◌, length, Some, slice_get, refl, ap, sym, ◌∙◌, subst, inl, inr, ◌⊎◌, append_assoc, ◌==◌}
+use Rattle.std.proofs.Common.{◌≡◌, ◌≢◌, ℕ, zero, suc, ◌++◌, Bool, true, false, List, [], ◌∷◌, length, Some, slice_get}
+use Rattle.std.proofs.Common.{refl, ap, sym, ◌∙◌, subst, inl, inr, ◌⊎◌, append_assoc, ◌==◌}
 use Rattle.std.specs.Prelude.{option_map}
 use Rattle.std.proofs.lemmas.List.{append-nil}
 use Rattle.std.proofs.lemmas.List.Elements.{filter-append}
 use Rattle.std.proofs.lemmas.Bool.Decides.{eqb_tells}
 use Rattle.std.proofs.lemmas.Option.{slice_get-map}
 use mathlib.Core.List.{IsPrefix}
-use Rattle.gate_law.specs.Events as law
-use Rattle.gate_law.specs.Events.{LinkOut}
+use Rattle.gate_journal.specs.gate_law.Events as law
+use Rattle.gate_journal.specs.gate_law.Events.{LinkOut}
 use Rattle.gate_events.specs.declared.event.Event.{Event}
 use Rattle.gate_events.specs.declared.source.Source.{Source}
 use Rattle.gate_events.specs.declared.source.Source.TheVariants as sources
@@ -15,10 +16,10 @@ use Rattle.gate_events.specs.declared.source.Recipient.{Recipient}
 use Rattle.gate_events.specs.declared.source.Recipient.TheVariants as recipients
 use Rattle.gate_events.specs.Sources.{events_from, is_from, is_same_source, lists_to, source_of, told_to, unless_empty}
 use Rattle.gate_journal.specs.Kept.{lists_kept}
-use Rattle.desk_ends.specs.Rings.{NamedInlet, NamedOutlet}
-use Rattle.desk_ends.specs.Seats.{SeatState, SeatGave, WayState, WaySent, seat_name, way_name}
-use Rattle.desk_ends.proofs.Naming.{named}
-use Rattle.desk_ends.proofs.Places.{get-same}
+use Rattle.desk_side.specs.desk_ends.Rings.{NamedInlet, NamedOutlet}
+use Rattle.desk_side.specs.desk_ends.Seats.{SeatState, SeatGave, WayState, WaySent, seat_name, way_name}
+use Rattle.desk_side.proofs.desk_ends.Naming.{named}
+use Rattle.desk_side.proofs.desk_ends.Places.{get-same}
 use Rattle.desk_side.specs.declared.said.Said.{Said}
 use Rattle.desk_side.specs.Said.{IsSaid, list_for}
 use Rattle.desk_steps.specs.Agreeing.{Agrees, AreNamed, DeskState, Follows}

@@ -1,8 +1,8 @@
 -- What the core is after, carried along, and what one step makes of a core with its history.
 use Rattle.std.proofs.Common.{◌≡◌, Result, Ok, Err, OnErr, ◌∷◌, ◌++◌, [], refl, sym, ap, ◌∙◌, subst}
-use Rattle.gate_law.specs.Settings.{Settings}
-use Rattle.gate_law.specs.Events.{Batch, History}
-use Rattle.gate_law.specs.Holds.{Holds}
+use Rattle.gate_journal.specs.gate_law.Settings.{Settings}
+use Rattle.gate_journal.specs.gate_law.Events.{Batch, History}
+use Rattle.gate_journal.specs.gate_law.Holds.{Holds}
 use Rattle.gate_events.specs.declared.event.Event.{Event}
 use Rattle.gate_core.specs.Core.{After, CoreState, IsAfter}
 use Rattle.gate_journal.specs.Kept.{Kept, kept_turn, turns}

@@ -1,15 +1,16 @@
 -- What a turn comes to, put together of what its calls did.
-use Rattle.std.proofs.Common.{◌≡◌, ℕ, zero, suc, ◌<◌, ◌+◌, true, false, List, [], ◌∷◌, Some, slice_get, length, refl, ap, sym, ◌∙◌, subst, arith}
-use Rattle.gate_law.specs.After.{lists}
+use Rattle.std.proofs.Common.{◌≡◌, ℕ, zero, suc, ◌<◌, ◌+◌, true, false, List, [], ◌∷◌, Some, slice_get, length, refl}
+use Rattle.std.proofs.Common.{ap, sym, ◌∙◌, subst, arith}
+use Rattle.gate_journal.specs.gate_law.After.{lists}
 use Rattle.gate_events.specs.declared.event.Event.{Event}
 use Rattle.gate_events.specs.declared.source.Source.{Source}
 use Rattle.gate_events.specs.Seen.{event_seen}
 use Rattle.gate_events.specs.Sources.{is_from}
 use Rattle.gate_core.specs.Targets.{client_for, port_for}
 use Rattle.gate_journal.specs.Kept.{turns}
-use Rattle.desk_ends.specs.Seats.{SeatState, SeatGave, SeatLooked, WayState, WaysLooked}
-use Rattle.desk_ends.proofs.Naming.{ways-stay}
-use Rattle.desk_ends.proofs.Places.{get-inside, get-same}
+use Rattle.desk_side.specs.desk_ends.Seats.{SeatState, SeatGave, SeatLooked, WayState, WaysLooked}
+use Rattle.desk_side.proofs.desk_ends.Naming.{ways-stay}
+use Rattle.desk_side.proofs.desk_ends.Places.{get-inside, get-same}
 use Rattle.desk_side.specs.declared.said.Said.{Said}
 use Rattle.desk_steps.specs.KeptFree.{kept_free}
 use Rattle.desk_side.specs.Side.{ChangesAt, HaveRoom, LacksRoom, SideState, Tells}

@@ -1,13 +1,13 @@
 -- What a desk is, and what it keeps: its core with the history, and its ends of the rings, agree. (Own.)
 use Rattle.std.specs.Prelude.{◌≡◌, ◌≢◌, ℕ, ◌<◌, ◌^◌, true, false, Some, slice_get, List, length, map}
 use mathlib.Core.List.{IsPrefix}
-use Rattle.gate_law.specs.Events.{LinkOut}
+use Rattle.gate_journal.specs.gate_law.Events.{LinkOut}
 use Rattle.gate_events.specs.declared.event.Event.{Event}
 use Rattle.gate_events.specs.Sources.{events_from, is_from, is_same_source}
 use Rattle.gate_journal.specs.Kept.{lists_kept}
 use Rattle.desk_steps.specs.Recorded.{Recorded}
-use Rattle.desk_ends.specs.Rings.{NamedInlet, NamedOutlet}
-use Rattle.desk_ends.specs.Seats.{SeatState, WayState, seat_name, way_name}
+use Rattle.desk_side.specs.desk_ends.Rings.{NamedInlet, NamedOutlet}
+use Rattle.desk_side.specs.desk_ends.Seats.{SeatState, WayState, seat_name, way_name}
 use Rattle.desk_side.specs.Side.{SideState}
 
 -- a desk: the core with its history, and the desk's side of the rings

@@ -2,8 +2,9 @@
 -- so that one that doesn't take its lists holds up neither its market's messages nor time; what a market says uses
 -- 1,024 more, and 64 are for time alone. (Own.)
 use Rattle.std.specs.Prelude.{ℕ}
-use Rattle.gate_law.specs.Events.{Event, ClientUp, ClientMessage, ClientGone, ClientTick, PortUp, PortPacket, PortGone}
-use Rattle.gate_law.specs.Events.{PortTick}
+use Rattle.gate_journal.specs.gate_law.Events.{Event, ClientUp, ClientMessage, ClientGone, ClientTick, PortUp}
+use Rattle.gate_journal.specs.gate_law.Events.{PortPacket, PortGone}
+use Rattle.gate_journal.specs.gate_law.Events.{PortTick}
 
 abbrev pub kept_free : Event → ℕ
 kept_free (ClientUp client link at) = 1_088

@@ -6,10 +6,14 @@ pub mod Settling
 pub use Rattle.gate_core.specs.Core
 pub use Rattle.gate_core.specs.Targets
 pub use Rattle.gate_journal.specs.Kept
-pub use Rattle.gate_law.specs.Events
-pub use Rattle.gate_law.specs.Holds
-pub use Rattle.gate_law.specs.Promises
-pub use Rattle.desk_ends.specs.Rings
-pub use Rattle.desk_ends.specs.Seats
+pub use Rattle.gate_journal.specs.gate_law.Events
+pub use Rattle.gate_journal.specs.gate_law.Holds
+pub use Rattle.gate_journal.specs.gate_law.Promises
+pub use Rattle.desk_side.specs.desk_ends.Rings
+pub use Rattle.desk_side.specs.desk_ends.Seats
 pub use Rattle.desk_side.specs.Side
 pub use Rattle.desk_side.specs.Said
+pub use Rattle.gate_events.specs as gate_events
+pub use Rattle.gate_core.specs as gate_core
+pub use Rattle.gate_journal.specs as gate_journal
+pub use Rattle.desk_side.specs as desk_side

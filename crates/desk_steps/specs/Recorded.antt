@@ -1,8 +1,8 @@
 -- What contracts see of a core with its history, and what one step makes of it. (Own.)
 use Rattle.std.specs.Prelude.{◌≡◌, [], ◌∷◌, ◌++◌}
-use Rattle.gate_law.specs.Settings.{Settings}
-use Rattle.gate_law.specs.Events.{Batch}
-use Rattle.gate_law.specs.Holds.{Holds}
+use Rattle.gate_journal.specs.gate_law.Settings.{Settings}
+use Rattle.gate_journal.specs.gate_law.Events.{Batch}
+use Rattle.gate_journal.specs.gate_law.Holds.{Holds}
 use Rattle.gate_events.specs.declared.event.Event.{Event}
 use Rattle.gate_journal.specs.Kept.{Kept, kept_turn, turns}
 use Rattle.desk_side.specs.declared.said.Said.{Said}

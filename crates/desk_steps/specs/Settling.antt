@@ -4,9 +4,9 @@ use mathlib.Core.List.{IsPrefix}
 use Rattle.gate_events.specs.Sources.{events_from}
 use Rattle.gate_journal.specs.Kept.{Kept, lists_kept}
 use Rattle.desk_steps.specs.Recorded.{Recorded}
-use Rattle.desk_ends.specs.Rings.{Done, put_at, took_at}
-use Rattle.desk_ends.specs.Ends.{inlet_of}
-use Rattle.desk_ends.specs.Seats.{IsBorneOut, SeatState, WayState}
+use Rattle.desk_side.specs.desk_ends.Rings.{Done, put_at, took_at}
+use Rattle.desk_side.specs.desk_ends.Ends.{inlet_of}
+use Rattle.desk_side.specs.desk_ends.Seats.{IsBorneOut, SeatState, WayState}
 
 -- The history has just what was put. What was taken is a beginning of what it tells, and the whole where as many lists
 -- were taken.

@@ -1,13 +1,13 @@
 -- What the turn of one inlet makes of a desk, and what a round does. (Own.)
 use Rattle.std.specs.Prelude.{◌≡◌, ℕ, ◌+◌, ◌<◌, ◌⊎◌, true, false, Some, slice_get, List, [], ◌∷◌, length}
-use Rattle.gate_law.specs.After.{lists}
+use Rattle.gate_journal.specs.gate_law.After.{lists}
 use Rattle.gate_events.specs.declared.event.Event.{Event}
 use Rattle.gate_events.specs.Seen.{event_seen}
 use Rattle.gate_events.specs.Sources.{is_from}
 use Rattle.gate_core.specs.Targets.{client_for, port_for}
 use Rattle.gate_journal.specs.Kept.{turns}
 use Rattle.desk_steps.specs.Recorded.{IsKeptStep, Recorded}
-use Rattle.desk_ends.specs.Seats.{SeatState, SeatGave, SeatLooked, WayState, WaysLooked}
+use Rattle.desk_side.specs.desk_ends.Seats.{SeatState, SeatGave, SeatLooked, WayState, WaysLooked}
 use Rattle.desk_side.specs.declared.said.Said.{Said}
 use Rattle.desk_side.specs.Side.{ChangesAt, HaveRoom, LacksRoom, SideState, Tells}
 use Rattle.desk_steps.specs.Agreeing.{DeskState}

@@ -3,17 +3,17 @@
 ghost use Rattle.std.specs.Prelude.{◌≡◌, ◌<◌, ◌⊎◌, ◌≤◌, ℕ, List, true, Some, length, map, slice_get, OnOk, OnErr};
 ghost use Rattle.gate_events.specs.Sources.{is_from};
 ghost use Rattle.gate_events.specs.declared.event.Event.{Event};
-ghost use Rattle.desk_ends.specs.Rings.{NamedInlet, NamedOutlet};
-ghost use Rattle.desk_ends.specs.Ends.{inlet_of};
-ghost use Rattle.desk_ends.specs.Seats.{SeatState, SeatsLooked, WaysLooked, seat_name, way_name};
+ghost use Rattle.desk_side.specs.desk_ends.Rings.{NamedInlet, NamedOutlet};
+ghost use Rattle.desk_side.specs.desk_ends.Ends.{inlet_of};
+ghost use Rattle.desk_side.specs.desk_ends.Seats.{SeatState, SeatsLooked, WaysLooked, seat_name, way_name};
 ghost use Rattle.desk_steps.specs.Agreeing.{Agrees};
-ghost use Rattle.desk_steps.specs.Settling.{AreBegun, AreDrained, AreSettled, AreTold, HistoryGoesOn, KnowsNone, Shrinks};
+ghost use Rattle.desk_steps.specs.Settling.{AreBegun, AreDrained, AreSettled, AreTold, HistoryGoesOn, KnowsNone};
+ghost use Rattle.desk_steps.specs.Settling.{Shrinks};
 ghost use Rattle.desk_steps.specs.Turning.{Drops, StepsFirst};
 
 use crate::recorded::RecordedCore;
 use crate::turning::step_front;
-use desk_ends::{DeskName, Finished};
-use desk_side::Side;
+use desk_side::{DeskName, Finished, Side};
 use std::alloc::{AllocError, Global};
 use std::hash::BuildHasher;
 

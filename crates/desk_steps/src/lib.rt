@@ -11,6 +11,10 @@ mod turned;
 mod turning;
 
 pub use closing::settle;
+pub use desk_side::{Side, open_side};
+pub use gate_core::Settings;
+pub use gate_events::PortFault;
+pub use gate_journal::History;
 pub use recorded::RecordedCore;
 pub use turned::{Did, Turned};
 pub use turning::round;

@@ -87,10 +87,10 @@ impl<S: BuildHasher + Clone + Drop> RecordedCore<S> {
 
 impl<S: BuildHasher + Drop> RecordedCore<S> {
     ghost use Rattle.std.specs.Prelude.{◌≡◌, ◌∷◌, IfOk, OnErr};
-    ghost use Rattle.gate_law.specs.Events as told;
-    ghost use Rattle.gate_law.specs.After.{lists};
-    ghost use Rattle.gate_law.specs.Holds.{Holds};
-    ghost use Rattle.gate_law.specs.Promises.{IsAmong};
+    ghost use Rattle.gate_journal.specs.gate_law.Events as told;
+    ghost use Rattle.gate_journal.specs.gate_law.After.{lists};
+    ghost use Rattle.gate_journal.specs.gate_law.Holds.{Holds};
+    ghost use Rattle.gate_journal.specs.gate_law.Promises.{IsAmong};
     ghost use Rattle.gate_events.specs.Seen.{event_seen};
     ghost use Rattle.gate_core.specs.Expected.{fault_now};
     ghost use Rattle.gate_core.specs.Targets.{client_for, port_for};

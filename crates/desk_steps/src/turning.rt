@@ -3,7 +3,7 @@
 ghost use Rattle.std.specs.Prelude.{◌≡◌, ◌<◌, ◌^◌, true, Some, length, slice_get, IfOk, OnOk, OnErr};
 ghost use Rattle.gate_events.specs.Sources.{is_from};
 ghost use Rattle.gate_events.specs.declared.event.Event.{Event};
-ghost use Rattle.desk_ends.specs.Seats.{SeatState};
+ghost use Rattle.desk_side.specs.desk_ends.Seats.{SeatState};
 ghost use Rattle.desk_steps.specs.Turning.{Does, RoundIsRefused, Looks, Rounds, StepsFirst};
 
 use crate::keeping_free::places_kept_free;

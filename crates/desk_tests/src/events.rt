@@ -1,8 +1,7 @@
 //! Events of the first client at moment 0, and how they are put.
 
 use desk::{DeskName, Inlet};
-use fix_fields::split;
-use gate_core::{ClientFrame, ClientNumber, Event};
+use script_steps::{ClientFrame, ClientNumber, Event, split};
 use std::alloc::Global;
 use std::test::Fail;
 

@@ -4,10 +4,7 @@ ghost use Rattle.std.specs.Prelude.{◌≡◌};
 
 use super::events::{logon, put, test_request, tick, up};
 use desk::{DeskName, Finished, Inlet, Outlet, Parts, Shared, Turned, open_desk};
-use gate_core::ClientNumber;
-use gate_events::Source;
-use gate_journal::History;
-use script_steps::fixed_settings;
+use script_steps::{ClientNumber, History, Source, fixed_settings};
 use std::alloc::Global;
 use std::marker::Brand;
 use std::process::Abort;

@@ -4,10 +4,7 @@ ghost use Rattle.std.specs.Prelude.{◌≡◌};
 
 use super::events::tick;
 use desk::{DeskName, Finished, Inlet, Outlet, Parts, Shared, open_desk};
-use gate_core::{ClientNumber, Event};
-use gate_events::Source;
-use gate_journal::History;
-use script_steps::fixed_settings;
+use script_steps::{ClientNumber, Event, History, Source, fixed_settings};
 use std::alloc::{AllocError, Global};
 use std::marker::Brand;
 use std::process::Abort;

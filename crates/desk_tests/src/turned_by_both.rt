@@ -4,8 +4,7 @@ ghost use Rattle.std.specs.Prelude.{◌≡◌};
 
 use super::events::tick;
 use desk::{DeskName, Inlet, Parts, Shared, Turned, open_desk};
-use gate_core::{ClientNumber, Event};
-use script_steps::fixed_settings;
+use script_steps::{ClientNumber, Event, fixed_settings};
 use std::alloc::Global;
 use std::marker::Brand;
 use std::process::Abort;

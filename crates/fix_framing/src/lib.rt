@@ -14,6 +14,7 @@ mod scan;
 mod start;
 mod writing;
 
+pub use fix_fields::{Fields, PrintedFields, printed_fields};
 pub use frame_fault::FrameFault;
 pub use framer::Framer;
 pub use writing::{frame, frame_of_text};

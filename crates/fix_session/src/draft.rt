@@ -7,9 +7,8 @@ ghost use Rattle.session_law.specs.Session.{on_written};
 
 use crate::session::Session;
 use fix_fields::{Fields, printed_fields};
-use fix_types::AppMsg;
 use session_law::{Frame, Kind, Logged, Out, Phase};
-use session_reading::application_of;
+use session_reading::{AppMsg, application_of};
 use session_writing::{KeptBodies, ask_body, echo_body, reject_body, text_body};
 use std::alloc::{AllocError, Global};
 

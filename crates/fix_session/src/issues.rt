@@ -4,8 +4,8 @@ ghost use Rattle.std.specs.Prelude.{◌≡◌, IfOk};
 ghost use Rattle.fix_session.specs.Issues as law;
 
 use fix_fields::Fields;
-use fix_types::AppBody;
 use session_law::Kind;
+use session_reading::AppBody;
 use std::alloc::{AllocError, Global};
 
 /// The type of the frame of a body.

@@ -12,9 +12,8 @@ use crate::judge::{judge, judge_logon};
 use crate::logon::answer_logon;
 use crate::ticks::do_due;
 use fix_fields::{Fields, Text, printed_fields};
-use fix_types::{AppBody, AppMsg};
 use session_law::{Kind, Logged, Phase};
-use session_reading::due_at;
+use session_reading::{AppBody, AppMsg, due_at};
 use session_writing::{
     FrameHead, IssuedReport, SessionOut, UndoBodies, append_written, issued_outs, report_of_body,
 };
@@ -121,7 +120,7 @@ impl Session {
     ghost use Rattle.fix_session.specs.Issues as issues;
     ghost use Rattle.fix_session.specs.Issues.{call_of_body};
     ghost use Rattle.session_law.specs.Frames.{frame_fields};
-    ghost use Rattle.fix_stamp.specs.Stamp.{stamp_text};
+    ghost use Rattle.session_writing.specs.fix_stamp.Stamp.{stamp_text};
     ghost use Rattle.fix_fields.specs.Field.{IsValue};
     ghost use Rattle.session_law.specs.Frames.{told_of_out};
     ghost use Rattle.session_writing.specs.Written.{told_bytes};

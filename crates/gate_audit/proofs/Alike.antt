@@ -1,18 +1,24 @@
 -- Two standings of a port's session that differ in moments alone give the same.
-use Rattle.std.proofs.Common.{◌≡◌, ℕ, ◌+◌, Bool, true, false, List, ◌∷◌, Option, Some, None, refl, sym, ap, ◌∙◌, subst, length}
+use Rattle.std.proofs.Common.{◌≡◌, ℕ, ◌+◌, Bool, true, false, List, ◌∷◌, Option, Some, None, refl, sym, ap, ◌∙◌, subst}
+use Rattle.std.proofs.Common.{length}
 use Rattle.std.specs.Prelude.{◌-◌, ◌&&◌, ◌==◌, nat_lt, if◌then◌else◌, ◌⊎◌}
 use Rattle.std.proofs.Common.{inl, inr}
 use Rattle.soup_packets.specs.declared.packet.Packet.{Packet}
-use Rattle.soup_session.specs.declared.port_fault.PortFault.{PortFault}
-use Rattle.soup_session.specs.declared.port_fault.PortFault.TheVariants.{StrangePacket, SequenceGap, OtherSession}
-use Rattle.soup_session.specs.declared.port_state.PortState.{PortState}
-use Rattle.soup_session.specs.declared.port_state.PortState.TheVariants.{Down, LoggingIn, Ended, Faulted}
-use Rattle.soup_session.specs.declared.said.Said.{Said}
-use Rattle.soup_session.specs.declared.said.Said.TheVariants.{Accepted, Rejected, Sequenced, Nothing, End, Strange}
-use Rattle.soup_session.specs.States.{is_down, is_logging_in, is_open, is_up}
-use Rattle.soup_session.specs.Delivered.{Arrival, delivered}
-use Rattle.soup_session.specs.Reading.{said_of}
-use Rattle.soup_session.specs.Table.{PortAnswer, PortCall, Fail, OnGone, OnPacket, OnUp, Send, PortStanding, LoginTerms, OnTick, answer, answer_in, arrives, blank, closes, faults, heard_now, on_said, is_other, logs_in, on_up, passed, quiet_answer, says, standing, on_tick, wanted}
+use Rattle.gate_core.specs.soup_session.declared.port_fault.PortFault.{PortFault}
+use Rattle.gate_core.specs.soup_session.declared.port_fault.PortFault.TheVariants.{StrangePacket, SequenceGap}
+use Rattle.gate_core.specs.soup_session.declared.port_fault.PortFault.TheVariants.{OtherSession}
+use Rattle.gate_core.specs.soup_session.declared.port_state.PortState.{PortState}
+use Rattle.gate_core.specs.soup_session.declared.port_state.PortState.TheVariants.{Down, LoggingIn, Ended, Faulted}
+use Rattle.gate_core.specs.soup_session.declared.said.Said.{Said}
+use Rattle.gate_core.specs.soup_session.declared.said.Said.TheVariants.{Accepted, Rejected, Sequenced, Nothing, End}
+use Rattle.gate_core.specs.soup_session.declared.said.Said.TheVariants.{Strange}
+use Rattle.gate_core.specs.soup_session.States.{is_down, is_logging_in, is_open, is_up}
+use Rattle.gate_core.specs.soup_session.Delivered.{Arrival, delivered}
+use Rattle.gate_core.specs.soup_session.Reading.{said_of}
+use Rattle.gate_core.specs.soup_session.Table.{PortAnswer, PortCall, Fail, OnGone, OnPacket, OnUp, Send, PortStanding}
+use Rattle.gate_core.specs.soup_session.Table.{LoginTerms, OnTick, answer, answer_in, arrives, blank, closes, faults}
+use Rattle.gate_core.specs.soup_session.Table.{heard_now, on_said, is_other, logs_in, on_up, passed, quiet_answer}
+use Rattle.gate_core.specs.soup_session.Table.{says, standing, on_tick, wanted}
 
 -- the same login and numbers
 pub record SameNumbers (s x : PortStanding) : Type 0 where
@@ -101,7 +107,7 @@ same-numbers s = record { session = refl; arrived = refl; number = refl }
 opens-numbers : (terms : LoginTerms) (s x : PortStanding) (at : ℕ) → SameNumbers s x → SameNumbers (answer_in terms s (OnUp at)).after x
 opens-numbers terms s x at same = by_down (is_down s.state)
   where
-    by_down : (b : Bool) → SameNumbers (if b then says (Rattle.soup_session.specs.Writing.login (Rattle.soup_session.specs.Writing.padded_right 6 terms.user) (Rattle.soup_session.specs.Writing.padded_right 10 terms.password) s.session (wanted s)) (record (Rattle.soup_session.specs.Table.sent_now (heard_now (passed at s))) { state = LoggingIn }) else closes s.state (passed at s)).after x
+    by_down : (b : Bool) → SameNumbers (if b then says (Rattle.gate_core.specs.soup_session.Writing.login (Rattle.gate_core.specs.soup_session.Writing.padded_right 6 terms.user) (Rattle.gate_core.specs.soup_session.Writing.padded_right 10 terms.password) s.session (wanted s)) (record (Rattle.gate_core.specs.soup_session.Table.sent_now (heard_now (passed at s))) { state = LoggingIn }) else closes s.state (passed at s)).after x
     by_down true = record { session = same.session; arrived = same.arrived; number = same.number }
     by_down false = record { session = same.session; arrived = same.arrived; number = same.number }
 
@@ -153,7 +159,7 @@ ticks-fade terms calls at = by_open (is_open s.state) refl
     kept : Fades s (quiet_answer now).after
     kept = record { numbers = record { session = refl; arrived = refl; number = refl }; state = inl refl }
 
-    by_silence : (b c : Bool) → is_open s.state ≡ true → Fades s (if b then closes Down now else if c then says Rattle.soup_session.specs.Writing.heartbeat (Rattle.soup_session.specs.Table.sent_now now) else quiet_answer now).after
+    by_silence : (b c : Bool) → is_open s.state ≡ true → Fades s (if b then closes Down now else if c then says Rattle.gate_core.specs.soup_session.Writing.heartbeat (Rattle.gate_core.specs.soup_session.Table.sent_now now) else quiet_answer now).after
     by_silence true c up = record { numbers = record { session = refl; arrived = refl; number = refl }; state = inr (up, refl) }
     by_silence false true up = record { numbers = record { session = refl; arrived = refl; number = refl }; state = inl refl }
     by_silence false false up = kept

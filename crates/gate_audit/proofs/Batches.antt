@@ -1,15 +1,17 @@
 -- What clients were told by batches, and what is read of it.
-use Rattle.std.proofs.Common.{◌≡◌, ℕ, suc, ◌+◌, Bool, true, false, List, [], ◌∷◌, ◌++◌, map, reverse, length, refl, sym, ap, ◌∙◌, arith, append_assoc}
+use Rattle.std.proofs.Common.{◌≡◌, ℕ, suc, ◌+◌, Bool, true, false, List, [], ◌∷◌, ◌++◌, map, reverse, length, refl}
+use Rattle.std.proofs.Common.{sym, ap, ◌∙◌, arith, append_assoc}
 use Rattle.std.specs.Prelude.{filter, if◌then◌else◌}
 use Rattle.std.proofs.lemmas.List.{append-nil, map-append, reverse-append, reverse-reverse}
-use Rattle.fix_fields.specs.Field.{Message}
+use Rattle.gate_law.specs.fix_fields.Field.{Message}
 use Rattle.order_law.specs.Messages.{body_of}
 use Rattle.gate_law.specs.Events.{History, is_the_number}
 use Rattle.gate_law.specs.Holds.{told_by_batches}
 use Rattle.gate_events.specs.declared.event.Event.{Event}
 use Rattle.gate_events.specs.declared.batch.Batch.{Batch}
 use Rattle.gate_core.specs.Core.{onto, history, turn_of}
-use Rattle.gate_audit.specs.Read.{Opened, ReadOrder, for_clients, opened_in, opened_by, opens_new_order, read_by, read_in, readings, reports_to, told_by_batch}
+use Rattle.gate_audit.specs.Read.{Opened, ReadOrder, for_clients, opened_in, opened_by, opens_new_order, read_by}
+use Rattle.gate_audit.specs.Read.{read_in, readings, reports_to, told_by_batch}
 use Rattle.gate_audit.proofs.Lists.{filter-reverse, map-reverse, map-same}
 use Rattle.gate_audit.proofs.Bodies.{same-opened, same-reading}
 

@@ -2,7 +2,7 @@
 use Rattle.std.proofs.Common.{◌≡◌, ℕ, Bool, true, false, List, [], ◌∷◌, map, refl, sym, ap, ◌∙◌}
 use Rattle.std.specs.Prelude.{◌==◌}
 use Rattle.std.proofs.Common.{eqb-true}
-use Rattle.fix_fields.specs.Field.{first_value, Message}
+use Rattle.gate_law.specs.fix_fields.Field.{first_value, Message}
 use Rattle.order_law.specs.Messages.{body_of, is_header}
 use Rattle.order_law.specs.Reading.{Reading, is_report_on, reading, with_report}
 use Rattle.gate_audit.specs.Read.{opened_in, opened_by, opens_new_order}

@@ -1,12 +1,14 @@
 -- No more tokens were given by the first reports than by all.
-use Rattle.std.proofs.Common.{◌≡◌, ◌<◌, ◌≤◌, ◌+◌, ℕ, List, [], ◌∷◌, ◌++◌, map, reverse, length, take, drop, get_or, sym, ap, subst, ◌∙◌, arith, append_assoc, Option, Some}
+use Rattle.std.proofs.Common.{◌≡◌, ◌<◌, ◌≤◌, ◌+◌, ℕ, List, [], ◌∷◌, ◌++◌, map, reverse, length, take, drop, get_or}
+use Rattle.std.proofs.Common.{sym, ap, subst, ◌∙◌, arith, append_assoc, Option, Some}
 use Rattle.std.proofs.lemmas.List.{append-nil, map-append, reverse-append, take_more, take-append-drop}
 use Rattle.std.proofs.lemmas.List.Concat.{flat_map-append}
 use Rattle.gate_audit.proofs.Lists.{map-reverse}
-use Rattle.fix_fields.specs.Field.{Message}
-use Rattle.order_machine.proofs.Executed.{count-more}
+use Rattle.gate_law.specs.fix_fields.Field.{Message}
+use Rattle.gate_core.proofs.order_machine.Executed.{count-more}
 use Rattle.gate_events.specs.declared.batch.Batch.{Batch}
-use Rattle.gate_audit.specs.Pairs.{HasTokenNumbers, SaidToClient, gives_token, said_by_batches, said_to, tokens_given, told_anyone}
+use Rattle.gate_audit.specs.Pairs.{HasTokenNumbers, SaidToClient, gives_token, said_by_batches, said_to, tokens_given}
+use Rattle.gate_audit.specs.Pairs.{told_anyone}
 
 tokens-behind : (xs ys : List SaidToClient) → tokens_given ys ≤ tokens_given (xs ++ ys)
 tokens-behind [] ys = omega arith

@@ -1,15 +1,17 @@
 -- What an event is accepted as, by its verdict; and each accepted new order is the one that its OrderID leads to.
-use Rattle.std.proofs.Common.{◌≡◌, ℕ, ◌+◌, ◌<◌, ◌≤◌, ◌^◌, Bool, true, false, List, [], ◌∷◌, ◌++◌, refl, sym, ap, ◌∙◌, subst, arith, bytes_eq, decimal, Option, Some, None}
+use Rattle.std.proofs.Common.{◌≡◌, ℕ, ◌+◌, ◌<◌, ◌≤◌, ◌^◌, Bool, true, false, List, [], ◌∷◌, ◌++◌, refl, sym, ap, ◌∙◌}
+use Rattle.std.proofs.Common.{subst, arith, bytes_eq, decimal, Option, Some, None}
 use Rattle.std.specs.Prelude.{filter, if◌then◌else◌, option_to_list, unwrap_or, Result}
-use Rattle.ouch_codec.specs.declared.outbound.Outbound.{Outbound}
-use Rattle.ouch_codec.specs.declared.refusal.DecodeRefusal.{DecodeRefusal}
-use Rattle.fix_fields.specs.Field.{Message, text}
+use Rattle.order_accounts.specs.ouch_codec.declared.outbound.Outbound.{Outbound}
+use Rattle.order_accounts.specs.ouch_codec.declared.refusal.DecodeRefusal.{DecodeRefusal}
+use Rattle.gate_law.specs.fix_fields.Field.{Message, text}
 use Rattle.order_law.specs.Verdicts.{Accepted, Port, Refused, Verdict, is_replace}
 use Rattle.order_law.specs.Chain.{named}
-use Rattle.order_law.specs.History.{Came, Entry, OrderEvent, Heard, OrderHistory, Terms, OrderTurn, accepted, entry_at, given_tokens, is_new_order, issued, new_of, orders_numbered, verdict}
+use Rattle.order_law.specs.History.{Came, Entry, OrderEvent, Heard, OrderHistory, Terms, OrderTurn, accepted, entry_at}
+use Rattle.order_law.specs.History.{given_tokens, is_new_order, issued, new_of, orders_numbered, verdict}
 use Rattle.order_law.specs.Headline.{Each}
-use Rattle.order_machine.proofs.Executed.{count-more}
-use Rattle.order_machine.proofs.Texts.{and-false, eq-decimal_other, eq-same, number-decimal}
+use Rattle.gate_core.proofs.order_machine.Executed.{count-more}
+use Rattle.gate_core.proofs.order_machine.Texts.{and-false, eq-decimal_other, eq-same, number-decimal}
 use Rattle.std.specs.Str.Parse.{digits_value}
 use Rattle.gate_audit.specs.Pairs.{AreByOrder}
 

@@ -1,21 +1,25 @@
 -- In every history of the order level that has the headline, the orders that reports open are the accepted new orders, each with its
 -- own token: by the reports as many tokens were given as by the accepted messages.
-use Rattle.std.proofs.Common.{◌≡◌, ℕ, ◌+◌, Bool, true, false, List, [], ◌∷◌, ◌++◌, map, reverse, refl, sym, ap, ◌∙◌, subst, arith, codes, Option, Some, None, append_assoc}
+use Rattle.std.proofs.Common.{◌≡◌, ℕ, ◌+◌, Bool, true, false, List, [], ◌∷◌, ◌++◌, map, reverse, refl, sym, ap, ◌∙◌}
+use Rattle.std.proofs.Common.{subst, arith, codes, Option, Some, None, append_assoc}
 use Rattle.std.specs.Prelude.{◌||◌, ◌&&◌, if◌then◌else◌, option_and_then, unwrap_or}
 use Rattle.std.proofs.lemmas.List.{reverse-append}
-use Rattle.fix_fields.specs.Field.{Message, character, is, text}
+use Rattle.gate_law.specs.fix_fields.Field.{Message, character, is, text}
 use Rattle.order_law.specs.Reading.{is_report}
 use Rattle.order_law.specs.Verdicts.{Accepted, Named, Port, Refused, Verdict, is_replace}
 use Rattle.order_law.specs.Chain.{named}
-use Rattle.order_law.specs.History.{Came, Entry, OrderEvent, Heard, OrderHistory, Terms, OrderTurn, accepted, given_tokens, is_new_order, issued, new_of, standing_of, token_of}
+use Rattle.order_law.specs.History.{Came, Entry, OrderEvent, Heard, OrderHistory, Terms, OrderTurn, accepted}
+use Rattle.order_law.specs.History.{given_tokens, is_new_order, issued, new_of, standing_of, token_of}
 use Rattle.order_law.specs.Headline.{Each, Headline, said_in}
 use Rattle.order_law.specs.Told as law
 use Rattle.order_law.specs.Told.{Shown, Told, told, told_accepted_as, told_by_verdict, reports_in, shown, shown_in}
-use Rattle.order_machine.proofs.Executed.{count-more}
-use Rattle.order_machine.proofs.Verdicts.{RequestSays, request-says}
+use Rattle.gate_core.proofs.order_machine.Executed.{count-more}
+use Rattle.gate_core.proofs.order_machine.Verdicts.{RequestSays, request-says}
 use Rattle.gate_audit.specs.Read.{opens_new_order}
-use Rattle.gate_audit.specs.Pairs.{OpenedOrder, SaidToClient, gives_token, opened_order_at, opened_orders, said_to, tokens_given}
-use Rattle.gate_audit.proofs.Entries.{heard-accepted, new-accepted, new_entry, news, none-accepted, request-accepted, request_entry, taken-new, taken-request, verdict_at}
+use Rattle.gate_audit.specs.Pairs.{OpenedOrder, SaidToClient, gives_token, opened_order_at, opened_orders, said_to}
+use Rattle.gate_audit.specs.Pairs.{tokens_given}
+use Rattle.gate_audit.proofs.Entries.{heard-accepted, new-accepted, new_entry, news, none-accepted, request-accepted}
+use Rattle.gate_audit.proofs.Entries.{request_entry, taken-new, taken-request, verdict_at}
 use Rattle.gate_audit.proofs.NoTokens.{GivesNone, market-none, refused-none}
 use Rattle.gate_audit.proofs.Said.{said_turns}
 

@@ -1,37 +1,43 @@
 -- A port's session that is called once more follows the port's session of a run, and delivers the same messages.
-use Rattle.std.proofs.Common.{◌≡◌, ◌==◌, ℕ, Bool, true, false, List, [], ◌∷◌, Option, Some, None, refl, ap, sym, subst, ◌∙◌, is_some, eq-eqb, eqb-true, inl, inr}
+use Rattle.std.proofs.Common.{◌≡◌, ◌==◌, ℕ, Bool, true, false, List, [], ◌∷◌, Option, Some, None, refl, ap, sym, subst}
+use Rattle.std.proofs.Common.{◌∙◌, is_some, eq-eqb, eqb-true, inl, inr}
 use Rattle.std.proofs.lemmas.Bool.{cond-true, cond-false, cases_Bool}
 use Rattle.std.specs.Prelude.{if◌then◌else◌, ◌&&◌, ◌++◌, ◌⊎◌, Result, Ok, Err, option_map, option_to_list}
 use Rattle.std.specs.List.{list_any}
-use Rattle.fix_types.specs.declared.application.AppMsg.{AppMsg}
+use Rattle.gate_core.specs.fix_types.declared.application.AppMsg.{AppMsg}
 use Rattle.soup_packets.specs.declared.packet.Packet.{Packet}
-use Rattle.soup_session.specs.declared.port_fault.PortFault.{PortFault}
-use Rattle.soup_session.specs.Faults.{fault_number}
-use Rattle.soup_session.specs.declared.port_state.PortState.{PortState}
-use Rattle.soup_session.specs.declared.port_state.PortState.TheVariants.{Down, LoggingIn, Up, Ended, Faulted}
-use Rattle.soup_session.specs.States.{is_down, is_open}
-use Rattle.soup_session.specs.Table as port
-use Rattle.soup_session.specs.Table.{PortAnswer, PortCall, PortStanding, standing}
-use Rattle.session_law.specs.Runs.{Timed, OnMessage}
-use Rattle.ouch_codec.specs.declared.outbound.Outbound.{Outbound}
-use Rattle.ouch_codec.specs.declared.refusal.DecodeRefusal.{DecodeRefusal}
-use Rattle.ouch_codec.specs.Values.{decoded}
+use Rattle.gate_core.specs.soup_session.declared.port_fault.PortFault.{PortFault}
+use Rattle.gate_core.specs.soup_session.Faults.{fault_number}
+use Rattle.gate_core.specs.soup_session.declared.port_state.PortState.{PortState}
+use Rattle.gate_core.specs.soup_session.declared.port_state.PortState.TheVariants.{Down, LoggingIn, Up, Ended, Faulted}
+use Rattle.gate_core.specs.soup_session.States.{is_down, is_open}
+use Rattle.gate_core.specs.soup_session.Table as port
+use Rattle.gate_core.specs.soup_session.Table.{PortAnswer, PortCall, PortStanding, standing}
+use Rattle.gate_core.specs.session_law.Runs.{Timed, OnMessage}
+use Rattle.order_accounts.specs.ouch_codec.declared.outbound.Outbound.{Outbound}
+use Rattle.order_accounts.specs.ouch_codec.declared.refusal.DecodeRefusal.{DecodeRefusal}
+use Rattle.order_accounts.specs.ouch_codec.Values.{decoded}
 use Rattle.order_law.specs.History as orders
 use Rattle.order_law.specs.History.{handled}
-use Rattle.fix_fields.specs.Field.{Message}
+use Rattle.gate_law.specs.fix_fields.Field.{Message}
 use Rattle.gate_law.specs.Settings.{Settings, has_port, port_terms}
-use Rattle.gate_law.specs.Events.{Event, ClientUp, ClientMessage, ClientGone, ClientTick, PortUp, PortPacket, PortGone, PortTick, Batch, History, is_the_number}
+use Rattle.gate_law.specs.Events.{Event, ClientUp, ClientMessage, ClientGone, ClientTick, PortUp, PortPacket, PortGone}
+use Rattle.gate_law.specs.Events.{PortTick, Batch, History, is_the_number}
 use Rattle.gate_law.specs.Lists.{Lists, nothing_yet, turned}
 use Rattle.gate_law.specs.Sessions.{client_answer, port_answer, port_state, sends}
-use Rattle.gate_law.specs.Outcome.{LinkMove, Stays, Comes, Goes, Refused, Outcome, nothing, of_client, of_port, client_up, port_up, by_app, by_fault, by_payload, outcome, is_stepped, messages, bodies, addressee}
-use Rattle.gate_law.specs.After.{lists_after, links_closed, is_close, is_within_day, lists, order_turns, port_moved, unless_closed, with_outcome}
+use Rattle.gate_law.specs.Outcome.{LinkMove, Stays, Comes, Goes, Refused, Outcome, nothing, of_client, of_port}
+use Rattle.gate_law.specs.Outcome.{client_up, port_up, by_app, by_fault, by_payload, outcome, is_stepped, messages}
+use Rattle.gate_law.specs.Outcome.{bodies, addressee}
+use Rattle.gate_law.specs.After.{lists_after, links_closed, is_close, is_within_day, lists, order_turns, port_moved}
+use Rattle.gate_law.specs.After.{unless_closed, with_outcome}
 use Rattle.gate_law.specs.Holds.{IsRun}
 use Rattle.gate_law.proofs.Links.{IsLinked, links-current, EndsAll}
 use Rattle.gate_law.proofs.Parts.{called, link-after, moved-other, other-calls, own-calls}
 use Rattle.gate_law.proofs.Telling.{turns-after}
 use Rattle.gate_audit.specs.Again as read
 use Rattle.gate_audit.specs.Again.{Again, called_again, and_handled, unless_fault, unless_lost}
-use Rattle.gate_audit.proofs.Alike.{Fades, IsAlike, SameNumbers, fails-numbers, goes-numbers, goes-state, packet-after, packet-payload, same-numbers, stays, ticks-fade, up-numbers, up-state}
+use Rattle.gate_audit.proofs.Alike.{Fades, IsAlike, SameNumbers, fails-numbers, goes-numbers, goes-state, packet-after}
+use Rattle.gate_audit.proofs.Alike.{packet-payload, same-numbers, stays, ticks-fade, up-numbers, up-state}
 
 -- ---- numbers
 

@@ -1,18 +1,19 @@
 -- What the market's messages lead to, and what is refused, gives no token: no body of it is a report with 150=A or 150=E.
 use Rattle.std.proofs.Common.{◌≡◌, ℕ, ◌+◌, Bool, true, false, List, [], ◌∷◌, refl, Option, Some, None}
 use Rattle.std.specs.Prelude.{Result, Ok, Err, if◌then◌else◌, is_some}
-use Rattle.ouch_codec.specs.declared.outbound.Outbound.{Outbound}
-use Rattle.ouch_codec.specs.declared.refusal.DecodeRefusal.{DecodeRefusal}
-use Rattle.fix_fields.specs.Field.{Message, text}
+use Rattle.order_accounts.specs.ouch_codec.declared.outbound.Outbound.{Outbound}
+use Rattle.order_accounts.specs.ouch_codec.declared.refusal.DecodeRefusal.{DecodeRefusal}
+use Rattle.gate_law.specs.fix_fields.Field.{Message, text}
 use Rattle.order_law.specs.Verdicts.{Port, Refused}
 use Rattle.order_law.specs.Chain.{named}
 use Rattle.order_law.specs.Reading.{reading}
-use Rattle.order_law.specs.History.{Entry, OrderHistory, Terms, accepted, handled, is_new_order, issued, life_of, orders_numbered, outstanding}
+use Rattle.order_law.specs.History.{Entry, OrderHistory, Terms, accepted, handled, is_new_order, issued, life_of}
+use Rattle.order_law.specs.History.{orders_numbered, outstanding}
 use Rattle.order_law.specs.Lawful.{judgement, order_token}
 use Rattle.order_law.specs.Headline.{Each}
 use Rattle.order_law.specs.Told as told
 use Rattle.order_law.specs.Told.{Shown, on_token, reports_in, shown, shown_in, told_by, told_by_market, told_on}
-use Rattle.order_machine.proofs.Addressed.{IsOn, told-on}
+use Rattle.gate_core.proofs.order_machine.Addressed.{IsOn, told-on}
 use Rattle.gate_audit.specs.Pairs.{gives_token}
 
 abbrev pub GivesNone : Message → Type 0

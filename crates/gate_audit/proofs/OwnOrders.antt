@@ -3,7 +3,7 @@ use Rattle.std.proofs.Common.{◌≡◌, ℕ, Bool, true, false, List, [], ◌�
 use Rattle.std.specs.Prelude.{◌==◌, filter}
 use Rattle.std.proofs.lemmas.List.{map-append}
 use Rattle.std.proofs.lemmas.List.Elements.{filter-append}
-use Rattle.fix_fields.specs.Field.{Message}
+use Rattle.gate_law.specs.fix_fields.Field.{Message}
 use Rattle.order_law.specs.History.{Entry, OrderHistory, Terms, accepted, issued}
 use Rattle.order_law.specs.Headline.{Headline}
 use Rattle.gate_audit.specs.Read.{Opened, opened_in, opened_as, opens_new_order}

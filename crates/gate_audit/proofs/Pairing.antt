@@ -1,12 +1,13 @@
 -- Of the history of a run, the pairs by batches and messages are those of the accepted new orders, and both accounts of each agree.
-use Rattle.std.proofs.Common.{◌≡◌, ◌<◌, ◌≤◌, ◌+◌, ◌-◌, ◌^◌, ℕ, suc, zero, Bool, true, false, not, List, [], ◌∷◌, Option, Some, map, reverse, length, get_or, refl, sym, ap, ◌∙◌, arith, eqb-true, eq-eqb}
+use Rattle.std.proofs.Common.{◌≡◌, ◌<◌, ◌≤◌, ◌+◌, ◌-◌, ◌^◌, ℕ, suc, zero, Bool, true, false, not, List, [], ◌∷◌}
+use Rattle.std.proofs.Common.{Option, Some, map, reverse, length, get_or, refl, sym, ap, ◌∙◌, arith, eqb-true, eq-eqb}
 use Rattle.std.specs.Prelude.{◌==◌, filter, if◌then◌else◌, option_map, unwrap_or}
 use Rattle.std.specs.List.{All}
 use Rattle.std.proofs.lemmas.List.Elements.{All-get_or}
 use Rattle.std.proofs.lemmas.List.Sums.{count_by-le-length}
 use Rattle.std.proofs.lemmas.Bool.Decides.{nat_tests}
-use Rattle.ouch_codec.specs.declared.outbound.Outbound.{Outbound}
-use Rattle.fix_fields.specs.Field.{Message, character, text}
+use Rattle.order_accounts.specs.ouch_codec.declared.outbound.Outbound.{Outbound}
+use Rattle.gate_law.specs.fix_fields.Field.{Message, character, text}
 use Rattle.order_law.specs.Life.{Life, account_of, is_closed, life}
 use Rattle.order_law.specs.Reading.{Reading, account_read, reading}
 use Rattle.order_law.specs.History as orders
@@ -18,9 +19,11 @@ use Rattle.gate_law.specs.After.{lists_after, is_within_day, lists, most_events,
 use Rattle.gate_law.specs.Holds.{Holds, told_by_batches}
 use Rattle.gate_law.proofs.Counted.{turns-few}
 use Rattle.gate_law.proofs.Links.{EndsAll}
-use Rattle.gate_settings.specs.Kept.{IsOnPort}
+use Rattle.gate_core.specs.gate_settings.Kept.{IsOnPort}
 use Rattle.gate_audit.specs.Read.{AgreesIn, for_clients, accepted_new_orders}
-use Rattle.gate_audit.specs.Pairs.{AreByOrder, OpenedOrder, Pair, accepted_pair, accepted_pairs, accepted_pairs_of, handled_for, opened_orders, orders_of, pair_in, paired, pairs, pairs_of, said_to_clients, same_account}
+use Rattle.gate_audit.specs.Pairs.{AreByOrder, OpenedOrder, Pair, accepted_pair, accepted_pairs, accepted_pairs_of}
+use Rattle.gate_audit.specs.Pairs.{handled_for, opened_orders, orders_of, pair_in, paired, pairs, pairs_of}
+use Rattle.gate_audit.specs.Pairs.{said_to_clients, same_account}
 use Rattle.gate_audit.proofs.Agreeing.{run-agrees}
 use Rattle.gate_audit.proofs.Calling.{has-of, is-near}
 use Rattle.gate_audit.proofs.Entries.{IsFound, all-by-order, all-found}

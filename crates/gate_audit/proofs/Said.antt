@@ -1,9 +1,10 @@
 -- What the batches told, all clients together, is what the order level's turns told: of every history whose batches are those that are
 -- given.
-use Rattle.std.proofs.Common.{◌≡◌, ◌==◌, ℕ, Bool, true, false, List, [], ◌∷◌, ◌++◌, Option, Some, None, refl, ap, sym, ◌∙◌, map, reverse, eqb-true, eq-eqb}
+use Rattle.std.proofs.Common.{◌≡◌, ◌==◌, ℕ, Bool, true, false, List, [], ◌∷◌, ◌++◌, Option, Some, None, refl, ap, sym}
+use Rattle.std.proofs.Common.{◌∙◌, map, reverse, eqb-true, eq-eqb}
 use Rattle.std.specs.Prelude.{if◌then◌else◌}
 use Rattle.std.proofs.lemmas.List.{append_cancel_right, reverse-reverse}
-use Rattle.fix_fields.specs.Field.{Message}
+use Rattle.gate_law.specs.fix_fields.Field.{Message}
 use Rattle.order_law.specs.History as orders
 use Rattle.gate_law.specs.Settings.{Settings}
 use Rattle.gate_law.specs.Events.{Batch, History, is_the_number}

@@ -1,12 +1,13 @@
 -- The orders that whole reports open are those that their bodies open, and the pairs that are made of both are the same.
-use Rattle.std.proofs.Common.{◌≡◌, ◌+◌, ℕ, Bool, List, [], ◌∷◌, ◌++◌, Option, Some, None, map, reverse, length, refl, sym, ap, subst, ◌∙◌, arith, append_assoc}
+use Rattle.std.proofs.Common.{◌≡◌, ◌+◌, ℕ, Bool, List, [], ◌∷◌, ◌++◌, Option, Some, None, map, reverse, length, refl}
+use Rattle.std.proofs.Common.{sym, ap, subst, ◌∙◌, arith, append_assoc}
 use Rattle.std.specs.Prelude.{◌==◌, if◌then◌else◌}
 use Rattle.order_accounts.specs.Held.{StaysHeld}
 use Rattle.std.proofs.lemmas.List.{append-nil, map-append, reverse-append, reverse-reverse}
-use Rattle.ouch_codec.specs.declared.outbound.Outbound.{Outbound}
-use Rattle.fix_fields.specs.Field.{Message}
+use Rattle.order_accounts.specs.ouch_codec.declared.outbound.Outbound.{Outbound}
+use Rattle.gate_law.specs.fix_fields.Field.{Message}
 use Rattle.order_law.specs.Messages.{body_of}
-use Rattle.order_machine.proofs.Executed.{count-more}
+use Rattle.gate_core.proofs.order_machine.Executed.{count-more}
 use Rattle.gate_law.specs.Settings.{Settings, port_of, port_terms}
 use Rattle.gate_law.specs.Events.{History}
 use Rattle.gate_law.specs.Holds.{told_by_batches}
@@ -15,7 +16,9 @@ use Rattle.gate_events.specs.declared.batch.Batch.{Batch}
 use Rattle.gate_core.specs.Core.{history, onto, turn_of}
 use Rattle.gate_audit.specs.Again.{called_again}
 use Rattle.gate_audit.specs.Read.{for_clients, opens_new_order, reports_to}
-use Rattle.gate_audit.specs.Pairs.{AreHeld, OpenedOrder, Pair, SaidToClient, gives_token, handled_for, opened_order_at, opened_orders, orders_of, pair_in, pairs_of, said_to_clients, said_by_batches, said_to, tokens_given, told_anyone}
+use Rattle.gate_audit.specs.Pairs.{AreHeld, OpenedOrder, Pair, SaidToClient, gives_token, handled_for, opened_order_at}
+use Rattle.gate_audit.specs.Pairs.{opened_orders, orders_of, pair_in, pairs_of, said_to_clients, said_by_batches}
+use Rattle.gate_audit.specs.Pairs.{said_to, tokens_given, told_anyone}
 use Rattle.gate_audit.proofs.Batches.{for-more, issued-is}
 use Rattle.gate_audit.proofs.Lists.{filter-reverse, map-map, map-reverse, map-same}
 use Rattle.gate_audit.proofs.Held.{stays-bodily, stays-whole}

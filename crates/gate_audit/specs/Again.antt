@@ -5,11 +5,11 @@ use Rattle.std.specs.Prelude.{ℕ, ◌==◌, ◌&&◌, List, [], ◌∷◌, ◌+
 use Rattle.std.specs.Prelude.{Ok, Err, if◌then◌else◌}
 use Rattle.std.specs.List.{list_any}
 use Rattle.soup_packets.specs.declared.packet.Packet.{Packet}
-use Rattle.ouch_codec.specs.declared.outbound.Outbound.{Outbound}
-use Rattle.ouch_codec.specs.declared.refusal.DecodeRefusal.{DecodeRefusal}
-use Rattle.ouch_codec.specs.Values.{decoded}
-use Rattle.soup_session.specs.declared.port_fault.PortFault.{PortFault}
-use Rattle.soup_session.specs.Table as port
+use Rattle.order_accounts.specs.ouch_codec.declared.outbound.Outbound.{Outbound}
+use Rattle.order_accounts.specs.ouch_codec.declared.refusal.DecodeRefusal.{DecodeRefusal}
+use Rattle.order_accounts.specs.ouch_codec.Values.{decoded}
+use Rattle.gate_core.specs.soup_session.declared.port_fault.PortFault.{PortFault}
+use Rattle.gate_core.specs.soup_session.Table as port
 use Rattle.gate_law.specs.Events.{Event, ClientUp, ClientMessage, ClientGone, ClientTick, PortUp, PortPacket, PortGone}
 use Rattle.gate_law.specs.Events.{PortTick, Batch, History, is_the_number}
 use Rattle.gate_law.specs.After.{is_close, is_within_day}

@@ -1,7 +1,7 @@
 -- A session that the code calls once more is the one that is read.
 use Rattle.std.specs.Prelude.{◌≡◌, reverse}
-use Rattle.soup_session.specs.Table.{LoginTerms}
-use Rattle.soup_session.specs.Calls.{CallsLeave}
+use Rattle.gate_core.specs.soup_session.Table.{LoginTerms}
+use Rattle.gate_core.specs.soup_session.Calls.{CallsLeave}
 use Rattle.gate_audit.specs.declared.port_again.PortAgain.{PortAgain}
 use Rattle.gate_audit.specs.Again.{Again}
 

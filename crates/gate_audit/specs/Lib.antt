@@ -3,7 +3,7 @@ pub mod Again
 pub mod Called
 pub mod Pairs
 pub mod Counted
-pub use Rattle.fix_fields.specs.Field
+pub use Rattle.gate_law.specs.fix_fields.Field
 pub use Rattle.gate_events.specs.Seen
 pub use Rattle.gate_law.specs.After
 pub use Rattle.gate_law.specs.Holds
@@ -11,6 +11,8 @@ pub use Rattle.gate_law.specs.Settings
 pub use Rattle.order_accounts.specs.Held
 pub use Rattle.order_law.specs.Headline
 pub use Rattle.order_law.specs.Verdicts
-pub use Rattle.soup_session.specs.Calls
-pub use Rattle.soup_session.specs.Table
-pub use Rattle.tokens.specs.TokenText
+pub use Rattle.gate_core.specs.soup_session.Calls
+pub use Rattle.gate_core.specs.soup_session.Table
+pub use Rattle.order_law.specs.tokens.TokenText
+pub use Rattle.order_law.specs as order_law
+pub use Rattle.gate_journal.specs as gate_journal

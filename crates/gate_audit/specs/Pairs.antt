@@ -5,10 +5,10 @@ use Rattle.std.specs.Prelude.{ℕ, ◌<◌, ◌≤◌, ◌==◌, Bool, true, not
 use Rattle.std.specs.Prelude.{map, filter, reverse, length, codes, if◌then◌else◌}
 use Rattle.std.specs.List.{count_by, flat_map}
 use Rattle.std.specs.Str.Parse.{digits_value}
-use Rattle.tokens.specs.TokenText.{token_text}
-use Rattle.ouch_codec.specs.declared.outbound.Outbound.{Outbound}
+use Rattle.order_law.specs.tokens.TokenText.{token_text}
+use Rattle.order_accounts.specs.ouch_codec.declared.outbound.Outbound.{Outbound}
 use Rattle.order_law.specs.declared.account.Account.{Account}
-use Rattle.fix_fields.specs.Field.{Message, character, is, text}
+use Rattle.gate_law.specs.fix_fields.Field.{Message, character, is, text}
 use Rattle.order_law.specs.Reading.{account_read, is_report, reading}
 use Rattle.order_law.specs.Life.{account_of, life}
 use Rattle.order_law.specs.History as orders

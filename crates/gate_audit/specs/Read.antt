@@ -3,7 +3,7 @@
 use Rattle.std.specs.Prelude.{ℕ, suc, ◌≤◌, ◌==◌, Bool, ◌&&◌, List, [], ◌++◌, map, filter, reverse, length, codes}
 use Rattle.std.specs.Prelude.{if◌then◌else◌}
 use Rattle.std.specs.List.{flat_map}
-use Rattle.fix_fields.specs.Field.{Message, text, is}
+use Rattle.gate_law.specs.fix_fields.Field.{Message, text, is}
 use Rattle.order_law.specs.Reading.{Reading, is_report, reading}
 use Rattle.order_law.specs.History as orders
 use Rattle.order_law.specs.History.{Entry, accepted, is_new_order}

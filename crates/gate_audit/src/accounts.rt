@@ -11,9 +11,9 @@ ghost use Rattle.gate_audit.specs.Read as read;
 
 use crate::order_reading::OrderReading;
 use crate::reports::{opens_order, reports_of, text};
-use fix_fields::{Fields, Text};
 use gate_core::{Batch, ClientNumber, Settings};
 use gate_journal::History;
+use gate_law::{Fields, Text};
 use order_accounts::{ReadingFault, reading_of};
 use std::alloc::Global;
 

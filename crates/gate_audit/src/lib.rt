@@ -18,7 +18,13 @@ mod port_again;
 mod reports;
 
 pub use accounts::readings;
+pub use gate_core::Settings;
+pub use gate_events::{PortFault, PortNumber};
+pub use gate_journal::History;
 pub use messages::handled_messages;
+pub use order_accounts::ReadingFault;
+pub use order_law::Account;
 pub use order_pair::OrderPair;
 pub use order_reading::OrderReading;
 pub use pairs::audit;
+pub use soup_packets::{Packet, Payload};

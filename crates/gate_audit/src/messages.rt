@@ -12,7 +12,7 @@ ghost use Rattle.gate_audit.specs.Again.{called_again};
 use crate::port_again::PortAgain;
 use gate_core::{Batch, Event, PortNumber, Settings};
 use gate_journal::History;
-use ouch_codec::Outbound;
+use order_accounts::Outbound;
 use std::alloc::{AllocError, Global};
 
 /// So many events of a history were stepped: any that came later changed nothing.

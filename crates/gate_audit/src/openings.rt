@@ -2,7 +2,7 @@
 
 ghost use Rattle.std.specs.Prelude.{◌≡◌, ◌<◌, ◌+◌, ◌∷◌, ◌++◌, [], IfOk, OnOk, IsErrOf, List, map, reverse};
 ghost use Rattle.std.specs.Result.{OkIff};
-ghost use Rattle.tokens.specs.TokenText.{HasToken};
+ghost use Rattle.order_law.specs.tokens.TokenText.{HasToken};
 ghost use Rattle.order_law.specs.Verdicts.{last_token};
 ghost use Rattle.gate_audit.specs.Counted.{IsOf};
 ghost use Rattle.gate_audit.specs.Pairs as read;
@@ -10,11 +10,11 @@ ghost use Rattle.gate_audit.specs.Pairs.{SaidToClient, said_to};
 
 use crate::opening::Opening;
 use crate::reports::{first_byte, gives_token, opens_order, text};
-use fix_fields::{Fields, Text};
 use gate_core::{Batch, IssuedReport};
+use gate_law::{Fields, Text};
 use order_accounts::ReadingFault;
+use order_law::Token;
 use std::alloc::Global;
-use tokens::Token;
 
 /// The orders that were opened so far, and how many tokens were given.
 #[derive(Debug, Drop)]

@@ -1,6 +1,6 @@
 //! What a client has read of one of its orders.
 
-use fix_fields::Text;
+use gate_law::Text;
 use order_accounts::Reading;
 use std::marker::Model;
 

@@ -4,7 +4,7 @@ ghost use Rattle.std.specs.Prelude.{◌≡◌, ◌≤◌, ◌++◌, List, IfOk, 
 ghost use Rattle.gate_law.specs.Holds.{Holds};
 ghost use Rattle.gate_law.specs.Settings.{port_of, port_terms};
 ghost use Rattle.order_accounts.specs.Held.{StaysHeld};
-ghost use Rattle.fix_fields.specs.Field.{Message};
+ghost use Rattle.gate_law.specs.fix_fields.Field.{Message};
 ghost use Rattle.order_shelves.specs.Shelved.{HasReports};
 ghost use Rattle.gate_core.specs.Core as core;
 ghost use Rattle.gate_journal.specs.Kept.{turns};

@@ -1,19 +1,18 @@
 //! A port's session, called once more with what a history brought it.
 
 ghost use Rattle.std.specs.Prelude.{◌≡◌, ◌<◌, ◌≤◌, ◌+◌, ◌^◌, IfOk, Some, None, is_some, if◌then◌else◌};
-ghost use Rattle.soup_session.specs.Table.{LoginTerms};
-ghost use Rattle.soup_session.specs.Calls.{next_of};
-ghost use Rattle.gate_settings.specs.Kept.{CanLogIn};
+ghost use Rattle.gate_core.specs.soup_session.Table.{LoginTerms};
+ghost use Rattle.gate_core.specs.soup_session.Calls.{next_of};
+ghost use Rattle.gate_core.specs.gate_settings.Kept.{CanLogIn};
 ghost use Rattle.gate_events.specs.Seen.{batch_seen, event_seen};
 ghost use Rattle.gate_audit.specs.Again as read;
 ghost use Rattle.gate_audit.specs.Again.{Again};
 ghost use Rattle.gate_audit.specs.Called.{IsAgain};
 
-use gate_core::{Batch, Event, PortFault, PortNumber, PortSettings};
+use gate_core::{Batch, Event, PortFault, PortNumber, PortSession, PortSettings};
 use gate_events::closes_link;
-use ouch_codec::{Outbound, decode};
+use order_accounts::{Outbound, decode};
 use soup_packets::{Packet, Payload};
-use soup_session::PortSession;
 use std::alloc::{AllocError, Global};
 
 /// A port's session over its links so far, and what it delivered.

@@ -1,15 +1,15 @@
 //! The reports that a client was told, as the batches have them.
 
 ghost use Rattle.std.specs.Prelude.{◌≡◌, ◌++◌, List, IfOk, map, slice_index};
-ghost use Rattle.fix_fields.specs.Field.{IsValue, Message};
-ghost use Rattle.fix_fields.specs.Field as tags;
+ghost use Rattle.gate_law.specs.fix_fields.Field.{IsValue, Message};
+ghost use Rattle.gate_law.specs.fix_fields.Field as tags;
 ghost use Rattle.gate_events.specs.Seen.{batch_seen};
 ghost use Rattle.order_shelves.specs.Shelved.{HasReports};
 ghost use Rattle.gate_audit.specs.Pairs as pairs;
 ghost use Rattle.gate_audit.specs.Read.{opens_new_order, reports_to, told_by_batch};
 
-use fix_fields::Fields;
 use gate_core::{Batch, ClientNumber, IssuedReport};
+use gate_law::Fields;
 use order_shelves::ReportShelves;
 use std::alloc::{AllocError, Global};
 

@@ -1,13 +1,15 @@
 -- An event of a client that leaves the ports and the order level as they were.
-use Rattle.std.proofs.Common.{◌≡◌, ◌+◌, ℕ, Bool, true, false, List, [], ◌∷◌, length, Option, Some, None, refl, sym, ap, ◌∙◌, subst}
+use Rattle.std.proofs.Common.{◌≡◌, ◌+◌, ℕ, Bool, true, false, List, [], ◌∷◌, length, Option, Some, None, refl, sym, ap}
+use Rattle.std.proofs.Common.{◌∙◌, subst}
 use Rattle.std.specs.Prelude.{◌&&◌, if◌then◌else◌}
 use Rattle.session_law.specs.Runs.{Timed}
-use Rattle.order_law.specs.Headline.{Headline}
+use Rattle.gate_sessions.specs.order_law.Headline.{Headline}
 use Rattle.gate_law.specs.Settings.{Settings, terms}
 use Rattle.gate_law.specs.Events.{Event, LinkOut, Batch, empty, is_for_client}
 use Rattle.gate_law.specs.Lists.{Lists, client_called_all, client_called}
 use Rattle.gate_law.specs.Sessions.{to_client, to_port}
-use Rattle.gate_law.specs.Outcome.{LinkMove, Stays, Comes, Goes, Refused, Outcome, nothing, outcome, of_client, is_stepped, messages}
+use Rattle.gate_law.specs.Outcome.{LinkMove, Stays, Comes, Goes, Refused, Outcome, nothing, outcome, of_client}
+use Rattle.gate_law.specs.Outcome.{is_stepped, messages}
 use Rattle.gate_law.specs.After.{lists_after, links_closed, with_outcome, client_moved}
 use Rattle.gate_law.specs.Due.{to_client_of, to_port_of, reports_of, client_named}
 use Rattle.gate_law.specs.Promises.{Asks, AsksAgain, AsksOnlyThen, comes_up, delivers_message, port_in}

@@ -1,5 +1,6 @@
 -- Links of clients that come and go, and ticks.
-use Rattle.std.proofs.Common.{◌≡◌, ◌+◌, ◌==◌, ℕ, Bool, true, false, List, [], ◌∷◌, ◌++◌, length, Option, Some, None, refl, sym, ap, ◌∙◌, subst, eqb-true, eq-eqb}
+use Rattle.std.proofs.Common.{◌≡◌, ◌+◌, ◌==◌, ℕ, Bool, true, false, List, [], ◌∷◌, ◌++◌, length, Option, Some, None}
+use Rattle.std.proofs.Common.{refl, sym, ap, ◌∙◌, subst, eqb-true, eq-eqb}
 use Rattle.std.specs.Prelude.{◌&&◌, if◌then◌else◌}
 use Rattle.session_law.specs.Runs.{Timed, OnMessage, OnLink, OnTick}
 use Rattle.session_law.specs.declared.frame.Out.{Out}
@@ -13,7 +14,7 @@ use Rattle.gate_sessions.specs.declared.client_line.ClientLine.{ClientLine}
 use Rattle.gate_sessions.specs.Lines.{ClientsLeave, ClientLinks, called, link_set}
 use Rattle.gate_core.specs.declared.parts.Parts.{Parts}
 use Rattle.gate_events.specs.Links.{unlinked}
-use Rattle.session_writing.specs.declared.output.SessionOut.{SessionOut}
+use Rattle.gate_events.specs.session_writing.declared.output.SessionOut.{SessionOut}
 use Rattle.fix_fields.specs.Field.{Message}
 use Rattle.gate_core.specs.Steps.{AfterFrame, Ready, Stepped}
 use Rattle.gate_events.specs.Batches.{batch_of}

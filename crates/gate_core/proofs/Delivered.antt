@@ -1,13 +1,14 @@
 -- A payload is given only while the port is up, and leaves it so.
 use Rattle.std.proofs.Common.{◌≡◌, ◌==◌, ℕ, Bool, true, false, List, ◌∷◌, Option, Some, None, refl}
 use Rattle.std.specs.Prelude.{if◌then◌else◌, nat_lt}
-use Rattle.soup_packets.specs.declared.packet.Packet.{Packet}
+use Rattle.gate_law.specs.soup_packets.declared.packet.Packet.{Packet}
 use Rattle.soup_session.specs.declared.port_fault.PortFault.TheVariants.{StrangePacket}
 use Rattle.soup_session.specs.declared.said.Said.{Said}
 use Rattle.soup_session.specs.declared.said.Said.TheVariants.{Accepted, Rejected, Sequenced, Nothing, End, Strange}
 use Rattle.soup_session.specs.Reading.{said_of}
 use Rattle.soup_session.specs.States.{is_logging_in, is_open, is_up}
-use Rattle.soup_session.specs.Table.{PortAnswer, PortCall, OnPacket, PortStanding, LoginTerms, answer_in, faults, heard_now, on_said, is_other, logs_in, passed, quiet_answer, standing, wanted}
+use Rattle.soup_session.specs.Table.{PortAnswer, PortCall, OnPacket, PortStanding, LoginTerms, answer_in, faults}
+use Rattle.soup_session.specs.Table.{heard_now, on_said, is_other, logs_in, passed, quiet_answer, standing, wanted}
 use Rattle.gate_law.specs.Settings.{Settings, port_terms}
 use Rattle.gate_law.specs.Sessions.{port_answer, port_state}
 

@@ -1,14 +1,15 @@
 -- The order level's turn of a payload.
-use Rattle.std.proofs.Common.{◌≡◌, ◌+◌, ◌<◌, ℕ, Bool, true, false, List, [], ◌∷◌, length, Option, Some, None, Result, refl, sym, ap, ◌∙◌, subst, arith}
+use Rattle.std.proofs.Common.{◌≡◌, ◌+◌, ◌<◌, ℕ, Bool, true, false, List, [], ◌∷◌, length, Option, Some, None, Result}
+use Rattle.std.proofs.Common.{refl, sym, ap, ◌∙◌, subst, arith}
 use Rattle.std.specs.Prelude.{◌&&◌, nat_le, is_some, IfSome}
 use Rattle.ouch_codec.specs.declared.outbound.Outbound.{Outbound}
 use Rattle.ouch_codec.specs.declared.refusal.DecodeRefusal.{DecodeRefusal}
 use Rattle.ouch_codec.specs.Values.{decoded}
-use Rattle.order_law.specs.Headline.{Headline, said_in}
-use Rattle.order_law.specs.History as orders
-use Rattle.order_law.specs.History.{Heard, OrderTurn}
+use Rattle.gate_sessions.specs.order_law.Headline.{Headline, said_in}
+use Rattle.gate_sessions.specs.order_law.History as orders
+use Rattle.gate_sessions.specs.order_law.History.{Heard, OrderTurn}
 use Rattle.fix_fields.specs.Field.{Message}
-use Rattle.order_law.specs.Told.{told}
+use Rattle.gate_sessions.specs.order_law.Told.{told}
 use Rattle.order_core.specs.State.{IsAfterTurns}
 use Rattle.gate_law.specs.Clients.{AreFrom}
 use Rattle.gate_law.specs.Settings.{Settings, has_client, terms}

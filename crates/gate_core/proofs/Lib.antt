@@ -20,3 +20,5 @@ mod Naming
 mod Fields
 mod Standing
 pub mod Sent
+pub use Rattle.soup_session.proofs as soup_session
+pub use Rattle.order_core.proofs.order_machine as order_machine

@@ -1,23 +1,25 @@
 -- A frame whose message is delivered: the batch, and the parts after it.
-use Rattle.std.proofs.Common.{◌≡◌, ℕ, true, false, List, [], ◌∷◌, ◌++◌, map, length, Option, Some, None, refl, sym, ap, ◌∙◌, subst, append-nil, eq-eqb}
+use Rattle.std.proofs.Common.{◌≡◌, ℕ, true, false, List, [], ◌∷◌, ◌++◌, map, length, Option, Some, None, refl, sym, ap}
+use Rattle.std.proofs.Common.{◌∙◌, subst, append-nil, eq-eqb}
 use Rattle.std.specs.Prelude.{◌&&◌, is_some}
 use Rattle.std.specs.List.{flat_map}
 use Rattle.fix_types.specs.declared.application.AppMsg.{AppMsg}
 use Rattle.fix_types.specs.Application.{message_fields}
 use Rattle.session_law.specs.Frames.{ToldLink, told_of_out}
 use Rattle.session_law.specs.Runs.{Timed, OnMessage}
-use Rattle.session_writing.specs.Written.{told_bytes}
+use Rattle.gate_events.specs.session_writing.Written.{told_bytes}
 use Rattle.soup_session.specs.declared.port_state.PortState.{PortState}
 use Rattle.soup_session.specs.declared.port_state.PortState.TheVariants.{Down, LoggingIn, Up, Ended, Faulted}
 use Rattle.soup_session.specs.States.{is_open, is_up}
 use Rattle.soup_session.specs.Table as table
-use Rattle.order_law.specs.Headline.{Headline}
-use Rattle.order_law.specs.History as orders
+use Rattle.gate_sessions.specs.order_law.Headline.{Headline}
+use Rattle.gate_sessions.specs.order_law.History as orders
 use Rattle.fix_fields.specs.Field.{Message}
 use Rattle.gate_law.specs.Settings.{Settings, client_name, has_client, port_of, terms}
 use Rattle.gate_law.specs.Events.{ClientMessage, LinkOut, Batch, is_the_number}
 use Rattle.gate_law.specs.Lists.{Lists, turned, client_called, client_called_all}
-use Rattle.gate_law.specs.Sessions.{client_answer, client_outs, client_reports, issues, port_outs, port_state, report_issued, sends, stands_of, to_port}
+use Rattle.gate_law.specs.Sessions.{client_answer, client_outs, client_reports, issues, port_outs, port_state}
+use Rattle.gate_law.specs.Sessions.{report_issued, sends, stands_of, to_port}
 use Rattle.gate_law.specs.Outcome.{Outcome, Stays, asked, message_in, messages, outcome}
 use Rattle.gate_law.specs.After.{lists_after, links_closed, with_outcome}
 use Rattle.gate_law.specs.Due.{to_client_of, to_port_of, reports_of}

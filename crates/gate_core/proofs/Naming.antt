@@ -1,16 +1,19 @@
 -- A batch names nobody but whom its event may be for.
-use Rattle.std.proofs.Common.{◌≡◌, ◌==◌, ℕ, ◌<◌, ◌≤◌, Bool, true, false, List, [], ◌∷◌, length, Option, Some, None, refl, sym, ap, ◌∙◌, subst, arith}
+use Rattle.std.proofs.Common.{◌≡◌, ◌==◌, ℕ, ◌<◌, ◌≤◌, Bool, true, false, List, [], ◌∷◌, length, Option, Some, None}
+use Rattle.std.proofs.Common.{refl, sym, ap, ◌∙◌, subst, arith}
 use Rattle.std.specs.Prelude.{if◌then◌else◌}
 use Rattle.std.proofs.lemmas.Bool.Decides.{nat_tests}
-use Rattle.soup_packets.specs.declared.packet.Packet.{Packet}
+use Rattle.gate_law.specs.soup_packets.declared.packet.Packet.{Packet}
 use Rattle.soup_session.specs.declared.port_fault.PortFault.TheVariants.{StrangePacket}
 use Rattle.soup_session.specs.declared.said.Said.{Said}
 use Rattle.soup_session.specs.declared.said.Said.TheVariants as said
 use Rattle.soup_session.specs.Reading.{said_of}
 use Rattle.soup_session.specs.States.{is_logging_in, is_open, is_up}
-use Rattle.soup_session.specs.Table.{PortAnswer, PortCall, OnPacket, PortStanding, LoginTerms, answer_in, arrives, faults, heard_now, on_said, passed, quiet_answer, standing, wanted}
+use Rattle.soup_session.specs.Table.{PortAnswer, PortCall, OnPacket, PortStanding, LoginTerms, answer_in, arrives}
+use Rattle.soup_session.specs.Table.{faults, heard_now, on_said, passed, quiet_answer, standing, wanted}
 use Rattle.gate_law.specs.Settings.{Settings, has_client, has_port, port_of, port_terms}
-use Rattle.gate_law.specs.Events.{Batch, ClientGone, ClientMessage, ClientTick, ClientUp, Event, History, PortGone, PortPacket, PortTick, PortUp, is_for_client, is_for_port}
+use Rattle.gate_law.specs.Events.{Batch, ClientGone, ClientMessage, ClientTick, ClientUp, Event, History, PortGone}
+use Rattle.gate_law.specs.Events.{PortPacket, PortTick, PortUp, is_for_client, is_for_port}
 use Rattle.gate_law.specs.Lists.{Lists}
 use Rattle.gate_law.specs.Sessions.{port_answer}
 use Rattle.gate_law.specs.Outcome.{Outcome, is_known, is_stepped, nothing, outcome}

@@ -1,24 +1,27 @@
 -- A packet whose payload is delivered: the batch, and the parts after it.
-use Rattle.std.proofs.Common.{◌≡◌, ◌==◌, ◌+◌, ℕ, Bool, true, false, not, List, [], ◌∷◌, ◌++◌, map, length, Option, Some, None, refl, sym, ap, ◌∙◌, subst, append-nil, eqb-true, eq-eqb}
+use Rattle.std.proofs.Common.{◌≡◌, ◌==◌, ◌+◌, ℕ, Bool, true, false, not, List, [], ◌∷◌, ◌++◌, map, length, Option}
+use Rattle.std.proofs.Common.{Some, None, refl, sym, ap, ◌∙◌, subst, append-nil, eqb-true, eq-eqb}
 use Rattle.std.proofs.lemmas.List.{append_assoc}
 use Rattle.std.specs.Prelude.{◌&&◌, if◌then◌else◌, unwrap_or}
 use Rattle.std.specs.List.{flat_map}
 use Rattle.std.proofs.Math.Dec.{eqb-suc-zero}
-use Rattle.soup_packets.specs.declared.packet.Packet.{Packet}
+use Rattle.gate_law.specs.soup_packets.declared.packet.Packet.{Packet}
 use Rattle.soup_session.specs.declared.port_fault.PortFault.{PortFault}
 use Rattle.soup_session.specs.Faults.{fault_number}
 use Rattle.soup_session.specs.declared.port_turn.PortOut.{PortOut}
 use Rattle.soup_session.specs.States.{is_up}
 use Rattle.soup_session.specs.Table as table
-use Rattle.session_writing.specs.Written.{told_bytes}
-use Rattle.order_law.specs.Headline.{Headline}
+use Rattle.gate_events.specs.session_writing.Written.{told_bytes}
+use Rattle.gate_sessions.specs.order_law.Headline.{Headline}
 use Rattle.fix_fields.specs.Field.{Message}
-use Rattle.order_law.specs.Messages.{body_of}
+use Rattle.gate_sessions.specs.order_law.Messages.{body_of}
 use Rattle.gate_law.specs.Settings.{Settings, has_port, terms}
 use Rattle.gate_law.specs.Events.{Batch, LinkOut, PortPacket, is_for_client, is_the_number}
 use Rattle.gate_law.specs.Lists.{Lists, client_called_all, port_called, turned}
-use Rattle.gate_law.specs.Sessions.{client_outs, is_no_send, issues, port_answer, port_outs, port_state, sends, to_client, to_port}
-use Rattle.gate_law.specs.Outcome.{Outcome, addressee, bodies, is_stepped, message_in, messages, of_port, Stays, outcome}
+use Rattle.gate_law.specs.Sessions.{client_outs, is_no_send, issues, port_answer, port_outs, port_state, sends}
+use Rattle.gate_law.specs.Sessions.{to_client, to_port}
+use Rattle.gate_law.specs.Outcome.{Outcome, addressee, bodies, is_stepped, message_in, messages, of_port, Stays}
+use Rattle.gate_law.specs.Outcome.{outcome}
 use Rattle.gate_law.specs.After.{lists_after, links_closed, with_outcome}
 use Rattle.gate_law.specs.Due.{to_client_of, to_port_of, reports_of}
 use Rattle.gate_law.specs.Promises.{Asks, AsksAgain, comes_up}

@@ -3,7 +3,7 @@ use Rattle.std.proofs.Common.{◌≡◌, ◌+◌, ℕ, not, List, [], length, Op
 use Rattle.std.specs.Prelude.{if◌then◌else◌, is_some}
 use Rattle.soup_session.specs.declared.port_fault.PortFault.{PortFault}
 use Rattle.soup_session.specs.Table.{PortCall}
-use Rattle.order_law.specs.Headline.{Headline}
+use Rattle.gate_sessions.specs.order_law.Headline.{Headline}
 use Rattle.gate_law.specs.Settings.{Settings, terms}
 use Rattle.gate_law.specs.Events.{Event, LinkOut, Batch, is_for_port}
 use Rattle.gate_law.specs.Lists.{Lists, port_called_all}

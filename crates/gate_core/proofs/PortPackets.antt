@@ -1,8 +1,9 @@
 -- A port's packet of which the session delivers no payload.
-use Rattle.std.proofs.Common.{◌≡◌, ℕ, Bool, true, false, List, [], ◌∷◌, ◌++◌, length, Option, Some, None, refl, sym, ap, ◌∙◌, eqb-true, eq-eqb, subst}
+use Rattle.std.proofs.Common.{◌≡◌, ℕ, Bool, true, false, List, [], ◌∷◌, ◌++◌, length, Option, Some, None, refl, sym}
+use Rattle.std.proofs.Common.{ap, ◌∙◌, eqb-true, eq-eqb, subst}
 use Rattle.std.specs.Prelude.{◌&&◌, if◌then◌else◌}
 use Rattle.std.specs.List.{flat_map}
-use Rattle.soup_packets.specs.declared.packet.Packet.{Packet}
+use Rattle.gate_law.specs.soup_packets.declared.packet.Packet.{Packet}
 use Rattle.soup_session.specs.declared.port_fault.PortFault.{PortFault}
 use Rattle.soup_session.specs.declared.port_state.PortState.{PortState}
 use Rattle.soup_session.specs.declared.port_turn.PortOut.{PortOut}

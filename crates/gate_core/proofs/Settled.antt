@@ -1,10 +1,11 @@
 -- What each client of the settings brings, by its place.
-use Rattle.std.proofs.Common.{◌≡◌, ℕ, zero, suc, ◌+◌, ◌-◌, ◌<◌, ◌≤◌, refl, false, List, [], ◌∷◌, ◌++◌, map, length, get_or, Some, None, ap, ◌∙◌, subst, sym, arith}
+use Rattle.std.proofs.Common.{◌≡◌, ℕ, zero, suc, ◌+◌, ◌-◌, ◌<◌, ◌≤◌, refl, false, List, [], ◌∷◌, ◌++◌, map, length}
+use Rattle.std.proofs.Common.{get_or, Some, None, ap, ◌∙◌, subst, sym, arith}
 use Rattle.std.proofs.lemmas.Bool.Decides.{nat_tests}
 use Rattle.std.proofs.lemmas.List.{length_push}
 use Rattle.std.proofs.lemmas.Option.{none-some, same_Some, slice_get-map, slice_get_read, get_or_from_slice_get}
 use Rattle.std.specs.Prelude.{Option, slice_get, option_map, unwrap_or, ◌==◌}
-use Rattle.order_law.specs.History.{Terms, terms_of}
+use Rattle.gate_sessions.specs.order_law.History.{Terms, terms_of}
 use Rattle.gate_law.specs.Settings.{ClientSettings, Settings, client_name, port_of}
 use Rattle.gate_settings.specs.Kept.{IsOnPort}
 use Rattle.gate_sessions.specs.declared.client_line.ClientLine.{ClientLine}

@@ -1,9 +1,10 @@
 -- One event more, and what it keeps.
-use Rattle.std.proofs.Common.{◌≡◌, ◌+◌, ◌<◌, ◌≤◌, ◌^◌, ℕ, Bool, true, false, List, [], ◌∷◌, length, refl, sym, ap, ◌∙◌, subst, arith, is_some}
+use Rattle.std.proofs.Common.{◌≡◌, ◌+◌, ◌<◌, ◌≤◌, ◌^◌, ℕ, Bool, true, false, List, [], ◌∷◌, length, refl, sym, ap, ◌∙◌}
+use Rattle.std.proofs.Common.{subst, arith, is_some}
 use Rattle.std.specs.Prelude.{if◌then◌else◌, nat_lt}
 use Rattle.std.proofs.lemmas.Bool.Decides.{nat_tests}
 use Rattle.soup_session.specs.States.{is_open}
-use Rattle.order_law.specs.Headline.{Headline}
+use Rattle.gate_sessions.specs.order_law.Headline.{Headline}
 use Rattle.gate_law.specs.Settings.{Settings, terms}
 use Rattle.gate_law.specs.Events.{Event, Batch, History, Turn, empty}
 use Rattle.gate_law.specs.Lists.{Lists}

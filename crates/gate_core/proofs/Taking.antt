@@ -8,11 +8,11 @@ use Rattle.ouch_codec.specs.Inbound.{inbound_bytes}
 use Rattle.soup_session.specs.declared.port_state.PortState.{PortState}
 use Rattle.soup_session.specs.declared.port_state.PortState.TheVariants.{Down, LoggingIn, Up, Ended, Faulted}
 use Rattle.soup_session.specs.States.{is_up}
-use Rattle.order_law.specs.Verdicts.{Port}
-use Rattle.order_law.specs.History.{Asked, Came, OrderTurn}
-use Rattle.order_law.specs.Headline.{Headline, Sends}
-use Rattle.to_market.specs.declared.port_state.PortState.{PortState as Stands}
-use Rattle.to_market.specs.PortsSeen.{port_seen}
+use Rattle.gate_sessions.specs.order_law.Verdicts.{Port}
+use Rattle.gate_sessions.specs.order_law.History.{Asked, Came, OrderTurn}
+use Rattle.gate_sessions.specs.order_law.Headline.{Headline, Sends}
+use Rattle.gate_settings.specs.to_market.declared.port_state.PortState.{PortState as Stands}
+use Rattle.gate_settings.specs.to_market.PortsSeen.{port_seen}
 use Rattle.order_core.specs.declared.outcome.CoreOut.{CoreOut}
 use Rattle.order_core.specs.State.{IsAfterTurns}
 use Rattle.order_core.specs.Turns.{client_turn}

@@ -3,8 +3,8 @@ use Rattle.std.specs.Prelude.{◌≡◌, ℕ, Bool, true, false, not, ◌&&◌, 
 use Rattle.soup_session.specs.declared.port_state.PortState.{PortState}
 use Rattle.soup_session.specs.declared.port_turn.PortOut.{PortOut}
 use Rattle.soup_session.specs.States.{is_up}
-use Rattle.order_law.specs.History.{outstanding}
-use Rattle.order_law.specs.Headline.{EachWith, SaysIn}
+use Rattle.gate_sessions.specs.order_law.History.{outstanding}
+use Rattle.gate_sessions.specs.order_law.Headline.{EachWith, SaysIn}
 use Rattle.gate_law.specs.Settings.{Settings, terms}
 use Rattle.gate_law.specs.Lists.{Lists}
 use Rattle.gate_law.specs.Sessions.{port_state}

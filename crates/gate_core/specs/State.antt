@@ -2,10 +2,10 @@
 use Rattle.std.specs.Prelude.{◌≡◌, ℕ, ◌+◌, ◌*◌, ◌≤◌, true, List, length, map, Some, slice_get, is_some}
 use Rattle.soup_session.specs.States.{is_open}
 use Rattle.soup_session.specs.Calls.{next_of}
-use Rattle.order_law.specs.History as orders
+use Rattle.gate_sessions.specs.order_law.History as orders
 use Rattle.order_core.specs.State as core
 use Rattle.order_core.specs.State.{IsAfterTurns}
-use Rattle.order_ledger.specs.State as ledger
+use Rattle.order_core.specs.order_ledger.State as ledger
 use Rattle.gate_law.specs.Settings.{Settings, has_client, terms, port_of}
 use Rattle.gate_law.specs.Lists.{Lists}
 use Rattle.gate_law.specs.Clients.{AreFrom}

@@ -5,20 +5,20 @@ use Rattle.fix_types.specs.declared.application.AppMsg.{AppMsg}
 use Rattle.ouch_codec.specs.Inbound.{inbound_bytes}
 use Rattle.ouch_codec.specs.Values.{decoded}
 use Rattle.session_law.specs.Frames.{told_of_out}
-use Rattle.session_writing.specs.declared.output.SessionOut.{SessionOut}
-use Rattle.session_writing.specs.Written.{told_bytes}
+use Rattle.gate_events.specs.session_writing.declared.output.SessionOut.{SessionOut}
+use Rattle.gate_events.specs.session_writing.Written.{told_bytes}
 use Rattle.session_law.specs.Runs.{OnMessage}
 use Rattle.soup_session.specs.declared.port_turn.PortOut.{PortOut}
-use Rattle.soup_packets.specs.declared.packet.Packet.{Packet}
+use Rattle.gate_law.specs.soup_packets.declared.packet.Packet.{Packet}
 use Rattle.fix_types.specs.Application.{body_fields, message_fields}
 use Rattle.soup_session.specs.declared.port_fault.PortFault.{PortFault}
 use Rattle.soup_session.specs.Faults.{fault_number}
 use Rattle.soup_session.specs.States.{is_up}
 use Rattle.soup_session.specs.Table as table
 use Rattle.fix_fields.specs.Field.{Message}
-use Rattle.order_law.specs.Messages.{body_of}
-use Rattle.order_law.specs.History as orders
-use Rattle.order_law.specs.Headline.{Headline}
+use Rattle.gate_sessions.specs.order_law.Messages.{body_of}
+use Rattle.gate_sessions.specs.order_law.History as orders
+use Rattle.gate_sessions.specs.order_law.Headline.{Headline}
 use Rattle.order_core.specs.State as core
 use Rattle.order_core.specs.declared.outcome.CoreOut.{CoreOut}
 use Rattle.gate_law.specs.Settings.{Settings, terms, port_of, client_name, has_client, has_port}

@@ -1,6 +1,6 @@
 -- Whom the batch of an event may name, by the event and the orders alone.
 use Rattle.std.specs.Prelude.{ℕ, Option, Some, None, if◌then◌else◌}
-use Rattle.soup_packets.specs.declared.packet.Packet.{Packet}
+use Rattle.gate_law.specs.soup_packets.declared.packet.Packet.{Packet}
 use Rattle.gate_law.specs.Settings.{Settings, has_client, has_port, port_of}
 use Rattle.gate_law.specs.Events.{Event, ClientUp, ClientMessage, ClientGone, ClientTick, PortUp, PortPacket, PortGone}
 use Rattle.gate_law.specs.Events.{PortTick}

@@ -9,10 +9,13 @@ mod runs;
 mod targets;
 mod whole;
 
+pub use fix_fields::Text;
 pub use gate_events::{
     Batch, ClientFrame, ClientNumber, Event, IssuedReport, LinkOut, PortFault, PortNumber,
 };
 pub use gate_settings::{ClientSettings, ClientTerms, PortSettings, Settings};
+pub use ouch_codec::EnterOrder;
 pub use runs::run_all;
+pub use soup_session::PortSession;
 pub use targets::Targets;
 pub use whole::Core;

@@ -1,7 +1,7 @@
 -- What sessions say, on a link: nothing where there is none.
 use Rattle.std.specs.Prelude.{ℕ, ◌==◌, Bool, List, [], map, Option, Some, None, if◌then◌else◌}
 use Rattle.std.specs.List.{list_any}
-use Rattle.session_law.specs.Frames.{ToldLink}
+use Rattle.gate_sessions.specs.session_law.Frames.{ToldLink}
 use Rattle.gate_law.specs.Events.{LinkOut}
 use Rattle.gate_law.specs.Sessions.{to_link}
 use Rattle.gate_law.specs.After.{is_close, unless_closed}

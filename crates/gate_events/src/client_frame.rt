@@ -1,10 +1,10 @@
 //! A whole frame of a client.
 
 ghost use Rattle.std.specs.Prelude.{◌≡◌, ◌≤◌, ◌↔◌, length, IsSome, IfSome};
-ghost use Rattle.fix_fields.specs.Field.{fields_text};
-ghost use Rattle.fix_framing.specs.Stream.{longest};
+ghost use Rattle.gate_law.specs.fix_fields.Field.{fields_text};
+ghost use Rattle.session_writing.specs.fix_framing.Stream.{longest};
 
-use fix_fields::Fields;
+use gate_law::Fields;
 use std::marker::Model;
 
 /// A whole frame of a client: all its fields, which print in at most `ClientFrame::LONGEST` bytes. Contracts see the
@@ -18,8 +18,8 @@ pub struct ClientFrame {
 
 impl Model for ClientFrame {
     ghost use Rattle.std.specs.Prelude.{List, length, ◌≤◌};
-    ghost use Rattle.fix_fields.specs.Field.{Field, fields_text};
-    ghost use Rattle.fix_framing.specs.Stream.{longest};
+    ghost use Rattle.gate_law.specs.fix_fields.Field.{Field, fields_text};
+    ghost use Rattle.session_writing.specs.fix_framing.Stream.{longest};
 
     ghost Value = { List Field };
 

@@ -2,7 +2,7 @@
 
 use crate::client_frame::ClientFrame;
 use crate::number::{ClientNumber, PortNumber};
-use soup_packets::Packet;
+use gate_sessions::Packet;
 
 /// What comes: a link is up, brings a whole frame or packet, or is gone; or time passes.
 ///

@@ -9,9 +9,8 @@ ghost use Rattle.gate_events.specs.Links.{outs_told_on, is_link_closed};
 
 use crate::batch::LinkOut;
 use fix_session::SessionOut;
-use soup_session::PortOut;
+use soup_session::{PortOut, WholeWire};
 use std::alloc::{AllocError, Global};
-use wire_law::WholeWire;
 
 /// What a client's session said goes onto its link, where there is one.
 pub(crate) fn tell_client(

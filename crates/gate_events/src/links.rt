@@ -2,7 +2,7 @@
 
 ghost use Rattle.std.specs.Prelude.{◌≡◌, ◌<◌, ◌+◌, ◌++◌, ℕ, List, length, map, Option, IfOk};
 ghost use Rattle.session_writing.specs.Written.{told_bytes};
-ghost use Rattle.session_law.specs.Runs.{Timed};
+ghost use Rattle.gate_sessions.specs.session_law.Runs.{Timed};
 ghost use Rattle.soup_session.specs.Table.{PortCall};
 ghost use Rattle.gate_law.specs.Settings.{Settings};
 ghost use Rattle.gate_law.specs.Sessions.{to_port};

@@ -2,12 +2,12 @@
 -- its event gives, what is sent again is what is outstanding, and the order level's turns are those of an exchange
 -- that `order_examples` has.
 use Rattle.std.specs.Prelude.{◌≡◌, ◌&&◌, List, [], ◌∷◌, map, Option, Some, if◌then◌else◌, codes}
-use Rattle.fix_types.specs.Application.{message_fields}
+use Rattle.gate_law.specs.fix_types.Application.{message_fields}
 use Rattle.session_law.specs.Formats.{application_of}
-use Rattle.order_law.specs.Asks.{Ask, ask_of_bytes}
-use Rattle.order_law.specs.History as orders
-use Rattle.order_law.specs.History.{Asked, Said, Came, Heard, outstanding, accepted}
-use Rattle.order_law.specs.Headline.{order_number, standing_in}
+use Rattle.gate_law.specs.order_law.Asks.{Ask, ask_of_bytes}
+use Rattle.gate_law.specs.order_law.History as orders
+use Rattle.gate_law.specs.order_law.History.{Asked, Said, Came, Heard, outstanding, accepted}
+use Rattle.gate_law.specs.order_law.Headline.{order_number, standing_in}
 use Rattle.order_examples.specs.Computed.{asked_of_bytes}
 use Rattle.gate_law.specs.Settings.{terms}
 use Rattle.gate_law.specs.Events.{Event, Batch, Turn, History}

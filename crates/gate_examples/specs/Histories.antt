@@ -1,7 +1,8 @@
 -- Histories of the whole core, event by event. Later turns stand in front of what they follow (`after_turns`).
 use Rattle.std.specs.Prelude.{ℕ, List, [], ◌∷◌, ◌++◌, codes}
-use Rattle.soup_session.specs.declared.port_fault.PortFault.TheVariants.{UnknownToken, SequenceGap, OtherSession}
-use Rattle.fix_fields.specs.Field.{Message}
+use Rattle.gate_law.specs.soup_session.declared.port_fault.PortFault.TheVariants.{UnknownToken, SequenceGap}
+use Rattle.gate_law.specs.soup_session.declared.port_fault.PortFault.TheVariants.{OtherSession}
+use Rattle.gate_law.specs.fix_fields.Field.{Message}
 use Rattle.order_examples.specs.Transcript.{enter_message, enter_sale_message, replace_message, cancel_message}
 use Rattle.order_examples.specs.Transcript.{accepted_message, executed_message, canceled_message}
 use Rattle.gate_law.specs.Events.{ClientUp, ClientMessage, ClientGone, ClientTick, PortUp, PortPacket, PortGone}

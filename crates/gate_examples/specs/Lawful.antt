@@ -1,9 +1,10 @@
 -- Each history that is written down, computed.
 use Rattle.std.specs.Prelude.{refl}
 use Rattle.std.specs.Fmt.{digits}
-use Rattle.fixed_point.specs.Decimal.{price, quantity, amount, amount_of, within, scaled, fraction, worth, worth_of}
-use Rattle.fix_stamp.specs.Stamp.{stamp_text, calendar_day, day_of_years, day_of_months}
-use Rattle.tokens.specs.TokenText.{last_digits}
+use Rattle.order_examples.specs.fixed_point.Decimal.{price, quantity, amount, amount_of, within, scaled, fraction}
+use Rattle.order_examples.specs.fixed_point.Decimal.{worth, worth_of}
+use Rattle.gate_law.specs.fix_stamp.Stamp.{stamp_text, calendar_day, day_of_years, day_of_months}
+use Rattle.order_examples.specs.tokens.TokenText.{last_digits}
 use Rattle.order_examples.specs.Exchanges as exchanges
 use Rattle.gate_law.specs.Sessions.{client_answer, port_answer, port_state, report_issued}
 use Rattle.gate_examples.specs.Computed.{IsComputed, HasTurns}

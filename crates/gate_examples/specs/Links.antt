@@ -1,14 +1,15 @@
 -- Current links, what is outstanding, and bytes, computed on some of the histories.
 use Rattle.std.specs.Prelude.{◌≡◌, ℕ, List, [], ◌∷◌, map, Option, Some, None, refl, codes, if◌then◌else◌, ◌==◌}
 use Rattle.std.specs.Fmt.{digits}
-use Rattle.fixed_point.specs.Decimal.{price, quantity, amount, amount_of, within, scaled, fraction, worth, worth_of}
-use Rattle.fix_stamp.specs.Stamp.{stamp_text, calendar_day, day_of_years, day_of_months}
-use Rattle.fix_framing.specs.Frame.{frame_text, counted_text}
-use Rattle.tokens.specs.TokenText.{token_text, last_digits}
-use Rattle.soup_session.specs.declared.port_state.PortState.{PortState}
-use Rattle.soup_session.specs.declared.port_fault.PortFault.TheVariants.{UnknownToken, SequenceGap}
-use Rattle.soup_session.specs.declared.port_state.PortState.TheVariants.{Down, LoggingIn, Up, Ended, Faulted}
-use Rattle.order_law.specs.History.{Asked, Said, SaysNew, SaysReplace, SaysCancel, outstanding}
+use Rattle.order_examples.specs.fixed_point.Decimal.{price, quantity, amount, amount_of, within, scaled, fraction}
+use Rattle.order_examples.specs.fixed_point.Decimal.{worth, worth_of}
+use Rattle.gate_law.specs.fix_stamp.Stamp.{stamp_text, calendar_day, day_of_years, day_of_months}
+use Rattle.session_law.specs.fix_framing.Frame.{frame_text, counted_text}
+use Rattle.order_examples.specs.tokens.TokenText.{token_text, last_digits}
+use Rattle.gate_law.specs.soup_session.declared.port_state.PortState.{PortState}
+use Rattle.gate_law.specs.soup_session.declared.port_fault.PortFault.TheVariants.{UnknownToken, SequenceGap}
+use Rattle.gate_law.specs.soup_session.declared.port_state.PortState.TheVariants.{Down, LoggingIn, Up, Ended, Faulted}
+use Rattle.gate_law.specs.order_law.History.{Asked, Said, SaysNew, SaysReplace, SaysCancel, outstanding}
 use Rattle.gate_law.specs.Settings.{terms}
 use Rattle.gate_law.specs.Events.{ClientMessage, LinkOut, Write, Close, empty, History}
 use Rattle.gate_law.specs.Sessions.{client_answer, port_answer, port_state, report_issued}

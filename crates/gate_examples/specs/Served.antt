@@ -1,6 +1,6 @@
 -- Which settings are served, computed: those of the histories, and others that differ from them in one thing.
 use Rattle.std.specs.Prelude.{◌≡◌, true, false, List, [], ◌∷◌, refl, replicate, codes}
-use Rattle.soup_session.specs.Table as port
+use Rattle.gate_law.specs.soup_session.Table as port
 use Rattle.gate_law.specs.Settings.{ClientSettings, Settings}
 use Rattle.gate_law.specs.Limits.{is_served}
 use Rattle.gate_examples.specs.Transcript.{settings, client_by, port_user}

@@ -1,14 +1,14 @@
 -- The words in which histories of the whole core are written down: events, and what their batches have. FIX frames
 -- are text with `|` for SOH; the market's messages are those of `order_examples`. Every moment is the first one.
 use Rattle.std.specs.Prelude.{ℕ, List, [], ◌∷◌, ◌++◌, map, Some, codes, decimal, replicate}
-use Rattle.fix_fields.specs.Field.{Field, Message, field}
-use Rattle.fix_framing.specs.Frame.{frame_text}
-use Rattle.soup_packets.specs.declared.packet.Packet.{Packet}
-use Rattle.soup_packets.specs.Spelling.{packet_bytes}
-use Rattle.soup_session.specs.declared.port_fault.PortFault.{PortFault}
-use Rattle.soup_session.specs.Table as port
-use Rattle.order_law.specs.History.{terms_of}
-use Rattle.fix_fields.specs.Transcript.{message}
+use Rattle.gate_law.specs.fix_fields.Field.{Field, Message, field}
+use Rattle.session_law.specs.fix_framing.Frame.{frame_text}
+use Rattle.gate_law.specs.soup_packets.declared.packet.Packet.{Packet}
+use Rattle.gate_law.specs.soup_packets.Spelling.{packet_bytes}
+use Rattle.gate_law.specs.soup_session.declared.port_fault.PortFault.{PortFault}
+use Rattle.gate_law.specs.soup_session.Table as port
+use Rattle.gate_law.specs.order_law.History.{terms_of}
+use Rattle.gate_law.specs.fix_fields.Transcript.{message}
 use Rattle.order_examples.specs.Transcript as orders
 use Rattle.gate_law.specs.Settings.{ClientSettings, Settings}
 use Rattle.gate_law.specs.Events.{Event, LinkOut, Write, Close, Batch, empty, Turn, History}

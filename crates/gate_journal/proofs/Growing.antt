@@ -10,9 +10,9 @@ use Rattle.journal_pages.specs.Ordered.{AreSound}
 use Rattle.journal_pages.specs.Page.{is_event, page_records}
 use Rattle.journal_pages.specs.Record.{Record, source_fits}
 use Rattle.journal_pages.proofs.Listed.{page-sound}
-use Rattle.journal_days.specs.Cut.{with_records}
-use Rattle.journal_days.specs.Day.{day_fault, day_records}
-use Rattle.journal_days.proofs.Leading.{day-listed, day-more}
+use Rattle.journal_records.specs.journal_days.Cut.{with_records}
+use Rattle.journal_records.specs.journal_days.Day.{day_fault, day_records}
+use Rattle.journal_records.proofs.journal_days.Leading.{day-listed, day-more}
 use Rattle.journal_records.specs.Days.{batches_in, events_in, with_event}
 use Rattle.journal_records.specs.Events.{event_of_kind}
 use Rattle.journal_records.specs.Parts.{turn_records}

@@ -5,7 +5,7 @@ use Rattle.gate_events.specs.declared.event.Event.{Event}
 use Rattle.gate_events.specs.declared.source.Recipient.{Recipient}
 use Rattle.gate_events.specs.Seen.{event_seen}
 use Rattle.gate_events.specs.Sources.{lists_to}
-use Rattle.journal_days.specs.Day.{day_records}
+use Rattle.journal_records.specs.journal_days.Day.{day_records}
 use Rattle.journal_records.specs.Days.{batches_in, events_in}
 
 -- events and the batches that they gave, the oldest first, and the bytes of the pages that say them

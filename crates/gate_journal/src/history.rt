@@ -4,14 +4,13 @@ ghost use Rattle.std.specs.Prelude.{◌≡◌, ◌⊎◌, ◌++◌, ◌∷◌, [
 ghost use Rattle.gate_events.specs.Seen.{batch_seen};
 ghost use Rattle.gate_events.specs.Sources.{events_from, lists_to};
 ghost use Rattle.journal_pages.specs.declared.fault.PageFault.TheVariants.{NoMemory};
-ghost use Rattle.journal_days.specs.Cut.{texts, with_records};
-ghost use Rattle.journal_days.specs.Day.{day_fault};
+ghost use Rattle.journal_records.specs.journal_days.Cut.{texts, with_records};
+ghost use Rattle.journal_records.specs.journal_days.Day.{day_fault};
 ghost use Rattle.journal_records.specs.Parts.{turn_records};
 
 use gate_events::{Batch, Event, Recipient, Source, Told, told_lists};
-use journal_days::{DayPages, DayRecords, judge_day};
 use journal_pages::PageFault;
-use journal_records::{append_turn, batches_of, events_of};
+use journal_records::{DayPages, DayRecords, append_turn, batches_of, events_of, judge_day};
 use std::alloc::{AllocError, Global};
 use std::marker::Model;
 
@@ -24,7 +23,7 @@ pub struct History {
 
 impl Model for History {
     ghost use Rattle.std.specs.Prelude.{◌≡◌, None};
-    ghost use Rattle.journal_days.specs.Day.{day_fault};
+    ghost use Rattle.journal_records.specs.journal_days.Day.{day_fault};
     ghost use Rattle.gate_journal.specs.Kept.{Kept, kept_in};
 
     ghost Value = { Kept };

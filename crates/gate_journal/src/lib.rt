@@ -6,4 +6,8 @@
 
 mod history;
 
+pub use gate_events::{
+    Batch, ClientNumber, Event, LinkOut, PortFault, PortNumber, Recipient, Source, Told,
+};
 pub use history::History;
+pub use journal_pages::PageFault;

@@ -1,12 +1,14 @@
 -- For whom the bodies are that a payload tells.
-use Rattle.std.proofs.Common.{◌≡◌, ℕ, Bool, true, false, List, [], ◌∷◌, ◌++◌, Option, Some, None, Result, Ok, Err, refl, ap, sym, subst, ◌∙◌, is_some, inl, inr}
+use Rattle.std.proofs.Common.{◌≡◌, ℕ, Bool, true, false, List, [], ◌∷◌, ◌++◌, Option, Some, None, Result, Ok, Err}
+use Rattle.std.proofs.Common.{refl, ap, sym, subst, ◌∙◌, is_some, inl, inr}
 use Rattle.std.specs.Prelude.{if◌then◌else◌, ◌⊎◌, option_to_list}
 use Rattle.std.specs.List.{find}
-use Rattle.ouch_codec.specs.declared.outbound.Outbound.{Outbound}
-use Rattle.ouch_codec.specs.declared.refusal.DecodeRefusal.{DecodeRefusal}
+use Rattle.order_law.specs.ouch_codec.declared.outbound.Outbound.{Outbound}
+use Rattle.order_law.specs.ouch_codec.declared.refusal.DecodeRefusal.{DecodeRefusal}
 use Rattle.fix_fields.specs.Field.{Message}
 use Rattle.order_law.specs.Verdicts.{Verdict, Accepted, Refused}
-use Rattle.order_law.specs.History.{Terms, OrderEvent, Came, Heard, OrderTurn, OrderHistory, Entry, accepted, entry_at, is_new_order, issued, verdict}
+use Rattle.order_law.specs.History.{Terms, OrderEvent, Came, Heard, OrderTurn, OrderHistory, Entry, accepted, entry_at}
+use Rattle.order_law.specs.History.{is_new_order, issued, verdict}
 use Rattle.order_law.specs.Lawful.{has_token, judgement, order_of_token, order_token, token_of_heard}
 use Rattle.order_law.specs.Told.{Told, nobody, told, told_on, told_of_entry, on_token}
 use Rattle.order_law.specs.Headline.{Each, said_in}

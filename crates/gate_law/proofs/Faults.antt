@@ -1,10 +1,11 @@
 -- A fault closes its port alone: of every event with the batch that it gives.
-use Rattle.std.proofs.Common.{◌≡◌, ◌==◌, ℕ, Bool, true, false, not, List, [], ◌∷◌, Option, Some, None, refl, ap, sym, ◌∙◌, is_some, option_map, length, eq-eqb, inl, inr}
+use Rattle.std.proofs.Common.{◌≡◌, ◌==◌, ℕ, Bool, true, false, not, List, [], ◌∷◌, Option, Some, None, refl, ap, sym}
+use Rattle.std.proofs.Common.{◌∙◌, is_some, option_map, length, eq-eqb, inl, inr}
 use Rattle.std.proofs.lemmas.Bool.{eqb-false, ne_eqb, cases_Bool, cond-true, cond-false}
 use Rattle.std.specs.Prelude.{if◌then◌else◌, ◌&&◌, ◌⊎◌}
 use Rattle.fix_types.specs.declared.application.AppMsg.{AppMsg}
 use Rattle.soup_packets.specs.declared.packet.Packet.{Packet}
-use Rattle.ouch_codec.specs.Values.{decoded}
+use Rattle.order_law.specs.ouch_codec.Values.{decoded}
 use Rattle.soup_session.specs.declared.port_fault.PortFault.{PortFault}
 use Rattle.soup_session.specs.declared.port_state.PortState.{PortState}
 use Rattle.soup_session.specs.declared.port_state.PortState.TheVariants.{Down, LoggingIn, Up, Ended, Faulted}
@@ -15,10 +16,12 @@ use Rattle.session_law.specs.Runs.{OnMessage}
 use Rattle.fix_fields.specs.Field.{Message}
 use Rattle.order_law.specs.History as orders
 use Rattle.gate_law.specs.Settings.{Settings}
-use Rattle.gate_law.specs.Events.{Event, ClientUp, ClientMessage, ClientGone, ClientTick, PortUp, PortPacket, PortGone, PortTick, LinkOut, Batch, is_the_number, is_for_port}
+use Rattle.gate_law.specs.Events.{Event, ClientUp, ClientMessage, ClientGone, ClientTick, PortUp, PortPacket, PortGone}
+use Rattle.gate_law.specs.Events.{PortTick, LinkOut, Batch, is_the_number, is_for_port}
 use Rattle.gate_law.specs.Lists.{Lists}
 use Rattle.gate_law.specs.Sessions.{client_answer, port_answer, port_state, sends, fault_in}
-use Rattle.gate_law.specs.Outcome.{Outcome, client_up, port_up, by_app, by_fault, by_payload, by_event, told_outcome, outcome, is_stepped, messages, bodies, addressee}
+use Rattle.gate_law.specs.Outcome.{Outcome, client_up, port_up, by_app, by_fault, by_payload, by_event, told_outcome}
+use Rattle.gate_law.specs.Outcome.{outcome, is_stepped, messages, bodies, addressee}
 use Rattle.gate_law.specs.After.{links_closed, with_outcome, unless_closed, lists_after}
 use Rattle.gate_law.specs.Due.{Gives, to_client_of, reports_of}
 use Rattle.gate_law.specs.Promises.{ClosesPort, ByFault, Faults}

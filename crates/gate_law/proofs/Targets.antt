@@ -1,10 +1,11 @@
 -- A batch names nobody but those whom its event is for.
-use Rattle.std.proofs.Common.{◌≡◌, ◌==◌, ℕ, Bool, true, false, List, [], ◌∷◌, Option, Some, None, Result, Ok, Err, refl, ap, sym, subst, ◌∙◌, is_some, map, unwrap_or, option_map, inl, inr}
+use Rattle.std.proofs.Common.{◌≡◌, ◌==◌, ℕ, Bool, true, false, List, [], ◌∷◌, Option, Some, None, Result, Ok, Err}
+use Rattle.std.proofs.Common.{refl, ap, sym, subst, ◌∙◌, is_some, map, unwrap_or, option_map, inl, inr}
 use Rattle.std.proofs.lemmas.Bool.{cases_Bool}
 use Rattle.std.specs.Prelude.{if◌then◌else◌, ◌⊎◌}
-use Rattle.ouch_codec.specs.declared.outbound.Outbound.{Outbound}
-use Rattle.ouch_codec.specs.declared.refusal.DecodeRefusal.{DecodeRefusal}
-use Rattle.ouch_codec.specs.Values.{decoded}
+use Rattle.order_law.specs.ouch_codec.declared.outbound.Outbound.{Outbound}
+use Rattle.order_law.specs.ouch_codec.declared.refusal.DecodeRefusal.{DecodeRefusal}
+use Rattle.order_law.specs.ouch_codec.Values.{decoded}
 use Rattle.soup_packets.specs.declared.packet.Packet.{Packet}
 use Rattle.soup_session.specs.declared.port_fault.PortFault.{PortFault}
 use Rattle.soup_session.specs.Table.{OnPacket}
@@ -17,10 +18,12 @@ use Rattle.order_law.specs.Told as tale
 use Rattle.order_law.specs.Told.{nobody, told_on, told_by_market, on_token}
 use Rattle.order_law.specs.Headline.{Headline}
 use Rattle.gate_law.specs.Settings.{Settings, terms}
-use Rattle.gate_law.specs.Events.{Event, ClientUp, ClientMessage, ClientGone, ClientTick, PortUp, PortPacket, PortGone, PortTick, Batch, is_for_client, is_for_port}
+use Rattle.gate_law.specs.Events.{Event, ClientUp, ClientMessage, ClientGone, ClientTick, PortUp, PortPacket, PortGone}
+use Rattle.gate_law.specs.Events.{PortTick, Batch, is_for_client, is_for_port}
 use Rattle.gate_law.specs.Lists.{Lists, turned}
 use Rattle.gate_law.specs.Sessions.{port_answer, issues, client_outs, to_client}
-use Rattle.gate_law.specs.Outcome.{Outcome, nothing, client_up, port_up, by_event, told_outcome, outcome, is_stepped, bodies, addressee}
+use Rattle.gate_law.specs.Outcome.{Outcome, nothing, client_up, port_up, by_event, told_outcome, outcome, is_stepped}
+use Rattle.gate_law.specs.Outcome.{bodies, addressee}
 use Rattle.gate_law.specs.Due.{Gives, to_client_of, to_port_of, reports_of, client_named, port_named}
 use Rattle.gate_law.specs.Promises.{Targets, IsAmong, by_token, client_target}
 use Rattle.gate_law.proofs.Other.{no-client-lines, no-port-lines, no-outcome}

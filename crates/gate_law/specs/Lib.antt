@@ -14,3 +14,9 @@ pub use Rattle.order_law.specs.History
 pub use Rattle.order_law.specs.Told
 pub use Rattle.soup_session.specs.States
 pub use Rattle.soup_session.specs.Table
+pub use Rattle.fix_fields.specs as fix_fields
+pub use Rattle.fix_stamp.specs as fix_stamp
+pub use Rattle.soup_packets.specs as soup_packets
+pub use Rattle.fix_types.specs as fix_types
+pub use Rattle.soup_session.specs as soup_session
+pub use Rattle.order_law.specs as order_law

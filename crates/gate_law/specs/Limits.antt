@@ -2,7 +2,7 @@
 -- SoupBinTCP 3.00, "Login Request Packet", that of a firm OUCH 4.2's, "Enter Order Message".)
 use Rattle.std.specs.Prelude.{ℕ, Bool, true, not, ◌&&◌, ◌==◌, nat_le, List, [], ◌∷◌, map, length, codes, bytes_eq}
 use Rattle.std.specs.List.{list_all, list_any}
-use Rattle.wire_law.specs.Printable.{is_visible, is_printable}
+use Rattle.order_law.specs.wire_law.Printable.{is_visible, is_printable}
 use Rattle.soup_session.specs.Table as port
 use Rattle.gate_law.specs.Settings.{ClientSettings, Settings, has_port}
 

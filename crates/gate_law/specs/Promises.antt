@@ -2,7 +2,7 @@
 -- batch names.
 use Rattle.std.specs.Prelude.{◌≡◌, ℕ, ◌==◌, Bool, true, false, not, ◌&&◌, List, [], Option, Some, None, is_some}
 use Rattle.std.specs.Prelude.{option_map}
-use Rattle.ouch_codec.specs.Values.{decoded}
+use Rattle.order_law.specs.ouch_codec.Values.{decoded}
 use Rattle.soup_session.specs.declared.port_fault.PortFault.{PortFault}
 use Rattle.soup_session.specs.declared.port_state.PortState.TheVariants.{Faulted}
 use Rattle.soup_session.specs.States.{is_up}

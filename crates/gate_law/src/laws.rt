@@ -19,8 +19,8 @@ ghost use Rattle.order_law.specs.History as history;
 ghost use Rattle.order_law.specs.History.{Terms, Heard, OrderTurn};
 ghost use Rattle.order_law.specs.Told.{told};
 ghost use Rattle.gate_law.specs.Clients.{AreFrom};
-ghost use Rattle.ouch_codec.specs.declared.outbound.Outbound.{Outbound};
-ghost use Rattle.ouch_codec.specs.declared.refusal.DecodeRefusal.{DecodeRefusal};
+ghost use Rattle.order_law.specs.ouch_codec.declared.outbound.Outbound.{Outbound};
+ghost use Rattle.order_law.specs.ouch_codec.declared.refusal.DecodeRefusal.{DecodeRefusal};
 
 /// An event of a number that the settings don't have, or of a link that isn't the current one, gives an empty batch and
 /// changes nothing. It does nothing: its contract is the law.

@@ -1,18 +1,20 @@
 -- What is printed of the lines that were given.
-use Rattle.std.proofs.Common.{◌≡◌, ℕ, ◌+◌, ◌-◌, List, [], ◌∷◌, ◌++◌, Option, None, Some, IfSome, Result, Ok, Err, IsErrAnd, IfErr, OnOk, ◌⊎◌, inl, inr, length, refl, sym, subst, ◌∙◌, arith, append_assoc}
+use Rattle.std.proofs.Common.{◌≡◌, ℕ, ◌+◌, ◌-◌, List, [], ◌∷◌, ◌++◌, Option, None, Some, IfSome, Result, Ok, Err}
+use Rattle.std.proofs.Common.{IsErrAnd, IfErr, OnOk, ◌⊎◌, inl, inr, length, refl, sym, subst, ◌∙◌, arith, append_assoc}
 use Rattle.std.specs.Io.KnownBytes.{Keeps}
 use Rattle.std.proofs.KnownBytes.{Appends-nil, Appends-trans, Appends-kept, Keeps-refl, Keeps-trans}
 use Rattle.std.proofs.lemmas.Fn.{FoldsTo-push}
 use Rattle.batch_lines.specs.declared.flags.Flags.{Flags}
-use Rattle.script_lines.specs.declared.fault.LineFault.TheVariants as line_fault
-use Rattle.text_lines.specs.declared.stream_fault.StreamFault.{StreamFault}
-use Rattle.text_lines.specs.declared.stream_fault.StreamFault.TheVariants as stream_fault
-use Rattle.text_lines.specs.Unread.{GivesLine, lines_of}
-use Rattle.text_lines.proofs.Given.{Leaves, all-given, first-given}
+use Rattle.script_steps.specs.script_lines.declared.fault.LineFault.TheVariants as line_fault
+use Rattle.audit_lines.specs.text_lines.declared.stream_fault.StreamFault.{StreamFault}
+use Rattle.audit_lines.specs.text_lines.declared.stream_fault.StreamFault.TheVariants as stream_fault
+use Rattle.audit_lines.specs.text_lines.Unread.{GivesLine, lines_of}
+use Rattle.audit_lines.proofs.text_lines.Given.{Leaves, all-given, first-given}
 use Rattle.script_steps.specs.Standing.{Runner}
 use Rattle.gate_lines.specs.declared.stop.Stop.{Stop}
 use Rattle.gate_lines.specs.declared.stop.Stop.TheVariants.{NotUnderstood, NoMemory, Stream}
-use Rattle.gate_lines.specs.Scripts.{BeginsScript, IsPrintedStep, Prints, PrintsAll, PrintsLine, StopsScript, StopsAmong, WritesNothing, printed_of}
+use Rattle.gate_lines.specs.Scripts.{BeginsScript, IsPrintedStep, Prints, PrintsAll, PrintsLine, StopsScript}
+use Rattle.gate_lines.specs.Scripts.{StopsAmong, WritesNothing, printed_of}
 use Rattle.gate_lines.specs.Status.{IsStopAt, stop_status, stop_of_stream}
 
 pub none-printed : (flags : Flags) (start : Runner) (held : Option (List ℕ)) → Prints flags start [] start held held

@@ -3,7 +3,7 @@ use Rattle.std.specs.Prelude.{ℕ, List, Option}
 use Rattle.std.specs.Io.KnownBytes.{Appends}
 use Rattle.gate_law.specs.Events.{History}
 use Rattle.gate_law.specs.Holds.{Holds}
-use Rattle.gate_journal.specs.Kept.{Kept, turns}
+use Rattle.gate_audit.specs.gate_journal.Kept.{Kept, turns}
 use Rattle.gate_lines.specs.Scripts.{ComesTo}
 use Rattle.script_steps.specs.Settings.{fixed}
 use Rattle.gate_audit.specs.Pairs.{accepted_pairs}

@@ -17,6 +17,6 @@ mod stop;
 
 pub use audit::audit_script;
 pub use audit_lines::write_audit;
-pub use batch_lines::Flags;
+pub use batch_lines::{Flags, batch_text};
 pub use script::{run_script, run_script_with, script_history, tell};
 pub use stop::Stop;

@@ -4,10 +4,10 @@ ghost use Rattle.std.specs.Prelude.{◌≡◌, ◌≤◌, ◌⊎◌, ℕ, IfOk, 
 ghost use Rattle.std.specs.List.{flat_map, FoldsTo};
 ghost use Rattle.std.specs.Io.KnownBytes.{Keeps};
 ghost use Rattle.batch_lines.specs.Lines.{shown_batch};
-ghost use Rattle.gate_events.specs.Seen.{batch_seen};
+ghost use Rattle.script_steps.specs.gate_events.Seen.{batch_seen};
 ghost use Rattle.gate_law.specs.Holds.{Holds};
-ghost use Rattle.gate_journal.specs.Kept.{nothing_kept, turns};
-ghost use Rattle.text_lines.specs.Unread.{lines_of};
+ghost use Rattle.gate_audit.specs.gate_journal.Kept.{nothing_kept, turns};
+ghost use Rattle.audit_lines.specs.text_lines.Unread.{lines_of};
 ghost use Rattle.script_steps.specs.Standing.{IsCold, IsTextStep, IsWarm, StepsText};
 ghost use Rattle.script_steps.specs.Steps.{ScriptGoesOn};
 ghost use Rattle.gate_lines.specs.Scripts.{BeginsScript, ComesTo, Prints, PrintsAll, PrintsLine, StopsScript};
@@ -16,14 +16,13 @@ ghost use Rattle.script_steps.specs.Settings.{fixed};
 ghost use Rattle.gate_lines.specs.Status.{IsStopAt, stop_status};
 
 use crate::stop::Stop;
+use audit_lines::Lines;
 use batch_lines::{Flags, batch_text};
-use gate_core::Batch;
-use gate_journal::History;
-use script_steps::{Runner, warm_runner};
+use gate_audit::History;
+use script_steps::{Batch, Runner, warm_runner};
 use std::alloc::{AllocError, Global};
 use std::hash::BuildHasher;
 use std::io::{Read, Write};
-use text_lines::Lines;
 
 /// The most lines that are counted; no stream has so many within the reads that are made.
 const MOST_LINES: u64 = u64::MAX;

@@ -4,10 +4,10 @@ ghost use Rattle.std.specs.Prelude.{◌≡◌};
 ghost use Rattle.gate_lines.specs.declared.stop.Stop.TheVariants.{NoMemory, Stream};
 ghost use Rattle.gate_lines.specs.Status.{stop_status, stop_at, stop_of_stream};
 
-use script_lines::LineFault;
+use audit_lines::StreamFault;
+use script_steps::LineFault;
 use std::alloc::AllocError;
 use std::io;
-use text_lines::StreamFault;
 use thiserror::Error;
 
 /// Why a run stops before its script's end. It prints as the line that tells so.

@@ -2,10 +2,8 @@
 //! once more where memory runs out. Prints what the batches tell. `README.md` has what it is for.
 #![tactic(auto)]
 
-use batch_lines::{Flags, batch_text};
-use gate_core::{Batch, Core, Event};
-use gate_lines::script_history;
-use script_steps::fixed_settings;
+use gate_lines::{Flags, batch_text, script_history};
+use script_steps::{Batch, Core, Event, fixed_settings};
 use std::alloc::{AllocError, Global};
 use std::io::{self, ErrorKind, Write};
 use std::process::ExitCode;

@@ -1,12 +1,13 @@
 -- Links that are read and written one after another, and lines from what their halves have done.
-use Rattle.std.proofs.Common.{◌≡◌, ⊎_elim, ℕ, ◌+◌, ◌≤◌, Bool, true, false, List, [], ◌∷◌, ◌++◌, append_assoc, length, Option, Result, refl, sym, ap, ◌∙◌, subst, arith}
+use Rattle.std.proofs.Common.{◌≡◌, ⊎_elim, ℕ, ◌+◌, ◌≤◌, Bool, true, false, List, [], ◌∷◌, ◌++◌, append_assoc, length}
+use Rattle.std.proofs.Common.{Option, Result, refl, sym, ap, ◌∙◌, subst, arith}
 use Rattle.std.specs.List.{All, AllZip}
 use Rattle.std.proofs.lemmas.List.{append-nil}
 use mathlib.Core.List.{IsPrefix}
 use Rattle.std.proofs.lemmas.Bool.{false≢true}
 use Rattle.std.proofs.lemmas.List.Elements.{All-head, All-tail}
-use Rattle.gate_law.specs.Events.{Event, LinkOut}
-use Rattle.link_io.specs.declared.link_fault.LinkFault.{LinkFault}
+use Rattle.gate_events.specs.gate_law.Events.{Event, LinkOut}
+use Rattle.gate_workers.specs.link_io.declared.link_fault.LinkFault.{LinkFault}
 use Rattle.gate_workers.specs.declared.writer.WriterEnd.{WriterEnd}
 use Rattle.gate_workers.specs.WritersWork.{WritesLink}
 use Rattle.gate_serving.specs.declared.halves.Reads.{Reads}

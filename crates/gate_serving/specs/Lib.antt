@@ -2,3 +2,4 @@ pub mod Lines
 pub mod Halves
 pub use Rattle.gate_workers.specs.ReadersWork
 pub use Rattle.gate_workers.specs.WritersWork
+pub use Rattle.gate_workers.specs as gate_workers

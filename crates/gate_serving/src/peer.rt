@@ -1,9 +1,10 @@
 //! Whose links a line has.
 
 ghost use Rattle.std.specs.Prelude.{◌≡◌, ◌≤◌, ℕ};
-ghost use Rattle.gate_law.specs.Events as law;
-ghost use Rattle.link_io.specs.Decoding.{AreAllOfFrames, AreAllOfPackets, FramesOfLink, MadeOfFrames, MadeOfPackets};
-ghost use Rattle.link_io.specs.Decoding.{PacketsOfLink};
+ghost use Rattle.gate_events.specs.gate_law.Events as law;
+ghost use Rattle.gate_workers.specs.link_io.Decoding.{AreAllOfFrames, AreAllOfPackets, FramesOfLink, MadeOfFrames};
+ghost use Rattle.gate_workers.specs.link_io.Decoding.{MadeOfPackets};
+ghost use Rattle.gate_workers.specs.link_io.Decoding.{PacketsOfLink};
 ghost use Rattle.gate_workers.specs.ReadersWork.{ReadsLink};
 ghost use Rattle.gate_workers.specs.WritersWork.{WritesLink};
 
@@ -19,7 +20,7 @@ use std::sync::atomic::AtomicBool;
 /// A client or a port: says what the two workers of its links do.
 pub trait Peer: Copy {
     ghost use Rattle.std.specs.Prelude.{List, Option, Result};
-    ghost use Rattle.link_io.specs.declared.link_fault.LinkFault.{LinkFault};
+    ghost use Rattle.gate_workers.specs.link_io.declared.link_fault.LinkFault.{LinkFault};
 
     // What the reader of the link of this number has put, by its end, where so many bytes of the stream were left.
     ghost reads: { Self → ℕ → Result Unit LinkFault → List law.Event → List law.Event → Option (List ℕ)

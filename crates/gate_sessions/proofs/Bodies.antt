@@ -1,10 +1,11 @@
 -- A body that is issued, as its report says it: no field of a body has a tag that a session writes round it.
-use Rattle.std.proofs.Common.{◌≡◌, ℕ, Bool, true, not, ◌&&◌, cond, List, [], ◌∷◌, ◌++◌, Option, Some, None, map, max, refl, sym, ap, ◌∙◌, append-nil, append_assoc, codes}
+use Rattle.std.proofs.Common.{◌≡◌, ℕ, Bool, true, not, ◌&&◌, cond, List, [], ◌∷◌, ◌++◌, Option, Some, None, map, max}
+use Rattle.std.proofs.Common.{refl, sym, ap, ◌∙◌, append-nil, append_assoc, codes}
 use Rattle.std.proofs.lemmas.Bool.{and_parts}
 use Rattle.std.proofs.lemmas.List.Elements.{filter-append}
-use Rattle.fix_fields.specs.Field.{Field, Message}
-use Rattle.fix_stamp.specs.Stamp.{stamp_text}
-use Rattle.fix_values.specs.Slots.{FieldSlot, appended, fields_of_slots, slot_fields, value_fields}
+use Rattle.gate_law.specs.fix_fields.Field.{Field, Message}
+use Rattle.gate_law.specs.fix_stamp.Stamp.{stamp_text}
+use Rattle.fix_types.specs.fix_values.Slots.{FieldSlot, appended, fields_of_slots, slot_fields, value_fields}
 use Rattle.fix_types.specs.declared.application.AppBody.{AppBody}
 use Rattle.fix_types.specs.declared.application.AppBody.TheVariants as bodies
 use Rattle.fix_types.specs.Report as report

@@ -1,10 +1,11 @@
 -- A call on a client's session, in the words of the core: the calls with it leave the session, and it gives what the table has.
 use Rattle.std.proofs.Common.{◌≡◌, ℕ, List, [], ◌∷◌, refl, sym, ap, ◌∙◌, subst, map}
-use Rattle.fix_fields.specs.Field.{Field}
-use Rattle.fix_stamp.specs.Stamp.{stamp_text}
+use Rattle.gate_law.specs.fix_fields.Field.{Field}
+use Rattle.gate_law.specs.fix_stamp.Stamp.{stamp_text}
 use Rattle.session_law.specs.declared.kind.Kind.{Kind}
 use Rattle.session_law.specs.Session.{State}
-use Rattle.session_law.specs.Runs.{Call, Issue, SessionHistory, Leaves, Timed, call_turn, turn_after, turns_after, state_after, calls_seen, issued_frame, step}
+use Rattle.session_law.specs.Runs.{Call, Issue, SessionHistory, Leaves, Timed, call_turn, turn_after, turns_after}
+use Rattle.session_law.specs.Runs.{state_after, calls_seen, issued_frame, step}
 use Rattle.session_law.specs.Frames.{frame_fields, told_of_out}
 use Rattle.session_law.proofs.Runs.{after-Leaves, Leaves-after}
 use Rattle.session_law.proofs.Expects.{Leaves-named}

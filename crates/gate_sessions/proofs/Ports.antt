@@ -1,10 +1,10 @@
 -- A call on a port's session, in the words of the core: the calls with it leave the session, and it gives what the table has.
 use Rattle.std.proofs.Common.{◌≡◌, ℕ, List, [], ◌∷◌, sym, subst}
-use Rattle.soup_session.specs.declared.machine.Port.{Port}
-use Rattle.soup_session.specs.declared.port_state.PortState.{PortState}
-use Rattle.soup_session.specs.declared.port_turn.PortTurn.{PortTurn}
-use Rattle.soup_session.specs.Table.{LoginTerms, PortCall, answer, standing}
-use Rattle.soup_session.specs.Calls.{CallsLeave, IsAnswer}
+use Rattle.gate_law.specs.soup_session.declared.machine.Port.{Port}
+use Rattle.gate_law.specs.soup_session.declared.port_state.PortState.{PortState}
+use Rattle.gate_law.specs.soup_session.declared.port_turn.PortTurn.{PortTurn}
+use Rattle.gate_law.specs.soup_session.Table.{LoginTerms, PortCall, answer, standing}
+use Rattle.gate_law.specs.soup_session.Calls.{CallsLeave, IsAnswer}
 use Rattle.gate_law.specs.Settings.{Settings, port_terms}
 use Rattle.gate_law.specs.Sessions.{port_answer, port_state}
 use Rattle.gate_sessions.specs.Leaving.{PortLeaves}

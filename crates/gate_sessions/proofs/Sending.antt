@@ -1,15 +1,16 @@
 -- One more message after several, on the port's line of one number.
-use Rattle.std.proofs.Common.{◌≡◌, ℕ, ◌<◌, ◌≤◌, ◌+◌, List, [], ◌∷◌, ◌++◌, length, take, get_or, map, sym, ap, ◌∙◌, append-nil, append_assoc, arith}
+use Rattle.std.proofs.Common.{◌≡◌, ℕ, ◌<◌, ◌≤◌, ◌+◌, List, [], ◌∷◌, ◌++◌, length, take, get_or, map, sym, ap, ◌∙◌}
+use Rattle.std.proofs.Common.{append-nil, append_assoc, arith}
 use Rattle.std.proofs.lemmas.List.{map-append, take_more}
-use Rattle.ouch_codec.specs.declared.inbound.Inbound.{Inbound}
-use Rattle.ouch_codec.specs.declared.inbound.Inbound.TheVariants.{Enter, Replace, Cancel}
-use Rattle.ouch_codec.specs.Inbound.{inbound_bytes}
-use Rattle.ouch_codec.specs.LaidOut.{length-written}
-use Rattle.ouch_codec.specs.EnterOrderLaws.{enter_order_laid_out}
-use Rattle.ouch_codec.specs.ReplaceLaws.{replace_laid_out}
-use Rattle.ouch_codec.specs.CancelLaws.{cancel_laid_out}
-use Rattle.soup_session.specs.declared.port_turn.PortOut.{PortOut}
-use Rattle.soup_session.specs.Table.{PortCall, Send}
+use Rattle.order_law.specs.ouch_codec.declared.inbound.Inbound.{Inbound}
+use Rattle.order_law.specs.ouch_codec.declared.inbound.Inbound.TheVariants.{Enter, Replace, Cancel}
+use Rattle.order_law.specs.ouch_codec.Inbound.{inbound_bytes}
+use Rattle.order_law.specs.ouch_codec.LaidOut.{length-written}
+use Rattle.order_law.specs.ouch_codec.EnterOrderLaws.{enter_order_laid_out}
+use Rattle.order_law.specs.ouch_codec.ReplaceLaws.{replace_laid_out}
+use Rattle.order_law.specs.ouch_codec.CancelLaws.{cancel_laid_out}
+use Rattle.gate_law.specs.soup_session.declared.port_turn.PortOut.{PortOut}
+use Rattle.gate_law.specs.soup_session.Table.{PortCall, Send}
 use Rattle.gate_law.specs.Settings.{Settings}
 use Rattle.gate_law.specs.Sessions.{port_answer, port_outs, sends}
 use Rattle.gate_sessions.specs.Lines.{called_all}

@@ -1,13 +1,13 @@
 -- What calls leave of the two sessions, by the numbers of clients and ports.
 use Rattle.std.specs.Prelude.{◌≡◌, ℕ, List, map}
-use Rattle.soup_session.specs.declared.machine.Port.{Port}
-use Rattle.soup_session.specs.Table as port
-use Rattle.soup_session.specs.Calls as ports
+use Rattle.gate_law.specs.soup_session.declared.machine.Port.{Port}
+use Rattle.gate_law.specs.soup_session.Table as port
+use Rattle.gate_law.specs.soup_session.Calls as ports
 use Rattle.session_law.specs.Session.{State, Given}
 use Rattle.session_law.specs.Expected.{expected}
 use Rattle.session_law.specs.Runs.{Timed, state_after, turns_after}
 use Rattle.session_law.specs.Frames.{told_of_out}
-use Rattle.session_writing.specs.Written.{told_bytes}
+use Rattle.fix_session.specs.session_writing.Written.{told_bytes}
 use Rattle.fix_session.specs.declared.session.SessionTurn.{SessionTurn}
 use Rattle.fix_session.specs.Issues.{call_of_body}
 use Rattle.fix_types.specs.declared.application.AppBody.{AppBody}

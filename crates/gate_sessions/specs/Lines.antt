@@ -1,8 +1,8 @@
 -- Sessions and links by their places: number i + 1 stands at place i.
 use Rattle.std.specs.Prelude.{◌≡◌, ℕ, ◌+◌, ◌≤◌, ◌==◌, List, [], ◌∷◌, Option, Some, slice_get, if◌then◌else◌}
-use Rattle.soup_session.specs.Table as port
-use Rattle.soup_session.specs.declared.machine.Port.{Port}
-use Rattle.soup_session.specs.Calls.{IsUp, next_of}
+use Rattle.gate_law.specs.soup_session.Table as port
+use Rattle.gate_law.specs.soup_session.declared.machine.Port.{Port}
+use Rattle.gate_law.specs.soup_session.Calls.{IsUp, next_of}
 use Rattle.session_law.specs.Session.{State}
 use Rattle.session_law.specs.Runs.{Timed}
 use Rattle.gate_law.specs.Settings.{Settings}

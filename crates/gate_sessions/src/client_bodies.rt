@@ -4,7 +4,7 @@ ghost use Rattle.std.specs.Prelude.{◌≡◌, ◌<◌, ◌+◌, ℕ, List, ◌�
 ghost use Rattle.fix_types.specs.Application.{body_fields};
 ghost use Rattle.session_law.specs.Runs.{Timed};
 ghost use Rattle.session_law.specs.Frames.{told_of_out};
-ghost use Rattle.session_writing.specs.Written.{told_bytes};
+ghost use Rattle.fix_session.specs.session_writing.Written.{told_bytes};
 ghost use Rattle.order_law.specs.Messages.{body_of};
 ghost use Rattle.gate_law.specs.Settings.{Settings, client_name};
 ghost use Rattle.gate_law.specs.Sessions.{client_answer, client_outs, client_reports, issues, report_issued};
@@ -14,9 +14,8 @@ ghost use Rattle.gate_sessions.specs.Lines.{ClientStands, ClientsSettledAs};
 
 use crate::client_line::ClientLine;
 use crate::client_lines::client_issue;
-use fix_session::{IssuedTurn, SessionTurn};
+use fix_session::{IssuedReport, IssuedTurn, SessionOut, SessionTurn};
 use fix_types::AppBody;
-use session_writing::{IssuedReport, SessionOut};
 use std::alloc::{AllocError, Global};
 
 /// What comes of bodies that are issued to one client.

@@ -7,9 +7,9 @@ ghost use Rattle.gate_law.specs.Sessions.{client_answer, report_issued};
 ghost use Rattle.gate_sessions.specs.Leaving.{ClientLeaves, IsClientAnswer, expected_in, issue_call};
 ghost use Rattle.gate_sessions.specs.Lines.{client_now, client_settled};
 
-use fix_fields::{Fields, Text};
 use fix_session::{IssuedTurn, Session, SessionTurn};
 use fix_types::AppBody;
+use gate_law::{Fields, Text};
 use std::alloc::{AllocError, Global};
 
 /// A client's current link, where it has one, and its session over all its links.

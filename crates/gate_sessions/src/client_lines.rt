@@ -10,9 +10,9 @@ ghost use Rattle.gate_sessions.specs.Lines.{ClientsLeave, ClientLinks, called, l
 ghost use Rattle.gate_sessions.specs.Lines.{ClientStands, ClientsSettledAs, client_now, client_settled};
 
 use crate::client_line::ClientLine;
-use fix_fields::Fields;
 use fix_session::{IssuedTurn, SessionTurn};
 use fix_types::AppBody;
+use gate_law::Fields;
 use std::alloc::{AllocError, Global};
 
 /// A link is current from now on.

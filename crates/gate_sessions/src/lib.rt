@@ -18,6 +18,7 @@ pub use client_lines::{
     client_close, client_frame, client_gone, client_issue, client_tick, client_up, clients_settle,
     clients_undo,
 };
+pub use fix_session::IssuedReport;
 pub use laws::issues_are_what_is_reported;
 pub use port_line::PortLine;
 pub use port_lines::{
@@ -25,4 +26,4 @@ pub use port_lines::{
     ports_undo,
 };
 pub use port_messages::port_send_all;
-pub use session_writing::IssuedReport;
+pub use soup_packets::Packet;

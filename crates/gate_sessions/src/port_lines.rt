@@ -2,8 +2,8 @@
 
 ghost use Rattle.std.specs.Prelude.{◌≡◌, ◌<◌, ◌≤◌, ◌+◌, ◌-◌, ◌^◌, ℕ, List, ◌∷◌, Option, Some, None, IfOk, OnErr};
 ghost use Rattle.std.specs.Prelude.{length, map, slice_get, slice_set};
-ghost use Rattle.soup_session.specs.Table.{PortCall, OnUp, OnPacket, OnGone, OnTick, Send, Fail};
-ghost use Rattle.soup_session.specs.Calls.{IsAnswer, PortHasRoom, IsUp};
+ghost use Rattle.gate_law.specs.soup_session.Table.{PortCall, OnUp, OnPacket, OnGone, OnTick, Send, Fail};
+ghost use Rattle.gate_law.specs.soup_session.Calls.{IsAnswer, PortHasRoom, IsUp};
 ghost use Rattle.gate_law.specs.Settings.{Settings};
 ghost use Rattle.gate_law.specs.Sessions.{port_answer};
 ghost use Rattle.gate_sessions.specs.Leaving.{PortLeaves};
@@ -11,8 +11,8 @@ ghost use Rattle.gate_sessions.specs.Lines.{PortsLeave, PortLinks, NextWithin, I
 ghost use Rattle.gate_sessions.specs.Lines.{PortStands, PortsSettledAs, port_now, port_settled};
 
 use crate::port_line::PortLine;
+use gate_law::{PortFault, PortTurn};
 use soup_packets::Packet;
-use soup_session::{PortFault, PortTurn};
 use std::alloc::{AllocError, Global};
 
 /// A link is current from now on.

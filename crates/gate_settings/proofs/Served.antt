@@ -5,8 +5,8 @@ use Rattle.std.specs.List.{list_all}
 use Rattle.std.proofs.lemmas.Bool.{and_parts, leb-true}
 use Rattle.std.proofs.lemmas.Bool.Decides.{nat_tests}
 use Rattle.std.proofs.lemmas.List.Sums.{AllPass-from_list_all}
-use Rattle.wire_law.specs.Printable.{is_visible}
-use Rattle.fix_fields.specs.Field.{IsValue, is_inside}
+use Rattle.to_market.specs.wire_law.Printable.{is_visible}
+use Rattle.gate_law.specs.fix_fields.Field.{IsValue, is_inside}
 use Rattle.gate_law.specs.Settings.{ClientSettings, Settings, has_port}
 use Rattle.gate_law.specs.Limits.{is_between, is_client, is_each_own, is_name, is_port, is_served}
 use Rattle.gate_settings.specs.Kept.{IsNamed, IsOnPort}

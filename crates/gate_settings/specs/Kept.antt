@@ -1,6 +1,6 @@
 -- What each port and each client of settings that are served has.
 use Rattle.std.specs.Prelude.{ℕ, ◌≤◌, length}
-use Rattle.fix_fields.specs.Field.{IsValue}
+use Rattle.gate_law.specs.fix_fields.Field.{IsValue}
 use Rattle.soup_session.specs.Table as port
 use Rattle.gate_law.specs.Settings.{ClientSettings}
 

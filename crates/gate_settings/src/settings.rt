@@ -1,7 +1,7 @@
 //! The settings of the core.
 
 ghost use Rattle.std.specs.Prelude.{◌≡◌, ◌≤◌, All, length, true};
-ghost use Rattle.fix_fields.specs.Field.{IsValue};
+ghost use Rattle.gate_law.specs.fix_fields.Field.{IsValue};
 ghost use Rattle.gate_law.specs.Limits as limits;
 ghost use Rattle.gate_law.specs.Limits.{is_served};
 ghost use Rattle.gate_settings.specs.Kept.{CanLogIn, IsNamed, IsOnPort};
@@ -10,7 +10,7 @@ ghost use Rattle.gate_settings.specs.Seen.{settings_of};
 use crate::client_settings::ClientSettings;
 use crate::limits::{are_clients, are_ports, is_between, is_each_own, is_name};
 use crate::port_settings::PortSettings;
-use fix_fields::Text;
+use gate_law::Text;
 use std::marker::Model;
 
 /// The gateway's name, its ports and its clients, each numbered from 1 in this order. Contracts see the law's

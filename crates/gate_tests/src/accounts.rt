@@ -1,9 +1,8 @@
 //! One order, traded, broken and cancelled, read twice.
 
 use fix_fields::{Fields, split};
-use order_accounts::{ReadingFault, life_of, reading_of};
-use order_law::Account;
-use ouch_codec::{Outbound, decode};
+use gate_audit::Account;
+use order_accounts::{Outbound, ReadingFault, decode, life_of, reading_of};
 use std::alloc::Global;
 use std::test::Fail;
 

@@ -3,8 +3,8 @@
 ghost use Rattle.std.specs.Prelude.{◌≤◌};
 
 use fix_fields::split;
+use gate_audit::{Packet, Payload};
 use gate_core::{ClientFrame, ClientNumber, Event, PortNumber};
-use soup_packets::{Packet, Payload};
 use std::alloc::Global;
 use std::test::Fail;
 

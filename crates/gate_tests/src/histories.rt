@@ -4,9 +4,8 @@ use crate::events::{packet, port_up};
 use crate::served::settings;
 use audit_lines::audit_text;
 use fix_fields::{Fields, PrintedFields, printed_fields, split};
-use gate_audit::audit;
+use gate_audit::{History, audit};
 use gate_core::{Batch, ClientNumber, Event, IssuedReport, PortNumber};
-use gate_journal::History;
 use std::alloc::Global;
 use std::test::Fail;
 

@@ -1,8 +1,7 @@
 //! What is written of pairs.
 
 use audit_lines::write_audit;
-use gate_audit::OrderPair;
-use order_law::Account;
+use gate_audit::{Account, OrderPair};
 use std::alloc::{AllocError, Global};
 use std::io::{self, ErrorKind, Write};
 use std::test::Fail;

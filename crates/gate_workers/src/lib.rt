@@ -12,6 +12,7 @@ mod ticks;
 mod writer;
 
 pub use clock::Clock;
+pub use gate_events::{Event, LinkOut};
 pub use link_io::{Gate, LinkFault};
 pub use reader::{client_reader, port_reader};
 pub use ticks::ticker;

@@ -1,7 +1,7 @@
 //! The worker that reads a link.
 
 ghost use Rattle.std.specs.Prelude.{◌≡◌, ◌≤◌, ◌++◌, ◌∷◌, [], ℕ};
-ghost use Rattle.gate_law.specs.Events as law;
+ghost use Rattle.gate_events.specs.gate_law.Events as law;
 ghost use Rattle.gate_events.specs.Seen.{event_seen};
 ghost use Rattle.link_io.specs.Decoding.{AreAllOfFrames, AreAllOfPackets, FramesOfLink, MadeOfFrames, MadeOfPackets};
 ghost use Rattle.link_io.specs.Decoding.{PacketsOfLink};

@@ -1,14 +1,11 @@
 //! The order gateway's program: runs a gateway by its settings, shows one, and audits scripts.
 #![tactic(auto)]
 
-use gate_lines::audit_script;
 use gateway_command::{Asked, asked, links_of};
-use gateway_demo::show_demo;
-use gateway_run::{Day, audit_day, end_day, run_settings, tell};
+use gateway_demo::{Choice, show_demo};
+use gateway_run::{Day, SettingsFault, SettingsFile, audit_day, end_day, read, run_settings, tell};
 use journal_audit::{audit_file, script_file};
-use market_book::Choice;
-use script_command::tell_refusal;
-use settings_file::{SettingsFault, SettingsFile, read};
+use script_command::{audit_script, tell_refusal};
 use std::alloc::Global;
 use std::fs::File;
 use std::hash::RandomState;

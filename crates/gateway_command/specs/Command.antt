@@ -1,6 +1,7 @@
 -- The command line of `gateway`: `audit --script FILE` or `audit --journal FILE --settings FILE`, `journal --script FILE`,
 -- `run --settings FILE [--links N] [--journal FILE]`, `demo`, and nothing else but a call for help.
-use Rattle.std.specs.Prelude.{ℕ, true, List, Option, Some, None, codes, if◌then◌else◌, option_and_then, option_map, nat_le, ◌&&◌}
+use Rattle.std.specs.Prelude.{ℕ, true, List, Option, Some, None, codes, if◌then◌else◌, option_and_then, option_map}
+use Rattle.std.specs.Prelude.{nat_le, ◌&&◌}
 use Rattle.std.specs.Char.{is_ascii_digit}
 use Rattle.std.specs.List.{list_all}
 use Rattle.std.specs.Str.{bytes_eq}

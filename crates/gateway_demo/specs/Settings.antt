@@ -1,8 +1,8 @@
 -- The settings of the demonstration.
 use Rattle.std.specs.Prelude.{List, ℕ, [], ◌∷◌, codes}
-use Rattle.soup_session.specs.Table as port
-use Rattle.gate_law.specs.Settings.{ClientSettings, Settings}
-use Rattle.gate_settings.specs.Seen.{settings_of}
+use Rattle.gate_core.specs.soup_session.Table as port
+use Rattle.gateway_run.specs.gate_law.Settings.{ClientSettings, Settings}
+use Rattle.gate_core.specs.gate_settings.Seen.{settings_of}
 
 -- of the port
 abbrev pub demo_login : port.LoginTerms

@@ -1,7 +1,7 @@
 //! Why the demonstration did not come to its end.
 
-use gate_serving::LinkFault;
 use gateway_run::RunFault;
+use link_sockets::LinkFault;
 use std::alloc::{AllocError, AllocFailed};
 use std::io;
 

@@ -9,5 +9,7 @@ mod showing;
 
 pub use client::{Client, Order};
 pub use fault::DemoFault;
+pub use link_sockets::{Acceptor, Connector, Opened, Opener};
 pub use market::Market;
+pub use market_book::Choice;
 pub use showing::{connected, demo, loopback, show_demo};

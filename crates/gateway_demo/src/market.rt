@@ -1,11 +1,9 @@
 //! The market: the simulator, behind streams.
 
 use crate::fault::DemoFault;
-use market_book::Choice;
-use market_law::Trading;
-use market_sim::{Sim, SimEvent};
-use ouch_codec::EnterOrder;
-use soup_packets::{Packet, Packets};
+use gate_core::EnterOrder;
+use market_book::{Choice, Trading};
+use market_sim::{Packet, Packets, Sim, SimEvent};
 use std::alloc::Global;
 use std::io::{Read, Write};
 use wire_law::{FixedWire, WholeWire};

@@ -1,11 +1,10 @@
 //! The settings of the demonstration.
 
 ghost use Rattle.std.specs.Prelude.{◌≡◌, IfOk};
-ghost use Rattle.fix_fields.specs.Field.{IsValue};
+ghost use Rattle.gate_core.specs.fix_fields.Field.{IsValue};
 ghost use Rattle.gateway_demo.specs.Settings as spec;
 
-use fix_fields::Text;
-use gate_core::{ClientSettings, ClientTerms, PortSettings, Settings};
+use gate_core::{ClientSettings, ClientTerms, PortSettings, Settings, Text};
 use std::alloc::{AllocError, Global};
 
 /// Gateway `GATE`; clients `C1` and `C2` of the firm `FIRM` on one port, whose user is `USER01` and its password

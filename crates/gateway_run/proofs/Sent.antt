@@ -7,8 +7,8 @@ use denote.Param.SendFields.{declared_send}
 use Rattle.std.proofs.Crossing.{crosses}
 use Rattle.std.specs.declared.hash.BuildHasher as BuildHasher
 use Rattle.std.specs.declared.hash.Hasher as Hasher
-use Rattle.desk.proofs.Sent.{shared_sync}
-use Rattle.desk.specs.declared.DeskName as DeskName
+use Rattle.desk_gates.proofs.desk.Sent.{shared_sync}
+use Rattle.desk_gates.specs.desk.declared.DeskName as DeskName
 use Rattle.desk_gates.specs.contracts.bell.BellClock as BellClock
 use Rattle.run_lines.specs.contracts.counted.CountedLinks as CountedLinks
 use Rattle.run_lines.specs.contracts.opener.RunOpener as RunOpener

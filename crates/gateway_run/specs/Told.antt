@@ -4,8 +4,8 @@ use Rattle.std.specs.Io.KnownBytes.{Appends}
 use Rattle.gate_law.specs.Settings.{Settings}
 use Rattle.gate_law.specs.Events.{History}
 use Rattle.gate_law.specs.Holds.{Holds}
-use Rattle.gate_journal.specs.Kept.{Kept}
-use Rattle.link_io.specs.declared.link_fault.LinkFault.{LinkFault}
+use Rattle.gate_audit.specs.gate_journal.Kept.{Kept}
+use Rattle.run_lines.specs.link_io.declared.link_fault.LinkFault.{LinkFault}
 use Rattle.gate_audit.specs.Pairs.{accepted_pairs}
 use Rattle.audit_lines.specs.Lines.{shown_audit}
 

@@ -1,18 +1,15 @@
 //! A day that is over, and its audit as it is printed.
 
 ghost use Rattle.std.specs.Prelude.{◌≡◌, ◌≤◌};
-ghost use Rattle.gate_journal.specs.Kept.{turns};
+ghost use Rattle.gate_audit.specs.gate_journal.Kept.{turns};
 ghost use Rattle.journal_file.specs.Written.{IsFileOfTurns};
 ghost use Rattle.gateway_run.specs.Told.{AuditIsTold, AuditIsToldOf};
 
 use crate::fault::RunFault;
 use audit_lines::write_audit;
-use gate_audit::audit;
-use gate_core::Settings;
-use gate_journal::History;
+use gate_audit::{History, ReadingFault, Settings, audit};
 use gate_serving::LinkFault;
 use journal_file::write_day;
-use order_accounts::ReadingFault;
 use std::alloc::Global;
 use std::io::Write;
 use std::marker::Model;
@@ -27,7 +24,7 @@ pub struct Day {
 
 impl Model for Day {
     ghost use Rattle.gate_law.specs.Holds.{Holds};
-    ghost use Rattle.gate_journal.specs.Kept.{turns};
+    ghost use Rattle.gate_audit.specs.gate_journal.Kept.{turns};
     ghost use Rattle.gateway_run.specs.Told.{DayState};
 
     ghost Value = { DayState };
@@ -40,7 +37,7 @@ impl Model for Day {
 impl Day {
     ghost use Rattle.std.specs.Prelude.{◌≡◌};
     ghost use Rattle.gate_law.specs.Holds.{Holds};
-    ghost use Rattle.gate_journal.specs.Kept.{turns};
+    ghost use Rattle.gate_audit.specs.gate_journal.Kept.{turns};
 
     /// A day of this history by these settings, with the first fault of a link. Takes no memory.
     pub(crate) fn new(history: History, settings: Settings, fault: Option<LinkFault>) -> Day

@@ -5,7 +5,7 @@ ghost use Rattle.gateway_run.specs.Own.{of_gate, recipient_of, source_of_peer};
 
 use crate::lines::{Count, RunLine, client_line, clock_line, port_line};
 use crate::port_faults::PortLinks;
-use desk::{DeskName, Inlet, Outlet, Shared};
+use desk_gates::{DeskName, Inlet, Outlet, Shared};
 use gate_events::{ClientNumber, PortNumber, Recipient, Source};
 use run_lines::{ClientCounts, CountedLinks};
 use std::alloc::{AllocError, Global};

@@ -8,8 +8,7 @@ ghost use Rattle.run_lines.specs.declared.gate.RunGate.TheVariants as gates;
 
 use crate::clock::RunClock;
 use crate::port_faults::PortLinks;
-use desk::{DeskName, Finished, Inlet, Outlet, Shared};
-use desk_gates::{BellClock, InletGate, OutletGate};
+use desk_gates::{BellClock, DeskName, Finished, Inlet, InletGate, Outlet, OutletGate, Shared};
 use gate_events::{ClientNumber, PortNumber};
 use gate_serving::{Line, LinkFault, Worker};
 use run_lines::{ClientCounts, CountedLinks, RunGate, RunOpener, RunPeer, Ticks};

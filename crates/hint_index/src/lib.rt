@@ -16,3 +16,4 @@ pub use index::HintIndex;
 pub use keyed::{Keyed, Sought};
 pub use settled_list::SettledList;
 pub use text_key::TextKey;
+pub use undo_list::UndoList;

@@ -1,10 +1,9 @@
 //! What was pushed is read, whole and by source and recipient.
 
 use crate::records::{first_page, history_of, page};
-use gate_events::{
-    Batch, ClientNumber, Event, LinkOut, PortFault, PortNumber, Recipient, Source, Told,
+use gate_journal::{
+    Batch, ClientNumber, Event, History, LinkOut, PortFault, PortNumber, Recipient, Source, Told,
 };
-use gate_journal::History;
 use std::alloc::Global;
 use std::process::Abort;
 use std::test::Fail;

@@ -1,8 +1,7 @@
 //! A batch that is longer than a page.
 
 use crate::records::first_page;
-use gate_events::{Batch, ClientNumber, Event, LinkOut, PortNumber};
-use gate_journal::History;
+use gate_journal::{Batch, ClientNumber, Event, History, LinkOut, PortNumber};
 use std::alloc::Global;
 use std::process::Abort;
 use std::test::Fail;

@@ -1,7 +1,6 @@
 //! Records and pages by the format.
 
-use gate_journal::History;
-use journal_pages::PageFault;
+use gate_journal::{History, PageFault};
 use std::alloc::{AllocError, Global};
 use std::test::Fail;
 

@@ -2,7 +2,7 @@
 //! `journal_cases`.
 
 use crate::records::{Row, fault_of, fault_of_two, page};
-use journal_pages::PageFault;
+use gate_journal::PageFault;
 use std::alloc::Global;
 use std::process::Abort;
 use std::test::Fail;

@@ -1,9 +1,7 @@
 //! One event, and a day of ticks, byte for byte.
 
 use crate::records::{fault_of, first_page, history_of};
-use gate_events::{Batch, ClientNumber, Event};
-use gate_journal::History;
-use journal_pages::PageFault;
+use gate_journal::{Batch, ClientNumber, Event, History, PageFault};
 use std::alloc::Global;
 use std::process::Abort;
 use std::test::Fail;

@@ -1,14 +1,14 @@
 -- The audit of a day's file, and the file of a script's day.
 use Rattle.std.specs.Prelude.{ℕ, List, Option}
 use Rattle.std.specs.Io.KnownBytes.{Appends}
-use Rattle.gate_law.specs.Settings.{Settings}
-use Rattle.gate_law.specs.Holds.{Holds}
+use Rattle.gate_lines.specs.gate_law.Settings.{Settings}
+use Rattle.gate_lines.specs.gate_law.Holds.{Holds}
 use Rattle.gate_audit.specs.Pairs.{accepted_pairs, pairs}
-use Rattle.audit_lines.specs.Lines.{shown_audit}
+use Rattle.gate_lines.specs.audit_lines.Lines.{shown_audit}
 use Rattle.gate_lines.specs.Scripts.{ComesTo}
-use Rattle.script_steps.specs.Settings.{fixed}
-use Rattle.journal_pages.specs.declared.fault.PageFault.{PageFault}
-use Rattle.gate_journal.specs.Kept.{Kept, kept_in, turns}
+use Rattle.gate_lines.specs.script_steps.Settings.{fixed}
+use Rattle.journal_file.specs.journal_pages.declared.fault.PageFault.{PageFault}
+use Rattle.gate_audit.specs.gate_journal.Kept.{Kept, kept_in, turns}
 use Rattle.journal_file.specs.File.{IsNoFile}
 use Rattle.journal_file.specs.Written.{IsFile, IsFileOfTurns}
 

@@ -2,20 +2,16 @@
 
 ghost use Rattle.std.specs.Prelude.{◌≡◌, ◌≤◌, IfOk};
 ghost use Rattle.std.specs.Io.KnownBytes.{Appends, Keeps};
-ghost use Rattle.gate_law.specs.Holds.{Holds};
+ghost use Rattle.gate_lines.specs.gate_law.Holds.{Holds};
 ghost use Rattle.gate_audit.specs.Pairs.{accepted_pairs, pairs};
-ghost use Rattle.audit_lines.specs.Lines.{shown_audit};
-ghost use Rattle.journal_pages.specs.declared.fault.PageFault.TheVariants.{NoMemory};
-ghost use Rattle.gate_journal.specs.Kept.{turns};
+ghost use Rattle.gate_lines.specs.audit_lines.Lines.{shown_audit};
+ghost use Rattle.journal_file.specs.journal_pages.declared.fault.PageFault.TheVariants.{NoMemory};
+ghost use Rattle.gate_audit.specs.gate_journal.Kept.{turns};
 ghost use Rattle.journal_audit.specs.Audits.{IsAuditOfFile, IsNoDaysFile};
 
-use audit_lines::write_audit;
-use gate_audit::audit;
-use gate_core::Settings;
-use gate_journal::History;
-use journal_file::read_day;
-use journal_pages::PageFault;
-use order_accounts::ReadingFault;
+use gate_audit::{History, ReadingFault, Settings, audit};
+use gate_lines::write_audit;
+use journal_file::{PageFault, read_day};
 use std::alloc::Global;
 use std::io::Write;
 

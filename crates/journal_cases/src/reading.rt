@@ -2,8 +2,7 @@
 
 use crate::records::{PAGE_HEAD, split};
 use crate::tally::Outcome;
-use gate_journal::History;
-use journal_pages::PageFault;
+use gate_journal::{History, PageFault};
 use std::alloc::{AllocError, Global};
 
 /// What reading pages comes to.

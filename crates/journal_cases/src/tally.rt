@@ -1,6 +1,6 @@
 //! What came of changed pages.
 
-use journal_pages::PageFault;
+use gate_journal::PageFault;
 use std::io::{self, Write};
 
 /// What reading pages comes to.

@@ -1,7 +1,7 @@
 //! The words of a line, and the bytes that they say.
 
 use decimal_digits::number_of;
-use journal_pages::PageFault;
+use gate_journal::PageFault;
 use std::alloc::{AllocError, Global};
 
 /// The first word of a text, and what stands behind the space after it: nothing where there is no space.

@@ -3,3 +3,5 @@ pub mod Written
 pub use Rattle.gate_journal.specs.Kept
 pub use Rattle.journal_days.specs.Cut
 pub use Rattle.journal_days.specs.Day
+pub use Rattle.journal_pages.specs as journal_pages
+pub use Rattle.journal_days.specs as journal_days

@@ -1,7 +1,7 @@
 -- A history that was written as a day's file.
 use Rattle.std.specs.Prelude.{◌≡◌, ℕ, List, Option, None}
 use Rattle.std.specs.Io.KnownBytes.{Appends}
-use Rattle.gate_law.specs.Events.{History}
+use Rattle.gate_journal.specs.gate_law.Events.{History}
 use Rattle.journal_days.specs.Day.{day_fault}
 use Rattle.gate_journal.specs.Kept.{kept_in, turns}
 use Rattle.journal_file.specs.File.{file_of}

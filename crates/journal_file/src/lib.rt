@@ -8,6 +8,7 @@ mod laws;
 mod reading;
 mod writing;
 
+pub use journal_pages::PageFault;
 pub use laws::files_are_read;
 pub use reading::read_day;
 pub use writing::write_day;

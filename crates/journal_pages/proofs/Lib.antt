@@ -4,3 +4,4 @@ mod Spelled
 pub mod Listed
 pub mod Further
 mod Put
+pub use Rattle.fix_fields.proofs as fix_fields

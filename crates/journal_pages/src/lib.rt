@@ -20,6 +20,7 @@ mod view;
 
 pub use bytes::PageBytes;
 pub use fault::PageFault;
+pub use fix_fields::{FieldsView, PrintedFields};
 pub use head::RecordHead;
 pub use kind::RecordKind;
 pub use laws::{written_lists_are_read, written_records_are_read};
@@ -28,3 +29,4 @@ pub use place::Place;
 pub use reading::front;
 pub use records::Records;
 pub use view::RecordView;
+pub use wire_law::WholeWire;

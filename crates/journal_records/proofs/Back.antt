@@ -1,16 +1,17 @@
 -- The records of a batch in a page are those that the batch which is read of them is written as.
-use Rattle.std.proofs.Common.{◌≡◌, ◌≤◌, ℕ, zero, suc, true, false, Bool, Option, Some, None, List, [], ◌∷◌, ◌++◌, length, refl, sym, ap, ◌∙◌, arith, append_assoc, append-nil}
+use Rattle.std.proofs.Common.{◌≡◌, ◌≤◌, ℕ, zero, suc, true, false, Bool, Option, Some, None, List, [], ◌∷◌, ◌++◌}
+use Rattle.std.proofs.Common.{length, refl, sym, ap, ◌∙◌, arith, append_assoc, append-nil}
 use Rattle.std.proofs.lemmas.Bool.{and_parts}
 use Rattle.std.proofs.lemmas.Bool.Decides.{nat_tests}
 use Rattle.std.proofs.lemmas.List.{map-append}
 use Rattle.std.specs.Option.{is_some}
 use Rattle.std.specs.Prelude.{◌==◌, ◌&&◌, nat_le, not, map, if◌then◌else◌}
-use Rattle.fix_fields.specs.Field.{Message, fields_text}
-use Rattle.fix_fields.specs.Reading.{fields_of}
-use Rattle.soup_session.specs.declared.port_fault.PortFault.{PortFault}
-use Rattle.soup_session.specs.declared.port_fault.PortFault.TheVariants as port_faults
-use Rattle.soup_session.specs.Faults.{fault_number}
-use Rattle.gate_law.specs.Events.{LinkOut, Write, Close}
+use Rattle.journal_pages.specs.fix_fields.Field.{Message, fields_text}
+use Rattle.journal_pages.specs.fix_fields.Reading.{fields_of}
+use Rattle.gate_events.specs.soup_session.declared.port_fault.PortFault.{PortFault}
+use Rattle.gate_events.specs.soup_session.declared.port_fault.PortFault.TheVariants as port_faults
+use Rattle.gate_events.specs.soup_session.Faults.{fault_number}
+use Rattle.gate_events.specs.gate_law.Events.{LinkOut, Write, Close}
 use Rattle.journal_pages.specs.declared.fault.PageFault.{PageFault}
 use Rattle.journal_pages.specs.declared.fault.PageFault.TheVariants as faults
 use Rattle.journal_pages.specs.declared.kind.RecordKind.{RecordKind}
@@ -18,10 +19,13 @@ use Rattle.journal_pages.specs.declared.kind.RecordKind.TheVariants as kinds
 use Rattle.journal_pages.specs.declared.place.Place.TheVariants.{InBatch}
 use Rattle.journal_pages.specs.declared.place.Batch.{Batch as Within}
 use Rattle.journal_pages.specs.Record.{Record, is_fault_number}
-use Rattle.journal_pages.specs.Page.{batch_at, batch_with, fault_at, is_same, may_follow, next_fault, place_after, unless}
+use Rattle.journal_pages.specs.Page.{batch_at, batch_with, fault_at, is_same, may_follow, next_fault, place_after}
+use Rattle.journal_pages.specs.Page.{unless}
 use Rattle.journal_records.specs.Events.{payload_fields, record_with}
-use Rattle.journal_records.specs.Parts.{batch_records, client_records, end_record, fault_records, named_number, out_record, port_records, report_record}
-use Rattle.journal_records.specs.Reading.{BatchSaid, batch_in, batch_said, behind_parts, nothing_said, or_one, fault_in_payload, parts_said, said_more, saying_client_out, saying_port_out}
+use Rattle.journal_records.specs.Parts.{batch_records, client_records, end_record, fault_records, named_number}
+use Rattle.journal_records.specs.Parts.{out_record, port_records, report_record}
+use Rattle.journal_records.specs.Reading.{BatchSaid, batch_in, batch_said, behind_parts, nothing_said, or_one}
+use Rattle.journal_records.specs.Reading.{fault_in_payload, parts_said, said_more, saying_client_out, saying_port_out}
 use Rattle.journal_pages.specs.Ordered.{AreSound, order_fault}
 use Rattle.journal_records.proofs.Rows.{Has, has, text-kept}
 

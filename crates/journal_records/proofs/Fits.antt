@@ -1,19 +1,20 @@
 -- What an event and its batch keep is what their records need.
-use Rattle.std.proofs.Common.{◌≡◌, ◌<◌, ◌≤◌, ◌^◌, ℕ, suc, ◌+◌, ◌*◌, ◌/◌, ◌%◌, true, false, Bool, Option, Some, None, List, [], ◌∷◌, ◌++◌, length, get_or, take, refl, sym, ap, subst, ◌∙◌, arith}
+use Rattle.std.proofs.Common.{◌≡◌, ◌<◌, ◌≤◌, ◌^◌, ℕ, suc, ◌+◌, ◌*◌, ◌/◌, ◌%◌, true, false, Bool, Option, Some, None}
+use Rattle.std.proofs.Common.{List, [], ◌∷◌, ◌++◌, length, get_or, take, refl, sym, ap, subst, ◌∙◌, arith}
 use Rattle.std.proofs.lemmas.Bool.Decides.{nat_tests}
 use Rattle.std.proofs.lemmas.List.{take_all, take_more}
 use Rattle.std.specs.Option.{is_some}
 use Rattle.std.specs.Int.{w16, from_be_bytes}
 use Rattle.std.specs.Prelude.{◌==◌, ◌&&◌, nat_le, nat_lt, not, map, if◌then◌else◌}
-use Rattle.fix_fields.specs.Field.{AreFields, Message, fields_text}
-use Rattle.fix_fields.specs.Reading.{fields_of}
-use Rattle.fix_fields.proofs.Reading.{fields_of-fields_text}
-use Rattle.soup_session.specs.declared.port_fault.PortFault.{PortFault}
-use Rattle.soup_session.specs.declared.port_fault.PortFault.TheVariants as port_faults
-use Rattle.soup_session.specs.Faults.{fault_number}
+use Rattle.journal_pages.specs.fix_fields.Field.{AreFields, Message, fields_text}
+use Rattle.journal_pages.specs.fix_fields.Reading.{fields_of}
+use Rattle.journal_pages.proofs.fix_fields.Reading.{fields_of-fields_text}
+use Rattle.gate_events.specs.soup_session.declared.port_fault.PortFault.{PortFault}
+use Rattle.gate_events.specs.soup_session.declared.port_fault.PortFault.TheVariants as port_faults
+use Rattle.gate_events.specs.soup_session.Faults.{fault_number}
 use Rattle.soup_packets.specs.declared.packet.Packet.{Packet}
 use Rattle.soup_packets.specs.Spelling.{packet_bytes}
-use Rattle.gate_law.specs.Events.{Batch, LinkOut, Write, Close, is_for_client, is_for_port}
+use Rattle.gate_events.specs.gate_law.Events.{Batch, LinkOut, Write, Close, is_for_client, is_for_port}
 use Rattle.gate_events.specs.declared.event.Event.{Event}
 use Rattle.gate_events.specs.declared.event.Event.TheVariants as events
 use Rattle.journal_pages.specs.declared.kind.RecordKind.{RecordKind}
@@ -21,8 +22,10 @@ use Rattle.journal_pages.specs.declared.kind.RecordKind.TheVariants as kinds
 use Rattle.journal_pages.specs.Ordered.{AreWritable, IsWritable}
 use Rattle.journal_pages.specs.Record.{Record, is_fault_number, is_packet, is_sound, longest_frame, payload_limit}
 use Rattle.journal_records.specs.Events.{AreItsFields, event_record, record_with}
-use Rattle.journal_records.specs.Parts.{batch_records, client_records, end_record, fault_records, named_number, out_record, port_records, report_record, turn_records}
-use Rattle.journal_records.specs.Whole.{AreReports, Each, IsFitBatch, IsFrame, IsFromOne, IsShortOut, IsShortReport, IsTurn, IsWholeBatch}
+use Rattle.journal_records.specs.Parts.{batch_records, client_records, end_record, fault_records, named_number}
+use Rattle.journal_records.specs.Parts.{out_record, port_records, report_record, turn_records}
+use Rattle.journal_records.specs.Whole.{AreReports, Each, IsFitBatch, IsFrame, IsFromOne, IsShortOut, IsShortReport}
+use Rattle.journal_records.specs.Whole.{IsTurn, IsWholeBatch}
 
 -- ---- tests
 

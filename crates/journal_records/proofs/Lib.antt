@@ -7,3 +7,4 @@ mod Parting
 pub mod Rows
 pub mod Said
 mod Told
+pub use Rattle.journal_days.proofs as journal_days

@@ -1,10 +1,11 @@
 -- Parts of a batch, one at a time.
-use Rattle.std.proofs.Common.{◌≡◌, ◌<◌, ℕ, true, false, Bool, Some, None, List, [], ◌∷◌, length, refl, sym, ap, subst, ◌∙◌}
+use Rattle.std.proofs.Common.{◌≡◌, ◌<◌, ℕ, true, false, Bool, Some, None, List, [], ◌∷◌, length, refl, sym, ap, subst}
+use Rattle.std.proofs.Common.{◌∙◌}
 use Rattle.std.specs.Prelude.{if◌then◌else◌}
-use Rattle.fix_fields.specs.Field.{fields_text}
-use Rattle.fix_fields.specs.Reading.{fields_of}
+use Rattle.journal_pages.specs.fix_fields.Field.{fields_text}
+use Rattle.journal_pages.specs.fix_fields.Reading.{fields_of}
 use Rattle.std.specs.Option.{is_some}
-use Rattle.fix_fields.specs.Printed.{PrintsFields, fields_in, prints_fields}
+use Rattle.journal_pages.specs.fix_fields.Printed.{PrintsFields, fields_in, prints_fields}
 use Rattle.journal_pages.specs.declared.kind.RecordKind.{RecordKind}
 use Rattle.journal_pages.specs.declared.kind.RecordKind.TheVariants as kinds
 use Rattle.journal_pages.specs.Record.{Record, is_sound, payload_fits}

@@ -1,21 +1,24 @@
 -- An event's record is read as the event, and what is read as an event is written as it was read.
-use Rattle.std.proofs.Common.{◌≡◌, ◌<◌, ◌≤◌, ◌+◌, ◌*◌, ◌/◌, ◌%◌, ℕ, true, false, Bool, Option, Some, None, List, [], ◌∷◌, length, get_or, refl, sym, ap, subst, ◌∙◌, arith}
+use Rattle.std.proofs.Common.{◌≡◌, ◌<◌, ◌≤◌, ◌+◌, ◌*◌, ◌/◌, ◌%◌, ℕ, true, false, Bool, Option, Some, None, List, []}
+use Rattle.std.proofs.Common.{◌∷◌, length, get_or, refl, sym, ap, subst, ◌∙◌, arith}
 use Rattle.std.proofs.lemmas.Bool.{and_parts}
 use Rattle.std.proofs.lemmas.Bool.Decides.{nat_tests}
 use Rattle.std.specs.Option.{IfSome, is_some}
 use Rattle.std.specs.Prelude.{◌==◌, ◌&&◌, nat_le, nat_lt, unwrap_or, if◌then◌else◌}
 use Rattle.std.specs.Int.{w16, from_be_bytes}
-use Rattle.fix_fields.specs.Field.{Message, fields_text}
-use Rattle.fix_fields.specs.Reading.{fields_of}
-use Rattle.fix_fields.proofs.Reading.{fields_of-fields_text, fields_of-found}
+use Rattle.journal_pages.specs.fix_fields.Field.{Message, fields_text}
+use Rattle.journal_pages.specs.fix_fields.Reading.{fields_of}
+use Rattle.journal_pages.proofs.fix_fields.Reading.{fields_of-fields_text, fields_of-found}
 use Rattle.soup_packets.specs.declared.packet.Packet.{Packet}
 use Rattle.soup_packets.specs.Spelling.{IsWhole, packet_bytes}
 use Rattle.gate_events.specs.declared.event.Event.{Event}
 use Rattle.gate_events.specs.declared.event.Event.TheVariants as events
 use Rattle.journal_pages.specs.declared.kind.RecordKind.{RecordKind}
 use Rattle.journal_pages.specs.declared.kind.RecordKind.TheVariants as kinds
-use Rattle.journal_pages.specs.Record.{Record, is_packet, is_sound, link_fits, longest_frame, payload_fits, payload_limit, source_fits}
-use Rattle.journal_records.specs.Events.{AreItsFields, event_in, event_of_kind, event_record, payload_fields, payload_packet, record_with}
+use Rattle.journal_pages.specs.Record.{Record, is_packet, is_sound, link_fits, longest_frame, payload_fits}
+use Rattle.journal_pages.specs.Record.{payload_limit, source_fits}
+use Rattle.journal_records.specs.Events.{AreItsFields, event_in, event_of_kind, event_record, payload_fields}
+use Rattle.journal_records.specs.Events.{payload_packet, record_with}
 
 -- ---- written, then read
 

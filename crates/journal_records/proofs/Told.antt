@@ -1,19 +1,23 @@
 -- The records of a batch say this batch, whatever follows.
-use Rattle.std.proofs.Common.{◌≡◌, ◌≤◌, ℕ, true, false, Bool, Option, Some, None, List, [], ◌∷◌, ◌++◌, length, refl, sym, ap, ◌∙◌, arith, append_assoc, append-nil}
+use Rattle.std.proofs.Common.{◌≡◌, ◌≤◌, ℕ, true, false, Bool, Option, Some, None, List, [], ◌∷◌, ◌++◌, length, refl}
+use Rattle.std.proofs.Common.{sym, ap, ◌∙◌, arith, append_assoc, append-nil}
 use Rattle.std.proofs.lemmas.Bool.Decides.{nat_tests}
 use Rattle.std.specs.Option.{is_some}
 use Rattle.std.specs.Prelude.{◌==◌, ◌&&◌, not, map, unwrap_or, if◌then◌else◌}
-use Rattle.fix_fields.specs.Field.{AreFields, Message, fields_text}
-use Rattle.fix_fields.proofs.Reading.{fields_of-fields_text}
-use Rattle.soup_session.specs.declared.port_fault.PortFault.{PortFault}
-use Rattle.soup_session.specs.declared.port_fault.PortFault.TheVariants as port_faults
-use Rattle.soup_session.specs.Faults.{fault_number}
-use Rattle.gate_law.specs.Events.{Batch, LinkOut, Write, Close}
+use Rattle.journal_pages.specs.fix_fields.Field.{AreFields, Message, fields_text}
+use Rattle.journal_pages.proofs.fix_fields.Reading.{fields_of-fields_text}
+use Rattle.gate_events.specs.soup_session.declared.port_fault.PortFault.{PortFault}
+use Rattle.gate_events.specs.soup_session.declared.port_fault.PortFault.TheVariants as port_faults
+use Rattle.gate_events.specs.soup_session.Faults.{fault_number}
+use Rattle.gate_events.specs.gate_law.Events.{Batch, LinkOut, Write, Close}
 use Rattle.journal_pages.specs.declared.kind.RecordKind.TheVariants as kinds
 use Rattle.journal_pages.specs.Record.{Record}
 use Rattle.journal_records.specs.Events.{payload_fields}
-use Rattle.journal_records.specs.Parts.{batch_records, end_record, fault_records, named_number, out_record, report_record}
-use Rattle.journal_records.specs.Reading.{BatchSaid, batch_in, batch_said, behind_parts, nothing_said, or_one, fault_in_payload, parts_said, saying_client_out, saying_fault, saying_port_out, saying_report}
+use Rattle.journal_records.specs.Parts.{batch_records, end_record, fault_records, named_number, out_record}
+use Rattle.journal_records.specs.Parts.{report_record}
+use Rattle.journal_records.specs.Reading.{BatchSaid, batch_in, batch_said, behind_parts, nothing_said, or_one}
+use Rattle.journal_records.specs.Reading.{fault_in_payload, parts_said, saying_client_out, saying_fault}
+use Rattle.journal_records.specs.Reading.{saying_port_out, saying_report}
 use Rattle.journal_records.specs.Whole.{AreReports, IsFromOne, IsWholeBatch}
 
 -- ---- records one behind another, as they are said

@@ -1,8 +1,8 @@
 -- The record of an event, and the event that a record says. What a text and a packet are is said by FIX 4.4 Volume 1,
 -- "FIX Tag=Value Syntax", and SoupBinTCP 3.00, "Logical Packets".
 use Rattle.std.specs.Prelude.{ℕ, ◌==◌, List, [], drop, slice_index, Option, Some, None, unwrap_or, if◌then◌else◌}
-use Rattle.fix_fields.specs.Field.{AreFields, Message, fields_text}
-use Rattle.fix_fields.specs.Reading.{fields_of}
+use Rattle.journal_pages.specs.fix_fields.Field.{AreFields, Message, fields_text}
+use Rattle.journal_pages.specs.fix_fields.Reading.{fields_of}
 use Rattle.soup_packets.specs.declared.packet.Packet.{Packet}
 use Rattle.soup_packets.specs.Spelling.{packet_bytes}
 use Rattle.gate_events.specs.declared.event.Event.{Event}

@@ -10,3 +10,4 @@ pub use Rattle.journal_days.specs.Left
 pub use Rattle.journal_pages.specs.Ordered
 pub use Rattle.journal_pages.specs.Record
 pub use Rattle.journal_pages.specs.Seen
+pub use Rattle.journal_days.specs as journal_days

@@ -1,8 +1,7 @@
-use journal_pages::{Page, PageFault};
+use journal_pages::{Page, PageFault, WholeWire};
 use std::alloc::Global;
 use std::process::Abort;
 use std::test::Fail;
-use wire_law::WholeWire;
 
 /// Client 1's link 1 is up at moment 0, and its batch is empty.
 const ONE_UP: &[u8; 50] = b"GJ01\

@@ -1,18 +1,23 @@
 -- The next frame of a client's link, and the events of its frames.
-use Rattle.std.proofs.Common.{◌≡◌, ℕ, zero, suc, ◌+◌, ◌-◌, ◌<◌, ◌≤◌, ◌⊎◌, inl, inr, ◌++◌, Bool, true, false, List, [], ◌∷◌, length, take, Option, Some, None, Ok, Err, refl, sym, ◌∙◌, ap, subst, append-nil, arith, nat_lt}
+use Rattle.std.proofs.Common.{◌≡◌, ℕ, zero, suc, ◌+◌, ◌-◌, ◌<◌, ◌≤◌, ◌⊎◌, inl, inr, ◌++◌, Bool, true, false, List, []}
+use Rattle.std.proofs.Common.{◌∷◌, length, take, Option, Some, None, Ok, Err, refl, sym, ◌∙◌, ap, subst, append-nil}
+use Rattle.std.proofs.Common.{arith, nat_lt}
 use Rattle.std.proofs.lemmas.List.{length-take}
 use Rattle.std.proofs.lemmas.Bool.Decides.{nat_tests}
-use Rattle.gate_law.specs.Events.{Event, ClientMessage}
-use Rattle.fix_fields.specs.Field.{Field, Message, fields_text}
-use Rattle.fix_fields.specs.Reading.{fields_of}
-use Rattle.fix_fields.proofs.Reading.{fields_of-found}
-use Rattle.fix_fields.specs.View.{lent_fields}
-use Rattle.fix_fields.specs.declared.view.FieldsView.{FieldsView}
+use Rattle.gate_events.specs.gate_law.Events.{Event, ClientMessage}
+use Rattle.fix_framing.specs.fix_fields.Field.{Field, Message, fields_text}
+use Rattle.fix_framing.specs.fix_fields.Reading.{fields_of}
+use Rattle.fix_framing.proofs.fix_fields.Reading.{fields_of-found}
+use Rattle.fix_framing.specs.fix_fields.View.{lent_fields}
+use Rattle.fix_framing.specs.fix_fields.declared.view.FieldsView.{FieldsView}
 use Rattle.fix_framing.specs.declared.frame_fault.FrameFault.{FrameFault}
 use Rattle.fix_framing.specs.declared.frame_fault.FrameFault.TheVariants as fault
 use Rattle.fix_framing.specs.Front.{LendsFrame}
 use Rattle.fix_framing.specs.Frame.{trailer_size}
-use Rattle.fix_framing.specs.Stream.{Start, Head, LessThanHead, NoHead, Place, Frame, Skipped, Waiting, TooLong, place, place_of, place_of_head, framed_by, is_whole, parts, parts_behind, parts_of, StreamParts, End, Rest, Over, left, longest, Passed, PassesFrame, Sought, ReaderStanding, start}
+use Rattle.fix_framing.specs.Stream.{Start, Head, LessThanHead, NoHead, Place, Frame, Skipped, Waiting, TooLong, place}
+use Rattle.fix_framing.specs.Stream.{place_of, place_of_head, framed_by, is_whole, parts, parts_behind, parts_of}
+use Rattle.fix_framing.specs.Stream.{StreamParts, End, Rest, Over, left, longest, Passed, PassesFrame, Sought}
+use Rattle.fix_framing.specs.Stream.{ReaderStanding, start}
 use Rattle.link_io.specs.declared.link_fault.LinkFault.TheVariants.{Malformed, NoMemory}
 use Rattle.link_io.specs.Decoding.{BringFrames, FramesOfLink, MadeOfFrames, NextFrame}
 

@@ -1,15 +1,19 @@
 -- Steps of a reader, one after another.
-use Rattle.std.proofs.Common.{◌≡◌, ℕ, ◌≤◌, ◌++◌, Bool, true, false, List, [], ◌∷◌, length, Option, Some, None, Result, Ok, Err, refl, sym, ◌∙◌, ap, subst, append_assoc, append-nil, arith}
+use Rattle.std.proofs.Common.{◌≡◌, ℕ, ◌≤◌, ◌++◌, Bool, true, false, List, [], ◌∷◌, length, Option, Some, None, Result}
+use Rattle.std.proofs.Common.{Ok, Err, refl, sym, ◌∙◌, ap, subst, append_assoc, append-nil, arith}
 use Rattle.std.specs.Result.{IsErrAnd}
 use Rattle.std.specs.Io.KnownBytes.{Consumes}
 use Rattle.std.proofs.KnownBytes.{Consumes-nil, Consumes-kept}
-use Rattle.gate_law.specs.Events as law
+use Rattle.gate_events.specs.gate_law.Events as law
 use Rattle.link_io.specs.declared.limit.Limit.{Limit}
 use Rattle.link_io.specs.declared.link_fault.LinkFault.{LinkFault}
-use Rattle.link_io.specs.declared.link_fault.LinkFault.TheVariants.{ReadFailed, WriteFailed, Malformed, StepLimit, NoMemory}
+use Rattle.link_io.specs.declared.link_fault.LinkFault.TheVariants.{ReadFailed, WriteFailed, Malformed, StepLimit}
+use Rattle.link_io.specs.declared.link_fault.LinkFault.TheVariants.{NoMemory}
 use Rattle.link_io.specs.declared.progress.Progress.{Progress}
 use Rattle.link_io.specs.declared.progress.Progress.TheVariants.{Read, Ended, Held}
-use Rattle.link_io.specs.Reading.{Reading, AreAt, Gave, ComesFirst, Goes, GoesThrough, Offers, offered_list, FeedsPiece, MakesNext, Feeds, Stays, MadeAll, SaysPut, HasPut, Puts, SaysRead, Reads, Fills}
+use Rattle.link_io.specs.Reading.{Reading, AreAt, Gave, ComesFirst, Goes, GoesThrough, Offers, offered_list}
+use Rattle.link_io.specs.Reading.{FeedsPiece, MakesNext, Feeds, Stays, MadeAll, SaysPut, HasPut, Puts, SaysRead, Reads}
+use Rattle.link_io.specs.Reading.{Fills}
 
 -- what a `?` hands on
 pub read_err : (r : Result Progress LinkFault) (fault : LinkFault) → IsErrAnd r (λ (e : LinkFault). e ≡ fault) → r ≡ Err fault

@@ -1,8 +1,9 @@
 -- Lists that are joined and taken, one after another.
-use Rattle.std.proofs.Common.{◌≡◌, ℕ, ◌==◌, ◌++◌, Bool, true, false, not, ◌||◌, List, [], ◌∷◌, length, refl, sym, ◌∙◌, ap, subst, append_assoc, append-nil, arith, Option, Some, Result, Ok, Err}
+use Rattle.std.proofs.Common.{◌≡◌, ℕ, ◌==◌, ◌++◌, Bool, true, false, not, ◌||◌, List, [], ◌∷◌, length, refl, sym, ◌∙◌}
+use Rattle.std.proofs.Common.{ap, subst, append_assoc, append-nil, arith, Option, Some, Result, Ok, Err}
 use Rattle.std.proofs.lemmas.Bool.Decides.{nat_tests}
 use Rattle.std.proofs.lemmas.List.{length-append}
-use Rattle.gate_law.specs.Events.{LinkOut}
+use Rattle.gate_events.specs.gate_law.Events.{LinkOut}
 use Rattle.gate_events.specs.Links.{is_link_closed}
 use Rattle.std.specs.Result.{IsErrAnd}
 use Rattle.std.specs.Io.KnownBytes.{Appends}
@@ -10,8 +11,10 @@ use Rattle.std.proofs.KnownBytes.{Appends-nil}
 use Rattle.link_io.specs.declared.limit.Limit.{Limit}
 use Rattle.link_io.specs.declared.writer.Wrote.{Wrote}
 use Rattle.link_io.specs.declared.link_fault.LinkFault.{LinkFault}
-use Rattle.link_io.specs.declared.link_fault.LinkFault.TheVariants.{ReadFailed, WriteFailed, Malformed, StepLimit, NoMemory}
-use Rattle.link_io.specs.Writing.{WriterState, unwritten, link_bytes, lists_bytes, do_close, Joins, TakesList, Refills, Sends, Tells, Writes}
+use Rattle.link_io.specs.declared.link_fault.LinkFault.TheVariants.{ReadFailed, WriteFailed, Malformed, StepLimit}
+use Rattle.link_io.specs.declared.link_fault.LinkFault.TheVariants.{NoMemory}
+use Rattle.link_io.specs.Writing.{WriterState, unwritten, link_bytes, lists_bytes, do_close, Joins, TakesList, Refills}
+use Rattle.link_io.specs.Writing.{Sends, Tells, Writes}
 
 pub joins_none : (a : WriterState) → Joins a a
 joins_none a = record { whole = refl; number = refl; link = refl; is_taken = refl; is_closing = refl; limit = refl }

@@ -1,14 +1,13 @@
 //! The frames of a client's link, as events.
 
 ghost use Rattle.std.specs.Prelude.{◌≡◌, ◌≤◌, ◌+◌, ◌++◌, ◌∷◌, [], ℕ, List, length, OnOk, OnErr, IfOk};
-ghost use Rattle.fix_fields.specs.Field.{Field, fields_text};
+ghost use Rattle.fix_framing.specs.fix_fields.Field.{Field, fields_text};
 ghost use Rattle.fix_framing.specs.Stream.{Passed, left, longest};
 ghost use Rattle.link_io.specs.Decoding.{NextFrame};
 
 use crate::decoder::Decoder;
 use crate::link_fault::LinkFault;
-use fix_fields::Fields;
-use fix_framing::Framer;
+use fix_framing::{Fields, Framer};
 use gate_events::{ClientFrame, ClientNumber, Event};
 use std::alloc::{AllocError, Global};
 use std::marker::Model;

@@ -1,6 +1,6 @@
 //! The clock of a worker: the system's, and a pause.
 
-use gate_workers::Clock;
+use gate_serving::Clock;
 use std::thread;
 use std::time::{self, Duration};
 

@@ -4,7 +4,7 @@ use Rattle.std.proofs.Props.{props}
 use mathlib.Core.HLevel.{Σ_prop_path}
 use Rattle.ouch_codec.specs.declared.inbound.enter_order.EnterOrder.{EnterOrder}
 use Rattle.ouch_codec.specs.declared.inbound.replace.Replace.{Replace}
-use Rattle.order_law.specs.declared.trade.Trade.{Trade}
+use Rattle.market_law.specs.order_law.declared.trade.Trade.{Trade}
 use Rattle.market_law.specs.Machine.{BookOrder}
 
 abbrev Fit : ℕ → Type 0

@@ -3,13 +3,12 @@
 ghost use Rattle.std.specs.Prelude.{◌≡◌, ◌≤◌, ◌<◌, ◌+◌, ◌^◌, ◌*◌, OnOk, OnErr};
 ghost use Rattle.std.specs.List.{find, list_any};
 ghost use Rattle.std.specs.Prelude.{map};
-ghost use Rattle.order_law.specs.Life.{stands_as};
-ghost use Rattle.order_law.specs.Life.{marked as law_marked};
+ghost use Rattle.market_law.specs.order_law.Life.{stands_as};
+ghost use Rattle.market_law.specs.order_law.Life.{marked as law_marked};
 ghost use Rattle.market_law.specs.Machine as law;
 ghost use Rattle.market_law.specs.Numbers.{shares-fit};
 
-use market_law::Trading;
-use order_law::Trade;
+use market_law::{Trade, Trading};
 use ouch_codec::{EnterOrder, OrderState, Replace};
 use std::alloc::{AllocError, Global};
 use std::marker::Model;

@@ -1,23 +1,27 @@
 -- Each move of the machine keeps it: what it says of an order is what becomes of the order's chain.
-use Rattle.std.proofs.Common.{◌≡◌, ◌≢◌, ℕ, ◌-◌, ◌≤◌, Bool, true, false, List, [], ◌∷◌, refl, ap, ◌∙◌, subst, bytes_eq, suc, nat_le, ◌<◌, ◌^◌, Option, Some, None, inl, inr, ⊎_elim, arith, nat_lt, ◌==◌}
+use Rattle.std.proofs.Common.{◌≡◌, ◌≢◌, ℕ, ◌-◌, ◌≤◌, Bool, true, false, List, [], ◌∷◌, refl, ap, ◌∙◌, subst, bytes_eq}
+use Rattle.std.proofs.Common.{suc, nat_le, ◌<◌, ◌^◌, Option, Some, None, inl, inr, ⊎_elim, arith, nat_lt, ◌==◌}
 use Rattle.std.specs.Prelude.{◌||◌, if◌then◌else◌}
 use Rattle.std.specs.List.{list_any, find}
 use Rattle.std.proofs.lemmas.Bool.Decides.{nat_tests}
 use Rattle.order_law.specs.declared.stage.Stage.{Stage}
 use Rattle.order_law.specs.declared.stage.Stage.TheVariants.{Working, Closed}
 use Rattle.order_law.specs.declared.trade.Trade.{Trade}
-use Rattle.order_law.specs.Life.{traded as traded_life, decreased, broken, opened as opened_life, first_token, stands_as, is_dead}
+use Rattle.order_law.specs.Life.{traded as traded_life, decreased, broken, opened as opened_life, first_token}
+use Rattle.order_law.specs.Life.{stands_as, is_dead}
 use Rattle.order_law.specs.Life.{after, life}
-use Rattle.ouch_codec.specs.declared.order_state.OrderState.{OrderState}
-use Rattle.ouch_codec.specs.declared.order_state.OrderState.TheVariants.{Live, Dead}
-use Rattle.ouch_codec.specs.declared.inbound.replace.Replace.{Replace}
-use Rattle.ouch_codec.specs.declared.outbound.Outbound.{Outbound}
+use Rattle.order_law.specs.ouch_codec.declared.order_state.OrderState.{OrderState}
+use Rattle.order_law.specs.ouch_codec.declared.order_state.OrderState.TheVariants.{Live, Dead}
+use Rattle.order_law.specs.ouch_codec.declared.inbound.replace.Replace.{Replace}
+use Rattle.order_law.specs.ouch_codec.declared.outbound.Outbound.{Outbound}
 use Rattle.market_law.specs.declared.choice.Trading.{Trading}
 use Rattle.market_law.specs.Messages.{canceled, executed, replaced_by}
-use Rattle.market_law.specs.Machine.{Machine, BookOrder, is_token_used, use_token, is_live_as, with_live_order, change, opened_in_book, taken_off, moved, traded_in_book, broken_off, tokens_of, live_of}
+use Rattle.market_law.specs.Machine.{Machine, BookOrder, is_token_used, use_token, is_live_as, with_live_order, change}
+use Rattle.market_law.specs.Machine.{opened_in_book, taken_off, moved, traded_in_book, broken_off, tokens_of, live_of}
 use Rattle.market_law.specs.Run.{life_in_book}
 use Rattle.market_law.proofs.Basics.{Each, eq-is, or-false, or-case, or-right, and-parts, each-all, each-parts}
-use Rattle.market_law.proofs.Sound.{holds, is_match, IsChain, IsSound, Split, split, changed-Sound, filled, live-is, live-in}
+use Rattle.market_law.proofs.Sound.{holds, is_match, IsChain, IsSound, Split, split, changed-Sound, filled, live-is}
+use Rattle.market_law.proofs.Sound.{live-in}
 
 -- ---- lives of chains
 

@@ -1,22 +1,28 @@
 -- Each token is used once, and no order comes to more than what was asked for it.
-use Rattle.std.proofs.Common.{◌≡◌, ℕ, zero, suc, ◌-◌, ◌≤◌, ◌^◌, Bool, true, false, List, [], ◌∷◌, refl, sym, subst, Option, Some, None, ⊎_elim, arith, nat_lt, nat_le, ◌==◌}
+use Rattle.std.proofs.Common.{◌≡◌, ℕ, zero, suc, ◌-◌, ◌≤◌, ◌^◌, Bool, true, false, List, [], ◌∷◌, refl, sym, subst}
+use Rattle.std.proofs.Common.{Option, Some, None, ⊎_elim, arith, nat_lt, nat_le, ◌==◌}
 use Rattle.std.specs.Prelude.{if◌then◌else◌}
 use Rattle.std.specs.List.{list_any, find}
 use Rattle.std.proofs.lemmas.Bool.Decides.{nat_tests}
-use Rattle.ouch_codec.specs.declared.inbound.Inbound.{Inbound}
-use Rattle.ouch_codec.specs.declared.inbound.Inbound.TheVariants as asked
-use Rattle.ouch_codec.specs.declared.inbound.enter_order.EnterOrder.{EnterOrder}
-use Rattle.ouch_codec.specs.declared.inbound.replace.Replace.{Replace}
-use Rattle.ouch_codec.specs.declared.outbound.Outbound.{Outbound}
-use Rattle.ouch_codec.specs.declared.outbound.Outbound.TheVariants as market
-use Rattle.ouch_codec.specs.declared.order_state.OrderState.{OrderState}
-use Rattle.ouch_codec.specs.declared.order_state.OrderState.TheVariants.{Live, Dead}
+use Rattle.order_law.specs.ouch_codec.declared.inbound.Inbound.{Inbound}
+use Rattle.order_law.specs.ouch_codec.declared.inbound.Inbound.TheVariants as asked
+use Rattle.order_law.specs.ouch_codec.declared.inbound.enter_order.EnterOrder.{EnterOrder}
+use Rattle.order_law.specs.ouch_codec.declared.inbound.replace.Replace.{Replace}
+use Rattle.order_law.specs.ouch_codec.declared.outbound.Outbound.{Outbound}
+use Rattle.order_law.specs.ouch_codec.declared.outbound.Outbound.TheVariants as market
+use Rattle.order_law.specs.ouch_codec.declared.order_state.OrderState.{OrderState}
+use Rattle.order_law.specs.ouch_codec.declared.order_state.OrderState.TheVariants.{Live, Dead}
 use Rattle.order_law.specs.declared.trade.Trade.{Trade}
 use Rattle.order_law.specs.Life.{stands_as}
 use Rattle.market_law.specs.declared.choice.Choice.TheVariants as choose
 use Rattle.market_law.specs.Messages.{canceled}
 use Rattle.market_law.specs.Numbers.{shares-fit, less-than-most}
-use Rattle.market_law.specs.Machine.{Machine, BookOrder, Step, is_token_used, is_live_as, change, with_live_order, taken_off, moved, traded_in_book, has_trade, broken_off, without, cancel_all, move, ToEnter, Takes, Rejects, to_enter, ToReplace, Replaces, TakesOff, Keeps, to_replace, ToCancel, Cancels, Waits, Denies, to_cancel, enter, replace, replace_on, cancel, cancel_on, live_order, live_of, is_open_for, trade_by, trade_on, take_off_on, break_on, says_nothing, saying, tokens_of}
+use Rattle.market_law.specs.Machine.{Machine, BookOrder, Step, is_token_used, is_live_as, change, with_live_order}
+use Rattle.market_law.specs.Machine.{taken_off, moved, traded_in_book, has_trade, broken_off, without, cancel_all}
+use Rattle.market_law.specs.Machine.{move, ToEnter, Takes, Rejects, to_enter, ToReplace, Replaces, TakesOff, Keeps}
+use Rattle.market_law.specs.Machine.{to_replace, ToCancel, Cancels, Waits, Denies, to_cancel, enter, replace}
+use Rattle.market_law.specs.Machine.{replace_on, cancel, cancel_on, live_order, live_of, is_open_for, trade_by}
+use Rattle.market_law.specs.Machine.{trade_on, take_off_on, break_on, says_nothing, saying, tokens_of}
 use Rattle.market_law.specs.Run.{Move, Comes, Acts, moves, ran}
 use Rattle.market_law.specs.Said.{names, IsSaid, EachSaid}
 use Rattle.market_law.specs.Moves.{IsKnown, IsSmall, IsWithin, times}

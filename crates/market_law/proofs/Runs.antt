@@ -1,27 +1,35 @@
 -- Whatever the machine is asked and chooses, its books are the lives of what it said.
-use Rattle.std.proofs.Common.{◌≡◌, ℕ, zero, suc, ◌-◌, ◌≤◌, ◌^◌, Bool, true, false, List, [], ◌∷◌, ◌++◌, map, refl, ap, ◌∙◌, subst, bytes_eq, Option, Some, None, inl, ⊎_elim, arith, ◌==◌, nat_lt}
+use Rattle.std.proofs.Common.{◌≡◌, ℕ, zero, suc, ◌-◌, ◌≤◌, ◌^◌, Bool, true, false, List, [], ◌∷◌, ◌++◌, map, refl, ap}
+use Rattle.std.proofs.Common.{◌∙◌, subst, bytes_eq, Option, Some, None, inl, ⊎_elim, arith, ◌==◌, nat_lt}
 use Rattle.std.specs.Prelude.{◌||◌, if◌then◌else◌}
 use Rattle.std.specs.List.{find}
 use Rattle.std.proofs.lemmas.Bool.Decides.{nat_tests}
-use Rattle.ouch_codec.specs.declared.inbound.Inbound.{Inbound}
-use Rattle.ouch_codec.specs.declared.inbound.Inbound.TheVariants as asked
-use Rattle.ouch_codec.specs.declared.inbound.enter_order.EnterOrder.{EnterOrder}
-use Rattle.ouch_codec.specs.declared.inbound.replace.Replace.{Replace}
-use Rattle.ouch_codec.specs.declared.outbound.Outbound.{Outbound}
-use Rattle.ouch_codec.specs.declared.order_state.OrderState.{OrderState}
-use Rattle.ouch_codec.specs.declared.order_state.OrderState.TheVariants.{Live, Dead}
+use Rattle.order_law.specs.ouch_codec.declared.inbound.Inbound.{Inbound}
+use Rattle.order_law.specs.ouch_codec.declared.inbound.Inbound.TheVariants as asked
+use Rattle.order_law.specs.ouch_codec.declared.inbound.enter_order.EnterOrder.{EnterOrder}
+use Rattle.order_law.specs.ouch_codec.declared.inbound.replace.Replace.{Replace}
+use Rattle.order_law.specs.ouch_codec.declared.outbound.Outbound.{Outbound}
+use Rattle.order_law.specs.ouch_codec.declared.order_state.OrderState.{OrderState}
+use Rattle.order_law.specs.ouch_codec.declared.order_state.OrderState.TheVariants.{Live, Dead}
 use Rattle.order_law.specs.declared.trade.Trade.{Trade}
 use Rattle.order_law.specs.Life.{Life, born, opened as opened_life, stands_as, marked, after, life, is_dead}
 use Rattle.market_law.specs.declared.choice.Breaking.{Breaking}
 use Rattle.market_law.specs.declared.choice.Choice.{Choice}
 use Rattle.market_law.specs.declared.choice.Choice.TheVariants as choose
 use Rattle.market_law.specs.declared.choice.Letter.{Letter}
-use Rattle.market_law.specs.Messages.{Token, canceled, accepted_by, rejected, broken_trade, entered_token, to_token, cancel_pending, cancel_reject, system_event}
+use Rattle.market_law.specs.Messages.{Token, canceled, accepted_by, rejected, broken_trade, entered_token, to_token}
+use Rattle.market_law.specs.Messages.{cancel_pending, cancel_reject, system_event}
 use Rattle.market_law.specs.Numbers.{shares-fit, some-shares, is-less, less-than-most}
-use Rattle.market_law.specs.Machine.{Machine, BookOrder, Step, is_token_used, use_token, change, with_live_order, opened_in_book, unopened, taken_off, has_trade, broken_off, without, accept, move, ToEnter, Takes, Rejects, to_enter, ToReplace, Replaces, TakesOff, Keeps, to_replace, ToCancel, Cancels, Waits, Denies, to_cancel, enter, replace, replace_on, cancel, cancel_on, live_order, live_of, inbound, act, is_open_for, trade_by, trade_on, take_off_on, break_on, says_nothing, saying}
+use Rattle.market_law.specs.Machine.{Machine, BookOrder, Step, is_token_used, use_token, change, with_live_order}
+use Rattle.market_law.specs.Machine.{opened_in_book, unopened, taken_off, has_trade, broken_off, without, accept, move}
+use Rattle.market_law.specs.Machine.{ToEnter, Takes, Rejects, to_enter, ToReplace, Replaces, TakesOff, Keeps}
+use Rattle.market_law.specs.Machine.{to_replace, ToCancel, Cancels, Waits, Denies, to_cancel, enter, replace}
+use Rattle.market_law.specs.Machine.{replace_on, cancel, cancel_on, live_order, live_of, inbound, act, is_open_for}
+use Rattle.market_law.specs.Machine.{trade_by, trade_on, take_off_on, break_on, says_nothing, saying}
 use Rattle.market_law.specs.Run.{life_in_book, Move, Comes, Acts, moves, ran}
 use Rattle.market_law.proofs.Basics.{Each, eq-same, eq-is, not-both, is-false, or-false, or-case, or-right, each-all}
-use Rattle.market_law.proofs.Sound.{holds, IsApart, vacant, is_match, IsChain, IsSound, IsAbout, untouched, vacant-untouched, split, changed-Sound, filled, live-in}
+use Rattle.market_law.proofs.Sound.{holds, IsApart, vacant, is_match, IsChain, IsSound, IsAbout, untouched}
+use Rattle.market_law.proofs.Sound.{vacant-untouched, split, changed-Sound, filled, live-in}
 use Rattle.market_law.proofs.Books.{off-Sound, traded-Sound, moved-Sound, broken-lived}
 
 -- ---- what changes no life

@@ -1,16 +1,18 @@
 -- Whatever the machine is asked and chooses, each message that it says is lawful of the life that it said before.
-use Rattle.std.proofs.Common.{◌≡◌, ℕ, zero, suc, ◌-◌, ◌≤◌, ◌<◌, ◌^◌, Bool, true, false, List, [], ◌∷◌, ◌++◌, refl, sym, ap, ◌∙◌, subst, bytes_eq, Option, Some, None, inl, inr, ⊎_elim, arith, nat_lt, nat_le, ◌==◌}
+use Rattle.std.proofs.Common.{◌≡◌, ℕ, zero, suc, ◌-◌, ◌≤◌, ◌<◌, ◌^◌, Bool, true, false, List, [], ◌∷◌, ◌++◌, refl, sym}
+use Rattle.std.proofs.Common.{ap, ◌∙◌, subst, bytes_eq, Option, Some, None, inl, inr, ⊎_elim, arith, nat_lt, nat_le}
+use Rattle.std.proofs.Common.{◌==◌}
 use Rattle.std.specs.Prelude.{◌&&◌, ◌||◌, if◌then◌else◌}
 use Rattle.std.specs.List.{list_any, find}
 use Rattle.std.proofs.lemmas.Bool.Decides.{nat_tests}
-use Rattle.ouch_codec.specs.declared.inbound.Inbound.{Inbound}
-use Rattle.ouch_codec.specs.declared.inbound.Inbound.TheVariants as asked
-use Rattle.ouch_codec.specs.declared.inbound.enter_order.EnterOrder.{EnterOrder}
-use Rattle.ouch_codec.specs.declared.inbound.replace.Replace.{Replace}
-use Rattle.ouch_codec.specs.declared.outbound.Outbound.{Outbound}
-use Rattle.ouch_codec.specs.declared.outbound.replaced.Replaced.{Replaced}
-use Rattle.ouch_codec.specs.declared.order_state.OrderState.{OrderState}
-use Rattle.ouch_codec.specs.declared.order_state.OrderState.TheVariants.{Live, Dead}
+use Rattle.order_law.specs.ouch_codec.declared.inbound.Inbound.{Inbound}
+use Rattle.order_law.specs.ouch_codec.declared.inbound.Inbound.TheVariants as asked
+use Rattle.order_law.specs.ouch_codec.declared.inbound.enter_order.EnterOrder.{EnterOrder}
+use Rattle.order_law.specs.ouch_codec.declared.inbound.replace.Replace.{Replace}
+use Rattle.order_law.specs.ouch_codec.declared.outbound.Outbound.{Outbound}
+use Rattle.order_law.specs.ouch_codec.declared.outbound.replaced.Replaced.{Replaced}
+use Rattle.order_law.specs.ouch_codec.declared.order_state.OrderState.{OrderState}
+use Rattle.order_law.specs.ouch_codec.declared.order_state.OrderState.TheVariants.{Live, Dead}
 use Rattle.order_law.specs.declared.trade.Trade.{Trade}
 use Rattle.order_law.specs.Life.{Life, born, stands_as, is_working, life}
 use Rattle.order_law.specs.Lawful.{works_as, may_leave as life_may_leave}
@@ -18,9 +20,16 @@ use Rattle.market_law.specs.declared.choice.Choice.{Choice}
 use Rattle.market_law.specs.declared.choice.Choice.TheVariants as choose
 use Rattle.market_law.specs.declared.choice.Letter.{Letter}
 use Rattle.market_law.specs.declared.choice.Trading.{Trading}
-use Rattle.market_law.specs.Messages.{Token, canceled, executed, replaced_with, rejected, entered_token, to_token, cancel_pending, cancel_reject, system_event}
+use Rattle.market_law.specs.Messages.{Token, canceled, executed, replaced_with, rejected, entered_token, to_token}
+use Rattle.market_law.specs.Messages.{cancel_pending, cancel_reject, system_event}
 use Rattle.market_law.specs.Numbers.{shares-fit, some-shares, is-less, less-than-most}
-use Rattle.market_law.specs.Machine.{Machine, BookOrder, Step, is_token_used, change, with_live_order, opened_in_book, unopened, taken_off, moved, has_trade, broken_off, without, accept, reject_token, move, ToEnter, Takes, Rejects, to_enter, ToReplace, Replaces, TakesOff, Keeps, to_replace, ToCancel, Cancels, Waits, Denies, to_cancel, enter, replace, replace_on, cancel, cancel_on, live_order, live_of, inbound, act, is_open_for, trade_by, trade_on, take_off_on, break_on, says_nothing, saying, is_live_as, traded_in_book}
+use Rattle.market_law.specs.Machine.{Machine, BookOrder, Step, is_token_used, change, with_live_order, opened_in_book}
+use Rattle.market_law.specs.Machine.{unopened, taken_off, moved, has_trade, broken_off, without, accept, reject_token}
+use Rattle.market_law.specs.Machine.{move, ToEnter, Takes, Rejects, to_enter, ToReplace, Replaces, TakesOff, Keeps}
+use Rattle.market_law.specs.Machine.{to_replace, ToCancel, Cancels, Waits, Denies, to_cancel, enter, replace}
+use Rattle.market_law.specs.Machine.{replace_on, cancel, cancel_on, live_order, live_of, inbound, act, is_open_for}
+use Rattle.market_law.specs.Machine.{trade_by, trade_on, take_off_on, break_on, says_nothing, saying, is_live_as}
+use Rattle.market_law.specs.Machine.{traded_in_book}
 use Rattle.market_law.specs.Run.{life_in_book, Move, Comes, Acts, moves, ran}
 use Rattle.market_law.specs.Said.{is_new_match, names, OnOrder, OnReplace, OnTerms, IsSaid, EachSaid}
 pub use Rattle.market_law.specs.Moves.{IsKnown}

@@ -1,17 +1,19 @@
 -- What a machine and all that it said keep: the book of each chain is the life of what was said.
-use Rattle.std.proofs.Common.{◌≡◌, ◌≢◌, ℕ, Bool, true, false, List, [], ◌∷◌, ◌++◌, refl, sym, ap, ◌∙◌, subst, bytes_eq, Some, ◌⊎◌, ⊎_elim}
+use Rattle.std.proofs.Common.{◌≡◌, ◌≢◌, ℕ, Bool, true, false, List, [], ◌∷◌, ◌++◌, refl, sym, ap, ◌∙◌, subst, bytes_eq}
+use Rattle.std.proofs.Common.{Some, ◌⊎◌, ⊎_elim}
 use Rattle.std.specs.Prelude.{if◌then◌else◌, nat_le}
 use Rattle.std.specs.List.{list_any, find}
 use Rattle.order_law.specs.declared.stage.Stage.TheVariants.{Closed}
 use Rattle.order_law.specs.declared.trade.Trade.{Trade}
-use Rattle.ouch_codec.specs.declared.inbound.enter_order.EnterOrder.{EnterOrder}
-use Rattle.ouch_codec.specs.declared.inbound.replace.Replace.{Replace}
-use Rattle.ouch_codec.specs.declared.outbound.Outbound.{Outbound}
-use Rattle.ouch_codec.specs.declared.outbound.Outbound.TheVariants as market
+use Rattle.order_law.specs.ouch_codec.declared.inbound.enter_order.EnterOrder.{EnterOrder}
+use Rattle.order_law.specs.ouch_codec.declared.inbound.replace.Replace.{Replace}
+use Rattle.order_law.specs.ouch_codec.declared.outbound.Outbound.{Outbound}
+use Rattle.order_law.specs.ouch_codec.declared.outbound.Outbound.TheVariants as market
 use Rattle.order_law.specs.Life.{Life, born, first_token, is_of, is_live, after, life}
 use Rattle.market_law.specs.Machine.{Machine, BookOrder, is_token_used, change, tokens_by, tokens_of, live_of, live_by}
 use Rattle.market_law.specs.Run.{life_in_book}
-use Rattle.market_law.proofs.Basics.{Each, eq-same, eq-is, or-right, not-both, is-false, or-false, each-all, each-both, each-join, each-parts}
+use Rattle.market_law.proofs.Basics.{Each, eq-same, eq-is, or-right, not-both, is-false, or-false, each-all, each-both}
+use Rattle.market_law.proofs.Basics.{each-join, each-parts}
 
 abbrev pub holds : List ℕ → BookOrder → Bool
 holds t c = list_any (bytes_eq t) (tokens_of c)

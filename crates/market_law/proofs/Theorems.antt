@@ -2,7 +2,7 @@
 use Rattle.std.proofs.Common.{◌≡◌, ℕ, ◌≤◌, List, Option}
 use Rattle.order_law.specs.Headline.{Each}
 use Rattle.order_law.specs.Life.{life}
-use Rattle.ouch_codec.specs.declared.inbound.Inbound.{Inbound}
+use Rattle.order_law.specs.ouch_codec.declared.inbound.Inbound.{Inbound}
 use Rattle.market_law.specs.Machine.{BookOrder}
 use Rattle.market_law.specs.Run.{Move, life_in_book, ran}
 use Rattle.market_law.specs.Moves.{IsKnown, IsOneOf, IsSmall, IsWithin, times}

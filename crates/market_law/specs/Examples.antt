@@ -2,13 +2,13 @@
 -- stand in the order in which they happen, what is said the newest first.
 use Rattle.std.proofs.Common.{◌≡◌, ℕ, ◌<◌, ◌≤◌, ◌^◌, List, [], ◌∷◌, refl, arith}
 use Rattle.std.specs.Prelude.{codes, map, reverse, ◌++◌, slice_index}
-use Rattle.ouch_codec.specs.declared.inbound.Inbound.{Inbound}
-use Rattle.ouch_codec.specs.declared.inbound.Inbound.TheVariants as asked
-use Rattle.ouch_codec.specs.declared.inbound.enter_order.EnterOrder.{EnterOrder}
-use Rattle.ouch_codec.specs.declared.outbound.Outbound.{Outbound}
-use Rattle.ouch_codec.specs.declared.outbound.Outbound.TheVariants as market
-use Rattle.ouch_codec.specs.declared.side.Side.TheVariants.{Sell}
-use Rattle.ouch_codec.specs.Letters.{side_letter, order_state_letter}
+use Rattle.order_law.specs.ouch_codec.declared.inbound.Inbound.{Inbound}
+use Rattle.order_law.specs.ouch_codec.declared.inbound.Inbound.TheVariants as asked
+use Rattle.order_law.specs.ouch_codec.declared.inbound.enter_order.EnterOrder.{EnterOrder}
+use Rattle.order_law.specs.ouch_codec.declared.outbound.Outbound.{Outbound}
+use Rattle.order_law.specs.ouch_codec.declared.outbound.Outbound.TheVariants as market
+use Rattle.order_law.specs.ouch_codec.declared.side.Side.TheVariants.{Sell}
+use Rattle.order_law.specs.ouch_codec.Letters.{side_letter, order_state_letter}
 use Rattle.order_law.specs.Life.{life}
 use Rattle.market_law.specs.declared.choice.Choice.{Choice}
 use Rattle.market_law.specs.declared.choice.Choice.TheVariants as choose

@@ -5,3 +5,4 @@ pub mod Run
 pub mod Said
 pub mod Moves
 pub mod Examples
+pub use Rattle.order_law.specs as order_law

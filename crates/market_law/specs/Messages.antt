@@ -1,13 +1,13 @@
 -- What the market says, as the messages that the gateway reads. Its clock stands still, and it numbers no orders: each
 -- timestamp and each order reference is 0. (OUCH 4.2, "Outbound Messages".)
 use Rattle.std.specs.Prelude.{◌≡◌, ℕ, ◌<◌, ◌≤◌, ◌^◌, List, length, codes, slice_index, refl}
-use Rattle.wire_law.specs.Printable.{ArePrintable}
-use Rattle.ouch_codec.specs.declared.inbound.enter_order.EnterOrder.{EnterOrder}
-use Rattle.ouch_codec.specs.declared.inbound.replace.Replace.{Replace}
-use Rattle.ouch_codec.specs.declared.outbound.Outbound.{Outbound}
-use Rattle.ouch_codec.specs.declared.outbound.Outbound.TheVariants as market
-use Rattle.ouch_codec.specs.declared.outbound.replaced.Replaced.{Replaced}
-use Rattle.ouch_codec.specs.declared.order_state.OrderState.{OrderState}
+use Rattle.order_law.specs.wire_law.Printable.{ArePrintable}
+use Rattle.order_law.specs.ouch_codec.declared.inbound.enter_order.EnterOrder.{EnterOrder}
+use Rattle.order_law.specs.ouch_codec.declared.inbound.replace.Replace.{Replace}
+use Rattle.order_law.specs.ouch_codec.declared.outbound.Outbound.{Outbound}
+use Rattle.order_law.specs.ouch_codec.declared.outbound.Outbound.TheVariants as market
+use Rattle.order_law.specs.ouch_codec.declared.outbound.replaced.Replaced.{Replaced}
+use Rattle.order_law.specs.ouch_codec.declared.order_state.OrderState.{OrderState}
 use Rattle.market_law.specs.declared.choice.Breaking.{Breaking}
 use Rattle.market_law.specs.declared.choice.Letter.{Letter}
 use Rattle.market_law.specs.declared.choice.Trading.{Trading}

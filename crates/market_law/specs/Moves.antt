@@ -1,7 +1,7 @@
 -- What is known of what comes to a machine.
 use Rattle.std.specs.Prelude.{◌≡◌, ℕ, suc, ◌+◌, ◌≤◌, Bool, if◌then◌else◌, List, [], ◌∷◌, Option, Some, ◌⊎◌}
-use Rattle.ouch_codec.specs.declared.inbound.Inbound.{Inbound}
-use Rattle.ouch_codec.specs.declared.inbound.Inbound.TheVariants.{Enter, Replace, Cancel}
+use Rattle.order_law.specs.ouch_codec.declared.inbound.Inbound.{Inbound}
+use Rattle.order_law.specs.ouch_codec.declared.inbound.Inbound.TheVariants.{Enter, Replace, Cancel}
 use Rattle.market_law.specs.Machine.{BookOrder}
 use Rattle.market_law.specs.Run.{Move, Comes, Acts}
 

@@ -1,7 +1,7 @@
 -- Runs of the machine, and what it said of one order.
 use Rattle.std.specs.Prelude.{ℕ, ◌==◌, List, [], ◌∷◌, ◌++◌, if◌then◌else◌}
-use Rattle.ouch_codec.specs.declared.inbound.Inbound.{Inbound}
-use Rattle.ouch_codec.specs.declared.outbound.Outbound.{Outbound}
+use Rattle.order_law.specs.ouch_codec.declared.inbound.Inbound.{Inbound}
+use Rattle.order_law.specs.ouch_codec.declared.outbound.Outbound.{Outbound}
 use Rattle.order_law.specs.declared.stage.Stage.TheVariants.{Working, Closed}
 use Rattle.order_law.specs.Life.{Life}
 use Rattle.market_law.specs.declared.choice.Choice.{Choice}

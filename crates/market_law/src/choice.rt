@@ -1,9 +1,9 @@
 //! What the market is free to do, as a value that is handed in.
 
 ghost use Rattle.std.specs.Prelude.{◌≡◌, ◌<◌, ◌^◌, MatchOption, true, false};
-ghost use Rattle.wire_law.specs.Printable as printable;
+ghost use Rattle.order_law.specs.wire_law.Printable as printable;
 
-use wire_law::is_printable;
+use order_law::is_printable;
 
 /// A letter that a message can carry: a byte from 32 to 126.
 ///

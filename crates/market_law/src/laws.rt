@@ -1,7 +1,7 @@
 //! What holds of every run of the machine.
 
 ghost use Rattle.std.specs.Prelude.{ℕ, ◌≡◌, ◌≤◌, List, Option};
-ghost use Rattle.ouch_codec.specs.declared.inbound.Inbound.{Inbound};
+ghost use Rattle.order_law.specs.ouch_codec.declared.inbound.Inbound.{Inbound};
 ghost use Rattle.order_law.specs.Headline.{Each};
 ghost use Rattle.order_law.specs.Life.{life};
 ghost use Rattle.market_law.specs.Machine.{BookOrder};

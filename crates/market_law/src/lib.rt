@@ -13,3 +13,4 @@ pub use laws::{
     books_are_lives, orders_stay_within_what_was_asked, tokens_are_used_once,
     what_is_said_is_lawful,
 };
+pub use order_law::Trade;

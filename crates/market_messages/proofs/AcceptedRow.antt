@@ -1,21 +1,21 @@
 -- Accepted of an order.
 use Rattle.std.proofs.Common.{◌≡◌, ℕ, ◌+◌, Bool, true, false, List, [], ◌∷◌, refl, ap, ◌∙◌, bytes_eq, codes, None}
 use Rattle.std.specs.Prelude.{◌==◌, ◌&&◌, slice_index, Some, if◌then◌else◌}
-use Rattle.fix_fields.specs.Field.{first_value, Message, text, character}
-use Rattle.fix_types.specs.declared.new_order.NewOrder.{NewOrder}
-use Rattle.fix_types.specs.NewOrder.{new_order_fields}
-use Rattle.fix_types.proofs.NewOrderValues.{side-value, symbol-value}
+use Rattle.order_machine.specs.fix_fields.Field.{first_value, Message, text, character}
+use Rattle.orders.specs.fix_types.declared.new_order.NewOrder.{NewOrder}
+use Rattle.orders.specs.fix_types.NewOrder.{new_order_fields}
+use Rattle.orders.proofs.fix_types.NewOrderValues.{side-value, symbol-value}
 use Rattle.ouch_codec.specs.declared.outbound.accepted.Accepted.{Accepted}
 use Rattle.ouch_codec.specs.declared.side.Side.{Side}
 use Rattle.ouch_codec.specs.declared.side.Side.TheVariants.{Buy, Sell, SellShort, SellShortExempt}
 use Rattle.ouch_codec.specs.declared.outbound.Outbound.TheVariants as market
 use Rattle.ouch_codec.specs.Parts.{unpadded}
-use Rattle.order_law.specs.Told as law
+use Rattle.orders.specs.order_law.Told as law
 use Rattle.order_machine.specs.OrderRecord.{OrderRecord, after_message, record_life, shown_as}
 use Rattle.std.proofs.lemmas.Bool.{and_parts}
-use Rattle.order_law.specs.Lawful.{same_terms}
-use Rattle.order_law.specs.Life.{is_dead, is_live, is_waiting}
-use Rattle.order_law.specs.declared.stage.Stage.TheVariants.{Waiting}
+use Rattle.orders.specs.order_law.Lawful.{same_terms}
+use Rattle.orders.specs.order_law.Life.{is_dead, is_live, is_waiting}
+use Rattle.orders.specs.order_law.declared.stage.Stage.TheVariants.{Waiting}
 use Rattle.orders.specs.Changes.{changed_by, with_quantities}
 use Rattle.orders.specs.declared.change.Change.TheVariants as changes
 use Rattle.market_messages.specs.Meets.{is_lawful, told_of}

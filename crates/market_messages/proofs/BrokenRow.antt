@@ -1,16 +1,18 @@
 -- Broken Trade of an order.
-use Rattle.std.proofs.Common.{◌≡◌, ℕ, ◌+◌, Bool, true, false, List, [], ◌∷◌, map, reverse, refl, sym, ap, ◌∙◌, subst, decimal, Option, Some, None, eqb-true}
+use Rattle.std.proofs.Common.{◌≡◌, ℕ, ◌+◌, Bool, true, false, List, [], ◌∷◌, map, reverse, refl, sym, ap, ◌∙◌, subst}
+use Rattle.std.proofs.Common.{decimal, Option, Some, None, eqb-true}
 use Rattle.std.specs.Prelude.{◌==◌, ◌&&◌, ◌||◌, not, if◌then◌else◌, is_some, option_map}
 use Rattle.std.specs.List.{find, list_any}
 use Rattle.ouch_codec.specs.declared.outbound.broken.Broken.{Broken}
 use Rattle.ouch_codec.specs.declared.outbound.Outbound.TheVariants as market
-use Rattle.order_law.specs.declared.stage.Stage.{Stage}
-use Rattle.order_law.specs.declared.stage.Stage.TheVariants.{Waiting, Working, Closed}
-use Rattle.order_law.specs.declared.trade.Trade.{Trade}
-use Rattle.order_law.specs.Asks.{total_of}
-use Rattle.order_law.specs.Life.{after, is_of, marked, stands_as}
-use Rattle.order_law.specs.Told as law
-use Rattle.order_machine.specs.OrderRecord.{OrderRecord, ToldTrade, after_message, with_trade_broken, fill_of, record_life, mark, shown_as, stands_told}
+use Rattle.orders.specs.order_law.declared.stage.Stage.{Stage}
+use Rattle.orders.specs.order_law.declared.stage.Stage.TheVariants.{Waiting, Working, Closed}
+use Rattle.orders.specs.order_law.declared.trade.Trade.{Trade}
+use Rattle.orders.specs.order_law.Asks.{total_of}
+use Rattle.orders.specs.order_law.Life.{after, is_of, marked, stands_as}
+use Rattle.orders.specs.order_law.Told as law
+use Rattle.order_machine.specs.OrderRecord.{OrderRecord, ToldTrade, after_message, with_trade_broken, fill_of}
+use Rattle.order_machine.specs.OrderRecord.{record_life, mark, shown_as, stands_told}
 use Rattle.order_machine.proofs.Finding.{find-map, map-map}
 use Rattle.orders.specs.declared.order.ToldTrade as table
 use Rattle.orders.specs.Changes.{changed_by, with_quantities}

@@ -2,7 +2,7 @@
 use Rattle.std.proofs.Common.{◌≡◌, ℕ, refl, bytes_eq}
 use Rattle.ouch_codec.specs.declared.outbound.cancel_reject.CancelReject.{CancelReject}
 use Rattle.ouch_codec.specs.declared.outbound.Outbound.TheVariants as market
-use Rattle.order_law.specs.Told as law
+use Rattle.orders.specs.order_law.Told as law
 use Rattle.order_machine.specs.OrderRecord.{OrderRecord, after_message, last_after, shown_as}
 use Rattle.orders.specs.Changes.{changed_by, with_quantities}
 use Rattle.orders.specs.declared.change.Change.TheVariants as changes

@@ -5,9 +5,9 @@ use Rattle.std.proofs.Common.{ne_eqb}
 use Rattle.std.proofs.lemmas.Bool.{and_parts}
 use Rattle.ouch_codec.specs.declared.outbound.canceled.Canceled.{Canceled}
 use Rattle.ouch_codec.specs.declared.outbound.Outbound.TheVariants as market
-use Rattle.order_law.specs.declared.stage.Stage.TheVariants.{Working}
-use Rattle.order_law.specs.Lawful.{may_leave, works_as}
-use Rattle.order_law.specs.Told as law
+use Rattle.orders.specs.order_law.declared.stage.Stage.TheVariants.{Working}
+use Rattle.orders.specs.order_law.Lawful.{may_leave, works_as}
+use Rattle.orders.specs.order_law.Told as law
 use Rattle.order_machine.specs.OrderRecord.{OrderRecord, after_message, live_token, record_life, shown_as}
 use Rattle.orders.specs.Changes.{changed_by, with_quantities}
 use Rattle.orders.specs.declared.change.Change.TheVariants as changes

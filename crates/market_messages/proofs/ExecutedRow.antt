@@ -1,15 +1,17 @@
 -- Executed of an order.
-use Rattle.std.proofs.Common.{◌≡◌, ℕ, ◌+◌, ◌-◌, ◌≤◌, Bool, true, false, List, [], ◌∷◌, map, reverse, refl, sym, ◌∙◌, arith, bytes_eq, ne_eqb}
+use Rattle.std.proofs.Common.{◌≡◌, ℕ, ◌+◌, ◌-◌, ◌≤◌, Bool, true, false, List, [], ◌∷◌, map, reverse, refl, sym, ◌∙◌}
+use Rattle.std.proofs.Common.{arith, bytes_eq, ne_eqb}
 use Rattle.std.specs.Prelude.{◌==◌, ◌&&◌, not}
 use Rattle.std.specs.List.{list_any}
 use Rattle.std.proofs.lemmas.Bool.{and_parts}
 use Rattle.ouch_codec.specs.declared.outbound.executed.Executed.{Executed}
 use Rattle.ouch_codec.specs.declared.outbound.Outbound.TheVariants as market
-use Rattle.order_law.specs.declared.stage.Stage.TheVariants.{Working}
-use Rattle.order_law.specs.declared.trade.Trade.{Trade}
-use Rattle.order_law.specs.Lawful.{may_leave, works_as}
-use Rattle.order_law.specs.Told as law
-use Rattle.order_machine.specs.OrderRecord.{OrderRecord, ToldTrade, after_message, live_token, record_life, shown_as, trade_in}
+use Rattle.orders.specs.order_law.declared.stage.Stage.TheVariants.{Working}
+use Rattle.orders.specs.order_law.declared.trade.Trade.{Trade}
+use Rattle.orders.specs.order_law.Lawful.{may_leave, works_as}
+use Rattle.orders.specs.order_law.Told as law
+use Rattle.order_machine.specs.OrderRecord.{OrderRecord, ToldTrade, after_message, live_token, record_life, shown_as}
+use Rattle.order_machine.specs.OrderRecord.{trade_in}
 use Rattle.orders.specs.declared.order.ToldTrade as table
 use Rattle.orders.specs.Changes.{changed_by, with_quantities}
 use Rattle.orders.specs.declared.change.Change.TheVariants as changes

@@ -1,12 +1,14 @@
 -- The step of a message, by the orders that its tokens lead to.
-use Rattle.std.proofs.Common.{◌≡◌, ℕ, ◌+◌, Bool, true, false, List, [], map, refl, sym, ap, ◌∙◌, subst, arith, Option, Some, None, Result, Ok, Err}
+use Rattle.std.proofs.Common.{◌≡◌, ℕ, ◌+◌, Bool, true, false, List, [], map, refl, sym, ap, ◌∙◌, subst, arith, Option}
+use Rattle.std.proofs.Common.{Some, None, Result, Ok, Err}
 use Rattle.std.specs.Prelude.{if◌then◌else◌, is_some, option_and_then, option_map, IfOk}
 use Rattle.std.specs.declared.alloc.AllocError.{AllocError}
-use Rattle.fix_types.specs.Application.{body_fields}
+use Rattle.orders.specs.fix_types.Application.{body_fields}
 use Rattle.ouch_codec.specs.declared.outbound.Outbound.{Outbound}
 use Rattle.ouch_codec.specs.declared.outbound.Outbound.TheVariants as market
-use Rattle.order_law.specs.Lawful.{judged_on, judged_token, order_token, row_fault, token_fault}
-use Rattle.order_machine.specs.Machine.{given_by_fault, payload_fault, faulty, heard_on, is_lawful_in, market_step, silent, tells}
+use Rattle.orders.specs.order_law.Lawful.{judged_on, judged_token, order_token, row_fault, token_fault}
+use Rattle.order_machine.specs.Machine.{given_by_fault, payload_fault, faulty, heard_on, is_lawful_in, market_step}
+use Rattle.order_machine.specs.Machine.{silent, tells}
 use Rattle.order_machine.specs.OrderRecord.{OrderRecord, after_message}
 use Rattle.order_machine.specs.Table.{TableState, by_number, record_by_token}
 use Rattle.orders.specs.Changes.{changed_by}
@@ -15,7 +17,8 @@ use Rattle.market_messages.specs.declared.heard.Heard.{Heard}
 use Rattle.market_messages.specs.Meets.{IsHeard, is_lawful}
 use Rattle.market_messages.specs.declared.judged.Judged.{Judged}
 use Rattle.market_messages.specs.declared.judged.Judged.TheVariants.{Faulty, Silent, Told}
-use Rattle.market_messages.specs.declared.market_fault.MarketFault.TheVariants.{NotLawful, OutsideProfile, Undecodable, UnknownToken}
+use Rattle.market_messages.specs.declared.market_fault.MarketFault.TheVariants.{NotLawful, OutsideProfile, Undecodable}
+use Rattle.market_messages.specs.declared.market_fault.MarketFault.TheVariants.{UnknownToken}
 use Rattle.market_messages.specs.Turns.{IsJudged, Steps, changes_to}
 use Rattle.market_messages.specs.Rows.{IsJudgedOf, IsPassedOver, knows_new_token}
 use Rattle.market_messages.proofs.Found.{by_token-held, found-by_number, put-same}

@@ -1,15 +1,16 @@
 -- Rejected of a new order, or of a replace.
-use Rattle.std.proofs.Common.{◌≡◌, ℕ, ◌+◌, Bool, true, false, List, [], ◌∷◌, ◌++◌, map, refl, sym, ap, ◌∙◌, bytes_eq, None}
+use Rattle.std.proofs.Common.{◌≡◌, ℕ, ◌+◌, Bool, true, false, List, [], ◌∷◌, ◌++◌, map, refl, sym, ap, ◌∙◌, bytes_eq}
+use Rattle.std.proofs.Common.{None}
 use Rattle.std.specs.Prelude.{◌&&◌, ◌||◌, not, filter, option_to_list, IfSome, Option, Some}
 use Rattle.std.specs.List.{find, list_any}
 use Rattle.std.proofs.lemmas.Bool.{and_parts}
 use Rattle.ouch_codec.specs.declared.outbound.rejected.Rejected.{Rejected}
 use Rattle.ouch_codec.specs.declared.outbound.Outbound.TheVariants as market
-use Rattle.order_law.specs.declared.stage.Stage.TheVariants.{Waiting}
-use Rattle.order_law.specs.History.{Entry, token_of}
-use Rattle.order_law.specs.Life.{is_waiting}
-use Rattle.order_law.specs.Told as law
-use Rattle.order_law.specs.Verdicts.{is_replace}
+use Rattle.orders.specs.order_law.declared.stage.Stage.TheVariants.{Waiting}
+use Rattle.orders.specs.order_law.History.{Entry, token_of}
+use Rattle.orders.specs.order_law.Life.{is_waiting}
+use Rattle.orders.specs.order_law.Told as law
+use Rattle.orders.specs.order_law.Verdicts.{is_replace}
 use Rattle.order_machine.specs.OrderRecord.{OrderRecord, after_message, last_after, live_token, replacements, shown_as}
 use Rattle.order_machine.proofs.Texts.{eq-is, eq-true}
 use Rattle.orders.specs.Changes.{changed_by, with_quantities}

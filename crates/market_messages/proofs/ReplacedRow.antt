@@ -1,18 +1,20 @@
 -- Replaced of an order.
-use Rattle.std.proofs.Common.{◌≡◌, ℕ, ◌+◌, Bool, true, false, List, ◌∷◌, ◌++◌, refl, sym, ap, ◌∙◌, bytes_eq, codes, None}
+use Rattle.std.proofs.Common.{◌≡◌, ℕ, ◌+◌, Bool, true, false, List, ◌∷◌, ◌++◌, refl, sym, ap, ◌∙◌, bytes_eq, codes}
+use Rattle.std.proofs.Common.{None}
 use Rattle.std.specs.Prelude.{◌&&◌, not, filter, option_to_list, IfSome, Option, Some, if◌then◌else◌}
 use Rattle.std.specs.List.{find, list_any}
 use Rattle.std.proofs.lemmas.Bool.{and_parts}
 use Rattle.ouch_codec.specs.declared.outbound.replaced.Replaced.{Replaced}
 use Rattle.ouch_codec.specs.declared.outbound.Outbound.TheVariants as market
-use Rattle.order_law.specs.declared.stage.Stage.TheVariants.{Working}
-use Rattle.order_law.specs.History.{Entry, token_of}
-use Rattle.order_law.specs.Lawful.{same_terms, works_as}
-use Rattle.order_law.specs.Life.{is_dead}
-use Rattle.fix_fields.specs.Field.{text}
-use Rattle.order_law.specs.Told as law
-use Rattle.order_law.specs.Verdicts.{is_replace}
-use Rattle.order_machine.specs.OrderRecord.{OrderRecord, after_message, at, last_after, live_token, over_if, put_in_book, record_life, renamed, replacements, shown_as, still_after}
+use Rattle.orders.specs.order_law.declared.stage.Stage.TheVariants.{Working}
+use Rattle.orders.specs.order_law.History.{Entry, token_of}
+use Rattle.orders.specs.order_law.Lawful.{same_terms, works_as}
+use Rattle.orders.specs.order_law.Life.{is_dead}
+use Rattle.order_machine.specs.fix_fields.Field.{text}
+use Rattle.orders.specs.order_law.Told as law
+use Rattle.orders.specs.order_law.Verdicts.{is_replace}
+use Rattle.order_machine.specs.OrderRecord.{OrderRecord, after_message, at, last_after, live_token, over_if}
+use Rattle.order_machine.specs.OrderRecord.{put_in_book, record_life, renamed, replacements, shown_as, still_after}
 use Rattle.order_machine.proofs.Texts.{eq-is}
 use Rattle.orders.specs.Changes.{changed_by, with_quantities}
 use Rattle.orders.specs.declared.change.Change.TheVariants as changes

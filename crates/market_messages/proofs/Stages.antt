@@ -2,10 +2,10 @@
 use Rattle.std.proofs.Common.{◌≡◌, ◌≤◌, ℕ, true, false, List, refl, leb-true}
 use Rattle.std.specs.Prelude.{nat_le}
 use Rattle.std.proofs.lemmas.Bool.{and_parts}
-use Rattle.order_law.specs.declared.stage.Stage.{Stage}
-use Rattle.order_law.specs.declared.stage.Stage.TheVariants.{Waiting, Working, Closed}
-use Rattle.order_law.specs.Lawful.{may_leave, works_as}
-use Rattle.order_law.specs.Life.{Life, is_live, is_waiting, is_working}
+use Rattle.orders.specs.order_law.declared.stage.Stage.{Stage}
+use Rattle.orders.specs.order_law.declared.stage.Stage.TheVariants.{Waiting, Working, Closed}
+use Rattle.orders.specs.order_law.Lawful.{may_leave, works_as}
+use Rattle.orders.specs.order_law.Life.{Life, is_live, is_waiting, is_working}
 
 pub waits-is : (s : Stage) → is_waiting s ≡ true → s ≡ Waiting
 waits-is Waiting e = refl

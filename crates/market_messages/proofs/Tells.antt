@@ -1,8 +1,8 @@
 -- Bodies one after another.
 use Rattle.std.proofs.Common.{◌≡◌, List, [], ◌∷◌, ◌++◌, map, ap, ◌∙◌}
-use Rattle.fix_types.specs.declared.application.AppBody.{AppBody}
-use Rattle.fix_types.specs.Application.{body_fields}
-use Rattle.fix_fields.specs.Field.{Message}
+use Rattle.orders.specs.fix_types.declared.application.AppBody.{AppBody}
+use Rattle.orders.specs.fix_types.Application.{body_fields}
+use Rattle.order_machine.specs.fix_fields.Field.{Message}
 
 -- the first
 pub first-told : (old new : List AppBody) (m x : Message) → old ≡ [] → map body_fields new ≡ map body_fields old ++ m ∷ [] → m ≡ x → map body_fields new ≡ x ∷ []

@@ -1,14 +1,14 @@
 -- When what comes of a message on an order is what the law says.
 use Rattle.std.specs.Prelude.{◌≡◌, ℕ, Bool, true, false, not, ◌&&◌, List, [], bytes_eq, map, Result, Ok, Err}
 use Rattle.std.specs.List.{list_any}
-use Rattle.fix_types.specs.Application.{body_fields}
+use Rattle.orders.specs.fix_types.Application.{body_fields}
 use Rattle.ouch_codec.specs.declared.outbound.Outbound.{Outbound}
 use Rattle.ouch_codec.specs.declared.outbound.rejected.Rejected.{Rejected}
-use Rattle.order_law.specs.declared.stage.Stage.TheVariants.{Waiting, Closed}
-use Rattle.fix_fields.specs.Field.{Message}
-use Rattle.order_law.specs.Lawful.{row_holds}
-use Rattle.order_law.specs.Life.{is_closed, is_live, is_waiting}
-use Rattle.order_law.specs.Told.{told_by}
+use Rattle.orders.specs.order_law.declared.stage.Stage.TheVariants.{Waiting, Closed}
+use Rattle.order_machine.specs.fix_fields.Field.{Message}
+use Rattle.orders.specs.order_law.Lawful.{row_holds}
+use Rattle.orders.specs.order_law.Life.{is_closed, is_live, is_waiting}
+use Rattle.orders.specs.order_law.Told.{told_by}
 use Rattle.order_machine.specs.OrderRecord.{OrderRecord, after_message, fill_of, last_of, record_life, replacements}
 use Rattle.order_machine.specs.OrderRecord.{shown_as}
 use Rattle.orders.specs.Changes.{Fits, changed_by}

@@ -1,14 +1,14 @@
 -- What a payload of the market makes of a table, as one answer. (OUCH 4.2, "Outbound Messages".)
 use Rattle.std.specs.Prelude.{◌≡◌, ℕ, ◌+◌, List, [], map, Option, Some, None, Result, Ok, Err, decimal}
 use Rattle.std.specs.List.{count_by}
-use Rattle.fix_types.specs.Application.{body_fields}
+use Rattle.orders.specs.fix_types.Application.{body_fields}
 use Rattle.ouch_codec.specs.declared.refusal.DecodeRefusal.{DecodeRefusal}
 use Rattle.ouch_codec.specs.declared.refusal.DecodeRefusal.TheVariants as refusals
 use Rattle.ouch_codec.specs.declared.outbound.Outbound.{Outbound}
-use Rattle.fix_fields.specs.Field.{Message}
-use Rattle.order_law.specs.Lawful.{bytes_fault, row_fault, token_fault, type_fault}
-use Rattle.order_law.specs.Reading.{is_report}
-use Rattle.order_law.specs.Told.{told_of_entry}
+use Rattle.order_machine.specs.fix_fields.Field.{Message}
+use Rattle.orders.specs.order_law.Lawful.{bytes_fault, row_fault, token_fault, type_fault}
+use Rattle.orders.specs.order_law.Reading.{is_report}
+use Rattle.orders.specs.order_law.Told.{told_of_entry}
 use Rattle.order_machine.specs.Machine.{GivenByEvent, faulty, market_step, order_in, silent, tells}
 use Rattle.order_machine.specs.OrderRecord.{OrderRecord}
 use Rattle.order_machine.specs.Table.{TableState, by_number, put}

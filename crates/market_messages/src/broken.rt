@@ -3,16 +3,15 @@
 ghost use Rattle.std.specs.Prelude.{◌≡◌, ◌≤◌, ◌<◌, ◌^◌, ◌∷◌, [], true, length, map, IfOk, Some, option_map, reverse, ℕ};
 ghost use Rattle.std.specs.Prelude.{List};
 ghost use Rattle.std.specs.List.{find, position};
-ghost use Rattle.fix_types.specs.Application.{body_fields};
-ghost use Rattle.order_law.specs.Life.{is_of};
+ghost use Rattle.orders.specs.fix_types.Application.{body_fields};
+ghost use Rattle.orders.specs.order_law.Life.{is_of};
 ghost use Rattle.order_machine.specs.OrderRecord.{record_life, stands_told};
 ghost use Rattle.orders.specs.Seen.{told_seen};
 ghost use Rattle.ouch_codec.specs.declared.outbound.Outbound.TheVariants as market;
 ghost use Rattle.market_messages.specs.Meets.{IsSteady, MeetsRow, told_of};
 
 use crate::heard::{Heard, RowFault};
-use fix_types::AppBody;
-use orders::{Change, Order, ToldTrade};
+use orders::{AppBody, Change, Order, ToldTrade};
 use ouch_codec::Broken;
 use std::alloc::{AllocError, Global};
 use to_client::{Occasion, push_report, report_of, shown_of};

@@ -1,14 +1,12 @@
 //! Cancel Reject: the market does not cancel an order.
 
 ghost use Rattle.std.specs.Prelude.{◌≡◌, ◌≤◌, ℕ, true, length, map, IfOk, List};
-ghost use Rattle.fix_types.specs.Application.{body_fields};
+ghost use Rattle.orders.specs.fix_types.Application.{body_fields};
 ghost use Rattle.ouch_codec.specs.declared.outbound.Outbound.TheVariants as market;
 ghost use Rattle.market_messages.specs.Meets.{MeetsRow, is_lawful, told_of};
 
 use crate::heard::{Heard, RowFault};
-use fix_types::AppBody;
-use order_law::Stage;
-use orders::{Change, Order};
+use orders::{AppBody, Change, Order, Stage};
 use ouch_codec::CancelReject;
 use std::alloc::{AllocError, Global};
 use to_client::{pending_of, push_cancel_rejected, shown_of};

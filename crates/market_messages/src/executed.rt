@@ -2,15 +2,13 @@
 
 ghost use Rattle.std.specs.Prelude.{◌≡◌, ◌≤◌, ◌<◌, ◌^◌, ◌==◌, true, length, map, IfOk, ℕ, List};
 ghost use Rattle.std.specs.List.{list_any};
-ghost use Rattle.fix_types.specs.Application.{body_fields};
+ghost use Rattle.orders.specs.fix_types.Application.{body_fields};
 ghost use Rattle.ouch_codec.specs.declared.outbound.Outbound.TheVariants as market;
 ghost use Rattle.order_machine.specs.OrderRecord.{record_life, trade_in};
 ghost use Rattle.market_messages.specs.Meets.{MeetsRow, is_lawful, told_of};
 
 use crate::heard::{Heard, RowFault};
-use fix_types::AppBody;
-use order_law::{Stage, Trade};
-use orders::{Change, Order, ToldTrade};
+use orders::{AppBody, Change, Order, Stage, ToldTrade, Trade};
 use ouch_codec::Executed;
 use std::alloc::{AllocError, Global};
 use to_client::{Occasion, pending_of, push_report, push_too_late, report_of, shown_of};

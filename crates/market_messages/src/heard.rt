@@ -3,8 +3,7 @@
 ghost use Rattle.std.specs.Prelude.{◌≡◌, ◌≤◌, length};
 ghost use Rattle.market_messages.specs.declared.heard.RowFault.TheVariants.{NoMemory};
 
-use fix_types::AppBody;
-use orders::Change;
+use orders::{AppBody, Change};
 use std::alloc::{AllocError, AllocFailed};
 use thiserror::Error;
 

@@ -1,20 +1,17 @@
 //! Rejected: the market didn't take a new order, or a replacement.
 
 ghost use Rattle.std.specs.Prelude.{◌≡◌, ℕ, ◌≤◌, ◌<◌, ◌^◌, true, false, length, map, IfOk, List};
-ghost use Rattle.fix_types.specs.Application.{body_fields};
+ghost use Rattle.orders.specs.fix_types.Application.{body_fields};
 ghost use Rattle.ouch_codec.specs.declared.outbound.Outbound.TheVariants as market;
 ghost use Rattle.market_messages.specs.Meets.{MeetsRow, rejects_new, rejects_replace, told_of};
 
 use crate::heard::{Heard, RowFault};
-use fix_types::AppBody;
-use fix_values::CxlRejReason;
-use order_law::Stage;
-use orders::{Change, Order};
+use orders::{AppBody, Change, Order, Stage};
 use ouch_codec::Rejected;
 use std::alloc::{AllocError, Global};
 use to_client::{
-    Occasion, Pending, Shown, pending_of, push_cancel_rejected, push_reject, push_report,
-    push_too_late, report_of, shown_of,
+    CxlRejReason, Occasion, Pending, Shown, pending_of, push_cancel_rejected, push_reject,
+    push_report, push_too_late, report_of, shown_of,
 };
 
 /// Lawful for an order that waits under this token: it is over, with the market's letter as the reason, and each

@@ -1,12 +1,12 @@
 //! Replaced: an order goes by another token from now on, with other terms.
 
 ghost use Rattle.std.specs.Prelude.{◌≡◌, ◌≤◌, ◌<◌, ◌^◌, true, length, map, IfOk, ℕ, List, Option, option_to_list};
-ghost use Rattle.fix_types.specs.Application.{body_fields};
+ghost use Rattle.orders.specs.fix_types.Application.{body_fields};
 ghost use Rattle.orders.specs.declared.change.Change.TheVariants as changes;
 ghost use Rattle.ouch_codec.specs.declared.outbound.Outbound.TheVariants as market;
-ghost use Rattle.order_law.specs.History.{Entry};
-ghost use Rattle.fix_fields.specs.Field.{Message, text};
-ghost use Rattle.order_law.specs.Told as law;
+ghost use Rattle.orders.specs.order_law.History.{Entry};
+ghost use Rattle.order_machine.specs.fix_fields.Field.{Message, text};
+ghost use Rattle.orders.specs.order_law.Told as law;
 ghost use Rattle.to_client.specs.declared.pending.Pending.{Pending};
 ghost use Rattle.to_client.specs.Pending.{IsPending};
 ghost use Rattle.to_client.specs.Shows.{IsRequest, ShowsAs};
@@ -15,9 +15,7 @@ ghost use Rattle.market_messages.specs.Meets.{MeetsRow, is_lawful, told_of};
 use crate::accepted::is_dead;
 use crate::heard::{Heard, RowFault};
 use crate::terms::is_same_terms;
-use fix_types::AppBody;
-use order_law::Stage;
-use orders::{Change, Order};
+use orders::{AppBody, Change, Order, Stage};
 use ouch_codec::Replaced;
 use std::alloc::{AllocError, Global};
 use to_client::{

@@ -2,12 +2,12 @@
 
 ghost use Rattle.std.specs.Prelude.{◌≡◌, ◌==◌, bytes_eq};
 ghost use Rattle.ouch_codec.specs.Parts.{unpadded};
-ghost use Rattle.order_law.specs.Lawful.{same_terms};
+ghost use Rattle.orders.specs.order_law.Lawful.{same_terms};
 ghost use Rattle.market_messages.specs.Sides.{fix_side};
 
-use fix_values::Character;
 use orders::{Order, Symbol};
 use ouch_codec::Side;
+use to_client::Character;
 
 /// Whether a stock and a side are those of an order.
 pub fn is_same_terms(order: &Order, stock: &[u8; 8], side: Side) -> bool

@@ -8,13 +8,17 @@ use Rattle.ouch_codec.specs.declared.inbound.enter_order.EnterOrder.{EnterOrder}
 use Rattle.ouch_codec.specs.declared.inbound.replace.Replace.{Replace}
 use Rattle.ouch_codec.specs.declared.inbound.cancel.Cancel.{Cancel}
 use Rattle.ouch_codec.specs.declared.order_state.OrderState.{OrderState}
-use Rattle.market_law.specs.declared.choice.Breaking.{Breaking}
-use Rattle.market_law.specs.declared.choice.Choice.{Choice}
-use Rattle.market_law.specs.declared.choice.Choice.TheVariants as choose
-use Rattle.market_law.specs.declared.choice.Removal.{Removal}
-use Rattle.market_law.specs.declared.choice.Trading.{Trading}
-use Rattle.market_law.specs.Machine.{BookOrder, Machine, Step, ToCancel, ToEnter, ToReplace, Takes, Rejects, Replaces, TakesOff, Keeps, Cancels, Waits, Denies}
-use Rattle.market_law.specs.Machine.{act, break_on, cancel, cancel_on, enter, has_trade, inbound, is_open_for, is_token_used, live_order, move, replace, replace_on, says_nothing, take_off_on, to_cancel, to_enter, to_replace, trade_by, trade_on}
+use Rattle.market_book.specs.market_law.declared.choice.Breaking.{Breaking}
+use Rattle.market_book.specs.market_law.declared.choice.Choice.{Choice}
+use Rattle.market_book.specs.market_law.declared.choice.Choice.TheVariants as choose
+use Rattle.market_book.specs.market_law.declared.choice.Removal.{Removal}
+use Rattle.market_book.specs.market_law.declared.choice.Trading.{Trading}
+use Rattle.market_book.specs.market_law.Machine.{BookOrder, Machine, Step, ToCancel, ToEnter, ToReplace, Takes}
+use Rattle.market_book.specs.market_law.Machine.{Rejects, Replaces, TakesOff, Keeps, Cancels, Waits, Denies}
+use Rattle.market_book.specs.market_law.Machine.{act, break_on, cancel, cancel_on, enter, has_trade, inbound}
+use Rattle.market_book.specs.market_law.Machine.{is_open_for, is_token_used, live_order, move, replace, replace_on}
+use Rattle.market_book.specs.market_law.Machine.{says_nothing, take_off_on, to_cancel, to_enter, to_replace, trade_by}
+use Rattle.market_book.specs.market_law.Machine.{trade_on}
 
 abbrev pub IsFew : Step → Type 0
 IsFew s = length s.says ≤ 1

@@ -1,18 +1,22 @@
 -- On a link with a login every message from its number on was sent, after each move.
-use Rattle.std.proofs.Common.{◌≡◌, ◌≤◌, ◌+◌, ◌-◌, ℕ, Bool, true, false, List, [], ◌∷◌, ◌++◌, length, map, take, drop, Option, Some, None, refl, sym, ap, ◌∙◌, arith, length-append, leb-true, subst}
+use Rattle.std.proofs.Common.{◌≡◌, ◌≤◌, ◌+◌, ◌-◌, ℕ, Bool, true, false, List, [], ◌∷◌, ◌++◌, length, map, take, drop}
+use Rattle.std.proofs.Common.{Option, Some, None, refl, sym, ap, ◌∙◌, arith, length-append, leb-true, subst}
 use Rattle.std.proofs.lemmas.List.{append-nil, drop-append-le}
 use Rattle.std.specs.Prelude.{if◌then◌else◌, ◌==◌, nat_le, not}
 use Rattle.ouch_codec.specs.declared.inbound.Inbound.{Inbound}
 use Rattle.soup_packets.specs.declared.packet.Packet.{Packet}
-use Rattle.market_law.specs.declared.choice.Choice.{Choice}
+use Rattle.market_book.specs.market_law.declared.choice.Choice.{Choice}
 use Rattle.market_sim.specs.declared.event.SimEvent.TheVariants as events
 use Rattle.market_sim.specs.declared.link.SimLink.{SimLink}
 use Rattle.market_sim.specs.declared.link.SimLink.TheVariants.{NoLink, Connected, LoggedIn}
-use Rattle.market_sim.specs.Sim.{SimState, hears, is_session_here, keeps_said, known_number, login_number, rejects_login, answers_login, on_packet, sequenced_packet, sent_on, sends_nothing, server_heartbeat}
+use Rattle.market_sim.specs.Sim.{SimState, hears, is_session_here, keeps_said, known_number, login_number}
+use Rattle.market_sim.specs.Sim.{rejects_login, answers_login, on_packet, sequenced_packet, sent_on, sends_nothing}
+use Rattle.market_sim.specs.Sim.{server_heartbeat}
 use Rattle.market_sim.specs.Numbers.{number_asked}
 use Rattle.market_sim.specs.Outbound.{outbound_bytes}
-use Rattle.market_law.specs.Machine.{act, inbound}
-use Rattle.market_sim.specs.Runs.{IsServed, SimMove, Comes, Says, SimRun, goes_on, login_by, payloads_in, sim_moved, sim_run}
+use Rattle.market_book.specs.market_law.Machine.{act, inbound}
+use Rattle.market_sim.specs.Runs.{IsServed, SimMove, Comes, Says, SimRun, goes_on, login_by, payloads_in, sim_moved}
+use Rattle.market_sim.specs.Runs.{sim_run}
 
 sequenced-payloads : (xs : List (List ℕ)) → payloads_in (map sequenced_packet xs) ≡ xs
 sequenced-payloads [] = refl

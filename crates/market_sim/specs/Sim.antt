@@ -7,8 +7,8 @@ use Rattle.std.specs.Prelude.{length, take, drop, replicate, Option, Some, None,
 use Rattle.ouch_codec.specs.declared.inbound.Inbound.{Inbound}
 use Rattle.ouch_codec.specs.Inbound.{inbound_bytes}
 use Rattle.soup_packets.specs.declared.packet.Packet.{Packet}
-use Rattle.market_law.specs.declared.choice.Choice.{Choice}
-use Rattle.market_law.specs.Machine.{Machine, Step, act, inbound, opening_machine}
+use Rattle.market_book.specs.market_law.declared.choice.Choice.{Choice}
+use Rattle.market_book.specs.market_law.Machine.{Machine, Step, act, inbound, opening_machine}
 use Rattle.market_sim.specs.declared.event.SimEvent.{SimEvent}
 use Rattle.market_sim.specs.declared.event.SimEvent.TheVariants as events
 use Rattle.market_sim.specs.declared.link.SimLink.{SimLink}

@@ -4,8 +4,7 @@
 
 ghost use Rattle.market_sim.specs.Sim.{IsReadAs};
 
-use ouch_codec::{Cancel, EnterOrder, Inbound, Replace};
-use wire_law::FixedWire;
+use ouch_codec::{Cancel, EnterOrder, FixedWire, Inbound, Replace};
 
 /// The message that a payload is, or `None` where it is none. Takes no memory.
 pub fn inbound_of(payload: &[u8]) -> Option<Inbound>

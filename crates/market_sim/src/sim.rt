@@ -1,9 +1,10 @@
 //! The market's end of a session.
 
-ghost use Rattle.std.specs.Prelude.{◌≡◌, ◌≤◌, ◌<◌, ◌+◌, ◌-◌, ◌++◌, [], ◌∷◌, List, Option, IfOk, IfSome, OnErr, length, map, drop};
+ghost use Rattle.std.specs.Prelude.{◌≡◌, ◌≤◌, ◌<◌, ◌+◌, ◌-◌, ◌++◌, [], ◌∷◌, List, Option, IfOk, IfSome, OnErr, length};
+ghost use Rattle.std.specs.Prelude.{map, drop};
 ghost use Rattle.std.specs.Prelude.{vec_len, vec_capacity};
 ghost use Rattle.ouch_codec.specs.declared.inbound.Inbound.{Inbound};
-ghost use Rattle.market_law.specs.Machine as law;
+ghost use Rattle.market_book.specs.market_law.Machine as law;
 ghost use Rattle.market_sim.specs.Outbound.{outbound_bytes};
 ghost use Rattle.market_sim.specs.Sim as spec;
 ghost use Rattle.market_sim.specs.Sim.{IsReadAs, IsStepOfSim, ReadsEvent};

@@ -1,12 +1,10 @@
 //! Logins, and what is given again.
 
-use market_book::Choice;
-use market_sim::{Sim, SimEvent};
-use soup_packets::{Packet, Payload};
+use market_sim::{Choice, Packet, Payload, Sim, SimEvent};
+use soup_session::WholeWire;
 use std::alloc::Global;
 use std::process::Abort;
 use std::test::Fail;
-use wire_law::WholeWire;
 
 /// User and password, padded right.
 const USER: &[u8; 16] = b"FEV001PASSWORD  ";

@@ -1,9 +1,7 @@
 //! An order, through the gateway's end of the session.
 
 use crate::logins::{bytes_of, packet};
-use market_book::{Choice, Trading};
-use market_sim::{Sim, SimEvent};
-use soup_packets::Packet;
+use market_sim::{Choice, Packet, Sim, SimEvent, Trading};
 use soup_session::{PortOut, PortSession, PortState, PortTurn};
 use std::alloc::Global;
 use std::process::Abort;

@@ -1,10 +1,10 @@
 -- What a new order asks under the next token.
 use Rattle.std.proofs.Common.{◌≡◌, ℕ, ◌+◌, ◌-◌, ◌≤◌, List, ◌++◌, length, subst, sym, ap, ◌∙◌, arith, length-append}
 use Rattle.std.specs.Prelude.{Option, replicate}
-use Rattle.tokens.specs.TokenText.{token_text}
-use Rattle.fix_types.specs.declared.new_order.NewOrder.{NewOrder}
-use Rattle.fix_types.specs.NewOrder.{new_order_fields}
-use Rattle.ouch_codec.specs.declared.inbound.enter_order.EnterOrder.{EnterOrder}
+use Rattle.to_market.specs.tokens.TokenText.{token_text}
+use Rattle.client_requests.specs.fix_types.declared.new_order.NewOrder.{NewOrder}
+use Rattle.client_requests.specs.fix_types.NewOrder.{new_order_fields}
+use Rattle.order_law.specs.ouch_codec.declared.inbound.enter_order.EnterOrder.{EnterOrder}
 use Rattle.order_law.specs.Headline.{Says}
 use Rattle.order_table.specs.Held.{Held}
 use Rattle.to_market.specs.declared.new_ask.NewAsk.{NewAsk}

@@ -1,19 +1,20 @@
 -- A new order, by its verdict: what the table's step gives.
-use Rattle.std.proofs.Common.{◌≡◌, ◌≤◌, ℕ, ◌+◌, Bool, List, [], ◌∷◌, codes, length, map, refl, sym, subst, ap, ◌∙◌, arith, decimal, Some}
+use Rattle.std.proofs.Common.{◌≡◌, ◌≤◌, ℕ, ◌+◌, Bool, List, [], ◌∷◌, codes, length, map, refl, sym, subst, ap, ◌∙◌}
+use Rattle.std.proofs.Common.{arith, decimal, Some}
 use Rattle.std.specs.Prelude.{false, Option, option_to_list}
-use Rattle.tokens.specs.TokenText.{token_text}
-use Rattle.fix_types.specs.declared.application.AppBody.{AppBody}
-use Rattle.fix_types.specs.declared.new_order.NewOrder.{NewOrder}
-use Rattle.fix_types.specs.NewOrder.{new_order_fields}
-use Rattle.fix_types.specs.Application.{body_fields}
-use Rattle.ouch_codec.specs.declared.inbound.Inbound.{Inbound}
-use Rattle.ouch_codec.specs.declared.inbound.enter_order.EnterOrder.{EnterOrder}
-use Rattle.ouch_codec.specs.Inbound.{inbound_bytes}
+use Rattle.to_market.specs.tokens.TokenText.{token_text}
+use Rattle.client_requests.specs.fix_types.declared.application.AppBody.{AppBody}
+use Rattle.client_requests.specs.fix_types.declared.new_order.NewOrder.{NewOrder}
+use Rattle.client_requests.specs.fix_types.NewOrder.{new_order_fields}
+use Rattle.client_requests.specs.fix_types.Application.{body_fields}
+use Rattle.order_law.specs.ouch_codec.declared.inbound.Inbound.{Inbound}
+use Rattle.order_law.specs.ouch_codec.declared.inbound.enter_order.EnterOrder.{EnterOrder}
+use Rattle.order_law.specs.ouch_codec.Inbound.{inbound_bytes}
 use Rattle.order_law.specs.Asks.{Standing}
 use Rattle.order_law.specs.declared.stage.Stage.TheVariants.{Waiting}
 use Rattle.order_law.specs.Headline.{EachWith, Says}
 use Rattle.order_law.specs.History.{Asked, Terms, terms_of}
-use Rattle.fix_fields.specs.Field.{Message}
+use Rattle.order_machine.specs.fix_fields.Field.{Message}
 use Rattle.order_law.specs.Told as law
 use Rattle.order_law.specs.Verdicts.{Accepted, first_row, rows_of_new}
 use Rattle.order_machine.specs.Machine.{by_verdict, client_step, entry_of_new, tells, verdict_in}

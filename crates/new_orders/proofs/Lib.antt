@@ -1,3 +1,4 @@
 mod NewVerdict
 mod Asking
 mod Entering
+pub use Rattle.order_table.proofs as order_table

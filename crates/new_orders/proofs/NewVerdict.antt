@@ -1,8 +1,9 @@
 -- The verdict on a new order, by what its rows are judged on.
 use Rattle.std.proofs.Common.{◌≡◌, ℕ, Bool, true, false, List, [], ◌∷◌, ◌++◌, refl, ap, ◌∙◌}
 use Rattle.std.specs.Prelude.{nat_le}
-use Rattle.fix_fields.specs.Field.{Message}
-use Rattle.order_law.specs.Verdicts.{Port, Row, Verdict, Accepted, Refused, first_row, field_rows, last_token, most_open, port_rows, rows_of_new}
+use Rattle.order_machine.specs.fix_fields.Field.{Message}
+use Rattle.order_law.specs.Verdicts.{Port, Row, Verdict, Accepted, Refused, first_row, field_rows, last_token}
+use Rattle.order_law.specs.Verdicts.{most_open, port_rows, rows_of_new}
 use Rattle.to_market.specs.declared.refusal.Refusal.{Refusal}
 use Rattle.to_market.specs.declared.refusal.Refusal.TheVariants as refusals
 use Rattle.to_market.specs.FieldRows.{refusal_row}

@@ -1,12 +1,12 @@
 -- What a new order makes of a table, as one answer. (FIX 4.4 Volume 4, "New Order - Single".)
 use Rattle.std.specs.Prelude.{◌≡◌, ◌≤◌, ℕ, ◌+◌, Bool, List, [], ◌∷◌, ◌++◌, Some, decimal, length, option_to_list}
-use Rattle.fix_types.specs.declared.application.AppBody.{AppBody}
-use Rattle.fix_types.specs.declared.new_order.NewOrder.{NewOrder}
-use Rattle.fix_types.specs.NewOrder.{new_order_fields}
-use Rattle.fix_types.specs.Application.{body_fields}
-use Rattle.ouch_codec.specs.declared.inbound.Inbound.{Inbound}
+use Rattle.client_requests.specs.fix_types.declared.application.AppBody.{AppBody}
+use Rattle.client_requests.specs.fix_types.declared.new_order.NewOrder.{NewOrder}
+use Rattle.client_requests.specs.fix_types.NewOrder.{new_order_fields}
+use Rattle.client_requests.specs.fix_types.Application.{body_fields}
+use Rattle.order_law.specs.ouch_codec.declared.inbound.Inbound.{Inbound}
 use Rattle.order_law.specs.History.{Asked, Entry}
-use Rattle.fix_fields.specs.Field.{Message, text}
+use Rattle.order_machine.specs.fix_fields.Field.{Message, text}
 use Rattle.order_law.specs.Verdicts.{Accepted}
 use Rattle.order_machine.specs.Machine.{client_step, tells, verdict_in, with_used}
 use Rattle.order_machine.specs.OrderRecord.{OrderRecord}

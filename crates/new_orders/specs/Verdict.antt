@@ -1,9 +1,9 @@
 -- The verdict on a new order, by the table that it comes to.
 use Rattle.std.specs.Prelude.{◌≡◌, ◌≤◌, ℕ, ◌+◌, Bool, List, Option, length}
-use Rattle.tokens.specs.TokenText.{token_text}
-use Rattle.fix_types.specs.declared.new_order.NewOrder.{NewOrder}
-use Rattle.fix_types.specs.NewOrder.{new_order_fields}
-use Rattle.ouch_codec.specs.declared.inbound.enter_order.EnterOrder.{EnterOrder}
+use Rattle.to_market.specs.tokens.TokenText.{token_text}
+use Rattle.client_requests.specs.fix_types.declared.new_order.NewOrder.{NewOrder}
+use Rattle.client_requests.specs.fix_types.NewOrder.{new_order_fields}
+use Rattle.order_law.specs.ouch_codec.declared.inbound.enter_order.EnterOrder.{EnterOrder}
 use Rattle.order_law.specs.Asks.{limit_of, total_of}
 use Rattle.order_law.specs.Headline.{Says}
 use Rattle.order_law.specs.Verdicts.{Verdict, first_row, rows_of_new}

@@ -2,9 +2,9 @@
 
 ghost use Rattle.std.specs.Prelude.{◌≡◌, ◌+◌, ◌<◌, ◌≤◌, ◌^◌, ◌∷◌, [], ℕ, List, Option, Some, codes, decimal, length};
 ghost use Rattle.std.specs.Prelude.{map, IfOk};
-ghost use Rattle.fix_types.specs.Application.{body_fields};
-ghost use Rattle.fix_types.specs.NewOrder.{new_order_fields};
-ghost use Rattle.ouch_codec.specs.Inbound.{inbound_bytes};
+ghost use Rattle.client_requests.specs.fix_types.Application.{body_fields};
+ghost use Rattle.client_requests.specs.fix_types.NewOrder.{new_order_fields};
+ghost use Rattle.order_law.specs.ouch_codec.Inbound.{inbound_bytes};
 ghost use Rattle.order_law.specs.Asks.{Standing};
 ghost use Rattle.order_law.specs.Headline.{EachWith, Says};
 ghost use Rattle.order_law.specs.History.{Asked};
@@ -15,11 +15,9 @@ ghost use Rattle.new_orders.specs.Turns.{StepsAccepted, entry_after};
 ghost use Rattle.new_orders.specs.Verdict.{AsksNext};
 
 use crate::turn::NewOrderTurn;
-use client_requests::{Sender, shown_now};
-use fix_types::{AppBody, NewOrder};
+use client_requests::{AppBody, NewOrder, Order, Progress, Sender, shown_now};
+use order_law::{EnterOrder, Inbound};
 use order_table::{GivenToken, Table};
-use orders::{Order, Progress};
-use ouch_codec::{EnterOrder, Inbound};
 use std::alloc::{AllocError, Global};
 use std::hash::BuildHasher;
 use to_client::{Occasion, report_of};

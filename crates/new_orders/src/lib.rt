@@ -12,4 +12,5 @@ mod turn;
 mod verdicts;
 
 pub use new_order::on_new_order;
+pub use order_table::{GivenToken, Table};
 pub use turn::NewOrderTurn;

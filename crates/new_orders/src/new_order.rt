@@ -1,8 +1,8 @@
 //! A new order of a client.
 
 ghost use Rattle.std.specs.Prelude.{◌≡◌, ◌<◌, ◌^◌, length, IfOk};
-ghost use Rattle.fix_types.specs.Application.{body_fields};
-ghost use Rattle.fix_types.specs.NewOrder.{new_order_fields};
+ghost use Rattle.client_requests.specs.fix_types.Application.{body_fields};
+ghost use Rattle.client_requests.specs.fix_types.NewOrder.{new_order_fields};
 ghost use Rattle.order_law.specs.Told as law;
 ghost use Rattle.to_market.specs.Refusals.{code_of, refusal_text};
 ghost use Rattle.new_orders.specs.Turns.{StepsNew};
@@ -10,8 +10,7 @@ ghost use Rattle.new_orders.specs.Turns.{StepsNew};
 use crate::accepting::accept;
 use crate::turn::NewOrderTurn;
 use crate::verdicts::verdict;
-use client_requests::Sender;
-use fix_types::{AppBody, NewOrder};
+use client_requests::{AppBody, NewOrder, Sender};
 use order_table::Table;
 use std::alloc::{AllocError, Global};
 use std::hash::BuildHasher;

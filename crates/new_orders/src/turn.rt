@@ -1,9 +1,8 @@
 //! What a new order comes to.
 
-use fix_types::AppBody;
+use client_requests::{AppBody, Order};
+use order_law::Inbound;
 use order_table::GivenToken;
-use orders::Order;
-use ouch_codec::Inbound;
 
 /// What a new order comes to.
 #[derive(Drop)]

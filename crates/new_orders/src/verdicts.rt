@@ -1,18 +1,16 @@
 //! The rows of a new order's table, in its order.
 
 ghost use Rattle.std.specs.Prelude.{◌≡◌, ◌+◌, ◌<◌, ◌^◌, true, false, nat_le, length, IfOk, MatchResult};
-ghost use Rattle.tokens.specs.TokenText.{token_text};
+ghost use Rattle.to_market.specs.tokens.TokenText.{token_text};
 ghost use Rattle.order_law.specs.Verdicts.{Accepted, last_token};
 ghost use Rattle.to_market.specs.Refusals.{refused_by};
 ghost use Rattle.new_orders.specs.Verdict.{AsksNext, verdict_of};
 
-use client_requests::Sender;
-use fix_types::NewOrder;
+use client_requests::{NewOrder, Sender};
+use order_law::EnterOrder;
 use order_table::Table;
-use ouch_codec::EnterOrder;
 use std::hash::BuildHasher;
-use to_market::{Refusal, ask_of, enter_order, refuse_if, refuse_port};
-use tokens::Token;
+use to_market::{Refusal, Token, ask_of, enter_order, refuse_if, refuse_port};
 
 /// How many orders of a client may be open or waiting.
 const MOST_OPEN: usize = 10_000;

@@ -1,3 +1,3 @@
 pub mod Counts
 pub mod CountLaws
-pub use Rattle.undo_list.specs.Undoing
+pub use Rattle.hint_index.specs.undo_list.Undoing

@@ -7,11 +7,10 @@ ghost use Rattle.hint_index.specs.Newest.{IsNewest};
 ghost use Rattle.number_counts.specs.Counts.{counted, is_of, one_if};
 
 use crate::number_count::{NumberCount, NumberKey};
-use hint_index::HintIndex;
+use hint_index::{HintIndex, UndoList};
 use std::alloc::{AllocError, Global};
 use std::hash::{BuildHasher, BuildHasherDefault, FoldHasher};
 use std::marker::Model;
-use undo_list::UndoList;
 
 /// How often each number was counted. Contracts see a list of numbers with their counts, now and as it was settled:
 /// a number that isn't there was never counted.
@@ -25,7 +24,7 @@ impl<S: BuildHasher + Drop> Model for NumberCounts<S> {
     ghost use Rattle.hint_index.specs.Hints.{Covered};
     ghost use Rattle.number_counts.specs.Counts.{has_number, room_of_count, same_number};
     ghost use Rattle.number_counts.specs.declared.number_count.NumberCount.{NumberCount};
-    ghost use Rattle.undo_list.specs.Undoing.{Undoable};
+    ghost use Rattle.hint_index.specs.undo_list.Undoing.{Undoable};
 
     ghost Value = { Undoable NumberCount };
 

@@ -1,8 +1,9 @@
 -- Readings that are held after each report.
-use Rattle.std.proofs.Common.{◌≡◌, ℕ, suc, ◌<◌, true, List, [], ◌∷◌, ◌++◌, length, get_or, take, drop, reverse, sym, ap, ◌∙◌, subst, append_assoc}
+use Rattle.std.proofs.Common.{◌≡◌, ℕ, suc, ◌<◌, true, List, [], ◌∷◌, ◌++◌, length, get_or, take, drop, reverse, sym}
+use Rattle.std.proofs.Common.{ap, ◌∙◌, subst, append_assoc}
 use Rattle.std.proofs.Math.Seq.{split_at}
 use Rattle.std.proofs.lemmas.List.{reverse-append}
-use Rattle.fix_fields.specs.Field.{Message}
+use Rattle.order_law.specs.fix_fields.Field.{Message}
 use Rattle.order_law.specs.Reading.{is_report_on, reading, with_report}
 use Rattle.order_accounts.specs.Held.{IsHeld, StaysHeld}
 

@@ -1,14 +1,15 @@
 -- Numbers that are read from texts.
-use Rattle.std.proofs.Common.{◌≡◌, ℕ, ◌+◌, ◌*◌, ◌^◌, ◌<◌, ◌≤◌, Bool, true, false, List, length, get_or, take, refl, arith}
+use Rattle.std.proofs.Common.{◌≡◌, ℕ, ◌+◌, ◌*◌, ◌^◌, ◌<◌, ◌≤◌, Bool, true, false, List, length, get_or, take, refl}
+use Rattle.std.proofs.Common.{arith}
 use Rattle.std.proofs.lemmas.Bool.Decides.{nat_tests}
 use Rattle.std.proofs.lemmas.Int.Digits.{digits_value_more}
 use Rattle.std.proofs.lemmas.Str.Parse.{digits_value-take-le}
 use Rattle.std.specs.Prelude.{nat_lt, if◌then◌else◌, unwrap_or, Option, None, Some, Result, Ok, Err}
 use Rattle.std.specs.Char.{digit_value}
 use Rattle.std.specs.Str.Parse.{digits_value}
-use Rattle.fixed_point.specs.declared.worth.WorthRefusal.{WorthRefusal}
-use Rattle.fixed_point.specs.declared.worth.WorthRefusal.TheVariants.{NoWorth, TooLarge}
-use Rattle.fixed_point.specs.Worth.{counted}
+use Rattle.order_law.specs.fixed_point.declared.worth.WorthRefusal.{WorthRefusal}
+use Rattle.order_law.specs.fixed_point.declared.worth.WorthRefusal.TheVariants.{NoWorth, TooLarge}
+use Rattle.order_law.specs.fixed_point.Worth.{counted}
 
 -- one more digit
 pub next_number : (number next : ℕ) (ds : List ℕ) (i : ℕ) → i < length ds → number ≡ digits_value 10 (take i ds) → next ≡ number * 10 + digit_value (get_or ds i 0) → next ≡ digits_value 10 (take (i + 1) ds)

@@ -1,6 +1,6 @@
 -- Readings whose numbers integers hold: 32 bits for what is open, 128 bits for every other.
 use Rattle.std.specs.Prelude.{ℕ, ◌<◌, ◌^◌, List, [], ◌∷◌}
-use Rattle.fix_fields.specs.Field.{Message}
+use Rattle.order_law.specs.fix_fields.Field.{Message}
 use Rattle.order_law.specs.Reading.{Fill, Reading, reading}
 
 abbrev pub AreHeldPrices : List Fill → Type 0

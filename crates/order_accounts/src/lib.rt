@@ -12,5 +12,6 @@ mod reading;
 mod reading_fault;
 
 pub use life::{Life, life_of};
+pub use ouch_codec::{Outbound, decode};
 pub use reading::{Reading, reading_of};
 pub use reading_fault::ReadingFault;

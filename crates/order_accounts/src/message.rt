@@ -5,13 +5,12 @@ ghost use Rattle.std.specs.Prelude.{◌≡◌, ◌<◌, ◌+◌, ◌*◌, ◌^�
 ghost use Rattle.std.specs.Result.{OkIff};
 ghost use Rattle.std.specs.Char.{digit_value};
 ghost use Rattle.std.specs.Str.Parse.{digits_value};
-ghost use Rattle.fix_fields.specs.Field as tags;
+ghost use Rattle.order_law.specs.fix_fields.Field as tags;
 ghost use Rattle.order_law.specs.Messages as messages;
 ghost use Rattle.order_law.specs.Reading as spec;
 
 use crate::reading_fault::ReadingFault;
-use fix_fields::Fields;
-use fixed_point::{WorthRefusal, parse_worth};
+use order_law::{Fields, WorthRefusal, parse_worth};
 
 /// The value of a tag, or no bytes where there is none.
 pub fn text(message: &Fields, tag: u32) -> &[u8]

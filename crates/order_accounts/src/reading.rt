@@ -7,14 +7,13 @@ ghost use Rattle.std.specs.Prelude.{IfOk, OnOk, IsErrOf, reverse, codes, bytes_e
 ghost use Rattle.std.specs.List.{find};
 ghost use Rattle.std.specs.Option.{option_copied};
 ghost use Rattle.order_accounts.specs.Held.{IsHeld, StaysHeld};
-ghost use Rattle.fix_fields.specs.Field as tags;
+ghost use Rattle.order_law.specs.fix_fields.Field as tags;
 ghost use Rattle.order_law.specs.Messages as messages;
 ghost use Rattle.order_law.specs.Reading as spec;
 
 use crate::message::{character, is, is_report_on, number, number32, price, product, sum, text};
 use crate::reading_fault::ReadingFault;
-use fix_fields::Fields;
-use order_law::Account;
+use order_law::{Account, Fields};
 use std::alloc::Global;
 use std::marker::Model;
 

@@ -1,8 +1,8 @@
 -- The client whose order a token leads to.
 use Rattle.std.proofs.Common.{◌≡◌, ℕ, ◌<◌, ◌^◌, List, length, Option, Some, None, refl, ap, ◌∙◌}
 use Rattle.std.specs.Prelude.{option_and_then, option_map}
-use Rattle.order_law.specs.History.{Entry, OrderHistory, Terms, accepted}
-use Rattle.order_law.specs.Lawful.{order_of_token}
+use Rattle.outstanding.specs.order_law.History.{Entry, OrderHistory, Terms, accepted}
+use Rattle.outstanding.specs.order_law.Lawful.{order_of_token}
 use Rattle.order_machine.specs.OrderRecord.{OrderRecord}
 use Rattle.order_machine.specs.Table.{TableState, record_by_token}
 use Rattle.order_machine.specs.Runs.{TurnsLeave}

@@ -1,9 +1,10 @@
 -- One more event of a run.
-use Rattle.std.proofs.Common.{◌≡◌, ℕ, suc, zero, ◌+◌, ◌<◌, ◌≤◌, Bool, true, false, List, [], ◌∷◌, ◌++◌, length, take, get_or, refl, sym, ap, ◌∙◌, arith, length-take-le}
+use Rattle.std.proofs.Common.{◌≡◌, ℕ, suc, zero, ◌+◌, ◌<◌, ◌≤◌, Bool, true, false, List, [], ◌∷◌, ◌++◌, length, take}
+use Rattle.std.proofs.Common.{get_or, refl, sym, ap, ◌∙◌, arith, length-take-le}
 use Rattle.std.specs.Prelude.{◌&&◌}
 use Rattle.std.specs.List.{list_all}
 use Rattle.std.proofs.lemmas.List.{take_more}
-use Rattle.order_law.specs.History.{OrderHistory}
+use Rattle.outstanding.specs.order_law.History.{OrderHistory}
 use Rattle.order_core.specs.declared.runs.Event.{Event}
 use Rattle.order_core.specs.declared.runs.Outcome.{Outcome}
 use Rattle.order_core.specs.Runs.{run_history, outcomes_onto, turn_of_outcome}

@@ -3,3 +3,4 @@ mod Histories
 mod Addressed
 pub mod Standing
 pub mod Sent
+pub use Rattle.order_machine.proofs as order_machine

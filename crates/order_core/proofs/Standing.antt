@@ -1,6 +1,6 @@
 -- Which turns a core is after is seen of its table and of the messages that it keeps: what was settled has no part in it.
 use Rattle.std.proofs.Common.{◌≡◌, List, subst}
-use Rattle.order_law.specs.History.{OrderHistory, Terms}
+use Rattle.outstanding.specs.order_law.History.{OrderHistory, Terms}
 use Rattle.order_machine.specs.Runs.{TurnsLeave}
 use Rattle.outstanding.specs.KeptInTurns.{KeepsOutstanding}
 use Rattle.order_core.specs.State.{OrderCoreState, IsAfterTurns}

@@ -2,11 +2,13 @@ pub mod State
 pub mod Meets
 pub mod Turns
 pub mod Runs
-pub use Rattle.fix_types.specs.Application
-pub use Rattle.order_law.specs.Headline
-pub use Rattle.order_law.specs.History
-pub use Rattle.order_law.specs.Lawful
-pub use Rattle.ouch_codec.specs.Inbound
-pub use Rattle.ouch_codec.specs.Values
-pub use Rattle.to_market.specs.PortsSeen
-pub use Rattle.to_market.specs.TermsSeen
+pub use Rattle.order_ledger.specs.fix_types.Application
+pub use Rattle.outstanding.specs.order_law.Headline
+pub use Rattle.outstanding.specs.order_law.History
+pub use Rattle.outstanding.specs.order_law.Lawful
+pub use Rattle.market_messages.specs.ouch_codec.Inbound
+pub use Rattle.market_messages.specs.ouch_codec.Values
+pub use Rattle.order_ledger.specs.to_market.PortsSeen
+pub use Rattle.order_ledger.specs.to_market.TermsSeen
+pub use Rattle.market_messages.specs as market_messages
+pub use Rattle.order_ledger.specs as order_ledger

@@ -1,6 +1,6 @@
 -- What callers see of the core: how many clients and numbers there are, and which turns it is after.
 use Rattle.std.specs.Prelude.{ℕ, List}
-use Rattle.order_law.specs.History.{OrderHistory, Terms}
+use Rattle.outstanding.specs.order_law.History.{OrderHistory, Terms}
 use Rattle.order_machine.specs.Runs.{TurnsLeave}
 use Rattle.order_machine.specs.Table.{TableState}
 use Rattle.order_ledger.specs.State as ledger

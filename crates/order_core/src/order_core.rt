@@ -1,16 +1,15 @@
 //! The value, and the calls that step it.
 
 ghost use Rattle.std.specs.Prelude.{◌≡◌, length, map, IfOk, MatchOption, None, OnErr, ◌<◌, ◌^◌, ◌∷◌, [], List};
-ghost use Rattle.ouch_codec.specs.Values.{decoded};
-ghost use Rattle.order_law.specs.Lawful.{token_of_heard};
-ghost use Rattle.ouch_codec.specs.Inbound.{inbound_bytes};
-ghost use Rattle.to_market.specs.PortsSeen.{port_seen};
+ghost use Rattle.market_messages.specs.ouch_codec.Values.{decoded};
+ghost use Rattle.outstanding.specs.order_law.Lawful.{token_of_heard};
+ghost use Rattle.market_messages.specs.ouch_codec.Inbound.{inbound_bytes};
+ghost use Rattle.order_ledger.specs.to_market.PortsSeen.{port_seen};
 ghost use Rattle.order_core.specs.Meets.{left_after, sent_of};
 
 use crate::outcome::{CoreOut, MarketOut};
-use fix_types::AppMsg;
-use order_ledger::{ChangedOrder, ClientTerms, MarketError, OrderLedger, PortState};
-use ouch_codec::{DecodeRefusal, Inbound, Outbound, decode};
+use market_messages::{DecodeRefusal, Inbound, Outbound, decode};
+use order_ledger::{AppMsg, ChangedOrder, ClientTerms, MarketError, OrderLedger, PortState};
 use outstanding::AskedMessages;
 use std::alloc::{AllocError, Global};
 use std::hash::{BuildHasher, BuildHasherDefault, FoldHasher};
@@ -53,7 +52,7 @@ impl<S: BuildHasher + Drop> Model for OrderCore<S> {
 }
 
 impl OrderCore {
-    ghost use Rattle.to_market.specs.TermsSeen.{terms_seen};
+    ghost use Rattle.order_ledger.specs.to_market.TermsSeen.{terms_seen};
     ghost use Rattle.order_core.specs.State.{IsAfterTurns, core_clients, core_numbers, core_put_back};
 
     /// The order level of these clients, with no orders, with the fixed seed.
@@ -71,7 +70,7 @@ impl OrderCore {
 }
 
 impl<S: BuildHasher + Clone + Drop> OrderCore<S> {
-    ghost use Rattle.to_market.specs.TermsSeen.{terms_seen};
+    ghost use Rattle.order_ledger.specs.to_market.TermsSeen.{terms_seen};
     ghost use Rattle.order_core.specs.State.{IsAfterTurns, core_clients, core_numbers, core_put_back};
 
     /// The order level of these clients, with no orders, with a hasher.
@@ -93,10 +92,10 @@ impl<S: BuildHasher + Clone + Drop> OrderCore<S> {
 }
 
 impl<S: BuildHasher + Drop> OrderCore<S> {
-    ghost use Rattle.order_law.specs.Headline.{EachWith, Headline, SaysIn};
+    ghost use Rattle.outstanding.specs.order_law.Headline.{EachWith, Headline, SaysIn};
     ghost use Rattle.std.specs.Prelude.{option_map, option_and_then};
-    ghost use Rattle.order_law.specs.History.{Entry, OrderHistory, Terms, accepted, outstanding};
-    ghost use Rattle.order_law.specs.Lawful.{order_of_token};
+    ghost use Rattle.outstanding.specs.order_law.History.{Entry, OrderHistory, Terms, accepted, outstanding};
+    ghost use Rattle.outstanding.specs.order_law.Lawful.{order_of_token};
     ghost use Rattle.order_core.specs.Meets.{MeetsClient, MeetsPayload};
     ghost use Rattle.order_core.specs.State.{IsAfterTurns, IsCoreClient, CoreHasRoom};
     ghost use Rattle.order_core.specs.State.{CoreKeeps, core_put_back, core_settled};

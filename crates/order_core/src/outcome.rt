@@ -1,7 +1,7 @@
 //! What a step gives.
 
-use fix_types::AppBody;
-use ouch_codec::Inbound;
+use market_messages::Inbound;
+use order_ledger::AppBody;
 
 /// What a client's message gives: bodies for the client, and messages to its port, in order.
 #[derive(Debug, Drop)]

@@ -1,20 +1,19 @@
 //! Whole runs: what comes of a list of events, from no order on.
 
 ghost use Rattle.std.specs.Prelude.{◌≡◌, ◌<◌, ◌^◌, ◌∷◌, true, Some, List, length, map, IfOk, OnErr};
-ghost use Rattle.fix_types.specs.Application.{message_fields};
-ghost use Rattle.ouch_codec.specs.Values.{decoded};
-ghost use Rattle.order_law.specs.Headline.{Headline};
-ghost use Rattle.order_law.specs.History.{Came, Heard, OrderHistory, Terms};
+ghost use Rattle.order_ledger.specs.fix_types.Application.{message_fields};
+ghost use Rattle.market_messages.specs.ouch_codec.Values.{decoded};
+ghost use Rattle.outstanding.specs.order_law.Headline.{Headline};
+ghost use Rattle.outstanding.specs.order_law.History.{Came, Heard, OrderHistory, Terms};
 ghost use Rattle.order_machine.specs.Runs.{IsTableRun};
 ghost use Rattle.order_core.specs.Runs.{AreKnown, run_history, is_known_client, outcome_turn, turn_of_outcome};
-ghost use Rattle.to_market.specs.PortsSeen.{port_seen};
-ghost use Rattle.to_market.specs.TermsSeen.{terms_seen};
+ghost use Rattle.order_ledger.specs.to_market.PortsSeen.{port_seen};
+ghost use Rattle.order_ledger.specs.to_market.TermsSeen.{terms_seen};
 ghost use Rattle.order_core.specs.State.{IsAfterTurns, core_clients, CoreHasRoom, IsCoreClient, CoreKeeps};
 
 use crate::order_core::OrderCore;
-use fix_types::{AppBody, AppMsg};
-use order_ledger::{ClientTerms, MarketError, PortState};
-use ouch_codec::Inbound;
+use market_messages::Inbound;
+use order_ledger::{AppBody, AppMsg, ClientTerms, MarketError, PortState};
 use std::alloc::{AllocError, Global};
 use std::hash::BuildHasher;
 

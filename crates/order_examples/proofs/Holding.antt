@@ -1,10 +1,12 @@
 -- An exchange that is computed has the headline.
-use Rattle.std.proofs.Common.{◌≡◌, ℕ, ◌<◌, ◌^◌, Bool, true, false, List, [], ◌∷◌, length, map, refl, sym, ◌∙◌, subst, arith, codes, Option, Some, None}
+use Rattle.std.proofs.Common.{◌≡◌, ℕ, ◌<◌, ◌^◌, Bool, true, false, List, [], ◌∷◌, length, map, refl, sym, ◌∙◌, subst}
+use Rattle.std.proofs.Common.{arith, codes, Option, Some, None}
 use Rattle.std.specs.Prelude.{if◌then◌else◌}
-use Rattle.ouch_codec.specs.ToMarket as said
+use Rattle.order_law.specs.ouch_codec.ToMarket as said
 use Rattle.order_law.specs.Asks.{Standing, ask_of_bytes}
 use Rattle.order_law.specs.Verdicts.{Up, Down, Ended, Faulted}
-use Rattle.order_law.specs.History.{Asked, Came, OrderEvent, Heard, OrderHistory, Said, SaysNew, SaysReplace, SaysCancel, OrderTurn, accepted, asks_of, entry_at, handled, issued, terms_of}
+use Rattle.order_law.specs.History.{Asked, Came, OrderEvent, Heard, OrderHistory, Said, SaysNew, SaysReplace}
+use Rattle.order_law.specs.History.{SaysCancel, OrderTurn, accepted, asks_of, entry_at, handled, issued, terms_of}
 use Rattle.order_law.specs.Told.{reports_in}
 use Rattle.order_law.specs.Headline.{EachWith, HasTokens, Headline, Says, TurnOf, has_type, order_number}
 use Rattle.order_machine.specs.Told.{IsTold, IsToldTurn, fault_of}

@@ -7,7 +7,7 @@ use Rattle.fixed_point.specs.Decimal.{price, quantity, amount, amount_of, within
 use Rattle.tokens.specs.TokenText.{token_text, last_digits}
 use Rattle.order_law.specs.Asks.{Ask, New, Change, Stop, Limits, LifeTime, Day, Immediate, Standing, asked_by_new}
 use Rattle.order_law.specs.Asks.{asked_by_request, ask_of_bytes}
-use Rattle.fix_fields.specs.Transcript.{message}
+use Rattle.order_machine.specs.fix_fields.Transcript.{message}
 use Rattle.order_examples.specs.Transcript.{accepted_message}
 
 abbrev letter : List ℕ → ℕ

@@ -3,7 +3,7 @@
 use Rattle.std.specs.Prelude.{◌≡◌, ◌&&◌, Bool, true, nat_lt, ℕ, List, [], ◌∷◌, map, Option, Some, None, if◌then◌else◌}
 use Rattle.std.specs.Prelude.{codes}
 use Rattle.std.specs.List.{list_all}
-use Rattle.ouch_codec.specs.ToMarket as said
+use Rattle.order_law.specs.ouch_codec.ToMarket as said
 use Rattle.order_law.specs.Asks.{Ask, ask_of_bytes}
 use Rattle.order_law.specs.Verdicts.{Up, Down, Ended, Faulted}
 use Rattle.order_law.specs.History.{terms_of, OrderEvent, Came, Heard, OrderTurn, OrderHistory, Asked, Said, SaysNew}

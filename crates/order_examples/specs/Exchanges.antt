@@ -2,8 +2,8 @@
 use Rattle.std.specs.Prelude.{[], ◌∷◌, codes}
 use Rattle.order_law.specs.Verdicts.{Up, Down, Ended, Faulted}
 use Rattle.order_law.specs.History.{OrderHistory}
-use Rattle.fix_fields.specs.Field.{Message}
-use Rattle.fix_fields.specs.Transcript.{message}
+use Rattle.order_machine.specs.fix_fields.Field.{Message}
+use Rattle.order_machine.specs.fix_fields.Transcript.{message}
 use Rattle.order_examples.specs.Transcript.{asked_turn, asked_by, heard_by_client, heard_by_client_on, faulted}
 use Rattle.order_examples.specs.Transcript.{faulted_on, enter_as, enter_message, enter_sale_message, replace_message}
 use Rattle.order_examples.specs.Transcript.{cancel_message, accepted_message, accepted_at, replaced_message}

@@ -12,3 +12,5 @@ pub mod MarketRows
 pub use Rattle.order_law.specs.Headline
 pub use Rattle.order_law.specs.History
 pub use Rattle.order_law.specs.Told
+pub use Rattle.fixed_point.specs as fixed_point
+pub use Rattle.tokens.specs as tokens

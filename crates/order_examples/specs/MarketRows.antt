@@ -3,7 +3,7 @@ use Rattle.std.specs.Prelude.{◌≡◌, ℕ, List, [], ◌++◌, codes, refl, O
 use Rattle.std.specs.Fmt.{digits}
 use Rattle.fixed_point.specs.Decimal.{price, quantity, amount, amount_of, within, scaled, fraction, worth, worth_of}
 use Rattle.tokens.specs.TokenText.{last_digits}
-use Rattle.ouch_codec.specs.Values.{decoded}
+use Rattle.order_law.specs.ouch_codec.Values.{decoded}
 use Rattle.order_law.specs.Lawful.{judgement, bytes_fault, token_fault, row_fault, type_fault}
 use Rattle.order_law.specs.History.{OrderHistory}
 use Rattle.order_examples.specs.Transcript.{fixed_terms, accepted_message, replaced_message, replaced_bytes}

@@ -6,7 +6,7 @@ use Rattle.fixed_point.specs.Price.{price_text}
 use Rattle.tokens.specs.TokenText.{last_digits}
 use Rattle.order_law.specs.History.{OrderHistory, OrderTurn}
 use Rattle.order_law.specs.Headline.{ReportState}
-use Rattle.fix_fields.specs.Transcript.{message}
+use Rattle.order_machine.specs.fix_fields.Transcript.{message}
 use Rattle.order_examples.specs.Transcript.{fixed_terms, asked_turn, heard_by_client, replace_message, cancel_message}
 use Rattle.order_examples.specs.Transcript.{replaced_message, executed_message, canceled_message, broken_message}
 use Rattle.order_examples.specs.Exchanges.{entered_and_accepted, replace_pending, order_is_filled}

@@ -8,7 +8,7 @@ use Rattle.fixed_point.specs.Decimal.{price, quantity, amount, amount_of, within
 use Rattle.fixed_point.specs.Price.{price_text}
 use Rattle.tokens.specs.TokenText.{last_digits}
 use Rattle.order_law.specs.declared.account.Account.{Account}
-use Rattle.fix_fields.specs.Field.{Message, text}
+use Rattle.order_machine.specs.fix_fields.Field.{Message, text}
 use Rattle.order_law.specs.Life.{account_of}
 use Rattle.order_law.specs.Reading.{account_read, is_report_on, reading}
 use Rattle.order_law.specs.Chain.{Chain, Request, chain}

@@ -8,7 +8,7 @@ use Rattle.order_law.specs.Verdicts.{verdict_of_new, verdict_of_request, open_or
 use Rattle.order_law.specs.Reading.{unread}
 use Rattle.order_law.specs.Chain.{unchained}
 use Rattle.order_law.specs.History.{OrderHistory, issued, accepted, verdict, standing_of}
-use Rattle.fix_fields.specs.Transcript.{message}
+use Rattle.order_machine.specs.fix_fields.Transcript.{message}
 use Rattle.order_examples.specs.Transcript.{fixed_terms}
 use Rattle.order_examples.specs.Exchanges.{entered_and_accepted, order_is_filled, replace_pending}
 use Rattle.order_examples.specs.Exchanges.{cancelled_across_a_replace, replaced_after_a_trade, four_unanswered}

@@ -11,5 +11,10 @@ mod stage;
 mod trade;
 
 pub use account::Account;
+pub use fix_fields::{Fields, Text};
+pub use fixed_point::{WorthRefusal, parse_worth};
+pub use ouch_codec::{EnterOrder, Inbound, Outbound};
 pub use stage::Stage;
+pub use tokens::Token;
 pub use trade::Trade;
+pub use wire_law::{is_printable, padded};

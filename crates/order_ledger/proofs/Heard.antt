@@ -1,15 +1,16 @@
 -- What a payload comes to, and what is given of it.
-use Rattle.std.proofs.Common.{◌≡◌, ℕ, ◌+◌, Bool, List, [], ◌∷◌, map, refl, sym, ap, ◌∙◌, subst, Option, Some, None, Result, decimal}
+use Rattle.std.proofs.Common.{◌≡◌, ℕ, ◌+◌, Bool, List, [], ◌∷◌, map, refl, sym, ap, ◌∙◌, subst, Option, Some, None}
+use Rattle.std.proofs.Common.{Result, decimal}
 use Rattle.std.specs.Prelude.{if◌then◌else◌}
 use Rattle.fix_types.specs.declared.application.AppBody.{AppBody}
 use Rattle.std.specs.List.{count_by, find}
 use Rattle.fix_types.specs.Application.{body_fields}
-use Rattle.ouch_codec.specs.declared.outbound.Outbound.{Outbound}
-use Rattle.ouch_codec.specs.declared.refusal.DecodeRefusal.{DecodeRefusal}
-use Rattle.order_law.specs.History.{Entry}
-use Rattle.order_law.specs.Life.{is_closed}
-use Rattle.order_law.specs.Reading.{is_report}
-use Rattle.order_law.specs.Told.{told_of_entry}
+use Rattle.to_market.specs.ouch_codec.declared.outbound.Outbound.{Outbound}
+use Rattle.to_market.specs.ouch_codec.declared.refusal.DecodeRefusal.{DecodeRefusal}
+use Rattle.new_orders.specs.order_law.History.{Entry}
+use Rattle.new_orders.specs.order_law.Life.{is_closed}
+use Rattle.new_orders.specs.order_law.Reading.{is_report}
+use Rattle.new_orders.specs.order_law.Told.{told_of_entry}
 use Rattle.order_machine.specs.OrderRecord.{OrderRecord}
 use Rattle.order_machine.specs.Table.{GivenToken, TableState, by_number, has_number, put}
 use Rattle.order_machine.specs.Machine.{GivenByEvent, market_step, silent}
@@ -17,9 +18,9 @@ use Rattle.order_machine.proofs.Executed.{count-more}
 use Rattle.order_machine.proofs.Lists.{found-passes}
 use Rattle.order_machine.proofs.Placed.{number-put_own}
 use Rattle.order_machine.proofs.Texts.{eq-is}
-use Rattle.orders.specs.Changes.{changed_by}
-use Rattle.order_table.specs.Held.{Held, with_number}
-use Rattle.order_table.proofs.Counted.{change-new}
+use Rattle.client_requests.specs.orders.Changes.{changed_by}
+use Rattle.new_orders.specs.order_table.Held.{Held, with_number}
+use Rattle.new_orders.proofs.order_table.Counted.{change-new}
 use Rattle.market_messages.specs.declared.heard.Heard.{Heard}
 use Rattle.market_messages.specs.Turns.{OrderIsTold}
 use Rattle.order_ledger.specs.declared.turns.ChangedOrder.{ChangedOrder}

@@ -1,25 +1,26 @@
 -- What comes of a client's message, put into the table, is what the table's step gives.
-use Rattle.std.proofs.Common.{◌≡◌, ℕ, ◌+◌, ◌≤◌, List, [], ◌∷◌, length, map, refl, sym, ap, ◌∙◌, subst, arith, Option, Some, None, decimal}
+use Rattle.std.proofs.Common.{◌≡◌, ℕ, ◌+◌, ◌≤◌, List, [], ◌∷◌, length, map, refl, sym, ap, ◌∙◌, subst, arith, Option}
+use Rattle.std.proofs.Common.{Some, None, decimal}
 use Rattle.fix_types.specs.declared.application.AppBody.{AppBody}
 use Rattle.fix_types.specs.Application.{body_fields}
-use Rattle.ouch_codec.specs.Inbound.{inbound_bytes}
-use Rattle.ouch_codec.specs.declared.inbound.Inbound.{Inbound}
-use Rattle.order_law.specs.Headline.{Each, EachWith, Says}
-use Rattle.order_law.specs.History.{Asked, terms_of}
-use Rattle.fix_fields.specs.Field.{Message}
-use Rattle.order_law.specs.Verdicts.{Port}
+use Rattle.to_market.specs.ouch_codec.Inbound.{inbound_bytes}
+use Rattle.to_market.specs.ouch_codec.declared.inbound.Inbound.{Inbound}
+use Rattle.new_orders.specs.order_law.Headline.{Each, EachWith, Says}
+use Rattle.new_orders.specs.order_law.History.{Asked, terms_of}
+use Rattle.order_machine.specs.fix_fields.Field.{Message}
+use Rattle.new_orders.specs.order_law.Verdicts.{Port}
 use Rattle.order_machine.specs.Machine.{GivenByEvent, client_step, tells, with_used}
 use Rattle.order_machine.specs.OrderRecord.{OrderRecord, at}
 use Rattle.order_machine.specs.Runs.{Finds}
 use Rattle.order_machine.specs.Table.{GivenToken, TableState, UsedId, by_number, put, used_by}
-use Rattle.orders.specs.Seen.{cancel_seen, replace_seen}
-use Rattle.orders.specs.declared.requests.Cancelling.{Cancelling}
-use Rattle.orders.specs.declared.requests.Replacing.{Replacing}
-use Rattle.order_table.specs.Held.{Held, changed, with_number}
+use Rattle.client_requests.specs.orders.Seen.{cancel_seen, replace_seen}
+use Rattle.client_requests.specs.orders.declared.requests.Cancelling.{Cancelling}
+use Rattle.client_requests.specs.orders.declared.requests.Replacing.{Replacing}
+use Rattle.new_orders.specs.order_table.Held.{Held, changed, with_number}
 use Rattle.to_market.specs.PortsSeen.{port_seen}
 use Rattle.to_market.specs.TermsSeen.{terms_seen}
 use Rattle.to_market.specs.declared.client_terms.ClientTerms.{ClientTerms}
-use Rattle.undo_list.specs.Undoing.{Undoable}
+use Rattle.hint_index.specs.undo_list.Undoing.{Undoable}
 use Rattle.client_requests.specs.Turns.{AreOf, IsCancelling, IsReplacing}
 use Rattle.client_requests.specs.declared.sender.Sender.{Sender}
 use Rattle.new_orders.specs.Turns.{IsEntering, numbered_on, with_order}

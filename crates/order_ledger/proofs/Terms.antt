@@ -2,7 +2,7 @@
 use Rattle.std.proofs.Common.{◌≡◌, ℕ, zero, suc, ◌+◌, ◌-◌, ◌≤◌, false, List, [], ◌∷◌, map, ap, ◌∙◌, arith}
 use Rattle.std.proofs.lemmas.Bool.Decides.{nat_tests}
 use Rattle.std.specs.Prelude.{Option, Some, slice_get, unwrap_or, ◌==◌}
-use Rattle.order_law.specs.History.{terms_of}
+use Rattle.new_orders.specs.order_law.History.{terms_of}
 use Rattle.to_market.specs.declared.client_terms.ClientTerms.{ClientTerms}
 use Rattle.to_market.specs.TermsSeen.{terms_seen}
 

@@ -2,14 +2,14 @@
 use Rattle.std.specs.Prelude.{◌≡◌, ℕ, List, Option, Some, None, Result, Ok, Err, map, decimal}
 use Rattle.fix_types.specs.declared.application.AppMsg.{AppMsg}
 use Rattle.fix_types.specs.Application.{body_fields, message_fields}
-use Rattle.ouch_codec.specs.declared.outbound.Outbound.{Outbound}
-use Rattle.ouch_codec.specs.declared.refusal.DecodeRefusal.{DecodeRefusal}
-use Rattle.ouch_codec.specs.Inbound.{inbound_bytes}
-use Rattle.order_law.specs.History.{Terms, terms_of}
-use Rattle.order_law.specs.Headline.{Each, EachWith, Says}
-use Rattle.order_law.specs.Life.{is_closed}
-use Rattle.fix_fields.specs.Field.{Message}
-use Rattle.order_law.specs.Verdicts.{Port}
+use Rattle.to_market.specs.ouch_codec.declared.outbound.Outbound.{Outbound}
+use Rattle.to_market.specs.ouch_codec.declared.refusal.DecodeRefusal.{DecodeRefusal}
+use Rattle.to_market.specs.ouch_codec.Inbound.{inbound_bytes}
+use Rattle.new_orders.specs.order_law.History.{Terms, terms_of}
+use Rattle.new_orders.specs.order_law.Headline.{Each, EachWith, Says}
+use Rattle.new_orders.specs.order_law.Life.{is_closed}
+use Rattle.order_machine.specs.fix_fields.Field.{Message}
+use Rattle.new_orders.specs.order_law.Verdicts.{Port}
 use Rattle.order_machine.specs.OrderRecord.{OrderRecord}
 use Rattle.order_machine.specs.Table.{TableState, record_by_id, by_number, put}
 use Rattle.order_machine.specs.Machine.{GivenByEvent, client_step, faulty, market_step}

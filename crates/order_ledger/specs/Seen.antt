@@ -2,7 +2,7 @@
 use Rattle.std.specs.Prelude.{ℕ, Bool, Option, Some, None}
 use Rattle.fix_types.specs.declared.application.AppBody.{AppBody}
 use Rattle.fix_types.specs.Application.{body_fields}
-use Rattle.order_law.specs.Reading.{is_report}
+use Rattle.new_orders.specs.order_law.Reading.{is_report}
 
 -- a client's number, 0 for nobody
 abbrev pub client_seen : Option ℕ → ℕ

@@ -5,13 +5,13 @@ mod new_order;
 mod requests;
 
 ghost use Rattle.std.specs.Prelude.{◌≡◌, ◌≤◌, ◌<◌, length, map, slice_get, Some, IfOk, OnErr};
-ghost use Rattle.order_law.specs.History.{terms_of};
+ghost use Rattle.new_orders.specs.order_law.History.{terms_of};
 ghost use Rattle.to_market.specs.TermsSeen.{terms_seen};
 
 use crate::turns::ClientTurn;
 use crate::used_ids::UsedIds;
 use fix_types::AppMsg;
-use order_table::Table;
+use new_orders::Table;
 use std::alloc::{AllocError, Global};
 use std::hash::{BuildHasher, BuildHasherDefault, FoldHasher};
 use std::marker::Model;
@@ -126,7 +126,7 @@ impl<S: BuildHasher + Clone + Drop> OrderLedger<S> {
 }
 
 impl<S: BuildHasher + Drop> OrderLedger<S> {
-    ghost use Rattle.order_law.specs.History.{terms_of};
+    ghost use Rattle.new_orders.specs.order_law.History.{terms_of};
     ghost use Rattle.std.specs.Prelude.{option_map};
     ghost use Rattle.order_machine.specs.OrderRecord.{OrderRecord};
     ghost use Rattle.order_machine.specs.Table.{record_by_token};

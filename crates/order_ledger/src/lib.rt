@@ -12,6 +12,7 @@ mod market_error;
 mod turns;
 mod used_ids;
 
+pub use fix_types::{AppBody, AppMsg};
 pub use ledger::OrderLedger;
 pub use market_error::MarketError;
 pub use market_messages::MarketFault;

@@ -6,12 +6,11 @@ ghost use Rattle.order_machine.specs.Table as table;
 ghost use Rattle.order_ledger.specs.UsedKeys.{has_used_key};
 ghost use Rattle.order_ledger.specs.UsedKeyLaws.{used-alike};
 
-use fix_values::ClOrdId;
-use hint_index::{HintIndex, Keyed, Sought, TextKey};
+use hint_index::{HintIndex, Keyed, Sought, TextKey, UndoList};
 use std::alloc::{AllocError, Global};
 use std::hash::{BuildHasher, BuildHasherDefault, FoldHasher};
 use std::marker::Model;
-use undo_list::UndoList;
+use to_market::ClOrdId;
 
 /// A ClOrdID (11) that a client has used.
 #[derive(Debug, Drop)]
@@ -97,7 +96,7 @@ impl<S: BuildHasher + Drop> Model for UsedIds<S> {
     ghost use Rattle.hint_index.specs.TextKeys.{same_key};
     ghost use Rattle.order_machine.specs.Table as table;
     ghost use Rattle.order_ledger.specs.UsedKeys.{has_used_key, room_of};
-    ghost use Rattle.undo_list.specs.Undoing.{Undoable};
+    ghost use Rattle.hint_index.specs.undo_list.Undoing.{Undoable};
 
     ghost Value = { Undoable table.UsedId };
 

@@ -1,9 +1,10 @@
 -- Accepted: the order is in the book, or dead at once.
-use Rattle.std.proofs.Common.{◌≡◌, ◌≢◌, ℕ, ◌+◌, ◌<◌, ◌≤◌, ◌^◌, Bool, true, false, List, [], ◌∷◌, ◌++◌, map, refl, sym, ap, ◌∙◌, subst, arith, codes, bytes_eq, Option, Some, None}
+use Rattle.std.proofs.Common.{◌≡◌, ◌≢◌, ℕ, ◌+◌, ◌<◌, ◌≤◌, ◌^◌, Bool, true, false, List, [], ◌∷◌, ◌++◌, map, refl, sym}
+use Rattle.std.proofs.Common.{ap, ◌∙◌, subst, arith, codes, bytes_eq, Option, Some, None}
 use Rattle.std.specs.Prelude.{if◌then◌else◌}
-use Rattle.ouch_codec.specs.declared.outbound.Outbound.{Outbound}
-use Rattle.ouch_codec.specs.declared.outbound.Outbound.TheVariants as market
-use Rattle.ouch_codec.specs.declared.outbound.accepted.Accepted.{Accepted}
+use Rattle.order_law.specs.ouch_codec.declared.outbound.Outbound.{Outbound}
+use Rattle.order_law.specs.ouch_codec.declared.outbound.Outbound.TheVariants as market
+use Rattle.order_law.specs.ouch_codec.declared.outbound.accepted.Accepted.{Accepted}
 use Rattle.order_law.specs.declared.stage.Stage.TheVariants.{Waiting, Closed}
 use Rattle.fix_fields.specs.Field.{Message}
 use Rattle.order_law.specs.Life.{after, first_token, is_dead, is_live}
@@ -12,7 +13,9 @@ use Rattle.order_law.specs.History.{Entry, Terms, token_of}
 use Rattle.order_law.specs.Told.{Occasion, Shown, cancelled, priced, plain, report, told_by}
 use Rattle.order_law.specs.Told as told
 use Rattle.order_law.specs.Headline.{has_due_ids}
-use Rattle.order_machine.specs.OrderRecord.{Cancelling, OrderRecord, asked_as, cancel_asked, chained, fill_of, gone, unanswered_tokens, live_token, record_life, put_in_book, replace_asked, shown_as, still_cancelling, unasked, with_tokens}
+use Rattle.order_machine.specs.OrderRecord.{Cancelling, OrderRecord, asked_as, cancel_asked, chained, fill_of, gone}
+use Rattle.order_machine.specs.OrderRecord.{unanswered_tokens, live_token, record_life, put_in_book, replace_asked}
+use Rattle.order_machine.specs.OrderRecord.{shown_as, still_cancelling, unasked, with_tokens}
 use Rattle.order_machine.proofs.Texts.{eq-same}
 use Rattle.order_machine.proofs.Due.{IsSound, Reads}
 use Rattle.order_machine.proofs.Reports.{Tells, new-Reads, report-tells}

@@ -1,13 +1,14 @@
 -- Each body that a message of the market leads to is on its order, enters none and gives no token.
-use Rattle.std.proofs.Common.{◌≡◌, ℕ, ◌+◌, Bool, true, false, List, [], ◌∷◌, ◌++◌, map, reverse, refl, ap, ◌∙◌, codes, bytes_eq, Option, Some, None}
+use Rattle.std.proofs.Common.{◌≡◌, ℕ, ◌+◌, Bool, true, false, List, [], ◌∷◌, ◌++◌, map, reverse, refl, ap, ◌∙◌, codes}
+use Rattle.std.proofs.Common.{bytes_eq, Option, Some, None}
 use Rattle.std.specs.Prelude.{◌&&◌, ◌||◌, ◌==◌, not, if◌then◌else◌, filter, unwrap_or}
 use Rattle.std.specs.List.{find}
 use Rattle.std.proofs.Common.{append_assoc}
 use Rattle.std.proofs.lemmas.List.{reverse-append}
-use Rattle.ouch_codec.specs.declared.outbound.Outbound.{Outbound}
-use Rattle.ouch_codec.specs.declared.outbound.Outbound.TheVariants as market
-use Rattle.ouch_codec.specs.declared.outbound.replaced.Replaced.{Replaced}
-use Rattle.ouch_codec.specs.declared.order_state.OrderState.{OrderState}
+use Rattle.order_law.specs.ouch_codec.declared.outbound.Outbound.{Outbound}
+use Rattle.order_law.specs.ouch_codec.declared.outbound.Outbound.TheVariants as market
+use Rattle.order_law.specs.ouch_codec.declared.outbound.replaced.Replaced.{Replaced}
+use Rattle.order_law.specs.ouch_codec.declared.order_state.OrderState.{OrderState}
 use Rattle.fix_fields.specs.Field.{Message, is, text}
 use Rattle.order_law.specs.Life.{Life, after, is_closed, is_dead, is_live, is_waiting}
 use Rattle.order_law.specs.Reading.{Fill, is_report}

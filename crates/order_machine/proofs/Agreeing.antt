@@ -1,8 +1,9 @@
 -- An order that is as the lists have it: reports and messages agree on it, and what is pending is outstanding.
-use Rattle.std.proofs.Common.{◌≡◌, ◌≢◌, ℕ, Bool, true, false, List, [], ◌∷◌, ◌++◌, map, refl, sym, ap, ◌∙◌, bytes_eq, Option, Some, None}
+use Rattle.std.proofs.Common.{◌≡◌, ◌≢◌, ℕ, Bool, true, false, List, [], ◌∷◌, ◌++◌, map, refl, sym, ap, ◌∙◌, bytes_eq}
+use Rattle.std.proofs.Common.{Option, Some, None}
 use Rattle.std.specs.Prelude.{◌&&◌, not, if◌then◌else◌, filter}
 use Rattle.std.specs.List.{filter_map}
-use Rattle.ouch_codec.specs.declared.outbound.Outbound.{Outbound}
+use Rattle.order_law.specs.ouch_codec.declared.outbound.Outbound.{Outbound}
 use Rattle.order_law.specs.declared.stage.Stage.{Stage}
 use Rattle.order_law.specs.declared.stage.Stage.TheVariants.{Waiting, Working, Closed}
 use Rattle.fix_fields.specs.Field.{Message, text}
@@ -10,8 +11,10 @@ use Rattle.order_law.specs.Reading.{Reading, reading}
 use Rattle.order_law.specs.Life.{Life}
 use Rattle.order_law.specs.Chain.{Chain, Request, chain}
 use Rattle.order_law.specs.History.{Asked, Entry, Said, Terms, is_cancel_said, is_replace_said, life_of, pending_tokens}
-use Rattle.order_law.specs.Headline.{Agree, PendingIsOutstanding, asked_of, cancels, each_once, ids_asked, replacement_of, replaces}
-use Rattle.order_machine.specs.OrderRecord.{Cancelling, OrderRecord, asked_as, cancel_asked, asked_cancel, chained, live_token, record_life, new_asked, read, replace_asked, replacements}
+use Rattle.order_law.specs.Headline.{Agree, PendingIsOutstanding, asked_of, cancels, each_once, ids_asked}
+use Rattle.order_law.specs.Headline.{replacement_of, replaces}
+use Rattle.order_machine.specs.OrderRecord.{Cancelling, OrderRecord, asked_as, cancel_asked, asked_cancel, chained}
+use Rattle.order_machine.specs.OrderRecord.{live_token, record_life, new_asked, read, replace_asked, replacements}
 use Rattle.order_machine.proofs.Texts.{eq-same}
 use Rattle.order_machine.proofs.Fits.{Fits, life-of, own, tokens-are}
 

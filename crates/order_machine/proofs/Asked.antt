@@ -1,17 +1,21 @@
 -- What of an order's requests a message of the market answers.
-use Rattle.std.proofs.Common.{◌≡◌, ◌≢◌, ℕ, Bool, true, false, List, [], ◌∷◌, ◌++◌, map, refl, sym, ap, ◌∙◌, Option, Some, None}
+use Rattle.std.proofs.Common.{◌≡◌, ◌≢◌, ℕ, Bool, true, false, List, [], ◌∷◌, ◌++◌, map, refl, sym, ap, ◌∙◌, Option}
+use Rattle.std.proofs.Common.{Some, None}
 use Rattle.std.specs.Prelude.{◌&&◌, ◌||◌, not, if◌then◌else◌}
 use Rattle.std.specs.List.{list_any}
 use Rattle.std.proofs.lemmas.List.Elements.{filter-append}
 use Rattle.std.proofs.lemmas.List.Folds.{list_any-append}
-use Rattle.ouch_codec.specs.declared.outbound.Outbound.{Outbound}
-use Rattle.ouch_codec.specs.declared.outbound.Outbound.TheVariants as market
+use Rattle.order_law.specs.ouch_codec.declared.outbound.Outbound.{Outbound}
+use Rattle.order_law.specs.ouch_codec.declared.outbound.Outbound.TheVariants as market
 use Rattle.order_law.specs.declared.stage.Stage.{Stage}
 use Rattle.order_law.specs.declared.stage.Stage.TheVariants.{Waiting, Working, Closed}
 use Rattle.fix_fields.specs.Field.{Message}
-use Rattle.order_law.specs.History.{Asked, Entry, Said, SaysCancel, SaysNew, SaysReplace, Terms, answers, is_cancel_said, token_of}
+use Rattle.order_law.specs.History.{Asked, Entry, Said, SaysCancel, SaysNew, SaysReplace, Terms, answers}
+use Rattle.order_law.specs.History.{is_cancel_said, token_of}
 use Rattle.order_law.specs.Told as told
-use Rattle.order_machine.specs.OrderRecord.{Cancelling, OrderRecord, asked_as, at, cancel_asked, asked_cancel, is_empty, unanswered_tokens, last_of, live_token, new_asked, replace_asked, shown_as, still_cancelling, with_tokens}
+use Rattle.order_machine.specs.OrderRecord.{Cancelling, OrderRecord, asked_as, at, cancel_asked, asked_cancel}
+use Rattle.order_machine.specs.OrderRecord.{is_empty, unanswered_tokens, last_of, live_token, new_asked, replace_asked}
+use Rattle.order_machine.specs.OrderRecord.{shown_as, still_cancelling, with_tokens}
 use Rattle.order_machine.proofs.Due.{IsSound, Reads}
 use Rattle.order_machine.proofs.Leads.{AreApart, AreNamed, Leads, cancel_rejected-leads, leads-none, same_some}
 use Rattle.order_machine.proofs.Moves.{answers_last, unanswered, unanswered-cancels}

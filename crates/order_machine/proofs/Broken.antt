@@ -1,10 +1,11 @@
 -- Broken Trade: a trade that stands is taken back.
-use Rattle.std.proofs.Common.{◌≡◌, ℕ, ◌+◌, ◌-◌, ◌<◌, ◌≤◌, ◌^◌, Bool, true, false, List, [], ◌∷◌, map, refl, sym, ap, ◌∙◌, subst, arith, decimal, bytes_eq, Some, eqb-true}
+use Rattle.std.proofs.Common.{◌≡◌, ℕ, ◌+◌, ◌-◌, ◌<◌, ◌≤◌, ◌^◌, Bool, true, false, List, [], ◌∷◌, map, refl, sym, ap}
+use Rattle.std.proofs.Common.{◌∙◌, subst, arith, decimal, bytes_eq, Some, eqb-true}
 use Rattle.std.specs.Prelude.{◌&&◌, ◌||◌, ◌==◌, not}
 use Rattle.std.specs.List.{find, list_any}
-use Rattle.ouch_codec.specs.declared.outbound.Outbound.{Outbound}
-use Rattle.ouch_codec.specs.declared.outbound.Outbound.TheVariants as market
-use Rattle.ouch_codec.specs.declared.outbound.broken.Broken.{Broken}
+use Rattle.order_law.specs.ouch_codec.declared.outbound.Outbound.{Outbound}
+use Rattle.order_law.specs.ouch_codec.declared.outbound.Outbound.TheVariants as market
+use Rattle.order_law.specs.ouch_codec.declared.outbound.broken.Broken.{Broken}
 use Rattle.order_law.specs.declared.stage.Stage.{Stage}
 use Rattle.order_law.specs.declared.stage.Stage.TheVariants.{Waiting, Working, Closed}
 use Rattle.order_law.specs.declared.trade.Trade.{Trade}
@@ -15,7 +16,8 @@ use Rattle.order_law.specs.Chain.{chain}
 use Rattle.order_law.specs.History.{Entry, Said, SaysCancel, SaysNew, SaysReplace, Terms, answers}
 use Rattle.order_law.specs.Told.{Shown, exec_id_of, priced, report, told_by}
 use Rattle.order_law.specs.Headline.{has_due_ids}
-use Rattle.order_machine.specs.OrderRecord.{stands_told, OrderRecord, ToldTrade, asked_as, with_trade_broken, chained, fill_of, record_life, mark, shown_as}
+use Rattle.order_machine.specs.OrderRecord.{stands_told, OrderRecord, ToldTrade, asked_as, with_trade_broken, chained}
+use Rattle.order_machine.specs.OrderRecord.{fill_of, record_life, mark, shown_as}
 use Rattle.order_machine.proofs.Texts.{and-parts, eq-decimal_other, eq-same}
 use Rattle.order_machine.proofs.Due.{Reads}
 use Rattle.order_machine.proofs.Reports.{broken-Reads, broken_occasion, report-tells}

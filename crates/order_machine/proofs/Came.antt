@@ -1,14 +1,16 @@
 -- Each client's message keeps what every told history keeps.
-use Rattle.std.proofs.Common.{◌≡◌, ℕ, ◌+◌, ◌*◌, ◌<◌, ◌≤◌, ◌^◌, Bool, true, false, List, [], ◌∷◌, ◌++◌, length, refl, sym, ap, ◌∙◌, subst, arith, decimal, codes, bytes_eq, Some, None, eq-eqb}
+use Rattle.std.proofs.Common.{◌≡◌, ℕ, ◌+◌, ◌*◌, ◌<◌, ◌≤◌, ◌^◌, Bool, true, false, List, [], ◌∷◌, ◌++◌, length, refl}
+use Rattle.std.proofs.Common.{sym, ap, ◌∙◌, subst, arith, decimal, codes, bytes_eq, Some, None, eq-eqb}
 use Rattle.std.specs.Prelude.{if◌then◌else◌}
 use Rattle.tokens.specs.TokenText.{token_text}
-use Rattle.ouch_codec.specs.declared.outbound.Outbound.{Outbound}
-use Rattle.ouch_codec.specs.declared.outbound.Outbound.TheVariants as market
-use Rattle.ouch_codec.specs.declared.refusal.DecodeRefusal.{DecodeRefusal}
+use Rattle.order_law.specs.ouch_codec.declared.outbound.Outbound.{Outbound}
+use Rattle.order_law.specs.ouch_codec.declared.outbound.Outbound.TheVariants as market
+use Rattle.order_law.specs.ouch_codec.declared.refusal.DecodeRefusal.{DecodeRefusal}
 use Rattle.fix_fields.specs.Field.{Message, character, is, text}
 use Rattle.order_law.specs.Life.{Life, after, born, life}
 use Rattle.order_law.specs.Chain.{is_used}
-use Rattle.order_law.specs.History.{Entry, OrderHistory, Terms, OrderTurn, accepted, given_tokens, handled, is_new_order, issued, life_of, new_of, orders_numbered, outstanding, token_of}
+use Rattle.order_law.specs.History.{Entry, OrderHistory, Terms, OrderTurn, accepted, given_tokens, handled}
+use Rattle.order_law.specs.History.{is_new_order, issued, life_of, new_of, orders_numbered, outstanding, token_of}
 use Rattle.order_law.specs.Told.{price_after, priced, reports_in}
 use Rattle.order_law.specs.Headline.{Each, IsTrueToMarket, old_ids}
 use Rattle.order_machine.specs.OrderRecord.{OrderRecord, asked_as, shown_as}

@@ -1,9 +1,10 @@
 -- Canceled: a part of what is open, or all of it.
-use Rattle.std.proofs.Common.{◌≡◌, ℕ, ◌+◌, ◌-◌, ◌<◌, ◌≤◌, ◌^◌, true, false, List, [], ◌∷◌, map, refl, sym, ap, ◌∙◌, subst, arith, codes, Option, Some, None, eqb-true}
+use Rattle.std.proofs.Common.{◌≡◌, ℕ, ◌+◌, ◌-◌, ◌<◌, ◌≤◌, ◌^◌, true, false, List, [], ◌∷◌, map, refl, sym, ap, ◌∙◌}
+use Rattle.std.proofs.Common.{subst, arith, codes, Option, Some, None, eqb-true}
 use Rattle.std.specs.Prelude.{◌==◌, if◌then◌else◌}
-use Rattle.ouch_codec.specs.declared.outbound.Outbound.{Outbound}
-use Rattle.ouch_codec.specs.declared.outbound.Outbound.TheVariants as market
-use Rattle.ouch_codec.specs.declared.outbound.canceled.Canceled.{Canceled}
+use Rattle.order_law.specs.ouch_codec.declared.outbound.Outbound.{Outbound}
+use Rattle.order_law.specs.ouch_codec.declared.outbound.Outbound.TheVariants as market
+use Rattle.order_law.specs.ouch_codec.declared.outbound.canceled.Canceled.{Canceled}
 use Rattle.order_law.specs.declared.stage.Stage.TheVariants.{Waiting, Working, Closed}
 use Rattle.fix_fields.specs.Field.{Message}
 use Rattle.order_law.specs.Life.{after, is_closed, is_live}
@@ -12,7 +13,8 @@ use Rattle.order_law.specs.History.{Entry, Said, SaysCancel, SaysNew, SaysReplac
 use Rattle.order_law.specs.Told.{Occasion, Shown, cancelled, priced, plain, report, told_by}
 use Rattle.order_law.specs.Told as told
 use Rattle.order_law.specs.Headline.{has_due_ids}
-use Rattle.order_machine.specs.OrderRecord.{Cancelling, OrderRecord, asked_as, chained, fill_of, gone, leaves, record_life, reduced, shown_as, unasked}
+use Rattle.order_machine.specs.OrderRecord.{Cancelling, OrderRecord, asked_as, chained, fill_of, gone, leaves}
+use Rattle.order_machine.specs.OrderRecord.{record_life, reduced, shown_as, unasked}
 use Rattle.order_machine.proofs.Texts.{eq-same}
 use Rattle.order_machine.proofs.Due.{Reads}
 use Rattle.order_machine.proofs.Reports.{report-tells, restated-Reads}

@@ -1,13 +1,17 @@
 -- A client's message keeps what every told history keeps, and each order true.
-use Rattle.std.proofs.Common.{◌≡◌, ◌≢◌, ℕ, ◌+◌, ◌*◌, ◌<◌, ◌≤◌, ◌^◌, Bool, true, false, List, [], ◌∷◌, ◌++◌, length, map, reverse, refl, sym, ap, ◌∙◌, subst, arith, decimal, codes, bytes_eq, Option, Some, None, eqb-true, eq-eqb, ne_eqb}
+use Rattle.std.proofs.Common.{◌≡◌, ◌≢◌, ℕ, ◌+◌, ◌*◌, ◌<◌, ◌≤◌, ◌^◌, Bool, true, false, List, [], ◌∷◌, ◌++◌, length}
+use Rattle.std.proofs.Common.{map, reverse, refl, sym, ap, ◌∙◌, subst, arith, decimal, codes, bytes_eq, Option, Some}
+use Rattle.std.proofs.Common.{None, eqb-true, eq-eqb, ne_eqb}
 use Rattle.std.specs.Prelude.{◌&&◌, ◌==◌, if◌then◌else◌, is_some}
 use Rattle.std.specs.List.{count_by, find, list_any}
-use Rattle.ouch_codec.specs.declared.outbound.Outbound.{Outbound}
+use Rattle.order_law.specs.ouch_codec.declared.outbound.Outbound.{Outbound}
 use Rattle.fix_fields.specs.Field.{Message, is, text}
 use Rattle.order_law.specs.Life.{Life, after, born, is_closed, is_live, is_of, life}
 use Rattle.order_law.specs.Reading.{is_report}
 use Rattle.order_law.specs.Chain.{chain, is_used, orders}
-use Rattle.order_law.specs.History.{Asked, Entry, Heard, OrderHistory, Terms, OrderTurn, accepted, answers, given_tokens, handled, is_new_order, issued, life_of, new_of, orders_numbered, outstanding, pending_tokens, terms_of, token_of}
+use Rattle.order_law.specs.History.{Asked, Entry, Heard, OrderHistory, Terms, OrderTurn, accepted, answers}
+use Rattle.order_law.specs.History.{given_tokens, handled, is_new_order, issued, life_of, new_of, orders_numbered}
+use Rattle.order_law.specs.History.{outstanding, pending_tokens, terms_of, token_of}
 use Rattle.order_law.specs.Told.{reports_in}
 use Rattle.order_law.specs.Headline.{Each, IsTrueToMarket, ReadsWell, old_ids}
 use Rattle.order_machine.specs.OrderRecord.{OrderRecord}
@@ -17,7 +21,8 @@ use Rattle.order_machine.proofs.Due.{IsUnread, IsUnread-others, Reads, Reads-oth
 use Rattle.order_machine.proofs.Executed.{count-more}
 use Rattle.order_machine.proofs.Leads.{same_some}
 use Rattle.order_machine.proofs.Fits.{own}
-use Rattle.order_machine.proofs.Holds.{HasRecord, Holds, IsEntry, FitsIn, Still, StillBeside, news, orders_of, port_of, quiet-Fits, true-of}
+use Rattle.order_machine.proofs.Holds.{HasRecord, Holds, IsEntry, FitsIn, Still, StillBeside, news, orders_of, port_of}
+use Rattle.order_machine.proofs.Holds.{quiet-Fits, true-of}
 use Rattle.order_machine.proofs.Hearing.{append-nothing}
 use Rattle.order_machine.proofs.Texts.{or-true}
 use Rattle.order_law.specs.Verdicts.{Port, is_replace}

@@ -1,12 +1,13 @@
 -- Executed: a trade, which may leave nothing open.
-use Rattle.std.proofs.Common.{◌≡◌, ℕ, ◌+◌, ◌-◌, ◌<◌, ◌≤◌, ◌^◌, Bool, true, false, List, [], ◌∷◌, map, refl, sym, ap, ◌∙◌, subst, arith, eqb-true}
+use Rattle.std.proofs.Common.{◌≡◌, ℕ, ◌+◌, ◌-◌, ◌<◌, ◌≤◌, ◌^◌, Bool, true, false, List, [], ◌∷◌, map, refl, sym, ap}
+use Rattle.std.proofs.Common.{◌∙◌, subst, arith, eqb-true}
 use Rattle.std.specs.Prelude.{◌==◌, if◌then◌else◌}
 use Rattle.std.specs.List.{count_by}
 use Rattle.std.proofs.lemmas.List.Sums.{sum_by-append}
 use Rattle.order_law.specs.Reading.{is_report}
-use Rattle.ouch_codec.specs.declared.outbound.Outbound.{Outbound}
-use Rattle.ouch_codec.specs.declared.outbound.Outbound.TheVariants as market
-use Rattle.ouch_codec.specs.declared.outbound.executed.Executed.{Executed}
+use Rattle.order_law.specs.ouch_codec.declared.outbound.Outbound.{Outbound}
+use Rattle.order_law.specs.ouch_codec.declared.outbound.Outbound.TheVariants as market
+use Rattle.order_law.specs.ouch_codec.declared.outbound.executed.Executed.{Executed}
 use Rattle.order_law.specs.declared.stage.Stage.TheVariants.{Waiting, Working, Closed}
 use Rattle.order_law.specs.declared.trade.Trade.{Trade}
 use Rattle.fix_fields.specs.Field.{Message}
@@ -15,7 +16,8 @@ use Rattle.order_law.specs.Chain.{chain}
 use Rattle.order_law.specs.History.{Asked, Entry, Said, SaysCancel, Terms, answers, is_cancel_said, token_of}
 use Rattle.order_law.specs.Told.{Shown, priced, report, told_by, too_late}
 use Rattle.order_law.specs.Headline.{has_due_ids}
-use Rattle.order_machine.specs.OrderRecord.{OrderRecord, ToldTrade, asked_as, chained, fill_of, filled, leaves, record_life, shown_as, with_trade, unasked}
+use Rattle.order_machine.specs.OrderRecord.{OrderRecord, ToldTrade, asked_as, chained, fill_of, filled, leaves}
+use Rattle.order_machine.specs.OrderRecord.{record_life, shown_as, with_trade, unasked}
 use Rattle.order_machine.proofs.Texts.{eq-same}
 use Rattle.order_machine.proofs.Due.{Reads}
 use Rattle.order_machine.proofs.Reports.{Tells, filled-Reads, report-tells, trade_occasion, traded-Reads}

@@ -1,19 +1,22 @@
 -- An order's record is as the lists of a history have it.
-use Rattle.std.proofs.Common.{◌≡◌, ◌≢◌, ℕ, ◌+◌, ◌≤◌, Bool, true, false, List, [], ◌∷◌, refl, sym, ap, ◌∙◌, decimal, bytes_eq, Option, Some, None}
+use Rattle.std.proofs.Common.{◌≡◌, ◌≢◌, ℕ, ◌+◌, ◌≤◌, Bool, true, false, List, [], ◌∷◌, refl, sym, ap, ◌∙◌, decimal}
+use Rattle.std.proofs.Common.{bytes_eq, Option, Some, None}
 use Rattle.std.specs.Prelude.{◌||◌, not, if◌then◌else◌, filter}
 use Rattle.std.specs.List.{filter_map}
 use Rattle.tokens.specs.TokenText.{token_text}
-use Rattle.ouch_codec.specs.declared.outbound.Outbound.{Outbound}
+use Rattle.order_law.specs.ouch_codec.declared.outbound.Outbound.{Outbound}
 use Rattle.fix_fields.specs.Field.{Message, character, text}
 use Rattle.order_law.specs.Asks.{total_of}
 use Rattle.order_law.specs.Life.{Life, is_closed, life}
 use Rattle.order_law.specs.Reading.{Reading, is_refused_order, reading}
 use Rattle.order_law.specs.Chain.{Chain, Request, is_used}
-use Rattle.order_law.specs.History.{Asked, Entry, OrderHistory, Terms, accepted, answers, by_id, given_tokens, handled, is_new_order, issued, life_of, new_of, pending_tokens, terms_of, token_of}
+use Rattle.order_law.specs.History.{Asked, Entry, OrderHistory, Terms, accepted, answers, by_id, given_tokens, handled}
+use Rattle.order_law.specs.History.{is_new_order, issued, life_of, new_of, pending_tokens, terms_of, token_of}
 use Rattle.order_law.specs.Lawful.{order_of_token}
 use Rattle.order_law.specs.Told.{Shown, price_after, shown}
 use Rattle.order_law.specs.Headline.{old_ids}
-use Rattle.order_machine.specs.OrderRecord.{Cancelling, OrderRecord, asked_as, chained, leaves, record_life, pending, read, replacements, shown_as}
+use Rattle.order_machine.specs.OrderRecord.{Cancelling, OrderRecord, asked_as, chained, leaves, record_life, pending}
+use Rattle.order_machine.specs.OrderRecord.{read, replacements, shown_as}
 use Rattle.order_machine.proofs.Texts.{eq-is, eq-same}
 use Rattle.order_machine.proofs.Due.{Reads}
 use Rattle.order_machine.proofs.Leads.{AreNamed}

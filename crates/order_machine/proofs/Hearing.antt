@@ -1,14 +1,16 @@
 -- A message of the market keeps what every told history keeps, and each order true.
-use Rattle.std.proofs.Common.{◌≡◌, ℕ, ◌+◌, ◌*◌, ◌<◌, ◌≤◌, ◌^◌, Bool, true, false, List, [], ◌∷◌, ◌++◌, length, reverse, refl, sym, ap, ◌∙◌, subst, arith, decimal, Option, Some, None, Result, Ok, Err}
+use Rattle.std.proofs.Common.{◌≡◌, ℕ, ◌+◌, ◌*◌, ◌<◌, ◌≤◌, ◌^◌, Bool, true, false, List, [], ◌∷◌, ◌++◌, length, reverse}
+use Rattle.std.proofs.Common.{refl, sym, ap, ◌∙◌, subst, arith, decimal, Option, Some, None, Result, Ok, Err}
 use Rattle.std.specs.Prelude.{◌&&◌, ◌||◌, ◌==◌, not, if◌then◌else◌, filter}
 use Rattle.tokens.specs.TokenText.{token_text}
-use Rattle.ouch_codec.specs.declared.outbound.Outbound.{Outbound}
-use Rattle.ouch_codec.specs.declared.outbound.Outbound.TheVariants as market
-use Rattle.ouch_codec.specs.declared.refusal.DecodeRefusal.{DecodeRefusal}
+use Rattle.order_law.specs.ouch_codec.declared.outbound.Outbound.{Outbound}
+use Rattle.order_law.specs.ouch_codec.declared.outbound.Outbound.TheVariants as market
+use Rattle.order_law.specs.ouch_codec.declared.refusal.DecodeRefusal.{DecodeRefusal}
 use Rattle.fix_fields.specs.Field.{Message, character}
 use Rattle.order_law.specs.Life.{Life, after, born, is_closed, life}
 use Rattle.order_law.specs.Chain.{is_used, orders}
-use Rattle.order_law.specs.History.{Asked, Heard, OrderHistory, Terms, OrderTurn, accepted, answers, given_tokens, handled, issued, life_of, orders_numbered, outstanding, token_of}
+use Rattle.order_law.specs.History.{Asked, Heard, OrderHistory, Terms, OrderTurn, accepted, answers, given_tokens}
+use Rattle.order_law.specs.History.{handled, issued, life_of, orders_numbered, outstanding, token_of}
 use Rattle.order_law.specs.Told.{price_after, priced, reports_in}
 use Rattle.order_law.specs.Headline.{Each, IsTrueToMarket}
 use Rattle.order_machine.specs.OrderRecord.{OrderRecord, asked_as, record_life}
@@ -18,7 +20,8 @@ use Rattle.order_machine.proofs.Executed.{count-more}
 use Rattle.order_machine.proofs.Moves.{Keeps, unanswered}
 use Rattle.order_machine.proofs.Fits.{life-of, own, own-after}
 use Rattle.order_machine.proofs.Untouched.{IsUntouched}
-use Rattle.order_machine.proofs.Holds.{FitsIn, HasRecord, Holds, IsEntry, PassesOver, Still, news, port_of, quiet-Fits, true-of}
+use Rattle.order_machine.proofs.Holds.{FitsIn, HasRecord, Holds, IsEntry, PassesOver, Still, news, port_of, quiet-Fits}
+use Rattle.order_machine.proofs.Holds.{true-of}
 use Rattle.order_machine.proofs.Untouched.{tokenless-untouched}
 use Rattle.order_law.specs.declared.stage.Stage.{Stage}
 use Rattle.order_law.specs.declared.stage.Stage.TheVariants.{Waiting, Working, Closed}

@@ -1,13 +1,15 @@
 -- What every told history keeps, and that each message of the market keeps it.
-use Rattle.std.proofs.Common.{◌≡◌, ℕ, ◌*◌, ◌<◌, ◌≤◌, ◌^◌, Bool, true, false, List, [], ◌∷◌, length, map, sym, ◌∙◌, subst, arith, decimal, bytes_eq, Some}
+use Rattle.std.proofs.Common.{◌≡◌, ℕ, ◌*◌, ◌<◌, ◌≤◌, ◌^◌, Bool, true, false, List, [], ◌∷◌, length, map, sym, ◌∙◌}
+use Rattle.std.proofs.Common.{subst, arith, decimal, bytes_eq, Some}
 use Rattle.std.specs.Prelude.{◌&&◌, ◌==◌, if◌then◌else◌, filter}
 use Rattle.std.specs.List.{find}
 use Rattle.tokens.specs.TokenText.{token_text}
-use Rattle.ouch_codec.specs.declared.outbound.Outbound.{Outbound}
+use Rattle.order_law.specs.ouch_codec.declared.outbound.Outbound.{Outbound}
 use Rattle.fix_fields.specs.Field.{Message, character, is}
 use Rattle.order_law.specs.Life.{after, born, life}
 use Rattle.order_law.specs.Chain.{is_used, orders}
-use Rattle.order_law.specs.History.{Asked, Entry, OrderHistory, Terms, OrderTurn, accepted, given_tokens, handled, is_new_order, issued, new_of, orders_numbered, outstanding, terms_of, token_of}
+use Rattle.order_law.specs.History.{Asked, Entry, OrderHistory, Terms, OrderTurn, accepted, given_tokens, handled}
+use Rattle.order_law.specs.History.{is_new_order, issued, new_of, orders_numbered, outstanding, terms_of, token_of}
 use Rattle.order_law.specs.Told.{price_after, priced, reports_in}
 use Rattle.order_law.specs.Headline.{Each, IsTrueToMarket, ReadsWell, old_ids}
 use Rattle.order_machine.specs.OrderRecord.{OrderRecord}

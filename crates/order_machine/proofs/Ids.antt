@@ -1,11 +1,12 @@
 -- The ClOrdIDs in the bodies that a message of the market leads to, and how many of them are reports.
-use Rattle.std.proofs.Common.{◌≡◌, ℕ, ◌+◌, ◌≤◌, Bool, true, false, List, [], ◌∷◌, ◌++◌, map, refl, sym, ap, ◌∙◌, subst, arith, codes, bytes_eq, Option, Some, None}
+use Rattle.std.proofs.Common.{◌≡◌, ℕ, ◌+◌, ◌≤◌, Bool, true, false, List, [], ◌∷◌, ◌++◌, map, refl, sym, ap, ◌∙◌, subst}
+use Rattle.std.proofs.Common.{arith, codes, bytes_eq, Option, Some, None}
 use Rattle.std.specs.Prelude.{◌&&◌, ◌||◌, if◌then◌else◌, filter, option_map, unwrap_or}
 use Rattle.std.specs.List.{count_by, find}
-use Rattle.ouch_codec.specs.declared.outbound.Outbound.{Outbound}
-use Rattle.ouch_codec.specs.declared.outbound.Outbound.TheVariants as market
-use Rattle.ouch_codec.specs.declared.outbound.replaced.Replaced.{Replaced}
-use Rattle.ouch_codec.specs.declared.order_state.OrderState.{OrderState}
+use Rattle.order_law.specs.ouch_codec.declared.outbound.Outbound.{Outbound}
+use Rattle.order_law.specs.ouch_codec.declared.outbound.Outbound.TheVariants as market
+use Rattle.order_law.specs.ouch_codec.declared.outbound.replaced.Replaced.{Replaced}
+use Rattle.order_law.specs.ouch_codec.declared.order_state.OrderState.{OrderState}
 use Rattle.fix_fields.specs.Field.{Message, is, text}
 use Rattle.order_law.specs.Life.{Life, after, is_closed, is_dead, is_live, is_waiting}
 use Rattle.order_law.specs.Reading.{Fill, is_report}

@@ -1,11 +1,12 @@
 -- What is known of a message that is no fault.
 use Rattle.std.proofs.Common.{◌≡◌, ℕ, Bool, true, false, List, refl, subst, Option, Some, None}
 use Rattle.std.specs.Prelude.{if◌then◌else◌, is_some, option_map}
-use Rattle.ouch_codec.specs.declared.outbound.Outbound.{Outbound}
-use Rattle.ouch_codec.specs.declared.outbound.Outbound.TheVariants as market
+use Rattle.order_law.specs.ouch_codec.declared.outbound.Outbound.{Outbound}
+use Rattle.order_law.specs.ouch_codec.declared.outbound.Outbound.TheVariants as market
 use Rattle.order_law.specs.Chain.{chain}
 use Rattle.order_law.specs.History.{Entry, OrderHistory, Terms, accepted, handled, issued, life_of, pending_tokens}
-use Rattle.order_law.specs.Lawful.{is_lawful_on, judged, judged_on, order_of_token, order_token, row_fault, row_holds, token_fault}
+use Rattle.order_law.specs.Lawful.{is_lawful_on, judged, judged_on, order_of_token, order_token, row_fault, row_holds}
+use Rattle.order_law.specs.Lawful.{token_fault}
 
 -- a message that is no fault, on an order: its row holds
 pub record IsLawful (terms : List Terms) (port : ℕ) (m : Outbound) (token : List ℕ) (before : OrderHistory) : Type 0 where

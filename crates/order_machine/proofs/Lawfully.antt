@@ -1,19 +1,25 @@
 -- A lawful message on an order keeps what every told history keeps, and each order true.
-use Rattle.std.proofs.Common.{◌≡◌, ◌≢◌, ℕ, ◌+◌, ◌*◌, ◌<◌, ◌≤◌, ◌^◌, Bool, true, false, List, [], ◌∷◌, ◌++◌, length, map, reverse, refl, sym, ap, ◌∙◌, subst, arith, decimal, codes, bytes_eq, Option, Some, None, Ok, eqb-true, eq-eqb, ne_eqb}
+use Rattle.std.proofs.Common.{◌≡◌, ◌≢◌, ℕ, ◌+◌, ◌*◌, ◌<◌, ◌≤◌, ◌^◌, Bool, true, false, List, [], ◌∷◌, ◌++◌, length}
+use Rattle.std.proofs.Common.{map, reverse, refl, sym, ap, ◌∙◌, subst, arith, decimal, codes, bytes_eq, Option, Some}
+use Rattle.std.proofs.Common.{None, Ok, eqb-true, eq-eqb, ne_eqb}
 use Rattle.std.specs.Prelude.{◌&&◌, ◌||◌, ◌==◌, not, if◌then◌else◌, is_some}
 use Rattle.std.specs.List.{count_by, find, list_any}
 use Rattle.tokens.specs.TokenText.{token_text}
-use Rattle.ouch_codec.specs.declared.outbound.Outbound.{Outbound}
-use Rattle.ouch_codec.specs.declared.outbound.Outbound.TheVariants as market
+use Rattle.order_law.specs.ouch_codec.declared.outbound.Outbound.{Outbound}
+use Rattle.order_law.specs.ouch_codec.declared.outbound.Outbound.TheVariants as market
 use Rattle.fix_fields.specs.Field.{Message, character, is}
 use Rattle.order_law.specs.Life.{Life, after, born, is_closed, life}
 use Rattle.order_law.specs.Reading.{is_report}
 use Rattle.order_law.specs.Chain.{chain, is_used, orders}
-use Rattle.order_law.specs.History.{Asked, Entry, Heard, OrderHistory, Terms, OrderTurn, accepted, answers, given_tokens, handled, is_new_order, issued, life_of, new_of, orders_numbered, outstanding, pending_tokens, terms_of, token_of}
+use Rattle.order_law.specs.History.{Asked, Entry, Heard, OrderHistory, Terms, OrderTurn, accepted, answers}
+use Rattle.order_law.specs.History.{given_tokens, handled, is_new_order, issued, life_of, new_of, orders_numbered}
+use Rattle.order_law.specs.History.{outstanding, pending_tokens, terms_of, token_of}
 use Rattle.order_law.specs.Lawful.{has_token, judgement, order_of_token, order_token}
-use Rattle.order_law.specs.Told.{Told, answers_last_cancel, price_after, priced, reports_in, told, told_by, told_on, told_of_entry}
+use Rattle.order_law.specs.Told.{Told, answers_last_cancel, price_after, priced, reports_in, told, told_by, told_on}
+use Rattle.order_law.specs.Told.{told_of_entry}
 use Rattle.order_law.specs.Headline.{Each, IsTrueToMarket, ReadsWell, old_ids}
-use Rattle.order_machine.specs.OrderRecord.{after_message, OrderRecord, asked_as, fill_of, record_life, replacements, shown_as}
+use Rattle.order_machine.specs.OrderRecord.{after_message, OrderRecord, asked_as, fill_of, record_life, replacements}
+use Rattle.order_machine.specs.OrderRecord.{shown_as}
 use Rattle.order_machine.proofs.Texts.{and-parts, eq-decimal_other, eq-is, eq-other, eq-same, token-same}
 use Rattle.order_machine.proofs.Lists.{Each-map, found-passes}
 use Rattle.order_machine.proofs.Due.{IsUnread, IsUnread-others, Others, Reads, Reads-others, ReadsWell-others}
@@ -22,7 +28,8 @@ use Rattle.order_machine.proofs.Moves.{Keeps, Moves, answers_last, unanswered}
 use Rattle.order_machine.proofs.Addressed.{IsOn, on-others, onto-reverse, orders-onto, others-onto, told-on, used-onto}
 use Rattle.order_machine.proofs.Fits.{IsFound, IsHome, IsUsed, life-of, named, own, shown-is, tokens-are}
 use Rattle.std.proofs.Common.{ℕ}
-use Rattle.order_machine.proofs.Holds.{FitsIn, HasRecord, Holds, IsEntry, Keeps-more, Of-used, PassesOver, news, orders_of, port_of, true-of, each-find}
+use Rattle.order_machine.proofs.Holds.{FitsIn, HasRecord, Holds, IsEntry, Keeps-more, Of-used, PassesOver, news}
+use Rattle.order_machine.proofs.Holds.{orders_of, port_of, true-of, each-find}
 use Rattle.order_machine.proofs.Untouched.{Other, apart-home, born-passes, other-untouched, tokens_in}
 use Rattle.order_machine.proofs.Judged.{IsLawful}
 use Rattle.order_machine.proofs.Row.{replacement-is, row-moves}

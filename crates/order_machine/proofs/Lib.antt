@@ -43,3 +43,4 @@ pub mod AllAsked
 pub mod Known
 pub mod Numbers
 pub mod Leading
+pub use Rattle.tokens.proofs as tokens

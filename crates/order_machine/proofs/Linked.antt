@@ -1,26 +1,34 @@
 -- The table of orders is as the lists of a history have it: whatever is looked up in it is what the lists say.
-use Rattle.std.proofs.Common.{◌≡◌, ℕ, ◌+◌, ◌*◌, ◌≤◌, Bool, true, false, List, [], ◌∷◌, length, map, refl, sym, ap, ◌∙◌, subst, arith, bytes_eq, codes, Option, Some, None, Result, Ok, Err, eqb-true}
+use Rattle.std.proofs.Common.{◌≡◌, ℕ, ◌+◌, ◌*◌, ◌≤◌, Bool, true, false, List, [], ◌∷◌, length, map, refl, sym, ap, ◌∙◌}
+use Rattle.std.proofs.Common.{subst, arith, bytes_eq, codes, Option, Some, None, Result, Ok, Err, eqb-true}
 use Rattle.std.specs.Prelude.{◌&&◌, ◌==◌, not, if◌then◌else◌, is_some, filter, option_and_then, option_map}
 use Rattle.std.specs.List.{count_by, find}
 use Rattle.fix_fields.specs.Field.{Message, text}
 use Rattle.order_law.specs.Asks.{capacity_of}
-use Rattle.ouch_codec.specs.declared.outbound.Outbound.{Outbound}
-use Rattle.ouch_codec.specs.declared.outbound.Outbound.TheVariants as market
-use Rattle.ouch_codec.specs.declared.refusal.DecodeRefusal.{DecodeRefusal}
+use Rattle.order_law.specs.ouch_codec.declared.outbound.Outbound.{Outbound}
+use Rattle.order_law.specs.ouch_codec.declared.outbound.Outbound.TheVariants as market
+use Rattle.order_law.specs.ouch_codec.declared.refusal.DecodeRefusal.{DecodeRefusal}
 use Rattle.order_law.specs.Life.{is_closed}
 use Rattle.order_law.specs.Reading.{Reading, reading}
 use Rattle.order_law.specs.Chain.{Chain, chain, goes_by, is_used, named, orders}
-use Rattle.order_law.specs.Verdicts.{Named, Port, Verdict, first_row, is_replace, open_orders, rows_of_new, rows_of_request}
-use Rattle.order_law.specs.History.{Entry, OrderHistory, Terms, accepted, given_tokens, handled, is_new_order, issued, life_of, new_of, orders_numbered, pending_tokens, standing_of, terms_of, token_of, verdict}
-use Rattle.order_law.specs.Lawful.{has_token, is_lawful_on, judged, judged_by, judged_on, judgement, order_of_token, row_holds, token_fault}
+use Rattle.order_law.specs.Verdicts.{Named, Port, Verdict, first_row, is_replace, open_orders, rows_of_new}
+use Rattle.order_law.specs.Verdicts.{rows_of_request}
+use Rattle.order_law.specs.History.{Entry, OrderHistory, Terms, accepted, given_tokens, handled, is_new_order, issued}
+use Rattle.order_law.specs.History.{life_of, new_of, orders_numbered, pending_tokens, standing_of, terms_of, token_of}
+use Rattle.order_law.specs.History.{verdict}
+use Rattle.order_law.specs.Lawful.{has_token, is_lawful_on, judged, judged_by, judged_on, judgement, order_of_token}
+use Rattle.order_law.specs.Lawful.{row_holds, token_fault}
 use Rattle.order_law.specs.Told.{reports_in}
 use Rattle.order_law.specs.Headline.{Each}
 use Rattle.order_machine.specs.OrderRecord.{OrderRecord, chained, record_life, read, replacements}
 use Rattle.order_machine.specs.Told.{IsTold}
-use Rattle.order_machine.specs.Table.{GivenToken, TableState, record_by_id, by_number, record_by_token, has_number, has_used, is_named, is_open_of, is_replacement_of, is_token, named_as, open_count, token_given}
+use Rattle.order_machine.specs.Table.{GivenToken, TableState, record_by_id, by_number, record_by_token, has_number}
+use Rattle.order_machine.specs.Table.{has_used, is_named, is_open_of, is_replacement_of, is_token, named_as}
+use Rattle.order_machine.specs.Table.{open_count, token_given}
 use Rattle.order_machine.specs.Machine.{payload_fault, is_lawful_in, verdict_in}
 use Rattle.order_machine.proofs.Executed.{count-more}
-use Rattle.order_machine.proofs.Finding.{Each-found, and-turned, count-each, find-each, find-filter, find-map, find-same, length-map, map-filter, map-map}
+use Rattle.order_machine.proofs.Finding.{Each-found, and-turned, count-each, find-each, find-filter, find-map}
+use Rattle.order_machine.proofs.Finding.{find-same, length-map, map-filter, map-map}
 use Rattle.order_machine.proofs.Fits.{life-of, tokens-are}
 use Rattle.order_machine.proofs.Holds.{FitsIn, Holds, news, orders_of, port_of}
 use Rattle.order_machine.proofs.Placed.{AreDistinct}

@@ -1,9 +1,10 @@
 -- What a message of the market makes of an order: life, bodies, what is outstanding, price, each as the lists have it.
-use Rattle.std.proofs.Common.{◌≡◌, ◌≢◌, ℕ, ◌+◌, ◌-◌, ◌≤◌, Bool, true, false, List, [], ◌∷◌, map, refl, sym, ap, ◌∙◌, subst, Option, Some, None}
+use Rattle.std.proofs.Common.{◌≡◌, ◌≢◌, ℕ, ◌+◌, ◌-◌, ◌≤◌, Bool, true, false, List, [], ◌∷◌, map, refl, sym, ap, ◌∙◌}
+use Rattle.std.proofs.Common.{subst, Option, Some, None}
 use Rattle.std.specs.Prelude.{◌&&◌, not, if◌then◌else◌, filter}
 use Rattle.std.specs.List.{count_by, list_any}
-use Rattle.ouch_codec.specs.declared.outbound.Outbound.{Outbound}
-use Rattle.ouch_codec.specs.declared.outbound.Outbound.TheVariants as market
+use Rattle.order_law.specs.ouch_codec.declared.outbound.Outbound.{Outbound}
+use Rattle.order_law.specs.ouch_codec.declared.outbound.Outbound.TheVariants as market
 use Rattle.order_law.specs.declared.stage.Stage.TheVariants.{Waiting, Closed}
 use Rattle.fix_fields.specs.Field.{Message, text}
 use Rattle.order_law.specs.Life.{after, first_token, is_closed}
@@ -11,7 +12,8 @@ use Rattle.order_law.specs.Reading.{is_report}
 use Rattle.order_law.specs.History.{Asked, Entry, SaysCancel, Terms, answers, is_cancel_said, token_of}
 use Rattle.order_law.specs.Told.{priced, told_by}
 use Rattle.order_law.specs.Headline.{Each}
-use Rattle.order_machine.specs.OrderRecord.{Cancelling, OrderRecord, ToldTrade, asked_as, asked_cancel, fill_of, unanswered_tokens, leaves, live_token, record_life, shown_as}
+use Rattle.order_machine.specs.OrderRecord.{Cancelling, OrderRecord, ToldTrade, asked_as, asked_cancel, fill_of}
+use Rattle.order_machine.specs.OrderRecord.{unanswered_tokens, leaves, live_token, record_life, shown_as}
 use Rattle.order_machine.proofs.Due.{IsSound}
 use Rattle.order_machine.proofs.Leads.{AreApart, Leads}
 

@@ -1,13 +1,16 @@
 -- What a client's message asks stands behind what was asked, on the client's port and on no other.
-use Rattle.std.proofs.Common.{◌≡◌, ℕ, ◌+◌, Bool, true, false, List, [], ◌∷◌, ◌++◌, map, refl, sym, ap, ◌∙◌, subst, decimal, bytes_eq, Option, Some, None, eqb-true}
+use Rattle.std.proofs.Common.{◌≡◌, ℕ, ◌+◌, Bool, true, false, List, [], ◌∷◌, ◌++◌, map, refl, sym, ap, ◌∙◌, subst}
+use Rattle.std.proofs.Common.{decimal, bytes_eq, Option, Some, None, eqb-true}
 use Rattle.std.specs.Prelude.{◌==◌, ◌&&◌, if◌then◌else◌, option_to_list}
 use Rattle.std.specs.List.{find}
-use Rattle.ouch_codec.specs.declared.outbound.Outbound.{Outbound}
+use Rattle.order_law.specs.ouch_codec.declared.outbound.Outbound.{Outbound}
 use Rattle.fix_fields.specs.Field.{Message}
 use Rattle.order_law.specs.Life.{live}
 use Rattle.order_law.specs.Chain.{chain}
 use Rattle.order_law.specs.Verdicts.{Accepted, Port, Refused, Verdict, is_replace}
-use Rattle.order_law.specs.History.{Asked, Came, Entry, OrderHistory, Terms, OrderTurn, accepted, asks, asks_of, entry_at, given_tokens, handled, is_new_order, issued, life_of, new_of, orders_numbered, outstanding, pending_tokens, terms_of, verdict}
+use Rattle.order_law.specs.History.{Asked, Came, Entry, OrderHistory, Terms, OrderTurn, accepted, asks, asks_of}
+use Rattle.order_law.specs.History.{entry_at, given_tokens, handled, is_new_order, issued, life_of, new_of}
+use Rattle.order_law.specs.History.{orders_numbered, outstanding, pending_tokens, terms_of, verdict}
 use Rattle.order_law.specs.Headline.{Each}
 use Rattle.order_machine.specs.OrderRecord.{asked_cancel}
 use Rattle.order_machine.specs.Table.{TableState}

@@ -1,18 +1,22 @@
 -- One more accepted message: what was known of the others stays so.
-use Rattle.std.proofs.Common.{◌≡◌, ◌≢◌, ℕ, ◌+◌, ◌*◌, ◌<◌, ◌≤◌, ◌^◌, Bool, true, false, List, [], ◌∷◌, length, refl, sym, ap, ◌∙◌, subst, arith, decimal, bytes_eq, Option, Some, None, eqb-true, eq-eqb, ne_eqb}
+use Rattle.std.proofs.Common.{◌≡◌, ◌≢◌, ℕ, ◌+◌, ◌*◌, ◌<◌, ◌≤◌, ◌^◌, Bool, true, false, List, [], ◌∷◌, length, refl}
+use Rattle.std.proofs.Common.{sym, ap, ◌∙◌, subst, arith, decimal, bytes_eq, Option, Some, None, eqb-true, eq-eqb}
+use Rattle.std.proofs.Common.{ne_eqb}
 use Rattle.std.specs.Prelude.{◌&&◌, ◌==◌, if◌then◌else◌, is_some}
 use Rattle.std.specs.List.{find}
 use Rattle.tokens.specs.TokenText.{token_text}
-use Rattle.ouch_codec.specs.declared.outbound.Outbound.{Outbound}
-use Rattle.ouch_codec.specs.declared.outbound.Outbound.TheVariants as market
-use Rattle.ouch_codec.specs.declared.refusal.DecodeRefusal.{DecodeRefusal}
+use Rattle.order_law.specs.ouch_codec.declared.outbound.Outbound.{Outbound}
+use Rattle.order_law.specs.ouch_codec.declared.outbound.Outbound.TheVariants as market
+use Rattle.order_law.specs.ouch_codec.declared.refusal.DecodeRefusal.{DecodeRefusal}
 use Rattle.fix_fields.specs.Field.{Message, character, is}
 use Rattle.order_law.specs.Chain.{is_used}
-use Rattle.order_law.specs.History.{Asked, Entry, OrderHistory, Terms, accepted, given_tokens, handled, is_new_order, issued, new_of, orders_numbered, outstanding, terms_of, token_of}
+use Rattle.order_law.specs.History.{Asked, Entry, OrderHistory, Terms, accepted, given_tokens, handled, is_new_order}
+use Rattle.order_law.specs.History.{issued, new_of, orders_numbered, outstanding, terms_of, token_of}
 use Rattle.order_law.specs.Lawful.{has_token, order_of_token}
 use Rattle.order_law.specs.Told.{price_after, reports_in}
 use Rattle.order_law.specs.Headline.{Each}
-use Rattle.order_machine.specs.OrderRecord.{Cancelling, OrderRecord, ToldTrade, asked_as, fill_of, record_life, read, shown_as}
+use Rattle.order_machine.specs.OrderRecord.{Cancelling, OrderRecord, ToldTrade, asked_as, fill_of, record_life, read}
+use Rattle.order_machine.specs.OrderRecord.{shown_as}
 use Rattle.order_machine.proofs.Texts.{eq-decimal_other, eq-is, eq-other, eq-same, token-same}
 use Rattle.order_machine.proofs.Lists.{Each-map}
 use Rattle.order_machine.proofs.Due.{Reads}

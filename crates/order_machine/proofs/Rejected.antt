@@ -1,10 +1,11 @@
 -- Rejected: of the new order, or of a replace; Cancel Reject; and what changes no order.
-use Rattle.std.proofs.Common.{◌≡◌, ◌≢◌, ℕ, ◌+◌, ◌≤◌, true, List, [], ◌∷◌, ◌++◌, map, refl, sym, ap, ◌∙◌, subst, arith, bytes_eq, Option, Some, None}
+use Rattle.std.proofs.Common.{◌≡◌, ◌≢◌, ℕ, ◌+◌, ◌≤◌, true, List, [], ◌∷◌, ◌++◌, map, refl, sym, ap, ◌∙◌, subst, arith}
+use Rattle.std.proofs.Common.{bytes_eq, Option, Some, None}
 use Rattle.std.specs.Prelude.{not}
-use Rattle.ouch_codec.specs.declared.outbound.Outbound.{Outbound}
-use Rattle.ouch_codec.specs.declared.outbound.Outbound.TheVariants as market
-use Rattle.ouch_codec.specs.declared.outbound.cancel_reject.CancelReject.{CancelReject}
-use Rattle.ouch_codec.specs.declared.outbound.rejected.Rejected.{Rejected}
+use Rattle.order_law.specs.ouch_codec.declared.outbound.Outbound.{Outbound}
+use Rattle.order_law.specs.ouch_codec.declared.outbound.Outbound.TheVariants as market
+use Rattle.order_law.specs.ouch_codec.declared.outbound.cancel_reject.CancelReject.{CancelReject}
+use Rattle.order_law.specs.ouch_codec.declared.outbound.rejected.Rejected.{Rejected}
 use Rattle.order_law.specs.declared.stage.Stage.TheVariants.{Waiting, Working, Closed}
 use Rattle.fix_fields.specs.Field.{Message, text}
 use Rattle.order_law.specs.Life.{after, is_live}
@@ -14,7 +15,9 @@ use Rattle.order_law.specs.History.{Entry, SaysCancel, Terms, answers}
 use Rattle.order_law.specs.Told.{cancel_rejected, report, told_by, too_late}
 use Rattle.order_law.specs.Headline.{Each, has_due_ids}
 use Rattle.order_machine.proofs.Lists.{Each-filter}
-use Rattle.order_machine.specs.OrderRecord.{Cancelling, OrderRecord, asked_as, at, cancel_asked, chained, fill_of, last_of, live_token, record_life, market_refused, replace_asked, shown_as, still_cancelling, unasked}
+use Rattle.order_machine.specs.OrderRecord.{Cancelling, OrderRecord, asked_as, at, cancel_asked, chained, fill_of}
+use Rattle.order_machine.specs.OrderRecord.{last_of, live_token, record_life, market_refused, replace_asked, shown_as}
+use Rattle.order_machine.specs.OrderRecord.{still_cancelling, unasked}
 use Rattle.order_machine.proofs.Texts.{eq-same}
 use Rattle.order_machine.proofs.Due.{Reads}
 use Rattle.order_machine.proofs.Leads.{AreNamed, Leads, leads-more, too_late-leads}

@@ -1,11 +1,12 @@
 -- Replaced, and Rejected of a replace: the pending replace is answered.
-use Rattle.std.proofs.Common.{◌≡◌, ◌≢◌, ℕ, ◌+◌, ◌<◌, ◌≤◌, ◌^◌, Bool, true, false, List, [], ◌∷◌, ◌++◌, map, refl, sym, ap, ◌∙◌, subst, arith, codes, bytes_eq, Option, Some, None}
+use Rattle.std.proofs.Common.{◌≡◌, ◌≢◌, ℕ, ◌+◌, ◌<◌, ◌≤◌, ◌^◌, Bool, true, false, List, [], ◌∷◌, ◌++◌, map, refl, sym}
+use Rattle.std.proofs.Common.{ap, ◌∙◌, subst, arith, codes, bytes_eq, Option, Some, None}
 use Rattle.std.specs.Prelude.{◌&&◌, not, if◌then◌else◌, filter}
 use Rattle.std.specs.List.{find}
-use Rattle.ouch_codec.specs.declared.outbound.Outbound.{Outbound}
-use Rattle.ouch_codec.specs.declared.outbound.Outbound.TheVariants as market
-use Rattle.ouch_codec.specs.declared.outbound.rejected.Rejected.{Rejected}
-use Rattle.ouch_codec.specs.declared.outbound.replaced.Replaced.{Replaced}
+use Rattle.order_law.specs.ouch_codec.declared.outbound.Outbound.{Outbound}
+use Rattle.order_law.specs.ouch_codec.declared.outbound.Outbound.TheVariants as market
+use Rattle.order_law.specs.ouch_codec.declared.outbound.rejected.Rejected.{Rejected}
+use Rattle.order_law.specs.ouch_codec.declared.outbound.replaced.Replaced.{Replaced}
 use Rattle.order_law.specs.declared.stage.Stage.{Stage}
 use Rattle.order_law.specs.declared.stage.Stage.TheVariants.{Waiting, Working, Closed}
 use Rattle.fix_fields.specs.Field.{Message, text}
@@ -13,13 +14,17 @@ use Rattle.order_law.specs.Life.{Life, after, first_token, is_dead, is_live, is_
 use Rattle.order_law.specs.Reading.{Fill}
 use Rattle.order_law.specs.Verdicts.{is_replace}
 use Rattle.order_law.specs.History.{Entry, Terms, token_of}
-use Rattle.order_law.specs.Told.{Occasion, Shown, answered_no, cancelled, cancel_rejected, on_request, priced, plain, report, told_by, too_late}
+use Rattle.order_law.specs.Told.{Occasion, Shown, answered_no, cancelled, cancel_rejected, on_request, priced, plain}
+use Rattle.order_law.specs.Told.{report, told_by, too_late}
 use Rattle.order_law.specs.Told as told
 use Rattle.order_law.specs.Headline.{has_due_ids}
-use Rattle.order_machine.specs.OrderRecord.{Cancelling, OrderRecord, asked_as, at, cancel_asked, cancel_entry, chained, fill_of, gone, last_of, leaves, live_token, record_life, new_asked, replace_asked, put_by_replace, shown_as, still_cancelling, unasked}
+use Rattle.order_machine.specs.OrderRecord.{Cancelling, OrderRecord, asked_as, at, cancel_asked, cancel_entry, chained}
+use Rattle.order_machine.specs.OrderRecord.{fill_of, gone, last_of, leaves, live_token, record_life, new_asked}
+use Rattle.order_machine.specs.OrderRecord.{replace_asked, put_by_replace, shown_as, still_cancelling, unasked}
 use Rattle.order_machine.proofs.Texts.{eq-same}
 use Rattle.order_machine.proofs.Due.{IsSound, Reads}
-use Rattle.order_machine.proofs.Leads.{AreApart, AreApart-rest, AreNamed, AreNamed-rest, Leads, cancelled-leads, leads-more, replace-answered}
+use Rattle.order_machine.proofs.Leads.{AreApart, AreApart-rest, AreNamed, AreNamed-rest, Leads, cancelled-leads}
+use Rattle.order_machine.proofs.Leads.{leads-more, replace-answered}
 use Rattle.order_machine.proofs.Moves.{Keeps, Moves, answers_last, unanswered}
 use Rattle.order_machine.proofs.Asked.{asked-parts, cancel-goes_on, last-is, still-left, still-request}
 use Rattle.order_machine.proofs.Executed.{AreNumbered-more}

@@ -1,10 +1,11 @@
 -- One more report on an order: what its client has read with it, and that it says what is due.
-use Rattle.std.proofs.Common.{◌≡◌, ℕ, ◌+◌, ◌-◌, ◌*◌, ◌<◌, ◌≤◌, ◌^◌, Bool, true, false, List, [], ◌∷◌, ◌++◌, map, refl, sym, ap, ◌∙◌, arith, decimal, codes, bytes_eq, Option, Some, None}
+use Rattle.std.proofs.Common.{◌≡◌, ℕ, ◌+◌, ◌-◌, ◌*◌, ◌<◌, ◌≤◌, ◌^◌, Bool, true, false, List, [], ◌∷◌, ◌++◌, map, refl}
+use Rattle.std.proofs.Common.{sym, ap, ◌∙◌, arith, decimal, codes, bytes_eq, Option, Some, None}
 use Rattle.std.specs.Prelude.{◌==◌, not, if◌then◌else◌, filter}
 use Rattle.std.specs.List.{find}
 use Rattle.std.specs.Str.Parse.{digits_value}
 use Rattle.fixed_point.proofs.Printed.{worth_of_price_text}
-use Rattle.ouch_codec.specs.declared.outbound.replaced.Replaced.{Replaced}
+use Rattle.order_law.specs.ouch_codec.declared.outbound.replaced.Replaced.{Replaced}
 use Rattle.order_law.specs.declared.stage.Stage.{Stage}
 use Rattle.order_law.specs.declared.stage.Stage.TheVariants.{Waiting, Working, Closed}
 use Rattle.order_law.specs.declared.trade.Trade.{Trade}
@@ -16,7 +17,10 @@ use Rattle.order_law.specs.Chain.{Chain, Request, chain}
 use Rattle.order_law.specs.History.{Entry}
 use Rattle.order_law.specs.Told.{Occasion, on_request, plain, newly_shown, report}
 use Rattle.order_law.specs.Headline.{SaysOf, has_due_ids}
-use Rattle.order_machine.specs.OrderRecord.{Cancelling, OrderRecord, ToldTrade, all_cancelled, with_trade_broken, chained, entered, fill_of, filled, gone, leaves, mark, put_in_book, reduced, market_refused, put_by_replace, shown_as, with_trade, without_pending_cancel}
+use Rattle.order_machine.specs.OrderRecord.{Cancelling, OrderRecord, ToldTrade, all_cancelled, with_trade_broken}
+use Rattle.order_machine.specs.OrderRecord.{chained, entered, fill_of, filled, gone, leaves, mark, put_in_book}
+use Rattle.order_machine.specs.OrderRecord.{reduced, market_refused, put_by_replace, shown_as, with_trade}
+use Rattle.order_machine.specs.OrderRecord.{without_pending_cancel}
 use Rattle.order_machine.proofs.Texts.{eq-same, number-decimal}
 use Rattle.order_machine.proofs.Due.{IsSound, IsUnread, Reads, state-due}
 

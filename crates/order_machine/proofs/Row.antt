@@ -1,23 +1,25 @@
 -- What a lawful message makes of the order that it is on, whatever its type.
-use Rattle.std.proofs.Common.{◌≡◌, ◌≢◌, ℕ, ◌-◌, ◌<◌, ◌≤◌, ◌^◌, Bool, true, false, List, [], ◌∷◌, map, refl, sym, subst, arith, codes, bytes_eq, Option, Some, None, eqb-true}
+use Rattle.std.proofs.Common.{◌≡◌, ◌≢◌, ℕ, ◌-◌, ◌<◌, ◌≤◌, ◌^◌, Bool, true, false, List, [], ◌∷◌, map, refl, sym, subst}
+use Rattle.std.proofs.Common.{arith, codes, bytes_eq, Option, Some, None, eqb-true}
 use Rattle.std.specs.Prelude.{◌&&◌, ◌||◌, ◌==◌, not}
 use Rattle.std.specs.List.{list_any}
-use Rattle.ouch_codec.specs.declared.outbound.Outbound.{Outbound}
-use Rattle.ouch_codec.specs.declared.outbound.Outbound.TheVariants as market
-use Rattle.ouch_codec.specs.declared.outbound.accepted.Accepted.{Accepted}
-use Rattle.ouch_codec.specs.declared.outbound.replaced.Replaced.{Replaced}
-use Rattle.ouch_codec.specs.declared.outbound.canceled.Canceled.{Canceled}
-use Rattle.ouch_codec.specs.declared.outbound.executed.Executed.{Executed}
-use Rattle.ouch_codec.specs.declared.outbound.broken.Broken.{Broken}
-use Rattle.ouch_codec.specs.declared.outbound.rejected.Rejected.{Rejected}
-use Rattle.ouch_codec.specs.declared.outbound.cancel_reject.CancelReject.{CancelReject}
+use Rattle.order_law.specs.ouch_codec.declared.outbound.Outbound.{Outbound}
+use Rattle.order_law.specs.ouch_codec.declared.outbound.Outbound.TheVariants as market
+use Rattle.order_law.specs.ouch_codec.declared.outbound.accepted.Accepted.{Accepted}
+use Rattle.order_law.specs.ouch_codec.declared.outbound.replaced.Replaced.{Replaced}
+use Rattle.order_law.specs.ouch_codec.declared.outbound.canceled.Canceled.{Canceled}
+use Rattle.order_law.specs.ouch_codec.declared.outbound.executed.Executed.{Executed}
+use Rattle.order_law.specs.ouch_codec.declared.outbound.broken.Broken.{Broken}
+use Rattle.order_law.specs.ouch_codec.declared.outbound.rejected.Rejected.{Rejected}
+use Rattle.order_law.specs.ouch_codec.declared.outbound.cancel_reject.CancelReject.{CancelReject}
 use Rattle.order_law.specs.declared.stage.Stage.{Stage}
 use Rattle.order_law.specs.declared.stage.Stage.TheVariants.{Waiting, Working, Closed}
 use Rattle.fix_fields.specs.Field.{Message}
 use Rattle.order_law.specs.Life.{after, is_closed, is_dead, is_live, is_waiting}
 use Rattle.order_law.specs.History.{Entry, Said, Terms, answers, token_of}
 use Rattle.order_law.specs.Told.{priced, told_by}
-use Rattle.order_machine.specs.OrderRecord.{after_message, OrderRecord, asked_as, fill_of, record_life, replacements, shown_as}
+use Rattle.order_machine.specs.OrderRecord.{after_message, OrderRecord, asked_as, fill_of, record_life, replacements}
+use Rattle.order_machine.specs.OrderRecord.{shown_as}
 use Rattle.order_machine.proofs.Texts.{eq-is}
 use Rattle.order_machine.proofs.Due.{Reads}
 use Rattle.order_machine.proofs.Leads.{AreNamed, Leads, leads-none}

@@ -6,8 +6,11 @@ use Rattle.order_law.specs.declared.trade.Trade.{Trade}
 use Rattle.order_law.specs.Life.{is_closed, is_waiting}
 use Rattle.order_law.specs.Verdicts.{is_replace}
 use Rattle.order_law.specs.History.{Entry}
-use Rattle.order_machine.specs.OrderRecord.{Cancelling, OrderRecord, ToldTrade, all_cancelled, with_trade_broken, entered, filled, leaves, put_in_book, reduced, market_refused, put_by_replace, with_trade, without_pending_cancel, without_pending_replace}
-use Rattle.ouch_codec.specs.declared.outbound.replaced.Replaced.{Replaced}
+use Rattle.order_machine.specs.OrderRecord.{Cancelling, OrderRecord, ToldTrade, all_cancelled, with_trade_broken}
+use Rattle.order_machine.specs.OrderRecord.{entered, filled, leaves, put_in_book, reduced, market_refused}
+use Rattle.order_machine.specs.OrderRecord.{put_by_replace, with_trade, without_pending_cancel}
+use Rattle.order_machine.specs.OrderRecord.{without_pending_replace}
+use Rattle.order_law.specs.ouch_codec.declared.outbound.replaced.Replaced.{Replaced}
 use Rattle.order_machine.proofs.Due.{IsSound}
 use Rattle.order_machine.proofs.Reports.{with_cancel, with_replace}
 use Rattle.std.proofs.Common.{arith}

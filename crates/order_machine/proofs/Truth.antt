@@ -1,17 +1,20 @@
 -- In every told history each order is true to the market, after each turn.
-use Rattle.std.proofs.Common.{◌≡◌, ℕ, suc, ◌+◌, ◌*◌, ◌<◌, ◌^◌, Bool, true, false, List, [], ◌∷◌, length, refl, sym, ap, ◌∙◌, subst, arith, decimal, codes, Option, Some, None, Result, Ok, Err}
+use Rattle.std.proofs.Common.{◌≡◌, ℕ, suc, ◌+◌, ◌*◌, ◌<◌, ◌^◌, Bool, true, false, List, [], ◌∷◌, length, refl, sym, ap}
+use Rattle.std.proofs.Common.{◌∙◌, subst, arith, decimal, codes, Option, Some, None, Result, Ok, Err}
 use Rattle.std.specs.Prelude.{◌&&◌, if◌then◌else◌}
 use Rattle.std.specs.List.{find}
-use Rattle.ouch_codec.specs.declared.outbound.Outbound.{Outbound}
-use Rattle.ouch_codec.specs.declared.outbound.Outbound.TheVariants as market
-use Rattle.ouch_codec.specs.declared.refusal.DecodeRefusal.{DecodeRefusal}
+use Rattle.order_law.specs.ouch_codec.declared.outbound.Outbound.{Outbound}
+use Rattle.order_law.specs.ouch_codec.declared.outbound.Outbound.TheVariants as market
+use Rattle.order_law.specs.ouch_codec.declared.refusal.DecodeRefusal.{DecodeRefusal}
 use Rattle.fix_fields.specs.Field.{Message, text}
 use Rattle.order_law.specs.Life.{is_closed}
 use Rattle.order_law.specs.Reading.{is_report}
 use Rattle.order_law.specs.Chain.{chain}
-use Rattle.order_law.specs.History.{Entry, Heard, OrderHistory, Terms, OrderTurn, accepted, given_tokens, is_new_order, issued, new_of, orders_numbered}
+use Rattle.order_law.specs.History.{Entry, Heard, OrderHistory, Terms, OrderTurn, accepted, given_tokens, is_new_order}
+use Rattle.order_law.specs.History.{issued, new_of, orders_numbered}
 use Rattle.order_law.specs.Lawful.{judgement, order_token}
-use Rattle.order_law.specs.Told.{Told, answers_last_cancel, nobody, price_after, reports_in, told, told_by, told_on, told_of_entry}
+use Rattle.order_law.specs.Told.{Told, answers_last_cancel, nobody, price_after, reports_in, told, told_by, told_on}
+use Rattle.order_law.specs.Told.{told_of_entry}
 use Rattle.order_law.specs.Headline.{Each, IsTrueToMarket, said_in}
 use Rattle.order_machine.specs.OrderRecord.{OrderRecord, after_request, at, live_token, replacements, shown_as}
 use Rattle.order_machine.proofs.Texts.{and-parts}
@@ -33,7 +36,8 @@ use Rattle.order_law.specs.Chain.{goes_by, named as named_order, has_pending_can
 use Rattle.order_law.specs.Reading.{Reading}
 use Rattle.order_law.specs.Verdicts.{Accepted, Port, Refused, Verdict, is_replace, verdict_of_request, Named}
 use Rattle.order_law.specs.History.{Came, OrderEvent, standing_of, verdict}
-use Rattle.order_law.specs.Told.{Shown, on_request, refused_request, reject, report, shown, shown_in, status_of, told_by_verdict}
+use Rattle.order_law.specs.Told.{Shown, on_request, refused_request, reject, report, shown, shown_in, status_of}
+use Rattle.order_law.specs.Told.{told_by_verdict}
 use Rattle.order_machine.specs.OrderRecord.{chained}
 
 abbrev pub AllTrue : List Terms → OrderTurn → OrderHistory → Type 0

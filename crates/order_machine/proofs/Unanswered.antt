@@ -1,21 +1,25 @@
 -- After each turn the list of what is asked and not answered has, on each port, what the law reads from all turns.
-use Rattle.std.proofs.Common.{◌≡◌, ◌≢◌, ℕ, ◌-◌, ◌*◌, Bool, true, false, List, [], ◌∷◌, length, refl, sym, ap, ◌∙◌, subst, codes, bytes_eq, Option, Some, None, Result, Ok, Err, eq-eqb, eqb-true, ne_eqb}
+use Rattle.std.proofs.Common.{◌≡◌, ◌≢◌, ℕ, ◌-◌, ◌*◌, Bool, true, false, List, [], ◌∷◌, length, refl, sym, ap, ◌∙◌}
+use Rattle.std.proofs.Common.{subst, codes, bytes_eq, Option, Some, None, Result, Ok, Err, eq-eqb, eqb-true, ne_eqb}
 use Rattle.std.specs.Prelude.{◌==◌, ◌&&◌, ◌||◌, not, if◌then◌else◌, filter, option_and_then, option_map}
 use Rattle.std.specs.List.{find}
-use Rattle.ouch_codec.specs.declared.outbound.Outbound.{Outbound}
-use Rattle.ouch_codec.specs.declared.outbound.Outbound.TheVariants as market
-use Rattle.ouch_codec.specs.declared.refusal.DecodeRefusal.{DecodeRefusal}
-use Rattle.ouch_codec.specs.declared.outbound.replaced.Replaced.{Replaced}
+use Rattle.order_law.specs.ouch_codec.declared.outbound.Outbound.{Outbound}
+use Rattle.order_law.specs.ouch_codec.declared.outbound.Outbound.TheVariants as market
+use Rattle.order_law.specs.ouch_codec.declared.refusal.DecodeRefusal.{DecodeRefusal}
+use Rattle.order_law.specs.ouch_codec.declared.outbound.replaced.Replaced.{Replaced}
 use Rattle.fix_fields.specs.Field.{Message}
 use Rattle.order_law.specs.Life.{Life, is_closed, is_dead}
-use Rattle.order_law.specs.History.{Asked, Entry, OrderHistory, Terms, OrderTurn, accepted, answers, handled, issued, life_of, new_of, orders_numbered, outstanding}
+use Rattle.order_law.specs.History.{Asked, Entry, OrderHistory, Terms, OrderTurn, accepted, answers, handled, issued}
+use Rattle.order_law.specs.History.{life_of, new_of, orders_numbered, outstanding}
 use Rattle.order_law.specs.Told.{reports_in}
 use Rattle.order_law.specs.Lawful.{order_token}
 use Rattle.order_law.specs.Headline.{Each}
-use Rattle.order_machine.specs.OrderRecord.{OrderRecord, ToldTrade, after_broken, after_message, after_replaced, record_life, stands_told}
+use Rattle.order_machine.specs.OrderRecord.{OrderRecord, ToldTrade, after_broken, after_message, after_replaced}
+use Rattle.order_machine.specs.OrderRecord.{record_life, stands_told}
 use Rattle.order_machine.specs.Table.{TableState, by_number, record_by_token, has_number, put}
 use Rattle.order_machine.specs.Machine.{GivenByEvent, payload_fault, faulty, heard_on, market_step, silent}
-use Rattle.order_machine.specs.Outstanding.{OnPort, is_answered, is_on, on_port, still_asked, still_asked_on, unanswered_by}
+use Rattle.order_machine.specs.Outstanding.{OnPort, is_answered, is_on, on_port, still_asked, still_asked_on}
+use Rattle.order_machine.specs.Outstanding.{unanswered_by}
 use Rattle.order_machine.proofs.Texts.{and-false, eq-is, eq-true, eq-turned}
 use Rattle.order_machine.proofs.Lists.{Each-filter, found-passes}
 use Rattle.order_machine.proofs.Leads.{same_some}

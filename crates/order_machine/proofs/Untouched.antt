@@ -1,9 +1,10 @@
 -- A message on one order changes no other, and one without a token changes none.
-use Rattle.std.proofs.Common.{◌≡◌, ◌≢◌, ℕ, Bool, true, false, List, [], ◌∷◌, refl, sym, ap, subst, ◌∙◌, bytes_eq, Option, Some, None, eqb-true, eq-eqb}
+use Rattle.std.proofs.Common.{◌≡◌, ◌≢◌, ℕ, Bool, true, false, List, [], ◌∷◌, refl, sym, ap, subst, ◌∙◌, bytes_eq}
+use Rattle.std.proofs.Common.{Option, Some, None, eqb-true, eq-eqb}
 use Rattle.std.specs.Prelude.{◌==◌, option_to_list}
 use Rattle.std.specs.List.{list_any}
-use Rattle.ouch_codec.specs.declared.outbound.Outbound.{Outbound}
-use Rattle.ouch_codec.specs.declared.outbound.Outbound.TheVariants as market
+use Rattle.order_law.specs.ouch_codec.declared.outbound.Outbound.{Outbound}
+use Rattle.order_law.specs.ouch_codec.declared.outbound.Outbound.TheVariants as market
 use Rattle.order_law.specs.declared.stage.Stage.{Stage}
 use Rattle.order_law.specs.declared.stage.Stage.TheVariants.{Waiting, Working, Closed}
 use Rattle.fix_fields.specs.Field.{Message}
@@ -12,7 +13,8 @@ use Rattle.order_law.specs.History.{Entry, Said, SaysCancel, SaysNew, SaysReplac
 use Rattle.order_law.specs.Lawful.{order_of_token, order_token}
 use Rattle.order_law.specs.Told.{priced}
 use Rattle.order_law.specs.Headline.{Each}
-use Rattle.order_machine.specs.OrderRecord.{Cancelling, OrderRecord, asked_as, unanswered_tokens, live_token, record_life, new_asked, replace_asked, still_cancelling}
+use Rattle.order_machine.specs.OrderRecord.{Cancelling, OrderRecord, asked_as, unanswered_tokens, live_token}
+use Rattle.order_machine.specs.OrderRecord.{record_life, new_asked, replace_asked, still_cancelling}
 use Rattle.order_machine.proofs.Texts.{eq-other, eq-same}
 use Rattle.order_machine.proofs.Leads.{same_some}
 use Rattle.order_machine.proofs.Moves.{Of, unanswered}

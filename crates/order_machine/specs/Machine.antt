@@ -7,9 +7,9 @@ use Rattle.std.specs.Prelude.{if◌then◌else◌, option_and_then, Result, Ok, 
 use Rattle.std.specs.List.{count_by}
 use Rattle.order_law.specs.declared.stage.Stage.TheVariants.{Waiting}
 use Rattle.fix_fields.specs.Field.{Message, text}
-use Rattle.ouch_codec.specs.declared.outbound.Outbound.{Outbound}
-use Rattle.ouch_codec.specs.declared.outbound.Outbound.TheVariants as market
-use Rattle.ouch_codec.specs.declared.refusal.DecodeRefusal.{DecodeRefusal}
+use Rattle.order_law.specs.ouch_codec.declared.outbound.Outbound.{Outbound}
+use Rattle.order_law.specs.ouch_codec.declared.outbound.Outbound.TheVariants as market
+use Rattle.order_law.specs.ouch_codec.declared.refusal.DecodeRefusal.{DecodeRefusal}
 use Rattle.order_law.specs.Reading.{is_report}
 use Rattle.order_law.specs.Verdicts.{Port, Verdict, Accepted, Refused, first_row, is_replace, rows_of_new}
 use Rattle.order_law.specs.Verdicts.{rows_of_request}

@@ -10,10 +10,10 @@ use Rattle.order_law.specs.declared.stage.Stage.TheVariants.{Waiting, Working, C
 use Rattle.order_law.specs.declared.trade.Trade.{Trade}
 use Rattle.fix_fields.specs.Field.{text, character}
 use Rattle.order_law.specs.Asks.{asked_by_new, asked_by_request, limit_of, total_of}
-use Rattle.ouch_codec.specs.declared.outbound.Outbound.{Outbound}
-use Rattle.ouch_codec.specs.declared.outbound.Outbound.TheVariants as market
-use Rattle.ouch_codec.specs.declared.outbound.replaced.Replaced.{Replaced}
-use Rattle.ouch_codec.specs.declared.outbound.executed.Executed.{Executed}
+use Rattle.order_law.specs.ouch_codec.declared.outbound.Outbound.{Outbound}
+use Rattle.order_law.specs.ouch_codec.declared.outbound.Outbound.TheVariants as market
+use Rattle.order_law.specs.ouch_codec.declared.outbound.replaced.Replaced.{Replaced}
+use Rattle.order_law.specs.ouch_codec.declared.outbound.executed.Executed.{Executed}
 use Rattle.order_law.specs.Life.{Life, first_token, is_closed, is_dead, is_live, is_waiting, marked, stands_as}
 use Rattle.order_law.specs.Reading.{Fill, Reading}
 use Rattle.order_law.specs.Chain.{Chain, Request}

@@ -4,3 +4,5 @@
 //! It is definitions and lemmas over lists alone: there is nothing to call. Whoever meets the table's steps, or the
 //! law's tellings, sends and faults, has the headline from here, by the lemmas that `proofs/Lib.antt` exports.
 #![tactic(auto)]
+
+pub use fix_fields::Text;

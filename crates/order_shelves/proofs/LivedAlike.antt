@@ -1,17 +1,19 @@
 -- What the market said of an order goes by the messages on its shelf.
-use Rattle.std.proofs.Common.{◌≡◌, ◌<◌, ◌+◌, ◌-◌, ◌*◌, ℕ, Bool, true, false, List, [], ◌∷◌, ◌++◌, length, reverse, get_or, refl, sym, ap, ◌∙◌, subst, eqb-true, eq-eqb, Option, Some, None, inl, inr}
+use Rattle.std.proofs.Common.{◌≡◌, ◌<◌, ◌+◌, ◌-◌, ◌*◌, ℕ, Bool, true, false, List, [], ◌∷◌, ◌++◌, length, reverse}
+use Rattle.std.proofs.Common.{get_or, refl, sym, ap, ◌∙◌, subst, eqb-true, eq-eqb, Option, Some, None, inl, inr}
 use Rattle.std.specs.Prelude.{◌==◌, ◌&&◌, ◌⊎◌, filter, if◌then◌else◌, bytes_eq}
 use Rattle.std.specs.List.{find, list_all, list_any}
 use Rattle.std.specs.Cmp.Lexicographic.{bytes_decides}
 use Rattle.std.proofs.lemmas.Bool.{and_parts, false_from_ne_true, or_cases}
 use Rattle.std.proofs.lemmas.List.{reverse-append}
 use Rattle.std.proofs.lemmas.List.Folds.{list_all-append}
-use Rattle.ouch_codec.specs.declared.outbound.Outbound.{Outbound}
-use Rattle.ouch_codec.specs.declared.outbound.Outbound.TheVariants as market
-use Rattle.ouch_codec.specs.Tokens.{order_token}
-use Rattle.order_law.specs.declared.stage.Stage.TheVariants.{Closed}
-use Rattle.order_law.specs.declared.trade.Trade.{Trade}
-use Rattle.order_law.specs.Life.{Life, after, broken, decreased, first_token, is_dead, is_live, is_of, is_waiting, life, opened, settled, stands_as, traded}
+use Rattle.order_accounts.specs.ouch_codec.declared.outbound.Outbound.{Outbound}
+use Rattle.order_accounts.specs.ouch_codec.declared.outbound.Outbound.TheVariants as market
+use Rattle.order_accounts.specs.ouch_codec.Tokens.{order_token}
+use Rattle.order_accounts.specs.order_law.declared.stage.Stage.TheVariants.{Closed}
+use Rattle.order_accounts.specs.order_law.declared.trade.Trade.{Trade}
+use Rattle.order_accounts.specs.order_law.Life.{Life, after, broken, decreased, first_token, is_dead, is_live, is_of}
+use Rattle.order_accounts.specs.order_law.Life.{is_waiting, life, opened, settled, stands_as, traded}
 use Rattle.order_shelves.specs.Places.{lead}
 use Rattle.order_shelves.specs.Shelved.{HasMessages, message_at, stays}
 use Rattle.order_shelves.proofs.Shelving.{filter-reverse}

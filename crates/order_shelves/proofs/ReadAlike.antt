@@ -1,10 +1,11 @@
 -- What is read of an order goes by the reports on its shelf.
-use Rattle.std.proofs.Common.{◌≡◌, ◌<◌, ◌^◌, ℕ, Bool, true, false, List, [], ◌∷◌, ◌++◌, length, reverse, get_or, replicate, refl, sym, ap, ◌∙◌, arith, subst, eq-eqb}
+use Rattle.std.proofs.Common.{◌≡◌, ◌<◌, ◌^◌, ℕ, Bool, true, false, List, [], ◌∷◌, ◌++◌, length, reverse, get_or}
+use Rattle.std.proofs.Common.{replicate, refl, sym, ap, ◌∙◌, arith, subst, eq-eqb}
 use Rattle.std.specs.Prelude.{◌==◌, ◌&&◌, filter, if◌then◌else◌, bytes_eq}
 use Rattle.std.specs.Cmp.Lexicographic.{bytes_decides}
 use Rattle.std.proofs.lemmas.Bool.{and_parts}
 use Rattle.fix_fields.specs.Field.{Message, is, text}
-use Rattle.order_law.specs.Reading.{Reading, is_report, is_report_on, reading, unread, with_report}
+use Rattle.order_accounts.specs.order_law.Reading.{Reading, is_report, is_report_on, reading, unread, with_report}
 use Rattle.order_accounts.specs.Held.{IsHeld, StaysHeld}
 use Rattle.order_shelves.specs.Places.{place}
 use Rattle.order_shelves.specs.Shelved.{HasReports, IsReadAlike, report_at}

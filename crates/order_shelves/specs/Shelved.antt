@@ -1,11 +1,12 @@
 -- Items on shelves: which stand where, and what that leaves to be read of an order.
-use Rattle.std.specs.Prelude.{◌≡◌, ◌≤◌, ◌<◌, ◌==◌, ℕ, Bool, true, false, List, [], Option, Some, None, filter, get_or, length}
+use Rattle.std.specs.Prelude.{◌≡◌, ◌≤◌, ◌<◌, ◌==◌, ℕ, Bool, true, false, List, [], Option, Some, None, filter, get_or}
+use Rattle.std.specs.Prelude.{length}
 use Rattle.std.specs.List.{list_all}
-use Rattle.ouch_codec.specs.declared.outbound.Outbound.{Outbound}
-use Rattle.ouch_codec.specs.declared.outbound.Outbound.TheVariants as market
-use Rattle.ouch_codec.specs.Tokens.{order_token}
+use Rattle.order_accounts.specs.ouch_codec.declared.outbound.Outbound.{Outbound}
+use Rattle.order_accounts.specs.ouch_codec.declared.outbound.Outbound.TheVariants as market
+use Rattle.order_accounts.specs.ouch_codec.Tokens.{order_token}
 use Rattle.fix_fields.specs.Field.{Message, text}
-use Rattle.order_law.specs.Reading.{reading}
+use Rattle.order_accounts.specs.order_law.Reading.{reading}
 use Rattle.order_accounts.specs.Held.{StaysHeld}
 use Rattle.order_shelves.specs.Places.{lead, place}
 

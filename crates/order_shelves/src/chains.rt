@@ -6,7 +6,7 @@ ghost use Rattle.order_shelves.specs.Places.{lead};
 ghost use Rattle.order_shelves.specs.Shelved as spec;
 
 use crate::places::place_of;
-use ouch_codec::Outbound;
+use order_accounts::Outbound;
 use std::alloc::{AllocError, Global};
 use std::marker::Model;
 

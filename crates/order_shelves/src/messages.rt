@@ -1,13 +1,13 @@
 //! Messages of the market, by where their tokens lead.
 
 ghost use Rattle.std.specs.Prelude.{◌≡◌, ◌++◌, ◌∷◌, [], ℕ, List, true, IfOk, OnOk, length, reverse};
-ghost use Rattle.order_law.specs.Life.{life};
-ghost use Rattle.ouch_codec.specs.declared.outbound.Outbound.{Outbound};
+ghost use Rattle.order_accounts.specs.order_law.Life.{life};
+ghost use Rattle.order_accounts.specs.ouch_codec.declared.outbound.Outbound.{Outbound};
 ghost use Rattle.order_shelves.specs.Shelved.{AreShelved, HasMessages, message_at};
 
 use crate::chains::Chains;
 use crate::shelves::Shelves;
-use ouch_codec::Outbound;
+use order_accounts::Outbound;
 use std::alloc::{AllocError, Global};
 use std::marker::Model;
 
@@ -24,7 +24,7 @@ pub struct MessageShelves {
 
 impl Model for MessageShelves {
     ghost use Rattle.std.specs.Prelude.{◌≡◌, List, true};
-    ghost use Rattle.ouch_codec.specs.declared.outbound.Outbound.{Outbound};
+    ghost use Rattle.order_accounts.specs.ouch_codec.declared.outbound.Outbound.{Outbound};
     ghost use Rattle.order_shelves.specs.Shelved.{HasMessages};
 
     ghost Value = { List Outbound };

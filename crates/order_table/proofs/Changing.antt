@@ -1,17 +1,18 @@
 -- An order is changed where it stands: what stands there then, and that orders are led to by their keys as before.
-use Rattle.std.proofs.Common.{◌≡◌, ℕ, zero, suc, ◌∙◌, List, [], ◌∷◌, length, refl, sym, ap, decimal, slice_get, slice_set, true}
+use Rattle.std.proofs.Common.{◌≡◌, ℕ, zero, suc, ◌∙◌, List, [], ◌∷◌, length, refl, sym, ap, decimal, slice_get}
+use Rattle.std.proofs.Common.{slice_set, true}
 use Rattle.std.specs.Prelude.{Some, None, nat_eq}
 use Rattle.std.specs.Str.Parse.{digits_value}
 use Rattle.hint_index.proofs.Standing.{covered-changed, covered-same}
 use Rattle.hint_index.specs.Hints.{Covered, Hints, LeadsTo, hint_of}
-use Rattle.order_law.specs.History.{Entry}
+use Rattle.orders.specs.order_law.History.{Entry}
 use Rattle.order_machine.specs.OrderRecord.{OrderRecord}
-use Rattle.fix_types.specs.CancelRequest.{cancel_request_fields}
-use Rattle.fix_types.specs.ReplaceRequest.{replace_request_fields}
+use Rattle.orders.specs.fix_types.CancelRequest.{cancel_request_fields}
+use Rattle.orders.specs.fix_types.ReplaceRequest.{replace_request_fields}
 use Rattle.orders.specs.Seen.{cancel_of, cancel_seen, replace_of, replace_seen}
 use Rattle.orders.specs.declared.requests.Cancelling.{Cancelling}
 use Rattle.orders.specs.declared.requests.Replacing.{Replacing}
-use Rattle.undo_list.specs.Undoing.{Undoable}
+use Rattle.hint_index.specs.undo_list.Undoing.{Undoable}
 use Rattle.order_table.specs.declared.keys.NameKey.{NameKey}
 use Rattle.order_table.specs.declared.keys.NumberKey.{NumberKey}
 use Rattle.order_table.specs.Keys.{has_name_key, has_number_key, same_name, same_number}

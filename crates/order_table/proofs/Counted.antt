@@ -1,12 +1,14 @@
 -- How many tokens the orders of a table have had: at most one more than replaces were accepted.
-use Rattle.std.proofs.Common.{◌≡◌, ℕ, zero, suc, ◌+◌, ◌-◌, ◌≤◌, Bool, true, false, List, [], ◌∷◌, ◌++◌, length, reverse, refl, sym, ap, ◌∙◌, arith, slice_get, slice_set, leb-true}
+use Rattle.std.proofs.Common.{◌≡◌, ℕ, zero, suc, ◌+◌, ◌-◌, ◌≤◌, Bool, true, false, List, [], ◌∷◌, ◌++◌, length}
+use Rattle.std.proofs.Common.{reverse, refl, sym, ap, ◌∙◌, arith, slice_get, slice_set, leb-true}
 use Rattle.std.specs.Prelude.{◌&&◌, ◌==◌, nat_le, Option, Some, None, if◌then◌else◌, option_to_list, bytes_eq}
 use Rattle.std.specs.List.{count_by, list_all}
 use Rattle.std.proofs.lemmas.Bool.{and_parts}
 use Rattle.std.proofs.lemmas.Bool.Decides.{nat_tests}
 use Rattle.std.proofs.lemmas.List.Folds.{list_all-append}
-use Rattle.order_law.specs.History.{Entry, token_of}
-use Rattle.order_machine.specs.OrderRecord.{OrderRecord, at, filled, gone, live_token, over_if, put_in_book, reduced, renamed, still_after, unasked, with_trade}
+use Rattle.orders.specs.order_law.History.{Entry, token_of}
+use Rattle.order_machine.specs.OrderRecord.{OrderRecord, at, filled, gone, live_token, over_if, put_in_book, reduced}
+use Rattle.order_machine.specs.OrderRecord.{renamed, still_after, unasked, with_trade}
 use Rattle.order_machine.specs.Table.{GivenToken, has_number, is_replacement_of}
 use Rattle.order_machine.proofs.Lists.{count-push, found-passes}
 use Rattle.order_machine.proofs.Texts.{eq-is, eq-true}

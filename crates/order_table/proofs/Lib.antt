@@ -6,3 +6,4 @@ mod Changing
 mod Standing
 mod StillOpen
 mod Replaces
+pub use Rattle.hint_index.proofs as hint_index

@@ -1,18 +1,21 @@
 -- Orders and tokens are led to by their keys.
-use Rattle.std.proofs.Common.{◌≡◌, ℕ, zero, suc, ◌<◌, ◌-◌, ◌^◌, Bool, true, false, List, [], ◌∷◌, length, refl, sym, ap, ◌∙◌, arith, decimal, subst, slice_get, eq-eqb, eqb-true, true≢false, ◌⊎◌, inl, inr}
+use Rattle.std.proofs.Common.{◌≡◌, ℕ, zero, suc, ◌<◌, ◌-◌, ◌^◌, Bool, true, false, List, [], ◌∷◌, length, refl, sym}
+use Rattle.std.proofs.Common.{ap, ◌∙◌, arith, decimal, subst, slice_get, eq-eqb, eqb-true, true≢false, ◌⊎◌, inl, inr}
 use Rattle.std.specs.Prelude.{◌||◌, ◌&&◌, ◌==◌, not, Option, Some, None, bytes_eq, filter, if◌then◌else◌}
 use Rattle.std.specs.Cmp.Lexicographic.{bytes_decides}
 use Rattle.std.specs.List.{list_any}
 use Rattle.std.specs.Str.Parse.{digits_value}
 use Rattle.std.proofs.lemmas.Bool.{and_parts}
-use Rattle.fix_fields.specs.Field.{text}
+use Rattle.order_machine.specs.fix_fields.Field.{text}
 use Rattle.hint_index.proofs.Keys.{key-of-same}
 use Rattle.hint_index.specs.declared.hint.Hint.{Hint}
 use Rattle.hint_index.specs.Hints.{Hints, LeadsTo, hint_of}
-use Rattle.order_law.specs.Chain.{goes_by}
-use Rattle.order_law.specs.History.{Entry, token_of}
+use Rattle.orders.specs.order_law.Chain.{goes_by}
+use Rattle.orders.specs.order_law.History.{Entry, token_of}
 use Rattle.order_machine.proofs.Texts.{eq-is, number-decimal}
-use Rattle.order_machine.specs.OrderRecord.{Cancelling, OrderRecord, at, chained, filled, gone, live_token, over_if, put_in_book, reduced, renamed, still_after, unasked, with_tokens, with_trade}
+use Rattle.order_machine.specs.OrderRecord.{Cancelling, OrderRecord, at, chained, filled, gone, live_token, over_if}
+use Rattle.order_machine.specs.OrderRecord.{put_in_book, reduced, renamed, still_after, unasked, with_tokens}
+use Rattle.order_machine.specs.OrderRecord.{with_trade}
 use Rattle.order_machine.specs.Table.{GivenToken, has_number, is_named, is_token}
 use Rattle.orders.specs.Changes.{changed_by, replaced_as}
 use Rattle.orders.specs.declared.change.Change.{Change}
@@ -20,7 +23,8 @@ use Rattle.orders.specs.declared.change.Change.TheVariants as changes
 use Rattle.order_table.specs.declared.keys.NameKey.{NameKey}
 use Rattle.order_table.specs.declared.keys.NumberKey.{NumberKey}
 use Rattle.order_table.specs.declared.token_key.TokenKey.{TokenKey}
-use Rattle.order_table.specs.Keys.{has_name_key, has_number_key, has_token_key, is_key_of_cancel, is_key_of_replace, name_key, same_name, same_number}
+use Rattle.order_table.specs.Keys.{has_name_key, has_number_key, has_token_key, is_key_of_cancel, is_key_of_replace}
+use Rattle.order_table.specs.Keys.{name_key, same_name, same_number}
 use Rattle.order_table.specs.KeyLaws.{same-name-is, same-token-is}
 use Rattle.order_table.specs.Names.{KeepsNames, KeepsNamesBut}
 use Rattle.order_table.specs.TokenKeys.{same_token_key, token_key}

@@ -1,5 +1,7 @@
 -- The newest order that passes a test, in a list that has the oldest first.
-use Rattle.std.proofs.Common.{◌≡◌, ℕ, zero, suc, ◌+◌, ◌-◌, ◌<◌, ◌^◌, Bool, true, false, List, [], ◌∷◌, ◌++◌, length, map, reverse, refl, sym, ap, ◌∙◌, arith, decimal, bytes_eq, get_or, slice_get, slice_set, eq-eqb, eqb-true}
+use Rattle.std.proofs.Common.{◌≡◌, ℕ, zero, suc, ◌+◌, ◌-◌, ◌<◌, ◌^◌, Bool, true, false, List, [], ◌∷◌, ◌++◌, length}
+use Rattle.std.proofs.Common.{map, reverse, refl, sym, ap, ◌∙◌, arith, decimal, bytes_eq, get_or, slice_get, slice_set}
+use Rattle.std.proofs.Common.{eq-eqb, eqb-true}
 use Rattle.std.specs.Prelude.{Option, Some, if◌then◌else◌, ◌==◌}
 use Rattle.std.specs.List.{count_by, find, position_or_len}
 use Rattle.std.proofs.lemmas.List.{map-append, reverse-append}
@@ -9,7 +11,7 @@ use Rattle.order_machine.specs.OrderRecord.{OrderRecord}
 use Rattle.order_machine.specs.Table.{has_number, put}
 use Rattle.hint_index.proofs.Newest.{length-reverse}
 use Rattle.hint_index.specs.Newest.{IsNewest}
-use Rattle.order_law.specs.History.{Entry}
+use Rattle.orders.specs.order_law.History.{Entry}
 use Rattle.order_machine.proofs.Executed.{count-more}
 use Rattle.order_machine.proofs.Lists.{count-push, found-passes}
 use Rattle.order_machine.proofs.Texts.{decimal-same, eq-is, eq-other, eq-true}

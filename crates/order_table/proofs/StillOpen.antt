@@ -1,10 +1,11 @@
 -- How many orders of each client aren't closed: after one order more, and after a change of one.
-use Rattle.std.proofs.Common.{◌≡◌, ℕ, zero, suc, ◌+◌, ◌≤◌, Bool, true, false, List, [], ◌∷◌, ◌++◌, refl, sym, ap, ◌∙◌, arith, eq-eqb, slice_get, slice_set}
+use Rattle.std.proofs.Common.{◌≡◌, ℕ, zero, suc, ◌+◌, ◌≤◌, Bool, true, false, List, [], ◌∷◌, ◌++◌, refl, sym, ap, ◌∙◌}
+use Rattle.std.proofs.Common.{arith, eq-eqb, slice_get, slice_set}
 use Rattle.std.specs.Prelude.{◌&&◌, ◌==◌, not, Some, slice_index}
 use Rattle.std.specs.List.{count_by}
-use Rattle.order_law.specs.Life.{is_closed}
-use Rattle.order_law.specs.declared.stage.Stage.{Stage}
-use Rattle.order_law.specs.History.{Entry}
+use Rattle.orders.specs.order_law.Life.{is_closed}
+use Rattle.orders.specs.order_law.declared.stage.Stage.{Stage}
+use Rattle.orders.specs.order_law.History.{Entry}
 use Rattle.order_machine.specs.OrderRecord.{OrderRecord}
 use Rattle.order_machine.specs.Table.{is_open_of}
 use Rattle.order_machine.proofs.Executed.{count-more}

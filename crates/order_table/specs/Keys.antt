@@ -2,9 +2,9 @@
 -- compared itself.
 use Rattle.std.specs.Prelude.{ℕ, Bool, false, ◌||◌, List, Option, Some, None, nat_eq}
 use Rattle.std.specs.Str.Parse.{digits_value}
-use Rattle.fix_fields.specs.Field.{text}
+use Rattle.order_machine.specs.fix_fields.Field.{text}
 use Rattle.hint_index.specs.TextKeys.{same_key, text_key}
-use Rattle.order_law.specs.History.{Entry}
+use Rattle.orders.specs.order_law.History.{Entry}
 use Rattle.order_machine.specs.OrderRecord.{Cancelling, OrderRecord}
 use Rattle.order_machine.specs.Table.{GivenToken}
 use Rattle.order_table.specs.declared.keys.NameKey.{NameKey}

@@ -5,9 +5,10 @@ pub mod Names
 pub mod Replaces
 pub mod Rooms
 pub mod TokenKeys
-pub use Rattle.order_law.specs.Chain
-pub use Rattle.order_law.specs.Life
+pub use Rattle.orders.specs.order_law.Chain
+pub use Rattle.orders.specs.order_law.Life
 pub use Rattle.order_machine.specs.OrderRecord
 pub use Rattle.order_machine.specs.Table
 pub use Rattle.orders.specs.Changes
 pub use Rattle.orders.specs.Seen
+pub use Rattle.hint_index.specs as hint_index

@@ -2,7 +2,7 @@
 
 ghost use Rattle.std.specs.Prelude.{◌≡◌, ℕ, true, Some, decimal, option_map};
 ghost use Rattle.order_table.specs.declared.keys.NameKey.{NameKey as Key};
-ghost use Rattle.order_law.specs.Chain.{goes_by};
+ghost use Rattle.orders.specs.order_law.Chain.{goes_by};
 ghost use Rattle.order_machine.specs.OrderRecord.{chained};
 ghost use Rattle.orders.specs.Seen.{cancel_seen, has_cancel_id, has_id, replace_seen};
 ghost use Rattle.order_machine.specs.Table as table;

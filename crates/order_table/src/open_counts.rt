@@ -3,9 +3,9 @@
 ghost use Rattle.std.specs.Prelude.{◌≡◌, ◌≤◌, ◌<◌, ◌+◌, ◌^◌, ◌==◌, ◌&&◌, ℕ, true, [], length, slice_index, IfOk, OnOk};
 ghost use Rattle.order_table.specs.Held.{one_if};
 
+use hint_index::UndoList;
 use std::alloc::{AllocError, Global};
 use std::marker::Model;
-use undo_list::UndoList;
 
 /// A count for each client, at the place of the client's number. Contracts see the list, now and as it was settled:
 /// past its end every count is 0.
@@ -16,7 +16,7 @@ pub struct OpenCounts {
 
 impl Model for OpenCounts {
     ghost use Rattle.std.specs.Prelude.{ℕ};
-    ghost use Rattle.undo_list.specs.Undoing.{Undoable};
+    ghost use Rattle.hint_index.specs.undo_list.Undoing.{Undoable};
 
     ghost Value = { Undoable ℕ };
 

@@ -1,6 +1,7 @@
 //! The list of orders with its indexes.
 
-ghost use Rattle.std.specs.Prelude.{◌≡◌, ◌+◌, ◌≤◌, ◌<◌, ◌^◌, ◌++◌, ◌∷◌, [], ℕ, None, Some, true, decimal, length, reverse};
+ghost use Rattle.std.specs.Prelude.{◌≡◌, ◌+◌, ◌≤◌, ◌<◌, ◌^◌, ◌++◌, ◌∷◌, [], ℕ, None, Some, true, decimal, length};
+ghost use Rattle.std.specs.Prelude.{reverse};
 ghost use Rattle.std.specs.Prelude.{slice_get, slice_set, MatchOption, IfOk, OnErr, OnOk};
 ghost use Rattle.std.specs.List.{find};
 ghost use Rattle.hint_index.specs.Hints.{Covered, LeadsTo, hint_of};
@@ -45,7 +46,7 @@ impl<S: BuildHasher + Drop> Model for OrderList<S> {
     ghost use Rattle.order_machine.specs.OrderRecord.{OrderRecord};
     ghost use Rattle.order_table.specs.Keys.{has_name_key, has_number_key, same_name, same_number};
     ghost use Rattle.order_table.specs.Rooms.{room_of_order};
-    ghost use Rattle.undo_list.specs.Undoing.{Undoable};
+    ghost use Rattle.hint_index.specs.undo_list.Undoing.{Undoable};
 
     ghost Value = { Undoable OrderRecord };
 

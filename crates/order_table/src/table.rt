@@ -2,14 +2,13 @@
 
 ghost use Rattle.std.specs.Prelude.{◌≡◌, ◌<◌, true, not, decimal};
 ghost use Rattle.std.specs.List.{count_by};
-ghost use Rattle.order_law.specs.Life.{is_closed};
+ghost use Rattle.orders.specs.order_law.Life.{is_closed};
 ghost use Rattle.order_table.specs.Held.{IsCounted};
 
 use crate::open_counts::OpenCounts;
 use crate::order_list::{OrderList, client_of};
 use crate::token_list::TokenList;
-use order_law::Stage;
-use orders::{Cancelling, Change, Order, Replacing};
+use orders::{Cancelling, Change, Order, Replacing, Stage};
 use std::alloc::{AllocError, Global};
 use std::hash::{BuildHasher, BuildHasherDefault, FoldHasher};
 use std::marker::Model;
@@ -121,7 +120,7 @@ impl<S: BuildHasher + Drop> Table<S> {
     ghost use Rattle.std.specs.Prelude.{option_to_list};
     ghost use Rattle.std.specs.List.{count_by};
     ghost use Rattle.std.specs.Prelude.{false};
-    ghost use Rattle.order_law.specs.Life.{is_closed};
+    ghost use Rattle.orders.specs.order_law.Life.{is_closed};
     ghost use Rattle.order_machine.specs.OrderRecord as record_of;
     ghost use Rattle.order_machine.specs.OrderRecord.{at};
     ghost use Rattle.order_machine.specs.Table.{is_replacement_of, open_count, put};

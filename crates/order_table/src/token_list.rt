@@ -10,12 +10,11 @@ ghost use Rattle.order_machine.specs.Table as table;
 use crate::keys::ByToken;
 use crate::table::GivenToken;
 use crate::token_key::TokenKey;
-use hint_index::HintIndex;
+use hint_index::{HintIndex, UndoList};
 use number_counts::NumberCounts;
 use std::alloc::{AllocError, Global};
 use std::hash::{BuildHasher, BuildHasherDefault, FoldHasher};
 use std::marker::Model;
-use undo_list::UndoList;
 
 /// The tokens that were given, the oldest first, each found by its port and its text; how many of them replaces of
 /// each order were given is counted. Contracts see the list, now and as it was settled, and for how many tokens more
@@ -46,7 +45,7 @@ impl<S: BuildHasher + Drop> Model for TokenList<S> {
     ghost use Rattle.order_table.specs.Replaces.{AreReplaces};
     ghost use Rattle.order_table.specs.Rooms.{room_of_token};
     ghost use Rattle.order_table.specs.TokenKeys.{same_token_key};
-    ghost use Rattle.undo_list.specs.Undoing.{Undoable};
+    ghost use Rattle.hint_index.specs.undo_list.Undoing.{Undoable};
 
     ghost Value = { Undoable table.GivenToken };
 

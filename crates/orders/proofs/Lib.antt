@@ -2,3 +2,4 @@ pub mod Marks
 mod Broken
 mod Quantities
 mod Restoring
+pub use Rattle.fix_types.proofs as fix_types

@@ -3,8 +3,11 @@ pub mod Changes
 pub mod EarlierTrades
 pub mod PutBack
 pub use Rattle.fix_types.specs.NewOrder
-pub use Rattle.fixed_point.specs.Decimal
+pub use Rattle.order_machine.specs.fixed_point.Decimal
 pub use Rattle.order_law.specs.Asks
 pub use Rattle.order_machine.specs.OrderRecord
-pub use Rattle.tokens.specs.TokenText
-pub use Rattle.wire_law.specs.Printable
+pub use Rattle.order_machine.specs.tokens.TokenText
+pub use Rattle.order_law.specs.wire_law.Printable
+pub use Rattle.fix_types.specs as fix_types
+pub use Rattle.order_law.specs as order_law
+pub use Rattle.order_machine.specs as order_machine

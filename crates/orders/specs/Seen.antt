@@ -4,7 +4,7 @@ use Rattle.std.specs.Prelude.{option_to_list}
 use Rattle.fix_types.specs.CancelRequest.{cancel_request_fields}
 use Rattle.fix_types.specs.ReplaceRequest.{replace_request_fields}
 use Rattle.order_law.specs.History.{Entry}
-use Rattle.fix_fields.specs.Field.{text}
+use Rattle.order_machine.specs.fix_fields.Field.{text}
 use Rattle.orders.specs.declared.requests.Cancelling.{Cancelling}
 use Rattle.orders.specs.declared.requests.Replacing.{Replacing}
 use Rattle.order_law.specs.Life.{marked}

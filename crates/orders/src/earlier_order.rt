@@ -3,13 +3,13 @@
 ghost use Rattle.std.specs.Prelude.{◌≡◌, ◌≤◌, ◌+◌, length, option_to_list};
 ghost use Rattle.order_law.specs.declared.stage.Stage.TheVariants.{Waiting};
 ghost use Rattle.orders.specs.EarlierTrades.{most_trades};
-ghost use Rattle.wire_law.specs.Printable.{ArePrintable};
+ghost use Rattle.order_law.specs.wire_law.Printable.{ArePrintable};
 
 use crate::boxed::Boxed;
 use crate::earlier_trades::EarlierTrades;
 use crate::progress::Progress;
 use crate::requests::{Cancelling, Replacing};
-use fix_values::ClOrdId;
+use fix_types::ClOrdId;
 
 /// What an order had before it was changed: all that may change of it. Of the lists that only grow it has the lengths.
 #[derive(Debug, Drop)]

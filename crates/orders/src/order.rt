@@ -7,7 +7,7 @@ ghost use Rattle.order_law.specs.Asks.{total_of};
 ghost use Rattle.order_machine.specs.OrderRecord.{OrderRecord, over_if};
 ghost use Rattle.orders.specs.Changes.{with_quantities};
 ghost use Rattle.orders.specs.Seen.{progressed};
-ghost use Rattle.wire_law.specs.Printable.{ArePrintable};
+ghost use Rattle.order_law.specs.wire_law.Printable.{ArePrintable};
 
 use crate::answering::without;
 use crate::boxed::Boxed;
@@ -17,8 +17,7 @@ use crate::progress::Progress;
 use crate::requests::{Cancelling, Replacing};
 use crate::symbol::Symbol;
 use crate::trades::{make_room, mark};
-use fix_types::NewOrder;
-use fix_values::{Character, ClOrdId};
+use fix_types::{Character, ClOrdId, NewOrder};
 use order_law::Trade;
 use std::alloc::{AllocError, Global};
 use std::fmt;
@@ -146,7 +145,7 @@ impl Model for Order {
 impl Order {
     ghost use Rattle.std.specs.Prelude.{ℕ, OnErr, Some, bytes_eq, decimal};
     ghost use Rattle.std.specs.List.{list_any};
-    ghost use Rattle.tokens.specs.TokenText.{token_text};
+    ghost use Rattle.order_machine.specs.tokens.TokenText.{token_text};
     ghost use Rattle.fix_types.specs.NewOrder.{new_order_fields};
     ghost use Rattle.order_law.specs.Asks.{limit_of};
     ghost use Rattle.order_machine.specs.OrderRecord.{at, entered, last_after, live_token, replacements, still_after};

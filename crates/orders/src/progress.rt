@@ -1,7 +1,7 @@
 //! How far an order has come, in numbers.
 
 ghost use Rattle.std.specs.Prelude.{◌≡◌, ◌≢◌, ◌≤◌, ◌<◌, ◌+◌, ◌-◌, ◌*◌, ◌^◌, false, true};
-ghost use Rattle.fixed_point.specs.Decimal.{most_shares};
+ghost use Rattle.order_machine.specs.fixed_point.Decimal.{most_shares};
 ghost use Rattle.order_law.specs.declared.stage.Stage.TheVariants.{Waiting, Working, Closed};
 
 use order_law::Stage;

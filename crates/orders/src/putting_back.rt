@@ -14,7 +14,7 @@ use crate::copying::{copied_cancel, copied_replace};
 use crate::earlier_order::EarlierOrder;
 use crate::earlier_trades::{EarlierTrades, put_trades_back};
 use crate::order::Order;
-use fix_values::ClOrdId;
+use fix_types::ClOrdId;
 use order_law::Stage;
 use std::alloc::{AllocError, Global};
 

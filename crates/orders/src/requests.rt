@@ -1,7 +1,7 @@
 //! Requests on an order that were accepted and aren't answered.
 
 ghost use Rattle.std.specs.Prelude.{◌≡◌};
-ghost use Rattle.tokens.specs.TokenText.{token_text};
+ghost use Rattle.order_machine.specs.tokens.TokenText.{token_text};
 
 use fix_types::{CancelRequest, ReplaceRequest};
 

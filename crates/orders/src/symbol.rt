@@ -1,8 +1,8 @@
 //! The symbol of an order.
 
-use fix_fields::Text;
+use order_law::padded;
+use order_machine::Text;
 use std::marker::Model;
-use wire_law::padded;
 
 /// Symbol (55) of an order, in place: at most 8 bytes. Contracts see the list of its bytes.
 ///
@@ -16,7 +16,7 @@ pub struct Symbol {
 
 impl Model for Symbol {
     ghost use Rattle.std.specs.Prelude.{◌≤◌, ℕ, List, take};
-    ghost use Rattle.fix_fields.specs.Field.{IsValue};
+    ghost use Rattle.order_machine.specs.fix_fields.Field.{IsValue};
 
     ghost Value = { List ℕ };
 
@@ -27,7 +27,7 @@ impl Model for Symbol {
 
 impl Symbol {
     ghost use Rattle.std.specs.Prelude.{◌≡◌, ◌≤◌, length};
-    ghost use Rattle.fix_fields.specs.Field.{IsValue};
+    ghost use Rattle.order_machine.specs.fix_fields.Field.{IsValue};
 
     /// This text, of at most 8 bytes. Takes no memory.
     pub fn of(text: &Text) -> Symbol

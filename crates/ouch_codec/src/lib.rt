@@ -23,3 +23,4 @@ pub use outbound::{
 };
 pub use refusal::DecodeRefusal;
 pub use side::Side;
+pub use wire_law::{FixedWire, WholeWire};

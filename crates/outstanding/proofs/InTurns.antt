@@ -1,15 +1,17 @@
 -- Each turn keeps the messages that are asked and not answered, and no others.
-use Rattle.std.proofs.Common.{◌≡◌, ℕ, ◌<◌, ◌^◌, Bool, true, false, List, [], ◌∷◌, ◌++◌, length, map, refl, sym, ap, ◌∙◌, subst, subst₂, arith, Option, Some, None, Result, Ok, Err, eq-eqb}
+use Rattle.std.proofs.Common.{◌≡◌, ℕ, ◌<◌, ◌^◌, Bool, true, false, List, [], ◌∷◌, ◌++◌, length, map, refl, sym, ap}
+use Rattle.std.proofs.Common.{◌∙◌, subst, subst₂, arith, Option, Some, None, Result, Ok, Err, eq-eqb}
 use Rattle.std.specs.Prelude.{◌==◌, filter, if◌then◌else◌, option_to_list}
-use Rattle.ouch_codec.specs.declared.inbound.Inbound.{Inbound}
-use Rattle.ouch_codec.specs.Inbound.{inbound_bytes}
-use Rattle.ouch_codec.specs.declared.outbound.Outbound.{Outbound}
-use Rattle.ouch_codec.specs.declared.refusal.DecodeRefusal.{DecodeRefusal}
+use Rattle.order_law.specs.ouch_codec.declared.inbound.Inbound.{Inbound}
+use Rattle.order_law.specs.ouch_codec.Inbound.{inbound_bytes}
+use Rattle.order_law.specs.ouch_codec.declared.outbound.Outbound.{Outbound}
+use Rattle.order_law.specs.ouch_codec.declared.refusal.DecodeRefusal.{DecodeRefusal}
 use Rattle.order_law.specs.Asks.{Standing}
 use Rattle.order_law.specs.Life.{is_closed}
-use Rattle.fix_fields.specs.Field.{Message}
+use Rattle.order_machine.specs.fix_fields.Field.{Message}
 use Rattle.order_law.specs.Verdicts.{Port}
-use Rattle.order_law.specs.History.{Asked, Came, Entry, OrderEvent, Heard, OrderHistory, Terms, OrderTurn, accepted, asks, asks_of, entry_at, handled, issued, orders_numbered, outstanding, terms_of}
+use Rattle.order_law.specs.History.{Asked, Came, Entry, OrderEvent, Heard, OrderHistory, Terms, OrderTurn, accepted}
+use Rattle.order_law.specs.History.{asks, asks_of, entry_at, handled, issued, orders_numbered, outstanding, terms_of}
 use Rattle.order_law.specs.Headline.{Each, EachWith, Says, SaysIn, client_by, order_number, standing_by, standing_in}
 use Rattle.order_machine.specs.OrderRecord.{OrderRecord}
 use Rattle.order_machine.specs.Table.{TableState, record_by_token, put}
@@ -27,7 +29,8 @@ use Rattle.order_machine.proofs.NewlyAsked.{asks-own, came-Asking, known-still, 
 use Rattle.order_machine.proofs.AllAsked.{LeavesAsked-Asking, LeavesAsked-some}
 use Rattle.outstanding.specs.Kept.{KeptMessage, bytes_on, kept_from, left_by}
 use Rattle.outstanding.specs.Keeping.{AreKept, SaysAsked, always}
-use Rattle.outstanding.specs.KeptInTurns.{ClientTurnsKeep, KeepsOutstanding, MarketTurnsKeep, NothingIsKept, OutstandingIsKept, QuietTurnsKeep}
+use Rattle.outstanding.specs.KeptInTurns.{ClientTurnsKeep, KeepsOutstanding, MarketTurnsKeep, NothingIsKept}
+use Rattle.outstanding.specs.KeptInTurns.{OutstandingIsKept, QuietTurnsKeep}
 use Rattle.outstanding.proofs.Finding.{outstanding-found}
 use Rattle.outstanding.proofs.Lists.{answering-keeps, ports-are-said, pushing-keeps, standings-grow}
 

@@ -1,17 +1,18 @@
 -- Lists that go in step: what is asked, and what is kept.
 use Rattle.std.proofs.Common.{◌≡◌, ℕ, Bool, true, false, List, [], ◌∷◌, ◌++◌, map, refl, sym, ap, ◌∙◌, subst, bytes_eq}
 use Rattle.std.specs.Prelude.{◌==◌, ◌&&◌, ◌||◌, not, filter, Option, if◌then◌else◌}
-use Rattle.ouch_codec.specs.declared.inbound.Inbound.{Inbound}
-use Rattle.ouch_codec.specs.Inbound.{inbound_bytes}
+use Rattle.order_law.specs.ouch_codec.declared.inbound.Inbound.{Inbound}
+use Rattle.order_law.specs.ouch_codec.Inbound.{inbound_bytes}
 use Rattle.order_law.specs.Asks.{Standing}
-use Rattle.ouch_codec.specs.declared.outbound.Outbound.{Outbound}
+use Rattle.order_law.specs.ouch_codec.declared.outbound.Outbound.{Outbound}
 use Rattle.order_law.specs.Life.{is_closed}
 use Rattle.order_law.specs.History.{Asked, Said, answers}
 use Rattle.order_law.specs.Headline.{Each, EachWith, Says}
 use Rattle.order_machine.specs.OrderRecord.{OrderRecord}
 use Rattle.order_machine.specs.Outstanding.{OnPort, asked_on, is_answered, is_on}
 use Rattle.outstanding.specs.Kept.{KeptMessage, is_answered_by, is_kept_on, kept_from, asked_by_bytes}
-use Rattle.outstanding.specs.Keeping.{AnsweringKeeps, AreKept, IsKept, PortsAreSaid, PushingKeeps, SaysAsked, SaysBy, StandingsMayGrow, always}
+use Rattle.outstanding.specs.Keeping.{AnsweringKeeps, AreKept, IsKept, PortsAreSaid, PushingKeeps, SaysAsked, SaysBy}
+use Rattle.outstanding.specs.Keeping.{StandingsMayGrow, always}
 use Rattle.outstanding.proofs.Orders.{says-found}
 use Rattle.outstanding.proofs.Saying.{said_in-is}
 use Rattle.order_machine.specs.Runs.{Finds}

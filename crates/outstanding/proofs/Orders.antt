@@ -2,10 +2,10 @@
 use Rattle.std.proofs.Common.{◌≡◌, ℕ, Bool, true, false, List, [], ◌∷◌, length, refl, ap, ◌∙◌, codes, eqb-true}
 use Rattle.std.specs.Prelude.{◌==◌, ◌&&◌, Option, Some, nat_le, slice_index}
 use Rattle.std.specs.Str.Parse.{digits_value}
-use Rattle.ouch_codec.specs.Layout.{is_message}
-use Rattle.ouch_codec.specs.Layouts as layouts
-use Rattle.ouch_codec.specs.Parts.{type_of}
-use Rattle.ouch_codec.specs.ToMarket as said
+use Rattle.order_law.specs.ouch_codec.Layout.{is_message}
+use Rattle.order_law.specs.ouch_codec.Layouts as layouts
+use Rattle.order_law.specs.ouch_codec.Parts.{type_of}
+use Rattle.order_law.specs.ouch_codec.ToMarket as said
 use Rattle.order_law.specs.Asks.{Standing, ask_of_bytes}
 use Rattle.order_law.specs.History.{Asked, Said, SaysNew, SaysReplace, SaysCancel}
 use Rattle.order_law.specs.Headline.{HasTokens, Says, has_type}

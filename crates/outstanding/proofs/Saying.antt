@@ -1,17 +1,17 @@
 -- What a message asks, by its bytes alone.
 use Rattle.std.proofs.Common.{◌≡◌, ℕ, Bool, true, false, List, refl, ap, ◌∙◌, codes, eqb-true}
 use Rattle.std.specs.Prelude.{◌==◌, if◌then◌else◌, slice_index}
-use Rattle.ouch_codec.specs.declared.inbound.Inbound.{Inbound}
-use Rattle.ouch_codec.specs.declared.inbound.Inbound.TheVariants.{Enter, Replace, Cancel}
-use Rattle.ouch_codec.specs.Inbound.{inbound_bytes}
-use Rattle.ouch_codec.specs.Layout.{spelled}
-use Rattle.ouch_codec.specs.Layouts as layouts
-use Rattle.ouch_codec.specs.Parts.{type_of}
-use Rattle.ouch_codec.specs.Rows.{enter_order_row, replace_row, cancel_row}
-use Rattle.ouch_codec.specs.CancelParts.{SaysCancel-written}
-use Rattle.ouch_codec.specs.EnterOrderParts.{SaysEnterOrder-written}
-use Rattle.ouch_codec.specs.ReplaceParts.{SaysReplace-written}
-use Rattle.ouch_codec.specs.ToMarket as said
+use Rattle.order_law.specs.ouch_codec.declared.inbound.Inbound.{Inbound}
+use Rattle.order_law.specs.ouch_codec.declared.inbound.Inbound.TheVariants.{Enter, Replace, Cancel}
+use Rattle.order_law.specs.ouch_codec.Inbound.{inbound_bytes}
+use Rattle.order_law.specs.ouch_codec.Layout.{spelled}
+use Rattle.order_law.specs.ouch_codec.Layouts as layouts
+use Rattle.order_law.specs.ouch_codec.Parts.{type_of}
+use Rattle.order_law.specs.ouch_codec.Rows.{enter_order_row, replace_row, cancel_row}
+use Rattle.order_law.specs.ouch_codec.CancelParts.{SaysCancel-written}
+use Rattle.order_law.specs.ouch_codec.EnterOrderParts.{SaysEnterOrder-written}
+use Rattle.order_law.specs.ouch_codec.ReplaceParts.{SaysReplace-written}
+use Rattle.order_law.specs.ouch_codec.ToMarket as said
 use Rattle.order_law.specs.History.{Said, SaysNew, SaysReplace, SaysCancel}
 use Rattle.order_law.specs.Headline.{HasTokens, has_type}
 use Rattle.outstanding.specs.Kept.{asked_by_fields, asked_by_bytes}

@@ -2,9 +2,9 @@
 -- says what is asked.
 use Rattle.std.specs.Prelude.{◌≡◌, ℕ, List, ◌++◌, Option, Some, map}
 use Rattle.std.specs.Str.Parse.{digits_value}
-use Rattle.ouch_codec.specs.declared.inbound.Inbound.{Inbound}
-use Rattle.ouch_codec.specs.Inbound.{inbound_bytes}
-use Rattle.ouch_codec.specs.declared.outbound.Outbound.{Outbound}
+use Rattle.order_law.specs.ouch_codec.declared.inbound.Inbound.{Inbound}
+use Rattle.order_law.specs.ouch_codec.Inbound.{inbound_bytes}
+use Rattle.order_law.specs.ouch_codec.declared.outbound.Outbound.{Outbound}
 use Rattle.order_law.specs.Asks.{Standing}
 use Rattle.order_law.specs.Life.{is_closed}
 use Rattle.order_law.specs.History.{Asked}

@@ -1,11 +1,11 @@
 -- What is kept of the messages that ports were asked, and what a message from the market takes out of it.
 use Rattle.std.specs.Prelude.{ℕ, ◌==◌, Bool, not, ◌&&◌, ◌||◌, List, map, filter, bytes_eq, codes, decimal}
 use Rattle.std.specs.Prelude.{if◌then◌else◌}
-use Rattle.ouch_codec.specs.declared.inbound.Inbound.{Inbound}
-use Rattle.ouch_codec.specs.declared.inbound.Inbound.TheVariants.{Enter, Replace, Cancel}
-use Rattle.ouch_codec.specs.Inbound.{inbound_bytes}
-use Rattle.ouch_codec.specs.declared.outbound.Outbound.{Outbound}
-use Rattle.ouch_codec.specs.ToMarket as said
+use Rattle.order_law.specs.ouch_codec.declared.inbound.Inbound.{Inbound}
+use Rattle.order_law.specs.ouch_codec.declared.inbound.Inbound.TheVariants.{Enter, Replace, Cancel}
+use Rattle.order_law.specs.ouch_codec.Inbound.{inbound_bytes}
+use Rattle.order_law.specs.ouch_codec.declared.outbound.Outbound.{Outbound}
+use Rattle.order_law.specs.ouch_codec.ToMarket as said
 use Rattle.order_law.specs.Headline.{has_type}
 use Rattle.order_law.specs.History.{Said, SaysNew, SaysReplace, SaysCancel, answers}
 use Rattle.outstanding.specs.declared.messages.AskedMessage.{AskedMessage}

@@ -1,12 +1,12 @@
 -- What is kept from turn to turn, beside the table that the turns leave: on each port what the law says is outstanding.
 use Rattle.std.specs.Prelude.{◌≡◌, ℕ, ◌<◌, ◌^◌, List, [], ◌∷◌, ◌++◌, length, map, Option, Some, None, Result, Ok}
-use Rattle.ouch_codec.specs.declared.inbound.Inbound.{Inbound}
-use Rattle.ouch_codec.specs.Inbound.{inbound_bytes}
-use Rattle.ouch_codec.specs.declared.outbound.Outbound.{Outbound}
-use Rattle.ouch_codec.specs.declared.refusal.DecodeRefusal.{DecodeRefusal}
+use Rattle.order_law.specs.ouch_codec.declared.inbound.Inbound.{Inbound}
+use Rattle.order_law.specs.ouch_codec.Inbound.{inbound_bytes}
+use Rattle.order_law.specs.ouch_codec.declared.outbound.Outbound.{Outbound}
+use Rattle.order_law.specs.ouch_codec.declared.refusal.DecodeRefusal.{DecodeRefusal}
 use Rattle.order_law.specs.Asks.{Standing}
 use Rattle.order_law.specs.Life.{is_closed}
-use Rattle.fix_fields.specs.Field.{Message}
+use Rattle.order_machine.specs.fix_fields.Field.{Message}
 use Rattle.order_law.specs.Verdicts.{Port}
 use Rattle.order_law.specs.History.{Asked, Came, Heard, OrderHistory, Terms, OrderTurn, outstanding, terms_of}
 use Rattle.order_law.specs.Headline.{Each, EachWith, Says, SaysIn, standing_in}

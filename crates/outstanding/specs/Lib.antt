@@ -2,4 +2,5 @@ pub mod Kept
 pub mod Marks
 pub mod Keeping
 pub mod KeptInTurns
-pub use Rattle.ouch_codec.specs.Inbound
+pub use Rattle.order_law.specs.ouch_codec.Inbound
+pub use Rattle.order_law.specs as order_law

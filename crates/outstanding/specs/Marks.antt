@@ -1,6 +1,6 @@
 -- Messages that were answered since they were settled are marked, and go when they are settled again.
 use Rattle.std.specs.Prelude.{ℕ, Bool, false, not, ◌||◌, List, map, filter}
-use Rattle.ouch_codec.specs.declared.inbound.Inbound.{Inbound}
+use Rattle.order_law.specs.ouch_codec.declared.inbound.Inbound.{Inbound}
 use Rattle.outstanding.specs.declared.messages.AskedMessage.{AskedMessage}
 use Rattle.outstanding.specs.Kept.{KeptMessage, seen}
 

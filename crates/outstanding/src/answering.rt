@@ -4,7 +4,7 @@ ghost use Rattle.std.specs.Prelude.{◌≡◌, ℕ, List};
 ghost use Rattle.order_law.specs.History as law;
 ghost use Rattle.outstanding.specs.Kept.{asked_by_fields};
 
-use ouch_codec::{Inbound, Outbound};
+use order_law::{Inbound, Outbound};
 
 /// Whether a message from the market answers one that it was asked.
 ///

@@ -2,12 +2,12 @@
 
 ghost use Rattle.std.specs.Prelude.{◌≡◌, ◌+◌, ◌≤◌, ◌<◌, ◌++◌, ◌∷◌, [], false, List, map, filter, decimal, length};
 ghost use Rattle.std.specs.Prelude.{vec_len, vec_capacity, IfOk, OnErr};
-ghost use Rattle.ouch_codec.specs.Inbound.{inbound_bytes};
+ghost use Rattle.order_law.specs.ouch_codec.Inbound.{inbound_bytes};
 ghost use Rattle.outstanding.specs.Kept.{bytes_on, is_answered_by, kept_from, left_by, seen};
 ghost use Rattle.outstanding.specs.Marks.{asked_of, is_unanswered, marked_by, unanswered, unmarked};
 
 use crate::answering::answers;
-use ouch_codec::{Inbound, Outbound};
+use order_law::{Inbound, Outbound};
 use std::alloc::{AllocError, Global};
 use std::marker::Model;
 

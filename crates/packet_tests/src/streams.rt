@@ -1,10 +1,9 @@
 ghost use Rattle.std.specs.Prelude.{◌≤◌};
 
-use soup_packets::{PacketFault, Packets};
+use soup_packets::{PacketFault, Packets, WholeWire};
 use std::alloc::Global;
 use std::process::Abort;
 use std::test::Fail;
-use wire_law::WholeWire;
 
 /// Three packets: a heartbeat, a debug text of two bytes, sequenced data of three.
 const THREE: &[u8; 14] = b"\x00\x01H\x00\x03+hi\x00\x04Sabc";

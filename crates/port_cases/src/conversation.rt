@@ -4,9 +4,8 @@ use crate::bytes::{bytes_of, show_bytes, show_number};
 use crate::line::{Step, number_of, words_of};
 use crate::packets::{feed, packet_of, reads, show_packet, writes, zeros};
 use soup_packets::{Packet, Packets};
-use soup_session::{PortFault, PortOut, PortSession, PortState, PortTurn};
+use soup_session::{PortFault, PortOut, PortSession, PortState, PortTurn, WholeWire};
 use std::alloc::{AllocError, Global};
-use wire_law::WholeWire;
 
 /// A session and a reader, and what their last step showed.
 #[derive(Drop)]

@@ -3,8 +3,8 @@
 use crate::bytes::{bytes_of, show_bytes, show_number};
 use crate::line::{number_of, words_of};
 use soup_packets::{Packet, PacketFault, Packets, Payload};
+use soup_session::WholeWire;
 use std::alloc::{AllocError, Global};
-use wire_law::WholeWire;
 
 /// A packet of a type and these bytes; none where they are too many.
 pub fn packet_of(alloc: Global, kind: u8, bytes: &[u8]) -> Result<Option<Packet>, AllocError> {

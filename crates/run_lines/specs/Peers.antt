@@ -1,10 +1,11 @@
 -- What a line's reader has put of a link by its end, by whose line it is.
 use Rattle.std.specs.Prelude.{◌≡◌, ℕ, List, Option, Result}
-use Rattle.gate_law.specs.Events.{Event, ClientUp, ClientGone, PortUp, PortGone}
-use Rattle.link_io.specs.Decoding.{AreAllOfFrames, AreAllOfPackets, FramesOfLink, MadeOfFrames, MadeOfPackets, PacketsOfLink}
+use Rattle.gate_events.specs.gate_law.Events.{Event, ClientUp, ClientGone, PortUp, PortGone}
+use Rattle.link_io.specs.Decoding.{AreAllOfFrames, AreAllOfPackets, FramesOfLink, MadeOfFrames, MadeOfPackets}
+use Rattle.link_io.specs.Decoding.{PacketsOfLink}
 use Rattle.link_io.specs.declared.link_fault.LinkFault.{LinkFault}
-use Rattle.gate_workers.specs.ReadersWork.{ReadsLink}
-use Rattle.gate_workers.specs.TickersWork.{PutsTicks}
+use Rattle.gate_serving.specs.gate_workers.ReadersWork.{ReadsLink}
+use Rattle.gate_serving.specs.gate_workers.TickersWork.{PutsTicks}
 use Rattle.run_lines.specs.declared.peer.RunPeer.{RunPeer}
 use Rattle.run_lines.specs.declared.peer.RunPeer.TheVariants as peers
 

@@ -3,7 +3,7 @@
 ghost use Rattle.run_lines.specs.Gates.{by_gate};
 
 use gate_events::{Event, LinkOut};
-use gate_workers::Gate;
+use gate_serving::Gate;
 use std::alloc::{AllocError, Global};
 use std::sync::Wait;
 

@@ -9,8 +9,7 @@ mod streams;
 
 pub use counted::{ClientCounts, CountedLinks};
 pub use gate::RunGate;
-pub use gate_serving::{Closer, LinkEnd, LinkFault, Opened, Opener, Peer};
-pub use gate_workers::{Clock, Gate, WriterEnd};
+pub use gate_serving::{Clock, Closer, Gate, LinkEnd, LinkFault, Opened, Opener, Peer, WriterEnd};
 pub use opener::RunOpener;
 pub use peer::{RunPeer, Ticks};
 pub use streams::{RunCloser, RunReader, RunWriter};

@@ -3,8 +3,7 @@
 ghost use Rattle.run_lines.specs.Peers.{run_reads};
 
 use gate_events::{ClientNumber, PortNumber};
-use gate_serving::{LinkFault, Peer};
-use gate_workers::{Clock, Gate, WriterEnd, ticker};
+use gate_serving::{Clock, Gate, LinkFault, Peer, WriterEnd, ticker};
 use std::alloc::Global;
 use std::io::{Read, Write};
 use std::sync::Wait;

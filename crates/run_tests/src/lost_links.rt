@@ -1,11 +1,10 @@
 //! A day of two clients on two ports, in which a client and a port each lose their link.
 
-use gateway_demo::{Client, DemoFault, Market, Order, connected, loopback};
-use gateway_run::{end_day, run_settings, tell};
+use gateway_demo::{
+    Acceptor, Choice, Client, DemoFault, Market, Opened, Opener, Order, connected, loopback,
+};
+use gateway_run::{SettingsFile, end_day, read, run_settings, tell};
 use journal_audit::audit_file;
-use link_sockets::{Acceptor, Opened, Opener};
-use market_book::Choice;
-use settings_file::{SettingsFile, read};
 use std::alloc::Global;
 use std::hash::RandomState;
 use std::net::{Net, TcpListener, TcpStream};

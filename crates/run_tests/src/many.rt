@@ -1,9 +1,7 @@
 //! As many clients and ports as there may be.
 
-use gateway_demo::{Client, DemoFault, connected, loopback};
-use gateway_run::{RunPlan, audit_day, run};
-use link_sockets::{Acceptor, Connector, Opener};
-use settings_file::{SettingsFile, read};
+use gateway_demo::{Acceptor, Client, Connector, DemoFault, Opener, connected, loopback};
+use gateway_run::{RunPlan, SettingsFile, audit_day, read, run};
 use std::alloc::Global;
 use std::hash::RandomState;
 use std::io::Write;

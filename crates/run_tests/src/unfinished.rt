@@ -1,7 +1,6 @@
 //! A demonstration that doesn't come to its end.
 
-use gateway_demo::show_demo;
-use market_book::Choice;
+use gateway_demo::{Choice, show_demo};
 use std::hash::RandomState;
 use std::test::Fail;
 use std::time::Duration;

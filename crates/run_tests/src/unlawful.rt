@@ -1,11 +1,10 @@
 //! A market that says what is no message.
 
-use gate_events::{PortFault, PortNumber};
-use gateway_demo::{Client, DemoFault, Market, Order, connected, loopback};
-use gateway_run::{RunPlan, audit_day, run};
-use link_sockets::{Acceptor, Connector, Opened, Opener};
-use market_book::Choice;
-use settings_file::{SettingsFile, read};
+use gateway_demo::{
+    Acceptor, Choice, Client, Connector, DemoFault, Market, Opened, Opener, Order, connected,
+    loopback,
+};
+use gateway_run::{PortFault, PortNumber, RunPlan, SettingsFile, audit_day, read, run};
 use std::alloc::Global;
 use std::hash::RandomState;
 use std::io::{Read, Write};

@@ -6,7 +6,7 @@ use Rattle.clap.specs.declared.builder.action.ArgAction.TheVariants.{SetTrue}
 use Rattle.clap.specs.declared.error.kind.ErrorKind.{ErrorKind}
 use Rattle.clap.specs.declared.error.kind.ErrorKind.TheVariants as kind
 use Rattle.clap.proofs.OnLiterals.{clap_on_literals}
-use Rattle.batch_lines.specs.declared.flags.Flags.{Flags}
+use Rattle.gate_lines.specs.batch_lines.declared.flags.Flags.{Flags}
 
 -- `--name`
 abbrev pub flag_rule : Text → Rule

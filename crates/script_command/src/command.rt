@@ -4,9 +4,9 @@ ghost use Rattle.std.specs.Prelude.{◌≡◌, IfOk, map, option_map};
 ghost use Rattle.clap.specs.Words.{FailsBy, app_of, found_of, kind_of, rows_of, with_rule};
 ghost use Rattle.script_command.specs.Command as spec;
 
-use batch_lines::Flags;
 use clap::error::ErrorKind;
 use clap::{Arg, ArgAction, ArgMatches, Command, Error};
+use gate_lines::Flags;
 use std::alloc::{AllocError, Global};
 use std::convert::AsStr;
 

@@ -15,3 +15,4 @@ pub use Rattle.ouch_codec.specs.Decoding
 pub use Rattle.ouch_codec.specs.Letters
 pub use Rattle.tokens.specs.TokenText
 pub use Rattle.wire_law.specs.Printable
+pub use Rattle.ouch_codec.specs as ouch_codec

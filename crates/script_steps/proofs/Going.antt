@@ -1,8 +1,8 @@
 -- How steps of the core follow on one another.
 use Rattle.std.proofs.Common.{◌≡◌, [], ◌∷◌, ◌++◌, sym, subst, append-nil}
-use Rattle.gate_law.specs.Settings.{Settings}
-use Rattle.gate_law.specs.Events.{History}
-use Rattle.gate_law.specs.Holds.{Holds}
+use Rattle.gate_journal.specs.gate_law.Settings.{Settings}
+use Rattle.gate_journal.specs.gate_law.Events.{History}
+use Rattle.gate_journal.specs.gate_law.Holds.{Holds}
 use Rattle.gate_events.specs.declared.event.Event.{Event}
 use Rattle.gate_events.specs.declared.batch.Batch.{Batch}
 use Rattle.gate_core.specs.Core.{CoreState, IsAfter, turn_of}

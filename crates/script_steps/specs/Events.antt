@@ -9,10 +9,10 @@ use Rattle.script_lines.specs.declared.client.Client.TheVariants as client
 use Rattle.script_lines.specs.declared.port.Port.{Port}
 use Rattle.script_lines.specs.declared.port.Port.TheVariants as port
 use Rattle.script_lines.specs.Names.{client_number, port_number}
-use Rattle.gate_law.specs.Events as law
-use Rattle.gate_law.specs.Events.{History}
-use Rattle.gate_law.specs.After.{lists}
-use Rattle.gate_law.specs.Settings.{Settings}
+use Rattle.gate_journal.specs.gate_law.Events as law
+use Rattle.gate_journal.specs.gate_law.Events.{History}
+use Rattle.gate_journal.specs.gate_law.After.{lists}
+use Rattle.gate_journal.specs.gate_law.Settings.{Settings}
 use Rattle.gate_events.specs.declared.event.Event.{Event}
 use Rattle.gate_events.specs.Seen.{event_seen}
 use Rattle.gate_core.specs.Core.{CoreState, IsAfter}

@@ -5,7 +5,7 @@ use Rattle.std.specs.Prelude.{ℕ, List, [], ◌∷◌, ◌++◌, take, drop, co
 use Rattle.fix_stamp.specs.Stamp.{stamp_text}
 use Rattle.fix_framing.specs.Frame.{frame_text}
 use Rattle.fix_fields.specs.Field.{Message, field, has}
-use Rattle.session_law.specs.Messages.{number_as_field}
+use Rattle.gate_core.specs.session_law.Messages.{number_as_field}
 use Rattle.script_lines.specs.declared.client.Client.{Client}
 use Rattle.script_lines.specs.Names.{name_of_client}
 

@@ -1,6 +1,6 @@
 -- What a line of a script comes to: its events, for a core and links that are so, and the links then.
 use Rattle.std.specs.Prelude.{◌≡◌, ℕ, ◌⊎◌, false, List, [], ◌∷◌, ◌++◌, map, Ok, ⊤}
-use Rattle.ouch_codec.specs.Decoding.{Decodes}
+use Rattle.script_lines.specs.ouch_codec.Decoding.{Decodes}
 use Rattle.soup_packets.specs.declared.packet.Packet.{Packet}
 use Rattle.script_lines.specs.Names.{client_number, port_number}
 use Rattle.script_lines.specs.declared.port.Port.{Port}
@@ -8,7 +8,7 @@ use Rattle.script_lines.specs.declared.line.Line.{Line}
 use Rattle.script_lines.specs.declared.line.Line.TheVariants as line
 use Rattle.script_lines.specs.Lines.{SaysLine}
 use Rattle.script_lines.specs.Understood.{is_understood}
-use Rattle.gate_law.specs.Events as law
+use Rattle.gate_journal.specs.gate_law.Events as law
 use Rattle.gate_events.specs.declared.event.Event.{Event}
 use Rattle.gate_core.specs.Core.{CoreState}
 use Rattle.script_steps.specs.declared.events.Links.{Links}

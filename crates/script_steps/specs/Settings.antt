@@ -1,8 +1,8 @@
 -- The settings of a script.
 use Rattle.std.specs.Prelude.{ℕ, List, [], ◌∷◌, codes}
-use Rattle.soup_session.specs.Table as port
-use Rattle.gate_law.specs.Settings.{ClientSettings, Settings}
-use Rattle.gate_settings.specs.Seen.{settings_of}
+use Rattle.gate_core.specs.soup_session.Table as port
+use Rattle.gate_journal.specs.gate_law.Settings.{ClientSettings, Settings}
+use Rattle.gate_core.specs.gate_settings.Seen.{settings_of}
 
 -- of each port
 abbrev pub fixed_login : port.LoginTerms

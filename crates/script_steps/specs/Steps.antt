@@ -1,8 +1,8 @@
 -- How the core goes on by the lines of a script, and what is kept of it.
 use Rattle.std.specs.Prelude.{◌≡◌, List, ◌++◌}
 use Rattle.script_lines.specs.declared.line.Line.{Line}
-use Rattle.gate_law.specs.Settings.{Settings}
-use Rattle.gate_law.specs.Events.{History}
+use Rattle.gate_journal.specs.gate_law.Settings.{Settings}
+use Rattle.gate_journal.specs.gate_law.Events.{History}
 use Rattle.gate_events.specs.declared.event.Event.{Event}
 use Rattle.gate_core.specs.Core.{CoreState, IsAfter}
 use Rattle.gate_journal.specs.Kept.{Kept, turns}

@@ -1,7 +1,7 @@
 //! The events that a line is.
 
 ghost use Rattle.std.specs.Prelude.{◌≡◌, ◌∷◌, [], IfOk, IsErrOf, map};
-ghost use Rattle.gate_law.specs.Events as law;
+ghost use Rattle.gate_journal.specs.gate_law.Events as law;
 ghost use Rattle.script_lines.specs.Names.{client_number, port_number};
 ghost use Rattle.gate_events.specs.Seen.{event_seen};
 ghost use Rattle.script_steps.specs.Events.{ClientGoes, PortGoes, IsNextClient, IsNextPort, ReadsFrames, ReadsPackets};

@@ -9,8 +9,8 @@ use fix_fields::{Fields, split};
 use fix_framing::frame;
 use fix_stamp::stamp;
 use gate_core::ClientFrame;
+use gate_events::push_number;
 use script_lines::{Client, LineFault};
-use session_writing::push_number;
 use std::alloc::{AllocError, Global};
 
 /// The whole frame of a client's fields, of which the first is MsgType (35): behind it stand SenderCompID (49),

@@ -3,10 +3,9 @@
 //! Source: SoupBinTCP 3.00, "Packets Sent by the Server".
 
 ghost use Rattle.std.specs.Prelude.{◌≡◌, ◌++◌, [], IfOk, Ok};
-ghost use Rattle.ouch_codec.specs.Decoding.{Decodes};
+ghost use Rattle.script_lines.specs.ouch_codec.Decoding.{Decodes};
 
-use ouch_codec::Outbound;
-use script_lines::{LineFault, payload_of};
+use script_lines::{LineFault, Outbound, payload_of};
 use soup_packets::{Packet, Payload};
 use std::alloc::{AllocError, Global};
 

@@ -2,13 +2,10 @@
 
 use crate::line::Line;
 use crate::shown::{fields_of, from_client, show_turn, with_soh};
-use fix_fields::{Fields, Text};
 use fix_framing::{FrameFault, Framer};
 use fix_session::{IssuedTurn, Session, SessionTurn};
-use fix_types::{AppBody, CancelReject, Report};
-use fix_values::TextFault;
+use fix_types::{AppBody, CancelReject, Fields, Report, Text, TextFault, TextWire};
 use std::alloc::{AllocError, Global};
-use wire_law::TextWire;
 
 /// A conversation with one session, and what its last step showed.
 ///

@@ -1,11 +1,9 @@
 //! Fields as they are typed, and outputs as they are shown: `|` for SOH.
 
-use fix_fields::{Fields, split};
 use fix_session::{SessionOut, SessionTurn};
-use fix_types::AppMsg;
+use fix_types::{AppMsg, Fields, TextWire, split};
 use itoa::Buffer;
 use std::alloc::{AllocError, Global};
-use wire_law::TextWire;
 
 /// The bytes with SOH for each bar.
 pub fn with_soh(alloc: Global, text: &[u8]) -> Result<Vec<u8>, AllocError> {

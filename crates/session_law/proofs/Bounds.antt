@@ -1,24 +1,30 @@
 -- How far one call moves the numbers, by what each row does.
-use Rattle.std.proofs.Common.{length, ◌≡◌, ℕ, ◌≤◌, ◌<◌, ◌+◌, ◌^◌, ◌==◌, Bool, true, false, not, ◌&&◌, List, [], ◌∷◌, ◌++◌, fold, refl, sym, ap, ◌∙◌, subst, arith, Some, None, Option, unwrap_or, if◌then◌else◌, codes, max, nat_le}
+use Rattle.std.proofs.Common.{length, ◌≡◌, ℕ, ◌≤◌, ◌<◌, ◌+◌, ◌^◌, ◌==◌, Bool, true, false, not, ◌&&◌, List, [], ◌∷◌}
+use Rattle.std.proofs.Common.{◌++◌, fold, refl, sym, ap, ◌∙◌, subst, arith, Some, None, Option, unwrap_or}
+use Rattle.std.proofs.Common.{if◌then◌else◌, codes, max, nat_le}
 use Rattle.std.specs.Char.{is_ascii_digit}
 use Rattle.std.specs.List.{list_all}
 use Rattle.std.specs.Option.{option_and_then}
 use Rattle.std.proofs.lemmas.Bool.Decides.{nat_tests}
 use Rattle.std.proofs.lemmas.List.{length-append}
 use Rattle.std.proofs.lemmas.Str.Parse.{digits_value_short}
-use Rattle.decimal_digits.proofs.Numbers.{own}
-use Rattle.fix_fields.specs.Field.{first_value, Message, is}
-use Rattle.decimal_digits.specs.Digits.{number_of}
-use Rattle.fix_fields.specs.declared.session_refusal.SessionRefusal.{SessionRefusal}
+use Rattle.fix_framing.proofs.decimal_digits.Numbers.{own}
+use Rattle.fix_framing.specs.fix_fields.Field.{first_value, Message, is}
+use Rattle.fix_framing.specs.decimal_digits.Digits.{number_of}
+use Rattle.fix_framing.specs.fix_fields.declared.session_refusal.SessionRefusal.{SessionRefusal}
 use Rattle.session_law.specs.declared.phase.Phase.{Phase}
 use Rattle.session_law.specs.declared.phase.Phase.TheVariants.{Down, AwaitingLogon, LoggedOn}
 use Rattle.session_law.specs.declared.phase.Logged.{Logged}
-use Rattle.fix_fields.specs.Fault.{first_fault}
+use Rattle.fix_framing.specs.fix_fields.Fault.{first_fault}
 use Rattle.session_law.specs.Messages.{short_number, number_in}
 use Rattle.session_law.specs.Formats.{application_refusal}
-use Rattle.session_law.specs.Session.{State, Slot, Given, Act, Grow, Expect, Say, Test, AskAgain, SayUnsupported, Deliver, Shut, Logon, Range, Answer, perform, logon_opened, sent_again, answered}
+use Rattle.session_law.specs.Session.{State, Slot, Given, Act, Grow, Expect, Say, Test, AskAgain, SayUnsupported}
+use Rattle.session_law.specs.Session.{Deliver, Shut, Logon, Range, Answer, perform, logon_opened, sent_again, answered}
 use Rattle.session_law.specs.Table as table
-use Rattle.session_law.specs.Table.{message_number, answer_by, resend_rows, resend_answer, ask_again, expected_rows, logged_on_rows, logon_rows, message_rows, tick_rows, waiting_rows, silence_rows, reject_act, log_out, refused_acts, fault_acts, asked_number, is_from, is_plain_reset}
+use Rattle.session_law.specs.Table.{message_number, answer_by, resend_rows, resend_answer, ask_again, expected_rows}
+use Rattle.session_law.specs.Table.{logged_on_rows, logon_rows, message_rows, tick_rows, waiting_rows, silence_rows}
+use Rattle.session_law.specs.Table.{reject_act, log_out, refused_acts, fault_acts, asked_number, is_from}
+use Rattle.session_law.specs.Table.{is_plain_reset}
 use Rattle.session_law.specs.Runs.{Call, OnLink, OnMessage, OnTick, Issue, step, by_rows, heard, at_moment}
 use Rattle.session_law.specs.Expected.{by_logon, by_message, is_gap_fill, is_named_to}
 use Rattle.session_law.specs.Bounds.{MovesLittle, most_taken}

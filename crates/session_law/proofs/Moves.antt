@@ -1,15 +1,20 @@
 -- What rows make of the expected number.
-use Rattle.std.proofs.Common.{length, ◌≡◌, ℕ, ◌+◌, ◌==◌, Bool, true, false, ◌&&◌, ◌||◌, List, [], ◌∷◌, ◌++◌, refl, ap, ◌∙◌, arith, Some, None, Option, is_some, is_none, unwrap_or, if◌then◌else◌, nat_lt, bytes_eq, codes}
+use Rattle.std.proofs.Common.{length, ◌≡◌, ℕ, ◌+◌, ◌==◌, Bool, true, false, ◌&&◌, ◌||◌, List, [], ◌∷◌, ◌++◌, refl, ap}
+use Rattle.std.proofs.Common.{◌∙◌, arith, Some, None, Option, is_some, is_none, unwrap_or, if◌then◌else◌, nat_lt}
+use Rattle.std.proofs.Common.{bytes_eq, codes}
 use Rattle.std.proofs.lemmas.Bool.Decides.{nat_tests}
 use Rattle.std.proofs.lemmas.Slice.Eq.{bytes_eq-Decides}
-use Rattle.fix_fields.proofs.Tags.{and_parts}
-use Rattle.fix_fields.specs.declared.session_refusal.SessionRefusal.{SessionRefusal}
-use Rattle.fix_fields.specs.Field.{Message, text, is, has}
-use Rattle.fix_fields.specs.Fault.{first_fault}
+use Rattle.fix_framing.proofs.fix_fields.Tags.{and_parts}
+use Rattle.fix_framing.specs.fix_fields.declared.session_refusal.SessionRefusal.{SessionRefusal}
+use Rattle.fix_framing.specs.fix_fields.Field.{Message, text, is, has}
+use Rattle.fix_framing.specs.fix_fields.Fault.{first_fault}
 use Rattle.session_law.specs.Messages.{short_number}
 use Rattle.session_law.specs.Formats.{application_refusal}
-use Rattle.session_law.specs.Session.{State, Act, Answer, Grow, Expect, Say, Test, AskAgain, SayUnsupported, Deliver, Shut}
-use Rattle.session_law.specs.Table.{answer_by, message_number, is_type, is_plain_reset, is_from, resend_rows, resend_answer, ask_again, asked_number, expected_rows, logged_on_rows, fault_acts, refused_acts, reject_act, log_out}
+use Rattle.session_law.specs.Session.{State, Act, Answer, Grow, Expect, Say, Test, AskAgain, SayUnsupported, Deliver}
+use Rattle.session_law.specs.Session.{Shut}
+use Rattle.session_law.specs.Table.{answer_by, message_number, is_type, is_plain_reset, is_from, resend_rows}
+use Rattle.session_law.specs.Table.{resend_answer, ask_again, asked_number, expected_rows, logged_on_rows, fault_acts}
+use Rattle.session_law.specs.Table.{refused_acts, reject_act, log_out}
 use Rattle.session_law.specs.Expected.{by_message, is_gap_fill}
 use Rattle.session_law.proofs.Rows.{Firsts, first-holds}
 

@@ -3,8 +3,8 @@ use Rattle.std.specs.Prelude.{ℕ, Bool, ◌&&◌, List, length, nat_le, Option,
 use Rattle.std.specs.Option.{option_and_then}
 use Rattle.std.specs.List.{list_all}
 use Rattle.std.specs.Char.{is_ascii_digit}
-use Rattle.fix_fields.specs.Field.{Field, Message, field, first_value}
-use Rattle.decimal_digits.specs.Digits.{number_of}
+use Rattle.fix_framing.specs.fix_fields.Field.{Field, Message, field, first_value}
+use Rattle.fix_framing.specs.decimal_digits.Digits.{number_of}
 
 -- a number of the gateway's, written
 abbrev pub number_as_field : ℕ → ℕ → Field

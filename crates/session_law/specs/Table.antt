@@ -6,9 +6,9 @@ use Rattle.std.specs.Prelude.{nat_le, nat_lt, Option, Some, None, is_none, is_so
 use Rattle.std.specs.Prelude.{unwrap_or}
 use Rattle.std.specs.List.{list_all}
 use Rattle.std.specs.Char.{is_ascii_digit, is_ascii_alphabetic}
-use Rattle.fix_fields.specs.declared.session_refusal.SessionRefusal.{SessionRefusal}
-use Rattle.fix_fields.specs.Field.{Message, field, has, text, is}
-use Rattle.fix_fields.specs.Fault.{first_fault, refusal}
+use Rattle.fix_framing.specs.fix_fields.declared.session_refusal.SessionRefusal.{SessionRefusal}
+use Rattle.fix_framing.specs.fix_fields.Field.{Message, field, has, text, is}
+use Rattle.fix_framing.specs.fix_fields.Fault.{first_fault, refusal}
 use Rattle.session_law.specs.Messages.{number_as_field, short_number}
 use Rattle.session_law.specs.Formats.{application_refusal}
 use Rattle.session_law.specs.declared.phase.Phase.{Phase}

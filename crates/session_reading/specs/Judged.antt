@@ -1,6 +1,6 @@
 -- The answer of each line of the table, as the code names them.
 use Rattle.std.specs.Prelude.{◌≡◌, ◌≤◌, ℕ, None, [], ◌∷◌, ◌++◌, if◌then◌else◌, codes}
-use Rattle.fix_fields.specs.Field.{Message, field, text}
+use Rattle.fix_types.specs.fix_fields.Field.{Message, field, text}
 use Rattle.session_law.specs.Formats.{application_refusal}
 use Rattle.session_law.specs.Session.{State, Answer, Grow, Expect, Say, Heartbeat, SayUnsupported, Deliver}
 use Rattle.session_law.specs.Table.{acts, reject_act, log_out, log_out_silently, send_again, unsupported_body, too_low}

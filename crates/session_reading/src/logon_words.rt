@@ -3,12 +3,12 @@
 //! Source: FIX 4.4 Volume 2, "Logon".
 
 ghost use Rattle.std.specs.Prelude.{◌≡◌, ◌||◌, not, true, unwrap_or, codes};
-ghost use Rattle.fix_fields.specs.Field as tags;
+ghost use Rattle.fix_types.specs.fix_fields.Field as tags;
 ghost use Rattle.session_law.specs.Messages as law;
 ghost use Rattle.session_law.specs.Table as table;
 
 use crate::words::{has, is, number};
-use fix_fields::Fields;
+use fix_types::Fields;
 
 /// Whether HeartBtInt (108) is 0 to 3,600 seconds, in decimal digits.
 pub fn is_interval(m: &Fields) -> bool

@@ -2,12 +2,12 @@
 
 ghost use Rattle.std.specs.Prelude.{◌≡◌, ◌<◌, ◌^◌, ◌||◌, true, false, MatchOption, IfSome, unwrap_or, codes};
 ghost use Rattle.std.specs.List.{list_all};
-ghost use Rattle.fix_fields.specs.Reasons.{session_reject_number};
+ghost use Rattle.fix_types.specs.fix_fields.Reasons.{session_reject_number};
 ghost use Rattle.session_law.specs.Messages as law;
 ghost use Rattle.session_law.specs.Table as table;
 
 use crate::words::{has, is, number};
-use fix_fields::{Fields, SessionRejectReason};
+use fix_types::{Fields, SessionRejectReason};
 
 /// Whether a message has this type (35).
 pub fn is_type(m: &Fields, kind: &[u8]) -> bool

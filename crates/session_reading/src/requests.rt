@@ -6,10 +6,9 @@ ghost use Rattle.session_law.specs.Formats as formats;
 ghost use Rattle.session_law.specs.Formats.{application_refusal};
 
 use crate::message::is_type;
-use fix_fields::Fields;
 use fix_types::{
-    AppMsg, SessionRefusal, cancel_refusal, new_order_refusal, read_cancel_request, read_new_order,
-    read_replace_request, replace_refusal,
+    AppMsg, Fields, SessionRefusal, cancel_refusal, new_order_refusal, read_cancel_request,
+    read_new_order, read_replace_request, replace_refusal,
 };
 use std::alloc::{AllocError, Global};
 

@@ -1,8 +1,8 @@
 //! The lines of a client that is logged on, as far as the message alone tells them.
 
 ghost use Rattle.std.specs.Prelude.{◌≡◌, true, false, unwrap_or, codes, if◌then◌else◌, ℕ};
-ghost use Rattle.fix_fields.specs.Field as tags;
-ghost use Rattle.fix_fields.specs.Reasons.{session_reject_number};
+ghost use Rattle.fix_types.specs.fix_fields.Field as tags;
+ghost use Rattle.fix_types.specs.fix_fields.Reasons.{session_reject_number};
 ghost use Rattle.session_law.specs.Messages as law;
 ghost use Rattle.session_law.specs.Table as table;
 ghost use Rattle.session_reading.specs.declared.row.Row.TheVariants as rows;
@@ -11,7 +11,7 @@ ghost use Rattle.session_reading.specs.Judged.{RowFits};
 use crate::message::new_number;
 use crate::taken::Taken;
 use crate::words::{has, is};
-use fix_fields::{Fields, SessionRejectReason};
+use fix_types::{Fields, SessionRejectReason};
 
 /// A line of the table of a client that is logged on.
 #[derive(Clone, Copy, Debug, PartialEq, Eq)]

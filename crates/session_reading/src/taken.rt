@@ -1,9 +1,9 @@
 //! What the message with the expected number brings; also what a ResendRequest brings.
 
 ghost use Rattle.std.specs.Prelude.{◌≡◌, ◌≤◌, ◌+◌, true, false, None, codes, unwrap_or, ℕ};
-ghost use Rattle.fix_fields.specs.Field as tags;
-ghost use Rattle.fix_fields.specs.Fault as fault;
-ghost use Rattle.fix_fields.specs.Reasons.{session_reject_number};
+ghost use Rattle.fix_types.specs.fix_fields.Field as tags;
+ghost use Rattle.fix_types.specs.fix_fields.Fault as fault;
+ghost use Rattle.fix_types.specs.fix_fields.Reasons.{session_reject_number};
 ghost use Rattle.session_law.specs.Messages as law;
 ghost use Rattle.session_law.specs.Table as table;
 ghost use Rattle.session_law.specs.Table.{answer_by};
@@ -16,7 +16,7 @@ use crate::message::{
 };
 use crate::requests::{is_application, refusal_of};
 use crate::words::{has, number, text};
-use fix_fields::{Fields, SessionRejectReason};
+use fix_types::{Fields, SessionRejectReason};
 
 /// What the message with the expected number brings.
 #[derive(Clone, Copy, Debug, PartialEq, Eq)]

@@ -1,12 +1,12 @@
 //! What is read from the fields of a message. Where a tag stands twice, the first is read.
 
 ghost use Rattle.std.specs.Prelude.{◌≡◌, ◌<◌, ◌^◌, IfSome};
-ghost use Rattle.fix_fields.specs.Field.{IsValue};
-ghost use Rattle.fix_fields.specs.Field as tags;
+ghost use Rattle.fix_types.specs.fix_fields.Field.{IsValue};
+ghost use Rattle.fix_types.specs.fix_fields.Field as tags;
 ghost use Rattle.session_law.specs.Messages as law;
 
 use decimal_digits::number_of;
-use fix_fields::Fields;
+use fix_types::Fields;
 
 /// The value of a tag, or no bytes where there is none.
 pub fn text<'a>(m: &'a Fields, tag: u32) -> &'a [u8]

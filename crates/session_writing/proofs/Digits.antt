@@ -1,9 +1,9 @@
 -- Numbers as they are written.
 use Rattle.std.proofs.Common.{◌≡◌, true, ℕ, ◌^◌, ◌<◌, List, [], ◌∷◌, ◌++◌, refl, decimal, codes}
 use Rattle.std.specs.List.{list_all}
-use Rattle.fix_fields.specs.Field.{IsValue, is_inside}
-use Rattle.fix_fields.proofs.Decimals.{inside-decimal}
-use Rattle.fix_fields.proofs.Tags.{and_parts}
+use Rattle.fix_framing.specs.fix_fields.Field.{IsValue, is_inside}
+use Rattle.fix_framing.proofs.fix_fields.Decimals.{inside-decimal}
+use Rattle.fix_framing.proofs.fix_fields.Tags.{and_parts}
 
 -- values one after another are a value
 pub inside-append : (a b : List ℕ) → IsValue a → IsValue b → IsValue (a ++ b)

@@ -1,10 +1,10 @@
 -- What is kept of the numbers that were given, where the text of all kept bodies is one list of bytes.
 use Rattle.std.specs.Prelude.{◌≡◌, ℕ, ◌+◌, ◌&&◌, Bool, true, List, map, length, Some, None, slice_range, nat_le}
 use Rattle.std.specs.List.{list_all}
-use Rattle.session_law.specs.Session.{Slot}
+use Rattle.session_reading.specs.session_law.Session.{Slot}
 use Rattle.session_writing.specs.declared.place.KeptPlace.{KeptPlace}
 use Rattle.session_writing.specs.declared.place.KeptPlace.TheVariants as places
-use Rattle.fix_fields.specs.Printed.{fields_in, prints_fields}
+use Rattle.fix_framing.specs.fix_fields.Printed.{fields_in, prints_fields}
 
 -- what a number was given to, by its place in this text
 abbrev pub slot_at : List ℕ → KeptPlace → Slot

@@ -3,11 +3,13 @@ pub mod Keeping
 pub mod Longest
 pub mod Undoing
 pub mod Written
-pub use Rattle.fix_fields.specs.Field
+pub use Rattle.fix_framing.specs.fix_fields.Field
 pub use Rattle.fix_stamp.specs.Stamp
-pub use Rattle.session_law.specs.Frames
-pub use Rattle.session_law.specs.Messages
-pub use Rattle.fix_fields.specs.Printed
-pub use Rattle.fix_fields.specs.Reading
-pub use Rattle.session_law.specs.Session
-pub use Rattle.session_law.specs.Table
+pub use Rattle.session_reading.specs.session_law.Frames
+pub use Rattle.session_reading.specs.session_law.Messages
+pub use Rattle.fix_framing.specs.fix_fields.Printed
+pub use Rattle.fix_framing.specs.fix_fields.Reading
+pub use Rattle.session_reading.specs.session_law.Session
+pub use Rattle.session_reading.specs.session_law.Table
+pub use Rattle.fix_stamp.specs as fix_stamp
+pub use Rattle.fix_framing.specs as fix_framing

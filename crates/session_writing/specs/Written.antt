@@ -1,8 +1,8 @@
 -- What the link is told by an output in bytes.
 use Rattle.std.specs.Prelude.{ℕ, List, map}
-use Rattle.session_law.specs.declared.frame.Frame.{Frame}
-use Rattle.session_law.specs.declared.frame.Out.TheVariants.{Write}
-use Rattle.session_law.specs.Frames.{ToldLink, Bytes, Closed, told_of_out}
+use Rattle.session_reading.specs.session_law.declared.frame.Frame.{Frame}
+use Rattle.session_reading.specs.session_law.declared.frame.Out.TheVariants.{Write}
+use Rattle.session_reading.specs.session_law.Frames.{ToldLink, Bytes, Closed, told_of_out}
 use Rattle.session_writing.specs.declared.output.SessionOut.{SessionOut}
 use Rattle.session_writing.specs.declared.output.SessionOut.TheVariants as outs
 

@@ -1,13 +1,13 @@
 //! The bodies of the session's own messages.
 
 ghost use Rattle.std.specs.Prelude.{◌≡◌, ◌≤◌, ◌++◌, ◌∷◌, [], ℕ, OnOk, IfOk, decimal, codes};
-ghost use Rattle.fix_fields.specs.Field.{IsValue};
-ghost use Rattle.fix_fields.specs.Field as tags;
-ghost use Rattle.session_law.specs.Messages as law;
-ghost use Rattle.session_law.specs.Table as table;
-ghost use Rattle.session_law.specs.Session as session;
+ghost use Rattle.fix_framing.specs.fix_fields.Field.{IsValue};
+ghost use Rattle.fix_framing.specs.fix_fields.Field as tags;
+ghost use Rattle.session_reading.specs.session_law.Messages as law;
+ghost use Rattle.session_reading.specs.session_law.Table as table;
+ghost use Rattle.session_reading.specs.session_law.Session as session;
 
-use fix_fields::Fields;
+use fix_framing::Fields;
 use itoa::Buffer;
 use session_reading::{numbered, text};
 use std::alloc::{AllocError, Global};

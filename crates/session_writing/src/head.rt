@@ -1,6 +1,6 @@
 //! What stands round the body of a frame.
 
-use session_law::Kind;
+use session_reading::Kind;
 
 /// What stands round the body of a frame.
 #[derive(Clone, Copy, Debug)]

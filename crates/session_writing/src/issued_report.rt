@@ -2,22 +2,21 @@
 
 ghost use Rattle.std.specs.Prelude.{◌≡◌, ◌≤◌, ◌↔◌, ◌∷◌, [], ℕ, List, length, map, IfOk, IsSome, IfSome};
 ghost use Rattle.std.specs.Prelude.{if◌then◌else◌};
-ghost use Rattle.fix_fields.specs.Field.{AreFields, IsValue, fields_text};
-ghost use Rattle.fix_fields.specs.Printed.{PrintsFields, fields_in};
+ghost use Rattle.fix_framing.specs.fix_fields.Field.{AreFields, IsValue, fields_text};
+ghost use Rattle.fix_framing.specs.fix_fields.Printed.{PrintsFields, fields_in};
 ghost use Rattle.fix_stamp.specs.Stamp.{stamp_text};
-ghost use Rattle.session_law.specs.Frames.{frame_fields, told_of_out};
-ghost use Rattle.session_law.specs.Table.{is_logged_on};
-ghost use Rattle.session_law.specs.declared.frame.Frame.{Frame};
-ghost use Rattle.session_law.specs.declared.frame.Out.TheVariants.{Write};
+ghost use Rattle.session_reading.specs.session_law.Frames.{frame_fields, told_of_out};
+ghost use Rattle.session_reading.specs.session_law.Table.{is_logged_on};
+ghost use Rattle.session_reading.specs.session_law.declared.frame.Frame.{Frame};
+ghost use Rattle.session_reading.specs.session_law.declared.frame.Out.TheVariants.{Write};
 ghost use Rattle.session_writing.specs.Heads.{frame_with};
 ghost use Rattle.session_writing.specs.Longest.{longest_report};
 ghost use Rattle.session_writing.specs.Written.{told_bytes};
 
 use crate::head::FrameHead;
 use crate::output::{SessionOut, printed_frame};
-use fix_fields::{Fields, PrintedFields};
-use fix_framing::frame_of_text;
-use session_law::Phase;
+use fix_framing::{Fields, PrintedFields, frame_of_text};
+use session_reading::Phase;
 use std::alloc::{AllocError, Global};
 use std::marker::Model;
 
@@ -32,7 +31,7 @@ pub struct IssuedReport {
 
 impl Model for IssuedReport {
     ghost use Rattle.std.specs.Prelude.{List, length, ◌≤◌};
-    ghost use Rattle.fix_fields.specs.Field.{Field, fields_text};
+    ghost use Rattle.fix_framing.specs.fix_fields.Field.{Field, fields_text};
     ghost use Rattle.session_writing.specs.Longest.{longest_report};
 
     ghost Value = { List Field };

@@ -2,9 +2,9 @@
 
 ghost use Rattle.std.specs.Prelude.{◌≡◌, ◌<◌, ◌≤◌, ◌+◌, ◌-◌, ◌^◌, ◌++◌, ◌∷◌, [], length, map, min, take, drop};
 ghost use Rattle.std.specs.Prelude.{ℕ, Some, None, true, IfOk, OnOk, OnErr, vec_len, vec_capacity};
-ghost use Rattle.fix_fields.specs.Field.{IsValue};
-ghost use Rattle.fix_fields.specs.Printed.{PrintsFields, fields_in};
-ghost use Rattle.session_law.specs.Session as law;
+ghost use Rattle.fix_framing.specs.fix_fields.Field.{IsValue};
+ghost use Rattle.fix_framing.specs.fix_fields.Printed.{PrintsFields, fields_in};
+ghost use Rattle.session_reading.specs.session_law.Session as law;
 ghost use Rattle.session_writing.specs.Written.{told_bytes, told_frames};
 ghost use Rattle.session_writing.specs.Keeping.{is_within, place_further};
 ghost use Rattle.std.specs.List.{list_all};
@@ -12,7 +12,7 @@ ghost use Rattle.std.specs.List.{list_all};
 use crate::output::SessionOut;
 use crate::place::KeptPlace;
 use crate::resend::append_resent;
-use session_law::Kind;
+use session_reading::Kind;
 use std::alloc::{AllocError, Global};
 use std::marker::Model;
 
@@ -35,7 +35,7 @@ impl Drop for KeptBodies {
 
 impl Model for KeptBodies {
     ghost use Rattle.std.specs.Prelude.{List};
-    ghost use Rattle.session_law.specs.Session.{Slot};
+    ghost use Rattle.session_reading.specs.session_law.Session.{Slot};
     ghost use Rattle.session_writing.specs.Keeping.{ArePlaces, slots_at};
 
     ghost Value = { List Slot };

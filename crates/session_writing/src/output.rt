@@ -3,20 +3,20 @@
 //! Source: FIX 4.4 Volume 2, "Standard Message Header".
 
 ghost use Rattle.std.specs.Prelude.{◌≡◌, ◌++◌, ◌∷◌, [], IfOk, OnOk, map, codes, take};
-ghost use Rattle.fix_fields.specs.Field.{IsValue, Message, field};
-ghost use Rattle.fix_fields.specs.Printed.{PrintsFields, fields_in};
+ghost use Rattle.fix_framing.specs.fix_fields.Field.{IsValue, Message, field};
+ghost use Rattle.fix_framing.specs.fix_fields.Printed.{PrintsFields, fields_in};
 ghost use Rattle.fix_stamp.specs.Stamp.{stamp_text};
-ghost use Rattle.session_law.specs.Frames.{again_fields, frame_bytes, frame_fields, issue_fields};
-ghost use Rattle.session_law.specs.Frames.{kind_text as text_of_kind, is_issued as is_issued_kind, told_of_out};
-ghost use Rattle.session_law.specs.Messages.{number_as_field};
+ghost use Rattle.session_reading.specs.session_law.Frames.{again_fields, frame_bytes, frame_fields, issue_fields};
+ghost use Rattle.session_reading.specs.session_law.Frames.{kind_text as text_of_kind, is_issued as is_issued_kind};
+ghost use Rattle.session_reading.specs.session_law.Frames.{told_of_out};
+ghost use Rattle.session_reading.specs.session_law.Messages.{number_as_field};
 ghost use Rattle.session_writing.specs.Heads.{frame_with};
 ghost use Rattle.session_writing.specs.Written.{told_bytes};
 
 use crate::head::FrameHead;
-use fix_fields::{PrintedFields, printed_fields};
-use fix_framing::frame_of_text;
+use fix_framing::{PrintedFields, frame_of_text, printed_fields};
 use fix_stamp::stamp;
-use session_law::{Frame, Kind, Out};
+use session_reading::{Frame, Kind, Out};
 use std::alloc::{AllocError, Global};
 
 /// How many bytes a header and TransactTime (60) take at most, where the names have 60 bytes.

@@ -1,6 +1,6 @@
 //! Where a kept body stands in the text of all kept bodies.
 
-use session_law::Kind;
+use session_reading::Kind;
 
 /// What a number was given to.
 #[derive(Clone, Copy, Debug)]

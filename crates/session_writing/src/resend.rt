@@ -1,11 +1,12 @@
 //! Numbers sent again: bodies with their numbers, and one gap fill for each run of others.
 
-ghost use Rattle.std.specs.Prelude.{◌≡◌, ◌<◌, ◌≤◌, ◌+◌, ◌^◌, ◌∷◌, ◌++◌, [], length, map, OnOk, IfOk, codes, slice_range};
-ghost use Rattle.fix_fields.specs.Field.{IsValue, field};
-ghost use Rattle.fix_fields.specs.Printed.{PrintsFields, fields_in};
-ghost use Rattle.session_law.specs.Messages.{number_as_field};
-ghost use Rattle.session_law.specs.Frames.{frame_bytes};
-ghost use Rattle.session_law.specs.Session as law;
+ghost use Rattle.std.specs.Prelude.{◌≡◌, ◌<◌, ◌≤◌, ◌+◌, ◌^◌, ◌∷◌, ◌++◌, [], length, map, OnOk, IfOk, codes};
+ghost use Rattle.std.specs.Prelude.{slice_range};
+ghost use Rattle.fix_framing.specs.fix_fields.Field.{IsValue, field};
+ghost use Rattle.fix_framing.specs.fix_fields.Printed.{PrintsFields, fields_in};
+ghost use Rattle.session_reading.specs.session_law.Messages.{number_as_field};
+ghost use Rattle.session_reading.specs.session_law.Frames.{frame_bytes};
+ghost use Rattle.session_reading.specs.session_law.Session as law;
 ghost use Rattle.session_writing.specs.Keeping.{ArePlaces, slots_at};
 ghost use Rattle.session_writing.specs.Heads.{frame_with};
 ghost use Rattle.session_writing.specs.Written.{told_bytes, told_frames};
@@ -13,8 +14,8 @@ ghost use Rattle.session_writing.specs.Written.{told_bytes, told_frames};
 use crate::head::FrameHead;
 use crate::output::{SessionOut, frame_of_body};
 use crate::place::KeptPlace;
-use fix_fields::PrintedFields;
-use session_law::Kind;
+use fix_framing::PrintedFields;
+use session_reading::Kind;
 use std::alloc::{AllocError, Global};
 
 /// Appends the numbers of these places in a text again, the first of which has this number.

@@ -1,10 +1,10 @@
 //! What is kept of the numbers that a session gave, and how it is put back.
 
 ghost use Rattle.std.specs.Prelude.{◌≡◌, ◌++◌, ◌∷◌, [], Some, OnOk, OnErr, if◌then◌else◌};
-ghost use Rattle.fix_fields.specs.Printed.{PrintsFields, fields_in};
+ghost use Rattle.fix_framing.specs.fix_fields.Printed.{PrintsFields, fields_in};
 
 use crate::kept::KeptBodies;
-use session_law::Kind;
+use session_reading::Kind;
 use std::alloc::{AllocError, Global};
 use std::marker::Model;
 

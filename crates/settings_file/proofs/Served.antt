@@ -1,19 +1,26 @@
 -- What isn't refused of a file is served by the core.
-use Rattle.std.proofs.Common.{◌≡◌, ◌≤◌, ◌+◌, ◌-◌, ℕ, zero, suc, Bool, true, false, List, [], ◌∷◌, ◌++◌, length, replicate, refl, sym, ap, subst, ◌∙◌, arith}
-use Rattle.std.specs.Prelude.{Option, None, Some, is_some, unwrap_or, option_and_then, map, ◌||◌, ◌==◌, nat_le, codes, bytes_eq, cond, if◌then◌else◌}
+use Rattle.std.proofs.Common.{◌≡◌, ◌≤◌, ◌+◌, ◌-◌, ℕ, zero, suc, Bool, true, false, List, [], ◌∷◌, ◌++◌, length}
+use Rattle.std.proofs.Common.{replicate, refl, sym, ap, subst, ◌∙◌, arith}
+use Rattle.std.specs.Prelude.{Option, None, Some, is_some, unwrap_or, option_and_then, map, ◌||◌, ◌==◌, nat_le, codes}
+use Rattle.std.specs.Prelude.{bytes_eq, cond, if◌then◌else◌}
 use Rattle.std.specs.Option.{option_or}
 use Rattle.std.specs.List.{list_all, list_any}
-use Rattle.std.proofs.lemmas.Bool.{true≢false, false≢true, and_parts, and_from, or_parts, not-true, not_from_false, leb-true, le-leb}
+use Rattle.std.proofs.lemmas.Bool.{true≢false, false≢true, and_parts, and_from, or_parts, not-true, not_from_false}
+use Rattle.std.proofs.lemmas.Bool.{leb-true, le-leb}
 use Rattle.std.proofs.lemmas.List.{length-append, length-map, length-replicate}
 use Rattle.std.proofs.lemmas.List.Folds.{list_all-append, list_any-append}
 use Rattle.wire_law.specs.Printable.{is_printable}
-use Rattle.soup_session.specs.Table as port
+use Rattle.gate_settings.specs.soup_session.Table as port
 use Rattle.gate_law.specs.Settings.{ClientSettings, Settings}
 use Rattle.gate_law.specs.Limits.{is_between, is_byte_of, is_client, is_each_own, is_name, is_port, is_served}
 use Rattle.gate_settings.specs.Seen.{settings_of}
 use Rattle.toml.specs.Data.{Data}
-use Rattle.settings_file.specs.Rules.{Rule, text_in, where_it_holds, kept_text, first_broken, is_this, is_text_of, own_name, own_address, address, user, password, port_name, firm, letter, is_letter_of, port_rules, client_rules, gateway_rules, are_tables, tables_at, first_refused, refused_among, refused_port, refused_client}
-use Rattle.settings_file.specs.File.{WhatIsNotRefusedIsServed, text_at, login_at, number_of_name, padded_firm, first_byte, client_at, file_settings}
+use Rattle.settings_file.specs.Rules.{Rule, text_in, where_it_holds, kept_text, first_broken, is_this, is_text_of}
+use Rattle.settings_file.specs.Rules.{own_name, own_address, address, user, password, port_name, firm, letter}
+use Rattle.settings_file.specs.Rules.{is_letter_of, port_rules, client_rules, gateway_rules, are_tables, tables_at}
+use Rattle.settings_file.specs.Rules.{first_refused, refused_among, refused_port, refused_client}
+use Rattle.settings_file.specs.File.{WhatIsNotRefusedIsServed, text_at, login_at, number_of_name, padded_firm}
+use Rattle.settings_file.specs.File.{first_byte, client_at, file_settings}
 
 -- ---- rules that are kept
 

@@ -1,8 +1,8 @@
 -- What a settings file says, where nothing of it is refused.
 use Rattle.std.specs.Prelude.{◌≡◌, true, None, ℕ, ◌+◌, ◌-◌, List, [], ◌∷◌, ◌++◌, map, length, replicate, codes}
 use Rattle.std.specs.Prelude.{if◌then◌else◌, unwrap_or}
-use Rattle.soup_session.specs.Table as port
-use Rattle.order_law.specs.History.{Terms}
+use Rattle.gate_settings.specs.soup_session.Table as port
+use Rattle.gate_law.specs.order_law.History.{Terms}
 use Rattle.gate_law.specs.Settings.{ClientSettings, Settings}
 use Rattle.gate_law.specs.Limits.{is_served}
 use Rattle.toml.specs.Data.{Data}

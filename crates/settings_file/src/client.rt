@@ -1,8 +1,8 @@
 //! A client's table.
 
 ghost use Rattle.std.specs.Prelude.{◌≡◌, ◌≤◌, ◌+◌, true, IfOk, length, map, codes, string_bytes};
-ghost use Rattle.fix_fields.specs.Field.{IsValue};
-ghost use Rattle.to_market.specs.TermsSeen.{terms_seen};
+ghost use Rattle.gate_law.specs.fix_fields.Field.{IsValue};
+ghost use Rattle.gate_settings.specs.to_market.TermsSeen.{terms_seen};
 ghost use Rattle.toml.specs.View.{view};
 ghost use Rattle.settings_file.specs.File.{client_at, client_of, first_byte, number_of_name, terms_at, text_at};
 ghost use Rattle.settings_file.specs.Judged.{Judges};
@@ -12,7 +12,7 @@ ghost use Rattle.settings_file.specs.Rules.{is_letter_of, refused_client};
 use crate::fault::{SettingsFault, refusal};
 use crate::keys::first_other;
 use crate::texts::{firm, is_this, letter, own_address, own_name, port_name};
-use fix_fields::Text;
+use gate_law::Text;
 use gate_settings::{ClientSettings, ClientTerms};
 use std::alloc::{AllocError, Global};
 use toml::Value;

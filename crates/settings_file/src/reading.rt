@@ -18,7 +18,7 @@ use crate::fault::{SettingsFault, refusal};
 use crate::keys::first_other;
 use crate::port::{PortEntry, read_port};
 use crate::texts::{is_between, own_name};
-use fix_fields::Text;
+use gate_law::Text;
 use gate_settings::{ClientSettings, PortSettings, Settings};
 use std::alloc::Global;
 use std::marker::Model;

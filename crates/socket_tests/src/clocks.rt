@@ -1,7 +1,6 @@
 //! A clock over a system whose time goes back.
 
-use gate_workers::Clock;
-use link_sockets::SystemClock;
+use link_sockets::{Clock, SystemClock};
 use std::io;
 use std::sync::atomic::{AtomicUsize, Ordering};
 use std::test::Fail;

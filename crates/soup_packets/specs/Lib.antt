@@ -5,3 +5,4 @@ pub mod Lent
 pub mod Front
 pub mod Worked
 pub use Rattle.stream_buffer.specs.Buffer
+pub use Rattle.stream_buffer.specs as stream_buffer

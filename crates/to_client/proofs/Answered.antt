@@ -3,12 +3,12 @@ use Rattle.std.proofs.Common.{◌≡◌, ℕ, Bool, true, false, List, [], ◌�
 use Rattle.std.specs.Prelude.{Option, Some, None, IfSome, filter, option_to_list, not}
 use Rattle.std.specs.List.{find, list_any}
 use Rattle.std.proofs.lemmas.List.{append_assoc, map-append}
-use Rattle.fix_types.specs.declared.application.AppBody.{AppBody}
-use Rattle.fix_types.specs.declared.application.AppBody.TheVariants as bodies
-use Rattle.fix_types.specs.declared.cancel_reject.CancelReject.{CancelReject}
-use Rattle.fix_types.specs.CancelReject.{cancel_reject_fields}
-use Rattle.fix_types.specs.Application.{body_fields}
-use Rattle.fix_fields.specs.Field.{Message}
+use Rattle.orders.specs.fix_types.declared.application.AppBody.{AppBody}
+use Rattle.orders.specs.fix_types.declared.application.AppBody.TheVariants as bodies
+use Rattle.orders.specs.fix_types.declared.cancel_reject.CancelReject.{CancelReject}
+use Rattle.orders.specs.fix_types.CancelReject.{cancel_reject_fields}
+use Rattle.orders.specs.fix_types.Application.{body_fields}
+use Rattle.order_law.specs.fix_fields.Field.{Message}
 use Rattle.order_law.specs.History.{Entry}
 use Rattle.order_law.specs.Verdicts.{is_replace}
 use Rattle.order_law.specs.Told as law

@@ -1,16 +1,16 @@
 -- Reports on requests, and rejects of them, are those that the law writes.
 use Rattle.std.proofs.Common.{◌≡◌, ℕ, List, [], ◌∷◌, refl, ap, ◌∙◌, codes, decimal}
 use Rattle.std.specs.Prelude.{Option, Some, None, if◌then◌else◌}
-use Rattle.fix_types.specs.declared.cancel_reject.CancelReject.{CancelReject}
-use Rattle.fix_types.specs.declared.report.Report.{Report}
-use Rattle.fix_types.specs.CancelReject.{cancel_reject_fields}
-use Rattle.fix_types.specs.Report.{report_fields}
+use Rattle.orders.specs.fix_types.declared.cancel_reject.CancelReject.{CancelReject}
+use Rattle.orders.specs.fix_types.declared.report.Report.{Report}
+use Rattle.orders.specs.fix_types.CancelReject.{cancel_reject_fields}
+use Rattle.orders.specs.fix_types.Report.{report_fields}
 use Rattle.fix_values.specs.declared.cxl_rej_response_to.CxlRejResponseTo.{CxlRejResponseTo}
 use Rattle.fix_values.specs.declared.cxl_rej_response_to.CxlRejResponseTo.TheVariants as responses
 use Rattle.fix_values.specs.declared.exec_type.ExecType.TheVariants as kinds
 use Rattle.fix_values.specs.Letters.{response_letter, status_letter}
 use Rattle.fix_values.specs.Slots.{char_text, order_id_text}
-use Rattle.fix_fields.specs.Field.{Message, text}
+use Rattle.order_law.specs.fix_fields.Field.{Message, text}
 use Rattle.order_law.specs.History.{Entry}
 use Rattle.order_law.specs.Verdicts.{is_replace}
 use Rattle.order_law.specs.Told as law
@@ -18,7 +18,8 @@ use Rattle.to_client.specs.declared.occasion.Details.{Details}
 use Rattle.to_client.specs.declared.shown.Request.{Request}
 use Rattle.to_client.specs.declared.shown.Shown.{Shown}
 use Rattle.to_client.specs.Occasions.{plain_details}
-use Rattle.to_client.specs.Shows.{IsOccasion, IsRequest, ShowsAny, ShowsAs, canceled_on, id_number, is_of_replace, pending_type, status_any}
+use Rattle.to_client.specs.Shows.{IsOccasion, IsRequest, ShowsAny, ShowsAs, canceled_on, id_number, is_of_replace}
+use Rattle.to_client.specs.Shows.{pending_type, status_any}
 use Rattle.to_client.proofs.Statuses.{status-shown}
 
 -- a report that tells each occasion of these details

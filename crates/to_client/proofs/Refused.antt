@@ -1,10 +1,10 @@
 -- A report with the fields of a refusal is the one that the law writes, with the texts of the order's own quantity and price.
 use Rattle.std.proofs.Common.{◌≡◌, ℕ, List, Option, Some, None, refl, ◌∙◌}
 use Rattle.std.specs.Fmt.{digits}
-use Rattle.fix_fields.specs.Field.{first_value}
-use Rattle.fix_types.specs.declared.new_order.NewOrder.{NewOrder}
-use Rattle.fix_types.specs.NewOrder.{new_order_fields, new_order_slots}
-use Rattle.fix_types.specs.Report.{report_fields}
+use Rattle.order_law.specs.fix_fields.Field.{first_value}
+use Rattle.orders.specs.fix_types.declared.new_order.NewOrder.{NewOrder}
+use Rattle.orders.specs.fix_types.NewOrder.{new_order_fields, new_order_slots}
+use Rattle.orders.specs.fix_types.Report.{report_fields}
 use Rattle.fix_values.proofs.Lookups.{first_value-fields_of, option_or-none}
 use Rattle.order_law.specs.Told.{refusing_report}
 use Rattle.to_client.specs.Refusals.{refusal_of}

@@ -3,10 +3,10 @@ use Rattle.std.proofs.Common.{◌≡◌, ℕ, List, [], ◌∷◌, ◌++◌, ref
 use Rattle.std.proofs.lemmas.List.{append-nil}
 use Rattle.std.specs.Prelude.{Option, Some, None, map, option_map, unwrap_or}
 use Rattle.std.specs.Fmt.{digits}
-use Rattle.fix_fields.specs.Field.{Field, Message, text}
+use Rattle.order_law.specs.fix_fields.Field.{Field, Message, text}
 use Rattle.fixed_point.specs.Price.{price_text}
-use Rattle.fix_types.specs.declared.report.Report.{Report}
-use Rattle.fix_types.specs.Report.{report_fields, report_slots}
+use Rattle.orders.specs.fix_types.declared.report.Report.{Report}
+use Rattle.orders.specs.fix_types.Report.{report_fields, report_slots}
 use Rattle.fix_values.specs.Letters.{exec_letter, status_letter}
 use Rattle.fix_values.specs.Slots.{FieldSlot, appended, char_text, number_text, slot_fields, value_fields}
 use Rattle.order_law.specs.History.{Entry}

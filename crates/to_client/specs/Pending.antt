@@ -1,11 +1,11 @@
 -- The pending requests of an order, and the bodies that answer them.
 use Rattle.std.specs.Prelude.{◌≡◌, ℕ, true, false, List, [], ◌∷◌, ◌++◌, Option, Some, None, IfSome, option_map}
 use Rattle.std.specs.Prelude.{option_to_list}
-use Rattle.fix_fields.specs.Field.{Message}
+use Rattle.order_law.specs.fix_fields.Field.{Message}
 use Rattle.order_law.specs.History.{Entry}
 use Rattle.order_law.specs.Verdicts.{is_replace}
 use Rattle.order_law.specs.Told as law
-use Rattle.order_machine.specs.OrderRecord.{Cancelling}
+use Rattle.orders.specs.order_machine.OrderRecord.{Cancelling}
 use Rattle.to_client.specs.declared.pending.Pending.{Pending}
 use Rattle.to_client.specs.Shows.{IsAnyRequest}
 

@@ -1,7 +1,7 @@
 -- The report that refuses a new order, by its fields.
 use Rattle.std.specs.Prelude.{ℕ, List, Some, None, decimal}
-use Rattle.fix_types.specs.declared.new_order.NewOrder.{NewOrder}
-use Rattle.fix_types.specs.declared.report.Report.{Report}
+use Rattle.orders.specs.fix_types.declared.new_order.NewOrder.{NewOrder}
+use Rattle.orders.specs.fix_types.declared.report.Report.{Report}
 use Rattle.fix_values.specs.declared.exec_type.ExecType.TheVariants as kinds
 use Rattle.fix_values.specs.declared.ord_status.OrdStatus.TheVariants as statuses
 

@@ -10,9 +10,9 @@ use Rattle.fix_values.specs.declared.ord_status.OrdStatus.{OrdStatus}
 use Rattle.fix_values.specs.declared.ord_status.OrdStatus.TheVariants as statuses
 use Rattle.fix_values.specs.Letters.{exec_letter}
 use Rattle.fix_values.specs.Slots.{char_text, number_text}
-use Rattle.fix_types.specs.declared.report.Report.{Report}
+use Rattle.orders.specs.fix_types.declared.report.Report.{Report}
 use Rattle.fixed_point.specs.Price.{price_text}
-use Rattle.fix_fields.specs.Field.{Message, text}
+use Rattle.order_law.specs.fix_fields.Field.{Message, text}
 use Rattle.order_law.specs.History.{Entry}
 use Rattle.order_law.specs.Verdicts.{is_replace}
 use Rattle.order_law.specs.Told as law

@@ -4,12 +4,12 @@
 
 ghost use Rattle.std.specs.Prelude.{◌≡◌, ◌≤◌, ◌+◌, ◌++◌, ◌∷◌, [], ℕ, true, codes, length, map, IfOk, IfSome, Option};
 ghost use Rattle.std.specs.List.{list_all};
-ghost use Rattle.fix_fields.specs.Field.{is_inside};
-ghost use Rattle.fix_types.specs.Report.{report_fields};
+ghost use Rattle.order_law.specs.fix_fields.Field.{is_inside};
+ghost use Rattle.orders.specs.fix_types.Report.{report_fields};
 ghost use Rattle.fix_values.specs.Reasons.{cxl_rej_number};
 ghost use Rattle.fix_values.specs.Slots.{char_text};
-ghost use Rattle.wire_law.specs.Printable.{is_printable};
-ghost use Rattle.fix_types.specs.Application.{body_fields};
+ghost use Rattle.order_law.specs.wire_law.Printable.{is_printable};
+ghost use Rattle.orders.specs.fix_types.Application.{body_fields};
 ghost use Rattle.order_law.specs.History.{Entry};
 ghost use Rattle.order_law.specs.Told as law;
 ghost use Rattle.to_client.specs.Pending.{IsPending, rejects_of};
@@ -20,9 +20,9 @@ use crate::pending::Pending;
 use crate::rejecting::cancel_reject;
 use crate::reporting::report_on;
 use crate::shown::{Request, Shown};
-use fix_fields::Text;
-use fix_types::{AppBody, Report};
 use fix_values::CxlRejReason;
+use order_law::Text;
+use orders::{AppBody, Report};
 use std::alloc::{AllocError, Global};
 
 /// A report as one body more.

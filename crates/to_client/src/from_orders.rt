@@ -3,7 +3,7 @@
 ghost use Rattle.std.specs.Prelude.{◌≡◌};
 ghost use Rattle.order_law.specs.Asks.{total_of};
 ghost use Rattle.order_law.specs.declared.stage.Stage.TheVariants.{Waiting};
-ghost use Rattle.order_machine.specs.OrderRecord.{shown_as};
+ghost use Rattle.orders.specs.order_machine.OrderRecord.{shown_as};
 ghost use Rattle.orders.specs.declared.progress.Progress.{Progress};
 ghost use Rattle.orders.specs.Seen.{progressed};
 ghost use Rattle.to_client.specs.Pending.{IsPending, cancel_in};

@@ -14,6 +14,7 @@ mod status;
 mod texts;
 
 pub use endings::{push_cancel_rejected, push_canceled, push_reject, push_report, push_too_late};
+pub use fix_values::{Character, CxlRejReason};
 pub use from_orders::{pending_of, shown_of};
 pub use occasion::Occasion;
 pub use pending::Pending;

@@ -1,16 +1,16 @@
 //! A report that refuses a new order.
 
 ghost use Rattle.std.specs.Prelude.{◌≡◌, ◌<◌, ◌^◌, IfOk};
-ghost use Rattle.fix_types.specs.NewOrder.{new_order_fields};
-ghost use Rattle.fix_types.specs.Report.{report_fields};
+ghost use Rattle.orders.specs.fix_types.NewOrder.{new_order_fields};
+ghost use Rattle.orders.specs.fix_types.Report.{report_fields};
 ghost use Rattle.fix_values.specs.Reasons.{ord_rej_number};
 ghost use Rattle.order_law.specs.Told as law;
 ghost use Rattle.to_client.specs.Refusals.{refusal_of};
 
 use crate::texts::number_text;
-use fix_fields::Text;
-use fix_types::{NewOrder, Report};
 use fix_values::{ClOrdId, ExecType, FloatText, OrdRejReason, OrdStatus};
+use order_law::Text;
+use orders::{NewOrder, Report};
 use std::alloc::{AllocError, Global};
 
 /// The report, with an OrderID (37) and an ExecID (17) of these numbers, that refuses a new order for a reason:

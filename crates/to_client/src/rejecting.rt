@@ -1,17 +1,17 @@
 //! A cancel or replace that isn't done: OrderCancelReject.
 
 ghost use Rattle.std.specs.Prelude.{◌≡◌, ◌∷◌, [], IfOk, Option, option_map};
-ghost use Rattle.fix_types.specs.CancelReject.{cancel_reject_fields};
-ghost use Rattle.fix_fields.specs.Field.{Message};
+ghost use Rattle.orders.specs.fix_types.CancelReject.{cancel_reject_fields};
+ghost use Rattle.order_law.specs.fix_fields.Field.{Message};
 ghost use Rattle.fix_values.specs.Reasons.{cxl_rej_number};
 ghost use Rattle.order_law.specs.Told as law;
 ghost use Rattle.to_client.specs.Shows.{IsRequest, ShowsAny, id_number};
 
 use crate::shown::{Request, Shown};
 use crate::status::status_or_rejected;
-use fix_fields::Text;
-use fix_types::CancelReject;
 use fix_values::{ClOrdId, CxlRejReason};
+use order_law::Text;
+use orders::CancelReject;
 use std::alloc::{AllocError, Global};
 
 /// The reject of a request, with a code (102) and a text (58): of one that is refused, or of a pending one that the

@@ -1,8 +1,8 @@
 //! An execution report on an order.
 
 ghost use Rattle.std.specs.Prelude.{◌≡◌, ◌∷◌, [], true, IfOk, IfSome};
-ghost use Rattle.fix_types.specs.Report.{report_fields};
-ghost use Rattle.wire_law.specs.Printable.{is_printable};
+ghost use Rattle.orders.specs.fix_types.Report.{report_fields};
+ghost use Rattle.order_law.specs.wire_law.Printable.{is_printable};
 ghost use Rattle.order_law.specs.Told as law;
 ghost use Rattle.to_client.specs.Occasions.{average_of_text, details_of, leaves_in, occasion_seen};
 ghost use Rattle.to_client.specs.Shows.{IsOccasion, ShowsAs, id_told, orig_told, report_with};
@@ -11,12 +11,10 @@ use crate::occasion::{Details, Occasion, fields_given_by};
 use crate::shown::{Request, Shown};
 use crate::status::status_shown;
 use crate::texts::{letter_text, number_text, optional_price_text, price_text};
-use fix_fields::Text;
-use fix_types::Report;
 use fix_values::ClOrdId;
 use fixed_point::average;
-use order_law::Stage;
-use orders::Progress;
+use order_law::{Stage, Text};
+use orders::{Progress, Report};
 use std::alloc::{AllocError, Global};
 
 /// The report, with an ExecID of this number, of what happened to an order that is then shown so. The market's letters

@@ -1,9 +1,9 @@
 //! Execution reports on a cancel or replace: that it is pending, and that it is done.
 
 ghost use Rattle.std.specs.Prelude.{◌≡◌, ◌∷◌, [], true, codes, IfOk, IfSome, Some};
-ghost use Rattle.fix_types.specs.Report.{report_fields};
+ghost use Rattle.orders.specs.fix_types.Report.{report_fields};
 ghost use Rattle.fix_values.specs.Slots.{char_text};
-ghost use Rattle.wire_law.specs.Printable.{is_printable};
+ghost use Rattle.order_law.specs.wire_law.Printable.{is_printable};
 ghost use Rattle.order_law.specs.History.{Entry};
 ghost use Rattle.order_law.specs.Told as law;
 ghost use Rattle.to_client.specs.Occasions.{plain_details};
@@ -12,8 +12,8 @@ ghost use Rattle.to_client.specs.Shows.{IsRequest, ShowsAs, canceled_on, pending
 use crate::occasion::{Details, plain};
 use crate::reporting::report_on;
 use crate::shown::{Request, Shown};
-use fix_types::Report;
 use fix_values::{CxlRejResponseTo, ExecType};
+use orders::Report;
 use std::alloc::{AllocError, Global};
 
 /// The report that an accepted request is pending: 150=E of a replace, 150=6 of a cancel. `shown` is the order as it

@@ -1,8 +1,7 @@
 //! An order and a request, as what a client is told shows them.
 
-use fix_types::{CancelRequest, ReplaceRequest};
 use fix_values::{Character, ClOrdId, CxlRejResponseTo};
-use orders::{Progress, Symbol};
+use orders::{CancelRequest, Progress, ReplaceRequest, Symbol};
 
 /// An order as a report or reject shows it: as it is after what is told.
 #[derive(Clone, Copy)]
@@ -60,8 +59,8 @@ impl<'a> Shown<'a> {
 }
 
 impl<'a> Request<'a> {
-    ghost use Rattle.fix_types.specs.CancelRequest.{cancel_request_fields};
-    ghost use Rattle.fix_types.specs.ReplaceRequest.{replace_request_fields};
+    ghost use Rattle.orders.specs.fix_types.CancelRequest.{cancel_request_fields};
+    ghost use Rattle.orders.specs.fix_types.ReplaceRequest.{replace_request_fields};
     ghost use Rattle.to_client.specs.Shows.{IsRequest};
 
     /// An OrderCancelRequest (35=F).

@@ -3,11 +3,11 @@
 ghost use Rattle.std.specs.Prelude.{◌≡◌, ◌<◌, ◌^◌, ◌∷◌, [], true, IfOk, IfSome, decimal, option_map};
 ghost use Rattle.fix_values.specs.Slots.{char_text};
 ghost use Rattle.fixed_point.specs.Price as spec;
-ghost use Rattle.wire_law.specs.Printable.{is_printable};
+ghost use Rattle.order_law.specs.wire_law.Printable.{is_printable};
 
-use fix_fields::Text;
 use fixed_point::print_price;
 use itoa::Buffer;
+use order_law::Text;
 use std::alloc::{AllocError, Global};
 
 /// A number in decimal. One growth.

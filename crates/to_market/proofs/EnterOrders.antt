@@ -11,8 +11,9 @@ use Rattle.ouch_codec.specs.Rows.{enter_order_row}
 use Rattle.ouch_codec.specs.EnterOrderParts.{SaysEnterOrder, SaysEnterOrder-written}
 use Rattle.order_law.specs.Headline.{Says}
 use Rattle.ouch_codec.specs.ToMarket as said
-use Rattle.fix_fields.specs.Field.{Message, text, character}
-use Rattle.order_law.specs.Asks.{ask_of_bytes, asked_by_new, side_of_letter, life_time_of_seconds, total_of, limit_of, minimum_of, display_of, life_time_of, capacity_of}
+use Rattle.order_law.specs.fix_fields.Field.{Message, text, character}
+use Rattle.order_law.specs.Asks.{ask_of_bytes, asked_by_new, side_of_letter, life_time_of_seconds, total_of, limit_of}
+use Rattle.order_law.specs.Asks.{minimum_of, display_of, life_time_of, capacity_of}
 use Rattle.to_market.specs.declared.client_terms.ClientTerms.{ClientTerms}
 use Rattle.to_market.specs.declared.new_ask.NewAsk.{NewAsk}
 use Rattle.to_market.specs.NewAsks.{AsksAs, client_standing, asked_with}

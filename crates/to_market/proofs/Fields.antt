@@ -1,14 +1,16 @@
 -- What a new order's fields are read as, and the rows on them.
 use Rattle.std.proofs.Common.{◌≡◌, Bool, ℕ, List, [], ◌∷◌, refl, ap, ◌∙◌}
-use Rattle.std.specs.Prelude.{◌&&◌, not, Option, Some, None, is_some, is_ok, unwrap_or, bytes_eq, codes, slice_index, if◌then◌else◌}
+use Rattle.std.specs.Prelude.{◌&&◌, not, Option, Some, None, is_some, is_ok, unwrap_or, bytes_eq, codes, slice_index}
+use Rattle.std.specs.Prelude.{if◌then◌else◌}
 use Rattle.std.specs.List.{list_any}
 use Rattle.std.specs.Result.{result_unwrap_or}
 use Rattle.fixed_point.specs.Decimal.{price, quantity}
-use Rattle.fix_fields.specs.Field.{first_value, Message, has, text, is, is_one_of, character}
+use Rattle.order_law.specs.fix_fields.Field.{first_value, Message, has, text, is, is_one_of, character}
 use Rattle.fix_types.specs.declared.new_order.NewOrder.{NewOrder}
 use Rattle.fix_values.specs.Slots.{char_text}
 use Rattle.fix_types.specs.NewOrder.{new_order_fields}
-use Rattle.fix_types.proofs.NewOrderValues.{side-value, symbol-value, quantity-value, type-value, price-value, life_time-value, instruction-value, capacity-value, minimum-value}
+use Rattle.fix_types.proofs.NewOrderValues.{side-value, symbol-value, quantity-value, type-value, price-value}
+use Rattle.fix_types.proofs.NewOrderValues.{life_time-value, instruction-value, capacity-value, minimum-value}
 use Rattle.order_law.specs.Asks.{Day, Immediate, total_of, limit_of, minimum_of, display_of, life_time_of, capacity_of}
 use Rattle.order_law.specs.Verdicts.{Row, field_rows, sides, life_times, capacities, is_symbol, is_minimum}
 use Rattle.to_market.specs.declared.refusal.Refusal.TheVariants as refusals

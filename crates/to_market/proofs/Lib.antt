@@ -6,3 +6,4 @@ mod ReplaceFields
 mod RequestBytes
 mod RequestVerdict
 mod FirstRows
+pub use Rattle.tokens.proofs as tokens

@@ -1,16 +1,20 @@
 -- What a replace's fields are read as, and the rows on them.
 use Rattle.std.proofs.Common.{◌≡◌, Bool, true, ℕ, List, [], ◌∷◌, ◌++◌, refl, ap, ◌∙◌}
-use Rattle.std.specs.Prelude.{◌&&◌, ◌||◌, not, nat_le, Option, Some, is_some, is_ok, unwrap_or, bytes_eq, codes, if◌then◌else◌}
+use Rattle.std.specs.Prelude.{◌&&◌, ◌||◌, not, nat_le, Option, Some, is_some, is_ok, unwrap_or, bytes_eq, codes}
+use Rattle.std.specs.Prelude.{if◌then◌else◌}
 use Rattle.std.specs.Result.{result_unwrap_or}
 use Rattle.fixed_point.specs.Decimal.{price, quantity}
 use Rattle.fix_types.specs.declared.replace_request.ReplaceRequest.{ReplaceRequest}
 use Rattle.fix_values.specs.Slots.{char_text}
 use Rattle.fix_types.specs.ReplaceRequest.{replace_request_fields}
-use Rattle.fix_types.proofs.ReplaceRequestValues.{kind-value, side-value, symbol-value, quantity-value, type-value, price-value, life_time-value, instruction-value, capacity-value, minimum-value}
-use Rattle.fix_fields.specs.Field.{Message, has, text, is, is_one_of}
+use Rattle.fix_types.proofs.ReplaceRequestValues.{kind-value, side-value, symbol-value, quantity-value, type-value}
+use Rattle.fix_types.proofs.ReplaceRequestValues.{price-value, life_time-value, instruction-value, capacity-value}
+use Rattle.fix_types.proofs.ReplaceRequestValues.{minimum-value}
+use Rattle.order_law.specs.fix_fields.Field.{Message, has, text, is, is_one_of}
 use Rattle.order_law.specs.Asks.{Day, Immediate, total_of, limit_of, minimum_of, display_of, life_time_of}
 use Rattle.order_law.specs.Chain.{has_pending_cancel, has_pending_replace}
-use Rattle.order_law.specs.Verdicts.{Named, Port, Row, is_minimum, is_replace, last_token, life_times, most_replaces, port_rows, rows_of_request}
+use Rattle.order_law.specs.Verdicts.{Named, Port, Row, is_minimum, is_replace, last_token, life_times, most_replaces}
+use Rattle.order_law.specs.Verdicts.{port_rows, rows_of_request}
 use Rattle.to_market.specs.declared.named_order.NamedOrder.{NamedOrder}
 use Rattle.to_market.specs.declared.refusal.Refusal.{Refusal}
 use Rattle.to_market.specs.declared.refusal.Refusal.TheVariants as refusals

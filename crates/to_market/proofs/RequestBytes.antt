@@ -12,10 +12,12 @@ use Rattle.ouch_codec.specs.CancelParts as spelled_cancel
 use Rattle.ouch_codec.specs.ReplaceParts as spelled_replace
 use Rattle.ouch_codec.specs.ToMarket as said
 use Rattle.order_law.specs.Headline.{Says}
-use Rattle.fix_fields.specs.Field.{Message, is, text}
-use Rattle.order_law.specs.Asks.{Change, Standing, Stop, ask_of_bytes, asked_by_request, display_of, life_time_of, life_time_of_seconds, limit_of, limits_of, minimum_of, total_of}
+use Rattle.order_law.specs.fix_fields.Field.{Message, is, text}
+use Rattle.order_law.specs.Asks.{Change, Standing, Stop, ask_of_bytes, asked_by_request, display_of, life_time_of}
+use Rattle.order_law.specs.Asks.{life_time_of_seconds, limit_of, limits_of, minimum_of, total_of}
 use Rattle.to_market.specs.declared.replace_ask.ReplaceAsk.{ReplaceAsk}
-use Rattle.to_market.specs.RequestAsks.{AsksToReplace, cancel_asked_with, cancel_bytes, replace_asked_with, replace_bytes}
+use Rattle.to_market.specs.RequestAsks.{AsksToReplace, cancel_asked_with, cancel_bytes, replace_asked_with}
+use Rattle.to_market.specs.RequestAsks.{replace_bytes}
 
 with_false : (x : Bool) → (x && false) ≡ false
 with_false true = refl

@@ -5,7 +5,7 @@ pub mod PortsSeen
 pub mod Names
 pub mod RequestAsks
 pub mod TermsSeen
-pub use Rattle.fix_fields.specs.Field
+pub use Rattle.order_law.specs.fix_fields.Field
 pub use Rattle.fix_types.specs.NewOrder
 pub use Rattle.fix_types.specs.ReplaceRequest
 pub use Rattle.fix_values.specs.Slots
@@ -15,3 +15,6 @@ pub use Rattle.order_law.specs.Verdicts
 pub use Rattle.ouch_codec.specs.Letters
 pub use Rattle.tokens.specs.TokenText
 pub use Rattle.wire_law.specs.Printable
+pub use Rattle.wire_law.specs as wire_law
+pub use Rattle.ouch_codec.specs as ouch_codec
+pub use Rattle.tokens.specs as tokens

@@ -6,7 +6,7 @@ use Rattle.ouch_codec.specs.Layouts.{enter_order_layout}
 use Rattle.ouch_codec.specs.Letters.{side_letter}
 use Rattle.ouch_codec.specs.Parts.{unpadded}
 use Rattle.ouch_codec.specs.Rows.{enter_order_row}
-use Rattle.fix_fields.specs.Field.{Message, text, character}
+use Rattle.order_law.specs.fix_fields.Field.{Message, text, character}
 use Rattle.order_law.specs.Asks.{Standing, total_of, limit_of, minimum_of, display_of, life_time_of, capacity_of}
 use Rattle.order_law.specs.Asks.{asked_by_new, side_of_letter, life_time_of_seconds}
 use Rattle.order_law.specs.History.{Asked, SaysNew}

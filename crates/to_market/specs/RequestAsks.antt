@@ -6,7 +6,7 @@ use Rattle.ouch_codec.specs.declared.inbound.replace.Replace.{Replace}
 use Rattle.ouch_codec.specs.Layout.{spelled}
 use Rattle.ouch_codec.specs.Layouts as layouts
 use Rattle.ouch_codec.specs.Rows.{cancel_row, replace_row}
-use Rattle.fix_fields.specs.Field.{Message, text}
+use Rattle.order_law.specs.fix_fields.Field.{Message, text}
 use Rattle.order_law.specs.Asks.{total_of, limit_of, minimum_of, display_of, life_time_of, asked_by_request}
 use Rattle.order_law.specs.Asks.{life_time_of_seconds}
 use Rattle.order_law.specs.History.{Asked, SaysCancel, SaysReplace}

@@ -20,9 +20,13 @@ mod requests;
 
 pub use asking::{ask_of, enter_order, refuse_if};
 pub use client_terms::ClientTerms;
+pub use fix_values::{Character, ClOrdId};
 pub use named_order::NamedOrder;
 pub use new_ask::NewAsk;
+pub use ouch_codec::{DecodeRefusal, Inbound, Outbound};
 pub use port_state::PortState;
 pub use refusal::Refusal;
 pub use replace_ask::ReplaceAsk;
 pub use requests::{ask_of_replace, refuse_cancel, refuse_port, say_cancel, say_replace};
+pub use tokens::Token;
+pub use wire_law::are_visible;

@@ -1,12 +1,13 @@
 -- One change more leaves what was settled.
-use Rattle.std.proofs.Common.{◌≡◌, ℕ, zero, suc, ◌<◌, ◌≤◌, List, [], ◌∷◌, ◌++◌, reverse, take, length, get_or, slice_get, slice_set, refl, sym, ap, ◌∙◌, arith}
+use Rattle.std.proofs.Common.{◌≡◌, ℕ, zero, suc, ◌<◌, ◌≤◌, List, [], ◌∷◌, ◌++◌, reverse, take, length, get_or}
+use Rattle.std.proofs.Common.{slice_get, slice_set, refl, sym, ap, ◌∙◌, arith}
 use Rattle.std.specs.Prelude.{Option, Some}
 use Rattle.std.proofs.lemmas.List.{reverse-append}
 use Rattle.std.proofs.lemmas.Option.{slice_get-get_or, slice_get_within}
-use Rattle.order_machine.specs.OrderRecord.{OrderRecord}
+use Rattle.orders.specs.order_machine.OrderRecord.{OrderRecord}
 use Rattle.orders.specs.PutBack.{put_back}
 use Rattle.orders.specs.declared.earlier_order.EarlierOrder.{EarlierOrder}
-use Rattle.undo_list.specs.Undoing.{IsWithin}
+use Rattle.hint_index.specs.undo_list.Undoing.{IsWithin}
 use Rattle.undo_orders.specs.PuttingBack.{changed_at, restored, settled_of}
 use Rattle.undo_orders.specs.declared.list.Was.{Was}
 

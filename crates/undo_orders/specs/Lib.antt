@@ -1,5 +1,5 @@
 pub mod PuttingBack
-pub use Rattle.order_machine.specs.OrderRecord
+pub use Rattle.orders.specs.order_machine.OrderRecord
 pub use Rattle.orders.specs.Changes
 pub use Rattle.orders.specs.Seen
-pub use Rattle.undo_list.specs.Undoing
+pub use Rattle.hint_index.specs.undo_list.Undoing

@@ -1,6 +1,6 @@
 -- A list of orders that is put back to how it stood when it was last settled.
 use Rattle.std.specs.Prelude.{ℕ, zero, suc, List, [], ◌∷◌, take, reverse}
-use Rattle.order_machine.specs.OrderRecord.{OrderRecord}
+use Rattle.orders.specs.order_machine.OrderRecord.{OrderRecord}
 use Rattle.orders.specs.PutBack.{put_back}
 use Rattle.undo_orders.specs.declared.list.Was.{Was}
 

@@ -2,11 +2,11 @@
 
 ghost use Rattle.std.specs.Prelude.{◌≡◌, ◌≤◌, ◌<◌, ◌^◌, ◌++◌, ◌∷◌, [], length, slice_get, slice_set};
 ghost use Rattle.std.specs.Prelude.{Some, IfOk, OnErr, OnOk, true, vec_len, vec_capacity};
-ghost use Rattle.order_machine.specs.OrderRecord.{OrderRecord, at};
+ghost use Rattle.orders.specs.order_machine.OrderRecord.{OrderRecord, at};
 ghost use Rattle.orders.specs.Changes.{Fits, changed_by};
 ghost use Rattle.orders.specs.Seen.{cancel_of, replace_of};
 ghost use Rattle.orders.specs.PutBack.{put_back};
-ghost use Rattle.undo_list.specs.Undoing.{IsWithin};
+ghost use Rattle.hint_index.specs.undo_list.Undoing.{IsWithin};
 ghost use Rattle.undo_orders.specs.PuttingBack.{changed_at};
 
 use hint_index::SettledList;
@@ -46,8 +46,8 @@ impl Drop for UndoOrders {
 
 impl Model for UndoOrders {
     ghost use Rattle.std.specs.Prelude.{◌-◌, ◌≤◌, length, vec_len, vec_capacity};
-    ghost use Rattle.order_machine.specs.OrderRecord.{OrderRecord};
-    ghost use Rattle.undo_list.specs.Undoing.{Undoable};
+    ghost use Rattle.orders.specs.order_machine.OrderRecord.{OrderRecord};
+    ghost use Rattle.hint_index.specs.undo_list.Undoing.{Undoable};
     ghost use Rattle.undo_orders.specs.PuttingBack.{settled_of};
 
     ghost Value = { Undoable OrderRecord };

@@ -1,7 +1,7 @@
 //! Messages as fields, in texts in which `|` stands for SOH.
 
 use crate::words::{first_word, number};
-use fix_fields::{Fields, SOH, split};
+use fix_types::{Fields, SOH, split};
 use std::alloc::{AllocError, Global};
 use std::str;
 

@@ -1,11 +1,11 @@
 //! FIX messages as types: read from fields, and written in their own order.
 
 use crate::fields::{fields_of, shown};
-use fix_fields::{Fields, SessionRefusal};
-use fix_types::{CancelReject, CancelRequest, NewOrder, ReplaceRequest, Report};
-use fix_values::TextFault;
+use fix_types::{
+    CancelReject, CancelRequest, Fields, NewOrder, ReplaceRequest, Report, SessionRefusal,
+    TextFault, TextWire,
+};
 use std::alloc::{AllocError, Global};
-use wire_law::TextWire;
 
 /// A message, or why fields are none.
 type Read<M> = Result<M, SessionRefusal>;

@@ -12,9 +12,10 @@ ghost use Rattle.gate_core.specs.Steps.{Grows, AfterFrame, Ready, Stepped};
 
 use super::Parts;
 use super::client_messages::Asked;
-use fix_session::{SessionOut, SessionTurn};
 use fix_types::AppMsg;
-use gate_events::{Batch, ClientFrame, ClientNumber, PortNumber, told_client, told_port};
+use gate_events::{
+    Batch, ClientFrame, ClientNumber, PortNumber, SessionOut, SessionTurn, told_client, told_port,
+};
 use gate_sessions::{Issues, client_frame};
 use std::alloc::{AllocError, Global};
 use std::hash::BuildHasher;

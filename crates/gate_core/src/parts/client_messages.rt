@@ -3,7 +3,7 @@
 ghost use Rattle.std.specs.Prelude.{◌≡◌, ◌<◌, ◌+◌, length, map, IfOk};
 ghost use Rattle.fix_types.specs.Application.{body_fields};
 ghost use Rattle.ouch_codec.specs.Inbound.{inbound_bytes};
-ghost use Rattle.to_market.specs.PortsSeen.{port_seen};
+ghost use Rattle.gate_settings.specs.to_market.PortsSeen.{port_seen};
 ghost use Rattle.gate_law.specs.Settings.{Settings, port_of};
 ghost use Rattle.gate_law.specs.Lists.{Lists};
 ghost use Rattle.gate_law.specs.Sessions.{stands_of};

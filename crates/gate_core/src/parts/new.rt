@@ -2,7 +2,7 @@
 
 ghost use Rattle.std.specs.Prelude.{◌≡◌, ◌≤◌, ℕ, [], None, length, map, IfOk};
 ghost use Rattle.order_core.specs.State.{IsAfterTurns, core_clients, core_numbers};
-ghost use Rattle.to_market.specs.TermsSeen.{terms_seen};
+ghost use Rattle.gate_settings.specs.to_market.TermsSeen.{terms_seen};
 ghost use Rattle.gate_settings.specs.Kept.{IsNamed};
 ghost use Rattle.gate_law.specs.Settings.{client_name, terms};
 ghost use Rattle.gate_law.specs.Lists.{nothing_yet};

@@ -1,7 +1,7 @@
 //! A port's packet of which the session delivers no payload.
 
 ghost use Rattle.std.specs.Prelude.{◌≡◌, ◌<◌, ◌+◌, ◌^◌, ℕ, length, None, IfOk};
-ghost use Rattle.soup_packets.specs.declared.packet.Packet as packet;
+ghost use Rattle.gate_law.specs.soup_packets.declared.packet.Packet as packet;
 ghost use Rattle.gate_law.specs.Settings.{Settings};
 ghost use Rattle.gate_law.specs.Events.{PortPacket};
 ghost use Rattle.gate_law.specs.Lists.{Lists};
@@ -15,8 +15,8 @@ ghost use Rattle.gate_core.specs.Hearing.{IsSentAgain};
 
 use super::Parts;
 use gate_events::{Batch, PortNumber, told_port};
+use gate_law::Packet;
 use gate_sessions::port_packet;
-use soup_packets::Packet;
 use soup_session::{PortFault, PortOut, PortState, PortTurn};
 use std::alloc::{AllocError, Global};
 use std::hash::BuildHasher;

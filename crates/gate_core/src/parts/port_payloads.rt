@@ -3,13 +3,13 @@
 ghost use Rattle.std.specs.Prelude.{◌≡◌, ◌<◌, ◌≤◌, ◌+◌, ◌^◌, ◌&&◌, ℕ, List, [], Some, None, length, map, nat_le};
 ghost use Rattle.std.specs.Prelude.{is_some, IfOk, IfSome};
 ghost use Rattle.order_core.specs.State.{CoreHasRoom};
-ghost use Rattle.order_ledger.specs.Seen.{client_seen};
+ghost use Rattle.order_core.specs.order_ledger.Seen.{client_seen};
 ghost use Rattle.gate_law.specs.Settings.{Settings};
 ghost use Rattle.gate_law.specs.Lists.{Lists, port_called};
 ghost use Rattle.gate_law.specs.Events.{PortPacket};
-ghost use Rattle.soup_packets.specs.declared.packet.Packet.{Packet};
+ghost use Rattle.gate_law.specs.soup_packets.declared.packet.Packet.{Packet};
 ghost use Rattle.fix_types.specs.Application.{body_fields};
-ghost use Rattle.market_messages.specs.Turns.{market_fault_number};
+ghost use Rattle.order_core.specs.market_messages.Turns.{market_fault_number};
 ghost use Rattle.soup_session.specs.Faults.{fault_number};
 ghost use Rattle.soup_session.specs.Table.{OnPacket};
 ghost use Rattle.gate_core.specs.declared.parts.Parts.{Parts};

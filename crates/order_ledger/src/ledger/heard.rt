@@ -3,8 +3,8 @@
 ghost use Rattle.std.specs.Prelude.{◌≡◌, ◌≤◌, ◌+◌, ◌<◌, [], None, length, map, IfOk, OnErr};
 ghost use Rattle.std.specs.List.{count_by};
 ghost use Rattle.fix_types.specs.Application.{body_fields};
-ghost use Rattle.order_law.specs.History.{Entry};
-ghost use Rattle.order_law.specs.Told.{told_of_entry};
+ghost use Rattle.new_orders.specs.order_law.History.{Entry};
+ghost use Rattle.new_orders.specs.order_law.Told.{told_of_entry};
 ghost use Rattle.order_ledger.specs.Seen.{client_seen, tells_report};
 
 use super::OrderLedger;
@@ -12,9 +12,9 @@ use crate::market_error::MarketError;
 use crate::turns::{ChangedOrder, MarketTurn};
 use fix_types::AppBody;
 use market_messages::{Judged, hear};
-use ouch_codec::{DecodeRefusal, Outbound};
 use std::alloc::Global;
 use std::hash::BuildHasher;
+use to_market::{DecodeRefusal, Outbound};
 
 impl<S: BuildHasher + Drop> OrderLedger<S> {
     ghost use Rattle.order_machine.specs.Machine.{market_step};

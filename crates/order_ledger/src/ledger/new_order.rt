@@ -8,16 +8,12 @@ use super::requests::one_body;
 use super::{OrderLedger, terms_at};
 use crate::turns::ClientTurn;
 use crate::used_ids::UsedId;
-use client_requests::Sender;
+use client_requests::{Order, Sender};
 use fix_types::{AppBody, NewOrder};
-use fix_values::ClOrdId;
-use new_orders::{NewOrderTurn, on_new_order};
-use order_table::GivenToken;
-use orders::Order;
-use ouch_codec::Inbound;
+use new_orders::{GivenToken, NewOrderTurn, on_new_order};
 use std::alloc::{AllocError, Global};
 use std::hash::BuildHasher;
-use to_market::PortState;
+use to_market::{ClOrdId, Inbound, PortState};
 
 impl<S: BuildHasher + Drop> OrderLedger<S> {
     ghost use Rattle.order_ledger.specs.Meets.{MeetsFields};

@@ -8,15 +8,14 @@ ghost use Rattle.to_market.specs.PortsSeen.{port_seen};
 use super::{OrderLedger, terms_at};
 use crate::turns::ClientTurn;
 use crate::used_ids::UsedId;
-use client_requests::{CancelTurn, ReplaceTurn, Sender, on_cancel, on_replace};
+use client_requests::{
+    CancelTurn, Cancelling, ReplaceTurn, Replacing, Sender, on_cancel, on_replace,
+};
 use fix_types::{AppBody, CancelRequest, ReplaceRequest};
-use fix_values::ClOrdId;
-use order_table::GivenToken;
-use orders::{Cancelling, Replacing};
-use ouch_codec::Inbound;
+use new_orders::GivenToken;
 use std::alloc::{AllocError, Global};
 use std::hash::BuildHasher;
-use to_market::PortState;
+use to_market::{ClOrdId, Inbound, PortState};
 
 impl<S: BuildHasher + Drop> OrderLedger<S> {
     ghost use Rattle.order_ledger.specs.Meets.{GoByNumbers, MeetsFields};

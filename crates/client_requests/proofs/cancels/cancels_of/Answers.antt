@@ -1,6 +1,6 @@
 use Rattle.std.proofs.Common.{◌≡◌, ℕ, List, [], ◌∷◌, sym, ap, ◌∙◌}
 use Rattle.std.specs.Prelude.{Option, option_map}
-use Rattle.tokens.proofs.Digits.{printable-token}
+use Rattle.to_market.proofs.tokens.Digits.{printable-token}
 use Rattle.order_machine.specs.OrderRecord.{OrderRecord, live_token, replacements}
 use Rattle.orders.specs.declared.requests.Replacing.{Replacing}
 use Rattle.orders.specs.Seen.{replace_seen}

@@ -1,7 +1,7 @@
 use Rattle.std.proofs.Common.{◌≡◌, ◌<◌, ◌∙◌, List, length, Some, slice_get, slice_set, get_or, ap, sym, arith}
 use Rattle.std.proofs.lemmas.Option.{slice_get-get_or}
 use Rattle.std.proofs.lemmas.List.{set-get_or}
-use Rattle.desk_ends.specs.Rings.{Done}
+use Rattle.desk_side.specs.desk_ends.Rings.{Done}
 use Rattle.desk_side.proofs.Moves.{ways-twice}
 use Rattle.desk_steps.proofs.Comparing.{one-begun, one-told, seat-names, seats-twice, way-names}
 use Rattle.desk_steps.proofs.closing.compare_all.Goals as goal

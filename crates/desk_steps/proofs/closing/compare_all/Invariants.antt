@@ -1,5 +1,5 @@
 use Rattle.std.proofs.Common.{◌≡◌}
-use Rattle.desk_ends.specs.Seats.{SeatsLooked, WaysLooked}
+use Rattle.desk_side.specs.desk_ends.Seats.{SeatsLooked, WaysLooked}
 use Rattle.desk_steps.specs.Settling.{AreBegun}
 use Rattle.desk_steps.proofs.Comparing.{FirstBegun, FirstTold}
 use Rattle.desk_steps.proofs.closing.compare_all.Given as goal

@@ -1,6 +1,6 @@
 use Rattle.std.proofs.Common.{◌≡◌, ◌+◌, List, Some, length, slice_get}
-use Rattle.desk_ends.specs.Rings.{NamedInlet, NamedOutlet}
-use Rattle.desk_ends.specs.Seats.{SeatState}
+use Rattle.desk_side.specs.desk_ends.Rings.{NamedInlet, NamedOutlet}
+use Rattle.desk_side.specs.desk_ends.Seats.{SeatState}
 use Rattle.desk_steps.specs.Agreeing.{Agrees}
 use Rattle.desk_steps.specs.Settling.{HistoryGoesOn, Shrinks}
 use Rattle.desk_steps.proofs.closing.drain.Given as goal

@@ -1,6 +1,6 @@
 use Rattle.std.proofs.Common.{◌≡◌, ◌<◌, ◌∙◌, Some, length, slice_get, sym, ap, arith}
 use Rattle.std.proofs.lemmas.Option.{slice_get-get_or, slice_get_within}
-use Rattle.desk_ends.specs.Rings.{Done}
+use Rattle.desk_side.specs.desk_ends.Rings.{Done}
 use Rattle.desk_steps.proofs.Draining.{goes-further, goes-nowhere, one-drained, shrinks-more, shrinks-none, told-inside}
 use Rattle.desk_steps.proofs.closing.drain_all.Goals as goal
 

@@ -1,6 +1,6 @@
 use Rattle.std.proofs.Common.{◌≡◌, ◌<◌, ℕ, List, Some, slice_get}
-use Rattle.desk_ends.specs.Rings.{Done, NamedInlet, NamedOutlet}
-use Rattle.desk_ends.specs.Ends.{inlet_of}
+use Rattle.desk_side.specs.desk_ends.Rings.{Done, NamedInlet, NamedOutlet}
+use Rattle.desk_side.specs.desk_ends.Ends.{inlet_of}
 use Rattle.desk_steps.specs.Agreeing.{Agrees}
 use Rattle.desk_steps.specs.Settling.{HistoryGoesOn, KnowsNone, Shrinks}
 use Rattle.desk_steps.proofs.closing.drain_all.Given as goal

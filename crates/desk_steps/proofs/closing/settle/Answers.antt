@@ -1,6 +1,6 @@
 use Rattle.std.proofs.Common.{◌∙◌, List, refl, sym, subst}
 use Rattle.std.proofs.lemmas.Result.{on_ok_weaker}
-use Rattle.desk_ends.specs.Rings.{Done}
+use Rattle.desk_side.specs.desk_ends.Rings.{Done}
 use Rattle.desk_side.proofs.Moves.{ways-twice}
 use Rattle.desk_steps.specs.Agreeing.{DeskState}
 use Rattle.desk_steps.specs.Settling.{AreBegun, AreSettled, AreTold}

@@ -1,6 +1,6 @@
 use Rattle.std.proofs.Common.{rules, ◌≡◌, ◌<◌, ◌++◌, ◌+◌, ◌∙◌, ℕ, List, map, reverse, length, ap, arith, Err}
 use Rattle.std.specs.Prelude.{IsErrOf}
-use Rattle.fix_fields.specs.Field.{Message}
+use Rattle.gate_law.specs.fix_fields.Field.{Message}
 use Rattle.order_accounts.specs.declared.reading_fault.ReadingFault.{ReadingFault}
 use Rattle.order_accounts.specs.declared.reading_fault.ReadingFault.TheVariants.{TooLarge}
 use Rattle.gate_law.specs.Holds.{told_by_batches}

@@ -1,11 +1,11 @@
 use Rattle.std.proofs.Common.{◌≡◌, ◌+◌, ◌∷◌, ◌∙◌, ap, sym, arith, length, take, take_all, List, reverse}
 use Rattle.gate_events.specs.declared.event.Event.{Event}
 use Rattle.gate_events.specs.declared.batch.Batch.{Batch}
-use Rattle.soup_session.proofs.Closes.{ends_by_close}
+use Rattle.gate_core.proofs.soup_session.Closes.{ends_by_close}
 use Rattle.gate_audit.proofs.Following.{handled-again}
 use Rattle.gate_law.specs.Settings.{port_terms}
 use Rattle.gate_law.specs.Events.{History}
-use Rattle.soup_session.specs.Table.{LoginTerms}
+use Rattle.gate_core.specs.soup_session.Table.{LoginTerms}
 use Rattle.gate_core.specs.Core.{history, turn_of}
 use Rattle.gate_audit.specs.Again.{called_again}
 use Rattle.gate_audit.proofs.Calling.{again-more, again-past, has-of, history-length, history-more}

@@ -1,6 +1,6 @@
 use Rattle.std.proofs.Common.{◌≤◌, ◌+◌, take}
 use Rattle.gate_law.specs.Settings.{port_terms}
-use Rattle.soup_session.specs.Calls.{next_of}
+use Rattle.gate_core.specs.soup_session.Calls.{next_of}
 use Rattle.gate_core.specs.Core.{history}
 use Rattle.gate_audit.specs.Again as read
 use Rattle.gate_audit.specs.Called.{IsAgain}

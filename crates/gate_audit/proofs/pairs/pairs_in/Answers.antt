@@ -1,4 +1,5 @@
-use Rattle.std.proofs.Common.{rules, ◌≡◌, ◌<◌, ◌+◌, ◌∙◌, ℕ, List, reverse, length, ap, refl, sym, subst, arith, Err, get_or}
+use Rattle.std.proofs.Common.{rules, ◌≡◌, ◌<◌, ◌+◌, ◌∙◌, ℕ, List, reverse, length, ap, refl, sym, subst, arith, Err}
+use Rattle.std.proofs.Common.{get_or}
 use Rattle.order_shelves.specs.Shelved.{HasReports}
 use Rattle.std.specs.Prelude.{IsErrOf}
 use Rattle.std.specs.List.{All}
@@ -7,9 +8,9 @@ use Rattle.order_accounts.specs.declared.reading_fault.ReadingFault.TheVariants.
 use Rattle.gate_law.specs.Settings.{ClientSettings, Settings, port_of}
 use Rattle.gate_law.specs.Holds.{told_by_batches}
 use Rattle.order_law.specs.History.{Terms}
-use Rattle.gate_settings.specs.Kept.{IsOnPort}
+use Rattle.gate_core.specs.gate_settings.Kept.{IsOnPort}
 use Rattle.gate_core.specs.Core.{history}
-use Rattle.soup_session.proofs.Closes.{ends_by_close}
+use Rattle.gate_core.proofs.soup_session.Closes.{ends_by_close}
 use Rattle.gate_audit.specs.Read.{for_clients, reports_to}
 use Rattle.gate_audit.specs.Pairs as read
 use Rattle.gate_audit.proofs.Pairing.{pairs-same, terms-at}

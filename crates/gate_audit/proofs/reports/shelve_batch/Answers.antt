@@ -1,6 +1,6 @@
 use Rattle.std.proofs.Common.{◌≡◌, ◌++◌, List, subst, sym, rules}
 use Rattle.std.proofs.lemmas.Result.{IfOk-weaker}
-use Rattle.fix_fields.specs.Field.{Message}
+use Rattle.gate_law.specs.fix_fields.Field.{Message}
 use Rattle.order_shelves.specs.Shelved.{HasReports}
 use Rattle.gate_audit.proofs.Shelved.{named, not-named}
 use Rattle.gate_audit.proofs.reports.shelve_batch.Goals as goal

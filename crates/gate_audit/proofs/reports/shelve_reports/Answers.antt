@@ -1,6 +1,6 @@
 use Rattle.std.proofs.Common.{◌≡◌, ◌∷◌, [], ◌++◌, List, arith, subst, rules, take}
 use Rattle.std.proofs.lemmas.List.{take_all}
-use Rattle.fix_fields.specs.Field.{Message}
+use Rattle.gate_law.specs.fix_fields.Field.{Message}
 use Rattle.order_shelves.specs.Shelved.{HasReports}
 use Rattle.gate_audit.proofs.Shelved.{one-more}
 use Rattle.gate_audit.proofs.reports.shelve_reports.Goals as goal

@@ -1,5 +1,5 @@
 use Rattle.std.proofs.Common.{◌++◌, List, take}
-use Rattle.fix_fields.specs.Field.{Message}
+use Rattle.gate_law.specs.fix_fields.Field.{Message}
 use Rattle.order_shelves.specs.Shelved.{HasReports}
 use Rattle.gate_audit.proofs.reports.shelve_reports.Given as goal
 

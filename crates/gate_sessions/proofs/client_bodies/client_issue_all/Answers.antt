@@ -3,7 +3,7 @@ use Rattle.std.proofs.lemmas.List.{take_all}
 use Rattle.fix_types.specs.Application.{body_fields}
 use Rattle.session_law.specs.Frames.{told_of_out}
 use Rattle.session_law.specs.Runs.{Timed}
-use Rattle.session_writing.specs.Written.{told_bytes}
+use Rattle.fix_session.specs.session_writing.Written.{told_bytes}
 use Rattle.order_law.specs.Messages.{body_of}
 use Rattle.gate_law.specs.Settings.{client_name}
 use Rattle.gate_law.specs.Sessions.{client_outs, client_reports, issues}

@@ -2,7 +2,7 @@ use Rattle.std.proofs.Common.{◌≡◌, ◌+◌, ℕ, List, Option, length, map
 use Rattle.fix_types.specs.Application.{body_fields}
 use Rattle.session_law.specs.Runs.{Timed}
 use Rattle.session_law.specs.Frames.{told_of_out}
-use Rattle.session_writing.specs.Written.{told_bytes}
+use Rattle.fix_session.specs.session_writing.Written.{told_bytes}
 use Rattle.gate_law.specs.Settings.{Settings, client_name}
 use Rattle.gate_law.specs.Sessions.{client_outs, client_reports, issues}
 use Rattle.gate_sessions.specs.Lines.{ClientStands, ClientsSettledAs, ClientsLeave, ClientLinks, called_all}

@@ -1,6 +1,6 @@
 use Rattle.std.proofs.Common.{◌≡◌, ◌+◌, ℕ, List, Option, length, map, take}
-use Rattle.ouch_codec.specs.Inbound.{inbound_bytes}
-use Rattle.soup_session.specs.Table.{PortCall}
+use Rattle.order_law.specs.ouch_codec.Inbound.{inbound_bytes}
+use Rattle.gate_law.specs.soup_session.Table.{PortCall}
 use Rattle.gate_law.specs.Settings.{Settings}
 use Rattle.gate_law.specs.Sessions.{port_outs, sends}
 use Rattle.gate_sessions.specs.Lines.{PortStands, PortsSettledAs, PortsLeave, PortLinks, NextWithin, IsUpAt, called_all}

@@ -1,9 +1,10 @@
 use Rattle.std.proofs.Common.{◌≡◌, ◌∙◌, refl, sym, ap, subst, List, Ok, Err}
-use Rattle.gate_law.specs.Events as law
+use Rattle.gate_events.specs.gate_law.Events as law
 use Rattle.link_io.specs.declared.link_fault.LinkFault.{LinkFault}
 use Rattle.link_io.specs.declared.progress.Progress.{Progress}
 use Rattle.gate_workers.specs.ReadersWork.{HasReadAll}
-use Rattle.gate_workers.proofs.Run.{limit-goes_on, memory-goes_on, not_over-memory, ok-goes_on, over-not_memory, read_fault, read_none, read_step, read_to_end}
+use Rattle.gate_workers.proofs.Run.{limit-goes_on, memory-goes_on, not_over-memory, ok-goes_on, over-not_memory}
+use Rattle.gate_workers.proofs.Run.{read_fault, read_none, read_step, read_to_end}
 use Rattle.gate_workers.proofs.reader.read_all.Goals as goal
 
 pub loop-init : goal.loop-init

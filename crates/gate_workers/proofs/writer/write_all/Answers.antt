@@ -1,11 +1,12 @@
 use Rattle.std.proofs.Common.{◌≡◌, ◌∙◌, refl, sym, ap, subst, [], List, Ok, Err}
-use Rattle.gate_law.specs.Events as law
+use Rattle.gate_events.specs.gate_law.Events as law
 use Rattle.link_io.specs.declared.link_fault.LinkFault.{LinkFault}
 use Rattle.link_io.specs.declared.writer.Wrote.{Wrote}
 use Rattle.link_io.specs.Writing.{WriterState, unwritten}
 use Rattle.gate_workers.specs.WritersWork.{HasWritten}
 use Rattle.gate_workers.specs.declared.writer.WriterEnd.TheVariants.{Closed, Stopped}
-use Rattle.gate_workers.proofs.Run.{limit-goes_on, memory-goes_on, not_over-memory, ok-goes_on, over-not_memory, written_none, wrote_fault, wrote_last, wrote_more, wrote_nothing}
+use Rattle.gate_workers.proofs.Run.{limit-goes_on, memory-goes_on, not_over-memory, ok-goes_on, over-not_memory}
+use Rattle.gate_workers.proofs.Run.{written_none, wrote_fault, wrote_last, wrote_more, wrote_nothing}
 use Rattle.gate_workers.proofs.writer.write_all.Goals as goal
 
 none-unwritten : (w : WriterState) → w.bytes ≡ [] → w.held ≡ [] → unwritten w ≡ []

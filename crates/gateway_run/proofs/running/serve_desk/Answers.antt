@@ -3,7 +3,7 @@ use denote.Param.{param}
 use denote.Param.Send.{IsSend, sendable}
 use denote.Ref.{NamedLft}
 use Rattle.std.proofs.Crossing.{crosses}
-use Rattle.desk.proofs.Sent.{inlet_send, outlet_send, shared_sync}
+use Rattle.desk_gates.proofs.desk.Sent.{inlet_send, outlet_send, shared_sync}
 use Rattle.run_lines.specs.contracts.counted.CountedLinks as CountedLinks
 use Rattle.run_lines.specs.contracts.opener.RunOpener as RunOpener
 use Rattle.gateway_run.specs.contracts.port_faults.PortLinks as PortLinks

@@ -2,7 +2,7 @@ use Rattle.std.proofs.Common.{List, length, subst, sym, ap, ◌∙◌}
 use Rattle.std.proofs.lemmas.List.{length-map}
 use Rattle.std.specs.Prelude.{◌==◌, ◌&&◌, not, map}
 use Rattle.std.specs.Option.{is_some}
-use Rattle.fix_fields.specs.Field.{Message}
+use Rattle.journal_pages.specs.fix_fields.Field.{Message}
 use Rattle.gate_events.specs.declared.batch.Batch.{Batch}
 use Rattle.gate_events.specs.declared.batch.LinkOut.{LinkOut}
 use Rattle.gate_events.specs.Seen.{link_out_seen}

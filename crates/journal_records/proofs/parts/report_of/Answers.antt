@@ -1,7 +1,7 @@
 use Rattle.std.proofs.Common.{◌≡◌, List, ℕ, ◌++◌, length, Option, ap, subst, ◌∙◌, arith}
 use Rattle.std.specs.Option.{IfSome}
-use Rattle.fix_fields.specs.Field.{Message, fields_text}
-use Rattle.fix_fields.specs.Printed.{fields_in}
+use Rattle.journal_pages.specs.fix_fields.Field.{Message, fields_text}
+use Rattle.journal_pages.specs.fix_fields.Printed.{fields_in}
 use Rattle.journal_pages.specs.Seen.{record_seen}
 use Rattle.journal_records.specs.Events.{payload_fields}
 use Rattle.journal_records.proofs.Parting.{IsReport, prints, report-of, same-fields, same-size}

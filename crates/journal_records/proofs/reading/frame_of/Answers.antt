@@ -1,9 +1,9 @@
 use Rattle.std.proofs.Common.{◌≡◌, List, ℕ, [], length, Option, Some, sym, ap, subst, ◌∙◌, arith}
 use Rattle.std.specs.Option.{IfSome}
 use Rattle.std.specs.Prelude.{unwrap_or}
-use Rattle.fix_fields.specs.Field.{Message}
-use Rattle.fix_fields.specs.Reading.{fields_of}
-use Rattle.fix_fields.proofs.Reading.{fields_of-found}
+use Rattle.journal_pages.specs.fix_fields.Field.{Message}
+use Rattle.journal_pages.specs.fix_fields.Reading.{fields_of}
+use Rattle.journal_pages.proofs.fix_fields.Reading.{fields_of-found}
 use Rattle.journal_pages.specs.Seen.{record_seen}
 use Rattle.journal_records.proofs.Rows.{frame-of}
 use Rattle.journal_records.proofs.reading.frame_of.Goals as goal

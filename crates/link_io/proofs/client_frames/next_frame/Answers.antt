@@ -1,5 +1,5 @@
 use Rattle.std.proofs.Common.{List, Some, Ok, sym, subst}
-use Rattle.fix_fields.specs.Field.{Field}
+use Rattle.fix_framing.specs.fix_fields.Field.{Field}
 use Rattle.link_io.specs.Decoding.{NextFrame}
 use Rattle.link_io.proofs.Framing.{next_some, next_none, next_malformed}
 use Rattle.link_io.proofs.client_frames.next_frame.Goals as goal

@@ -1,5 +1,5 @@
 use Rattle.std.proofs.Common.{arith, false}
-use Rattle.order_law.specs.Life.{marked}
+use Rattle.market_law.specs.order_law.Life.{marked}
 use Rattle.market_book.proofs.Lists.{changed_more}
 use Rattle.market_book.proofs.order.mark.Goals as goal
 

@@ -1,5 +1,5 @@
 use Rattle.std.proofs.Common.{◌≡◌, ◌++◌, map, take, drop}
-use Rattle.order_law.specs.Life.{marked}
+use Rattle.market_law.specs.order_law.Life.{marked}
 use Rattle.market_book.proofs.order.mark.Given as goal
 
 abbrev pub invariant-loop-trade : goal.invariant-loop-trade

@@ -1,5 +1,5 @@
 use Rattle.std.proofs.Common.{arith, sym, false}
-use Rattle.order_law.specs.Life.{stands_as}
+use Rattle.market_law.specs.order_law.Life.{stands_as}
 use Rattle.market_book.proofs.Lists.{found_here, none_more}
 use Rattle.market_book.proofs.order.standing.Goals as goal
 

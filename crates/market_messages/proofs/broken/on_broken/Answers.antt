@@ -1,7 +1,7 @@
 use Rattle.std.proofs.Common.{rules, ◌≡◌, true, false, Some, refl, sym, ap, ◌∙◌}
 use Rattle.std.specs.Prelude.{option_map}
 use Rattle.std.specs.List.{find}
-use Rattle.order_law.specs.Life.{is_of}
+use Rattle.orders.specs.order_law.Life.{is_of}
 use Rattle.order_machine.specs.OrderRecord.{record_life, stands_told}
 use Rattle.orders.specs.Seen.{told_seen}
 use Rattle.market_messages.proofs.BrokenRow.{break-accepted, broken-is-lawful, broken-now, broken-unlawful}

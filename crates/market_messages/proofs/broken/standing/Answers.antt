@@ -1,9 +1,9 @@
 use Rattle.std.proofs.Common.{rules, ◌≡◌, ◌-◌, length, reverse, sym, ap, ◌∙◌}
 use Rattle.std.specs.Prelude.{option_map}
 use Rattle.std.proofs.lemmas.Option.{slice_get-get_or}
-use Rattle.hint_index.specs.Newest.{IsNewest}
+use Rattle.order_table.specs.hint_index.Newest.{IsNewest}
 use Rattle.orders.specs.Seen.{told_seen}
-use Rattle.hint_index.proofs.Newest.{newest-at, newest-none}
+use Rattle.order_table.proofs.hint_index.Newest.{newest-at, newest-none}
 use Rattle.market_messages.proofs.BrokenRow.{is_standing, standing-seen}
 use Rattle.market_messages.proofs.broken.standing.Goals as goal
 

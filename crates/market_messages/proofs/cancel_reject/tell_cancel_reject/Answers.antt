@@ -1,5 +1,5 @@
 use Rattle.std.proofs.Common.{Bool, bytes_eq, sym, ap, ◌∙◌}
-use Rattle.order_law.specs.Told as law
+use Rattle.orders.specs.order_law.Told as law
 use Rattle.order_machine.specs.OrderRecord.{OrderRecord, last_after, shown_as}
 use Rattle.to_client.specs.Pending.{cancel_in}
 use Rattle.orders.specs.Seen.{progressed}

@@ -1,6 +1,6 @@
 use Rattle.std.proofs.Common.{◌≡◌, ◌+◌, [], ◌∷◌, Some, sym, ap, ◌∙◌}
-use Rattle.fix_types.specs.Report.{report_fields}
-use Rattle.order_law.specs.Told as law
+use Rattle.orders.specs.fix_types.Report.{report_fields}
+use Rattle.orders.specs.order_law.Told as law
 use Rattle.order_machine.specs.OrderRecord.{OrderRecord, shown_as}
 use Rattle.to_client.specs.Pending.{cancel_in}
 use Rattle.orders.specs.Seen.{progressed}

@@ -1,7 +1,7 @@
 use Rattle.std.proofs.Common.{rules, ap, ◌∙◌}
 use Rattle.std.specs.Prelude.{◌==◌}
 use Rattle.std.specs.List.{list_any}
-use Rattle.order_law.specs.declared.trade.Trade.{Trade}
+use Rattle.orders.specs.order_law.declared.trade.Trade.{Trade}
 use Rattle.order_machine.specs.OrderRecord.{OrderRecord, record_life}
 use Rattle.market_messages.proofs.ExecutedRow.{any-seen}
 use Rattle.market_messages.proofs.executed.has_match.Goals as goal

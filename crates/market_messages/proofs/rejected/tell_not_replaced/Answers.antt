@@ -2,10 +2,10 @@ use Rattle.std.proofs.Common.{◌≡◌, ◌++◌, Bool, true, [], ◌∷◌, No
 use Rattle.std.specs.Prelude.{Option, not, option_to_list}
 use Rattle.std.specs.List.{list_any}
 use Rattle.std.proofs.lemmas.Bool.{and_parts}
-use Rattle.fix_types.specs.Application.{body_fields}
-use Rattle.order_law.specs.History.{Entry}
-use Rattle.order_law.specs.Life.{is_closed}
-use Rattle.order_law.specs.Told as law
+use Rattle.orders.specs.fix_types.Application.{body_fields}
+use Rattle.orders.specs.order_law.History.{Entry}
+use Rattle.orders.specs.order_law.Life.{is_closed}
+use Rattle.orders.specs.order_law.Told as law
 use Rattle.order_machine.specs.OrderRecord.{OrderRecord, replacements, shown_as}
 use Rattle.orders.specs.Seen.{progressed}
 use Rattle.to_client.specs.Pending.{cancel_in, rejects_of}

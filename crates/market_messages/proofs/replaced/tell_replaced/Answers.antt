@@ -1,10 +1,10 @@
 use Rattle.std.proofs.Common.{◌≡◌, ◌+◌, Bool, bytes_eq, true, false, None, refl, subst, sym, ap, ◌∙◌, codes}
 use Rattle.std.specs.Prelude.{IfSome, Option, Some, option_map, option_to_list}
-use Rattle.fix_types.specs.Report.{report_fields}
-use Rattle.order_law.specs.History.{Entry}
-use Rattle.fix_fields.specs.Field.{text}
-use Rattle.order_law.specs.Told as law
-use Rattle.order_law.specs.Verdicts.{is_replace}
+use Rattle.orders.specs.fix_types.Report.{report_fields}
+use Rattle.orders.specs.order_law.History.{Entry}
+use Rattle.order_machine.specs.fix_fields.Field.{text}
+use Rattle.orders.specs.order_law.Told as law
+use Rattle.orders.specs.order_law.Verdicts.{is_replace}
 use Rattle.order_machine.specs.OrderRecord.{OrderRecord, last_after, shown_as}
 use Rattle.orders.specs.Changes.{changed_by, with_quantities}
 use Rattle.orders.specs.declared.change.Change.{Change}

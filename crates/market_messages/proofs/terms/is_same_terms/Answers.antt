@@ -1,7 +1,7 @@
 use Rattle.std.proofs.Common.{rules, ◌≡◌, ◌∙◌, bytes_eq}
 use Rattle.std.specs.Prelude.{◌==◌, ◌&&◌}
 use Rattle.ouch_codec.specs.Parts.{unpadded}
-use Rattle.fix_fields.specs.Field.{character, text}
+use Rattle.order_machine.specs.fix_fields.Field.{character, text}
 use Rattle.market_messages.specs.Sides.{fix_side}
 use Rattle.market_messages.proofs.AcceptedRow.{same-sides}
 use Rattle.market_messages.proofs.terms.is_same_terms.Goals as goal

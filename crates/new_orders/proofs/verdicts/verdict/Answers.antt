@@ -1,5 +1,5 @@
 use Rattle.std.proofs.Common.{rules, length}
-use Rattle.fix_types.specs.NewOrder.{new_order_fields}
+use Rattle.client_requests.specs.fix_types.NewOrder.{new_order_fields}
 use Rattle.order_machine.specs.Table.{open_count}
 use Rattle.to_market.specs.PortsSeen.{port_seen}
 use Rattle.new_orders.proofs.NewVerdict.{Passes, by_fields, full, spent}

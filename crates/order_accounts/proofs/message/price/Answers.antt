@@ -1,5 +1,5 @@
-use Rattle.fix_fields.specs.Field.{text}
-use Rattle.fixed_point.specs.Decimal.{worth}
+use Rattle.order_law.specs.fix_fields.Field.{text}
+use Rattle.order_law.specs.fixed_point.Decimal.{worth}
 use Rattle.order_accounts.proofs.Numbers.{counted_ok, counted_none, counted_large}
 use Rattle.order_accounts.proofs.message.price.Goals as goal
 

@@ -1,9 +1,10 @@
-use Rattle.std.proofs.Common.{◌≡◌, ◌<◌, ◌^◌, [], length, take, map, sym, subst, ap, ◌∙◌, arith, take_all, length-append, length-take-le}
-use Rattle.order_law.specs.History.{OrderHistory}
+use Rattle.std.proofs.Common.{◌≡◌, ◌<◌, ◌^◌, [], length, take, map, sym, subst, ap, ◌∙◌, arith, take_all}
+use Rattle.std.proofs.Common.{length-append, length-take-le}
+use Rattle.outstanding.specs.order_law.History.{OrderHistory}
 use Rattle.order_machine.proofs.Running.{headline-of}
 use Rattle.order_core.specs.State.{OrderCoreState, IsAfterTurns, core_clients, core_numbers}
 use Rattle.order_core.specs.Runs.{run_history, is_known_client}
-use Rattle.to_market.specs.TermsSeen.{terms_seen}
+use Rattle.order_ledger.specs.to_market.TermsSeen.{terms_seen}
 use Rattle.order_core.proofs.Histories.{history-more, length-onto, passes-at}
 use Rattle.order_core.proofs.Standing.{after-by_parts}
 use Rattle.order_core.proofs.Turns.{parts-of}

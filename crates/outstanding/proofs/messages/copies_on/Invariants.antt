@@ -1,5 +1,5 @@
 use Rattle.std.proofs.Common.{◌≡◌, map, take}
-use Rattle.ouch_codec.specs.Inbound.{inbound_bytes}
+use Rattle.order_law.specs.ouch_codec.Inbound.{inbound_bytes}
 use Rattle.outstanding.specs.Kept.{bytes_on}
 use Rattle.outstanding.specs.Marks.{unanswered}
 use Rattle.outstanding.proofs.messages.copies_on.Given as goal

@@ -1,5 +1,5 @@
 use Rattle.std.proofs.Common.{IfSome, subst}
-use Rattle.batch_lines.specs.declared.flags.Flags.{Flags}
+use Rattle.gate_lines.specs.batch_lines.declared.flags.Flags.{Flags}
 use Rattle.gate_lines.specs.Scripts.{PrintsAll}
 use Rattle.script_command.proofs.program.run_program.Goals as goal
 

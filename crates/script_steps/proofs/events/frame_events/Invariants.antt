@@ -1,6 +1,6 @@
 -- An event for each frame that was taken.
 use Rattle.std.proofs.Common.{◌≡◌, map}
-use Rattle.gate_law.specs.Events as law
+use Rattle.gate_journal.specs.gate_law.Events as law
 use Rattle.gate_events.specs.Seen.{event_seen}
 use Rattle.script_steps.proofs.events.frame_events.Given as goal
 

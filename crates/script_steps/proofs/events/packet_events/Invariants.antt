@@ -1,6 +1,6 @@
 -- An event for each packet that was taken.
 use Rattle.std.proofs.Common.{◌≡◌, map}
-use Rattle.gate_law.specs.Events as law
+use Rattle.gate_journal.specs.gate_law.Events as law
 use Rattle.gate_events.specs.Seen.{event_seen}
 use Rattle.script_steps.proofs.events.packet_events.Given as goal
 

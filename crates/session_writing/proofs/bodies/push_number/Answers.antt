@@ -1,7 +1,7 @@
 use Rattle.std.proofs.Common.{ap, ◌∙◌, List, ℕ, arith}
 use Rattle.std.specs.List.{list_all}
-use Rattle.fix_fields.specs.Field.{is_inside}
-use Rattle.fix_fields.proofs.Decimals.{inside-decimal}
+use Rattle.fix_framing.specs.fix_fields.Field.{is_inside}
+use Rattle.fix_framing.proofs.fix_fields.Decimals.{inside-decimal}
 use Rattle.session_writing.proofs.bodies.push_number.Goals as goal
 
 pub push-requires-clause-value : goal.push-requires-clause-value

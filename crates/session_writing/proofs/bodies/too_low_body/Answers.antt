@@ -1,5 +1,5 @@
 use Rattle.std.proofs.Common.{List, ℕ, sym, subst, arith, ◌∙◌}
-use Rattle.fix_fields.specs.Field.{IsValue}
+use Rattle.fix_framing.specs.fix_fields.Field.{IsValue}
 use Rattle.session_writing.proofs.Digits.{too-low-inside}
 use Rattle.session_writing.proofs.bodies.too_low_body.Goals as goal
 

@@ -1,5 +1,5 @@
 use Rattle.std.proofs.Common.{◌≡◌, ◌++◌, map, take}
-use Rattle.session_law.specs.Frames.{told_of_out}
+use Rattle.session_reading.specs.session_law.Frames.{told_of_out}
 use Rattle.session_writing.specs.Written.{told_bytes}
 use Rattle.session_writing.proofs.output.append_written.Given as goal
 

@@ -1,9 +1,9 @@
 use Rattle.std.proofs.Common.{List, ◌++◌, ◌∷◌, [], ap, ◌∙◌}
-use Rattle.fix_fields.specs.Field.{Field, field}
-use Rattle.fix_fields.specs.Printed.{fields_in}
+use Rattle.fix_framing.specs.fix_fields.Field.{Field, field}
+use Rattle.fix_framing.specs.fix_fields.Printed.{fields_in}
 use Rattle.fix_stamp.specs.Stamp.{stamp_text}
-use Rattle.session_law.specs.Messages.{number_as_field}
-use Rattle.session_law.specs.Frames.{again_fields, issue_fields, kind_text}
+use Rattle.session_reading.specs.session_law.Messages.{number_as_field}
+use Rattle.session_reading.specs.session_law.Frames.{again_fields, issue_fields, kind_text}
 use Rattle.session_writing.specs.Heads.{frame_with}
 use Rattle.session_writing.proofs.output.printed_frame.Goals as goal
 

@@ -1,8 +1,8 @@
 use Rattle.std.proofs.Common.{◌≡◌, ◌<◌, ℕ, List, length, get_or, subst, sym}
-use Rattle.session_law.specs.declared.kind.Kind.{Kind}
+use Rattle.session_reading.specs.session_law.declared.kind.Kind.{Kind}
 use Rattle.session_writing.specs.declared.place.KeptPlace.{KeptPlace}
 use Rattle.session_writing.specs.declared.place.KeptPlace.TheVariants as places
-use Rattle.fix_fields.specs.Printed.{PrintsFields}
+use Rattle.fix_framing.specs.fix_fields.Printed.{PrintsFields}
 use Rattle.session_writing.specs.Keeping.{ArePlaces}
 use Rattle.session_writing.proofs.Keeping.{StandsAt, one-place, place-is}
 use Rattle.session_writing.proofs.resend.append_resent.Goals as goal

@@ -1,5 +1,5 @@
 use Rattle.std.proofs.Common.{◌≡◌, ◌+◌, ◌++◌, map, drop}
-use Rattle.session_law.specs.Session as law
+use Rattle.session_reading.specs.session_law.Session as law
 use Rattle.session_writing.specs.Keeping.{slots_at}
 use Rattle.session_writing.specs.Written.{told_bytes, told_frames}
 use Rattle.session_writing.proofs.resend.append_resent.Given as goal

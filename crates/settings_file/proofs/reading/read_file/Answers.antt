@@ -1,7 +1,7 @@
 use Rattle.std.proofs.Common.{◌≡◌, [], map, rules, sym, ap, subst, ◌∙◌}
 use Rattle.std.specs.Prelude.{codes, None}
 use Rattle.std.proofs.lemmas.Bool.{and_parts}
-use Rattle.fix_fields.specs.Field.{IsValue}
+use Rattle.gate_law.specs.fix_fields.Field.{IsValue}
 use Rattle.gate_law.specs.Limits.{is_name}
 use Rattle.gate_settings.proofs.Served.{named}
 use Rattle.toml.specs.View.{view}

@@ -1,6 +1,6 @@
 use Rattle.std.proofs.Common.{◌++◌, Bool, List, map, sym, ap, ◌∙◌}
-use Rattle.fix_types.specs.Application.{body_fields}
-use Rattle.fix_fields.specs.Field.{Message}
+use Rattle.orders.specs.fix_types.Application.{body_fields}
+use Rattle.order_law.specs.fix_fields.Field.{Message}
 use Rattle.order_law.specs.Told as law
 use Rattle.to_client.proofs.Answered.{rejected, without_cancel-shows}
 use Rattle.to_client.proofs.endings.push_cancel_rejected.Goals as goal

@@ -1,8 +1,8 @@
 use Rattle.std.proofs.Common.{◌++◌, List, [], map, sym, ap, ◌∙◌}
 use Rattle.std.specs.Prelude.{option_to_list}
 use Rattle.std.proofs.lemmas.Result.{IfOk-weaker}
-use Rattle.fix_types.specs.Application.{body_fields}
-use Rattle.fix_fields.specs.Field.{Message}
+use Rattle.orders.specs.fix_types.Application.{body_fields}
+use Rattle.order_law.specs.fix_fields.Field.{Message}
 use Rattle.to_client.proofs.Answered.{behind, last-shows, rest-shows, too_late-parts}
 use Rattle.to_client.proofs.endings.push_too_late.Goals as goal
 

@@ -1,6 +1,6 @@
 use Rattle.std.proofs.Common.{ap, ◌∙◌}
 use Rattle.std.proofs.lemmas.Result.{IfOk-weaker}
-use Rattle.fix_types.specs.Report.{report_fields}
+use Rattle.orders.specs.fix_types.Report.{report_fields}
 use Rattle.fix_values.specs.Reasons.{ord_rej_number}
 use Rattle.to_client.proofs.Refused.{refusal-told}
 use Rattle.to_client.proofs.refusing.refusal.Goals as goal

@@ -1,5 +1,5 @@
 use Rattle.std.proofs.Common.{rules, refl}
-use Rattle.fix_types.specs.declared.cancel_reject.CancelReject.{CancelReject}
+use Rattle.orders.specs.fix_types.declared.cancel_reject.CancelReject.{CancelReject}
 use Rattle.fix_values.specs.Reasons.{cxl_rej_number}
 use Rattle.to_client.proofs.OnRequests.{IsRejectOf, reject-told}
 use Rattle.to_client.proofs.rejecting.cancel_reject.Goals as goal

@@ -1,7 +1,7 @@
 use Rattle.std.proofs.Common.{ap, ◌∙◌}
 use Rattle.std.proofs.lemmas.Result.{IfOk-weaker}
-use Rattle.fix_types.specs.declared.report.Report.{Report}
-use Rattle.fix_types.specs.Report.{report_fields}
+use Rattle.orders.specs.fix_types.declared.report.Report.{Report}
+use Rattle.orders.specs.fix_types.Report.{report_fields}
 use Rattle.to_client.proofs.Reported.{report-told}
 use Rattle.to_client.proofs.reporting.report_on.Goals as goal
 

@@ -1,6 +1,6 @@
 use Rattle.std.proofs.Common.{ℕ, List, ap, ◌∙◌, arith}
 use Rattle.std.specs.List.{list_all}
-use Rattle.fix_fields.specs.Field.{is_inside}
+use Rattle.order_law.specs.fix_fields.Field.{is_inside}
 use Rattle.fix_values.proofs.Numbers.{inside-decimal}
 use Rattle.to_client.proofs.texts.number_text.Goals as goal
 

@@ -1,6 +1,6 @@
 use Rattle.std.proofs.Common.{ℕ, List, ap, ◌∙◌, arith}
 use Rattle.std.specs.List.{list_all}
-use Rattle.fix_fields.specs.Field.{is_inside}
+use Rattle.order_law.specs.fix_fields.Field.{is_inside}
 use Rattle.fixed_point.specs.Price.{price_text}
 use Rattle.fix_values.proofs.Inside.{inside-price_text}
 use Rattle.to_client.proofs.texts.price_text.Goals as goal

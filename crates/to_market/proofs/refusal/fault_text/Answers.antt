@@ -1,7 +1,7 @@
 use Rattle.std.proofs.Common.{◌≡◌, ◌<◌, ◌^◌, ◌++◌, true, ℕ, List, decimal, ap, ◌∙◌, arith}
 use Rattle.std.specs.Prelude.{codes}
 use Rattle.std.specs.List.{list_all}
-use Rattle.fix_fields.specs.Field.{is_inside}
+use Rattle.order_law.specs.fix_fields.Field.{is_inside}
 use Rattle.fix_values.proofs.Numbers.{inside-decimal}
 use Rattle.fix_values.proofs.Inside.{inside-append}
 use Rattle.to_market.proofs.refusal.fault_text.Goals as goal

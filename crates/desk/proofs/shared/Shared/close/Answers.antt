@@ -1,5 +1,5 @@
 use Rattle.std.proofs.Common.{sym, subst}
-use Rattle.gate_journal.specs.Kept.{Kept}
+use Rattle.desk_steps.specs.gate_journal.Kept.{Kept}
 use Rattle.desk_steps.specs.Settling.{AreSettled}
 use Rattle.desk.proofs.shared.Shared.close.Goals as goal
 

@@ -1,5 +1,5 @@
 use Rattle.std.proofs.Common.{subst}
-use Rattle.gate_law.specs.Holds.{Holds}
+use Rattle.gate_journal.specs.gate_law.Holds.{Holds}
 use Rattle.gate_journal.specs.Kept.{turns}
 use Rattle.desk_steps.specs.Recorded.{Recorded}
 use Rattle.desk_steps.proofs.Recording.{holds-after}

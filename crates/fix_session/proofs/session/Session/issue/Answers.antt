@@ -1,7 +1,7 @@
 use Rattle.std.proofs.Common.{◌≡◌, ap, subst, ◌∙◌}
 use Rattle.std.specs.Prelude.{IfOk}
 use Rattle.std.proofs.lemmas.Result.{IfOk-weaker}
-use Rattle.fix_stamp.specs.Stamp.{stamp_text}
+use Rattle.session_writing.specs.fix_stamp.Stamp.{stamp_text}
 use Rattle.session_law.specs.declared.kind.Kind.{Kind}
 use Rattle.fix_fields.specs.Field.{Message}
 use Rattle.session_law.specs.Frames.{frame_fields}

@@ -2,7 +2,7 @@ use Rattle.std.proofs.Common.{rules, ◌++◌, ◌∷◌, List, map, reverse, su
 use Rattle.std.specs.Prelude.{IsErrOf, Err}
 use Rattle.order_accounts.specs.declared.reading_fault.ReadingFault.{ReadingFault}
 use Rattle.order_accounts.specs.declared.reading_fault.ReadingFault.TheVariants.{TooLarge}
-use Rattle.fix_fields.specs.Field.{Message}
+use Rattle.gate_law.specs.fix_fields.Field.{Message}
 use Rattle.gate_audit.specs.Pairs.{HasTokenNumbers, SaidToClient, said_to}
 use Rattle.gate_audit.proofs.Counting.{has-next}
 use Rattle.gate_audit.proofs.openings.Openings.hear_all.Goals as goal

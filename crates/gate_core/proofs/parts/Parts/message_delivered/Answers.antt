@@ -1,5 +1,5 @@
 use Rattle.std.proofs.Common.{◌≡◌, ◌+◌, ℕ, List, [], ◌++◌, None, map, refl, sym, ap, ◌∙◌, subst}
-use Rattle.session_writing.specs.Written.{told_bytes}
+use Rattle.gate_events.specs.session_writing.Written.{told_bytes}
 use Rattle.session_law.specs.Runs.{OnMessage}
 use Rattle.soup_session.specs.declared.port_turn.PortOut.{PortOut}
 use Rattle.gate_law.specs.Settings.{port_of}

@@ -4,8 +4,8 @@ use Rattle.ouch_codec.specs.Inbound.{inbound_bytes}
 use Rattle.ouch_codec.specs.declared.inbound.Inbound.{Inbound}
 use Rattle.soup_session.specs.States.{is_up}
 use Rattle.gate_law.specs.Sessions.{port_state}
-use Rattle.order_law.specs.Headline.{EachWith, SaysIn}
-use Rattle.order_law.specs.History.{outstanding}
+use Rattle.gate_sessions.specs.order_law.Headline.{EachWith, SaysIn}
+use Rattle.gate_sessions.specs.order_law.History.{outstanding}
 use Rattle.gate_law.specs.Settings.{terms}
 use Rattle.gate_core.specs.Hearing.{AreDue}
 use Rattle.gate_core.proofs.PortPackets.{comes-up}

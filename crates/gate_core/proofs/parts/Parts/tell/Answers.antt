@@ -1,7 +1,7 @@
 use Rattle.std.proofs.Common.{◌+◌, ◌++◌, ℕ, List, Some, None, map, refl, sym, ap, ◌∙◌, subst}
 use Rattle.fix_types.specs.Application.{body_fields}
-use Rattle.session_writing.specs.declared.output.SessionOut.{SessionOut}
-use Rattle.session_writing.specs.Written.{told_bytes as frames}
+use Rattle.gate_events.specs.session_writing.declared.output.SessionOut.{SessionOut}
+use Rattle.gate_events.specs.session_writing.Written.{told_bytes as frames}
 use Rattle.soup_session.specs.Table.{OnPacket}
 use Rattle.gate_law.specs.Events.{Batch, PortPacket}
 use Rattle.gate_law.specs.Lists.{Lists, client_called_all, port_called, turned}

@@ -1,5 +1,5 @@
 use Rattle.std.proofs.Common.{◌≡◌, map, take}
-use Rattle.to_market.specs.TermsSeen.{terms_seen}
+use Rattle.gate_settings.specs.to_market.TermsSeen.{terms_seen}
 use Rattle.gate_law.specs.Settings.{ClientSettings}
 use Rattle.gate_core.proofs.parts.new.client_terms.Given as goal
 

@@ -2,7 +2,7 @@ use Rattle.std.proofs.Common.{List, length, sym, ap, ◌∙◌}
 use Rattle.std.proofs.lemmas.List.{length-map}
 use Rattle.gate_law.specs.Events as law
 use Rattle.gate_events.specs.Seen.{batch_seen}
-use Rattle.journal_days.specs.Day.{day_records}
+use Rattle.journal_records.specs.journal_days.Day.{day_records}
 use Rattle.journal_records.specs.Days.{batches_in}
 use Rattle.gate_journal.specs.Kept.{Kept}
 use Rattle.gate_journal.proofs.Growing.{as-many}

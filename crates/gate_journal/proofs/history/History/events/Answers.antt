@@ -1,6 +1,6 @@
 use Rattle.std.proofs.Common.{List, length, ap, ◌∙◌}
 use Rattle.gate_events.specs.declared.event.Event.{Event}
-use Rattle.journal_days.specs.Day.{day_records}
+use Rattle.journal_records.specs.journal_days.Day.{day_records}
 use Rattle.journal_records.specs.Days.{events_in}
 use Rattle.gate_journal.specs.Kept.{Kept}
 use Rattle.gate_journal.proofs.Growing.{as-many}

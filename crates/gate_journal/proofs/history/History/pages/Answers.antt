@@ -1,5 +1,5 @@
 use Rattle.std.proofs.Common.{sym, ap, ◌∙◌}
-use Rattle.journal_days.specs.Day.{day_fault}
+use Rattle.journal_records.specs.journal_days.Day.{day_fault}
 use Rattle.gate_journal.specs.Kept.{Kept, kept_in}
 use Rattle.gate_journal.proofs.history.History.pages.Goals as goal
 

@@ -2,8 +2,8 @@ use Rattle.std.proofs.Common.{List, ℕ, ◌∷◌, [], ◌++◌, ap, ◌∙◌}
 use Rattle.gate_law.specs.Events.{Batch}
 use Rattle.gate_events.specs.declared.event.Event.{Event}
 use Rattle.gate_events.specs.Seen.{batch_seen}
-use Rattle.journal_days.specs.Cut.{with_records}
-use Rattle.journal_days.specs.Day.{day_fault, day_records}
+use Rattle.journal_records.specs.journal_days.Cut.{with_records}
+use Rattle.journal_records.specs.journal_days.Day.{day_fault, day_records}
 use Rattle.journal_records.specs.Days.{batches_in, events_in}
 use Rattle.journal_records.specs.Parts.{turn_records}
 use Rattle.gate_journal.specs.Kept.{Kept, kept_in, kept_turn, turns}

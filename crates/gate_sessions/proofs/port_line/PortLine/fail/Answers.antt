@@ -1,5 +1,5 @@
 use Rattle.std.proofs.lemmas.Result.{IfOk-weaker}
-use Rattle.soup_session.specs.Table.{Fail}
+use Rattle.gate_law.specs.soup_session.Table.{Fail}
 use Rattle.gate_sessions.proofs.Ports.{port-answers, port-more}
 use Rattle.gate_sessions.proofs.port_line.PortLine.fail.Goals as goal
 

@@ -1,4 +1,4 @@
-use Rattle.soup_session.specs.Table.{OnGone}
+use Rattle.gate_law.specs.soup_session.Table.{OnGone}
 use Rattle.gate_sessions.proofs.Ports.{port-more}
 use Rattle.gate_sessions.proofs.port_line.PortLine.gone.Goals as goal
 

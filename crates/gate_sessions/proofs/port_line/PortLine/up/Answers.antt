@@ -1,4 +1,4 @@
-use Rattle.soup_session.specs.Table.{OnUp}
+use Rattle.gate_law.specs.soup_session.Table.{OnUp}
 use Rattle.gate_sessions.proofs.Ports.{port-answers, port-more}
 use Rattle.gate_sessions.proofs.port_line.PortLine.up.Goals as goal
 

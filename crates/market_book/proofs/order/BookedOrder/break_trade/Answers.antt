@@ -1,6 +1,6 @@
 use Rattle.std.proofs.Common.{rules, refl, ◌≡◌, ◌∙◌, ap, sym, Some}
 use Rattle.std.specs.List.{find}
-use Rattle.order_law.specs.Life.{stands_as}
+use Rattle.market_law.specs.order_law.Life.{stands_as}
 use Rattle.market_book.proofs.Same.{same-order}
 use Rattle.market_book.proofs.order.BookedOrder.break_trade.Goals as goal
 

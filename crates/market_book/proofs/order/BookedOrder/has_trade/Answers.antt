@@ -1,7 +1,7 @@
 use Rattle.std.proofs.Common.{◌∙◌, ap}
 use Rattle.std.specs.Prelude.{is_some}
 use Rattle.std.specs.List.{list_any}
-use Rattle.order_law.specs.Life.{stands_as}
+use Rattle.market_law.specs.order_law.Life.{stands_as}
 use Rattle.market_law.specs.Machine.{BookOrder, has_trade}
 use Rattle.market_book.proofs.Lists.{found-any}
 use Rattle.market_book.proofs.order.BookedOrder.has_trade.Goals as goal

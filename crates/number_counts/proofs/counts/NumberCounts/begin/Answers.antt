@@ -2,7 +2,7 @@ use Rattle.std.proofs.Common.{◌≡◌, ◌+◌, ◌≤◌, List, length, refl,
 use Rattle.std.specs.Prelude.{None, nat_eq}
 use Rattle.std.specs.List.{find}
 use Rattle.hint_index.proofs.Standing.{covered-pushed}
-use Rattle.undo_list.specs.Undoing.{Undoable}
+use Rattle.hint_index.specs.undo_list.Undoing.{Undoable}
 use Rattle.number_counts.specs.declared.number_count.NumberCount.{NumberCount}
 use Rattle.number_counts.specs.Counts.{counted, has_number, is_of, one_if, same_number}
 use Rattle.number_counts.proofs.Counting.{counted-pushed, key-leads}

@@ -2,7 +2,7 @@ use Rattle.std.proofs.Common.{◌≡◌, List, reverse, sym, subst}
 use Rattle.std.specs.Prelude.{None, MatchOption}
 use Rattle.std.specs.List.{find}
 use Rattle.hint_index.specs.Newest.{IsNewest}
-use Rattle.undo_list.specs.Undoing.{Undoable}
+use Rattle.hint_index.specs.undo_list.Undoing.{Undoable}
 use Rattle.hint_index.proofs.Standing.{led-by}
 use Rattle.hint_index.specs.Hints.{LedBy, hint_of}
 use Rattle.number_counts.specs.declared.number_count.NumberCount.{NumberCount}

@@ -1,7 +1,7 @@
 use Rattle.std.proofs.Common.{ℕ, List, Option, Some, ap, sym, subst, ◌∙◌}
 use Rattle.std.specs.Prelude.{option_and_then, option_map}
-use Rattle.order_law.specs.History.{Entry, accepted}
-use Rattle.order_law.specs.Lawful.{order_of_token, token_of_heard}
+use Rattle.outstanding.specs.order_law.History.{Entry, accepted}
+use Rattle.outstanding.specs.order_law.Lawful.{order_of_token, token_of_heard}
 use Rattle.order_machine.proofs.Leading.{token-of}
 use Rattle.order_core.specs.State.{IsAfterTurns}
 use Rattle.order_core.proofs.Addressed.{client-by-heard}

@@ -1,8 +1,8 @@
 use Rattle.std.proofs.Common.{◌∷◌, ◌<◌, ◌^◌, List, arith, length, subst, Result}
-use Rattle.ouch_codec.specs.declared.outbound.Outbound.{Outbound}
-use Rattle.ouch_codec.specs.declared.refusal.DecodeRefusal.{DecodeRefusal}
-use Rattle.ouch_codec.specs.Values.{decoded}
-use Rattle.order_law.specs.History.{OrderHistory, Terms, OrderTurn}
+use Rattle.market_messages.specs.ouch_codec.declared.outbound.Outbound.{Outbound}
+use Rattle.market_messages.specs.ouch_codec.declared.refusal.DecodeRefusal.{DecodeRefusal}
+use Rattle.market_messages.specs.ouch_codec.Values.{decoded}
+use Rattle.outstanding.specs.order_law.History.{OrderHistory, Terms, OrderTurn}
 use Rattle.order_machine.proofs.Running.{headline-of}
 use Rattle.outstanding.proofs.InTurns.{market-turns, quiet-turns}
 use Rattle.order_core.specs.State.{IsAfterTurns}

@@ -1,7 +1,7 @@
 use Rattle.std.proofs.Common.{◌≡◌, ℕ, List, subst, sym, ap, ◌∙◌}
 use Rattle.std.proofs.lemmas.Result.{IfOk-weaker}
-use Rattle.order_law.specs.Headline.{EachWith, SaysIn}
-use Rattle.order_law.specs.History.{outstanding}
+use Rattle.outstanding.specs.order_law.Headline.{EachWith, SaysIn}
+use Rattle.outstanding.specs.order_law.History.{outstanding}
 use Rattle.outstanding.specs.Kept.{bytes_on}
 use Rattle.outstanding.proofs.InTurns.{outstanding-is_kept}
 use Rattle.order_core.specs.State.{OrderCoreState}

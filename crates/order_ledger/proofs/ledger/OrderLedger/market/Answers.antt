@@ -2,12 +2,12 @@ use Rattle.std.proofs.Common.{◌≡◌, ◌+◌, ◌≤◌, ℕ, List, [], leng
 use Rattle.std.specs.List.{count_by}
 use Rattle.fix_types.specs.declared.application.AppBody.{AppBody}
 use Rattle.fix_types.specs.Application.{body_fields}
-use Rattle.order_law.specs.Reading.{is_report}
-use Rattle.order_law.specs.Told.{told_of_entry}
+use Rattle.new_orders.specs.order_law.Reading.{is_report}
+use Rattle.new_orders.specs.order_law.Told.{told_of_entry}
 use Rattle.order_machine.specs.Machine.{market_step}
 use Rattle.order_machine.specs.Table.{TableState}
-use Rattle.orders.specs.Changes.{Fits}
-use Rattle.order_table.specs.Held.{Held}
+use Rattle.client_requests.specs.orders.Changes.{Fits}
+use Rattle.new_orders.specs.order_table.Held.{Held}
 use Rattle.market_messages.specs.declared.judged.Judged.{Judged}
 use Rattle.market_messages.specs.declared.judged.Judged.TheVariants.{Faulty, Silent}
 use Rattle.market_messages.specs.Turns.{IsJudged, OrderIsTold}

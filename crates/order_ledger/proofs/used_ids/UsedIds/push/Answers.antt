@@ -4,7 +4,7 @@ use Rattle.hint_index.specs.Hints.{LeadsTo, hint_of}
 use Rattle.hint_index.specs.TextKeys.{same_key, text_key}
 use Rattle.hint_index.specs.declared.text_key.TextKey.{TextKey}
 use Rattle.order_machine.specs.Table.{UsedId}
-use Rattle.undo_list.specs.Undoing.{Undoable}
+use Rattle.hint_index.specs.undo_list.Undoing.{Undoable}
 use Rattle.order_ledger.specs.UsedKeys.{has_used_key}
 use Rattle.order_ledger.proofs.Used.{room-in, used-leads}
 use Rattle.order_ledger.proofs.used_ids.UsedIds.push.Goals as goal

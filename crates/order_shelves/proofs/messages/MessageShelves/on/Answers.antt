@@ -1,6 +1,6 @@
 use Rattle.std.proofs.Common.{◌≡◌, ◌∙◌, ◌<◌, ℕ, List, [], ap, get_or, length, reverse, subst}
-use Rattle.ouch_codec.specs.declared.outbound.Outbound.{Outbound}
-use Rattle.order_law.specs.Life.{life}
+use Rattle.order_accounts.specs.ouch_codec.declared.outbound.Outbound.{Outbound}
+use Rattle.order_accounts.specs.order_law.Life.{life}
 use Rattle.order_shelves.proofs.LivedAlike.{on-shelf}
 use Rattle.order_shelves.proofs.messages.MessageShelves.on.Goals as goal
 

@@ -2,7 +2,7 @@ use Rattle.std.proofs.Common.{rules, ◌≡◌, ℕ, List, [], ◌∷◌, ◌++�
 use Rattle.std.specs.Prelude.{Some}
 use Rattle.std.proofs.lemmas.Result.{IfOk-from_err}
 use Rattle.std.specs.List.{find, count_by}
-use Rattle.order_law.specs.History.{Entry}
+use Rattle.orders.specs.order_law.History.{Entry}
 use Rattle.order_machine.specs.OrderRecord.{OrderRecord, at}
 use Rattle.order_machine.specs.Table.{GivenToken, has_number, is_replacement_of, put}
 use Rattle.hint_index.proofs.Newest.{newest-there}

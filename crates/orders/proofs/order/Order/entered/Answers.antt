@@ -1,5 +1,5 @@
 use Rattle.std.proofs.Common.{rules}
-use Rattle.tokens.proofs.Digits.{printable-token}
+use Rattle.order_machine.proofs.tokens.Digits.{printable-token}
 use Rattle.orders.proofs.order.Order.entered.Goals as goal
 
 pub invariant_of-result : goal.invariant_of-result

@@ -1,6 +1,6 @@
 use Rattle.std.proofs.Common.{rules, arith}
 use Rattle.std.proofs.lemmas.Grind.{common_steps}
-use Rattle.tokens.proofs.Digits.{printable-token}
+use Rattle.order_machine.proofs.tokens.Digits.{printable-token}
 use Rattle.orders.proofs.order.Order.replace_by.Goals as goal
 
 pub invariant_of-self-inside-in-Some : goal.invariant_of-self-inside-in-Some

@@ -1,5 +1,5 @@
 use Rattle.std.proofs.Common.{◌≡◌, List, ℕ, ◌++◌, length, map, ap, ◌∙◌, arith, rules}
-use Rattle.session_law.specs.Session.{Slot}
+use Rattle.session_reading.specs.session_law.Session.{Slot}
 use Rattle.session_writing.specs.declared.place.KeptPlace.{KeptPlace}
 use Rattle.session_writing.specs.Keeping.{place_further, slots_at}
 use Rattle.session_writing.proofs.Keeping.{AreKept, all-within, both-kept-at}

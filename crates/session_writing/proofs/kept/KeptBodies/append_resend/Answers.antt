@@ -1,7 +1,7 @@
 use Rattle.std.proofs.Common.{◌≡◌, List, ℕ, ◌+◌, ◌-◌, ◌++◌, ap, ◌∙◌, take, drop, map}
 use Rattle.std.proofs.lemmas.Result.{IfOk-weaker}
-use Rattle.session_law.specs.Session.{Slot, resent}
-use Rattle.session_law.specs.Frames.{ToldLink}
+use Rattle.session_reading.specs.session_law.Session.{Slot, resent}
+use Rattle.session_reading.specs.session_law.Frames.{ToldLink}
 use Rattle.session_writing.specs.declared.place.KeptPlace.{KeptPlace}
 use Rattle.session_writing.specs.Keeping.{slots_at}
 use Rattle.session_writing.specs.Written.{told_bytes, told_frames}

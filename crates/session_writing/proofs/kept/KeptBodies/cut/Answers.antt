@@ -1,6 +1,6 @@
 use Rattle.std.proofs.Common.{◌≡◌, ◌≤◌, ℕ, List, true, ap, subst, ◌∙◌, take}
 use Rattle.std.specs.List.{list_all}
-use Rattle.session_law.specs.Session.{Slot}
+use Rattle.session_reading.specs.session_law.Session.{Slot}
 use Rattle.session_writing.specs.declared.place.KeptPlace.{KeptPlace}
 use Rattle.session_writing.specs.Keeping.{slots_at, is_within}
 use Rattle.session_writing.proofs.Keeping.{AreKept, cut-kept}

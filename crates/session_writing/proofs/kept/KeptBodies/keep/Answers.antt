@@ -1,6 +1,6 @@
 use Rattle.std.proofs.Common.{List, ◌++◌, ◌∷◌, [], Some, ap, ◌∙◌, arith}
-use Rattle.session_law.specs.Session.{Slot}
-use Rattle.fix_fields.specs.Printed.{fields_in}
+use Rattle.session_reading.specs.session_law.Session.{Slot}
+use Rattle.fix_framing.specs.fix_fields.Printed.{fields_in}
 use Rattle.session_writing.specs.Keeping.{slots_at}
 use Rattle.session_writing.proofs.Keeping.{AreKept, one-kept-at}
 use Rattle.session_writing.proofs.kept.KeptBodies.keep.Goals as goal

@@ -1,8 +1,8 @@
 use Rattle.std.proofs.Common.{◌<◌, ◌++◌, ◌∷◌, List, [], length, sym, ap, ◌∙◌, subst}
-use Rattle.order_machine.specs.OrderRecord.{OrderRecord}
+use Rattle.orders.specs.order_machine.OrderRecord.{OrderRecord}
 use Rattle.orders.specs.Changes.{changed_by}
 use Rattle.orders.specs.PutBack.{put_back}
-use Rattle.undo_list.specs.Undoing.{Undoable}
+use Rattle.hint_index.specs.undo_list.Undoing.{Undoable}
 use Rattle.undo_orders.specs.declared.list.Was.{Was}
 use Rattle.undo_orders.proofs.Putting.{kept}
 use Rattle.undo_orders.proofs.list.UndoOrders.apply.Goals as goal

@@ -1,0 +1,1 @@
+pub use Rattle.text_lines.proofs as text_lines

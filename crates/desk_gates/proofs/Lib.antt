@@ -1,0 +1,1 @@
+pub use Rattle.desk.proofs as desk
