@@ -17,7 +17,8 @@ pub record Offered : Type 0 where
   pub outlets : List NamedOutlet
 
 -- the core, the desk's side and the other ends agree, and nothing went through any ring
-pub record IsOffer (recorded : Recorded) (side : SideState) (inlets : List EventRing) (outlets : List ToldRing) : Type 0 where
+pub record IsOffer (recorded : Recorded) (side : SideState) (inlets : List EventRing)
+    (outlets : List ToldRing) : Type 0 where
   pub agrees : Agrees (map inlet_name inlets) (map outlet_name outlets) (record { recorded = recorded; side = side })
   pub inlets_fresh : All IsFreshEvents inlets
   pub outlets_fresh : All IsFreshLists outlets

@@ -73,8 +73,8 @@ impl<K: DeskName, S: BuildHasher + Drop> Shared<K, S> {
         Ok(turned)
     }
 
-    /// Has so many rounds made, or fewer where one makes no step, eight at a time under the lock. Rings the bells of the
-    /// outlets that were told something once the lock is free: who wakes finds all that eight rounds told it.
+    /// Has so many rounds made, or fewer where one makes no step, eight at a time under the lock. Rings the bells of
+    /// the outlets that were told something once the lock is free: who wakes finds all that eight rounds told it.
     ///
     /// It waits for nobody. Where another thread has the lock, that one makes rounds until one makes no step once it is
     /// free, and none is counted here. `AllocError` comes only where memory is refused before a round made a step.

@@ -1,5 +1,5 @@
--- What contracts see of the ends that the desk keeps: a seat gives the events of an inlet's ring, by a way lists go into
--- an outlet's ring. (Own.)
+-- What contracts see of the ends that the desk keeps: a seat gives the events of an inlet's ring, by a way lists go
+-- into an outlet's ring. (Own.)
 use Rattle.std.specs.Prelude.{◌≡◌, ◌≢◌, ℕ, ◌<◌, ◌≤◌, ◌⊎◌, Bool, true, false, Option, Some, slice_get, length, List, []}
 use Rattle.std.specs.Prelude.{◌∷◌, ◌++◌}
 use mathlib.Core.List.{IsPrefix}
@@ -51,7 +51,8 @@ pub record WaySent (lists : List (List LinkOut)) (w v : WayState) : Type 0 where
 -- each seat looked or stayed as it is
 pub record SeatsLooked (old new : List SeatState) : Type 0 where
   pub count : length new ≡ length old
-  pub each : (k : ℕ) (a : SeatState) → slice_get old k ≡ Some a → (b : SeatState) × (slice_get new k ≡ Some b) × SeatLooked a b
+  pub each : (k : ℕ) (a : SeatState) → slice_get old k ≡ Some a → (b : SeatState) × (slice_get new k ≡ Some b)
+      × SeatLooked a b
 
 -- no seat but the one at this place changed
 abbrev pub SeatsStayBut : Option ℕ → List SeatState → List SeatState → Type 0
@@ -59,11 +60,14 @@ SeatsStayBut place old new = (k : ℕ) → place ≢ Some k → slice_get new k 
 
 pub record WaysLooked (old new : List WayState) : Type 0 where
   pub count : length new ≡ length old
-  pub each : (d : ℕ) (w : WayState) → slice_get old d ≡ Some w → (v : WayState) × (slice_get new d ≡ Some v) × WayLooked w v
+  pub each : (d : ℕ) (w : WayState) → slice_get old d ≡ Some w → (v : WayState) × (slice_get new d ≡ Some v)
+      × WayLooked w v
 
 -- What an end that has finished says is what the desk's end of its ring knows: an inlet put what came out and what is
 -- known to lie there still, and an outlet took a beginning of what went in.
 abbrev pub IsBorneOut : Done → List SeatState → List WayState → Type 0
-IsBorneOut (put_at k source events) seats ways = (a : SeatState) × (slice_get seats k ≡ Some a) × (a.name.source ≡ source)
+IsBorneOut (put_at k source events) seats ways =
+    (a : SeatState) × (slice_get seats k ≡ Some a) × (a.name.source ≡ source)
     × (a.gave ++ a.known ≡ events) × (events_from source events ≡ events)
-IsBorneOut (took_at d to lists) seats ways = (w : WayState) × (slice_get ways d ≡ Some w) × (w.name.to ≡ to) × IsPrefix lists w.sent
+IsBorneOut (took_at d to lists) seats ways =
+    (w : WayState) × (slice_get ways d ≡ Some w) × (w.name.to ≡ to) × IsPrefix lists w.sent

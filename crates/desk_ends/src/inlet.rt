@@ -49,7 +49,8 @@ impl<K: DeskName> Model for Inlet<K> {
 }
 
 impl<K: DeskName> Inlet<K> {
-    ghost use Rattle.std.specs.Prelude.{◌≡◌, ◌<◌, ◌+◌, ◌≤◌, ◌++◌, [], ◌∷◌, Some, true, IfSome, IfErr, IsOk, OnOk, slice_get};
+    ghost use Rattle.std.specs.Prelude.{◌≡◌, ◌<◌, ◌+◌, ◌≤◌, ◌++◌, [], ◌∷◌, Some, true, IfSome, IfErr, IsOk, OnOk};
+    ghost use Rattle.std.specs.Prelude.{slice_get};
     ghost use Rattle.rtrb.specs.Ring.{sent, known_free};
     ghost use Rattle.gate_events.specs.Sources.{is_from};
     ghost use Rattle.desk_ends.specs.Rings.{NamedInlet, producer_ring, put_at};
@@ -58,7 +59,8 @@ impl<K: DeskName> Inlet<K> {
     pub fn new(at: usize, source: Source, producer: Producer<Event>) -> Inlet<K>
         requires named { slice_get K.inlets at ≡ Some (record { source = source; ring = producer_ring producer }) }
         requires empty { sent producer ≡ [] }
-        ensures { (result.at ≡ at) × (result.source ≡ source) × (result.put ≡ []) × (result.free ≡ known_free producer) }
+        ensures { (result.at ≡ at) × (result.source ≡ source) × (result.put ≡ [])
+            × (result.free ≡ known_free producer) }
     {
         Inlet {
             at,

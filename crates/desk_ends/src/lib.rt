@@ -1,8 +1,9 @@
-//! The ends of a desk's rings: inlets, by which threads put events, and outlets, by which they take what links are told.
+//! The ends of a desk's rings: inlets, by which threads put events, and outlets, by which they take what links are
+//! told.
 //!
-//! Each end has the position of its ring in the desk, and its type keeps that it is the end of the ring which the desk's
-//! name has at that position. So what an end says of itself when it finishes is said of that ring, in whichever thread
-//! it was.
+//! Each end has the position of its ring in the desk, and its type keeps that it is the end of the ring which the
+//! desk's name has at that position. So what an end says of itself when it finishes is said of that ring, in whichever
+//! thread it was.
 //!
 //! No call waits, and none takes memory.
 #![tactic(auto)]

@@ -82,7 +82,8 @@ impl Seat {
     pub(crate) fn look_after(&mut self, finished: &mut Finished<Event>)
         requires own { finished_ring finished.old ≡ self.old.name.ring }
         ensures looked { SeatLooked self.old self.new }
-        ensures finished { (finished_ring finished.new ≡ finished_ring finished.old) × (all_sent finished.new ≡ all_sent finished.old) }
+        ensures finished { (finished_ring finished.new ≡ finished_ring finished.old)
+            × (all_sent finished.new ≡ all_sent finished.old) }
         ensures all { self.new.gave ++ self.new.known ≡ all_sent finished.old }
     {
         self.consumer.slots_after(finished);

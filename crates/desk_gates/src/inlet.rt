@@ -9,8 +9,8 @@ use std::sync::Wait;
 /// How many turns are owed at most: as many as there are places in a ring.
 const MOST_TURNS: u32 = 1_024;
 
-/// The gate of a reader, or of the ticker: puts events through an inlet, and has the desk turned as often as events were
-/// put, until a turn makes no step. Nothing is taken through it.
+/// The gate of a reader, or of the ticker: puts events through an inlet, and has the desk turned as often as events
+/// were put, until a turn makes no step. Nothing is taken through it.
 #[derive(Drop)]
 pub struct InletGate<'a, K: DeskName, S: BuildHasher + Drop = BuildHasherDefault<FoldHasher>> {
     shared: &'a Shared<K, S>,

@@ -8,7 +8,8 @@ use Rattle.desk_side.specs.Side.{IsArranged, SideState}
 
 -- for so many clients and ports; the ends that are handed out are those of the desk's, by position, and nothing went
 -- through any ring
-pub record IsOpened (clients ports : ℕ) (side : SideState) (inlets : List EventRing) (outlets : List ToldRing) : Type 0 where
+pub record IsOpened (clients ports : ℕ) (side : SideState) (inlets : List EventRing)
+    (outlets : List ToldRing) : Type 0 where
   pub client_count : side.clients ≡ clients
   pub port_count : side.ports ≡ ports
   pub arranged : IsArranged side

@@ -40,18 +40,21 @@ impl Model for Side {
 
     ghost view = { λ s. record { clients = s.clients; ports = s.ports; seats = s.seats.items; ways = s.ways.items } };
 
-    ghost invariant = { λ s. IsArranged (record { clients = s.clients; ports = s.ports; seats = s.seats.items; ways = s.ways.items }) };
+    ghost invariant = { λ s. IsArranged
+        (record { clients = s.clients; ports = s.ports; seats = s.seats.items; ways = s.ways.items }) };
 }
 
 impl Side {
     ghost use Rattle.std.specs.Prelude.{◌≡◌, ◌<◌, ℕ, true, false, Some, length, map, slice_get};
-    ghost use Rattle.desk_ends.specs.Seats.{SeatState, SeatGave, SeatLooked, SeatsLooked, SeatsStayBut, WaysLooked, IsBorneOut, seat_name, way_name};
+    ghost use Rattle.desk_ends.specs.Seats.{SeatState, SeatGave, SeatLooked, SeatsLooked, SeatsStayBut, WaysLooked};
+    ghost use Rattle.desk_ends.specs.Seats.{IsBorneOut, seat_name, way_name};
     ghost use Rattle.desk_ends.specs.Ends.{inlet_of};
     ghost use Rattle.desk_side.specs.Side.{ChangesAt, HaveRoom, IsArranged, LacksRoom, Tells};
 
     /// These seats and ways, for so many clients and ports.
     pub fn new(clients: usize, ports: usize, seats: Vec<Seat>, ways: Vec<Way>) -> Side
-        requires arranged { IsArranged (record { clients = clients; ports = ports; seats = seats.items; ways = ways.items }) }
+        requires arranged { IsArranged
+            (record { clients = clients; ports = ports; seats = seats.items; ways = ways.items }) }
         ensures { result ≡ record { clients = clients; ports = ports; seats = seats.items; ways = ways.items } }
     {
         Side {

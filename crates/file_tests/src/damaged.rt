@@ -12,7 +12,8 @@ const ONE_UP: &[u8; 66] = b"\0\0\0\0\0\0\0\x32GJ01\
     \x0f\0\0\0\0\0\0\0\0\0\0\0\0\0\0\0\0\0\0\0\0\0\0\
     \0\0\0\0\0\0\0\0";
 
-/// Where a refusal is told with the status 2, and nothing is printed; other texts begin with a status that isn't wanted.
+/// Where a refusal is told with the status 2, and nothing is printed; other texts begin with a status that isn't
+/// wanted.
 fn refusal_of(alloc: Global, file: &[u8]) -> Result<Vec<u8>, Fail> {
     let mut output = Vec::new(alloc);
     let mut faults = Vec::new(alloc);

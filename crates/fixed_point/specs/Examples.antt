@@ -27,7 +27,8 @@ prices :
     × (price (codes "+1") ≡ Err NotFloat)  -- a plus sign
     × (price (codes "1e2") ≡ Err NotFloat)  -- an exponent
 unfolding price amount amount_of within scaled fraction
-prices = (refl, refl, refl, refl, refl, refl, refl, refl, refl, refl, refl, refl, refl, refl, refl, refl, refl, refl, refl)
+prices =
+    (refl, refl, refl, refl, refl, refl, refl, refl, refl, refl, refl, refl, refl, refl, refl, refl, refl, refl, refl)
 
 -- what a quantity says, in shares
 quantities :

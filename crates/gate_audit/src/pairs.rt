@@ -35,8 +35,8 @@ const MOST_SHELVES: u64 = 1 << 32;
 /// after one of its client's reports, what was read of an order has a number that is larger than its integer holds,
 /// or more tokens were given than there are; or else `NoMemory`.
 ///
-/// It takes as long as there are events and orders, times how many clients there are: what is read of an order is looked
-/// for on its shelf (`order_shelves`).
+/// It takes as long as there are events and orders, times how many clients there are: what is read of an order is
+/// looked for on its shelf (`order_shelves`).
 ///
 /// Source: FIX 4.4 Volume 4, "Execution Report"; OUCH 4.2, "Outbound Messages".
 pub fn audit(

@@ -89,7 +89,8 @@ pub record StandAfter (s : Settings) (v : Lists) (p : PartsStand) : Type 0 where
   pub clients : (i : ℕ) (c : ClientStands) → slice_get p.clients i ≡ Some c
       → ClientLeaves s (i + 1) (v.client_calls (i + 1)) c.session
   pub client_links : (i : ℕ) (c : ClientStands) → slice_get p.clients i ≡ Some c → c.link ≡ v.client_link (i + 1)
-  pub ports : (i : ℕ) (c : PortStands) → slice_get p.ports i ≡ Some c → PortLeaves s (i + 1) (v.port_calls (i + 1)) c.port
+  pub ports : (i : ℕ) (c : PortStands) → slice_get p.ports i ≡ Some c
+      → PortLeaves s (i + 1) (v.port_calls (i + 1)) c.port
   pub port_links : (i : ℕ) (c : PortStands) → slice_get p.ports i ≡ Some c → c.link ≡ v.port_link (i + 1)
   pub orders : IsAfterTurns (terms s) v.turns (core.core_of p.orders)
   pub client_ports : ArePortsOf s p.client_ports

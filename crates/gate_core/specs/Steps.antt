@@ -55,10 +55,12 @@ pub record Stepped {S H : Type 0} (s : Settings) (e : Event) (b : Batch) (v : Li
 
 -- each line is put back to what it was put back to before
 abbrev pub ClientsStaySettled : {S H : Type 0} → Parts S H → Parts S H → Type 0
-ClientsStaySettled old new = (was : ℕ → ClientStands) → ClientsSettledAs was old.clients.items → ClientsSettledAs was new.clients.items
+ClientsStaySettled old new =
+    (was : ℕ → ClientStands) → ClientsSettledAs was old.clients.items → ClientsSettledAs was new.clients.items
 
 abbrev pub PortsStaySettled : {S H : Type 0} → Parts S H → Parts S H → Type 0
-PortsStaySettled old new = (was : ℕ → PortStands) → PortsSettledAs was old.ports.items → PortsSettledAs was new.ports.items
+PortsStaySettled old new =
+    (was : ℕ → PortStands) → PortsSettledAs was old.ports.items → PortsSettledAs was new.ports.items
 
 -- A step gives at most so many numbers, and a port wants one packet more at most; what the parts are put back to stays.
 -- All of it whatever the result is.
@@ -138,7 +140,8 @@ pub record IsAsked {S H : Type 0} (s : Settings) (client at : ℕ) (message : Ap
 
 -- What is known once the client's session had it: what it delivers and says is its table's, and the parts have the
 -- call.
-pub record AfterFrame {S H : Type 0} (s : Settings) (n link at : ℕ) (frame : Message) (app : Option AppMsg) (said : List SessionOut)
+pub record AfterFrame {S H : Type 0} (s : Settings) (n link at : ℕ) (frame : Message) (app : Option AppMsg)
+    (said : List SessionOut)
     (v : Lists) (g : Parts S H) : Type 0 where
   pub on : (has_client s n && is_the_number link (v.client_link n)) ≡ true
   pub app_is : (client_answer s n (v.client_calls n) (at, OnMessage frame)).app ≡ app
@@ -166,7 +169,8 @@ client_number_at None = 0
 client_number_at (Some place) = place + 1
 
 -- it is told to the client at a place, or to nobody, as there are bodies or not
-pub record PayloadIsTold {S H : Type 0} (s : Settings) (p : ℕ) (payload : List ℕ) (client : Option ℕ) (bodies : List Message)
+pub record PayloadIsTold {S H : Type 0} (s : Settings) (p : ℕ) (payload : List ℕ) (client : Option ℕ)
+    (bodies : List Message)
     (v : Lists) (new : Parts S H) : Type 0 where
   pub parts : ArePartsOf s (turned (Some (heard_turn p payload (client_number_at client) bodies None)) v) new
   pub headline : Headline (terms s) (heard_turn p payload (client_number_at client) bodies None ∷ v.turns)

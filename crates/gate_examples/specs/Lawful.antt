@@ -238,7 +238,8 @@ unfolding client_answer port_answer port_state report_issued digits stamp_text c
     price quantity amount amount_of within scaled fraction worth worth_of last_digits
 turns_of_cancel_asked_again = refl
 
-turns_of_ordered_on_a_faulted_port : HasTurns histories.day_ordered_on_a_faulted_port exchanges.ordered_on_a_faulted_port
+turns_of_ordered_on_a_faulted_port :
+    HasTurns histories.day_ordered_on_a_faulted_port exchanges.ordered_on_a_faulted_port
 unfolding client_answer port_answer port_state report_issued digits stamp_text calendar_day day_of_years day_of_months
     price quantity amount amount_of within scaled fraction worth worth_of last_digits
 turns_of_ordered_on_a_faulted_port = refl

@@ -7,8 +7,8 @@
 //! A line that isn't understood ends the run, and so do want of memory and a read or write that fails. What earlier
 //! lines printed stays.
 //!
-//! `run_script` runs a script, `run_script_with` with a hasher, `audit_script` audits what it comes to, `write_audit` writes the audit of any
-//! history's pairs, `script_history` gives the history itself.
+//! `run_script` runs a script, `run_script_with` with a hasher, `audit_script` audits what it comes to, `write_audit`
+//! writes the audit of any history's pairs, `script_history` gives the history itself.
 #![tactic(auto)]
 
 mod audit;

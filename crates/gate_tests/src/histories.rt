@@ -24,7 +24,8 @@ const OPEN: [&[u8]; 1] = [b"35=8\x0137=2\x0111=B1\x01150=0\x0154=2\x0138=200\x01
 
 /// 200 of INTC at 23.45 are in the book, under the third token.
 const ACCEPTED: &[u8] =
-    b"A\0\0\0\0\0\0\0\0G0000000000003S\0\0\0\xc8INTC    \0\x03\x94\x04\0\x01\x86\x9eFIRMY\0\0\0\0\0\0\0\x01PN\0\0\0\0NLN";
+    b"A\0\0\0\0\0\0\0\0G0000000000003S\0\0\0\xc8INTC    \0\x03\x94\x04\0\x01\x86\x9e\
+      FIRMY\0\0\0\0\0\0\0\x01PN\0\0\0\0NLN";
 
 #[test]
 fn a_life_begins_with_the_token_that_the_reports_count(rt: HostRuntime) -> Result<(), Fail> {

@@ -131,7 +131,8 @@ fn settings_at(rt: &HostRuntime, path: &str) -> Result<SettingsFile, ExitCode> {
     }
 }
 
-/// A gateway that is to be run: its settings, how many links of each client are served, and where its day's journal goes.
+/// A gateway that is to be run: its settings, how many links of each client are served, and where its day's journal
+/// goes.
 #[derive(Drop)]
 struct AskedRun {
     file: SettingsFile,

@@ -1,5 +1,5 @@
--- The command line of `gateway`: `audit --script FILE` or `audit --journal FILE --settings FILE`, `journal --script FILE`,
--- `run --settings FILE [--links N] [--journal FILE]`, `demo`, and nothing else but a call for help.
+-- The command line of `gateway`: `audit --script FILE` or `audit --journal FILE --settings FILE`, `journal --script
+-- FILE`, `run --settings FILE [--links N] [--journal FILE]`, `demo`, and nothing else but a call for help.
 use Rattle.std.specs.Prelude.{ℕ, true, List, Option, Some, None, codes, if◌then◌else◌, option_and_then, option_map}
 use Rattle.std.specs.Prelude.{nat_le, ◌&&◌}
 use Rattle.std.specs.Char.{is_ascii_digit}
@@ -25,8 +25,10 @@ required_rule name = record (value_rule name) { required = true }
 
 -- `audit --script FILE`, or `audit --journal FILE --settings FILE`
 abbrev pub audit : App
-audit = with_rule (with_rule (with_rule (new_app (codes "audit")) (value_rule (codes "script"))) (value_rule (codes "journal")))
-    (value_rule (codes "settings"))
+audit =
+    with_rule
+      (with_rule (with_rule (new_app (codes "audit")) (value_rule (codes "script"))) (value_rule (codes "journal")))
+      (value_rule (codes "settings"))
 
 -- `journal --script FILE`
 abbrev pub journal : App
@@ -34,8 +36,10 @@ journal = with_rule (new_app (codes "journal")) (required_rule (codes "script"))
 
 -- `run --settings FILE [--links N] [--journal FILE]`
 abbrev pub runs : App
-runs = with_rule (with_rule (with_rule (new_app (codes "run")) (required_rule (codes "settings"))) (value_rule (codes "links")))
-    (value_rule (codes "journal"))
+runs =
+    with_rule
+      (with_rule (with_rule (new_app (codes "run")) (required_rule (codes "settings"))) (value_rule (codes "links")))
+      (value_rule (codes "journal"))
 
 -- `demo`
 abbrev pub demo : App
@@ -64,8 +68,8 @@ unfoldable pub gateway_faults : List Text → Kinds
 gateway_faults words = fault_of gateway words
 
 -- what a command line asks for: the audit of a script's file; that of the day in a journal's file, by the settings in a
--- file; the day of a script's file as a journal; a gateway by the settings in a file, with so many links, and a file for
--- its journal; or the demonstration
+-- file; the day of a script's file as a journal; a gateway by the settings in a file, with so many links, and a file
+-- for its journal; or the demonstration
 pub data Asking : Type 0 where
   Audits : (script : Text) → Asking
   AuditsDay : (journal : Text) (settings : Text) → Asking
@@ -95,7 +99,8 @@ audit_of None journal settings = day_asked journal settings
 audit_of (Some script) journal settings = script_asked script journal settings
 
 abbrev pub audit_asked : List Row → Option Asking
-audit_asked rows = audit_of (first_of (codes "script") rows) (first_of (codes "journal") rows) (first_of (codes "settings") rows)
+audit_asked rows =
+    audit_of (first_of (codes "script") rows) (first_of (codes "journal") rows) (first_of (codes "settings") rows)
 
 abbrev pub keep_asked : List Row → Option Asking
 keep_asked rows = option_map Keeps (first_of (codes "script") rows)
@@ -123,7 +128,8 @@ asked_of words = asked_in (gateway_found words)
 -- how many links of each client are served: digits, for 1 to 1,000; 1 where nothing is said
 abbrev pub links_in : Text → Option ℕ
 links_in digits =
-    if list_all is_ascii_digit digits && nat_le 1 (number_of digits) && nat_le (number_of digits) 1000 then Some (number_of digits) else None
+    if list_all is_ascii_digit digits && nat_le 1 (number_of digits)
+        && nat_le (number_of digits) 1000 then Some (number_of digits) else None
 
 unfoldable pub links_of : Option Text → Option ℕ
 links_of None = Some 1

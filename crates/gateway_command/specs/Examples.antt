@@ -36,7 +36,8 @@ a_gateway_of_two_links : Asks (codes "run" ∷ codes "--links" ∷ codes "2" ∷
 unfolding clap_on_literals gateway_found gateway_faults asking_of
 a_gateway_of_two_links = (refl, refl)
 
-a_gateway_with_a_journal : Asks (codes "run" ∷ codes "--settings" ∷ codes "a.toml" ∷ codes "--journal" ∷ codes "a.day" ∷ [])
+a_gateway_with_a_journal :
+    Asks (codes "run" ∷ codes "--settings" ∷ codes "a.toml" ∷ codes "--journal" ∷ codes "a.day" ∷ [])
     (Runs (codes "a.toml") None (Some (codes "a.day")))
 unfolding clap_on_literals gateway_found gateway_faults asking_of
 a_gateway_with_a_journal = (refl, refl)
@@ -71,11 +72,13 @@ no_settings_of_a_day : Vainly (codes "audit" ∷ codes "--journal" ∷ codes "a.
 unfolding clap_on_literals gateway_found gateway_faults asking_of
 no_settings_of_a_day = (refl, refl)
 
-settings_of_a_script : Vainly (codes "audit" ∷ codes "--script" ∷ codes "a.script" ∷ codes "--settings" ∷ codes "a.toml" ∷ [])
+settings_of_a_script :
+    Vainly (codes "audit" ∷ codes "--script" ∷ codes "a.script" ∷ codes "--settings" ∷ codes "a.toml" ∷ [])
 unfolding clap_on_literals gateway_found gateway_faults asking_of
 settings_of_a_script = (refl, refl)
 
-a_script_and_a_journal : Vainly (codes "audit" ∷ codes "--script" ∷ codes "a.script" ∷ codes "--journal" ∷ codes "a.day" ∷ [])
+a_script_and_a_journal :
+    Vainly (codes "audit" ∷ codes "--script" ∷ codes "a.script" ∷ codes "--journal" ∷ codes "a.day" ∷ [])
 unfolding clap_on_literals gateway_found gateway_faults asking_of
 a_script_and_a_journal = (refl, refl)
 

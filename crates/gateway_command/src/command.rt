@@ -1,7 +1,8 @@
 //! The command line of `gateway`, as `clap` reads it.
 
 ghost use Rattle.std.specs.Prelude.{◌≡◌, codes, false, IfOk, map, option_map};
-ghost use Rattle.clap.specs.Words.{FailsBy, app_of, first_of, found_of, rows_of, rule_of, subcommand_rows_of, with_rule};
+ghost use Rattle.clap.specs.Words.{FailsBy, app_of, first_of, found_of, rows_of, rule_of, subcommand_rows_of};
+ghost use Rattle.clap.specs.Words.{with_rule};
 ghost use Rattle.clap.specs.declared.builder.command.Command.{out-Command as fields_of};
 ghost use Rattle.gateway_command.specs.Command as spec;
 ghost use Rattle.gateway_command.specs.Seen.{asked_seen};
@@ -68,7 +69,8 @@ fn audit_asked<'a>(found: &ArgMatches<'a>) -> Option<Asked<'a>>
 
 /// What `audit` asks for with a script: its audit, where neither a journal nor settings are named.
 fn script_asked<'a>(found: &ArgMatches<'a>, script: &'a str) -> Option<Asked<'a>>
-    ensures { option_map asked_seen result ≡ spec.script_asked script.now (first_of (codes "journal") (rows_of (found_of found.now)))
+    ensures { option_map asked_seen result
+        ≡ spec.script_asked script.now (first_of (codes "journal") (rows_of (found_of found.now)))
         (first_of (codes "settings") (rows_of (found_of found.now))) }
 {
     match value_of(found, "journal") {
@@ -79,7 +81,8 @@ fn script_asked<'a>(found: &ArgMatches<'a>, script: &'a str) -> Option<Asked<'a>
 
 /// The same, where no journal is named.
 fn bare_asked<'a>(found: &ArgMatches<'a>, script: &'a str) -> Option<Asked<'a>>
-    ensures { option_map asked_seen result ≡ spec.bare_asked script.now (first_of (codes "settings") (rows_of (found_of found.now))) }
+    ensures { option_map asked_seen result
+        ≡ spec.bare_asked script.now (first_of (codes "settings") (rows_of (found_of found.now))) }
 {
     match value_of(found, "settings") {
         Some(_) => None,
@@ -100,7 +103,8 @@ fn day_asked<'a>(found: &ArgMatches<'a>) -> Option<Asked<'a>>
 
 /// What `audit` asks for with this journal.
 fn journal_asked<'a>(found: &ArgMatches<'a>, journal: &'a str) -> Option<Asked<'a>>
-    ensures { option_map asked_seen result ≡ spec.journal_asked journal.now (first_of (codes "settings") (rows_of (found_of found.now))) }
+    ensures { option_map asked_seen result
+        ≡ spec.journal_asked journal.now (first_of (codes "settings") (rows_of (found_of found.now))) }
 {
     match value_of(found, "settings") {
         Some(settings) => Some(Asked::AuditDay { journal, settings }),

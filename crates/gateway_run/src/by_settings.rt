@@ -16,8 +16,9 @@ use std::sync::atomic::AtomicBool;
 use std::thread::Threads;
 use std::time::Clock;
 
-/// Runs the gateway of a settings file, with its core's indexes over a hasher, with so many links of each client, one after the other, and as many of each
-/// port at most, and gives its day. Tells on standard error of each link that comes and goes.
+/// Runs the gateway of a settings file, with its core's indexes over a hasher, with so many links of each client, one
+/// after the other, and as many of each port at most, and gives its day. Tells on standard error of each link that
+/// comes and goes.
 ///
 /// `NoMemory` and `NoThread` come as `run` has them.
 pub fn run_settings<R>(

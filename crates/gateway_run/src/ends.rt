@@ -22,8 +22,8 @@ pub struct RunPlan<A, C> {
     pub ports: Vec<C>,
 }
 
-/// The lines of a desk's clients, of its ports and of its clock, in this order. Its type keeps that each puts the events
-/// of its own client, port or clock, and takes what that is told.
+/// The lines of a desk's clients, of its ports and of its clock, in this order. Its type keeps that each puts the
+/// events of its own client, port or clock, and takes what that is told.
 #[derive(Drop)]
 pub(crate) struct Ends<'a, A, C, K: DeskName, R> {
     pub(crate) lines: Vec<RunLine<'a, A, C, K, R>>,

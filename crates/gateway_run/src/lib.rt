@@ -1,5 +1,5 @@
-//! The gateway as it runs: a desk, and for each client's, each port's and the clock's line the threads that serve it. It
-//! ends when all its clients' links have been served, and gives its day.
+//! The gateway as it runs: a desk, and for each client's, each port's and the clock's line the threads that serve it.
+//! It ends when all its clients' links have been served, and gives its day.
 #![tactic(auto)]
 
 mod by_settings;

@@ -19,8 +19,9 @@ use std::sync::atomic::AtomicBool;
 use std::thread::Threads;
 use std::time::Clock;
 
-/// Serves a gateway of these settings, with its core's indexes over a hasher, until each client's links have been served, then sets `is_over`, has the ports'
-/// links end, and gives the day. Where `is_over` is set before, by somebody else, it ends the same way.
+/// Serves a gateway of these settings, with its core's indexes over a hasher, until each client's links have been
+/// served, then sets `is_over`, has the ports' links end, and gives the day. Where `is_over` is set before, by somebody
+/// else, it ends the same way.
 ///
 /// `NoMemory` and `NoThread` come once all that was begun has ended; the day is lost with them.
 pub fn run<R, A, C>(

@@ -84,8 +84,8 @@ impl<'a, R: Clock + Eprint> Teller<'a, R> {
     }
 }
 
-/// An opener that tells of each of its links: `up`, `gone`, `closed by the gateway`, `link fault n`. Of links that can't
-/// be opened, one after the other, it tells once.
+/// An opener that tells of each of its links: `up`, `gone`, `closed by the gateway`, `link fault n`. Of links that
+/// can't be opened, one after the other, it tells once.
 #[derive(Drop)]
 pub(crate) struct Telling<'a, O, R> {
     teller: Teller<'a, R>,

@@ -1,6 +1,7 @@
 //! The index.
 
-ghost use Rattle.std.specs.Prelude.{◌≡◌, ◌≤◌, ◌+◌, ℕ, List, true, false, None, Some, [], IfOk, OnOk, reverse, slice_get};
+ghost use Rattle.std.specs.Prelude.{◌≡◌, ◌≤◌, ◌+◌, ℕ, List, true, false, None, Some, [], IfOk, OnOk, reverse};
+ghost use Rattle.std.specs.Prelude.{slice_get};
 ghost use Rattle.std.specs.Prelude.{MatchOption};
 ghost use Rattle.std.specs.List.{find, list_any};
 ghost use Rattle.undo_list.specs.Undoing.{IsWithin};

@@ -15,12 +15,12 @@ use journal_file::{PageFault, read_day};
 use std::alloc::Global;
 use std::io::Write;
 
-/// Reads a day's file, and writes the audit of its history to `output`: a line for each order that was accepted, and one
-/// for how many there are and how many agree.
+/// Reads a day's file, and writes the audit of its history to `output`: a line for each order that was accepted, and
+/// one for how many there are and how many agree.
 ///
 /// Answers the status that a program ends with which does so: 0 where both accounts of each order agree; 2 where the
-/// file is none, with `page N: FAULT` on `faults`, the number from 0 and the fault as `PageFault` has it, and nothing on
-/// `output`; else 1: where those of an order don't agree, where memory runs out, with `out of memory`, where a write
+/// file is none, with `page N: FAULT` on `faults`, the number from 0 and the fault as `PageFault` has it, and nothing
+/// on `output`; else 1: where those of an order don't agree, where memory runs out, with `out of memory`, where a write
 /// fails, with `read or write failed`, and where a number of an account is larger than its integer holds, with `an
 /// order's account is too large`.
 ///

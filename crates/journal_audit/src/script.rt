@@ -13,8 +13,8 @@ use std::io::{Read, Write};
 /// to `output` as a file of pages.
 ///
 /// Answers the status that a program ends with which does so: 0 at the script's end; 2 at a line that isn't understood,
-/// with `line N: not understood` on `faults`; 1 where memory runs out, with `out of memory`, and where a read or a write
-/// fails, with `read or write failed`. Nothing is written before the script's end.
+/// with `line N: not understood` on `faults`; 1 where memory runs out, with `out of memory`, and where a read or a
+/// write fails, with `read or write failed`. Nothing is written before the script's end.
 pub fn script_file<R: Read, W: Write, F: Write>(
     alloc: Global,
     input: &mut R,

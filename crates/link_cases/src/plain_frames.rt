@@ -1,7 +1,7 @@
 //! The frames of a whole stream, by the rules of the format alone.
 //!
-//! Source: FIX 4.4 Volume 1, "Message Format"; Volume 2, "Standard Message Header", "CheckSum Calculation". That a frame
-//! has at most 8,192 bytes, and a length at most six digits, is the gateway's own.
+//! Source: FIX 4.4 Volume 1, "Message Format"; Volume 2, "Standard Message Header", "CheckSum Calculation". That a
+//! frame has at most 8,192 bytes, and a length at most six digits, is the gateway's own.
 
 use crate::changing::halves;
 use std::alloc::AllocError;

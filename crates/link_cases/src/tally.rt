@@ -2,7 +2,8 @@
 
 use std::io::{self, Write};
 
-/// How many streams there were, what was in them, and how many were read or written otherwise than by the plain program.
+/// How many streams there were, what was in them, and how many were read or written otherwise than by the plain
+/// program.
 #[derive(Clone, Copy)]
 pub struct Tally {
     streams: u64,

@@ -12,8 +12,8 @@ fn longest_read() -> Duration {
     Duration::from_millis(250)
 }
 
-/// How long a write waits for a peer that doesn't read. Then it ends, with the bytes that went out, and fails where none
-/// did.
+/// How long a write waits for a peer that doesn't read. Then it ends, with the bytes that went out, and fails where
+/// none did.
 fn longest_write() -> Duration {
     Duration::from_secs(5)
 }

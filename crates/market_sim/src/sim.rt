@@ -92,8 +92,8 @@ impl Sim {
         }
     }
 
-    /// A payload that the book didn't make, of at most `Payload::MOST` bytes, is the next sequenced message: it is kept,
-    /// and goes out where a login was accepted. `AllocError` leaves the market as it was.
+    /// A payload that the book didn't make, of at most `Payload::MOST` bytes, is the next sequenced message: it is
+    /// kept, and goes out where a login was accepted. `AllocError` leaves the market as it was.
     pub fn say(&mut self, alloc: Global, payload: &[u8]) -> Result<Vec<Packet>, AllocError>
         requires { length payload.now ≤ 65_534 }
         ensures step { IfOk result (λ packets.
@@ -141,7 +141,8 @@ impl Sim {
     /// A login came.
     fn log_on(&mut self, alloc: Global, payload: &[u8]) -> Result<Vec<Packet>, AllocError>
         ensures step { IfOk result (λ packets. IsStepOfSim
-            (spec.answers_login self.old (spec.login_number (length self.old.kept) payload.now)) self.new packets.items) }
+            (spec.answers_login self.old
+                (spec.login_number (length self.old.kept) payload.now)) self.new packets.items) }
         ensures err { OnErr result (self.new ≡ self.old) }
     {
         match login_number(self.kept.len(), payload) {

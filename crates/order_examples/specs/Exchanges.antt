@@ -39,10 +39,10 @@ replace_pending =
 abbrev pub order_is_filled : OrderHistory
 order_is_filled =
     heard_by_client (executed_message 1 200 234400 8)
-    (message (codes "35=8|37=1|11=A1|17=4|150=F|39=2|55=INTC|54=1|38=300|44=23.45|32=200|31=23.44|151=0|14=300|6=23.4433")
+  (message (codes "35=8|37=1|11=A1|17=4|150=F|39=2|55=INTC|54=1|38=300|44=23.45|32=200|31=23.44|151=0|14=300|6=23.4433")
     ∷ [])
     ∷ heard_by_client (executed_message 1 100 234500 7)
-    (message (codes "35=8|37=1|11=A1|17=3|150=F|39=1|55=INTC|54=1|38=300|44=23.45|32=100|31=23.45|151=200|14=100|6=23.45")
+  (message (codes "35=8|37=1|11=A1|17=3|150=F|39=1|55=INTC|54=1|38=300|44=23.45|32=100|31=23.45|151=200|14=100|6=23.45")
     ∷ [])
     ∷ entered_and_accepted
 
@@ -71,7 +71,7 @@ replaced_after_a_trade =
     (message (codes "35=8|37=1|11=A2|41=A1|17=5|150=5|39=1|55=INTC|54=1|38=500|44=23.45|151=400|14=100|6=23.45")
     ∷ [])
     ∷ heard_by_client (executed_message 1 100 234500 7)
-    (message (codes "35=8|37=1|11=A1|17=4|150=F|39=E|55=INTC|54=1|38=300|44=23.45|32=100|31=23.45|151=200|14=100|6=23.45")
+  (message (codes "35=8|37=1|11=A1|17=4|150=F|39=E|55=INTC|54=1|38=300|44=23.45|32=100|31=23.45|151=200|14=100|6=23.45")
     ∷ [])
     ∷ replace_pending
 
@@ -99,7 +99,8 @@ abbrev pub filled_across_replace_and_cancel : OrderHistory
 filled_across_replace_and_cancel =
     heard_by_client (executed_message 1 300 234500 7)
     (message (codes "35=8|37=1|11=A1|17=5|150=F|39=6|55=INTC|54=1|38=300|44=23.45|32=300|31=23.45|151=0|14=300|6=23.45")
-    ∷ message (codes "35=9|37=1|11=A2|41=A1|39=6|434=2|102=0|58=too late") ∷ message (codes "35=9|37=1|11=A3|41=A2|39=2|434=1|102=0|58=too late")
+    ∷ message (codes "35=9|37=1|11=A2|41=A1|39=6|434=2|102=0|58=too late")
+        ∷ message (codes "35=9|37=1|11=A3|41=A2|39=2|434=1|102=0|58=too late")
     ∷ [])
     ∷ cancelled_across_a_replace
 
@@ -426,10 +427,10 @@ broken_among_equals =
     (message (codes "35=8|37=1|11=A1|17=5|19=4|150=H|39=1|55=INTC|54=1|38=200|44=23.45|151=100|14=100|6=23.45|58=E")
     ∷ [])
     ∷ heard_by_client (executed_message 1 100 234500 8)
-    (message (codes "35=8|37=1|11=A1|17=4|150=F|39=1|55=INTC|54=1|38=300|44=23.45|32=100|31=23.45|151=100|14=200|6=23.45")
+  (message (codes "35=8|37=1|11=A1|17=4|150=F|39=1|55=INTC|54=1|38=300|44=23.45|32=100|31=23.45|151=100|14=200|6=23.45")
     ∷ [])
     ∷ heard_by_client (executed_message 1 100 234500 7)
-    (message (codes "35=8|37=1|11=A1|17=3|150=F|39=1|55=INTC|54=1|38=300|44=23.45|32=100|31=23.45|151=200|14=100|6=23.45")
+  (message (codes "35=8|37=1|11=A1|17=3|150=F|39=1|55=INTC|54=1|38=300|44=23.45|32=100|31=23.45|151=200|14=100|6=23.45")
     ∷ [])
     ∷ entered_and_accepted
 

@@ -12,8 +12,8 @@ are_short digits = list_all is_ascii_digit digits && nat_lt (number_of digits) (
 unfoldable pub place : ℕ → List ℕ → ℕ
 place count digits = if are_short digits then number_of digits % count else 0
 
--- The place that a token leads to: behind its first letter stand digits, and the place that they name says where it leads
--- on. (Token texts are this gateway's own, `tokens`.)
+-- The place that a token leads to: behind its first letter stand digits, and the place that they name says where it
+-- leads on. (Token texts are this gateway's own, `tokens`.)
 abbrev pub digits_of : List ℕ → List ℕ
 digits_of token = take 13 (drop 1 token)
 

@@ -54,8 +54,8 @@ impl MessageShelves {
         })
     }
 
-    /// Messages of which the order with this first token makes the same life as of all: those on its shelf, or all where
-    /// a chain of tokens leads to several.
+    /// Messages of which the order with this first token makes the same life as of all: those on its shelf, or all
+    /// where a chain of tokens leads to several.
     ///
     /// Source: OUCH 4.2, "Outbound Messages" (Order Token).
     pub fn on(&self, root: &[u8; 14]) -> &[Outbound]

@@ -14,7 +14,8 @@ use Rattle.order_table.specs.declared.token_key.TokenKey.{TokenKey}
 use Rattle.order_table.specs.Keys.{has_name_key, has_number_key, has_token_key, same_name, same_number}
 use Rattle.order_table.specs.TokenKeys.{same_token_key}
 
-pub number-alike : (x y : NumberKey) (o : OrderRecord) → same_number x y ≡ true → has_number_key x o ≡ has_number_key y o
+pub number-alike :
+    (x y : NumberKey) (o : OrderRecord) → same_number x y ≡ true → has_number_key x o ≡ has_number_key y o
 number-alike x y o e = ap (λ n. nat_eq n (digits_value 10 o.new.order)) (eqb-true x.number y.number e)
 
 pub same-name-is : (x y : NameKey) → same_name x y ≡ true → x ≡ y

@@ -113,4 +113,5 @@ as_laid_out :
     × (lies_at (codes "minimum quantity") 43 4 replace_table ≡ true)
     × (lies_at (codes "shares") 15 4 cancel_table ≡ true)
 as_laid_out =
-    (refl, refl, refl, refl, refl, refl, refl, refl, refl, refl, refl, refl, refl, refl, refl, refl, refl, refl, refl, refl, refl, refl, refl)
+    (refl, refl, refl, refl, refl, refl, refl, refl, refl, refl, refl, refl, refl, refl, refl, refl, refl, refl, refl,
+     refl, refl, refl, refl)

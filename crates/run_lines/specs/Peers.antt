@@ -9,8 +9,8 @@ use Rattle.gate_serving.specs.gate_workers.TickersWork.{PutsTicks}
 use Rattle.run_lines.specs.declared.peer.RunPeer.{RunPeer}
 use Rattle.run_lines.specs.declared.peer.RunPeer.TheVariants as peers
 
--- of a client's and a port's line what the bytes of the link say, between its coming and its going; of the clock's ticks
--- of these clients and ports, and nothing else
+-- of a client's and a port's line what the bytes of the link say, between its coming and its going; of the clock's
+-- ticks of these clients and ports, and nothing else
 abbrev pub run_reads : RunPeer → ℕ → Result Unit LinkFault → List Event → List Event → Option (List ℕ) → Option (List ℕ)
     → Type 0
 run_reads (peers.Client n) link end put_old put_new left_old left_new =
