@@ -84,7 +84,7 @@ abbrev pub four_asked_again : History
 four_asked_again =
     turn (PortPacket 1 2 0 (login_accepted one (codes "2")))
     (port_batch 1 (asked_out 2 (enter_sale_message 2) ∷ asked_out 2 (replace_message 1 3 500)
-        ∷ asked_out 2 (cancel_message 1) ∷ asked_out 2 (cancel_message 3) ∷ []))
+    ∷ asked_out 2 (cancel_message 1) ∷ asked_out 2 (cancel_message 3) ∷ []))
     ∷ after_turns link_is_lost day_four_unanswered
 
 -- ---- a message that comes again is dropped, and the next one is told
@@ -168,7 +168,7 @@ day_ordered_after_the_end =
     (told_batch 1 1
     (report_out 1 2
     (codes "35=8|37=1|11=A1|17=1|150=8|39=8|103=2|55=INTC|54=1|38=300|44=23.45|151=0|14=0|6=0|58=market session ended")
-        ∷ []))
+    ∷ []))
     ∷ turn (PortUp 1 2 0) (port_batch 1 (Close 2 ∷ []))
     ∷ []) first
 

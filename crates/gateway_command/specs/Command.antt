@@ -27,8 +27,8 @@ required_rule name = record (value_rule name) { required = true }
 abbrev pub audit : App
 audit =
     with_rule
-      (with_rule (with_rule (new_app (codes "audit")) (value_rule (codes "script"))) (value_rule (codes "journal")))
-      (value_rule (codes "settings"))
+    (with_rule (with_rule (new_app (codes "audit")) (value_rule (codes "script"))) (value_rule (codes "journal")))
+    (value_rule (codes "settings"))
 
 -- `journal --script FILE`
 abbrev pub journal : App
@@ -38,8 +38,8 @@ journal = with_rule (new_app (codes "journal")) (required_rule (codes "script"))
 abbrev pub runs : App
 runs =
     with_rule
-      (with_rule (with_rule (new_app (codes "run")) (required_rule (codes "settings"))) (value_rule (codes "links")))
-      (value_rule (codes "journal"))
+    (with_rule (with_rule (new_app (codes "run")) (required_rule (codes "settings"))) (value_rule (codes "links")))
+    (value_rule (codes "journal"))
 
 -- `demo`
 abbrev pub demo : App
@@ -129,7 +129,7 @@ asked_of words = asked_in (gateway_found words)
 abbrev pub links_in : Text → Option ℕ
 links_in digits =
     if list_all is_ascii_digit digits && nat_le 1 (number_of digits)
-        && nat_le (number_of digits) 1000 then Some (number_of digits) else None
+    && nat_le (number_of digits) 1000 then Some (number_of digits) else None
 
 unfoldable pub links_of : Option Text → Option ℕ
 links_of None = Some 1

@@ -11,8 +11,11 @@ pub same-is : (x y : TextKey) → same_key x y ≡ true → x ≡ y
 same-is x y e =
     let parts = and_parts (nat_eq x.number y.number) (nat_eq x.len y.len && bytes_eq x.bytes y.bytes) e in
     let rest = and_parts (nat_eq x.len y.len) (bytes_eq x.bytes y.bytes) parts.1 in
-    (λ j. record { number = eqb-true x.number y.number parts.0 j; len = eqb-true x.len y.len rest.0 j;
-        bytes = (bytes_decides x.bytes y.bytes).0 rest.1 j })
+    (λ j. record {
+      number = eqb-true x.number y.number parts.0 j;
+      len = eqb-true x.len y.len rest.0 j;
+      bytes = (bytes_decides x.bytes y.bytes).0 rest.1 j;
+    })
 
 pub hash-alike : (x y : TextKey) → same_key x y ≡ true → (fed.u16 x.number ++ take (min x.len 64) x.bytes ∷ [])
     ≡ (fed.u16 y.number ++ take (min y.len 64) y.bytes ∷ [])

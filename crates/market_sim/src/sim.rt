@@ -142,7 +142,7 @@ impl Sim {
     fn log_on(&mut self, alloc: Global, payload: &[u8]) -> Result<Vec<Packet>, AllocError>
         ensures step { IfOk result (λ packets. IsStepOfSim
             (spec.answers_login self.old
-                (spec.login_number (length self.old.kept) payload.now)) self.new packets.items) }
+            (spec.login_number (length self.old.kept) payload.now)) self.new packets.items) }
         ensures err { OnErr result (self.new ≡ self.old) }
     {
         match login_number(self.kept.len(), payload) {

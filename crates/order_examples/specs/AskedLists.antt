@@ -72,6 +72,4 @@ lists :
     × (on_ports (faulted_on 2 (accepted_message 1 300 (codes "INTC    ") (codes "L")) 2 ∷ entered_on_both)
     ≡ on_ports entered_on_both)  -- a token of the other port is a fault
 unfolding digits price quantity amount amount_of within scaled fraction worth worth_of last_digits
-lists =
-    (refl, refl, refl, refl, refl, refl, refl, refl, refl, refl, refl, refl, refl, refl, refl, refl, refl, refl, refl,
-     refl, refl, refl)
+lists = (refl, refl, refl, refl, refl, refl, refl, refl, refl, refl, refl, refl, refl, refl, refl, refl, refl, refl, refl, refl, refl, refl)

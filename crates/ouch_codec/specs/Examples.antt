@@ -121,35 +121,35 @@ sets :
     (is_message enter_order_layout
     -- side `X`
     (bytes (codes "4f4730303030303030303030303031580000012c494e544320202020000394040001869e4649524d59504e000000004e52"))
-        ≡ false)
+    ≡ false)
     × (is_message enter_order_layout
     -- side `E`
     (bytes (codes "4f4730303030303030303030303031450000012c494e544320202020000394040001869e4649524d59504e000000004e52"))
-        ≡ true)
+    ≡ true)
     × (is_message enter_order_layout
     -- side by its FIX digit
     (bytes (codes "4f4730303030303030303030303031310000012c494e544320202020000394040001869e4649524d59504e000000004e52"))
-        ≡ false)
+    ≡ false)
     × (is_message enter_order_layout
     -- no shares
     (bytes (codes "4f47303030303030303030303030314200000000494e544320202020000394040001869e4649524d59504e000000004e52"))
-        ≡ false)
+    ≡ false)
     × (is_message enter_order_layout
     -- 999,999 shares
     (bytes (codes "4f473030303030303030303030303142000f423f494e544320202020000394040001869e4649524d59504e000000004e52"))
-        ≡ true)
+    ≡ true)
     × (is_message enter_order_layout
     -- 1,000,000 shares
     (bytes (codes "4f473030303030303030303030303142000f4240494e544320202020000394040001869e4649524d59504e000000004e52"))
-        ≡ false)
+    ≡ false)
     × (is_message enter_order_layout
     -- a byte below 32 in a text
     (bytes (codes "4f4730303030303030303030303031420000012c1f4e544320202020000394040001869e4649524d59504e000000004e52"))
-        ≡ false)
+    ≡ false)
     × (is_message enter_order_layout
     -- a letter above 126
     (bytes (codes "4f4730303030303030303030303031420000012c494e544320202020000394040001869e4649524d7f504e000000004e52"))
-        ≡ false)
+    ≡ false)
     × (is_message accepted_layout
     -- state `D`
     (bytes (codes "4100000000000000004730303030303030303030303031420000012c494e544320202020000394040001869e4649524d590000000000000001504e000000004e444e")) ≡ true)

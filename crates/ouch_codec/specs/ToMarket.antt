@@ -112,6 +112,4 @@ as_laid_out :
     × (lies_at (codes "intermarket sweep eligibility") 42 1 replace_table ≡ true)
     × (lies_at (codes "minimum quantity") 43 4 replace_table ≡ true)
     × (lies_at (codes "shares") 15 4 cancel_table ≡ true)
-as_laid_out =
-    (refl, refl, refl, refl, refl, refl, refl, refl, refl, refl, refl, refl, refl, refl, refl, refl, refl, refl, refl,
-     refl, refl, refl, refl)
+as_laid_out = (refl, refl, refl, refl, refl, refl, refl, refl, refl, refl, refl, refl, refl, refl, refl, refl, refl, refl, refl, refl, refl, refl, refl)
