@@ -1,5 +1,5 @@
 mod Standing
 mod Steps
 mod Sending
-mod Cancelling
-mod Replacing
+mod Cancels
+mod Replaces
