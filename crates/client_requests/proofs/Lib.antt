@@ -1,5 +1,5 @@
 mod Standing
 mod Steps
 mod Sending
-mod Cancels
-mod Replaces
+mod AcceptedCancel
+mod AcceptedReplace

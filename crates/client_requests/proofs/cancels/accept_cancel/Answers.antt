@@ -2,7 +2,7 @@ use Rattle.std.proofs.Common.{◌≡◌, refl, sym, ap, decimal}
 use Rattle.fix_types.specs.CancelRequest.{cancel_request_fields}
 use Rattle.order_law.specs.History.{terms_of}
 use Rattle.order_machine.specs.OrderRecord.{OrderRecord, shown_as}
-use Rattle.client_requests.proofs.Cancels.{cancelling-in, entry_of}
+use Rattle.client_requests.proofs.AcceptedCancel.{cancelling-in, entry_of}
 use Rattle.client_requests.proofs.cancels.accept_cancel.Goals as goal
 
 pub returns : goal.returns

@@ -2,7 +2,7 @@ use Rattle.std.proofs.Common.{◌≡◌, ◌+◌, refl, sym, ap, decimal}
 use Rattle.fix_types.specs.ReplaceRequest.{replace_request_fields}
 use Rattle.order_law.specs.History.{terms_of}
 use Rattle.order_machine.specs.OrderRecord.{OrderRecord, shown_as}
-use Rattle.client_requests.proofs.Replaces.{entry_of, replacing-in}
+use Rattle.client_requests.proofs.AcceptedReplace.{entry_of, replacing-in}
 use Rattle.client_requests.proofs.replaces.accept_replace.Goals as goal
 
 pub returns : goal.returns
