@@ -1,9 +1,13 @@
 //! How a field is written.
 
-ghost use Rattle.std.specs.Prelude.{◌≡◌, ◌≤◌, ◌+◌, ◌++◌, ◌∷◌, [], length, take, OnOk, OnErr};
+ghost use Rattle.std.specs.Prelude.{◌≡◌, ◌≤◌, ◌+◌, ◌++◌, ◌∷◌, [], length, OnOk, OnErr};
+ghost use Rattle.std.specs.Vec.{vec_len, vec_capacity};
 
 use crate::text::SOH;
 use std::alloc::AllocError;
+
+/// So many bytes are written one by one.
+const FEW: usize = 16;
 
 /// Appends a field to a text: all of it, or nothing where memory runs out. One growth at most.
 pub(crate) fn append_field(text: &mut Vec<u8>, tag: &[u8], value: &[u8]) -> Result<(), AllocError>
@@ -11,32 +15,29 @@ pub(crate) fn append_field(text: &mut Vec<u8>, tag: &[u8], value: &[u8]) -> Resu
     ensures ok { OnOk result (text.new.items ≡ text.old.items ++ (tag.now ++ 61 ∷ (value.now ++ 1 ∷ []))) }
     ensures err { OnErr result (text.new.items ≡ text.old.items) }
 {
-    let start = text.len();
-    let Some(end) = start.checked_add(tag.len() + value.len() + 2) else {
+    let Some(size) = value.len().checked_add(tag.len() + 2) else {
         return Err(AllocError);
     };
-    text.resize(end, SOH)?;
-    write_field(&mut text[start..], tag, value);
+    text.reserve(size)?;
+    append_bytes(text, tag);
+    text.push_reserved(b'=');
+    append_bytes(text, value);
+    text.push_reserved(SOH);
     Ok(())
 }
 
-/// Writes a field over as many bytes as it takes.
-fn write_field(field: &mut [u8], tag: &[u8], value: &[u8])
-    requires { length field.old ≡ length tag.now + length value.now + 2 }
-    ensures { field.new ≡ tag.now ++ 61 ∷ (value.now ++ 1 ∷ []) }
+/// Appends bytes for which there is room: a few one by one, which is sooner done than a copy.
+fn append_bytes(text: &mut Vec<u8>, bytes: &[u8])
+    requires { vec_len text.old + length bytes.now ≤ vec_capacity text.old }
+    ensures items { text.new.items ≡ text.old.items ++ bytes.now }
+    ensures len { vec_len text.new ≡ vec_len text.old + length bytes.now }
+    ensures capacity { vec_capacity text.old ≤ vec_capacity text.new }
 {
-    let at = tag.len() + 1;
-    write_at(field, 0, tag);
-    write_at(field, tag.len(), b"=");
-    write_at(field, at, value);
-    write_at(field, at + value.len(), &[SOH]);
-}
-
-/// Writes over the bytes from `at` on. What stands before them stays.
-fn write_at(text: &mut [u8], at: usize, part: &[u8])
-    requires { at + length part.now ≤ length text.old }
-    ensures written { take (at + length part.now) text.new ≡ take at text.old ++ part.now }
-    ensures length { length text.new ≡ length text.old }
-{
-    text[at..at + part.len()].copy_from_slice(part);
+    if bytes.len() > FEW {
+        text.extend_from_slice(bytes).unwrap();
+        return;
+    }
+    for byte in bytes {
+        text.push_reserved(*byte);
+    }
 }
