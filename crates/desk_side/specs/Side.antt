@@ -1,5 +1,5 @@
 -- What contracts see of the desk's side of its rings, and what its calls make of it. (Own.)
-use Rattle.std.specs.Prelude.{◌≡◌, ◌≢◌, ℕ, ◌+◌, ◌<◌, ◌≤◌, ◌⊎◌, Bool, true, false, Option, Some, slice_get, length, List}
+use Rattle.std.specs.Prelude.{◌≡◌, ◌≢◌, ℕ, ◌+◌, ◌<◌, ◌≤◌, ◌⊎◌, true, false, Option, Some, slice_get, length, List}
 use Rattle.gate_events.specs.Sources.{unless_empty}
 use Rattle.desk_ends.specs.Seats.{SeatState, WayState, WaySent}
 use Rattle.desk_side.specs.declared.said.Said.{Said}

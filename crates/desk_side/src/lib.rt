@@ -1,6 +1,6 @@
 //! The desk's side of its rings: events come out of those of the inlets, and lists go into those of the outlets.
 //!
-//! Nothing is stepped here, and no call takes memory but `Said::of`.
+//! Nothing is stepped here, and no call but `open_side` takes memory.
 #![tactic(auto)]
 
 mod opening;

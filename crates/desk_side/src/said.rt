@@ -1,11 +1,9 @@
 //! What a batch tells links, to be pushed.
 
-ghost use Rattle.std.specs.Prelude.{◌≡◌, IfOk};
 ghost use Rattle.gate_events.specs.Seen.{batch_seen};
 ghost use Rattle.desk_side.specs.Said.{IsSaid};
 
 use gate_events::{Batch, ClientNumber, PortNumber, Told};
-use std::alloc::{AllocError, Global};
 
 /// What a batch tells: the list for its client and the list for its port.
 #[derive(Debug, Drop)]
@@ -17,15 +15,17 @@ pub struct Said {
 }
 
 impl Said {
-    /// What a batch tells, once more.
-    pub fn of(alloc: Global, batch: &Batch) -> Result<Said, AllocError>
-        ensures { IfOk result (λ said. IsSaid (batch_seen batch.now) said) }
+    /// What a batch tells, moved out of it. Takes no memory.
+    pub fn of(batch: Batch) -> Said
+        ensures { IsSaid (batch_seen batch) result }
     {
-        Ok(Said {
-            client: batch.client,
-            client_told: Told::copied(alloc, batch.client_out.as_slice())?,
-            port: batch.port,
-            port_told: Told::copied(alloc, batch.port_out.as_slice())?,
-        })
+        let (client, port) = (batch.client, batch.port);
+        let (client_told, port_told) = batch.into_told();
+        Said {
+            client,
+            client_told,
+            port,
+            port_told,
+        }
     }
 }

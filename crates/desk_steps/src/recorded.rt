@@ -1,7 +1,6 @@
 //! The value, and the call that steps it.
 
 ghost use Rattle.std.specs.Prelude.{◌≡◌, ◌++◌, ◌∷◌, [], IfOk, OnErr};
-ghost use Rattle.gate_events.specs.Seen.{batch_seen};
 ghost use Rattle.gate_journal.specs.Kept.{Kept, turns};
 ghost use Rattle.gate_core.specs.Core.{turn_of};
 ghost use Rattle.desk_side.specs.Said.{IsSaid};
@@ -116,8 +115,8 @@ impl<S: BuildHasher + Drop> RecordedCore<S> {
         ensures err { OnErr result (self.new ≡ self.old) }
     {
         let batch = self.core.step(alloc, event)?;
-        match keep(&mut self.history, alloc, event, &batch) {
-            Ok(said) => Ok(said),
+        match self.history.push(event, &batch) {
+            Ok(()) => Ok(Said::of(batch)),
             Err(error) => {
                 self.core.undo();
                 Err(error)
@@ -161,22 +160,4 @@ impl<S: BuildHasher + Drop> RecordedCore<S> {
         } = self;
         (settings, history)
     }
-}
-
-/// Keeps an event with its batch, and gives what the batch tells. `AllocError` leaves the history as it was.
-fn keep(
-    history: &mut History,
-    alloc: Global,
-    event: &Event,
-    batch: &Batch,
-) -> Result<Said, AllocError>
-    ensures said { IfOk result (λ said. IsSaid (batch_seen batch.now) said) }
-    ensures ok { IfOk result (λ said. (history.new.events ≡ history.old.events ++ event.now ∷ [])
-        × (history.new.batches ≡ history.old.batches ++ batch_seen batch.now ∷ [])
-        × (turns history.new ≡ turn_of event.now batch.now ∷ turns history.old)) }
-    ensures err { OnErr result (history.new ≡ history.old) }
-{
-    let said = Said::of(alloc, batch)?;
-    history.push(event, batch)?;
-    Ok(said)
 }

@@ -3,6 +3,7 @@
 ghost use Rattle.std.specs.Prelude.{◌≡◌, ◌==◌, ◌&&◌, not, is_some, length};
 
 use crate::number::{ClientNumber, PortNumber};
+use crate::told::Told;
 use gate_sessions::IssuedReport;
 use soup_session::PortFault;
 
@@ -46,5 +47,26 @@ impl Drop for Batch {
             port_out: _,
             fault: _,
         } = self;
+    }
+}
+
+impl Batch {
+    ghost use Rattle.std.specs.Prelude.{◌≡◌, map};
+    ghost use Rattle.gate_events.specs.Seen.{link_out_seen};
+
+    /// What its client's link is told, and what its port's is, moved out. Takes no memory.
+    pub fn into_told(self) -> (Told, Told)
+        ensures client { result.0 ≡ map link_out_seen self.client_out.items }
+        ensures port { result.1 ≡ map link_out_seen self.port_out.items }
+    {
+        let Batch {
+            client: _,
+            reports: _,
+            client_out,
+            port: _,
+            port_out,
+            fault: _,
+        } = self;
+        (Told::of(client_out), Told::of(port_out))
     }
 }

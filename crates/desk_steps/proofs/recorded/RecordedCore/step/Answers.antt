@@ -13,18 +13,18 @@ returns-in_err-batch-clause-err g c = on-err c.from_residual.result c.self.view_
 
 pub invariant_of-self-in-Ok : goal.invariant_of-self-in-Ok
 invariant_of-self-in-Ok g c =
-    after-turns c.self.inside.settings (turn_of c.args.event.now c.in_ok-batch.batch ∷ turns c.self.inside.history) _ _ c.in-Ok.ensures.ok.2
+    after-turns c.self.inside.settings (turn_of c.args.event.now c.in_ok-batch.batch ∷ turns c.self.inside.history) _ _ c.in-Ok.ensures.turns
     (c.in_ok-batch.ensures.after c.self.inside.settings (turns c.self.inside.history) c.self.invariant)
 
 pub returns-in-Ok-clause-ok : goal.returns-in-Ok-clause-ok
 returns-in-Ok-clause-ok g c =
-    step-is c.args.event.now c.in-Ok.said (batch_seen c.in_ok-batch.batch) c.self.inside.settings c.self.inside.history _ c.args.self.now c.self.view_is c.in-Ok.ensures.ok.0 c.in-Ok.ensures.ok.1 c.in-Ok.ensures.said
+    step-is c.args.event.now c.of.result (batch_seen c.in_ok-batch.batch) c.self.inside.settings c.self.inside.history _ c.args.self.now c.self.view_is c.in-Ok.ensures.events c.in-Ok.ensures.batches c.of.ensures
     (c.in_ok-batch.ensures.holds c.self.inside.settings (turns c.self.inside.history) c.self.invariant)
 
-pub invariant_of-self-in-Err : goal.invariant_of-self-in-Err
-invariant_of-self-in-Err g c =
+pub invariant_of-self-in-Err-1 : goal.invariant_of-self-in-Err-1
+invariant_of-self-in-Err-1 g c =
     after-turns c.self.inside.settings (turns c.self.inside.history) _ _ (ap turns c.in-Err.ensures.err)
     (after-same c.self.inside.settings (turns c.self.inside.history) c.self.inside.core _ (c.undo.ensures.now ∙ c.step.ensures.settled) c.self.invariant)
 
-pub returns-clause-err : goal.returns-clause-err
-returns-clause-err g c = same-recorded c.self.inside.settings c.self.inside.history _ c.args.self.now c.self.view_is c.in-Err.ensures.err
+pub returns-in-Err-clause-err : goal.returns-in-Err-clause-err
+returns-in-Err-clause-err g c = same-recorded c.self.inside.settings c.self.inside.history _ c.args.self.now c.self.view_is c.in-Err.ensures.err
