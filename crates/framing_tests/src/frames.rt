@@ -256,22 +256,37 @@ fn what_stands_in_front(rt: HostRuntime) -> Result<(), Fail> {
     )?;
     for _ in 0..2u32 {
         for _ in 0..3u32 {
-            let view = framer.front()?.ok_or("a frame is whole")?;
-            assert_eq!(rt; view.text(), HEARTBEAT.as_slice());
-            assert_eq!(rt; view.first(35), Some(b"0".as_slice()));
-            assert_eq!(rt; view.first(10), Some(b"163".as_slice()));
-            assert_eq!(rt; view.first(34), None);
+            heartbeat_in_front(&rt, &mut framer)?;
         }
         assert!(rt; framer.pass());
     }
     for piece in [b"".as_slice(), HEARTBEAT.as_slice()] {
-        assert!(rt; matches!(framer.front(), Err(FrameFault::TooLong)));
-        assert!(rt; !framer.pass());
-        framer.put(rt.alloc(), piece)?;
-        assert!(rt; is_too_long(framer.feed(rt.alloc(), piece)));
+        nothing_in_front(&rt, rt.alloc(), &mut framer, piece)?;
     }
     assert_eq!(rt; framer.skipped(), 2);
     assert_eq!(rt; framer.fed(), 71);
+    Ok(())
+}
+
+fn heartbeat_in_front<R: Abort>(rt: &R, framer: &mut Framer) -> Result<(), Fail> {
+    let view = framer.front()?.ok_or("a frame is whole")?;
+    assert_eq!(rt; view.text(), HEARTBEAT.as_slice());
+    assert_eq!(rt; view.first(35), Some(b"0".as_slice()));
+    assert_eq!(rt; view.first(10), Some(b"163".as_slice()));
+    assert_eq!(rt; view.first(34), None);
+    Ok(())
+}
+
+fn nothing_in_front<R: Abort>(
+    rt: &R,
+    alloc: Global,
+    framer: &mut Framer,
+    piece: &[u8],
+) -> Result<(), Fail> {
+    assert!(rt; matches!(framer.front(), Err(FrameFault::TooLong)));
+    assert!(rt; !framer.pass());
+    framer.put(alloc, piece)?;
+    assert!(rt; is_too_long(framer.feed(alloc, piece)));
     Ok(())
 }
 

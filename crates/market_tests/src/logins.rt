@@ -100,23 +100,36 @@ fn logins_that_cannot_be_served(rt: HostRuntime) -> Result<(), Fail> {
 /// before is given again where it is asked for.
 #[test]
 fn a_link_is_lost_behind_each_message(rt: HostRuntime) -> Result<(), Fail> {
-    let mut sim = Sim::new(rt.alloc());
-    let mut all = Vec::from_slice(rt.alloc(), b"\0\x1fASESSION001                   1")?;
+    let alloc = rt.alloc();
+    let mut sim = Sim::new(alloc);
+    let mut all = Vec::from_slice(alloc, b"\0\x1fASESSION001                   1")?;
     for payload in [b"one".as_slice(), b"two".as_slice(), b"three".as_slice()] {
-        let given = logged_on(rt.alloc(), &mut sim, b"                             1")?;
-        assert!(rt; given.as_slice() == all.as_slice());
-        let packets = sim.say(rt.alloc(), payload)?;
-        let said = bytes_of(rt.alloc(), packets.as_slice())?;
-        all.extend_from_slice(said.as_slice())?;
-        sim.step(rt.alloc(), SimEvent::Gone)?;
+        assert!(rt; says(alloc, &mut sim, &mut all, payload)?);
     }
-    let given = logged_on(rt.alloc(), &mut sim, b"                             1")?;
-    assert!(rt; given.as_slice() == all.as_slice());
+    assert!(rt; gives(alloc, &mut sim, all.as_slice())?);
     assert!(rt;
         all.as_slice()
             == b"\0\x1fASESSION001                   1\0\x04Sone\0\x04Stwo\0\x06Sthree".as_slice()
     );
     Ok(())
+}
+
+/// Whether a login that asks for all is answered by this.
+fn gives(alloc: Global, sim: &mut Sim, all: &[u8]) -> Result<bool, Fail> {
+    let given = logged_on(alloc, sim, b"                             1")?;
+    Ok(given.as_slice() == all)
+}
+
+/// Whether a login that asks for all is answered by this; behind it goes what the market says then.
+fn says(alloc: Global, sim: &mut Sim, all: &mut Vec<u8>, payload: &[u8]) -> Result<bool, Fail> {
+    if payload.len() > Payload::MOST || !gives(alloc, sim, all.as_slice())? {
+        return Ok(false);
+    }
+    let packets = sim.say(alloc, payload)?;
+    let said = bytes_of(alloc, packets.as_slice())?;
+    all.extend_from_slice(said.as_slice())?;
+    sim.step(alloc, SimEvent::Gone)?;
+    Ok(true)
 }
 
 /// Packets that do nothing: any before a login, a second login, a debug text; a heartbeat is answered by one; behind a
@@ -126,19 +139,31 @@ fn other_packets(rt: HostRuntime) -> Result<(), Fail> {
     let alloc = rt.alloc();
     let mut sim = with_three(alloc)?;
     sim.step(alloc, SimEvent::Up)?;
-    for kind in [b'U', b'R', b'O', b'+', 0] {
-        assert!(rt; sim.step(alloc, packet(alloc, kind, b"")?)?.is_empty());
-    }
+    before_a_login(&rt, alloc, &mut sim)?;
     logged_on(alloc, &mut sim, b"                             4")?;
-    assert!(rt; sim.step(alloc, packet(alloc, b'L', b"")?)?.is_empty());
-    assert!(rt; sim.step(alloc, packet(alloc, b'+', b"hi")?)?.is_empty());
-    assert!(rt;
-        sim.step(alloc, packet(alloc, b'U', b"no message")?)?
-            .is_empty()
-    );
-    let beats = sim.step(alloc, packet(alloc, b'R', b"")?)?;
-    assert!(rt; bytes_of(alloc, beats.as_slice())?.as_slice() == b"\0\x01H".as_slice());
-    assert!(rt; sim.step(alloc, packet(alloc, b'O', b"")?)?.is_empty());
+    behind_a_login(&rt, alloc, &mut sim)?;
     assert!(rt; sim.say(alloc, b"four")?.is_empty());
     Ok(())
+}
+
+fn before_a_login<R: Abort>(rt: &R, alloc: Global, sim: &mut Sim) -> Result<(), Fail> {
+    for kind in [b'U', b'R', b'O', b'+', 0] {
+        assert!(rt; answer(alloc, sim, kind, b"")?.is_empty());
+    }
+    Ok(())
+}
+
+fn behind_a_login<R: Abort>(rt: &R, alloc: Global, sim: &mut Sim) -> Result<(), Fail> {
+    assert!(rt; answer(alloc, sim, b'L', b"")?.is_empty());
+    assert!(rt; answer(alloc, sim, b'+', b"hi")?.is_empty());
+    assert!(rt; answer(alloc, sim, b'U', b"no message")?.is_empty());
+    assert!(rt; answer(alloc, sim, b'R', b"")?.as_slice() == b"\0\x01H".as_slice());
+    assert!(rt; answer(alloc, sim, b'O', b"")?.is_empty());
+    Ok(())
+}
+
+/// The bytes that a packet is answered by.
+fn answer(alloc: Global, sim: &mut Sim, kind: u8, payload: &[u8]) -> Result<Vec<u8>, Fail> {
+    let packets = sim.step(alloc, packet(alloc, kind, payload)?)?;
+    bytes_of(alloc, packets.as_slice())
 }
