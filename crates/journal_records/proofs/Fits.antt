@@ -1,11 +1,11 @@
 -- What an event and its batch keep is what their records need.
-use Rattle.std.proofs.Common.{◌≡◌, ◌<◌, ◌≤◌, ◌^◌, ℕ, suc, ◌+◌, ◌*◌, ◌/◌, ◌%◌, true, false, Bool, Option, Some, None}
+use Rattle.std.proofs.Common.{◌≡◌, ◌<◌, ◌≤◌, ◌^◌, ℕ, zero, suc, ◌+◌, ◌/◌, ◌%◌, true, false, Bool, Option, Some, None}
 use Rattle.std.proofs.Common.{List, [], ◌∷◌, ◌++◌, length, get_or, take, refl, sym, ap, subst, ◌∙◌, arith}
 use Rattle.std.proofs.lemmas.Bool.Decides.{nat_tests}
 use Rattle.std.proofs.lemmas.List.{take_all, take_more}
 use Rattle.std.specs.Option.{is_some}
 use Rattle.std.specs.Int.{w16, from_be_bytes}
-use Rattle.std.specs.Prelude.{◌==◌, ◌&&◌, nat_le, nat_lt, not, map, if◌then◌else◌}
+use Rattle.std.specs.Prelude.{◌==◌, ◌&&◌, nat_le, nat_lt, not, map}
 use Rattle.journal_pages.specs.fix_fields.Field.{AreFields, Message, fields_text}
 use Rattle.journal_pages.specs.fix_fields.Reading.{fields_of}
 use Rattle.journal_pages.proofs.fix_fields.Reading.{fields_of-fields_text}
@@ -14,18 +14,18 @@ use Rattle.gate_events.specs.soup_session.declared.port_fault.PortFault.TheVaria
 use Rattle.gate_events.specs.soup_session.Faults.{fault_number}
 use Rattle.soup_packets.specs.declared.packet.Packet.{Packet}
 use Rattle.soup_packets.specs.Spelling.{packet_bytes}
-use Rattle.gate_events.specs.gate_law.Events.{Batch, LinkOut, Write, Close, is_for_client, is_for_port}
+use Rattle.gate_events.specs.gate_law.Events.{Batch, LinkOut, Write, Close}
 use Rattle.gate_events.specs.declared.event.Event.{Event}
 use Rattle.gate_events.specs.declared.event.Event.TheVariants as events
 use Rattle.journal_pages.specs.declared.kind.RecordKind.{RecordKind}
 use Rattle.journal_pages.specs.declared.kind.RecordKind.TheVariants as kinds
 use Rattle.journal_pages.specs.Ordered.{AreWritable, IsWritable}
 use Rattle.journal_pages.specs.Record.{Record, is_fault_number, is_packet, is_sound, longest_frame, payload_limit}
-use Rattle.journal_records.specs.Events.{AreItsFields, event_record, record_with}
+use Rattle.journal_records.specs.Events.{event_record, record_with}
 use Rattle.journal_records.specs.Parts.{batch_records, client_records, end_record, fault_records, named_number}
 use Rattle.journal_records.specs.Parts.{out_record, port_records, report_record, turn_records}
 use Rattle.journal_records.specs.Whole.{AreReports, Each, IsFitBatch, IsFrame, IsFromOne, IsShortOut, IsShortReport}
-use Rattle.journal_records.specs.Whole.{IsTurn, IsWholeBatch}
+use Rattle.journal_records.specs.Whole.{IsTurn}
 
 -- ---- tests
 
@@ -221,6 +221,15 @@ each-all {X = X} P xs i end all = subst (λ (l : List X). Each P l) (take_all i 
 pub each-map : {X Y : Type 0} (P : Y → Type 0) (f : X → Y) (xs : List X) → Each (λ (x : X). P (f x)) xs → Each P (map f xs)
 each-map P f [] all = tt
 each-map P f (x ∷ xs) all = (all.0, each-map P f xs all.1)
+
+pub each-unmap : {X Y : Type 0} (P : Y → Type 0) (f : X → Y) (xs : List X) → Each P (map f xs) → Each (λ (x : X). P (f x)) xs
+each-unmap P f [] all = tt
+each-unmap P f (x ∷ xs) all = (all.0, each-unmap P f xs all.1)
+
+pub each-at : {X : Type 0} (P : X → Type 0) (xs : List X) (i : ℕ) (x : X) → i < length xs → x ≡ get_or xs i x → Each P xs → P x
+each-at P [] i x inside is all = let none : ⊥ = omega (arith, inside) in absurd none
+each-at P (y ∷ ys) zero x inside is all = subst P (sym is) all.0
+each-at P (y ∷ ys) (suc i) x inside is all = each-at P ys i x (omega (arith, inside)) is all.1
 
 pub reports-whole : (rs : List Message) → Each IsShortReport rs → AreReports rs
 reports-whole [] is = tt

@@ -1,8 +1,8 @@
 -- The records of an event and its batch stand in the order of a page, whole.
-use Rattle.std.proofs.Common.{◌≡◌, ◌≤◌, ℕ, true, false, Bool, Option, Some, None, List, [], ◌∷◌, ◌++◌, refl, sym, ap}
+use Rattle.std.proofs.Common.{◌≡◌, ◌≤◌, ℕ, true, Bool, Option, Some, None, List, [], ◌∷◌, ◌++◌, refl, ap}
 use Rattle.std.proofs.Common.{◌∙◌, arith}
 use Rattle.std.proofs.lemmas.Bool.Decides.{nat_tests}
-use Rattle.std.specs.Prelude.{◌==◌, ◌&&◌, ◌||◌, nat_le, nat_lt, not, map, if◌then◌else◌}
+use Rattle.std.specs.Prelude.{◌==◌, not, map, if◌then◌else◌}
 use Rattle.journal_pages.specs.fix_fields.Field.{Message}
 use Rattle.gate_events.specs.soup_session.declared.port_fault.PortFault.{PortFault}
 use Rattle.gate_events.specs.gate_law.Events.{Batch, LinkOut, Write, Close}
@@ -16,7 +16,7 @@ use Rattle.journal_pages.specs.declared.place.Place.TheVariants.{BetweenBatches,
 use Rattle.journal_pages.specs.declared.place.Batch.{Batch as Within}
 use Rattle.journal_pages.specs.Record.{Record}
 use Rattle.journal_pages.specs.Ordered.{order_fault, place_behind}
-use Rattle.journal_pages.specs.Page.{batch_at, batch_with, fault_at, is_event, is_same, may_follow, place_after, unless}
+use Rattle.journal_pages.specs.Page.{batch_at, batch_with, fault_at, is_event, is_same, may_follow, unless}
 use Rattle.journal_days.proofs.Places.{behind-both, order-both}
 use Rattle.gate_events.specs.soup_session.Faults.{fault_number}
 use Rattle.journal_records.specs.Events.{event_record, record_with}

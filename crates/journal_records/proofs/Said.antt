@@ -1,6 +1,6 @@
 -- The records of events with their batches say these events and batches.
 use Rattle.std.proofs.Common.{◌≡◌, ◌≤◌, ℕ, true, false, Bool, Option, Some, None, List, [], ◌∷◌, ◌++◌, refl, sym, ap}
-use Rattle.std.proofs.Common.{◌∙◌, arith, append-nil, append_assoc}
+use Rattle.std.proofs.Common.{◌∙◌, arith, append-nil}
 use Rattle.std.proofs.lemmas.Bool.Decides.{nat_tests}
 use Rattle.std.specs.Prelude.{◌==◌, not, map, if◌then◌else◌}
 use Rattle.journal_pages.specs.fix_fields.Field.{Message}
@@ -8,12 +8,11 @@ use Rattle.gate_events.specs.soup_session.declared.port_fault.PortFault.{PortFau
 use Rattle.gate_events.specs.gate_law.Events.{Batch, LinkOut, Write, Close}
 use Rattle.gate_events.specs.declared.event.Event.{Event}
 use Rattle.gate_events.specs.declared.event.Event.TheVariants as events
-use Rattle.journal_pages.specs.declared.kind.RecordKind.{RecordKind}
 use Rattle.journal_pages.specs.declared.kind.RecordKind.TheVariants as kinds
-use Rattle.journal_pages.specs.Record.{Record, is_sound, source_fits}
+use Rattle.journal_pages.specs.Record.{Record, is_sound}
 use Rattle.journal_pages.specs.Page.{is_event}
 use Rattle.journal_records.specs.Days.{batches_in, events_in, with_event}
-use Rattle.journal_records.specs.Events.{event_in, event_of_kind, event_record, record_with}
+use Rattle.journal_records.specs.Events.{event_in, event_record}
 use Rattle.journal_records.specs.Parts.{batch_records, client_records, end_record, fault_records, named_number}
 use Rattle.journal_records.specs.Parts.{out_record, port_records, report_record, turn_records}
 use Rattle.journal_records.specs.Reading.{BatchSaid, batch_in, batch_said, is_part, nothing_said, parts_said, said_more}

@@ -16,7 +16,8 @@ const PAYLOAD_LIMIT: usize = 1_048_576;
 /// Whether no link is told 2^20 bytes or more at once. All else that the records need is kept by the types. Takes no
 /// memory.
 pub fn turn_fits(event: &Event, batch: &Batch) -> bool
-    ensures { result ≡ true → IsTurn event.now (batch_seen batch.now) }
+    ensures fits { result ≡ true → IsTurn event.now (batch_seen batch.now) }
+    ensures only { IsTurn event.now (batch_seen batch.now) → result ≡ true }
 {
     event_fits(event);
     batch_fits(batch)
@@ -78,7 +79,8 @@ fn packet_fits(packet: &Packet)
 
 /// The same of a batch.
 fn batch_fits(batch: &Batch) -> bool
-    ensures { result ≡ true → IsFitBatch (batch_seen batch.now) }
+    ensures fits { result ≡ true → IsFitBatch (batch_seen batch.now) }
+    ensures only { IsFitBatch (batch_seen batch.now) → result ≡ true }
 {
     reports_fit(batch.reports.as_slice());
     client_fits(batch.client);
@@ -126,7 +128,8 @@ fn port_fits(port: Option<PortNumber>)
 
 /// Whether a link is told fewer than 2^20 bytes at once.
 fn outs_fit(outs: &[LinkOut]) -> bool
-    ensures { result ≡ true → Each IsShortOut (map link_out_seen outs.now) }
+    ensures fits { result ≡ true → Each IsShortOut (map link_out_seen outs.now) }
+    ensures only { Each IsShortOut (map link_out_seen outs.now) → result ≡ true }
 {
     for told in outs {
         if !out_fits(told) {
@@ -138,7 +141,8 @@ fn outs_fit(outs: &[LinkOut]) -> bool
 
 /// Whether these are fewer than 2^20 bytes.
 fn out_fits(told: &LinkOut) -> bool
-    ensures { result ≡ true → IsShortOut (link_out_seen told.now) }
+    ensures fits { result ≡ true → IsShortOut (link_out_seen told.now) }
+    ensures only { IsShortOut (link_out_seen told.now) → result ≡ true }
 {
     match told {
         LinkOut::Write { link, bytes } => {

@@ -1,4 +1,4 @@
-use Rattle.std.proofs.Common.{List, ℕ, ◌∷◌, [], ◌++◌, ap, ◌∙◌}
+use Rattle.std.proofs.Common.{List, ℕ, ◌∷◌, [], ap, ◌∙◌}
 use Rattle.gate_events.specs.gate_law.Events.{Batch}
 use Rattle.gate_events.specs.Seen.{batch_seen}
 use Rattle.journal_pages.specs.Record.{Record}
