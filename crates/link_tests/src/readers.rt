@@ -88,6 +88,15 @@ const FROM_CLIENT: &[u8; 44] =
 const FROM_PORT: &[u8; 19] =
     b"\x00\x03\x00\x00\x00\x00\x00\x00\x00\x07\x00\x00\x00\x00\x00\x00\x00\x05H";
 
+/// A step came to what is expected.
+fn came_to<R: Abort>(
+    rt: &R,
+    done: Result<Progress, LinkFault>,
+    expected: Result<Progress, LinkFault>,
+) {
+    assert_eq!(rt; done, expected);
+}
+
 /// Steps a reader to the end of its stream.
 fn step_to_end(
     alloc: Global,
@@ -126,6 +135,13 @@ fn frames_are_put_however_the_stream_is_read(rt: HostRuntime) -> Result<(), Fail
     Ok(())
 }
 
+/// So much was put.
+fn tells<R: Abort>(rt: &R, alloc: Global, gate: &Kept, expected: &[u8]) -> Result<(), Fail> {
+    let events = told(alloc, gate.events.as_slice())?;
+    assert_eq!(rt; events.as_slice(), expected);
+    Ok(())
+}
+
 #[test]
 fn a_head_of_too_long_a_frame(rt: HostRuntime) -> Result<(), Fail> {
     let mut gate = Kept::new(rt.alloc());
@@ -133,20 +149,21 @@ fn a_head_of_too_long_a_frame(rt: HostRuntime) -> Result<(), Fail> {
     for _ in 0..2 {
         let mut stream = pieces(TOO_LONG, 4_096, 100);
         let done = reader.step(rt.alloc(), &mut stream, &mut gate, 5);
-        assert_eq!(rt; done, Err(LinkFault::Malformed));
+        came_to(&rt, done, Err(LinkFault::Malformed));
     }
-    let events = told(rt.alloc(), gate.events.as_slice())?;
-    assert_eq!(rt; events.as_slice(), FROM_CLIENT.as_slice());
+    tells(&rt, rt.alloc(), &gate, FROM_CLIENT.as_slice())
+}
+
+#[test]
+fn a_head_of_the_longest_frame(rt: HostRuntime) -> Result<(), Fail> {
     let mut gate = Kept::new(rt.alloc());
     let mut reader = client_reader(rt.alloc(), 100);
     let mut stream = pieces(LONGEST, 4_096, 100);
     let done = reader.step(rt.alloc(), &mut stream, &mut gate, 5);
-    assert_eq!(rt; done, Ok(Progress::Read(43)));
+    came_to(&rt, done, Ok(Progress::Read(43)));
     let done = reader.step(rt.alloc(), &mut stream, &mut gate, 5);
-    assert_eq!(rt; done, Ok(Progress::Ended));
-    let events = told(rt.alloc(), gate.events.as_slice())?;
-    assert_eq!(rt; events.as_slice(), FROM_CLIENT.as_slice());
-    Ok(())
+    came_to(&rt, done, Ok(Progress::Ended));
+    tells(&rt, rt.alloc(), &gate, FROM_CLIENT.as_slice())
 }
 
 /// What is put of a port's stream by two steps, of which each has to find an empty packet.
@@ -156,7 +173,7 @@ fn put_before_fault<R: Abort>(rt: &R, alloc: Global, stream: &[u8]) -> Result<Ve
     let mut stream = pieces(stream, 4_096, 100);
     for _ in 0..2 {
         let done = reader.step(alloc, &mut stream, &mut gate, 5);
-        assert_eq!(rt; done, Err(LinkFault::Malformed));
+        came_to(rt, done, Err(LinkFault::Malformed));
     }
     Ok(told(alloc, gate.events.as_slice())?)
 }
@@ -178,11 +195,11 @@ fn a_reader_that_fails_at_each_read(rt: HostRuntime) -> Result<(), Fail> {
         let mut reader = client_reader(rt.alloc(), 100);
         for _ in 0..reads {
             let done = reader.step(rt.alloc(), &mut stream, &mut gate, 5);
-            assert_eq!(rt; done, Ok(Progress::Read(1)));
+            came_to(&rt, done, Ok(Progress::Read(1)));
         }
         for _ in 0..2 {
             let done = reader.step(rt.alloc(), &mut stream, &mut gate, 5);
-            assert_eq!(rt; done, Err(LinkFault::ReadFailed));
+            came_to(&rt, done, Err(LinkFault::ReadFailed));
         }
         assert_eq!(rt; gate.events.len(), usize::from(reads == HEARTBEAT.len()));
     }
@@ -200,12 +217,12 @@ fn hold<R: Abort>(
     gate.is_full = true;
     for at in 5..10 {
         let done = reader.step(alloc, stream, gate, at);
-        assert_eq!(rt; done, Ok(Progress::Held));
+        came_to(rt, done, Ok(Progress::Held));
         assert_eq!(rt; stream.reads_left, 0);
     }
     gate.is_full = false;
     let done = reader.step(alloc, stream, gate, 5);
-    assert_eq!(rt; done, Err(LinkFault::ReadFailed));
+    came_to(rt, done, Err(LinkFault::ReadFailed));
     Ok(())
 }
 
@@ -221,9 +238,7 @@ fn an_event_that_is_given_back_is_put_next(rt: HostRuntime) -> Result<(), Fail> 
         &mut pieces(TWO, 4_096, 1),
         &mut gate,
     )?;
-    let events = told(rt.alloc(), gate.events.as_slice())?;
-    assert_eq!(rt; events.as_slice(), expected.as_slice());
-    Ok(())
+    tells(&rt, rt.alloc(), &gate, expected.as_slice())
 }
 
 #[test]
@@ -236,11 +251,11 @@ fn a_stream_without_end_ends_at_the_limit(rt: HostRuntime) -> Result<(), Fail> {
     let mut reader = client_reader(rt.alloc(), 10_000);
     for _ in 1..10_000 {
         let done = reader.step(rt.alloc(), &mut stream, &mut gate, 5);
-        assert_eq!(rt; done, Ok(Progress::Read(1)));
+        came_to(&rt, done, Ok(Progress::Read(1)));
     }
     for _ in 0..2 {
         let done = reader.step(rt.alloc(), &mut stream, &mut gate, 5);
-        assert_eq!(rt; done, Err(LinkFault::StepLimit));
+        came_to(&rt, done, Err(LinkFault::StepLimit));
         assert_eq!(rt; stream.reads, 9_999);
     }
     Ok(())

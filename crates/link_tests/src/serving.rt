@@ -1,5 +1,7 @@
 //! Lines that are served at once.
 
+ghost use Rattle.std.specs.Prelude.{◌≤◌};
+
 use super::gates::Kept;
 use super::streams::Pieces;
 use gate_serving::{Closer, Line, LinkEnd, Opened, Opener, Worker, WriterEnd, serve};
@@ -296,6 +298,24 @@ fn line_of<'a, P: Drop, R>(
     }
 }
 
+/// The line of a client of this number, whose one link brings these bytes and is told a heartbeat, which sets `is_taken`
+/// as it is taken.
+fn told_line<'a, R>(
+    rt: &'a R,
+    alloc: Global,
+    client: u16,
+    stream: &'a [u8],
+    reader: Waiting<'a, R>,
+    seen: &'a Seen,
+    is_taken: &'a AtomicBool,
+) -> Result<TestLine<'a, ClientNumber, R>, Fail>
+    requires { 1 ≤ client }
+{
+    let links = links_of(alloc, stream, 1, 0, seen);
+    let writer = writing_gate(rt, alloc, seen, heartbeat(alloc)?, is_taken)?;
+    Ok(line_of(rt, ClientNumber::new(client), links, reader, writer))
+}
+
 #[test]
 fn a_client_waits_for_what_another_is_told(rt: HostRuntime) -> Result<(), Fail> {
     for is_first in [true, false] {
@@ -312,18 +332,35 @@ fn waits_for_another<'a, R: Threads + Wait + time::Clock + Abort + Sync>(
     seen: &'a Seen,
     is_first: bool,
 ) -> Result<(), Fail> {
-    let links = links_of(alloc, HEARTBEAT.as_slice(), 1, 0, seen);
     let reader = reading_gate(rt, alloc, seen, u32::from(is_first), &seen.second);
-    let writer = writing_gate(rt, alloc, seen, heartbeat(alloc)?, &seen.first)?;
-    let one = line_of(rt, ClientNumber::new(1), links, reader, writer);
-    let links = links_of(alloc, HEARTBEAT.as_slice(), 1, 0, seen);
+    let one = told_line(
+        rt,
+        alloc,
+        1,
+        HEARTBEAT.as_slice(),
+        reader,
+        seen,
+        &seen.first,
+    )?;
     let reader = reading_gate(rt, alloc, seen, u32::from(!is_first), &seen.first);
-    let writer = writing_gate(rt, alloc, seen, heartbeat(alloc)?, &seen.second)?;
-    let two = line_of(rt, ClientNumber::new(2), links, reader, writer);
+    let two = told_line(
+        rt,
+        alloc,
+        2,
+        HEARTBEAT.as_slice(),
+        reader,
+        seen,
+        &seen.second,
+    )?;
     let Ok(lines) = serve(rt, alloc, vec![in alloc; one, two]?) else {
         return Err(Fail::new("not served"));
     };
     look_at_both(rt, lines.as_slice(), seen)
+}
+
+/// So many events were put of a line.
+fn kept<'a, P, R: Abort>(rt: &'a R, line: &TestLine<'a, P, R>, events: usize) {
+    assert_eq!(rt; line.reader.gate.kept.events.len(), events);
 }
 
 /// Nobody waited in vain, and each client's events and list went through.
@@ -334,9 +371,9 @@ fn look_at_both<'a, R: Abort>(
 ) -> Result<(), Fail> {
     assert!(rt; !seen.is_failed.load(Ordering::SeqCst));
     for line in lines {
-        assert_eq!(rt; line.fault, None);
-        assert_eq!(rt; line.reader.gate.kept.events.len(), 3);
-        assert_eq!(rt; line.writer.gate.kept.given.len(), 1);
+        assert!(rt; line.fault.is_none());
+        kept(rt, line, 3);
+        assert!(rt; line.writer.gate.kept.given.len() == 1);
     }
     assert_eq!(rt; seen.bytes.load(Ordering::SeqCst), 52);
     Ok(())
@@ -357,14 +394,19 @@ fn waits_for_itself<'a, R: Threads + Wait + time::Clock + Abort + Sync>(
     alloc: Global,
     seen: &'a Seen,
 ) -> Result<(), Fail> {
-    let links = links_of(alloc, LOGON_AND_HEARTBEAT.as_slice(), 1, 0, seen);
     let reader = reading_gate(rt, alloc, seen, 4, &seen.first);
-    let writer = writing_gate(rt, alloc, seen, heartbeat(alloc)?, &seen.first)?;
-    let one = line_of(rt, ClientNumber::new(1), links, reader, writer);
-    let links = links_of(alloc, HEARTBEAT.as_slice(), 1, 0, seen);
+    let stream = LOGON_AND_HEARTBEAT.as_slice();
+    let one = told_line(rt, alloc, 1, stream, reader, seen, &seen.first)?;
     let reader = reading_gate(rt, alloc, seen, 0, &seen.never);
-    let writer = writing_gate(rt, alloc, seen, heartbeat(alloc)?, &seen.never)?;
-    let two = line_of(rt, ClientNumber::new(2), links, reader, writer);
+    let two = told_line(
+        rt,
+        alloc,
+        2,
+        HEARTBEAT.as_slice(),
+        reader,
+        seen,
+        &seen.never,
+    )?;
     let Ok(lines) = serve(rt, alloc, vec![in alloc; one, two]?) else {
         return Err(Fail::new("not served"));
     };
@@ -381,10 +423,9 @@ fn look_at_own<'a, R: Abort>(
     let [one, two] = lines else {
         return Err(Fail::new("not two lines"));
     };
-    assert_eq!(rt; one.peer.number(), 1);
-    assert_eq!(rt; one.reader.gate.kept.events.len(), 4);
-    assert_eq!(rt; two.peer.number(), 2);
-    assert_eq!(rt; two.reader.gate.kept.events.len(), 3);
+    assert!(rt; one.peer.number() == 1 && two.peer.number() == 2);
+    kept(rt, one, 4);
+    kept(rt, two, 3);
     Ok(())
 }
 
@@ -429,14 +470,13 @@ fn look_at_three<'a, R: Abort>(
     alloc: Global,
     line: &TestLine<'a, PortNumber, R>,
 ) -> Result<(), Fail> {
-    assert_eq!(rt; line.fault, Some(LinkFault::ReadFailed));
+    assert!(rt; line.fault == Some(LinkFault::ReadFailed));
     let ups = links_up(alloc, line.reader.gate.kept.events.as_slice())?;
     assert_eq!(rt; ups.as_slice(), [1, 2, 3].as_slice());
-    assert_eq!(rt; line.reader.gate.kept.events.len(), 12);
+    kept(rt, line, 12);
     assert_eq!(rt; line.opener.ends.len(), 3);
     for end in &line.opener.ends {
-        assert_eq!(rt; end.reader, Ok(()));
-        assert_eq!(rt; end.fault(), None);
+        assert!(rt; end.reader.is_ok() && end.fault().is_none());
     }
     Ok(())
 }
@@ -501,7 +541,7 @@ fn look_at_closed<'a, R: Abort>(
     assert_eq!(rt; lines.len(), 1);
     for line in lines {
         for end in &line.opener.ends {
-            assert_eq!(rt; end.writer, Ok(WriterEnd::Closed));
+            assert!(rt; end.writer == Ok(WriterEnd::Closed));
         }
         assert_eq!(rt; line.opener.ends.len(), 1);
     }
