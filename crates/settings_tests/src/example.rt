@@ -28,18 +28,20 @@ fn the_ports_of_the_example(rt: HostRuntime) -> Result<(), Fail> {
     Ok(())
 }
 
+const USERS: [&[u8; 6]; 2] = [b"USER01", b"USER02"];
+
+const PASSWORDS: [&str; 2] = ["PASSWORD", ""];
+
 fn users<R: Abort>(rt: &R, file: &SettingsFile) {
-    let users = [b"USER01", b"USER02"];
-    assert_eq!(rt; file.settings.ports().len(), users.len());
-    for (port, user) in file.settings.ports().iter().zip(users.iter()) {
+    assert_eq!(rt; file.settings.ports().len(), USERS.len());
+    for (port, user) in file.settings.ports().iter().zip(USERS) {
         assert_eq!(rt; port.user.as_slice(), user.as_slice());
     }
 }
 
 fn passwords<R: Abort>(rt: &R, file: &SettingsFile) {
-    let passwords = [b"PASSWORD".as_slice(), b"".as_slice()];
-    for (port, password) in file.settings.ports().iter().zip(passwords.iter()) {
-        assert_eq!(rt; port.password.as_slice(), *password);
+    for (port, password) in file.settings.ports().iter().zip(PASSWORDS) {
+        assert_eq!(rt; port.password.as_slice(), password.as_bytes());
     }
 }
 
@@ -61,28 +63,25 @@ fn the_clients_of_the_example(rt: HostRuntime) -> Result<(), Fail> {
     Ok(())
 }
 
+const CLIENTS: [(&str, u16); 3] = [("BANK", 1), ("BROKER", 1), ("DESK", 2)];
+
 fn names_and_ports<R: Abort>(rt: &R, file: &SettingsFile) {
-    let clients = [
-        (b"BANK".as_slice(), 1),
-        (b"BROKER".as_slice(), 1),
-        (b"DESK".as_slice(), 2),
-    ];
-    assert_eq!(rt; file.settings.clients().len(), clients.len());
-    for (client, expected) in file.settings.clients().iter().zip(clients.iter()) {
-        let (comp, port) = *expected;
-        assert_eq!(rt; client.comp.as_slice(), comp);
+    assert_eq!(rt; file.settings.clients().len(), CLIENTS.len());
+    for (client, (comp, port)) in file.settings.clients().iter().zip(CLIENTS) {
+        assert_eq!(rt; client.comp.as_slice(), comp.as_bytes());
         assert_eq!(rt; client.terms.port, port);
     }
 }
 
+/// Firm, capacity and customer.
+const TERMS: [(&[u8; 4], u8, u8); 3] = [
+    (b"FIRM", b'A', b'R'),
+    (b"BRK ", b'P', b'N'),
+    (b"FIRM", b'R', b' '),
+];
+
 fn terms<R: Abort>(rt: &R, file: &SettingsFile) {
-    let clients = [
-        (b"FIRM", b'A', b'R'),
-        (b"BRK ", b'P', b'N'),
-        (b"FIRM", b'R', b' '),
-    ];
-    for (client, expected) in file.settings.clients().iter().zip(clients.iter()) {
-        let (firm, capacity, customer) = *expected;
+    for (client, (firm, capacity, customer)) in file.settings.clients().iter().zip(TERMS) {
         assert_eq!(rt; client.terms.firm, *firm);
         assert_eq!(rt; client.terms.capacity, capacity);
         assert_eq!(rt; client.terms.customer, customer);
