@@ -298,8 +298,8 @@ fn line_of<'a, P: Drop, R>(
     }
 }
 
-/// The line of a client of this number, whose one link brings these bytes and is told a heartbeat, which sets `is_taken`
-/// as it is taken.
+/// The line of a client of this number, whose one link brings these bytes and is told a heartbeat, which sets
+/// `is_taken` as it is taken.
 fn told_line<'a, R>(
     rt: &'a R,
     alloc: Global,
