@@ -46,8 +46,7 @@ impl PrintedFields {
         ensures ok { OnOk result (self.new ≡ self.old ++ record { tag = tag; value = value.now } ∷ []) }
         ensures err { OnErr result (self.new ≡ self.old) }
     {
-        let mut buffer = Buffer::new();
-        append_field(&mut self.text, buffer.format(tag).as_bytes(), value)?;
+        append_field(&mut self.text, tag, value)?;
         Ok(())
     }
 

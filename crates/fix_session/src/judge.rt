@@ -11,8 +11,8 @@ use crate::draft::first_number;
 use crate::session::Session;
 use fix_fields::Fields;
 use session_reading::{
-    Row, interval_of, is, is_interval, is_plain_reset, is_reset_flag, is_type, judge_low,
-    judge_plain_reset, judge_resend, judge_taken, numbered, resets,
+    Row, interval_of, is, is_interval, is_letter, is_plain_reset, is_reset_flag, is_type,
+    judge_low, judge_plain_reset, judge_resend, judge_taken, numbered, resets,
 };
 
 /// Whether a message's names (49, 56) are the client's and the gateway's.
@@ -63,10 +63,10 @@ fn judge_high(session: &Session, m: &Fields) -> Row
         (ask_again session.now.session (table.message_number m.now))
         else table.acts (ask_again session.now.session (table.message_number m.now)))) }
 {
-    if is_type(m, b"5") {
+    if is_type(m, b'5') {
         return Row::LoggedOut;
     }
-    if is_type(m, b"2") {
+    if is_type(m, b'2') {
         return Row::GapWithResend(judge_resend(m, session.last()));
     }
     Row::Gap
@@ -89,10 +89,10 @@ pub enum LogonRow {
 fn is_logon(session: &Session, m: &Fields) -> bool
     ensures { result ≡ table.is_logon session.now.session m.now }
 {
-    is_type(m, b"A")
+    is_type(m, b'A')
         && (is_from_client(session, m)
             && (numbered(m) != 0
-                && (is(m, 98, b"0")
+                && (is_letter(m, 98, b'0')
                     && (is_interval(m) && (is_reset_flag(m) && m.first_fault().is_none())))))
 }
 

@@ -11,7 +11,7 @@ use crate::issues::{body_of, kind_of};
 use crate::judge::{judge, judge_logon};
 use crate::logon::answer_logon;
 use crate::ticks::do_due;
-use fix_fields::{Fields, Text, printed_fields};
+use fix_fields::{Fields, PrintedFields, Text};
 use session_law::{Kind, Logged, Phase};
 use session_reading::{AppBody, AppMsg, due_at};
 use session_writing::{
@@ -324,7 +324,7 @@ impl Session {
         &mut self,
         alloc: Global,
         kind: Kind,
-        body: &Fields,
+        body: &PrintedFields,
         at: u64,
     ) -> Result<IssuedTurn, AllocError>
         ensures meets { IfOk result (λ issued. Meets self.old.session
@@ -338,7 +338,7 @@ impl Session {
         let now = self.latest.max(at);
         let report = self.next_report(alloc, kind, body, now)?;
         let outs = issued_outs(alloc, self.phase, &report)?;
-        self.given.keep(kind, printed_fields(body), now)?;
+        self.given.keep(kind, body.text(), now)?;
         self.latest = now;
         self.phase = phase_issued(self.phase, now);
         let turn = SessionTurn { outs, app: None };
@@ -350,7 +350,7 @@ impl Session {
         &self,
         alloc: Global,
         kind: Kind,
-        body: &Fields,
+        body: &PrintedFields,
         at: u64,
     ) -> Result<IssuedReport, AllocError>
         ensures { IfOk result (λ report. report ≡ frame_fields stamp_text self.now.session.gate self.now.session.client
@@ -362,13 +362,7 @@ impl Session {
             at,
             first: None,
         };
-        report_of_body(
-            alloc,
-            self.gate(),
-            self.client(),
-            head,
-            printed_fields(body),
-        )
+        report_of_body(alloc, self.gate(), self.client(), head, body.text())
     }
 
     /// A frame of the client. Where it is judged, nothing changes; what it brings is made, and then taken over whole.

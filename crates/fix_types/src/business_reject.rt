@@ -5,7 +5,7 @@ ghost use Rattle.fix_types.specs.BusinessReject.{business_reject_body_slots, bus
 ghost use Rattle.fix_types.specs.BusinessReject.{business_reject_refusal, IsBusinessReject};
 ghost use Rattle.fix_values.specs.Slots.{appended};
 
-use fix_fields::{Fields, Text};
+use fix_fields::{Fields, PrintedFields, Text};
 use fix_values::reading::{number_in, text_at};
 use fix_values::writing::{push_letter, push_number, push_text};
 use fix_values::{Format, Row, TextFault, first_refusal};
@@ -52,10 +52,10 @@ impl TextWire<Fields, TextFault> for BusinessReject {
     ghost is_no_memory = { λ fault. fault ≡ NoMemory };
 
     fn put(&self, alloc: Global) -> Result<Fields, AllocError> {
-        let mut fields = Fields::with_capacity(alloc, 5, 64)?;
+        let mut fields = PrintedFields::with_capacity(alloc, 64)?;
         push_letter(&mut fields, 35, b'j')?;
         push_body(&mut fields, self)?;
-        Ok(fields)
+        fields.to_fields(alloc)
     }
 
     fn get(alloc: Global, fields: &Fields) -> Result<Self, TextFault>
@@ -74,7 +74,7 @@ impl TextWire<Fields, TextFault> for BusinessReject {
 }
 
 /// Adds what is refused, and why.
-fn push_body(fields: &mut Fields, reject: &BusinessReject) -> Result<(), AllocError>
+fn push_body(fields: &mut PrintedFields, reject: &BusinessReject) -> Result<(), AllocError>
     ensures written { OnOk result (fields.new ≡ appended fields.old (business_reject_body_slots reject.now)) }
     ensures kept { OnOk result (IsBusinessReject reject.now) }
 {

@@ -1,11 +1,10 @@
 //! OrderCancelReject: 35=9.
 
 ghost use Rattle.std.specs.Prelude.{◌≡◌, None, IfOk, OnOk};
-ghost use Rattle.fix_values.specs.Slots.{appended};
-ghost use Rattle.fix_types.specs.CancelReject.{cancel_reject_body_slots, cancel_reject_body, cancel_reject_in};
+ghost use Rattle.fix_types.specs.CancelReject.{cancel_reject_body, cancel_reject_in};
 ghost use Rattle.fix_types.specs.CancelReject.{cancel_reject_refusal, IsCancelReject};
 
-use fix_fields::{Fields, Text};
+use fix_fields::{Fields, PrintedFields, Text};
 use fix_values::reading::{id_at, number_in, ord_status_at, order_id_in, response_at, text_at};
 use fix_values::writing::{push_id, push_letter, push_number, push_order_id, push_text};
 use fix_values::{ClOrdId, CxlRejResponseTo, Format, OrdStatus, Row, TextFault, first_refusal};
@@ -63,14 +62,21 @@ const ROWS: [Row; 6] = [
 ];
 
 impl CancelReject {
-    /// The reject's fields without its type (35), as they stand behind a header. Growths as the fields need.
-    pub fn body(&self, alloc: Global) -> Result<Fields, AllocError>
-        ensures body { IfOk result (λ body. body ≡ cancel_reject_body self.now) }
-        ensures kept { IfOk result (λ body. IsCancelReject self.now) }
+    ghost use Rattle.std.specs.Prelude.{◌++◌};
+
+    /// Adds the reject's fields without its type (35), as they stand behind a header. `AllocError` leaves the first of
+    /// them.
+    pub fn push_body(&self, fields: &mut PrintedFields) -> Result<(), AllocError>
+        ensures body { OnOk result (fields.new ≡ fields.old ++ cancel_reject_body self.now) }
+        ensures kept { OnOk result (IsCancelReject self.now) }
     {
-        let mut fields = Fields::with_capacity(alloc, 7, 96)?;
-        push_body(&mut fields, self)?;
-        Ok(fields)
+        push_order_id(fields, 37, self.order_id)?;
+        push_id(fields, 11, &self.cl_ord_id)?;
+        push_id(fields, 41, &self.orig_cl_ord_id)?;
+        push_letter(fields, 39, self.ord_status.letter())?;
+        push_letter(fields, 434, self.cxl_rej_response_to.letter())?;
+        push_number(fields, 102, self.cxl_rej_reason)?;
+        push_text(fields, 58, &self.text)
     }
 }
 
@@ -89,10 +95,10 @@ impl TextWire<Fields, TextFault> for CancelReject {
     ghost is_no_memory = { λ fault. fault ≡ NoMemory };
 
     fn put(&self, alloc: Global) -> Result<Fields, AllocError> {
-        let mut fields = Fields::with_capacity(alloc, 8, 96)?;
+        let mut fields = PrintedFields::with_capacity(alloc, 96)?;
         push_letter(&mut fields, 35, b'9')?;
-        push_body(&mut fields, self)?;
-        Ok(fields)
+        self.push_body(&mut fields)?;
+        fields.to_fields(alloc)
     }
 
     fn get(alloc: Global, fields: &Fields) -> Result<Self, TextFault>
@@ -108,20 +114,6 @@ impl TextWire<Fields, TextFault> for CancelReject {
             None => Ok(read_cancel_reject(alloc, fields)?),
         }
     }
-}
-
-/// Adds all but the type.
-fn push_body(fields: &mut Fields, reject: &CancelReject) -> Result<(), AllocError>
-    ensures written { OnOk result (fields.new ≡ appended fields.old (cancel_reject_body_slots reject.now)) }
-    ensures kept { OnOk result (IsCancelReject reject.now) }
-{
-    push_order_id(fields, 37, reject.order_id)?;
-    push_id(fields, 11, &reject.cl_ord_id)?;
-    push_id(fields, 41, &reject.orig_cl_ord_id)?;
-    push_letter(fields, 39, reject.ord_status.letter())?;
-    push_letter(fields, 434, reject.cxl_rej_response_to.letter())?;
-    push_number(fields, 102, reject.cxl_rej_reason)?;
-    push_text(fields, 58, &reject.text)
 }
 
 /// The reject that fields say, which meet no refusal.

@@ -5,7 +5,7 @@ ghost use Rattle.fix_types.specs.CancelRequest.{cancel_request_of, IsCancelReque
 ghost use Rattle.fix_types.specs.Requests as requests;
 
 use crate::requests::cancel_refusal;
-use fix_fields::Fields;
+use fix_fields::{Fields, PrintedFields};
 use fix_values::reading::id_at;
 use fix_values::writing::{push_id, push_letter};
 use fix_values::{ClOrdId, TextFault};
@@ -60,11 +60,11 @@ impl TextWire<Fields, TextFault> for CancelRequest {
     ghost is_no_memory = { λ fault. fault ≡ NoMemory };
 
     fn put(&self, alloc: Global) -> Result<Fields, AllocError> {
-        let mut fields = Fields::with_capacity(alloc, 3, 64)?;
+        let mut fields = PrintedFields::with_capacity(alloc, 64)?;
         push_letter(&mut fields, 35, b'F')?;
         push_id(&mut fields, 11, &self.cl_ord_id)?;
         push_id(&mut fields, 41, &self.orig_cl_ord_id)?;
-        Ok(fields)
+        fields.to_fields(alloc)
     }
 
     fn get(alloc: Global, fields: &Fields) -> Result<Self, TextFault>

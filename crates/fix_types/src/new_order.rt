@@ -1,8 +1,12 @@
 //! NewOrderSingle: 35=D.
 
+ghost use Rattle.std.specs.Prelude.{◌≡◌, OnOk};
+ghost use Rattle.fix_values.specs.Slots.{appended};
+ghost use Rattle.fix_types.specs.NewOrder.{new_order_slots, IsNewOrder};
+
 use crate::new_order_reading::read_new_order;
 use crate::requests::new_order_refusal;
-use fix_fields::{Fields, Text};
+use fix_fields::{Fields, PrintedFields, Text};
 use fix_values::writing::{
     push_char, push_float, push_id, push_letter, push_optional_char, push_optional_float,
     push_optional_text, push_text,
@@ -93,19 +97,9 @@ impl TextWire<Fields, TextFault> for NewOrder {
     ghost is_no_memory = { λ fault. fault ≡ NoMemory };
 
     fn put(&self, alloc: Global) -> Result<Fields, AllocError> {
-        let mut fields = Fields::with_capacity(alloc, 11, 128)?;
-        push_letter(&mut fields, 35, b'D')?;
-        push_id(&mut fields, 11, &self.cl_ord_id)?;
-        push_char(&mut fields, 54, self.side)?;
-        push_text(&mut fields, 55, &self.symbol)?;
-        push_float(&mut fields, 38, &self.order_qty)?;
-        push_char(&mut fields, 40, self.ord_type)?;
-        push_optional_float(&mut fields, 44, &self.price)?;
-        push_optional_char(&mut fields, 59, self.time_in_force)?;
-        push_optional_text(&mut fields, 18, &self.exec_inst)?;
-        push_optional_char(&mut fields, 528, self.order_capacity)?;
-        push_optional_float(&mut fields, 110, &self.min_qty)?;
-        Ok(fields)
+        let mut fields = PrintedFields::with_capacity(alloc, 128)?;
+        push_fields(&mut fields, self)?;
+        fields.to_fields(alloc)
     }
 
     fn get(alloc: Global, fields: &Fields) -> Result<Self, TextFault>
@@ -121,4 +115,22 @@ impl TextWire<Fields, TextFault> for NewOrder {
             None => Ok(read_new_order(alloc, fields)?),
         }
     }
+}
+
+/// Adds the fields of a new order, its type (35) first. `AllocError` leaves the first of them.
+fn push_fields(fields: &mut PrintedFields, order: &NewOrder) -> Result<(), AllocError>
+    ensures written { OnOk result (fields.new ≡ appended fields.old (new_order_slots order.now)) }
+    ensures kept { OnOk result (IsNewOrder order.now) }
+{
+    push_letter(fields, 35, b'D')?;
+    push_id(fields, 11, &order.cl_ord_id)?;
+    push_char(fields, 54, order.side)?;
+    push_text(fields, 55, &order.symbol)?;
+    push_float(fields, 38, &order.order_qty)?;
+    push_char(fields, 40, order.ord_type)?;
+    push_optional_float(fields, 44, &order.price)?;
+    push_optional_char(fields, 59, order.time_in_force)?;
+    push_optional_text(fields, 18, &order.exec_inst)?;
+    push_optional_char(fields, 528, order.order_capacity)?;
+    push_optional_float(fields, 110, &order.min_qty)
 }

@@ -1,8 +1,12 @@
 //! OrderCancelReplaceRequest: 35=G.
 
+ghost use Rattle.std.specs.Prelude.{◌≡◌, OnOk};
+ghost use Rattle.fix_values.specs.Slots.{appended};
+ghost use Rattle.fix_types.specs.ReplaceRequest.{replace_request_slots, IsReplaceRequest};
+
 use crate::replace_request_reading::read_replace_request;
 use crate::requests::replace_refusal;
-use fix_fields::{Fields, Text};
+use fix_fields::{Fields, PrintedFields, Text};
 use fix_values::writing::{
     push_char, push_float, push_id, push_letter, push_optional_char, push_optional_float,
     push_optional_text,
@@ -79,20 +83,9 @@ impl TextWire<Fields, TextFault> for ReplaceRequest {
     ghost is_no_memory = { λ fault. fault ≡ NoMemory };
 
     fn put(&self, alloc: Global) -> Result<Fields, AllocError> {
-        let mut fields = Fields::with_capacity(alloc, 12, 128)?;
-        push_letter(&mut fields, 35, b'G')?;
-        push_id(&mut fields, 11, &self.cl_ord_id)?;
-        push_id(&mut fields, 41, &self.orig_cl_ord_id)?;
-        push_optional_char(&mut fields, 54, self.side)?;
-        push_optional_text(&mut fields, 55, &self.symbol)?;
-        push_float(&mut fields, 38, &self.order_qty)?;
-        push_char(&mut fields, 40, self.ord_type)?;
-        push_optional_float(&mut fields, 44, &self.price)?;
-        push_optional_char(&mut fields, 59, self.time_in_force)?;
-        push_optional_text(&mut fields, 18, &self.exec_inst)?;
-        push_optional_char(&mut fields, 528, self.order_capacity)?;
-        push_optional_float(&mut fields, 110, &self.min_qty)?;
-        Ok(fields)
+        let mut fields = PrintedFields::with_capacity(alloc, 128)?;
+        push_fields(&mut fields, self)?;
+        fields.to_fields(alloc)
     }
 
     fn get(alloc: Global, fields: &Fields) -> Result<Self, TextFault>
@@ -108,4 +101,23 @@ impl TextWire<Fields, TextFault> for ReplaceRequest {
             None => Ok(read_replace_request(alloc, fields)?),
         }
     }
+}
+
+/// Adds the fields of a replace request, its type (35) first. `AllocError` leaves the first of them.
+fn push_fields(fields: &mut PrintedFields, request: &ReplaceRequest) -> Result<(), AllocError>
+    ensures written { OnOk result (fields.new ≡ appended fields.old (replace_request_slots request.now)) }
+    ensures kept { OnOk result (IsReplaceRequest request.now) }
+{
+    push_letter(fields, 35, b'G')?;
+    push_id(fields, 11, &request.cl_ord_id)?;
+    push_id(fields, 41, &request.orig_cl_ord_id)?;
+    push_optional_char(fields, 54, request.side)?;
+    push_optional_text(fields, 55, &request.symbol)?;
+    push_float(fields, 38, &request.order_qty)?;
+    push_char(fields, 40, request.ord_type)?;
+    push_optional_float(fields, 44, &request.price)?;
+    push_optional_char(fields, 59, request.time_in_force)?;
+    push_optional_text(fields, 18, &request.exec_inst)?;
+    push_optional_char(fields, 528, request.order_capacity)?;
+    push_optional_float(fields, 110, &request.min_qty)
 }

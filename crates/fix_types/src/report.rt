@@ -2,7 +2,7 @@
 
 use crate::report_fields::{push_amounts, push_head};
 use crate::report_reading::read_report;
-use fix_fields::{Fields, Text};
+use fix_fields::{Fields, PrintedFields, Text};
 use fix_values::writing::push_letter;
 use fix_values::{Character, ClOrdId, ExecType, Format, OrdStatus, Row, TextFault, first_refusal};
 use std::alloc::{AllocError, Global};
@@ -102,18 +102,17 @@ const ROWS: [Row; 13] = [
 ];
 
 impl Report {
-    ghost use Rattle.std.specs.Prelude.{◌≡◌, IfOk};
+    ghost use Rattle.std.specs.Prelude.{◌≡◌, ◌++◌, OnOk};
     ghost use Rattle.fix_types.specs.Report.{report_body, IsReport};
 
-    /// The report's fields without its type (35), as they stand behind a header. Growths as the fields need.
-    pub fn body(&self, alloc: Global) -> Result<Fields, AllocError>
-        ensures body { IfOk result (λ body. body ≡ report_body self.now) }
-        ensures kept { IfOk result (λ body. IsReport self.now) }
+    /// Adds the report's fields without its type (35), as they stand behind a header. `AllocError` leaves the first of
+    /// them.
+    pub fn push_body(&self, fields: &mut PrintedFields) -> Result<(), AllocError>
+        ensures body { OnOk result (fields.new ≡ fields.old ++ report_body self.now) }
+        ensures kept { OnOk result (IsReport self.now) }
     {
-        let mut fields = Fields::with_capacity(alloc, 20, 256)?;
-        push_head(&mut fields, self)?;
-        push_amounts(&mut fields, self)?;
-        Ok(fields)
+        push_head(fields, self)?;
+        push_amounts(fields, self)
     }
 }
 
@@ -131,11 +130,10 @@ impl TextWire<Fields, TextFault> for Report {
     ghost is_no_memory = { λ fault. fault ≡ NoMemory };
 
     fn put(&self, alloc: Global) -> Result<Fields, AllocError> {
-        let mut fields = Fields::with_capacity(alloc, 20, 256)?;
+        let mut fields = PrintedFields::with_capacity(alloc, 256)?;
         push_letter(&mut fields, 35, b'8')?;
-        push_head(&mut fields, self)?;
-        push_amounts(&mut fields, self)?;
-        Ok(fields)
+        self.push_body(&mut fields)?;
+        fields.to_fields(alloc)
     }
 
     fn get(alloc: Global, fields: &Fields) -> Result<Self, TextFault>

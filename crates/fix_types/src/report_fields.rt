@@ -5,7 +5,7 @@ ghost use Rattle.fix_values.specs.Slots.{appended};
 ghost use Rattle.fix_types.specs.Report.{head_slots, amount_slots, KeepsHead, KeepsAmounts};
 
 use crate::report::Report;
-use fix_fields::Fields;
+use fix_fields::PrintedFields;
 use fix_values::writing::{
     push_char, push_id, push_letter, push_number, push_optional_id, push_optional_number,
     push_optional_text, push_text,
@@ -13,7 +13,7 @@ use fix_values::writing::{
 use std::alloc::AllocError;
 
 /// Adds what a report is of, and what happened.
-pub fn push_head(fields: &mut Fields, report: &Report) -> Result<(), AllocError>
+pub fn push_head(fields: &mut PrintedFields, report: &Report) -> Result<(), AllocError>
     ensures written { OnOk result (fields.new ≡ appended fields.old (head_slots report.now)) }
     ensures kept { OnOk result (KeepsHead report.now) }
 {
@@ -29,7 +29,7 @@ pub fn push_head(fields: &mut Fields, report: &Report) -> Result<(), AllocError>
 }
 
 /// Adds the order's terms and amounts.
-pub fn push_amounts(fields: &mut Fields, report: &Report) -> Result<(), AllocError>
+pub fn push_amounts(fields: &mut PrintedFields, report: &Report) -> Result<(), AllocError>
     ensures written { OnOk result (fields.new ≡ appended fields.old (amount_slots report.now)) }
     ensures kept { OnOk result (KeepsAmounts report.now) }
 {

@@ -1,7 +1,8 @@
 -- The first value of a tag in fields that are written slot by slot.
-use Rattle.std.proofs.Common.{◌≡◌, Bool, true, false, ℕ, List, [], ◌∷◌, ◌++◌, refl, ap, ◌∙◌, sym}
+use Rattle.std.proofs.Common.{◌≡◌, Bool, true, false, ℕ, List, [], ◌∷◌, ◌++◌, refl, ap, ◌∙◌, sym, append-nil, append_assoc}
 use Rattle.std.specs.Prelude.{Option, Some, None, ◌==◌, if◌then◌else◌, unwrap_or}
 use Rattle.std.specs.Option.{option_or}
+use Rattle.std.proofs.lemmas.List.Sums.{fold-append}
 use Rattle.fix_fields.specs.Field.{Field, first_value}
 use Rattle.fix_values.specs.Slots.{FieldSlot, value_fields, slot_fields, appended, fields_of_slots, text_of}
 
@@ -54,3 +55,14 @@ value_in tag slots value e = first_value-fields_of tag slots ∙ e ∙ option_or
 -- the text of a tag that is there
 pub text_in : (tag : ℕ) (fs : List Field) (value : List ℕ) → first_value tag fs ≡ Some value → text_of tag fs ≡ value
 text_in tag fs value e = ap (λ (v : Option (List ℕ)). unwrap_or v []) e
+
+-- slots that are added stand behind what was there
+pub appended-fields : (fs : List Field) (slots : List FieldSlot) → appended fs slots ≡ fs ++ fields_of_slots slots
+appended-fields fs [] = sym (append-nil fs)
+appended-fields fs (s ∷ slots) =
+    appended-fields (fs ++ slot_fields s) slots ∙ append_assoc fs (slot_fields s) (fields_of_slots slots) ∙ ap (λ (more : List Field). fs ++ more) (sym (appended-fields (slot_fields s) slots))
+
+-- slots that are added in two steps
+pub appended-both : (fs : List Field) (first more : List FieldSlot) → appended (appended fs first) more ≡ fs ++ fields_of_slots (first ++ more)
+appended-both fs first more =
+    sym (fold-append (λ (before : List Field) (s : FieldSlot). before ++ slot_fields s) fs first more) ∙ appended-fields fs (first ++ more)

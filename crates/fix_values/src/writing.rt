@@ -10,12 +10,11 @@ ghost use Rattle.fix_values.specs.Slots.{slot, field_slot, slot_fields, char_tex
 use crate::character::Character;
 use crate::cl_ord_id::ClOrdId;
 use crate::float_text::FloatText;
-use fix_fields::{Fields, Text};
-use itoa::Buffer;
+use fix_fields::{PrintedFields, Text};
 use std::alloc::AllocError;
 
 /// Adds a letter.
-pub fn push_letter(fields: &mut Fields, tag: u32, letter: u8) -> Result<(), AllocError>
+pub fn push_letter(fields: &mut PrintedFields, tag: u32, letter: u8) -> Result<(), AllocError>
     requires tag { IsTag tag }
     requires letter { IsValue (letter ∷ []) }
     ensures { OnOk result (fields.new ≡ fields.old ++ slot_fields (field_slot tag (letter ∷ []))) }
@@ -24,7 +23,7 @@ pub fn push_letter(fields: &mut Fields, tag: u32, letter: u8) -> Result<(), Allo
 }
 
 /// Adds a value of one byte.
-pub fn push_char(fields: &mut Fields, tag: u32, value: Character) -> Result<(), AllocError>
+pub fn push_char(fields: &mut PrintedFields, tag: u32, value: Character) -> Result<(), AllocError>
     requires { IsTag tag }
     ensures { OnOk result (fields.new ≡ fields.old ++ slot_fields (field_slot tag (value ∷ []))) }
 {
@@ -33,7 +32,7 @@ pub fn push_char(fields: &mut Fields, tag: u32, value: Character) -> Result<(), 
 
 /// Adds a value of one byte, where there is one.
 pub fn push_optional_char(
-    fields: &mut Fields,
+    fields: &mut PrintedFields,
     tag: u32,
     value: Option<Character>,
 ) -> Result<(), AllocError>
@@ -47,7 +46,7 @@ pub fn push_optional_char(
 }
 
 /// Adds a text.
-pub fn push_text(fields: &mut Fields, tag: u32, text: &Text) -> Result<(), AllocError>
+pub fn push_text(fields: &mut PrintedFields, tag: u32, text: &Text) -> Result<(), AllocError>
     requires { IsTag tag }
     ensures { OnOk result (fields.new ≡ fields.old ++ slot_fields (field_slot tag text.now)) }
 {
@@ -56,7 +55,7 @@ pub fn push_text(fields: &mut Fields, tag: u32, text: &Text) -> Result<(), Alloc
 
 /// Adds a text, where there is one.
 pub fn push_optional_text(
-    fields: &mut Fields,
+    fields: &mut PrintedFields,
     tag: u32,
     text: &Option<Text>,
 ) -> Result<(), AllocError>
@@ -70,7 +69,7 @@ pub fn push_optional_text(
 }
 
 /// Adds a float as it was written.
-pub fn push_float(fields: &mut Fields, tag: u32, float: &FloatText) -> Result<(), AllocError>
+pub fn push_float(fields: &mut PrintedFields, tag: u32, float: &FloatText) -> Result<(), AllocError>
     requires { IsTag tag }
     ensures written { OnOk result (fields.new ≡ fields.old ++ slot_fields (field_slot tag float.now)) }
     ensures kept { is_float float.now ≡ true }
@@ -80,7 +79,7 @@ pub fn push_float(fields: &mut Fields, tag: u32, float: &FloatText) -> Result<()
 
 /// Adds a float as it was written, where there is one.
 pub fn push_optional_float(
-    fields: &mut Fields,
+    fields: &mut PrintedFields,
     tag: u32,
     float: &Option<FloatText>,
 ) -> Result<(), AllocError>
@@ -96,7 +95,7 @@ pub fn push_optional_float(
 
 /// Adds a ClOrdID, where there is one.
 pub fn push_optional_id(
-    fields: &mut Fields,
+    fields: &mut PrintedFields,
     tag: u32,
     id: &Option<ClOrdId>,
 ) -> Result<(), AllocError>
@@ -111,18 +110,17 @@ pub fn push_optional_id(
 }
 
 /// Adds a number in decimal.
-pub fn push_number(fields: &mut Fields, tag: u32, number: u64) -> Result<(), AllocError>
+pub fn push_number(fields: &mut PrintedFields, tag: u32, number: u64) -> Result<(), AllocError>
     requires { IsTag tag }
     ensures written { OnOk result (fields.new ≡ fields.old ++ slot_fields (field_slot tag (decimal number))) }
     ensures kept { number < 2 ^ 64 }
 {
-    let mut buffer = Buffer::new();
-    fields.push(tag, buffer.format(number).as_bytes())
+    fields.push_number(tag, number)
 }
 
 /// Adds a number in decimal, where there is one.
 pub fn push_optional_number(
-    fields: &mut Fields,
+    fields: &mut PrintedFields,
     tag: u32,
     number: Option<u64>,
 ) -> Result<(), AllocError>
@@ -137,7 +135,7 @@ pub fn push_optional_number(
 }
 
 /// Adds a ClOrdID.
-pub fn push_id(fields: &mut Fields, tag: u32, id: &ClOrdId) -> Result<(), AllocError>
+pub fn push_id(fields: &mut PrintedFields, tag: u32, id: &ClOrdId) -> Result<(), AllocError>
     requires { IsTag tag }
     ensures written { OnOk result (fields.new ≡ fields.old ++ slot_fields (field_slot tag id.now)) }
     ensures kept { is_cl_ord_id id.now ≡ true }
@@ -146,7 +144,11 @@ pub fn push_id(fields: &mut Fields, tag: u32, id: &ClOrdId) -> Result<(), AllocE
 }
 
 /// Adds the number of an order in decimal, or `NONE` where there is none.
-pub fn push_order_id(fields: &mut Fields, tag: u32, order_id: Option<u64>) -> Result<(), AllocError>
+pub fn push_order_id(
+    fields: &mut PrintedFields,
+    tag: u32,
+    order_id: Option<u64>,
+) -> Result<(), AllocError>
     requires { IsTag tag }
     ensures written { OnOk result (fields.new ≡ fields.old ++ slot_fields (field_slot tag (order_id_text order_id))) }
     ensures kept { IfSome order_id (λ n. n < 2 ^ 64) }

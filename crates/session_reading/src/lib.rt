@@ -21,4 +21,4 @@ pub use requests::application_of;
 pub use row::{Row, judge_low, judge_plain_reset};
 pub use session_law::{Frame, Kind, Out, Phase};
 pub use taken::{Taken, judge_resend, judge_taken};
-pub use words::{has, is, number, text};
+pub use words::{has, is, is_letter, number, text};

@@ -7,7 +7,7 @@ ghost use Rattle.fix_types.specs.fix_fields.Field as tags;
 ghost use Rattle.session_law.specs.Messages as law;
 ghost use Rattle.session_law.specs.Table as table;
 
-use crate::words::{has, is, number};
+use crate::words::{has, is_letter, number};
 use fix_types::Fields;
 
 /// Whether HeartBtInt (108) is 0 to 3,600 seconds, in decimal digits.
@@ -35,12 +35,12 @@ pub fn interval_of(m: &Fields) -> u32
 pub fn resets(m: &Fields) -> bool
     ensures { result ≡ table.resets m.now }
 {
-    is(m, 141, b"Y")
+    is_letter(m, 141, b'Y')
 }
 
 /// Whether ResetSeqNumFlag (141) is missing, Y or N.
 pub fn is_reset_flag(m: &Fields) -> bool
     ensures { result ≡ (not (tags.has 141 m.now) || (table.resets m.now || tags.is 141 (codes "N") m.now)) }
 {
-    !has(m, 141) || (resets(m) || is(m, 141, b"N"))
+    !has(m, 141) || (resets(m) || is_letter(m, 141, b'N'))
 }

@@ -1,19 +1,19 @@
 //! The type of a message, its number, and what a SequenceReset says.
 
-ghost use Rattle.std.specs.Prelude.{◌≡◌, ◌<◌, ◌^◌, ◌||◌, true, false, MatchOption, IfSome, unwrap_or, codes};
+ghost use Rattle.std.specs.Prelude.{◌≡◌, ◌<◌, ◌^◌, ◌||◌, ◌∷◌, [], true, false, MatchOption, IfSome, unwrap_or, codes};
 ghost use Rattle.std.specs.List.{list_all};
 ghost use Rattle.fix_types.specs.fix_fields.Reasons.{session_reject_number};
 ghost use Rattle.session_law.specs.Messages as law;
 ghost use Rattle.session_law.specs.Table as table;
 
-use crate::words::{has, is, number};
+use crate::words::{has, is_letter, number};
 use fix_types::{Fields, SessionRejectReason};
 
-/// Whether a message has this type (35).
-pub fn is_type(m: &Fields, kind: &[u8]) -> bool
-    ensures { result ≡ table.is_type kind.now m.now }
+/// Whether a message has this type (35) of one letter or digit.
+pub fn is_type(m: &Fields, letter: u8) -> bool
+    ensures { result ≡ table.is_type (letter ∷ []) m.now }
 {
-    is(m, 35, kind)
+    is_letter(m, 35, letter)
 }
 
 /// Whether a type is one or two letters or digits.
@@ -50,14 +50,14 @@ pub fn numbered(m: &Fields) -> u64
 pub fn is_sequence_reset(m: &Fields) -> bool
     ensures { result ≡ table.is_type (codes "4") m.now }
 {
-    is_type(m, b"4")
+    is_type(m, b'4')
 }
 
 /// Whether it is a SequenceReset without GapFill (123=Y).
 pub fn is_plain_reset(m: &Fields) -> bool
     ensures { result ≡ table.is_plain_reset m.now }
 {
-    is_sequence_reset(m) && !is(m, 123, b"Y")
+    is_sequence_reset(m) && !is_letter(m, 123, b'Y')
 }
 
 /// NewSeqNo (36), where that is a number and at least so much.
@@ -90,5 +90,5 @@ pub fn is_silent(m: &Fields) -> bool
     ensures { result ≡ (table.is_type (codes "0") m.now
         || (table.is_type (codes "3") m.now || table.is_type (codes "j") m.now)) }
 {
-    is_type(m, b"0") || (is_type(m, b"3") || is_type(m, b"j"))
+    is_type(m, b'0') || (is_type(m, b'3') || is_type(m, b'j'))
 }

@@ -16,16 +16,16 @@ use std::alloc::{AllocError, Global};
 pub fn is_application(m: &Fields) -> bool
     ensures { result ≡ table.is_application m.now }
 {
-    is_type(m, b"D") || (is_type(m, b"F") || is_type(m, b"G"))
+    is_type(m, b'D') || (is_type(m, b'F') || is_type(m, b'G'))
 }
 
 /// What an application message is refused with: a required tag is missing, or a value has another format.
 pub fn refusal_of(m: &Fields) -> Option<SessionRefusal>
     ensures { result ≡ application_refusal m.now }
 {
-    if is_type(m, b"D") {
+    if is_type(m, b'D') {
         new_order_refusal(m)
-    } else if is_type(m, b"F") {
+    } else if is_type(m, b'F') {
         cancel_refusal(m)
     } else {
         replace_refusal(m)
@@ -37,10 +37,10 @@ pub fn application_of(alloc: Global, m: &Fields) -> Result<AppMsg, AllocError>
     requires { application_refusal m.now ≡ None }
     ensures { IfOk result (λ said. said ≡ formats.application_of m.now) }
 {
-    if is_type(m, b"D") {
+    if is_type(m, b'D') {
         let order = read_new_order(alloc, m)?;
         Ok(AppMsg::New(order))
-    } else if is_type(m, b"F") {
+    } else if is_type(m, b'F') {
         let request = read_cancel_request(alloc, m)?;
         Ok(AppMsg::Cancel(request))
     } else {

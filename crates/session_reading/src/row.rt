@@ -10,7 +10,7 @@ ghost use Rattle.session_reading.specs.Judged.{RowFits};
 
 use crate::message::new_number;
 use crate::taken::Taken;
-use crate::words::{has, is};
+use crate::words::{has, is_letter};
 use fix_types::{Fields, SessionRejectReason};
 
 /// A line of the table of a client that is logged on.
@@ -71,7 +71,7 @@ pub fn judge_low(m: &Fields) -> Row
     ensures again { tags.is 43 (codes "Y") m.now ≡ true → result ≡ rows.Passed }
     ensures fresh { tags.is 43 (codes "Y") m.now ≡ false → result ≡ rows.TooLow }
 {
-    if is(m, 43, b"Y") {
+    if is_letter(m, 43, b'Y') {
         Row::Passed
     } else {
         Row::TooLow

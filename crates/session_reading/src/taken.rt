@@ -108,19 +108,19 @@ fn judge_faultless(m: &Fields, last: u64) -> Taken
     if is_silent(m) {
         return Taken::Nothing;
     }
-    if is_type(m, b"1") {
+    if is_type(m, b'1') {
         return judge_test(m);
     }
-    if is_type(m, b"2") {
+    if is_type(m, b'2') {
         return judge_resend(m, last);
     }
     if is_sequence_reset(m) {
         return judge_gap_fill(m);
     }
-    if is_type(m, b"5") {
+    if is_type(m, b'5') {
         return Taken::LoggedOut;
     }
-    if is_type(m, b"A") {
+    if is_type(m, b'A') {
         return Taken::AlreadyLoggedOn;
     }
     if is_application(m) {

@@ -1,6 +1,6 @@
 //! What is read from the fields of a message. Where a tag stands twice, the first is read.
 
-ghost use Rattle.std.specs.Prelude.{◌≡◌, ◌<◌, ◌^◌, IfSome};
+ghost use Rattle.std.specs.Prelude.{◌≡◌, ◌<◌, ◌^◌, ◌∷◌, [], IfSome};
 ghost use Rattle.fix_types.specs.fix_fields.Field.{IsValue};
 ghost use Rattle.fix_types.specs.fix_fields.Field as tags;
 ghost use Rattle.session_law.specs.Messages as law;
@@ -24,6 +24,14 @@ pub fn is(m: &Fields, tag: u32, wanted: &[u8]) -> bool
     ensures { result ≡ tags.is tag wanted.now m.now }
 {
     text(m, tag) == wanted
+}
+
+/// Whether the value of a tag is this one byte.
+pub fn is_letter(m: &Fields, tag: u32, wanted: u8) -> bool
+    ensures { result ≡ tags.is tag (wanted ∷ []) m.now }
+{
+    let value = text(m, tag);
+    value.len() == 1 && value[0] == wanted
 }
 
 /// Whether a tag is there.

@@ -10,7 +10,7 @@ returns-clause-meets c =
     let old = c.args.self.now.session in
     let inside = c.self.inside in
     let s : State = record { gate = inside.gate; client = inside.client; phase = inside.phase; expected = inside.expected; given = inside.given.given; latest = inside.latest } in
-    let keeps = c.in_ok-keep.ensures.given ∙ ap (λ (b : Message). inside.given.given ++ Some (record { kind = c.args.kind; body = b; at = c.max-now.result }) ∷ []) c.printed_fields.ensures.same in
+    let keeps = c.in_ok-keep.ensures.given ∙ ap (λ (b : Message). inside.given.given ++ Some (record { kind = c.args.kind; body = b; at = c.max-now.result }) ∷ []) c.text.ensures.same in
     issued s old c.args.at c.args.kind c.args.body.now (record { outs = c.in_ok-outs.outs; app = None }) c.max-now.result c.phase_issued-self-inside.result c.keep.new.self.given
     (ap (λ (h : SessionHeld). h.session) c.self.view_is)
     c.max-now.ensures

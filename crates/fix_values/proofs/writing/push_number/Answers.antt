@@ -1,8 +1,0 @@
-use Rattle.std.proofs.Common.{ap, ◌∙◌, List, ℕ, arith}
-use Rattle.std.specs.List.{list_all}
-use Rattle.fix_fields.specs.Field.{is_inside}
-use Rattle.fix_values.proofs.Numbers.{inside-decimal}
-use Rattle.fix_values.proofs.writing.push_number.Goals as goal
-
-pub push-requires-clause-value : goal.push-requires-clause-value
-push-requires-clause-value c = ap (λ (l : List ℕ). list_all is_inside l) (c.as_bytes.ensures.value ∙ c.format.ensures.text) ∙ inside-decimal c.args.number (omega arith)
