@@ -138,17 +138,16 @@ impl<K: DeskName, S: BuildHasher + Drop> Shared<K, S> {
         Ok((turned, desk.take_rung()))
     }
 
-    /// Rings the bell of each outlet whose bit is set.
+    /// Rings the bell of each outlet whose bit is set, the last one's first: ports stand behind clients, and what a
+    /// port is told is what its market waits for.
     fn ring_all(&self, rung: u128) {
-        let mut left = rung;
-        for bell in &self.bells {
-            if left == 0 {
-                break;
+        if rung == 0 {
+            return;
+        }
+        for at in (0..self.bells.len()).rev() {
+            if has_bit(rung, at) {
+                self.ring(at);
             }
-            if left & 1 == 1 {
-                bell.unpark();
-            }
-            left >>= 1;
         }
     }
 
@@ -220,4 +219,9 @@ fn rounds<K: DeskName, S: BuildHasher + Drop>(
         turns.steps = turns.steps.saturating_add(turned.steps);
     }
     Ok(true)
+}
+
+/// Whether the bit of this place is set.
+fn has_bit(bits: u128, place: usize) -> bool {
+    place < 128 && bits >> place & 1 == 1
 }
