@@ -13,7 +13,7 @@ use Rattle.fix_session.proofs.Turns.{tells, one-more, one-more-headline}
 use Rattle.fix_session.proofs.session.Session.issue.Goals as goal
 
 -- the step's answer is the issued body's
-meets : (c : goal.After-drop-fields-inside-2) → IfOk c.issue_step.result (λ issued. Meets c.args.self.now.session (step c.args.self.now.session c.args.at (call_of_body c.args.body.now)) issued.turn c.issue_step.new.self.session)
+meets : (c : goal.After-drop-fields-inside) → IfOk c.issue_step.result (λ issued. Meets c.args.self.now.session (step c.args.self.now.session c.args.at (call_of_body c.args.body.now)) issued.turn c.issue_step.new.self.session)
 meets c =
     let same : Issue c.kind_of.result c.in_ok-fields.fields ≡ call_of_body c.args.body.now =
     ap (λ (k : Kind). Issue k c.in_ok-fields.fields) c.kind_of.ensures ∙ ap (λ (b : Message). Issue (issued_kind c.args.body.now) b) c.in_ok-fields.ensures in
