@@ -2,7 +2,7 @@ ghost use Rattle.std.specs.Prelude.{◌≤◌};
 
 use fix_fields::{Fields, is_value};
 use fix_framing::{FrameFault, Framer, frame};
-use std::alloc::Global;
+use std::alloc::{AllocError, Global};
 use std::process::Abort;
 use std::test::Fail;
 
@@ -102,109 +102,135 @@ fn read_cut(alloc: Global, way: Way, i: usize, j: usize) -> Result<Seen, FrameFa
     Ok(seen_of(&framer, texts))
 }
 
+/// The frame is read from three pieces, cut at these two places.
+fn is_read_cut(rt: &impl Abort, alloc: Global, i: usize, j: usize) -> Result<(), FrameFault>
+    requires ordered { i ≤ j }
+    requires ends { j ≤ 26 }
+{
+    for way in &WAYS {
+        is_heartbeat(rt, &read_cut(alloc, *way, i, j)?, *way, i, j);
+    }
+    Ok(())
+}
+
+fn is_heartbeat(rt: &impl Abort, seen: &Seen, way: Way, i: usize, j: usize) {
+    assert!(rt;
+        seen.texts.as_slice() == HEARTBEAT.as_slice(),
+        "{way:?}, cut at {i} and {j}"
+    );
+    assert!(rt; seen.skipped == 0);
+}
+
 #[test]
 fn one_frame_cut_in_three(rt: HostRuntime) -> Result<(), Fail> {
-    for way in [Way::Fed, Way::Lent] {
-        for i in 0..=HEARTBEAT.len() {
-            for j in i..=HEARTBEAT.len() {
-                let seen = read_cut(rt.alloc(), way, i, j)?;
-                assert_eq!(rt;
-                    seen.texts.as_slice(),
-                    HEARTBEAT.as_slice(),
-                    "{way:?}, cut at {i} and {j}"
-                );
-                assert_eq!(rt; seen.skipped, 0);
-            }
+    for i in 0..=HEARTBEAT.len() {
+        for j in i..=HEARTBEAT.len() {
+            is_read_cut(&rt, rt.alloc(), i, j)?;
         }
     }
     Ok(())
+}
+
+/// Streams, the texts of the frames that they give, and how many bytes are skipped.
+const STREAMS: [(&[u8], &[u8], u64); 10] = [
+    (b"", b"", 0),
+    (b"8=FIX.4.4\x019=5\x0135=0\x0110=164\x01", b"", 26),
+    (b"8=FIX.4.4\x019=5\x0135=0\x0110=163", b"", 0),
+    // between two frames
+    (
+        b"8=FIX.4.4\x019=5\x0135=0\x0110=163\x01\r\n8=8=FIX.4.4\x019=5\x0135=0\x0110=163\x01!",
+        b"8=FIX.4.4\x019=5\x0135=0\x0110=163\x018=FIX.4.4\x019=5\x0135=0\x0110=163\x01",
+        5,
+    ),
+    // a frame inside a frame, and inside one with another check sum
+    (
+        b"8=FIX.4.4\x019=31\x0135=0\x018=FIX.4.4\x019=5\x0135=0\x0110=163\x0110=174\x01",
+        b"8=FIX.4.4\x019=31\x0135=0\x018=FIX.4.4\x019=5\x0135=0\x0110=163\x0110=174\x01",
+        0,
+    ),
+    (
+        b"8=FIX.4.4\x019=31\x0135=0\x018=FIX.4.4\x019=5\x0135=0\x0110=163\x0110=175\x01",
+        b"8=FIX.4.4\x019=5\x0135=0\x0110=163\x01",
+        27,
+    ),
+    // zeros in front of the length: six digits, and seven
+    (
+        b"8=FIX.4.4\x019=000005\x0135=0\x0110=147\x01",
+        b"8=FIX.4.4\x019=000005\x0135=0\x0110=147\x01",
+        0,
+    ),
+    (b"8=FIX.4.4\x019=0000005\x0135=0\x0110=195\x01", b"", 32),
+    // another version
+    (b"8=FIX.4.2\x019=5\x0135=0\x0110=161\x01", b"", 26),
+    // 8,192 bytes in all are waited for
+    (b"8=FIX.4.4\x019=8168\x01", b"", 0),
+];
+
+const SIZES: [usize; 5] = [1, 2, 3, 7, 4_096];
+
+const WAYS: [Way; 2] = [Way::Fed, Way::Lent];
+
+/// In pieces of each size, and in each way, a stream gives these texts, and so many bytes are skipped.
+fn gives(
+    rt: &impl Abort,
+    alloc: Global,
+    stream: &[u8],
+    texts: &[u8],
+    skipped: u64,
+) -> Result<(), FrameFault> {
+    for size in &SIZES {
+        for way in &WAYS {
+            let seen = read(alloc, *way, stream, *size)?;
+            has_seen(rt, &seen, texts, skipped, *way, *size);
+        }
+    }
+    Ok(())
+}
+
+fn has_seen(rt: &impl Abort, seen: &Seen, texts: &[u8], skipped: u64, way: Way, size: usize) {
+    assert!(rt;
+        seen.texts.as_slice() == texts,
+        "{way:?}, in pieces of {size}"
+    );
+    assert!(rt; seen.skipped == skipped, "{way:?}, in pieces of {size}");
 }
 
 #[test]
 fn what_is_given_and_what_is_skipped(rt: HostRuntime) -> Result<(), Fail> {
-    for (stream, texts, skipped) in [
-        (b"".as_slice(), b"".as_slice(), 0),
-        (
-            b"8=FIX.4.4\x019=5\x0135=0\x0110=164\x01".as_slice(),
-            b"".as_slice(),
-            26,
-        ),
-        (
-            b"8=FIX.4.4\x019=5\x0135=0\x0110=163".as_slice(),
-            b"".as_slice(),
-            0,
-        ),
-        // between two frames
-        (
-            b"8=FIX.4.4\x019=5\x0135=0\x0110=163\x01\r\n8=8=FIX.4.4\x019=5\x0135=0\x0110=163\x01!".as_slice(),
-            b"8=FIX.4.4\x019=5\x0135=0\x0110=163\x018=FIX.4.4\x019=5\x0135=0\x0110=163\x01".as_slice(),
-            5,
-        ),
-        // a frame inside a frame, and inside one with another check sum
-        (
-            b"8=FIX.4.4\x019=31\x0135=0\x018=FIX.4.4\x019=5\x0135=0\x0110=163\x0110=174\x01".as_slice(),
-            b"8=FIX.4.4\x019=31\x0135=0\x018=FIX.4.4\x019=5\x0135=0\x0110=163\x0110=174\x01".as_slice(),
-            0,
-        ),
-        (
-            b"8=FIX.4.4\x019=31\x0135=0\x018=FIX.4.4\x019=5\x0135=0\x0110=163\x0110=175\x01".as_slice(),
-            b"8=FIX.4.4\x019=5\x0135=0\x0110=163\x01".as_slice(),
-            27,
-        ),
-        // zeros in front of the length: six digits, and seven
-        (
-            b"8=FIX.4.4\x019=000005\x0135=0\x0110=147\x01".as_slice(),
-            b"8=FIX.4.4\x019=000005\x0135=0\x0110=147\x01".as_slice(),
-            0,
-        ),
-        (
-            b"8=FIX.4.4\x019=0000005\x0135=0\x0110=195\x01".as_slice(),
-            b"".as_slice(),
-            32,
-        ),
-        // another version
-        (
-            b"8=FIX.4.2\x019=5\x0135=0\x0110=161\x01".as_slice(),
-            b"".as_slice(),
-            26,
-        ),
-        // 8,192 bytes in all are waited for
-        (b"8=FIX.4.4\x019=8168\x01".as_slice(), b"".as_slice(), 0),
-    ] {
-        for size in [1, 2, 3, 7, 4_096] {
-            for way in [Way::Fed, Way::Lent] {
-                let seen = read(rt.alloc(), way, stream, size)?;
-                assert_eq!(rt;
-                    seen.texts.as_slice(),
-                    texts,
-                    "{way:?}, in pieces of {size}"
-                );
-                assert_eq!(rt; seen.skipped, skipped, "{way:?}, in pieces of {size}");
-            }
-        }
+    for (stream, texts, skipped) in &STREAMS {
+        gives(&rt, rt.alloc(), stream, texts, *skipped)?;
     }
     Ok(())
 }
 
-/// Byte by byte each byte is written once.
-#[test]
-fn a_thousand_frames_in_pieces(rt: HostRuntime) -> Result<(), Fail> {
-    let mut stream = Vec::new(rt.alloc());
+/// A thousand frames.
+fn thousand(alloc: Global) -> Result<Vec<u8>, AllocError> {
+    let mut stream = Vec::new(alloc);
     for _ in 0..1_000 {
         stream.extend_from_slice(HEARTBEAT)?;
     }
-    for way in [Way::Fed, Way::Lent] {
-        for size in [1, 2, 3, 7, 4_096] {
-            let seen = read(rt.alloc(), way, stream.as_slice(), size)?;
-            assert!(rt;
-                seen.texts.as_slice() == stream.as_slice(),
-                "{way:?}, in pieces of {size}"
-            );
-            assert_eq!(rt; seen.skipped, 0);
-            assert_eq!(rt; seen.fed, 26_000);
-            assert!(rt; seen.copied <= 52_000, "{way:?}, in pieces of {size}");
+    Ok(stream)
+}
+
+/// Each byte of the thousand frames is fed once and copied twice at most, and byte by byte once.
+fn has_copied(rt: &impl Abort, seen: &Seen, way: Way, size: usize) {
+    assert!(rt; seen.fed == 26_000);
+    assert!(rt; seen.copied <= 52_000, "{way:?}, in pieces of {size}");
+    assert!(rt; size > 1 || seen.copied == 26_000);
+}
+
+#[test]
+fn a_thousand_frames_in_pieces(rt: HostRuntime) -> Result<(), Fail> {
+    let stream = thousand(rt.alloc())?;
+    Ok(copies(&rt, rt.alloc(), stream.as_slice())?)
+}
+
+fn copies(rt: &impl Abort, alloc: Global, stream: &[u8]) -> Result<(), FrameFault> {
+    gives(rt, alloc, stream, stream, 0)?;
+    for size in &SIZES {
+        for way in &WAYS {
+            has_copied(rt, &read(alloc, *way, stream, *size)?, *way, *size);
         }
-        assert_eq!(rt; read(rt.alloc(), way, stream.as_slice(), 1)?.copied, 26_000);
     }
     Ok(())
 }
@@ -230,16 +256,36 @@ fn no_byte_may_be_another(rt: HostRuntime) -> Result<(), Fail> {
 fn too_long_is_for_good(rt: HostRuntime) -> Result<(), Fail> {
     let mut framer = Framer::new(rt.alloc());
     let mut texts = Vec::new(rt.alloc());
+    Ok(ends_too_long(&rt, rt.alloc(), &mut framer, &mut texts)?)
+}
+
+/// Behind a byte and a frame comes a head of too long a one: nothing is taken any more.
+fn ends_too_long(
+    rt: &impl Abort,
+    alloc: Global,
+    framer: &mut Framer,
+    texts: &mut Vec<u8>,
+) -> Result<(), FrameFault> {
     let piece = b"x8=FIX.4.4\x019=5\x0135=0\x0110=163\x018=FIX.4.4\x019=8169\x01";
-    feed(rt.alloc(), &mut framer, &mut texts, piece)?;
+    feed(alloc, framer, texts, piece)?;
     assert_eq!(rt; texts.as_slice(), HEARTBEAT.as_slice());
     assert_eq!(rt; framer.skipped(), 1);
-    for piece in [b"".as_slice(), HEARTBEAT.as_slice(), b"x".as_slice()] {
-        assert!(rt; is_too_long(framer.feed(rt.alloc(), piece)));
+    for piece in &AFTER {
+        assert!(rt; is_too_long(framer.feed(alloc, piece)));
     }
-    let mut alone = Framer::new(rt.alloc());
-    feed(rt.alloc(), &mut alone, &mut texts, b"8=FIX.4.4\x019=8169")?;
-    assert!(rt; is_too_long(alone.feed(rt.alloc(), b"\x01")));
+    Ok(())
+}
+
+/// What may come behind too long a frame.
+const AFTER: [&[u8]; 3] = [b"", HEARTBEAT, b"x"];
+
+/// The head of too long a frame is one at its last byte.
+#[test]
+fn too_long_by_the_last_byte(rt: HostRuntime) -> Result<(), Fail> {
+    let mut framer = Framer::new(rt.alloc());
+    let mut texts = Vec::new(rt.alloc());
+    feed(rt.alloc(), &mut framer, &mut texts, b"8=FIX.4.4\x019=8169")?;
+    assert!(rt; is_too_long(framer.feed(rt.alloc(), b"\x01")));
     Ok(())
 }
 
@@ -248,32 +294,36 @@ fn too_long_is_for_good(rt: HostRuntime) -> Result<(), Fail> {
 #[test]
 fn what_stands_in_front(rt: HostRuntime) -> Result<(), Fail> {
     let mut framer = Framer::new(rt.alloc());
+    stands_in_front(&rt, rt.alloc(), &mut framer)
+}
+
+/// Two bytes, two frames, and a head of too long a one.
+const TWO_AND_TOO_LONG: &[u8] =
+    b"xx8=FIX.4.4\x019=5\x0135=0\x0110=163\x018=FIX.4.4\x019=5\x0135=0\x0110=163\x018=FIX.4.4\x019=8169\x01";
+
+fn stands_in_front<R: Abort>(rt: &R, alloc: Global, framer: &mut Framer) -> Result<(), Fail> {
     assert!(rt; framer.front()?.is_none());
     assert!(rt; !framer.pass());
-    framer.put(
-        rt.alloc(),
-        b"xx8=FIX.4.4\x019=5\x0135=0\x0110=163\x018=FIX.4.4\x019=5\x0135=0\x0110=163\x018=FIX.4.4\x019=8169\x01",
-    )?;
+    framer.put(alloc, TWO_AND_TOO_LONG)?;
     for _ in 0..2u32 {
         for _ in 0..3u32 {
-            heartbeat_in_front(&rt, &mut framer)?;
+            heartbeat_in_front(rt, framer)?;
         }
         assert!(rt; framer.pass());
     }
-    for piece in [b"".as_slice(), HEARTBEAT.as_slice()] {
-        nothing_in_front(&rt, rt.alloc(), &mut framer, piece)?;
-    }
-    assert_eq!(rt; framer.skipped(), 2);
-    assert_eq!(rt; framer.fed(), 71);
+    nothing_in_front(rt, alloc, framer, b"")?;
+    nothing_in_front(rt, alloc, framer, HEARTBEAT)?;
+    assert!(rt; framer.skipped() == 2);
+    assert!(rt; framer.fed() == 71);
     Ok(())
 }
 
 fn heartbeat_in_front<R: Abort>(rt: &R, framer: &mut Framer) -> Result<(), Fail> {
     let view = framer.front()?.ok_or("a frame is whole")?;
-    assert_eq!(rt; view.text(), HEARTBEAT.as_slice());
-    assert_eq!(rt; view.first(35), Some(b"0".as_slice()));
-    assert_eq!(rt; view.first(10), Some(b"163".as_slice()));
-    assert_eq!(rt; view.first(34), None);
+    assert!(rt; view.text() == HEARTBEAT.as_slice());
+    assert!(rt; view.first(35) == Some(b"0".as_slice()));
+    assert!(rt; view.first(10) == Some(b"163".as_slice()));
+    assert!(rt; view.first(34).is_none());
     Ok(())
 }
 
@@ -309,16 +359,16 @@ fn what_is_written_is_read(rt: HostRuntime) -> Result<(), Fail> {
 #[test]
 fn the_longest_frame(rt: HostRuntime) -> Result<(), Fail> {
     let text = long_frame(&rt, rt.alloc(), 8_159)?;
-    assert_eq!(rt; text.len(), 8_192);
-    for way in [Way::Fed, Way::Lent] {
-        let seen = read(rt.alloc(), way, text.as_slice(), 1_000)?;
-        assert!(rt; seen.texts.as_slice() == text.as_slice());
-        assert_eq!(rt; seen.skipped, 0);
-    }
-    let longer = long_frame(&rt, rt.alloc(), 8_160)?;
-    assert_eq!(rt; longer.len(), 8_193);
+    assert!(rt; text.len() == 8_192);
+    Ok(gives(&rt, rt.alloc(), text.as_slice(), text.as_slice(), 0)?)
+}
+
+#[test]
+fn one_byte_longer(rt: HostRuntime) -> Result<(), Fail> {
+    let text = long_frame(&rt, rt.alloc(), 8_160)?;
+    assert!(rt; text.len() == 8_193);
     let mut framer = Framer::new(rt.alloc());
-    assert!(rt; is_too_long(framer.feed(rt.alloc(), longer.as_slice())));
+    assert!(rt; is_too_long(framer.feed(rt.alloc(), text.as_slice())));
     Ok(())
 }
 
