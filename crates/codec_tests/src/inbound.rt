@@ -2,6 +2,7 @@
 
 use crate::vectors::{CANCEL, ENTER_ORDER, REPLACE};
 use ouch_codec::{Cancel, EnterOrder, Inbound, Replace, Side};
+use std::process::Abort;
 use wire_law::FixedWire;
 
 const FIRST: [u8; 14] = *b"G0000000000001";
@@ -46,47 +47,50 @@ fn cancel() -> Cancel {
     }
 }
 
+/// The message is written as these bytes.
+fn is_written_as(rt: &impl Abort, message: &Inbound, bytes: &[u8]) {
+    let mut out = [0; 49];
+    assert!(rt; message.len() == bytes.len());
+    assert!(rt; bytes.len() <= 49);
+    let room = &mut out[..bytes.len()];
+    message.put(room);
+    assert_eq!(rt; &out[..bytes.len()], bytes);
+}
+
 #[test]
 fn each_message_is_written_as_its_bytes(rt: HostRuntime) {
-    let mut enter_order_bytes = [0; 49];
-    Inbound::Enter(enter_order()).put(&mut enter_order_bytes);
-    assert_eq!(rt; enter_order_bytes, ENTER_ORDER);
-    assert_eq!(rt; Inbound::Enter(enter_order()).len(), 49);
-
-    let mut replace_bytes = [0; 47];
-    Inbound::Replace(replace()).put(&mut replace_bytes);
-    assert_eq!(rt; replace_bytes, REPLACE);
-    assert_eq!(rt; Inbound::Replace(replace()).len(), 47);
-
-    let mut cancel_bytes = [0; 19];
-    Inbound::Cancel(cancel()).put(&mut cancel_bytes);
-    assert_eq!(rt; cancel_bytes, CANCEL);
-    assert_eq!(rt; Inbound::Cancel(cancel()).len(), 19);
+    is_written_as(&rt, &Inbound::Enter(enter_order()), &ENTER_ORDER);
+    is_written_as(&rt, &Inbound::Replace(replace()), &REPLACE);
+    is_written_as(&rt, &Inbound::Cancel(cancel()), &CANCEL);
 }
 
 #[test]
 fn each_message_is_read_from_its_bytes(rt: HostRuntime) {
-    assert_eq!(rt; EnterOrder::get(&ENTER_ORDER), Some(enter_order()));
-    assert_eq!(rt; Replace::get(&REPLACE), Some(replace()));
-    assert_eq!(rt; Cancel::get(&CANCEL), Some(cancel()));
+    assert!(rt; EnterOrder::get(&ENTER_ORDER) == Some(enter_order()));
+    assert!(rt; Replace::get(&REPLACE) == Some(replace()));
+    assert!(rt; Cancel::get(&CANCEL) == Some(cancel()));
+}
+
+/// Of these bytes so many are a message, and one fewer or one more is none.
+fn has_length<M: FixedWire + Drop>(rt: &impl Abort, long: &[u8], length: usize) {
+    for size in 0..=long.len() {
+        let is_message = M::get(&long[..size]).is_some();
+        assert!(rt; is_message == (size == length), "{size} bytes");
+    }
+}
+
+/// The bytes of a message, and spaces.
+fn with_spaces(bytes: &[u8]) -> [u8; 50] {
+    let mut long = [b' '; 50];
+    for (place, byte) in long.iter_mut().zip(bytes) {
+        *place = *byte;
+    }
+    long
 }
 
 #[test]
 fn one_byte_short_or_long_is_no_message(rt: HostRuntime) {
-    let mut long = [b' '; 50];
-    long[..49].copy_from_slice(&ENTER_ORDER);
-    assert!(rt; EnterOrder::get(&long).is_none());
-    assert!(rt; EnterOrder::get(&long[..49]).is_some());
-    assert!(rt; EnterOrder::get(&long[..48]).is_none());
-
-    long[..47].copy_from_slice(&REPLACE);
-    assert!(rt; Replace::get(&long[..48]).is_none());
-    assert!(rt; Replace::get(&long[..47]).is_some());
-    assert!(rt; Replace::get(&long[..46]).is_none());
-
-    long[..19].copy_from_slice(&CANCEL);
-    assert!(rt; Cancel::get(&long[..20]).is_none());
-    assert!(rt; Cancel::get(&long[..19]).is_some());
-    assert!(rt; Cancel::get(&long[..18]).is_none());
-    assert!(rt; Cancel::get(b"").is_none());
+    has_length::<EnterOrder>(&rt, &with_spaces(&ENTER_ORDER), 49);
+    has_length::<Replace>(&rt, &with_spaces(&REPLACE), 47);
+    has_length::<Cancel>(&rt, &with_spaces(&CANCEL), 19);
 }

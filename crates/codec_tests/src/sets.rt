@@ -43,7 +43,7 @@ fn each_value<M: FixedWire + Copy, const N: usize>(
     for byte in 0..=255u8 {
         if let Some(taken) = is_taken(field, byte) {
             let changed = with_byte(bytes, at, byte);
-            assert_eq!(rt; M::get(&changed).is_some(), taken, "{byte} at {at}");
+            assert!(rt; M::get(&changed).is_some() == taken, "{byte} at {at}");
         }
     }
 }
@@ -94,40 +94,35 @@ fn with_number<const N: usize>(bytes: [u8; N], at: usize, number: [u8; 4]) -> [u
     changed
 }
 
+/// With these shares, which stand at `at`, the bytes are a message or none.
+fn takes_shares<M: FixedWire + Drop, const N: usize>(
+    rt: &impl Abort,
+    bytes: [u8; N],
+    at: usize,
+    shares: [u8; 4],
+    taken: bool,
+) {
+    let is_message = M::get(&with_number(bytes, at, shares)).is_some();
+    assert!(rt; is_message == taken, "{shares:?} at {at}");
+}
+
+/// Shares, whether an order may have them, and whether a Cancel may.
+const SHARES: [([u8; 4], bool, bool); 6] = [
+    ([0x00, 0x00, 0x00, 0x00], false, true),
+    ([0x00, 0x00, 0x00, 0x01], true, true),
+    ([0x00, 0x0f, 0x42, 0x3f], true, true),
+    ([0x00, 0x0f, 0x42, 0x40], false, false),
+    ([0x01, 0x00, 0x00, 0x01], false, false),
+    ([0xff, 0xff, 0xff, 0xff], false, false),
+];
+
 #[test]
 fn shares_have_a_range(rt: HostRuntime) {
-    for (number, of_order, of_cancel) in [
-        ([0x00, 0x00, 0x00, 0x00], false, true),
-        ([0x00, 0x00, 0x00, 0x01], true, true),
-        ([0x00, 0x0f, 0x42, 0x3f], true, true),
-        ([0x00, 0x0f, 0x42, 0x40], false, false),
-        ([0x01, 0x00, 0x00, 0x01], false, false),
-        ([0xff, 0xff, 0xff, 0xff], false, false),
-    ] {
-        assert_eq!(rt;
-            EnterOrder::get(&with_number(ENTER_ORDER, 16, number)).is_some(),
-            of_order,
-            "{number:?}"
-        );
-        assert_eq!(rt;
-            Replace::get(&with_number(REPLACE, 29, number)).is_some(),
-            of_order,
-            "{number:?}"
-        );
-        assert_eq!(rt;
-            Accepted::get(&with_number(ACCEPTED, 24, number)).is_some(),
-            of_order,
-            "{number:?}"
-        );
-        assert_eq!(rt;
-            Replaced::get(&with_number(REPLACED, 24, number)).is_some(),
-            of_order,
-            "{number:?}"
-        );
-        assert_eq!(rt;
-            Cancel::get(&with_number(CANCEL, 15, number)).is_some(),
-            of_cancel,
-            "{number:?}"
-        );
+    for (shares, of_order, of_cancel) in &SHARES {
+        takes_shares::<EnterOrder, 49>(&rt, ENTER_ORDER, 16, *shares, *of_order);
+        takes_shares::<Replace, 47>(&rt, REPLACE, 29, *shares, *of_order);
+        takes_shares::<Accepted, 66>(&rt, ACCEPTED, 24, *shares, *of_order);
+        takes_shares::<Replaced, 80>(&rt, REPLACED, 24, *shares, *of_order);
+        takes_shares::<Cancel, 19>(&rt, CANCEL, 15, *shares, *of_cancel);
     }
 }
