@@ -16,36 +16,37 @@ fn main(rt: HostRuntime) -> io::Result<()> {
     let alloc = rt.alloc();
     for line in BufReader::new(alloc, rt.reader())?.lines(alloc) {
         let line = line?;
-        if line.as_str().is_empty() || line.as_str().starts_with('#') {
-            continue;
-        }
-        let answer = answer_to(alloc, line.as_str().as_bytes())?;
-        let mut output = io::writer(&rt);
-        output.write_all(line.as_str().as_bytes())?;
-        output.write_all(b" = ")?;
-        output.write_all(answer.as_str().as_bytes())?;
-        output.write_all(b"\n")?;
+        answer_line(alloc, line.as_str(), &mut io::writer(&rt))?;
     }
     Ok(())
 }
 
+/// Writes a line with its answer; nothing of a remark and of an empty line.
+fn answer_line<W: Write>(alloc: Global, line: &str, output: &mut W) -> io::Result<()> {
+    if line.is_empty() || line.starts_with('#') {
+        return Ok(());
+    }
+    let answer = answer_to(alloc, line)?;
+    writeln!(output, "{line} = {answer}")
+}
+
 /// What the call of a line answers.
-fn answer_to(alloc: Global, line: &[u8]) -> Result<String, AllocError> {
+fn answer_to(alloc: Global, line: &str) -> Result<String, AllocError> {
     let (call, asked) = first_word(line);
     match call {
-        b"price" => decimals::price(alloc, asked),
-        b"quantity" => decimals::quantity(alloc, asked),
-        b"worth" => decimals::worth(alloc, asked),
-        b"printed" => decimals::printed(alloc, asked),
-        b"average" => decimals::averaged(alloc, asked),
-        b"units" => decimals::units(alloc, asked),
-        b"shares" => decimals::shares(alloc, asked),
-        b"token" => order_tokens::token(alloc, asked),
-        b"number" => order_tokens::number(alloc, asked),
-        b"fields" => fields::fields(alloc, asked),
-        b"first" => fields::first(alloc, asked),
-        b"message" => messages::message(alloc, asked),
-        b"body" => messages::body(alloc, asked),
+        "price" => decimals::price(alloc, asked),
+        "quantity" => decimals::quantity(alloc, asked),
+        "worth" => decimals::worth(alloc, asked),
+        "printed" => decimals::printed(alloc, asked),
+        "average" => decimals::averaged(alloc, asked),
+        "units" => decimals::units(alloc, asked),
+        "shares" => decimals::shares(alloc, asked),
+        "token" => order_tokens::token(alloc, asked),
+        "number" => order_tokens::number(alloc, asked),
+        "fields" => fields::fields(alloc, asked),
+        "first" => fields::first(alloc, asked),
+        "message" => messages::message(alloc, asked),
+        "body" => messages::body(alloc, asked),
         _ => String::from_str(alloc, "no such call"),
     }
 }

@@ -25,8 +25,13 @@ fn refused(alloc: Global, refusal: SessionRefusal) -> Result<String, AllocError>
 }
 
 /// A message and its copy as they are written.
-fn both(alloc: Global, written: &Fields, copy: &Fields) -> Result<String, AllocError> {
-    if written.text() == copy.text() {
+fn both<M: TextWire<Fields, TextFault>>(
+    alloc: Global,
+    message: &M,
+    copy: &M,
+) -> Result<String, AllocError> {
+    let written = message.put(alloc)?;
+    if written.text() == copy.put(alloc)?.text() {
         shown(alloc, written.text())
     } else {
         String::from_str(alloc, "another copy")
@@ -34,47 +39,50 @@ fn both(alloc: Global, written: &Fields, copy: &Fields) -> Result<String, AllocE
 }
 
 /// The message of a text, by its type, as it is written; or the tag and the reason of its refusal.
-pub fn message(alloc: Global, text: &[u8]) -> Result<String, AllocError> {
-    let Some(fields) = fields_of(alloc, text)? else {
-        return String::from_str(alloc, "no fields");
-    };
+pub fn message(alloc: Global, text: &str) -> Result<String, AllocError> {
+    match fields_of(alloc, text)? {
+        Some(fields) => message_of(alloc, &fields),
+        None => String::from_str(alloc, "no fields"),
+    }
+}
+
+/// The same of its fields.
+fn message_of(alloc: Global, fields: &Fields) -> Result<String, AllocError> {
     match fields.first(35) {
-        Some(b"D") => new_order(alloc, &fields),
-        Some(b"F") => cancel_request(alloc, &fields),
-        Some(b"G") => replace_request(alloc, &fields),
-        Some(b"8") => report(alloc, &fields),
-        Some(b"9") => cancel_reject(alloc, &fields),
+        Some(b"D") => new_order(alloc, fields),
+        Some(b"F") => cancel_request(alloc, fields),
+        Some(b"G") => replace_request(alloc, fields),
+        Some(b"8") => report(alloc, fields),
+        Some(b"9") => cancel_reject(alloc, fields),
         _ => String::from_str(alloc, "no such type"),
     }
 }
 
 fn new_order(alloc: Global, fields: &Fields) -> Result<String, AllocError> {
     match read(NewOrder::get(alloc, fields))? {
-        Ok(order) => both(alloc, &order.put(alloc)?, &order.copied(alloc)?.put(alloc)?),
+        Ok(order) => both(alloc, &order, &order.copied(alloc)?),
         Err(refusal) => refused(alloc, refusal),
     }
 }
 
 fn cancel_request(alloc: Global, fields: &Fields) -> Result<String, AllocError> {
     match read(CancelRequest::get(alloc, fields))? {
-        Ok(request) => both(
-            alloc,
-            &request.put(alloc)?,
-            &request.copied(alloc)?.put(alloc)?,
-        ),
+        Ok(request) => both(alloc, &request, &request.copied(alloc)?),
         Err(refusal) => refused(alloc, refusal),
     }
 }
 
 fn replace_request(alloc: Global, fields: &Fields) -> Result<String, AllocError> {
     match read(ReplaceRequest::get(alloc, fields))? {
-        Ok(request) => both(
-            alloc,
-            &request.put(alloc)?,
-            &request.copied(alloc)?.put(alloc)?,
-        ),
+        Ok(request) => with_copy(alloc, &request),
         Err(refusal) => refused(alloc, refusal),
     }
+}
+
+/// A request and its copy as they are written.
+fn with_copy(alloc: Global, request: &ReplaceRequest) -> Result<String, AllocError> {
+    let copy = request.copied(alloc)?;
+    both(alloc, request, &copy)
 }
 
 fn report(alloc: Global, fields: &Fields) -> Result<String, AllocError> {
@@ -92,17 +100,30 @@ fn cancel_reject(alloc: Global, fields: &Fields) -> Result<String, AllocError> {
 }
 
 /// The body of the report or the reject that a text is: its fields without the type.
-pub fn body(alloc: Global, text: &[u8]) -> Result<String, AllocError> {
-    let Some(fields) = fields_of(alloc, text)? else {
-        return String::from_str(alloc, "no fields");
-    };
-    if fields.first(35) == Some(b"9") {
-        return match read(CancelReject::get(alloc, &fields))? {
-            Ok(reject) => shown(alloc, reject.body(alloc)?.text()),
-            Err(refusal) => refused(alloc, refusal),
-        };
+pub fn body(alloc: Global, text: &str) -> Result<String, AllocError> {
+    match fields_of(alloc, text)? {
+        Some(fields) => body_of(alloc, &fields),
+        None => String::from_str(alloc, "no fields"),
     }
-    match read(Report::get(alloc, &fields))? {
+}
+
+/// The body of a report or a reject.
+fn body_of(alloc: Global, fields: &Fields) -> Result<String, AllocError> {
+    match fields.first(35) {
+        Some(b"9") => reject_body(alloc, fields),
+        _ => report_body(alloc, fields),
+    }
+}
+
+fn reject_body(alloc: Global, fields: &Fields) -> Result<String, AllocError> {
+    match read(CancelReject::get(alloc, fields))? {
+        Ok(reject) => shown(alloc, reject.body(alloc)?.text()),
+        Err(refusal) => refused(alloc, refusal),
+    }
+}
+
+fn report_body(alloc: Global, fields: &Fields) -> Result<String, AllocError> {
+    match read(Report::get(alloc, fields))? {
         Ok(report) => shown(alloc, report.body(alloc)?.text()),
         Err(refusal) => refused(alloc, refusal),
     }

@@ -6,7 +6,7 @@ use std::str;
 use tokens::Token;
 
 /// The token of a number.
-pub fn token(alloc: Global, word: &[u8]) -> Result<String, AllocError> {
+pub fn token(alloc: Global, word: &str) -> Result<String, AllocError> {
     let Some(number) = words::number::<u64>(word) else {
         return String::from_str(alloc, "no number");
     };
@@ -17,8 +17,8 @@ pub fn token(alloc: Global, word: &[u8]) -> Result<String, AllocError> {
 }
 
 /// The number of the token that 14 bytes are.
-pub fn number(alloc: Global, bytes: &[u8]) -> Result<String, AllocError> {
-    let Some(bytes) = bytes.first_chunk::<14>() else {
+pub fn number(alloc: Global, text: &str) -> Result<String, AllocError> {
+    let Some(bytes) = text.as_bytes().first_chunk::<14>() else {
         return String::from_str(alloc, "no 14 bytes");
     };
     match Token::number(bytes) {
