@@ -14,10 +14,10 @@ enum Place {
 }
 
 /// The bytes that are typed so; none where a backslash has no two digits behind it.
-pub fn bytes_of(alloc: Global, text: &[u8]) -> Result<Option<Vec<u8>>, AllocError> {
+pub fn bytes_of(alloc: Global, text: &str) -> Result<Option<Vec<u8>>, AllocError> {
     let mut bytes = Vec::new(alloc);
     let mut place = Place::Between;
-    for character in text {
+    for character in text.as_bytes() {
         match place {
             Place::Between if *character == b'\\' => place = Place::Escaped,
             Place::Between => bytes.push(*character)?,
@@ -50,21 +50,22 @@ fn value_of(digit: u8) -> Option<u8> {
 }
 
 /// The hexadecimal digit of a value below 16.
-fn digit_of(value: u8) -> u8 {
-    if value < 10 {
+fn digit_of(value: u8) -> char {
+    let digit = if value < 10 {
         b'0'.wrapping_add(value)
     } else {
         b'a'.wrapping_add(value).wrapping_sub(10)
-    }
+    };
+    char::from(digit)
 }
 
 /// Adds bytes as they are typed.
-pub fn show_bytes(shown: &mut Vec<u8>, bytes: &[u8]) -> Result<(), AllocError> {
+pub fn show_bytes(shown: &mut String, bytes: &[u8]) -> Result<(), AllocError> {
     for byte in bytes {
         if matches!(*byte, b' '..=b'~') && *byte != b'\\' {
-            shown.push(*byte)?;
+            shown.push(char::from(*byte))?;
         } else {
-            shown.push(b'\\')?;
+            shown.push('\\')?;
             shown.push(digit_of(*byte / 16))?;
             shown.push(digit_of(*byte % 16))?;
         }
@@ -73,7 +74,7 @@ pub fn show_bytes(shown: &mut Vec<u8>, bytes: &[u8]) -> Result<(), AllocError> {
 }
 
 /// Adds a number in decimal digits.
-pub fn show_number(shown: &mut Vec<u8>, number: u64) -> Result<(), AllocError> {
+pub fn show_number(shown: &mut String, number: u64) -> Result<(), AllocError> {
     let mut buffer = itoa::Buffer::new();
-    shown.extend_from_slice(buffer.format(number).as_bytes())
+    shown.push_str(buffer.format(number))
 }

@@ -2,7 +2,8 @@
 
 use crate::bytes::{bytes_of, show_bytes, show_number};
 use crate::line::{Step, number_of, words_of};
-use crate::packets::{feed, packet_of, reads, show_packet, writes, zeros};
+use crate::packets::{copies_of, feed, packet_of, reads, show_packet, writes, zeros};
+use itoa::Buffer;
 use soup_packets::{Packet, Packets};
 use soup_session::{PortFault, PortOut, PortSession, PortState, PortTurn, WholeWire};
 use std::alloc::{AllocError, Global};
@@ -13,7 +14,7 @@ pub struct Conversation {
     session: PortSession,
     reader: Packets,
     at: u64,
-    shown: Vec<u8>,
+    shown: String,
 }
 
 impl Conversation {
@@ -23,14 +24,14 @@ impl Conversation {
             session: PortSession::new(b"USER01", b"PASSWORD"),
             reader: Packets::new(alloc),
             at: 0,
-            shown: Vec::new(alloc),
+            shown: String::new(alloc),
         }
     }
 
     /// What the last step showed: a line for each packet or close that goes out, one for a payload that is delivered,
     /// one for how the session stands.
-    pub fn shown(&self) -> &[u8] {
-        self.shown.as_slice()
+    pub fn shown(&self) -> &str {
+        self.shown.as_str()
     }
 
     /// Makes a step; false where it isn't understood or can't be made.
@@ -76,17 +77,14 @@ impl Conversation {
     /// A packet with so many spaces comes.
     pub fn hear_spaces(&mut self, alloc: Global, kind: u8, count: u64) -> Result<bool, AllocError> {
         self.shown.clear();
-        let mut spaces = Vec::new(alloc);
-        for _ in 0..count.min(100) {
-            spaces.push(b' ')?;
-        }
+        let spaces = copies_of(alloc, b' ', count.min(100))?;
         match packet_of(alloc, kind, spaces.as_slice())? {
             Some(packet) => Ok(self.hears_packet(alloc, &packet)? && self.show_state()?),
             None => Ok(false),
         }
     }
 
-    fn hears(&mut self, alloc: Global, text: &[u8]) -> Result<bool, AllocError> {
+    fn hears(&mut self, alloc: Global, text: &str) -> Result<bool, AllocError> {
         let Some(bytes) = bytes_of(alloc, text)? else {
             return Ok(false);
         };
@@ -111,7 +109,7 @@ impl Conversation {
         Ok(Some(self.session.on_packet(alloc, packet, self.at)?))
     }
 
-    fn sends(&mut self, alloc: Global, text: &[u8]) -> Result<bool, AllocError> {
+    fn sends(&mut self, alloc: Global, text: &str) -> Result<bool, AllocError> {
         let Some(message) = bytes_of(alloc, text)? else {
             return Ok(false);
         };
@@ -122,12 +120,12 @@ impl Conversation {
         self.show_turn(alloc, &turn)
     }
 
-    fn fails(&mut self, alloc: Global, text: &[u8]) -> Result<bool, AllocError> {
+    fn fails(&mut self, alloc: Global, text: &str) -> Result<bool, AllocError> {
         let fault = match text {
-            b"1" => PortFault::StrangePacket,
-            b"2" => PortFault::UnknownToken,
-            b"3" => PortFault::NotLawful,
-            b"4" => PortFault::OutsideProfile,
+            "1" => PortFault::StrangePacket,
+            "2" => PortFault::UnknownToken,
+            "3" => PortFault::NotLawful,
+            "4" => PortFault::OutsideProfile,
             _ => return Ok(false),
         };
         if !self.session.state().is_up() {
@@ -138,19 +136,39 @@ impl Conversation {
     }
 
     /// Sequenced packets of the numbers from one to another come. What is delivered of them is shown in one line.
-    fn comes(&mut self, alloc: Global, text: &[u8]) -> Result<bool, AllocError> {
+    fn comes(&mut self, alloc: Global, text: &str) -> Result<bool, AllocError> {
         let (from, to) = words_of(text);
-        let (Some(from), Some(to)) = (number_of(from), number_of(to)) else {
-            return Ok(false);
-        };
-        let mut given = Vec::from_slice(alloc, b"given")?;
+        match (number_of(from), number_of(to)) {
+            (Some(from), Some(to)) => self.shows_given(alloc, from, to),
+            _ => Ok(false),
+        }
+    }
+
+    /// The same of these numbers.
+    fn shows_given(&mut self, alloc: Global, from: u64, to: u64) -> Result<bool, AllocError> {
+        let mut given = String::from_str(alloc, "given")?;
+        let is_made = self.numbers_come(alloc, from, to, &mut given)?;
+        if is_made {
+            self.shown.push_str(given.as_str())?;
+            self.shown.push('\n')?;
+        }
+        Ok(is_made)
+    }
+
+    /// The sequenced packets come, and what is delivered of them is put behind what was. False at the first that can't
+    /// be heard.
+    fn numbers_come(
+        &mut self,
+        alloc: Global,
+        from: u64,
+        to: u64,
+        given: &mut String,
+    ) -> Result<bool, AllocError> {
         for number in from..=to {
-            if !self.number_comes(alloc, number, &mut given)? {
+            if !self.number_comes(alloc, number, given)? {
                 return Ok(false);
             }
         }
-        given.push(b'\n')?;
-        self.shown.extend_from_slice(given.as_slice())?;
         Ok(true)
     }
 
@@ -159,25 +177,33 @@ impl Conversation {
         &mut self,
         alloc: Global,
         number: u64,
-        given: &mut Vec<u8>,
+        given: &mut String,
     ) -> Result<bool, AllocError> {
-        let mut digits = Vec::new(alloc);
-        show_number(&mut digits, number)?;
-        let Some(packet) = packet_of(alloc, b'S', digits.as_slice())? else {
-            return Ok(false);
-        };
-        let Some(turn) = self.hear(alloc, &packet)? else {
-            return Ok(false);
-        };
-        self.show_outs(alloc, turn.outs.as_slice())?;
-        if let Some(payload) = &turn.payload {
-            given.push(b' ')?;
-            show_bytes(given, payload.as_slice())?;
+        let mut digits = Buffer::new();
+        match packet_of(alloc, b'S', digits.format(number).as_bytes())? {
+            Some(packet) => self.packet_comes(alloc, &packet, given),
+            None => Ok(false),
         }
-        Ok(true)
     }
 
-    fn feed(&mut self, alloc: Global, text: &[u8]) -> Result<bool, AllocError> {
+    /// The same of its packet.
+    fn packet_comes(
+        &mut self,
+        alloc: Global,
+        packet: &Packet,
+        given: &mut String,
+    ) -> Result<bool, AllocError> {
+        match self.hear(alloc, packet)? {
+            Some(turn) => {
+                self.show_outs(alloc, turn.outs.as_slice())?;
+                give(&turn, given)?;
+                Ok(true)
+            }
+            None => Ok(false),
+        }
+    }
+
+    fn feed(&mut self, alloc: Global, text: &str) -> Result<bool, AllocError> {
         let Some(piece) = bytes_of(alloc, text)? else {
             return Ok(false);
         };
@@ -185,7 +211,7 @@ impl Conversation {
         Ok(true)
     }
 
-    fn feed_each(&mut self, alloc: Global, text: &[u8]) -> Result<bool, AllocError> {
+    fn feed_each(&mut self, alloc: Global, text: &str) -> Result<bool, AllocError> {
         let Some(bytes) = bytes_of(alloc, text)? else {
             return Ok(false);
         };
@@ -199,9 +225,9 @@ impl Conversation {
     fn show_turn(&mut self, alloc: Global, turn: &PortTurn) -> Result<bool, AllocError> {
         self.show_outs(alloc, turn.outs.as_slice())?;
         if let Some(payload) = &turn.payload {
-            self.shown.extend_from_slice(b"given ")?;
+            self.shown.push_str("given ")?;
             show_bytes(&mut self.shown, payload.as_slice())?;
-            self.shown.push(b'\n')?;
+            self.shown.push('\n')?;
         }
         Ok(true)
     }
@@ -211,7 +237,7 @@ impl Conversation {
         for out in outs {
             match out {
                 PortOut::Packet(packet) => show_packet(alloc, &mut self.shown, packet)?,
-                PortOut::Close => self.shown.extend_from_slice(b"close\n")?,
+                PortOut::Close => self.shown.push_str("close\n")?,
             }
         }
         Ok(())
@@ -219,29 +245,40 @@ impl Conversation {
 
     /// Shows the session's state, the number that it wants next, and the session of its last login.
     fn show_state(&mut self) -> Result<bool, AllocError> {
-        let name: &[u8] = match self.session.state() {
-            PortState::Down => b"down",
-            PortState::LoggingIn => b"logging in",
-            PortState::Up => b"up",
-            PortState::Ended => b"ended",
+        let name = match self.session.state() {
+            PortState::Down => "down",
+            PortState::LoggingIn => "logging in",
+            PortState::Up => "up",
+            PortState::Ended => "ended",
             PortState::Faulted(fault) => return self.show_fault(fault),
         };
-        self.shown.extend_from_slice(name)?;
+        self.shown.push_str(name)?;
         self.show_next()
     }
 
     fn show_fault(&mut self, fault: PortFault) -> Result<bool, AllocError> {
-        self.shown.extend_from_slice(b"fault ")?;
+        self.shown.push_str("fault ")?;
         show_number(&mut self.shown, u64::from(fault.number()))?;
         self.show_next()
     }
 
     fn show_next(&mut self) -> Result<bool, AllocError> {
-        self.shown.extend_from_slice(b", wants ")?;
+        self.shown.push_str(", wants ")?;
         show_number(&mut self.shown, self.session.next())?;
-        self.shown.extend_from_slice(b" of [")?;
+        self.shown.push_str(" of [")?;
         show_bytes(&mut self.shown, &self.session.session())?;
-        self.shown.extend_from_slice(b"]\n")?;
+        self.shown.push_str("]\n")?;
         Ok(true)
+    }
+}
+
+/// Puts the payload that a turn delivers behind those that were.
+fn give(turn: &PortTurn, given: &mut String) -> Result<(), AllocError> {
+    match &turn.payload {
+        Some(payload) => {
+            given.push(' ')?;
+            show_bytes(given, payload.as_slice())
+        }
+        None => Ok(()),
     }
 }

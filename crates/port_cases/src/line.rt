@@ -8,12 +8,12 @@ pub enum Line<'a> {
     /// What follows, up to the next case, begins each case from here on.
     First,
     /// A new case, by its name: a new session and a new reader of packets.
-    Case(&'a [u8]),
+    Case(&'a str),
     /// What the last step has to show next.
-    Wanted(&'a [u8]),
+    Wanted(&'a str),
     /// A packet of each type of a range with each of some lengths, each on a session of its own that stands as this
     /// one.
-    Each(&'a [u8]),
+    Each(&'a str),
     /// A step.
     Step(Step<'a>),
 }
@@ -30,84 +30,85 @@ pub enum Step<'a> {
     /// Time passed.
     Tick,
     /// A packet came, its length in front.
-    Hears(&'a [u8]),
+    Hears(&'a str),
     /// A message goes out.
-    Sends(&'a [u8]),
+    Sends(&'a str),
     /// The last payload was at fault.
-    Fails(&'a [u8]),
+    Fails(&'a str),
     /// Sequenced packets came, whose payloads are these numbers in digits: from the first to the last.
-    Comes(&'a [u8]),
+    Comes(&'a str),
     /// A piece of a stream came.
-    Feed(&'a [u8]),
+    Feed(&'a str),
     /// Bytes of a stream came, each by itself.
-    Bytes(&'a [u8]),
+    Bytes(&'a str),
     /// Bytes are read as one packet.
-    Reads(&'a [u8]),
+    Reads(&'a str),
     /// A packet of a type and a payload is written.
-    Writes(&'a [u8]),
+    Writes(&'a str),
     /// A packet with so many zeros is written and read again.
-    Zeros(&'a [u8]),
+    Zeros(&'a str),
 }
 
 /// What a line says; none where it isn't understood.
-pub fn line_of(text: &[u8]) -> Option<Line<'_>> {
-    if text.is_empty() || text.starts_with(b"#") {
+pub fn line_of(text: &str) -> Option<Line<'_>> {
+    if text.is_empty() || text.starts_with('#') {
         return Some(Line::Remark);
     }
-    if text == b"first".as_slice() {
+    if text == "first" {
         return Some(Line::First);
     }
-    if let Some(name) = text.strip_prefix(b"case ") {
+    if let Some(name) = text.strip_prefix("case ") {
         return Some(Line::Case(name));
     }
-    if let Some(shown) = text.strip_prefix(b"-> ") {
+    if let Some(shown) = text.strip_prefix("-> ") {
         return Some(Line::Wanted(shown));
     }
-    if let Some(packets) = text.strip_prefix(b"each ") {
+    if let Some(packets) = text.strip_prefix("each ") {
         return Some(Line::Each(packets));
     }
     Some(Line::Step(step_of(text)?))
 }
 
 /// The step that a line says.
-pub fn step_of(text: &[u8]) -> Option<Step<'_>> {
-    if text == b"up".as_slice() {
-        return Some(Step::Up);
+pub fn step_of(text: &str) -> Option<Step<'_>> {
+    match text {
+        "up" => Some(Step::Up),
+        "gone" => Some(Step::Gone),
+        "tick" => Some(Step::Tick),
+        _ => step_with_text(text),
     }
-    if text == b"gone".as_slice() {
-        return Some(Step::Gone);
-    }
-    if text == b"tick".as_slice() {
-        return Some(Step::Tick);
-    }
+}
+
+/// A step that is a word with what stands behind it.
+fn step_with_text(text: &str) -> Option<Step<'_>> {
     let (word, rest) = words_of(text);
     match word {
-        b"at" => Some(Step::At(number_of(rest)?)),
-        b"hears" => Some(Step::Hears(rest)),
-        b"sends" => Some(Step::Sends(rest)),
-        b"fails" => Some(Step::Fails(rest)),
-        b"comes" => Some(Step::Comes(rest)),
-        b"feed" => Some(Step::Feed(rest)),
-        b"bytes" => Some(Step::Bytes(rest)),
-        b"reads" => Some(Step::Reads(rest)),
-        b"writes" => Some(Step::Writes(rest)),
-        b"zeros" => Some(Step::Zeros(rest)),
+        "at" => Some(Step::At(number_of(rest)?)),
+        "hears" => Some(Step::Hears(rest)),
+        "sends" => Some(Step::Sends(rest)),
+        "fails" => Some(Step::Fails(rest)),
+        "comes" => Some(Step::Comes(rest)),
+        "feed" => Some(Step::Feed(rest)),
+        "bytes" => Some(Step::Bytes(rest)),
+        "reads" => Some(Step::Reads(rest)),
+        "writes" => Some(Step::Writes(rest)),
+        "zeros" => Some(Step::Zeros(rest)),
         _ => None,
     }
 }
 
 /// What stands before the first space, and what stands behind it.
-pub fn words_of(text: &[u8]) -> (&[u8], &[u8]) {
-    match text.iter().position(|byte| *byte == b' ') {
-        Some(at) => (&text[..at], &text[at + 1..]),
-        None => (text, &[]),
+pub fn words_of(text: &str) -> (&str, &str) {
+    match text.split_once(' ') {
+        Some(words) => words,
+        None => (text, ""),
     }
 }
 
 /// The number of one digit or more.
-pub fn number_of(digits: &[u8]) -> Option<u64> {
+pub fn number_of(digits: &str) -> Option<u64> {
     if digits.is_empty() {
         return None;
     }
-    decimal_digits::number_of(digits)
+    decimal_digits::number_of(digits.as_bytes())
 }

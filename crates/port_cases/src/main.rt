@@ -20,10 +20,16 @@ fn main(rt: HostRuntime) -> io::Result<()> {
     one_spelling();
     one_list_of_packets();
     links_end_by_a_close();
+    let mut cases = Cases::new(rt.alloc());
+    run(&rt, &mut cases)
+}
+
+/// Runs the cases that standard input has.
+fn run(rt: &HostRuntime, cases: &mut Cases) -> io::Result<()> {
     let alloc = rt.alloc();
-    let mut cases = Cases::new(alloc);
     for line in BufReader::new(alloc, rt.reader())?.lines(alloc) {
-        cases.step(alloc, line?.as_str().as_bytes(), &mut io::writer(&rt))?;
+        let line = line?;
+        cases.step(alloc, line.as_str(), &mut io::writer(rt))?;
     }
-    cases.end(&mut io::writer(&rt))
+    cases.end(&mut io::writer(rt))
 }
