@@ -26,8 +26,8 @@ ghost use Rattle.script_lines.specs.Market as spec;
 ghost use Rattle.script_lines.specs.MarketLines as forms;
 
 use crate::words::{
-    first_word, letter, number, number32, only_word, order_state, printable_letter, share_count,
-    side, stock, token,
+    first_word, four_words, letter, number, number32, only_word, order_state, printable_letter,
+    share_count, side, six_words, stock, three_words, token, two_words,
 };
 use ouch_codec::{
     Accepted, Broken, CancelPending, CancelReject, Canceled, Executed, OrderState, Outbound,
@@ -42,15 +42,15 @@ pub fn market_message(text: &[u8]) -> Option<Outbound>
 {
     let (name, words) = first_word(text)?;
     match letter(name)? {
-        b'S' => Some(Outbound::SystemEvent(system_event(words)?)),
-        b'A' => Some(Outbound::Accepted(accepted(words)?)),
-        b'U' => Some(Outbound::Replaced(replaced(words)?)),
-        b'C' => Some(Outbound::Canceled(canceled(words)?)),
-        b'E' => Some(Outbound::Executed(executed(words)?)),
-        b'B' => Some(Outbound::Broken(broken(words)?)),
-        b'J' => Some(Outbound::Rejected(rejected(words)?)),
-        b'P' => Some(Outbound::CancelPending(cancel_pending(words)?)),
-        b'I' => Some(Outbound::CancelReject(cancel_reject(words)?)),
+        b'S' => system_event(words).map(Outbound::SystemEvent),
+        b'A' => accepted(words).map(Outbound::Accepted),
+        b'U' => replaced(words).map(Outbound::Replaced),
+        b'C' => canceled(words).map(Outbound::Canceled),
+        b'E' => executed(words).map(Outbound::Executed),
+        b'B' => broken(words).map(Outbound::Broken),
+        b'J' => rejected(words).map(Outbound::Rejected),
+        b'P' => cancel_pending(words).map(Outbound::CancelPending),
+        b'I' => cancel_reject(words).map(Outbound::CancelReject),
         _ => None,
     }
 }
@@ -74,12 +74,7 @@ fn read_terms(text: &[u8]) -> Option<Terms>
         terms.side terms.shares terms.stock terms.price terms.time_in_force terms.order_state) }
     ensures understood { is_some result ≡ fits_forms forms.terms_forms (words_of text.now) }
 {
-    let (side_word, text) = first_word(text)?;
-    let (shares, text) = first_word(text)?;
-    let (symbol, text) = first_word(text)?;
-    let (price, text) = first_word(text)?;
-    let (time_in_force, text) = first_word(text)?;
-    let state_word = only_word(text)?;
+    let (side_word, shares, symbol, price, time_in_force, state_word) = six_words(text)?;
     Some(Terms {
         side: side(side_word)?,
         shares: share_count(shares)?,
@@ -163,9 +158,7 @@ fn canceled(text: &[u8]) -> Option<Canceled>
     ensures said { IfSome result (spec.SaysCanceled (words_of text.now)) }
     ensures understood { is_some result ≡ fits_forms forms.canceled_forms (words_of text.now) }
 {
-    let (token_number, text) = first_word(text)?;
-    let (shares, text) = first_word(text)?;
-    let reason = only_word(text)?;
+    let (token_number, shares, reason) = three_words(text)?;
     Some(Canceled {
         timestamp: 0,
         token: token(token_number)?.bytes(),
@@ -179,10 +172,7 @@ fn executed(text: &[u8]) -> Option<Executed>
     ensures said { IfSome result (spec.SaysExecuted (words_of text.now)) }
     ensures understood { is_some result ≡ fits_forms forms.executed_forms (words_of text.now) }
 {
-    let (token_number, text) = first_word(text)?;
-    let (shares, text) = first_word(text)?;
-    let (price, text) = first_word(text)?;
-    let match_number = only_word(text)?;
+    let (token_number, shares, price, match_number) = four_words(text)?;
     Some(Executed {
         timestamp: 0,
         token: token(token_number)?.bytes(),
@@ -198,9 +188,7 @@ fn broken(text: &[u8]) -> Option<Broken>
     ensures said { IfSome result (spec.SaysBroken (words_of text.now)) }
     ensures understood { is_some result ≡ fits_forms forms.broken_forms (words_of text.now) }
 {
-    let (token_number, text) = first_word(text)?;
-    let (match_number, text) = first_word(text)?;
-    let reason = only_word(text)?;
+    let (token_number, match_number, reason) = three_words(text)?;
     Some(Broken {
         timestamp: 0,
         token: token(token_number)?.bytes(),
@@ -214,8 +202,7 @@ fn rejected(text: &[u8]) -> Option<Rejected>
     ensures said { IfSome result (spec.SaysRejected (words_of text.now)) }
     ensures understood { is_some result ≡ fits_forms forms.rejected_forms (words_of text.now) }
 {
-    let (token_number, text) = first_word(text)?;
-    let reason = only_word(text)?;
+    let (token_number, reason) = two_words(text)?;
     Some(Rejected {
         timestamp: 0,
         token: token(token_number)?.bytes(),

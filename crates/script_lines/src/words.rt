@@ -40,6 +40,52 @@ pub fn only_word(text: &[u8]) -> Option<&[u8]>
     }
 }
 
+/// The two words of a text; `None` where it has more or fewer.
+pub fn two_words(text: &[u8]) -> Option<(&[u8], &[u8])>
+    ensures { MatchOption result
+        (length (words_of text.now) ≢ 2)
+        (λ words. words_of text.now ≡ words.0.now ∷ words.1.now ∷ []) }
+{
+    let (first, rest) = first_word(text)?;
+    let second = only_word(rest)?;
+    Some((first, second))
+}
+
+/// The three words of a text; `None` where it has more or fewer.
+pub fn three_words(text: &[u8]) -> Option<(&[u8], &[u8], &[u8])>
+    ensures { MatchOption result
+        (length (words_of text.now) ≢ 3)
+        (λ words. words_of text.now ≡ words.0.now ∷ words.1.now ∷ words.2.now ∷ []) }
+{
+    let (first, rest) = first_word(text)?;
+    let (second, third) = two_words(rest)?;
+    Some((first, second, third))
+}
+
+/// The four words of a text; `None` where it has more or fewer.
+pub fn four_words(text: &[u8]) -> Option<(&[u8], &[u8], &[u8], &[u8])>
+    ensures { MatchOption result
+        (length (words_of text.now) ≢ 4)
+        (λ words. words_of text.now ≡ words.0.now ∷ words.1.now ∷ words.2.now ∷ words.3.now ∷ []) }
+{
+    let (first, rest) = first_word(text)?;
+    let (second, third, fourth) = three_words(rest)?;
+    Some((first, second, third, fourth))
+}
+
+/// The six words of a text; `None` where it has more or fewer.
+pub fn six_words(text: &[u8]) -> Option<(&[u8], &[u8], &[u8], &[u8], &[u8], &[u8])>
+    ensures { MatchOption result
+        (length (words_of text.now) ≢ 6)
+        (λ words. words_of text.now ≡ words.0.now ∷ words.1.now ∷ words.2.now ∷ words.3.now ∷ words.4.now
+        ∷ words.5.now ∷ []) }
+{
+    let (first, rest) = first_word(text)?;
+    let (second, rest) = first_word(rest)?;
+    let (third, fourth, fifth, sixth) = four_words(rest)?;
+    Some((first, second, third, fourth, fifth, sixth))
+}
+
 /// Where the first space stands.
 fn first_space(text: &[u8]) -> Option<usize>
     ensures first { result ≡ position (λ byte. byte == 32) text.now }
