@@ -185,16 +185,15 @@ fn audit<'a>(alloc: Global) -> Result<Command<'a>, AllocError>
     let alone = Command::new(alloc, "audit")
         .about("Prints each accepted order of a script or of a day by both of its accounts")
         .after_help(AUDIT);
-    let script = option(alloc, "script", "FILE", "The script");
+    let with_script = with_option(alone, option(alloc, "script", "FILE", "The script"))?;
     let journal = option(alloc, "journal", "FILE", "The journal of a day");
+    let with_journal = with_option(with_script, journal)?;
     let settings = option(
         alloc,
         "settings",
         "FILE",
         "The settings of that day, in TOML",
     );
-    let with_script = with_option(alone, script)?;
-    let with_journal = with_option(with_script, journal)?;
     with_option(with_journal, settings)
 }
 
@@ -220,20 +219,20 @@ fn run<'a>(alloc: Global) -> Result<Command<'a>, AllocError>
         .about("Serves the clients and connects the ports that its settings name")
         .after_help(RUN);
     let settings = required(alloc, "settings", "FILE", "The settings, in TOML");
+    let with_settings = with_option(alone, settings)?;
     let links = option(
         alloc,
         "links",
         "N",
         "How many links of each client are served, one after the other: 1 to 1000, or 1",
     );
+    let with_links = with_option(with_settings, links)?;
     let journal = option(
         alloc,
         "journal",
         "FILE",
         "A new file that the journal of the day is written to at its end",
     );
-    let with_settings = with_option(alone, settings)?;
-    let with_links = with_option(with_settings, links)?;
     with_option(with_links, journal)
 }
 
@@ -255,6 +254,46 @@ fn with_command<'a>(command: Command<'a>, more: Command<'a>) -> Result<Command<'
     command.subcommand(more)
 }
 
+/// A command with `run` more. Where that can't be had, the command is let go by a call, here and below: written out,
+/// field by field, its drop takes far longer to prove.
+fn with_run<'a>(alloc: Global, command: Command<'a>) -> Result<Command<'a>, AllocError>
+    ensures { IfOk result (λ wider. app_of wider ≡ spec.with_command (app_of command.entry) spec.runs) }
+{
+    match run(alloc) {
+        Ok(run) => with_command(command, run),
+        Err(error) => {
+            drop(command);
+            Err(error)
+        }
+    }
+}
+
+/// A command with `audit` more.
+fn with_audit<'a>(alloc: Global, command: Command<'a>) -> Result<Command<'a>, AllocError>
+    ensures { IfOk result (λ wider. app_of wider ≡ spec.with_command (app_of command.entry) spec.audit) }
+{
+    match audit(alloc) {
+        Ok(audit) => with_command(command, audit),
+        Err(error) => {
+            drop(command);
+            Err(error)
+        }
+    }
+}
+
+/// A command with `journal` more.
+fn with_journal<'a>(alloc: Global, command: Command<'a>) -> Result<Command<'a>, AllocError>
+    ensures { IfOk result (λ wider. app_of wider ≡ spec.with_command (app_of command.entry) spec.journal) }
+{
+    match journal(alloc) {
+        Ok(journal) => with_command(command, journal),
+        Err(error) => {
+            drop(command);
+            Err(error)
+        }
+    }
+}
+
 /// `gateway` with its subcommands.
 fn gateway<'a>(alloc: Global) -> Result<Command<'a>, AllocError>
     ensures { IfOk result (λ command. app_of command ≡ spec.gateway) }
@@ -263,8 +302,8 @@ fn gateway<'a>(alloc: Global) -> Result<Command<'a>, AllocError>
         .about("The order gateway: FIX 4.4 clients, OUCH 4.2 market ports")
         .subcommand_required(true)
         .arg_required_else_help(true);
-    let with_run = with_command(alone, run(alloc)?)?;
+    let with_run = with_run(alloc, alone)?;
     let with_demo = with_command(with_run, demo(alloc))?;
-    let with_audit = with_command(with_demo, audit(alloc)?)?;
-    with_command(with_audit, journal(alloc)?)
+    let with_audit = with_audit(alloc, with_demo)?;
+    with_journal(alloc, with_audit)
 }
