@@ -37,62 +37,85 @@ fn logged_on(alloc: Global, sim: &mut Sim, asked: &[u8]) -> Result<Vec<u8>, Fail
     bytes_of(alloc, packets.as_slice())
 }
 
+const SAID: [&[u8]; 3] = [b"one", b"two", b"three"];
+
 /// A market that has said `one`, `two` and `three` without a link.
-fn with_three(alloc: Global) -> Result<Sim, Fail> {
+fn with_three(rt: &impl Abort, alloc: Global) -> Result<Sim, Fail> {
     let mut sim = Sim::new(alloc);
-    for payload in [b"one".as_slice(), b"two".as_slice(), b"three".as_slice()] {
-        if !sim.say(alloc, payload)?.is_empty() {
-            return Err(Fail::new("nothing goes out without a link"));
-        }
-    }
+    say_three(rt, alloc, &mut sim)?;
     Ok(sim)
 }
 
-/// What is asked for in a login: from 1, from a later number, from the next one, by the session's name.
-#[test]
-fn a_login_gives_all_from_its_number_on(rt: HostRuntime) -> Result<(), Fail> {
-    let mut sim = with_three(rt.alloc())?;
-    for (asked, expected) in [
-        (
-            b"                             1".as_slice(),
-            b"\0\x1fASESSION001                   1\0\x04Sone\0\x04Stwo\0\x06Sthree".as_slice(),
-        ),
-        (
-            b"SESSION001                   3".as_slice(),
-            b"\0\x1fASESSION001                   3\0\x06Sthree".as_slice(),
-        ),
-        (
-            b"SESSION001                   4".as_slice(),
-            b"\0\x1fASESSION001                   4".as_slice(),
-        ),
-        (
-            b"SESSION00100000000000000000002".as_slice(),
-            b"\0\x1fASESSION001                   2\0\x04Stwo\0\x06Sthree".as_slice(),
-        ),
-    ] {
-        assert!(rt; logged_on(rt.alloc(), &mut sim, asked)?.as_slice() == expected);
+fn say_three(rt: &impl Abort, alloc: Global, sim: &mut Sim) -> Result<(), Fail> {
+    for payload in &SAID {
+        assert!(rt; sim.say(alloc, payload)?.is_empty());
     }
     Ok(())
 }
 
-/// A number that is too high, 0 or none, another session, and a login of another length: `J` with `S`, and nothing is
-/// lost.
+/// A login with this session and number is answered by this.
+fn answers_login(
+    rt: &impl Abort,
+    alloc: Global,
+    sim: &mut Sim,
+    asked: &[u8],
+    expected: &[u8],
+) -> Result<(), Fail> {
+    let given = logged_on(alloc, sim, asked)?;
+    assert!(rt; given.as_slice() == expected);
+    Ok(())
+}
+
+/// What is asked for in a login: from 1, from a later number, from the next one, by the session's name; and what is
+/// given.
+const LOGINS: [(&[u8], &[u8]); 4] = [
+    (
+        b"                             1",
+        b"\0\x1fASESSION001                   1\0\x04Sone\0\x04Stwo\0\x06Sthree",
+    ),
+    (
+        b"SESSION001                   3",
+        b"\0\x1fASESSION001                   3\0\x06Sthree",
+    ),
+    (
+        b"SESSION001                   4",
+        b"\0\x1fASESSION001                   4",
+    ),
+    (
+        b"SESSION00100000000000000000002",
+        b"\0\x1fASESSION001                   2\0\x04Stwo\0\x06Sthree",
+    ),
+];
+
+#[test]
+fn a_login_gives_all_from_its_number_on(rt: HostRuntime) -> Result<(), Fail> {
+    let mut sim = with_three(&rt, rt.alloc())?;
+    for (asked, expected) in &LOGINS {
+        answers_login(&rt, rt.alloc(), &mut sim, asked, expected)?;
+    }
+    Ok(())
+}
+
+/// A number that is too high, 0 or none, another session, and a login of another length.
+const REFUSED: [&[u8]; 7] = [
+    b"SESSION001                   5",
+    b"SESSION001                   0",
+    b"SESSION001                    ",
+    b"SESSION001                  1 ",
+    b"SESSION002                   1",
+    b"SESSION001                  1",
+    b"SESSION001                    1",
+];
+
+/// `J` with `S`, and nothing is lost.
 #[test]
 fn logins_that_cannot_be_served(rt: HostRuntime) -> Result<(), Fail> {
-    let mut sim = with_three(rt.alloc())?;
-    for asked in [
-        b"SESSION001                   5".as_slice(),
-        b"SESSION001                   0".as_slice(),
-        b"SESSION001                    ".as_slice(),
-        b"SESSION001                  1 ".as_slice(),
-        b"SESSION002                   1".as_slice(),
-        b"SESSION001                  1".as_slice(),
-        b"SESSION001                    1".as_slice(),
-    ] {
-        assert!(rt; logged_on(rt.alloc(), &mut sim, asked)?.as_slice() == b"\0\x02JS".as_slice());
+    let mut sim = with_three(&rt, rt.alloc())?;
+    for asked in &REFUSED {
+        answers_login(&rt, rt.alloc(), &mut sim, asked, b"\0\x02JS")?;
     }
     let all = logged_on(rt.alloc(), &mut sim, b"                             1")?;
-    assert_eq!(rt; all.len(), 53);
+    assert!(rt; all.len() == 53);
     Ok(())
 }
 
@@ -100,13 +123,17 @@ fn logins_that_cannot_be_served(rt: HostRuntime) -> Result<(), Fail> {
 /// before is given again where it is asked for.
 #[test]
 fn a_link_is_lost_behind_each_message(rt: HostRuntime) -> Result<(), Fail> {
-    let alloc = rt.alloc();
-    let mut sim = Sim::new(alloc);
-    let mut all = Vec::from_slice(alloc, b"\0\x1fASESSION001                   1")?;
-    for payload in [b"one".as_slice(), b"two".as_slice(), b"three".as_slice()] {
-        assert!(rt; says(alloc, &mut sim, &mut all, payload)?);
+    let mut sim = Sim::new(rt.alloc());
+    let mut all = Vec::new(rt.alloc());
+    says_each(&rt, rt.alloc(), &mut sim, &mut all)
+}
+
+fn says_each(rt: &impl Abort, alloc: Global, sim: &mut Sim, all: &mut Vec<u8>) -> Result<(), Fail> {
+    all.extend_from_slice(b"\0\x1fASESSION001                   1")?;
+    for payload in &SAID {
+        assert!(rt; says(alloc, sim, all, payload)?);
     }
-    assert!(rt; gives(alloc, &mut sim, all.as_slice())?);
+    assert!(rt; gives(alloc, sim, all.as_slice())?);
     assert!(rt;
         all.as_slice()
             == b"\0\x1fASESSION001                   1\0\x04Sone\0\x04Stwo\0\x06Sthree".as_slice()
@@ -136,34 +163,40 @@ fn says(alloc: Global, sim: &mut Sim, all: &mut Vec<u8>, payload: &[u8]) -> Resu
 /// logout nothing goes out.
 #[test]
 fn other_packets(rt: HostRuntime) -> Result<(), Fail> {
-    let alloc = rt.alloc();
-    let mut sim = with_three(alloc)?;
+    let mut sim = with_three(&rt, rt.alloc())?;
+    answers_others(&rt, rt.alloc(), &mut sim)
+}
+
+fn answers_others(rt: &impl Abort, alloc: Global, sim: &mut Sim) -> Result<(), Fail> {
     sim.step(alloc, SimEvent::Up)?;
-    before_a_login(&rt, alloc, &mut sim)?;
-    logged_on(alloc, &mut sim, b"                             4")?;
-    behind_a_login(&rt, alloc, &mut sim)?;
+    for kind in [b'U', b'R', b'O', b'+', 0] {
+        answers(rt, alloc, sim, kind, b"", b"")?;
+    }
+    logged_on(alloc, sim, b"                             4")?;
+    behind_a_login(rt, alloc, sim)?;
     assert!(rt; sim.say(alloc, b"four")?.is_empty());
     Ok(())
 }
 
-fn before_a_login<R: Abort>(rt: &R, alloc: Global, sim: &mut Sim) -> Result<(), Fail> {
-    for kind in [b'U', b'R', b'O', b'+', 0] {
-        assert!(rt; answer(alloc, sim, kind, b"")?.is_empty());
-    }
-    Ok(())
+fn behind_a_login(rt: &impl Abort, alloc: Global, sim: &mut Sim) -> Result<(), Fail> {
+    answers(rt, alloc, sim, b'L', b"", b"")?;
+    answers(rt, alloc, sim, b'+', b"hi", b"")?;
+    answers(rt, alloc, sim, b'U', b"no message", b"")?;
+    answers(rt, alloc, sim, b'R', b"", b"\0\x01H")?;
+    answers(rt, alloc, sim, b'O', b"", b"")
 }
 
-fn behind_a_login<R: Abort>(rt: &R, alloc: Global, sim: &mut Sim) -> Result<(), Fail> {
-    assert!(rt; answer(alloc, sim, b'L', b"")?.is_empty());
-    assert!(rt; answer(alloc, sim, b'+', b"hi")?.is_empty());
-    assert!(rt; answer(alloc, sim, b'U', b"no message")?.is_empty());
-    assert!(rt; answer(alloc, sim, b'R', b"")?.as_slice() == b"\0\x01H".as_slice());
-    assert!(rt; answer(alloc, sim, b'O', b"")?.is_empty());
-    Ok(())
-}
-
-/// The bytes that a packet is answered by.
-fn answer(alloc: Global, sim: &mut Sim, kind: u8, payload: &[u8]) -> Result<Vec<u8>, Fail> {
+/// A packet of this type and payload is answered by these bytes.
+fn answers(
+    rt: &impl Abort,
+    alloc: Global,
+    sim: &mut Sim,
+    kind: u8,
+    payload: &[u8],
+    expected: &[u8],
+) -> Result<(), Fail> {
     let packets = sim.step(alloc, packet(alloc, kind, payload)?)?;
-    bytes_of(alloc, packets.as_slice())
+    let given = bytes_of(alloc, packets.as_slice())?;
+    assert!(rt; given.as_slice() == expected);
+    Ok(())
 }
