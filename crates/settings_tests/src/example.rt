@@ -17,7 +17,7 @@ fn example(alloc: Global) -> Result<SettingsFile, Fail> {
 #[test]
 fn the_ports_of_the_example(rt: HostRuntime) -> Result<(), Fail> {
     let file = example(rt.alloc())?;
-    assert_eq!(rt; file.settings.comp(), b"GATE".as_slice());
+    assert!(rt; file.settings.comp() == b"GATE".as_slice());
     users(&rt, &file);
     passwords(&rt, &file);
     texts(
@@ -33,23 +33,23 @@ const USERS: [&[u8; 6]; 2] = [b"USER01", b"USER02"];
 const PASSWORDS: [&str; 2] = ["PASSWORD", ""];
 
 fn users<R: Abort>(rt: &R, file: &SettingsFile) {
-    assert_eq!(rt; file.settings.ports().len(), USERS.len());
+    assert!(rt; file.settings.ports().len() == USERS.len());
     for (port, user) in file.settings.ports().iter().zip(USERS) {
-        assert_eq!(rt; port.user.as_slice(), user.as_slice());
+        assert!(rt; port.user.as_slice() == user.as_slice());
     }
 }
 
 fn passwords<R: Abort>(rt: &R, file: &SettingsFile) {
     for (port, password) in file.settings.ports().iter().zip(PASSWORDS) {
-        assert_eq!(rt; port.password.as_slice(), password.as_bytes());
+        assert!(rt; port.password.as_slice() == password.as_bytes());
     }
 }
 
 /// These are the texts that are expected, and no others.
 fn texts<R: Abort>(rt: &R, texts: &[String], expected: &[&str]) {
-    assert_eq!(rt; texts.len(), expected.len());
+    assert!(rt; texts.len() == expected.len());
     for (text, expected) in texts.iter().zip(expected) {
-        assert_eq!(rt; text.as_str(), *expected);
+        assert!(rt; text.as_str() == *expected);
     }
 }
 
@@ -66,10 +66,10 @@ fn the_clients_of_the_example(rt: HostRuntime) -> Result<(), Fail> {
 const CLIENTS: [(&str, u16); 3] = [("BANK", 1), ("BROKER", 1), ("DESK", 2)];
 
 fn names_and_ports<R: Abort>(rt: &R, file: &SettingsFile) {
-    assert_eq!(rt; file.settings.clients().len(), CLIENTS.len());
+    assert!(rt; file.settings.clients().len() == CLIENTS.len());
     for (client, (comp, port)) in file.settings.clients().iter().zip(CLIENTS) {
-        assert_eq!(rt; client.comp.as_slice(), comp.as_bytes());
-        assert_eq!(rt; client.terms.port, port);
+        assert!(rt; client.comp.as_slice() == comp.as_bytes());
+        assert!(rt; client.terms.port == port);
     }
 }
 
@@ -82,8 +82,8 @@ const TERMS: [(&[u8; 4], u8, u8); 3] = [
 
 fn terms<R: Abort>(rt: &R, file: &SettingsFile) {
     for (client, (firm, capacity, customer)) in file.settings.clients().iter().zip(TERMS) {
-        assert_eq!(rt; client.terms.firm, *firm);
-        assert_eq!(rt; client.terms.capacity, capacity);
-        assert_eq!(rt; client.terms.customer, customer);
+        assert!(rt; client.terms.firm == *firm);
+        assert!(rt; client.terms.capacity == capacity);
+        assert!(rt; client.terms.customer == customer);
     }
 }

@@ -1,7 +1,7 @@
 //! Files with several faults: the first in the order of judging is named; and how many ports and clients there may be.
 
-use crate::texts::{GOOD, is_refused_by, refused_key};
-use std::alloc::Global;
+use crate::texts::{GOOD, is_read, is_refused_by};
+use std::alloc::{AllocError, Global};
 use std::test::Fail;
 
 /// Files, and the key that each is refused by.
@@ -52,36 +52,42 @@ const FIRST: [(&str, &str); 16] = [
 #[test]
 fn the_first_wrong_key(rt: HostRuntime) -> Result<(), Fail> {
     let alloc = rt.alloc();
-    for (text, key) in FIRST {
+    for (text, key) in &FIRST {
         assert!(rt; is_refused_by(alloc, text, key)?, "{key}: {text}");
     }
     Ok(())
 }
 
 /// A file of so many ports and so many clients, each with a name and an address of its own.
-fn file_of(alloc: Global, ports: u16, clients: u16) -> Result<String, Fail> {
+fn file_of(alloc: Global, ports: u16, clients: u16) -> Result<String, AllocError> {
     let mut text = String::from_str(alloc, "comp = 'G'\n")?;
     for k in 0..ports {
-        let port = format!(in alloc;
+        write!(
+            text,
             "[[port]]\nname = 'P{k}'\naddress = 'h:{k}'\nuser = 'U'\npassword = ''\n"
         )?;
-        text.push_str(port.as_str())?;
     }
     for k in 0..clients {
-        let client = format!(in alloc;
+        write!(
+            text,
             "[[client]]\ncomp = 'C{k}'\nlisten = 'h:{k}'\nport = 'P0'\nfirm = 'F'\ncapacity = 'A'\ncustomer = 'N'\n"
         )?;
-        text.push_str(client.as_str())?;
     }
     Ok(text)
+}
+
+/// Whether a file of so many ports and clients is refused by this key.
+fn is_refused_of(alloc: Global, ports: u16, clients: u16, key: &str) -> Result<bool, Fail> {
+    let text = file_of(alloc, ports, clients)?;
+    is_refused_by(alloc, text.as_str(), key)
 }
 
 #[test]
 fn how_many_there_may_be(rt: HostRuntime) -> Result<(), Fail> {
     let alloc = rt.alloc();
-    assert!(rt; refused_key(alloc, GOOD.as_bytes())?.is_none());
-    assert!(rt; refused_key(alloc, file_of(alloc, 16, 64)?.as_bytes())?.is_none());
-    assert!(rt; is_refused_by(alloc, file_of(alloc, 17, 64)?.as_str(), "port")?);
-    assert!(rt; is_refused_by(alloc, file_of(alloc, 16, 65)?.as_str(), "client")?);
+    assert!(rt; is_read(alloc, GOOD)?);
+    assert!(rt; is_read(alloc, file_of(alloc, 16, 64)?.as_str())?);
+    assert!(rt; is_refused_of(alloc, 17, 64, "port")?);
+    assert!(rt; is_refused_of(alloc, 16, 65, "client")?);
     Ok(())
 }

@@ -47,6 +47,17 @@ pub fn changed(alloc: Global, text: &str, part: &str, other: &str) -> Result<Str
     Ok(format!(in alloc; "{before}{other}{after}")?)
 }
 
+/// Whether `GOOD` is refused by this key where a part of it is another.
+pub fn is_refused_with(alloc: Global, part: &str, other: &str, key: &str) -> Result<bool, Fail> {
+    let text = changed(alloc, GOOD, part, other)?;
+    is_refused_by(alloc, text.as_str(), key)
+}
+
+/// Whether a text is read.
+pub fn is_read(alloc: Global, text: &str) -> Result<bool, Fail> {
+    Ok(refused_key(alloc, text.as_bytes())?.is_none())
+}
+
 /// The key that a text is refused by; nothing where it is read.
 pub fn refused_key(alloc: Global, text: &[u8]) -> Result<Option<String>, Fail> {
     match read(alloc, text) {

@@ -1,6 +1,8 @@
 //! Values at each limit, and beyond it.
 
-use crate::texts::{GOOD, SECOND_CLIENT, SECOND_PORT, changed, is_refused_by, refused_key};
+use crate::texts::{
+    GOOD, SECOND_CLIENT, SECOND_PORT, changed, is_read, is_refused_by, is_refused_with,
+};
 use std::alloc::Global;
 use std::test::Fail;
 
@@ -52,9 +54,11 @@ const WRONG: [(&str, &str, &str); 41] = [
 #[test]
 fn each_wrong_value(rt: HostRuntime) -> Result<(), Fail> {
     let alloc = rt.alloc();
-    for (value, other, key) in WRONG {
-        let text = changed(alloc, GOOD, value, other)?;
-        assert!(rt; is_refused_by(alloc, text.as_str(), key)?, "{key}: {other}");
+    for (value, other, key) in &WRONG {
+        assert!(rt;
+            is_refused_with(alloc, value, other, key)?,
+            "{key}: {other}"
+        );
     }
     Ok(())
 }
@@ -84,9 +88,11 @@ const RIGHT: [(&str, &str); 18] = [
 #[test]
 fn each_value_at_its_limit(rt: HostRuntime) -> Result<(), Fail> {
     let alloc = rt.alloc();
-    for (value, other) in RIGHT {
-        let text = changed(alloc, GOOD, value, other)?;
-        assert!(rt; refused_key(alloc, text.as_bytes())?.is_none(), "{other}");
+    for (value, other) in &RIGHT {
+        assert!(rt;
+            is_read(alloc, changed(alloc, GOOD, value, other)?.as_str())?,
+            "{other}"
+        );
     }
     Ok(())
 }
@@ -95,6 +101,12 @@ fn each_value_at_its_limit(rt: HostRuntime) -> Result<(), Fail> {
 fn two_of_each(alloc: Global, part: &str, other: &str) -> Result<String, Fail> {
     let text = format!(in alloc; "{GOOD}{SECOND_PORT}{SECOND_CLIENT}")?;
     changed(alloc, text.as_str(), part, other)
+}
+
+/// Whether a file of them is read.
+fn are_read(alloc: Global, part: &str, other: &str) -> Result<bool, Fail> {
+    let text = two_of_each(alloc, part, other)?;
+    is_read(alloc, text.as_str())
 }
 
 /// What is taken already by the first port or client.
@@ -111,12 +123,10 @@ const TAKEN: [(&str, &str, &str); 3] = [
 #[test]
 fn what_is_taken_already(rt: HostRuntime) -> Result<(), Fail> {
     let alloc = rt.alloc();
-    let text = two_of_each(alloc, "P2", "P2")?;
-    assert!(rt; refused_key(alloc, text.as_bytes())?.is_none());
+    assert!(rt; are_read(alloc, "P2", "P2")?);
     // two ports may have one address
-    let text = two_of_each(alloc, "10.1.1.5:26401", "10.1.1.5:26400")?;
-    assert!(rt; refused_key(alloc, text.as_bytes())?.is_none());
-    for (part, other, key) in TAKEN {
+    assert!(rt; are_read(alloc, "10.1.1.5:26401", "10.1.1.5:26400")?);
+    for (part, other, key) in &TAKEN {
         let text = two_of_each(alloc, part, other)?;
         assert!(rt; is_refused_by(alloc, text.as_str(), key)?, "{other}");
     }
