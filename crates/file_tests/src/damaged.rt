@@ -15,9 +15,9 @@ const ONE_UP: &[u8; 66] = b"\0\0\0\0\0\0\0\x32GJ01\
 /// Where a refusal is told with the status 2, and nothing is printed; other texts begin with a status that isn't
 /// wanted.
 fn refusal_of(alloc: Global, file: &[u8]) -> Result<Vec<u8>, Fail> {
+    let settings = fixed_settings(alloc)?;
     let mut output = Vec::new(alloc);
     let mut faults = Vec::new(alloc);
-    let settings = fixed_settings(alloc)?;
     let status = audit_file(alloc, file, &settings, &mut output, &mut faults);
     if status != 2 || !output.is_empty() {
         faults.insert(0, b'0'.saturating_add(status))?;
@@ -29,12 +29,12 @@ fn refusal_of(alloc: Global, file: &[u8]) -> Result<Vec<u8>, Fail> {
 #[test]
 fn a_file_without_orders(rt: HostRuntime) -> Result<(), Fail> {
     let alloc = rt.alloc();
+    let settings = fixed_settings(alloc)?;
     let mut output = Vec::new(alloc);
     let mut faults = Vec::new(alloc);
-    let settings = fixed_settings(alloc)?;
     let status = audit_file(alloc, ONE_UP, &settings, &mut output, &mut faults);
-    assert_eq!(rt; status, 0);
-    assert_eq!(rt; output.as_slice(), b"orders 0 agree 0\n".as_slice());
+    assert!(rt; status == 0);
+    assert!(rt; output.as_slice() == b"orders 0 agree 0\n".as_slice());
     Ok(())
 }
 
@@ -47,10 +47,8 @@ fn each_front_of_a_file(rt: HostRuntime) -> Result<(), Fail> {
         } else {
             b"page 1: cut short\n"
         };
-        assert!(rt;
-            refusal_of(rt.alloc(), &ONE_UP[..size])?.as_slice() == told.as_slice(),
-            "{size} bytes"
-        );
+        let refusal = refusal_of(rt.alloc(), &ONE_UP[..size])?;
+        assert!(rt; refusal.as_slice() == told.as_slice(), "{size} bytes");
     }
     Ok(())
 }
@@ -61,21 +59,18 @@ fn a_file_that_is_changed(rt: HostRuntime) -> Result<(), Fail> {
     let alloc = rt.alloc();
     let mut longer = Vec::from_slice(alloc, ONE_UP)?;
     longer.push(0)?;
-    assert_eq!(rt;
-        refusal_of(alloc, longer.as_slice())?.as_slice(),
-        b"page 1: head\n".as_slice()
-    );
+    refuses(&rt, alloc, longer.as_slice(), b"page 1: head\n")?;
     let mut file = *ONE_UP;
     file[8] = 0x48;
-    assert_eq!(rt;
-        refusal_of(alloc, &file)?.as_slice(),
-        b"page 0: head\n".as_slice()
-    );
+    refuses(&rt, alloc, &file, b"page 0: head\n")?;
     let mut file = *ONE_UP;
     file[35] = 0x10;
-    assert_eq!(rt;
-        refusal_of(alloc, &file)?.as_slice(),
-        b"page 0: kind\n".as_slice()
-    );
+    refuses(&rt, alloc, &file, b"page 0: kind\n")
+}
+
+/// A file is refused, and this is told.
+fn refuses(rt: &impl Abort, alloc: Global, file: &[u8], told: &[u8]) -> Result<(), Fail> {
+    let refusal = refusal_of(alloc, file)?;
+    assert!(rt; refusal.as_slice() == told);
     Ok(())
 }
