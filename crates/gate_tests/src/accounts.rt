@@ -4,6 +4,7 @@ use fix_fields::{Fields, split};
 use gate_audit::Account;
 use order_accounts::{Outbound, ReadingFault, decode, life_of, reading_of};
 use std::alloc::Global;
+use std::process::Abort;
 use std::test::Fail;
 
 const TOKEN: &[u8] = b"G0000000000001";
@@ -31,14 +32,42 @@ fn heard(message: &[u8]) -> Result<Outbound, Fail> {
     Ok(decode(message).map_err(|_| "these are a message")?)
 }
 
-#[test]
-fn an_order_that_is_traded_broken_and_cancelled(rt: HostRuntime) -> Result<(), Fail> {
-    let alloc = rt.alloc();
-    let mut messages = Vec::new(alloc);
-    for message in [ACCEPTED, TRADE, OTHER_TRADE] {
+/// These messages are heard, behind those before.
+fn hear(messages: &mut Vec<Outbound>, more: &[&[u8]]) -> Result<(), Fail> {
+    for message in more {
         messages.push(heard(message)?)?;
     }
-    let traded = life_of(alloc, TOKEN, b'1', messages.as_slice())?;
+    Ok(())
+}
+
+/// An order is accepted, and traded once; another one is traded.
+const MARKET_TRADED: [&[u8]; 3] = [ACCEPTED, TRADE, OTHER_TRADE];
+
+/// The trade is broken, twice, and what is open is cancelled.
+const MARKET_CLOSED: [&[u8]; 3] = [BREAK, BREAK, CANCELED];
+
+/// The account of the order's life by these messages.
+fn account_of(alloc: Global, messages: &[Outbound]) -> Result<Account, Fail> {
+    Ok(life_of(alloc, TOKEN, b'1', messages)?.account())
+}
+
+/// Two accounts are the same.
+fn same(rt: &impl Abort, account: Account, expected: Account) {
+    assert_eq!(rt; account, expected);
+}
+
+#[test]
+fn an_order_that_is_traded_broken_and_cancelled(rt: HostRuntime) -> Result<(), Fail> {
+    let mut messages = Vec::new(rt.alloc());
+    is_traded_and_cancelled(&rt, rt.alloc(), &mut messages)
+}
+
+fn is_traded_and_cancelled(
+    rt: &impl Abort,
+    alloc: Global,
+    messages: &mut Vec<Outbound>,
+) -> Result<(), Fail> {
+    hear(messages, &MARKET_TRADED)?;
     let account = Account {
         side: b'1',
         unfilled: 200,
@@ -47,11 +76,8 @@ fn an_order_that_is_traded_broken_and_cancelled(rt: HostRuntime) -> Result<(), F
         value: 23_450_000,
         is_closed: false,
     };
-    assert_eq!(rt; traded.account(), account);
-    for message in [BREAK, BREAK, CANCELED] {
-        messages.push(heard(message)?)?;
-    }
-    let closed = life_of(alloc, TOKEN, b'1', messages.as_slice())?;
+    same(rt, account_of(alloc, messages.as_slice())?, account);
+    hear(messages, &MARKET_CLOSED)?;
     let account = Account {
         unfilled: 0,
         executed: 0,
@@ -60,7 +86,7 @@ fn an_order_that_is_traded_broken_and_cancelled(rt: HostRuntime) -> Result<(), F
         is_closed: true,
         ..account
     };
-    assert_eq!(rt; closed.account(), account);
+    same(rt, account_of(alloc, messages.as_slice())?, account);
     Ok(())
 }
 
@@ -90,14 +116,31 @@ fn fields(alloc: Global, line: &[u8]) -> Result<Fields, Fail> {
     Ok(split(alloc, text.as_slice())?.ok_or("these are fields")?)
 }
 
-#[test]
-fn reports_of_an_order_that_is_traded_busted_and_cancelled(rt: HostRuntime) -> Result<(), Fail> {
-    let alloc = rt.alloc();
-    let mut reports = Vec::new(alloc);
-    for line in TRADED {
+/// These reports are read, behind those before.
+fn read(alloc: Global, reports: &mut Vec<Fields>, more: &[&[u8]]) -> Result<(), Fail> {
+    for line in more {
         reports.push(fields(alloc, line)?)?;
     }
-    let traded = reading_of(alloc, b"1", reports.as_slice())?;
+    Ok(())
+}
+
+/// The account of the order by these reports.
+fn account_read(alloc: Global, reports: &[Fields]) -> Result<Account, Fail> {
+    Ok(reading_of(alloc, b"1", reports)?.account())
+}
+
+#[test]
+fn reports_of_an_order_that_is_traded_busted_and_cancelled(rt: HostRuntime) -> Result<(), Fail> {
+    let mut reports = Vec::new(rt.alloc());
+    is_traded_and_busted(&rt, rt.alloc(), &mut reports)
+}
+
+fn is_traded_and_busted(
+    rt: &impl Abort,
+    alloc: Global,
+    reports: &mut Vec<Fields>,
+) -> Result<(), Fail> {
+    read(alloc, reports, &TRADED)?;
     let account = Account {
         side: b'1',
         unfilled: 150,
@@ -106,11 +149,8 @@ fn reports_of_an_order_that_is_traded_busted_and_cancelled(rt: HostRuntime) -> R
         value: 35_150_000,
         is_closed: false,
     };
-    assert_eq!(rt; traded.account(), account);
-    for line in CLOSED {
-        reports.push(fields(alloc, line)?)?;
-    }
-    let closed = reading_of(alloc, b"1", reports.as_slice())?;
+    same(rt, account_read(alloc, reports.as_slice())?, account);
+    read(alloc, reports, &CLOSED)?;
     let account = Account {
         unfilled: 0,
         executed: 50,
@@ -119,7 +159,7 @@ fn reports_of_an_order_that_is_traded_busted_and_cancelled(rt: HostRuntime) -> R
         is_closed: true,
         ..account
     };
-    assert_eq!(rt; closed.account(), account);
+    same(rt, account_read(alloc, reports.as_slice())?, account);
     Ok(())
 }
 
@@ -129,8 +169,8 @@ fn a_number_that_no_integer_holds(rt: HostRuntime) -> Result<(), Fail> {
     let mut reports = Vec::new(alloc);
     reports.push(fields(alloc, b"35=8|37=1|54=1|38=300|150=0|151=4294967296|")?)?;
     let refused = reading_of(alloc, b"1", reports.as_slice()).map(|reading| reading.account());
-    assert_eq!(rt; refused, Err(ReadingFault::TooLarge));
+    assert!(rt; matches!(refused, Err(ReadingFault::TooLarge)));
     let other = reading_of(alloc, b"2", reports.as_slice())?.account();
-    assert_eq!(rt; other.unfilled, 0);
+    assert!(rt; other.unfilled == 0);
     Ok(())
 }

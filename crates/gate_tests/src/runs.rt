@@ -9,6 +9,11 @@ use std::test::Fail;
 /// C1 logs on, its order waits for port 1, which logs in; a client comes that the settings don't have.
 fn events(alloc: Global) -> Result<Vec<Event>, Fail> {
     let mut events = Vec::new(alloc);
+    push_events(alloc, &mut events)?;
+    Ok(events)
+}
+
+fn push_events(alloc: Global, events: &mut Vec<Event>) -> Result<(), Fail> {
     events.push(client_up(1, 1))?;
     events.push(message(alloc, 1, 1, b"35=A|49=C1|56=GATE|34=1|98=0|108=30|")?)?;
     events.push(message(
@@ -20,7 +25,7 @@ fn events(alloc: Global) -> Result<Vec<Event>, Fail> {
     events.push(port_up(1, 1))?;
     events.push(packet(alloc, 1, 1, b'A', b"SESSION001                   1")?)?;
     events.push(client_up(4, 1))?;
-    Ok(events)
+    Ok(())
 }
 
 /// What each batch writes, a client's first: a line for each batch, and one for each frame or packet.
@@ -46,13 +51,21 @@ fn push_written(text: &mut Vec<u8>, outs: &[LinkOut]) -> Result<(), Fail> {
     Ok(())
 }
 
+/// The batches of these events.
+fn batches(alloc: Global) -> Result<Vec<Batch>, Fail> {
+    let settings = settings(alloc)?;
+    let events = events(alloc)?;
+    Ok(run_all(alloc, &settings, events.as_slice())?)
+}
+
 #[test]
 fn a_run_has_a_batch_for_each_event(rt: HostRuntime) -> Result<(), Fail> {
     let alloc = rt.alloc();
-    let batches = run_all(alloc, &settings(alloc)?, events(alloc)?.as_slice())?;
-    assert_eq!(rt;
-        written(alloc, batches.as_slice())?.as_slice(),
-        b"batch\n\
+    let batches = batches(alloc)?;
+    let text = written(alloc, batches.as_slice())?;
+    assert!(rt;
+        text.as_slice()
+            == b"batch\n\
           batch\n\
           8=FIX.4.4\x019=61\x0135=A\x0149=GATE\x0156=C1\x0134=1\x0152=19700101-00:00:00.000\x0198=0\x01\
           108=30\x0110=117\x01\n\
@@ -65,7 +78,7 @@ fn a_run_has_a_batch_for_each_event(rt: HostRuntime) -> Result<(), Fail> {
           batch\n\
           \x00\x32UOG0000000000001B\x00\x00\x01\x2cINTC    \x00\x03\x94\x04\x00\x01\x86\x9eFEVZYAN\x00\x00\x00\x00NN\n\
           batch\n"
-            .as_slice()
+                .as_slice()
     );
     Ok(())
 }
