@@ -1,7 +1,8 @@
 //! Audits of scripts.
 
+use super::running::{Run, assert_ran};
 use gate_lines::audit_script;
-use std::test::Fail;
+use std::alloc::Global;
 
 /// A script, the status of its audit, what is printed, and what is told.
 const AUDITS: [(&str, u8, &str, &str); 5] = [
@@ -26,16 +27,23 @@ P1 E 1 300 234500 1
     ("# a remark", 2, "", "line 1: not understood\n"),
 ];
 
-#[test]
-fn what_ends_well_and_what_is_not_understood(rt: HostRuntime) -> Result<(), Fail> {
-    for (script, status, printed, told) in AUDITS {
-        let mut input = script.as_bytes();
-        let mut output = Vec::new(rt.alloc());
-        let mut faults = Vec::new(rt.alloc());
-        let ended = audit_script(rt.alloc(), &mut input, &mut output, &mut faults);
-        assert_eq!(rt; ended, status, "{script}");
-        assert_eq!(rt; output.as_slice(), printed.as_bytes(), "{script}");
-        assert_eq!(rt; faults.as_slice(), told.as_bytes(), "{script}");
+/// Audits a script.
+fn audited(alloc: Global, script: &str) -> Run {
+    let mut input = script.as_bytes();
+    let mut output = Vec::new(alloc);
+    let mut faults = Vec::new(alloc);
+    let status = audit_script(alloc, &mut input, &mut output, &mut faults);
+    Run {
+        output,
+        faults,
+        status,
     }
-    Ok(())
+}
+
+#[test]
+fn what_ends_well_and_what_is_not_understood(rt: HostRuntime) {
+    for (script, status, printed, told) in &AUDITS {
+        let run = audited(rt.alloc(), script);
+        assert_ran(&rt, &run, printed, told, *status, script);
+    }
 }

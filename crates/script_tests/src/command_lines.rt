@@ -1,8 +1,10 @@
 //! Command lines of the script program.
 
+use super::running::Run;
 use script_command::run_program;
+use std::alloc::Global;
+use std::process::Abort;
 use std::str;
-use std::test::Fail;
 
 /// A link that comes up, which a script with each flag shows in another way.
 const SCRIPT: &[u8] = b"C1 msg 35=1|112=A\n";
@@ -44,42 +46,57 @@ const COMMAND_LINES: [(&[&str], u8, &str, &str); 8] = [
     ),
 ];
 
-#[test]
-fn each_flag_and_what_is_refused(rt: HostRuntime) -> Result<(), Fail> {
-    for (words, status, printed, told) in COMMAND_LINES {
-        let mut input = SCRIPT;
-        let mut output = Vec::new(rt.alloc());
-        let mut faults = Vec::new(rt.alloc());
-        let ended = run_program(rt.alloc(), words, &mut input, &mut output, &mut faults);
-        assert_eq!(rt; ended, status, "{words:?}");
-        assert_eq!(rt; output.as_slice(), printed.as_bytes(), "{words:?}");
-        assert!(rt; faults.starts_with(told.as_bytes()), "{words:?}");
-        assert_eq!(rt; faults.is_empty(), told.is_empty(), "{words:?}");
+/// Runs the program by these words.
+fn run_by(alloc: Global, words: &[&str]) -> Run {
+    let mut input = SCRIPT;
+    let mut output = Vec::new(alloc);
+    let mut faults = Vec::new(alloc);
+    let status = run_program(alloc, words, &mut input, &mut output, &mut faults);
+    Run {
+        output,
+        faults,
+        status,
     }
-    Ok(())
 }
+
+/// A run printed this and told what begins so.
+fn came_to(rt: &impl Abort, run: &Run, words: &[&str], printed: &str, told: &str) {
+    assert!(rt; run.output.as_slice() == printed.as_bytes(), "{words:?}");
+    assert!(rt; run.faults.starts_with(told.as_bytes()), "{words:?}");
+    assert!(rt; run.faults.is_empty() == told.is_empty(), "{words:?}");
+}
+
+#[test]
+fn each_flag_and_what_is_refused(rt: HostRuntime) {
+    for (words, status, printed, told) in &COMMAND_LINES {
+        let run = run_by(rt.alloc(), words);
+        came_to(&rt, &run, words, printed, told);
+        assert!(rt; run.status == *status, "{words:?}");
+    }
+}
+
+const HELP: [[&str; 3]; 2] = [
+    ["gate_script", "--cold", "--help"],
+    ["gate_script", "--cold", "-h"],
+];
 
 /// The help goes where the outputs go, and nothing is run.
 #[test]
 fn the_help(rt: HostRuntime) {
-    for word in ["--help", "-h"] {
-        let words = ["gate_script", "--cold", word];
-        let mut input = SCRIPT;
-        let mut output = Vec::new(rt.alloc());
-        let mut faults = Vec::new(rt.alloc());
-        let ended = run_program(
-            rt.alloc(),
-            words.as_slice(),
-            &mut input,
-            &mut output,
-            &mut faults,
-        );
-        assert_eq!(rt; ended, 0);
-        assert!(rt; output.starts_with(b"Runs a script of the order gateway"));
-        let help = str::from_utf8(output.as_slice()).unwrap_or("");
-        assert!(rt; help.contains("Shows each frame's sequence number (34)"));
-        assert!(rt; help.contains("Shows each frame whole, | for SOH"));
-        assert!(rt; help.contains("Starts with no client logged on and no port logged in"));
-        assert_eq!(rt; faults.as_slice(), b"".as_slice());
+    for words in &HELP {
+        shows_help(&rt, &run_by(rt.alloc(), words.as_slice()));
     }
+}
+
+fn shows_help(rt: &impl Abort, run: &Run) {
+    assert!(rt; run.status == 0);
+    assert!(rt;
+        run.output
+            .starts_with(b"Runs a script of the order gateway")
+    );
+    let help = str::from_utf8(run.output.as_slice()).unwrap_or("");
+    assert!(rt; help.contains("Shows each frame's sequence number (34)"));
+    assert!(rt; help.contains("Shows each frame whole, | for SOH"));
+    assert!(rt; help.contains("Starts with no client logged on and no port logged in"));
+    assert!(rt; run.faults.is_empty());
 }

@@ -12,15 +12,17 @@ fn empty_lines(rt: HostRuntime) {
 }
 
 /// A carriage return is a byte of its line, a number sign begins none.
+const NOT_UNDERSTOOD: [&[u8]; 5] = [
+    b"\r",
+    b"at 5\r",
+    b"P1 A 1 B 300 INTC 234500 99998 L\r",
+    b"P1 B 1 7 \xff",
+    b"# a remark",
+];
+
 #[test]
 fn lines_that_are_not_understood(rt: HostRuntime) -> Result<(), Fail> {
-    for line in [
-        b"\r".as_slice(),
-        b"at 5\r",
-        b"P1 A 1 B 300 INTC 234500 99998 L\r",
-        b"P1 B 1 7 \xff",
-        b"# a remark",
-    ] {
+    for line in &NOT_UNDERSTOOD {
         assert_stops(&rt, line, "", 1)?;
     }
     Ok(())
@@ -28,15 +30,19 @@ fn lines_that_are_not_understood(rt: HostRuntime) -> Result<(), Fail> {
 
 /// `before`, and then a line of C1 whose fields take so many bytes, `last` at their end.
 fn long_line(alloc: Global, before: &str, bytes: usize, last: &str) -> Result<String, AllocError> {
-    let fields = "35=D|11=A1|54=3|55=INTC|38=300|40=2|58=";
     let mut script = String::from_str(alloc, before)?;
+    push_long_line(&mut script, bytes, last)?;
+    Ok(script)
+}
+
+fn push_long_line(script: &mut String, bytes: usize, last: &str) -> Result<(), AllocError> {
+    let fields = "35=D|11=A1|54=3|55=INTC|38=300|40=2|58=";
     script.push_str("C1 msg ")?;
     script.push_str(fields)?;
     for _ in 0..bytes.saturating_sub(fields.len() + last.len()) {
         script.push('x')?;
     }
-    script.push_str(last)?;
-    Ok(script)
+    script.push_str(last)
 }
 
 /// Seven messages of C1, and one of C2 and of C3: the next of C1 has number 9, that of C2 number 3.
@@ -75,13 +81,19 @@ const LONGEST: [(&str, usize, &str); 4] = [
     ("", 8_128, "|34=2"),
 ];
 
+/// The status of a script that ends with a line of C1 whose fields take so many bytes.
+fn status_of(alloc: Global, before: &str, bytes: usize, last: &str) -> Result<u8, AllocError> {
+    let script = long_line(alloc, before, bytes, last)?;
+    Ok(run_of(alloc, script.as_bytes()).status)
+}
+
 #[test]
 fn the_longest_frame(rt: HostRuntime) -> Result<(), Fail> {
-    for (before, bytes, last) in LONGEST {
-        let longest = long_line(rt.alloc(), before, bytes, last)?;
-        assert_eq!(rt; run_of(rt.alloc(), longest.as_bytes()).status, 0, "{bytes}");
-        let longer = long_line(rt.alloc(), before, bytes + 1, last)?;
-        assert_eq!(rt; run_of(rt.alloc(), longer.as_bytes()).status, 2, "{bytes}");
+    for (before, bytes, last) in &LONGEST {
+        let longest = status_of(rt.alloc(), before, *bytes, last)?;
+        assert!(rt; longest == 0, "{bytes}");
+        let longer = status_of(rt.alloc(), before, *bytes + 1, last)?;
+        assert!(rt; longer == 2, "{bytes}");
     }
     Ok(())
 }

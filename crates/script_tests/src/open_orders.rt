@@ -58,7 +58,7 @@ fn assert_same<S: BuildHasher + Clone + Drop>(
     run: &Run,
 ) {
     let same = run_with(rt.alloc(), hasher, script.as_bytes());
-    assert_eq!(rt; same.status, run.status);
+    assert!(rt; same.status == run.status);
     assert!(rt; same.output.as_slice() == run.output.as_slice());
 }
 
@@ -66,7 +66,7 @@ fn assert_same<S: BuildHasher + Clone + Drop>(
 fn one_order_too_many(rt: HostRuntime) -> Result<(), Fail> {
     let script = script(rt.alloc())?;
     let run = run_of(rt.alloc(), script.as_bytes());
-    assert_eq!(rt; run.status, 0);
+    assert!(rt; run.status == 0);
     assert!(rt; run.output.ends_with(LAST_LINES.as_bytes()));
     assert_same(&rt, Seeded::of(1), &script, &run);
     assert_same(&rt, Seeded::of(2), &script, &run);
@@ -77,7 +77,7 @@ fn one_order_too_many(rt: HostRuntime) -> Result<(), Fail> {
 fn orders_whose_keys_all_collide(rt: HostRuntime) -> Result<(), Fail> {
     let script = orders(rt.alloc(), 1_000)?;
     let run = run_of(rt.alloc(), script.as_bytes());
-    assert_eq!(rt; run.status, 0);
+    assert!(rt; run.status == 0);
     assert_same(&rt, Nothing, &script, &run);
     Ok(())
 }

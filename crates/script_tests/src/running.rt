@@ -47,16 +47,29 @@ pub fn run_with<S: BuildHasher + Clone + Drop>(alloc: Global, hasher: S, script:
     }
 }
 
+/// The bytes are this text, where a script is run.
+fn is_text(rt: &impl Abort, bytes: &[u8], text: &str, script: &str) {
+    assert_eq!(rt; str::from_utf8(bytes), Ok(text), "{script}");
+}
+
+/// A run of a script printed this, told this, and ended with this status.
+pub fn assert_ran(
+    rt: &impl Abort,
+    run: &Run,
+    output: &str,
+    faults: &str,
+    status: u8,
+    script: &str,
+) {
+    is_text(rt, run.output.as_slice(), output, script);
+    is_text(rt, run.faults.as_slice(), faults, script);
+    assert!(rt; run.status == status, "{script}");
+}
+
 /// The script runs to its end and prints this.
 pub fn assert_prints(rt: &(impl Abort + AllocGlobal), script: &str, output: &str) {
     let run = run_of(rt.alloc(), script.as_bytes());
-    assert_eq!(rt;
-        str::from_utf8(run.output.as_slice()),
-        Ok(output),
-        "{script}"
-    );
-    assert_eq!(rt; str::from_utf8(run.faults.as_slice()), Ok(""), "{script}");
-    assert_eq!(rt; run.status, 0, "{script}");
+    assert_ran(rt, &run, output, "", 0, script);
 }
 
 /// The script prints this, and then stops at the line of this number, which isn't understood.
@@ -66,18 +79,9 @@ pub fn assert_stops(
     output: &str,
     line: u64,
 ) -> Result<(), AllocError> {
-    let run = run_of(rt.alloc(), script);
     let told = format!(in rt.alloc(); "line {line}: not understood\n")?;
-    assert_eq!(rt;
-        str::from_utf8(run.output.as_slice()),
-        Ok(output),
-        "{script:?}"
-    );
-    assert_eq!(rt;
-        str::from_utf8(run.faults.as_slice()),
-        Ok(told.as_str()),
-        "{script:?}"
-    );
-    assert_eq!(rt; run.status, 2, "{script:?}");
+    let run = run_of(rt.alloc(), script);
+    let script = str::from_utf8(script).unwrap_or("no text");
+    assert_ran(rt, &run, output, told.as_str(), 2, script);
     Ok(())
 }

@@ -66,9 +66,30 @@ fn a_long_report(rt: HostRuntime) -> Result<(), Fail> {
 /// that it was sent, once more.
 #[test]
 fn many_messages_that_wait_and_a_long_resend(rt: HostRuntime) -> Result<(), Fail> {
-    let mut script = String::from_str(rt.alloc(), "P1 gone\n")?;
-    let mut asked = String::from_str(rt.alloc(), "P1 > login SESSION001 1\n")?;
-    let mut again = String::new(rt.alloc());
+    let mut script = String::new(rt.alloc());
+    let mut asked = String::new(rt.alloc());
+    push_resend(rt.alloc(), &mut script, &mut asked)?;
+    let run = run_of(rt.alloc(), script.as_bytes());
+    assert!(rt; run.status == 0);
+    assert!(rt; run.output.ends_with(asked.as_bytes()));
+    Ok(())
+}
+
+/// The script, and what it prints at its end.
+fn push_resend(alloc: Global, script: &mut String, asked: &mut String) -> Result<(), AllocError> {
+    let mut again = String::new(alloc);
+    push_orders(script, asked, &mut again)?;
+    script.push_str("P1 up\nP1 login SESSION001 1\nC1 msg 35=2|7=2|16=0\n")?;
+    asked.push_str(again.as_str())
+}
+
+fn push_orders(
+    script: &mut String,
+    asked: &mut String,
+    again: &mut String,
+) -> Result<(), AllocError> {
+    script.push_str("P1 gone\n")?;
+    asked.push_str("P1 > login SESSION001 1\n")?;
     for id in 1..=100_u32 {
         writeln!(
             script,
@@ -83,10 +104,5 @@ fn many_messages_that_wait_and_a_long_resend(rt: HostRuntime) -> Result<(), Fail
             "C1 > 35=8|43=Y|37={id}|11={id}|17={id}|150=A|39=A|55=INTC|54=1|38=300|44=23.45|151=300|14=0|6=0"
         )?;
     }
-    script.push_str("P1 up\nP1 login SESSION001 1\nC1 msg 35=2|7=2|16=0\n")?;
-    asked.push_str(again.as_str())?;
-    let run = run_of(rt.alloc(), script.as_bytes());
-    assert_eq!(rt; run.status, 0);
-    assert!(rt; run.output.ends_with(asked.as_bytes()));
     Ok(())
 }

@@ -2,8 +2,9 @@
 
 use super::running::PLAIN;
 use gate_lines::run_script;
-use std::alloc::Global;
+use std::alloc::{AllocError, Global};
 use std::io::{self, ErrorKind, Read, Write};
+use std::process::Abort;
 use std::test::Fail;
 
 /// One order, and the market's answer.
@@ -128,48 +129,60 @@ impl Write for Holding {
     }
 }
 
-/// Scripts by their last line: at the end, at a line that isn't understood, and after more than 1,000 reads.
+/// Whether this is what the order and its answer print, and nothing else.
+fn is_both(output: &[u8]) -> bool {
+    output.len() == ORDER_OUTPUT.len() + ANSWER_OUTPUT.len()
+        && output.starts_with(ORDER_OUTPUT)
+        && output.ends_with(ANSWER_OUTPUT)
+}
+
+/// Scripts by their last line: at the end, and at a line that isn't understood; with the status, and what is told.
+const LAST_LINES: [(&[u8], u8, &[u8]); 2] = [
+    (b"", 0, b""),
+    (b"C9", 2, b"line 3: not understood\n"),
+];
+
 #[test]
 fn a_writer_that_holds_back_and_takes_one_byte(rt: HostRuntime) -> Result<(), Fail> {
-    for (last, status, told) in [
-        (b"".as_slice(), 0, b"".as_slice()),
-        (b"C9".as_slice(), 2, b"line 3: not understood\n".as_slice()),
-    ] {
-        let mut output = Holding::new(rt.alloc());
-        let mut faults = Vec::new(rt.alloc());
-        let script = [SCRIPT, last].concat(rt.alloc())?;
-        let mut input = script.as_slice();
-        let ended = run_script(rt.alloc(), PLAIN, &mut input, &mut output, &mut faults);
-        assert_eq!(rt;
-            output.given.as_slice(),
-            [ORDER_OUTPUT, ANSWER_OUTPUT].concat(rt.alloc())?.as_slice()
-        );
-        assert_eq!(rt; output.held.as_slice(), b"".as_slice());
-        assert_eq!(rt; faults.as_slice(), told);
-        assert_eq!(rt; ended, status);
+    for (last, status, told) in &LAST_LINES {
+        let mut script = Vec::from_slice(rt.alloc(), SCRIPT)?;
+        script.extend_from_slice(last)?;
+        holds_back(&rt, rt.alloc(), script.as_slice(), *status, told);
     }
     Ok(())
 }
 
+/// All that such a script prints is given on, though the writer holds it back.
+fn holds_back(rt: &impl Abort, alloc: Global, script: &[u8], status: u8, told: &[u8]) {
+    let mut output = Holding::new(alloc);
+    let mut faults = Vec::new(alloc);
+    let mut input = script;
+    let ended = run_script(alloc, PLAIN, &mut input, &mut output, &mut faults);
+    assert!(rt; is_both(output.given.as_slice()));
+    assert!(rt; output.held.is_empty());
+    assert!(rt; faults.as_slice() == told);
+    assert!(rt; ended == status);
+}
+
+/// The script behind 3,000 empty lines: more than 1,000 reads.
+fn long_script(alloc: Global) -> Result<Vec<u8>, AllocError> {
+    let mut script = vec![in alloc; b'\n'; 3_000]?;
+    script.extend_from_slice(SCRIPT)?;
+    Ok(script)
+}
+
 #[test]
 fn a_reader_of_one_byte_at_a_time(rt: HostRuntime) -> Result<(), Fail> {
-    let mut script = Vec::new(rt.alloc());
-    for _ in 0..3_000 {
-        script.push(b'\n')?;
-    }
-    script.extend_from_slice(SCRIPT)?;
+    let script = long_script(rt.alloc())?;
     let mut input = Slow {
         rest: script.as_slice(),
     };
     let mut output = Vec::new(rt.alloc());
     let mut faults = Vec::new(rt.alloc());
     let status = run_script(rt.alloc(), PLAIN, &mut input, &mut output, &mut faults);
-    assert_eq!(rt;
-        output.as_slice(),
-        [ORDER_OUTPUT, ANSWER_OUTPUT].concat(rt.alloc())?.as_slice()
-    );
-    assert_eq!(rt; faults.as_slice(), b"".as_slice());
-    assert_eq!(rt; status, 0);
+    assert!(rt; is_both(output.as_slice()));
+    assert!(rt; faults.is_empty());
+    assert!(rt; status == 0);
     Ok(())
 }
 
@@ -184,36 +197,36 @@ fn a_reader_that_fails_in_mid_stream(rt: HostRuntime) {
         let mut output = Vec::new(rt.alloc());
         let mut faults = Vec::new(rt.alloc());
         let status = run_script(rt.alloc(), PLAIN, &mut input, &mut output, &mut faults);
-        assert_eq!(rt; output.as_slice(), ORDER_OUTPUT);
-        assert_eq!(rt; faults.as_slice(), b"read or write failed\n".as_slice());
-        assert_eq!(rt; status, 1);
+        assert!(rt; output.as_slice() == ORDER_OUTPUT);
+        has_failed(&rt, faults.as_slice(), status);
     }
 }
 
+/// A read or a write failed, and that was told.
+fn has_failed(rt: &impl Abort, faults: &[u8], status: u8) {
+    assert!(rt; faults == b"read or write failed\n".as_slice());
+    assert!(rt; status == 1);
+}
+
+/// What a writer takes that fails after so many writes, or when it is flushed.
+fn taken(rt: &impl Abort, alloc: Global, writes_left: usize, flushes: bool) -> Vec<u8> {
+    let mut output = Failing {
+        taken: Vec::new(alloc),
+        writes_left,
+        flushes,
+    };
+    let mut faults = Vec::new(alloc);
+    let mut input = SCRIPT;
+    let status = run_script(alloc, PLAIN, &mut input, &mut output, &mut faults);
+    has_failed(rt, faults.as_slice(), status);
+    output.taken
+}
+
 #[test]
-fn a_writer_that_fails(rt: HostRuntime) -> Result<(), Fail> {
-    for (writes_left, flushes, taken) in [
-        (0, true, b"".as_slice()),
-        (1, true, ORDER_OUTPUT),
-        (
-            9,
-            false,
-            [ORDER_OUTPUT, ANSWER_OUTPUT].concat(rt.alloc())?.as_slice(),
-        ),
-    ] {
-        let mut output = Failing {
-            taken: Vec::new(rt.alloc()),
-            writes_left,
-            flushes,
-        };
-        let mut faults = Vec::new(rt.alloc());
-        let mut input = SCRIPT;
-        let status = run_script(rt.alloc(), PLAIN, &mut input, &mut output, &mut faults);
-        assert_eq!(rt; output.taken.as_slice(), taken);
-        assert_eq!(rt; faults.as_slice(), b"read or write failed\n".as_slice());
-        assert_eq!(rt; status, 1);
-    }
-    Ok(())
+fn a_writer_that_fails(rt: HostRuntime) {
+    assert!(rt; taken(&rt, rt.alloc(), 0, true).is_empty());
+    assert!(rt; taken(&rt, rt.alloc(), 1, true).as_slice() == ORDER_OUTPUT);
+    assert!(rt; is_both(taken(&rt, rt.alloc(), 9, false).as_slice()));
 }
 
 #[test]
@@ -226,5 +239,5 @@ fn faults_that_cannot_be_told(rt: HostRuntime) {
         flushes: true,
     };
     let status = run_script(rt.alloc(), PLAIN, &mut input, &mut output, &mut faults);
-    assert_eq!(rt; status, 2);
+    assert!(rt; status == 2);
 }
