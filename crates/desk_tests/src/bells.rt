@@ -2,10 +2,11 @@
 
 ghost use Rattle.std.specs.Prelude.{◌≡◌};
 
+use super::ends::turns_to;
 use super::events::put;
-use desk::{DeskName, Inlet, Parts, Shared, Turned, Turns, open_desk};
+use desk::{DeskName, Inlet, Parts, Shared, Turns, open_desk};
 use script_steps::{ClientNumber, Event, fixed_settings};
-use std::alloc::Global;
+use std::alloc::{AllocError, Global};
 use std::marker::Brand;
 use std::process::Abort;
 use std::sync::Wait;
@@ -28,10 +29,20 @@ fn rings<K: DeskName, R: Wait + Abort + Clock>(
     requires named { (parts.inlets ≡ K.inlets) × (parts.outlets ≡ K.outlets) }
 {
     let (shared, mut inlets, _outlets) = open_desk::<K, _>(alloc, parts)?;
-    let second = inlets.get_mut(1).ok_or("an inlet")?;
-    turn_with(rt, alloc, &shared, second, 1)?;
-    turn_with(rt, alloc, &shared, second, 2)?;
+    tell_second(rt, alloc, &shared, inlets.as_mut_slice())?;
     nap_by_bells(rt, &shared)
+}
+
+/// Tells the second client something, twice.
+fn tell_second<K: DeskName, R: Wait + Abort>(
+    rt: &R,
+    alloc: Global,
+    shared: &Shared<K>,
+    inlets: &mut [Inlet<K>],
+) -> Result<(), Fail> {
+    let second = inlets.get_mut(1).ok_or("an inlet")?;
+    turn_with(rt, alloc, shared, second, 1)?;
+    turn_with(rt, alloc, shared, second, 2)
 }
 
 /// Turns ring the bell of the outlet that they told something, and end at one that makes no step.
@@ -50,22 +61,37 @@ fn rings_by_turns<K: DeskName, R: Wait + Abort + Clock>(
     requires named { (parts.inlets ≡ K.inlets) × (parts.outlets ≡ K.outlets) }
 {
     let (shared, mut inlets, _outlets) = open_desk::<K, _>(alloc, parts)?;
+    put_three(rt, inlets.as_mut_slice())?;
+    makes_rounds(rt, alloc, &shared, 2, 2)?;
+    makes_rounds(rt, alloc, &shared, 8, 1)?;
+    makes_rounds(rt, alloc, &shared, 8, 0)?;
+    nap_by_bells(rt, &shared)
+}
+
+/// Three links of the second client come up.
+fn put_three<K: DeskName, R: Abort>(rt: &R, inlets: &mut [Inlet<K>]) -> Result<(), Fail> {
     let second = inlets.get_mut(1).ok_or("an inlet")?;
     for link in 1..4 {
         assert!(rt; put(second, second_up(link)));
     }
-    assert_eq!(rt; shared.turns(alloc, 2)?, turns_of(2));
-    assert_eq!(rt; shared.turns(alloc, 8)?, turns_of(1));
-    assert_eq!(rt; shared.turns(alloc, 8)?, turns_of(0));
-    nap_by_bells(rt, &shared)
+    Ok(())
 }
 
-/// So many rounds, of one step each.
-fn turns_of(rounds: u32) -> Turns {
-    Turns {
+/// Of so many turns at most so many make a step, of one event each.
+fn makes_rounds<K: DeskName, R: Abort>(
+    rt: &R,
+    alloc: Global,
+    shared: &Shared<K>,
+    most: u32,
+    rounds: u32,
+) -> Result<(), AllocError> {
+    let turns = shared.turns(alloc, most)?;
+    let expected = Turns {
         rounds,
         steps: rounds,
-    }
+    };
+    assert_eq!(rt; turns, expected);
+    Ok(())
 }
 
 /// Has the desk step one event, which tells the second client something.
@@ -77,8 +103,7 @@ fn turn_with<K: DeskName, R: Wait + Abort>(
     link: u64,
 ) -> Result<(), Fail> {
     assert!(rt; put(second, second_up(link)));
-    assert_eq!(rt; shared.turn(rt, alloc)?, Turned { steps: 1, held: 0 });
-    Ok(())
+    Ok(turns_to(rt, alloc, shared, 1, 0)?)
 }
 
 /// The second outlet's bell rang, and the first one's didn't before it is rung by hand.
@@ -88,16 +113,17 @@ fn nap_by_bells<K: DeskName, R: Wait + Abort + Clock>(
 ) -> Result<(), Fail> {
     let start = Instant::now(rt).ok().ok_or("a clock")?;
     shared.nap(rt, 1, Duration::from_secs(10));
-    let rung = start.elapsed(rt).ok().ok_or("a clock")?;
-    assert!(rt; rung < Duration::from_secs(5));
+    assert!(rt; since(rt, &start)? < Duration::from_secs(5));
     shared.nap(rt, 0, Duration::from_millis(50));
-    let both = start.elapsed(rt).ok().ok_or("a clock")?;
-    assert!(rt; both >= Duration::from_millis(40));
+    assert!(rt; since(rt, &start)? >= Duration::from_millis(40));
     shared.ring(0);
     shared.nap(rt, 0, Duration::from_secs(10));
-    let last = start.elapsed(rt).ok().ok_or("a clock")?;
-    assert!(rt; last < Duration::from_secs(9));
+    assert!(rt; since(rt, &start)? < Duration::from_secs(9));
     Ok(())
+}
+
+fn since<R: Clock>(rt: &R, start: &Instant) -> Result<Duration, Fail> {
+    Ok(start.elapsed(rt).ok().ok_or("a clock")?)
 }
 
 /// A link of the second client is up. The second one is closed, since the first is there.

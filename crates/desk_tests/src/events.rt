@@ -2,7 +2,7 @@
 
 use desk::{DeskName, Inlet};
 use script_steps::{ClientFrame, ClientNumber, Event, split};
-use std::alloc::Global;
+use std::alloc::{AllocError, Global};
 use std::test::Fail;
 
 /// Its first link is up.
@@ -38,7 +38,29 @@ pub fn test_request(alloc: Global, number: u32) -> Result<Event, Fail> {
 
 /// A message of it, of this type and number.
 fn message(alloc: Global, kind: &[u8], number: u32, rest: &[u8]) -> Result<Event, Fail> {
-    let mut text = Vec::from_slice(alloc, b"35=")?;
+    let frame = frame_of(alloc, kind, number, rest)?;
+    Ok(Event::ClientMessage {
+        client: ClientNumber::new(1),
+        link: 1,
+        at: 0,
+        frame,
+    })
+}
+
+fn frame_of(alloc: Global, kind: &[u8], number: u32, rest: &[u8]) -> Result<ClientFrame, Fail> {
+    let mut text = Vec::new(alloc);
+    push_fields(&mut text, kind, number, rest)?;
+    let fields = split(alloc, text.as_slice())?.ok_or("these are fields")?;
+    Ok(ClientFrame::of(fields).ok_or("it is short")?)
+}
+
+fn push_fields(
+    text: &mut Vec<u8>,
+    kind: &[u8],
+    number: u32,
+    rest: &[u8],
+) -> Result<(), AllocError> {
+    text.extend_from_slice(b"35=")?;
     text.extend_from_slice(kind)?;
     text.extend_from_slice(b"\x0149=C1\x0156=GATE\x0134=")?;
     for place in [1_000, 100, 10, 1] {
@@ -47,14 +69,7 @@ fn message(alloc: Global, kind: &[u8], number: u32, rest: &[u8]) -> Result<Event
         }
     }
     text.extend_from_slice(b"\x0152=19700101-00:00:00.000\x01")?;
-    text.extend_from_slice(rest)?;
-    let fields = split(alloc, text.as_slice())?.ok_or("these are fields")?;
-    Ok(Event::ClientMessage {
-        client: ClientNumber::new(1),
-        link: 1,
-        at: 0,
-        frame: ClientFrame::of(fields).ok_or("it is short")?,
-    })
+    text.extend_from_slice(rest)
 }
 
 /// Puts an event of the inlet's own source: whether it went in.

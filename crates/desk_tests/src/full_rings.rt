@@ -2,8 +2,9 @@
 
 ghost use Rattle.std.specs.Prelude.{◌≡◌};
 
+use super::ends::{close, finish_inlet, turns_to};
 use super::events::{logon, put, test_request, tick, up};
-use desk::{DeskName, Finished, Inlet, Outlet, Parts, Shared, Turned, open_desk};
+use desk::{DeskName, Finished, Inlet, Outlet, Parts, Shared, open_desk};
 use script_steps::{ClientNumber, History, Source, fixed_settings};
 use std::alloc::Global;
 use std::marker::Brand;
@@ -23,9 +24,8 @@ fn ticks<K: DeskName, R: Wait + Abort>(rt: &R, alloc: Global, parts: Parts) -> R
     requires named { (parts.inlets ≡ K.inlets) × (parts.outlets ≡ K.outlets) }
 {
     let (shared, mut inlets, _outlets) = open_desk::<K, _>(alloc, parts)?;
-    assert_eq!(rt; inlets.len(), 6);
-    let mut clock = inlets.pop().ok_or("an inlet")?;
-    fill_with_ticks(rt, alloc, &shared, &mut clock)
+    assert!(rt; inlets.len() == 6);
+    fill_with_ticks(rt, alloc, &shared, inlets.as_mut_slice())
 }
 
 /// The ring of the clock takes 1,024 ticks, and one more once one was stepped.
@@ -33,15 +33,16 @@ fn fill_with_ticks<K: DeskName, R: Wait + Abort>(
     rt: &R,
     alloc: Global,
     shared: &Shared<K>,
-    clock: &mut Inlet<K>,
+    inlets: &mut [Inlet<K>],
 ) -> Result<(), Fail> {
-    assert_eq!(rt; clock.position(), 5);
-    assert_eq!(rt; clock.source(), Source::Clock);
+    let clock = inlets.get_mut(5).ok_or("an inlet")?;
+    assert!(rt; clock.position() == 5);
+    assert!(rt; clock.source() == Source::Clock);
     for _ in 0..1_024 {
         assert!(rt; put(clock, tick()));
     }
     assert!(rt; !put(clock, tick()));
-    assert_eq!(rt; shared.turn(rt, alloc)?, Turned { steps: 1, held: 0 });
+    turns_to(rt, alloc, shared, 1, 0)?;
     assert!(rt; put(clock, tick()));
     Ok(())
 }
@@ -58,31 +59,28 @@ fn holds<K: DeskName, R: Wait + Abort>(rt: &R, alloc: Global, parts: Parts) -> R
     requires named { (parts.inlets ≡ K.inlets) × (parts.outlets ≡ K.outlets) }
 {
     let (shared, mut inlets, mut outlets) = open_desk::<K, _>(alloc, parts)?;
-    let client = inlets.get_mut(0).ok_or("an inlet")?;
-    let told = outlets.get_mut(0).ok_or("an outlet")?;
-    fill_outlet(rt, alloc, &shared, client)?;
-    step_after_take(rt, alloc, &shared, told)?;
+    fill_outlet(rt, alloc, &shared, inlets.as_mut_slice())?;
+    step_after_take(rt, alloc, &shared, outlets.as_mut_slice())?;
     let finished = finish_all(alloc, inlets, outlets)?;
-    let closed = shared.close(alloc, finished).map_err(|_| "closed")?;
-    look_at(rt, alloc, &closed.history)
+    let history = close(alloc, shared, finished)?;
+    look_at(rt, alloc, &history)
 }
-
-const ONE: Turned = Turned { steps: 1, held: 0 };
 
 /// Has the client told 1,024 lists, and puts an event more.
 fn fill_outlet<K: DeskName, R: Wait + Abort>(
     rt: &R,
     alloc: Global,
     shared: &Shared<K>,
-    client: &mut Inlet<K>,
+    inlets: &mut [Inlet<K>],
 ) -> Result<(), Fail> {
+    let client = inlets.get_mut(0).ok_or("an inlet")?;
     assert!(rt; put(client, up()));
-    assert_eq!(rt; shared.turn(rt, alloc)?, ONE);
+    turns_to(rt, alloc, shared, 1, 0)?;
     assert!(rt; put(client, logon(alloc)?));
-    assert_eq!(rt; shared.turn(rt, alloc)?, ONE);
+    turns_to(rt, alloc, shared, 1, 0)?;
     for number in 2..1_025 {
         assert!(rt; put(client, test_request(alloc, number)?));
-        assert_eq!(rt; shared.turn(rt, alloc)?, ONE);
+        turns_to(rt, alloc, shared, 1, 0)?;
     }
     assert!(rt; put(client, test_request(alloc, 1_025)?));
     Ok(())
@@ -93,12 +91,12 @@ fn step_after_take<K: DeskName, R: Wait + Abort>(
     rt: &R,
     alloc: Global,
     shared: &Shared<K>,
-    told: &mut Outlet<K>,
+    outlets: &mut [Outlet<K>],
 ) -> Result<(), Fail> {
-    assert_eq!(rt; shared.turn(rt, alloc)?, Turned { steps: 0, held: 1 });
+    let told = outlets.get_mut(0).ok_or("an outlet")?;
+    turns_to(rt, alloc, shared, 0, 1)?;
     assert!(rt; told.take().is_some());
-    assert_eq!(rt; shared.turn(rt, alloc)?, ONE);
-    Ok(())
+    Ok(turns_to(rt, alloc, shared, 1, 0)?)
 }
 
 /// Behind a client that takes nothing its own messages wait, and time goes on.
@@ -113,12 +111,21 @@ fn goes_on<K: DeskName, R: Wait + Abort>(rt: &R, alloc: Global, parts: Parts) ->
     requires named { (parts.inlets ≡ K.inlets) × (parts.outlets ≡ K.outlets) }
 {
     let (shared, mut inlets, _outlets) = open_desk::<K, _>(alloc, parts)?;
-    let mut clock = inlets.pop().ok_or("an inlet")?;
-    let client = inlets.get_mut(0).ok_or("an inlet")?;
-    fill_outlet(rt, alloc, &shared, client)?;
+    fill_outlet(rt, alloc, &shared, inlets.as_mut_slice())?;
+    tick_beside(rt, alloc, &shared, inlets.as_mut_slice())
+}
+
+/// Time is stepped while an event is held.
+fn tick_beside<K: DeskName, R: Wait + Abort>(
+    rt: &R,
+    alloc: Global,
+    shared: &Shared<K>,
+    inlets: &mut [Inlet<K>],
+) -> Result<(), Fail> {
+    let clock = inlets.get_mut(5).ok_or("an inlet")?;
     for _ in 0..3 {
-        assert!(rt; put(&mut clock, tick()));
-        assert_eq!(rt; shared.turn(rt, alloc)?, Turned { steps: 1, held: 1 });
+        assert!(rt; put(clock, tick()));
+        turns_to(rt, alloc, shared, 1, 1)?;
     }
     Ok(())
 }
@@ -126,9 +133,9 @@ fn goes_on<K: DeskName, R: Wait + Abort>(rt: &R, alloc: Global, parts: Parts) ->
 /// The history has all that was put, each event of the first client.
 fn look_at<R: Abort>(rt: &R, alloc: Global, history: &History) -> Result<(), Fail> {
     let events = history.events(alloc)?;
-    assert_eq!(rt; events.len(), 1_026);
+    assert!(rt; events.len() == 1_026);
     for event in &events {
-        assert_eq!(rt; event.source(), Source::Client(ClientNumber::new(1)));
+        assert!(rt; event.source() == Source::Client(ClientNumber::new(1)));
     }
     Ok(())
 }
@@ -141,7 +148,7 @@ fn finish_all<K: DeskName>(
 ) -> Result<Vec<Finished<K>>, Fail> {
     let mut finished = Vec::new(alloc);
     for inlet in inlets {
-        finished.push(inlet.finish().ok_or("the desk is there")?)?;
+        finish_inlet(inlet, &mut finished)?;
     }
     for outlet in outlets {
         finished.push(outlet.finish())?;

@@ -4,6 +4,8 @@
 #[cfg(test)]
 mod bells;
 #[cfg(test)]
+mod ends;
+#[cfg(test)]
 mod events;
 #[cfg(test)]
 mod full_rings;

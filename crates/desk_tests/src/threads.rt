@@ -2,8 +2,9 @@
 
 ghost use Rattle.std.specs.Prelude.{◌≡◌};
 
+use super::ends::{clock_and_client, close, finish_inlet, first_outlet};
 use super::events::tick;
-use desk::{DeskName, Finished, Inlet, Outlet, Parts, Shared, open_desk};
+use desk::{DeskName, Inlet, Outlet, Parts, Shared, open_desk};
 use script_steps::{ClientNumber, Event, History, Source, fixed_settings};
 use std::alloc::{AllocError, Global};
 use std::marker::Brand;
@@ -36,37 +37,36 @@ fn work<K: DeskName + Send + Sync, R: Threads + Wait + Sync + Abort>(
 ) -> Result<(), Fail>
     requires named { (parts.inlets ≡ K.inlets) × (parts.outlets ≡ K.outlets) }
 {
-    let (shared, mut inlets, mut outlets) = open_desk::<K, _>(alloc, parts)?;
-    let clock = inlets.pop().ok_or("an inlet")?;
-    inlets.truncate(1);
-    let client = inlets.pop().ok_or("an inlet")?;
-    outlets.truncate(1);
-    let outlet = outlets.pop().ok_or("an outlet")?;
+    let (shared, inlets, outlets) = open_desk::<K, _>(alloc, parts)?;
+    let outlet = first_outlet(outlets)?;
+    let (clock, client) = clock_and_client(inlets)?;
     let stop = AtomicBool::new(false);
     let (clock, client, outlet) = run(rt, alloc, &shared, &stop, clock, client, outlet)?;
-    let finished = vec![in alloc;
-        clock.finish().ok_or("the desk is there")?,
-        client.finish().ok_or("the desk is there")?,
-        outlet.finish(),
-    ]?;
-    let closed = shared.close(alloc, finished).map_err(|_| "closed")?;
-    look_at(rt, alloc, &closed.history)
+    let mut finished = vec![in alloc; outlet.finish()]?;
+    finish_inlet(clock, &mut finished)?;
+    finish_inlet(client, &mut finished)?;
+    let history = close(alloc, shared, finished)?;
+    look_at(rt, alloc, &history)
 }
 
 /// The history has what both threads put, that of the client in its order.
 fn look_at<R: Abort>(rt: &R, alloc: Global, history: &History) -> Result<(), Fail> {
-    assert_eq!(rt; history.events(alloc)?.len(), 2 * EACH as usize);
+    assert!(rt; history.events(alloc)?.len() == 2 * EACH as usize);
+    assert!(rt; history.from(alloc, Source::Clock)?.len() == EACH as usize);
     let from_client = history.from(alloc, Source::Client(ClientNumber::new(1)))?;
-    assert_eq!(rt; from_client.len(), EACH as usize);
+    assert!(rt; from_client.len() == EACH as usize);
     for (at, event) in from_client.iter().enumerate() {
-        match event {
-            Event::ClientGone { link, .. } => assert_eq!(rt; *link, at as u64),
-            _ => return Err(Fail::new("no other event was put")),
-        }
+        assert!(rt; is_going(event, at as u64), "event {at}");
     }
-    let of_clock = history.from(alloc, Source::Clock)?;
-    assert_eq!(rt; of_clock.len(), EACH as usize);
     Ok(())
+}
+
+/// Whether this link is gone.
+fn is_going(event: &Event, number: u64) -> bool {
+    match event {
+        Event::ClientGone { link, .. } => *link == number,
+        _ => false,
+    }
 }
 
 /// The four threads: this one turns.

@@ -2,8 +2,9 @@
 
 ghost use Rattle.std.specs.Prelude.{◌≡◌};
 
+use super::ends::{clock_and_client, turns_to};
 use super::events::tick;
-use desk::{DeskName, Inlet, Parts, Shared, Turned, open_desk};
+use desk::{DeskName, Inlet, Parts, Shared, open_desk};
 use script_steps::{ClientNumber, Event, fixed_settings};
 use std::alloc::Global;
 use std::marker::Brand;
@@ -34,13 +35,10 @@ fn leaves_nothing<K: DeskName + Send + Sync, R: Threads + Wait + Sync + Abort>(
 ) -> Result<(), Fail>
     requires named { (parts.inlets ≡ K.inlets) × (parts.outlets ≡ K.outlets) }
 {
-    let (shared, mut inlets, _outlets) = open_desk::<K, _>(alloc, parts)?;
-    let clock = inlets.pop().ok_or("an inlet")?;
-    inlets.truncate(1);
-    let client = inlets.pop().ok_or("an inlet")?;
+    let (shared, inlets, _outlets) = open_desk::<K, _>(alloc, parts)?;
+    let (clock, client) = clock_and_client(inlets)?;
     turn_both(rt, alloc, &shared, clock, client)?;
-    assert_eq!(rt; shared.turn(rt, alloc)?, Turned { steps: 0, held: 0 });
-    Ok(())
+    Ok(turns_to(rt, alloc, &shared, 0, 0)?)
 }
 
 /// The two threads.

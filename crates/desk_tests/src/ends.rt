@@ -1,0 +1,63 @@
+//! Ends of a desk, and its turns.
+
+use desk::{Closed, DeskName, Finished, Inlet, Outlet, Shared, Turned};
+use script_steps::History;
+use std::alloc::{AllocError, Global};
+use std::process::Abort;
+use std::sync::Wait;
+use std::test::Fail;
+
+/// A turn makes so many steps and holds so many events back.
+pub fn turns_to<K: DeskName, R: Wait + Abort>(
+    rt: &R,
+    alloc: Global,
+    shared: &Shared<K>,
+    steps: u32,
+    held: u32,
+) -> Result<(), AllocError> {
+    let turned = shared.turn(rt, alloc)?;
+    assert_eq!(rt; turned, Turned { steps, held });
+    Ok(())
+}
+
+/// The inlet of the clock, and that of the first client.
+pub fn clock_and_client<K: DeskName>(inlets: Vec<Inlet<K>>) -> Result<(Inlet<K>, Inlet<K>), Fail> {
+    let mut inlets = inlets;
+    let clock = inlets.pop().ok_or("an inlet")?;
+    inlets.truncate(1);
+    let client = inlets.pop().ok_or("an inlet")?;
+    Ok((clock, client))
+}
+
+/// The outlet of the first client.
+pub fn first_outlet<K: DeskName>(outlets: Vec<Outlet<K>>) -> Result<Outlet<K>, Fail> {
+    let mut outlets = outlets;
+    outlets.truncate(1);
+    Ok(outlets.pop().ok_or("an outlet")?)
+}
+
+/// Finishes an inlet, and keeps what is left of it.
+pub fn finish_inlet<K: DeskName>(
+    inlet: Inlet<K>,
+    finished: &mut Vec<Finished<K>>,
+) -> Result<(), Fail> {
+    let left = inlet.finish().ok_or("the desk is there")?;
+    Ok(finished.push(left)?)
+}
+
+/// The history of a desk that is closed.
+pub fn close<K: DeskName>(
+    alloc: Global,
+    shared: Shared<K>,
+    finished: Vec<Finished<K>>,
+) -> Result<History, Fail> {
+    match shared.close(alloc, finished) {
+        Ok(
+            Closed {
+                history,
+                settings: _,
+            },
+        ) => Ok(history),
+        Err(_) => Err(Fail::new("the desk isn't closed")),
+    }
+}
