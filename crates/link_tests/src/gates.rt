@@ -8,7 +8,6 @@ use std::alloc::{AllocError, Global};
 use std::sync::Wait;
 
 /// A gate that keeps the events that were put and the lists that were taken. It gives each event back where it is full.
-#[derive(Drop)]
 pub struct Kept {
     alloc: Global,
     pub events: Vec<Event>,
@@ -16,6 +15,19 @@ pub struct Kept {
     /// The lists that lie there, the last one first.
     pub lists: Vec<Vec<LinkOut>>,
     pub given: Vec<Vec<LinkOut>>,
+}
+
+/// Written by hand, so that one call drops all.
+impl Drop for Kept {
+    fn drop(self) {
+        let Kept {
+            alloc: _,
+            events: _,
+            is_full: _,
+            lists: _,
+            given: _,
+        } = self;
+    }
 }
 
 impl Kept {
@@ -29,6 +41,24 @@ impl Kept {
             given: Vec::new(alloc),
         }
     }
+
+    /// A list lies there, to be taken before all others: these bytes for a link.
+    pub fn lay(&mut self, link: u64, bytes: &[u8]) -> Result<(), AllocError> {
+        Ok(self.lists.push(list_of(self.alloc, link, bytes)?)?)
+    }
+
+    /// The same with a `Close` of the link behind the bytes.
+    pub fn lay_last(&mut self, link: u64, bytes: &[u8]) -> Result<(), AllocError> {
+        let mut list = list_of(self.alloc, link, bytes)?;
+        list.push(LinkOut::Close { link })?;
+        Ok(self.lists.push(list)?)
+    }
+}
+
+/// A list of these bytes for a link.
+pub fn list_of(alloc: Global, link: u64, bytes: &[u8]) -> Result<Vec<LinkOut>, AllocError> {
+    let bytes = Vec::from_slice(alloc, bytes)?;
+    Ok(vec![in alloc; LinkOut::Write { link, bytes }]?)
 }
 
 impl Gate for Kept {

@@ -112,98 +112,172 @@ fn step_to_end(
     Ok(())
 }
 
-/// What is put of a stream that is read in pieces of this size.
-fn put_of(alloc: Global, stream: &[u8], size: usize) -> Result<Vec<u8>, Fail> {
-    let mut gate = Kept::new(alloc);
+/// What was put.
+fn told_of(alloc: Global, gate: &Kept) -> Result<Vec<u8>, AllocError> {
+    told(alloc, gate.events.as_slice())
+}
+
+/// Reads a stream in pieces of this size to its end.
+fn put_all(alloc: Global, stream: &[u8], size: usize, gate: &mut Kept) -> Result<(), LinkFault> {
     let mut reader = client_reader(alloc, 100);
-    step_to_end(
-        alloc,
-        &mut reader,
-        &mut pieces(stream, size, 100),
-        &mut gate,
-    )?;
-    Ok(told(alloc, gate.events.as_slice())?)
+    step_to_end(alloc, &mut reader, &mut pieces(stream, size, 100), gate)
 }
 
 #[test]
 fn frames_are_put_however_the_stream_is_read(rt: HostRuntime) -> Result<(), Fail> {
-    let expected = [FROM_CLIENT.as_slice(), FROM_CLIENT.as_slice()].concat(rt.alloc())?;
     for size in [1, 25, 26, 27, 4_096] {
-        let events = put_of(rt.alloc(), TWO, size)?;
-        assert_eq!(rt; events.as_slice(), expected.as_slice());
+        let mut gate = Kept::new(rt.alloc());
+        puts_both(&rt, rt.alloc(), size, &mut gate)?;
     }
+    Ok(())
+}
+
+/// Read in pieces of this size, the two frames are put.
+fn puts_both<R: Abort>(rt: &R, alloc: Global, size: usize, gate: &mut Kept) -> Result<(), Fail> {
+    put_all(alloc, TWO, size, gate)?;
+    tells_both(rt, alloc, gate)
+}
+
+/// Both frames of the client were put.
+fn tells_both<R: Abort>(rt: &R, alloc: Global, gate: &Kept) -> Result<(), Fail> {
+    let events = told_of(alloc, gate)?;
+    assert!(rt; events.len() == 2 * FROM_CLIENT.len());
+    assert!(rt; events.starts_with(FROM_CLIENT.as_slice()));
+    assert!(rt; events.ends_with(FROM_CLIENT.as_slice()));
     Ok(())
 }
 
 /// So much was put.
 fn tells<R: Abort>(rt: &R, alloc: Global, gate: &Kept, expected: &[u8]) -> Result<(), Fail> {
-    let events = told(alloc, gate.events.as_slice())?;
-    assert_eq!(rt; events.as_slice(), expected);
+    let events = told_of(alloc, gate)?;
+    assert!(rt; events.as_slice() == expected);
     Ok(())
+}
+
+/// A step of this reader at moment 5 comes to what is expected.
+fn steps_to<R: Abort>(
+    rt: &R,
+    alloc: Global,
+    reader: &mut ClientReader,
+    stream: &mut Pieces<'_>,
+    gate: &mut Kept,
+    expected: Result<Progress, LinkFault>,
+) {
+    let done = reader.step(alloc, stream, gate, 5);
+    came_to(rt, done, expected);
 }
 
 #[test]
 fn a_head_of_too_long_a_frame(rt: HostRuntime) -> Result<(), Fail> {
     let mut gate = Kept::new(rt.alloc());
-    let mut reader = client_reader(rt.alloc(), 100);
+    ends_malformed(&rt, rt.alloc(), &mut gate);
+    tells(&rt, rt.alloc(), &gate, FROM_CLIENT.as_slice())
+}
+
+fn ends_malformed<R: Abort>(rt: &R, alloc: Global, gate: &mut Kept) {
+    let mut reader = client_reader(alloc, 100);
     for _ in 0..2 {
         let mut stream = pieces(TOO_LONG, 4_096, 100);
-        let done = reader.step(rt.alloc(), &mut stream, &mut gate, 5);
-        came_to(&rt, done, Err(LinkFault::Malformed));
+        steps_to(
+            rt,
+            alloc,
+            &mut reader,
+            &mut stream,
+            gate,
+            Err(LinkFault::Malformed),
+        );
     }
-    tells(&rt, rt.alloc(), &gate, FROM_CLIENT.as_slice())
 }
 
 #[test]
 fn a_head_of_the_longest_frame(rt: HostRuntime) -> Result<(), Fail> {
     let mut gate = Kept::new(rt.alloc());
-    let mut reader = client_reader(rt.alloc(), 100);
-    let mut stream = pieces(LONGEST, 4_096, 100);
-    let done = reader.step(rt.alloc(), &mut stream, &mut gate, 5);
-    came_to(&rt, done, Ok(Progress::Read(43)));
-    let done = reader.step(rt.alloc(), &mut stream, &mut gate, 5);
-    came_to(&rt, done, Ok(Progress::Ended));
+    ends_well(&rt, rt.alloc(), &mut gate);
     tells(&rt, rt.alloc(), &gate, FROM_CLIENT.as_slice())
 }
 
-/// What is put of a port's stream by two steps, of which each has to find an empty packet.
-fn put_before_fault<R: Abort>(rt: &R, alloc: Global, stream: &[u8]) -> Result<Vec<u8>, Fail> {
-    let mut gate = Kept::new(alloc);
+fn ends_well<R: Abort>(rt: &R, alloc: Global, gate: &mut Kept) {
+    let mut reader = client_reader(alloc, 100);
+    let mut stream = pieces(LONGEST, 4_096, 100);
+    steps_to(
+        rt,
+        alloc,
+        &mut reader,
+        &mut stream,
+        gate,
+        Ok(Progress::Read(43)),
+    );
+    steps_to(
+        rt,
+        alloc,
+        &mut reader,
+        &mut stream,
+        gate,
+        Ok(Progress::Ended),
+    );
+}
+
+/// Two steps over a port's stream, of which each has to find an empty packet.
+fn find_fault<R: Abort>(rt: &R, alloc: Global, stream: &[u8], gate: &mut Kept) {
     let mut reader = port_reader(alloc, 100);
     let mut stream = pieces(stream, 4_096, 100);
     for _ in 0..2 {
-        let done = reader.step(alloc, &mut stream, &mut gate, 5);
+        let done = reader.step(alloc, &mut stream, gate, 5);
         came_to(rt, done, Err(LinkFault::Malformed));
     }
-    Ok(told(alloc, gate.events.as_slice())?)
+}
+
+/// A port's stream with an empty packet, before which this is put.
+fn puts_before_fault<R: Abort>(
+    rt: &R,
+    alloc: Global,
+    stream: &[u8],
+    expected: &[u8],
+) -> Result<(), Fail> {
+    let mut gate = Kept::new(alloc);
+    find_fault(rt, alloc, stream, &mut gate);
+    tells(rt, alloc, &gate, expected)
 }
 
 #[test]
 fn an_empty_packet_and_one_before_it(rt: HostRuntime) -> Result<(), Fail> {
-    let events = put_before_fault(&rt, rt.alloc(), b"\x00\x00")?;
-    assert_eq!(rt; events.as_slice(), b"".as_slice());
-    let events = put_before_fault(&rt, rt.alloc(), b"\x00\x01H\x00\x00")?;
-    assert_eq!(rt; events.as_slice(), FROM_PORT.as_slice());
-    Ok(())
+    puts_before_fault(&rt, rt.alloc(), b"\x00\x00", b"")?;
+    puts_before_fault(&rt, rt.alloc(), b"\x00\x01H\x00\x00", FROM_PORT)
 }
 
 #[test]
-fn a_reader_that_fails_at_each_read(rt: HostRuntime) -> Result<(), Fail> {
+fn a_reader_that_fails_at_each_read(rt: HostRuntime) {
     for reads in 0..HEARTBEAT.len() + 1 {
         let mut gate = Kept::new(rt.alloc());
-        let mut stream = pieces(HEARTBEAT, 1, reads);
-        let mut reader = client_reader(rt.alloc(), 100);
-        for _ in 0..reads {
-            let done = reader.step(rt.alloc(), &mut stream, &mut gate, 5);
-            came_to(&rt, done, Ok(Progress::Read(1)));
-        }
-        for _ in 0..2 {
-            let done = reader.step(rt.alloc(), &mut stream, &mut gate, 5);
-            came_to(&rt, done, Err(LinkFault::ReadFailed));
-        }
-        assert_eq!(rt; gate.events.len(), usize::from(reads == HEARTBEAT.len()));
+        fails_at(&rt, rt.alloc(), reads, &mut gate);
+        assert!(rt; gate.events.len() == usize::from(reads == HEARTBEAT.len()));
     }
-    Ok(())
+}
+
+/// So many bytes are read one by one, and then reading fails.
+fn fails_at<R: Abort>(rt: &R, alloc: Global, reads: usize, gate: &mut Kept) {
+    let mut stream = pieces(HEARTBEAT, 1, reads);
+    let mut reader = client_reader(alloc, 100);
+    for _ in 0..reads {
+        steps_to(
+            rt,
+            alloc,
+            &mut reader,
+            &mut stream,
+            gate,
+            Ok(Progress::Read(1)),
+        );
+    }
+    for _ in 0..2 {
+        steps_to(
+            rt,
+            alloc,
+            &mut reader,
+            &mut stream,
+            gate,
+            Err(LinkFault::ReadFailed),
+        );
+    }
 }
 
 /// The gate is full: the first event waits at each step, and nothing more is read.
@@ -213,50 +287,45 @@ fn hold<R: Abort>(
     reader: &mut ClientReader,
     stream: &mut Pieces<'_>,
     gate: &mut Kept,
-) -> Result<(), Fail> {
+) {
     gate.is_full = true;
     for at in 5..10 {
         let done = reader.step(alloc, stream, gate, at);
         came_to(rt, done, Ok(Progress::Held));
-        assert_eq!(rt; stream.reads_left, 0);
+        assert!(rt; stream.reads_left == 0);
     }
     gate.is_full = false;
-    let done = reader.step(alloc, stream, gate, 5);
-    came_to(rt, done, Err(LinkFault::ReadFailed));
-    Ok(())
+    steps_to(rt, alloc, reader, stream, gate, Err(LinkFault::ReadFailed));
 }
 
 #[test]
 fn an_event_that_is_given_back_is_put_next(rt: HostRuntime) -> Result<(), Fail> {
-    let expected = [FROM_CLIENT.as_slice(), FROM_CLIENT.as_slice()].concat(rt.alloc())?;
     let mut gate = Kept::new(rt.alloc());
     let mut reader = client_reader(rt.alloc(), 100);
-    hold(
-        &rt,
-        rt.alloc(),
-        &mut reader,
-        &mut pieces(TWO, 4_096, 1),
-        &mut gate,
-    )?;
-    tells(&rt, rt.alloc(), &gate, expected.as_slice())
+    let mut stream = pieces(TWO, 4_096, 1);
+    hold(&rt, rt.alloc(), &mut reader, &mut stream, &mut gate);
+    tells_both(&rt, rt.alloc(), &gate)
 }
 
 #[test]
-fn a_stream_without_end_ends_at_the_limit(rt: HostRuntime) -> Result<(), Fail> {
+fn a_stream_without_end_ends_at_the_limit(rt: HostRuntime) {
     let mut gate = Kept::new(rt.alloc());
+    let mut reader = client_reader(rt.alloc(), 10_000);
+    read_to_limit(&rt, rt.alloc(), &mut reader, &mut gate);
+}
+
+fn read_to_limit<R: Abort>(rt: &R, alloc: Global, reader: &mut ClientReader, gate: &mut Kept) {
     let mut stream = Endless {
         byte: b'x',
         reads: 0,
     };
-    let mut reader = client_reader(rt.alloc(), 10_000);
     for _ in 1..10_000 {
-        let done = reader.step(rt.alloc(), &mut stream, &mut gate, 5);
-        came_to(&rt, done, Ok(Progress::Read(1)));
+        let done = reader.step(alloc, &mut stream, gate, 5);
+        came_to(rt, done, Ok(Progress::Read(1)));
     }
     for _ in 0..2 {
-        let done = reader.step(rt.alloc(), &mut stream, &mut gate, 5);
-        came_to(&rt, done, Err(LinkFault::StepLimit));
-        assert_eq!(rt; stream.reads, 9_999);
+        let done = reader.step(alloc, &mut stream, gate, 5);
+        came_to(rt, done, Err(LinkFault::StepLimit));
+        assert!(rt; stream.reads == 9_999);
     }
-    Ok(())
 }

@@ -25,7 +25,6 @@ const PAUSES: u32 = 10_000;
 
 /// A gate that doesn't return from its put of this number, from 1, until a flag is set, and sets one as the last list
 /// is taken.
-#[derive(Drop)]
 struct Waiting<'a, R> {
     rt: &'a R,
     kept: Kept,
@@ -37,6 +36,21 @@ struct Waiting<'a, R> {
     /// What the last pause sets.
     is_failed: &'a AtomicBool,
     puts: u32,
+}
+
+/// Written by hand, so that one call drops all.
+impl<'a, R> Drop for Waiting<'a, R> {
+    fn drop(self) {
+        let Waiting {
+            rt: _,
+            kept: _,
+            waits_at: _,
+            goes_on: _,
+            is_taken: _,
+            is_failed: _,
+            puts: _,
+        } = self;
+    }
 }
 
 impl<'a, R: time::Clock> Waiting<'a, R> {
@@ -208,6 +222,14 @@ type TestLine<'a, P, R> = Line<
     Worker<Waiting<'a, R>, Sleeping<'a, R>>,
 >;
 
+/// A gate with a list of this alone, which lies there.
+fn kept_with(alloc: Global, out: LinkOut) -> Result<Kept, AllocError> {
+    let list = vec![in alloc; out]?;
+    let mut kept = Kept::new(alloc);
+    kept.lists.push(list)?;
+    Ok(kept)
+}
+
 /// A writer's gate with a list that lies there, which sets `is_taken` as it is taken.
 fn writing_gate<'a, R>(
     rt: &'a R,
@@ -216,11 +238,9 @@ fn writing_gate<'a, R>(
     out: LinkOut,
     is_taken: &'a AtomicBool,
 ) -> Result<Waiting<'a, R>, AllocError> {
-    let mut kept = Kept::new(alloc);
-    kept.lists.push(vec![in alloc; out]?)?;
     Ok(Waiting {
         rt,
-        kept,
+        kept: kept_with(alloc, out)?,
         waits_at: 0,
         goes_on: &seen.never,
         is_taken,
@@ -360,7 +380,7 @@ fn waits_for_another<'a, R: Threads + Wait + time::Clock + Abort + Sync>(
 
 /// So many events were put of a line.
 fn kept<'a, P, R: Abort>(rt: &'a R, line: &TestLine<'a, P, R>, events: usize) {
-    assert_eq!(rt; line.reader.gate.kept.events.len(), events);
+    assert!(rt; line.reader.gate.kept.events.len() == events);
 }
 
 /// Nobody waited in vain, and each client's events and list went through.
@@ -375,7 +395,7 @@ fn look_at_both<'a, R: Abort>(
         kept(rt, line, 3);
         assert!(rt; line.writer.gate.kept.given.len() == 1);
     }
-    assert_eq!(rt; seen.bytes.load(Ordering::SeqCst), 52);
+    assert!(rt; seen.bytes.load(Ordering::SeqCst) == 52);
     Ok(())
 }
 
@@ -471,13 +491,18 @@ fn look_at_three<'a, R: Abort>(
     line: &TestLine<'a, PortNumber, R>,
 ) -> Result<(), Fail> {
     assert!(rt; line.fault == Some(LinkFault::ReadFailed));
-    let ups = links_up(alloc, line.reader.gate.kept.events.as_slice())?;
-    assert_eq!(rt; ups.as_slice(), [1, 2, 3].as_slice());
     kept(rt, line, 12);
-    assert_eq!(rt; line.opener.ends.len(), 3);
+    assert!(rt; line.opener.ends.len() == 3);
     for end in &line.opener.ends {
         assert!(rt; end.reader.is_ok() && end.fault().is_none());
     }
+    are_three_up(rt, alloc, line.reader.gate.kept.events.as_slice())
+}
+
+/// Links 1, 2 and 3 were up.
+fn are_three_up<R: Abort>(rt: &R, alloc: Global, events: &[Event]) -> Result<(), Fail> {
+    let ups = links_up(alloc, events)?;
+    assert!(rt; matches!(ups.as_slice(), [1, 2, 3]));
     Ok(())
 }
 
@@ -509,6 +534,23 @@ fn what_a_link_that_is_over_is_told_is_let_go(rt: HostRuntime) -> Result<(), Fai
     told_too_late(&rt, rt.alloc(), &seen)
 }
 
+/// A writer's gate with a `Close` of the first link, and two heartbeats for it behind.
+fn gate_of_late_lists<'a, R>(
+    rt: &'a R,
+    alloc: Global,
+    seen: &'a Seen,
+) -> Result<Waiting<'a, R>, AllocError> {
+    let mut writer = writing_gate(rt, alloc, seen, heartbeat(alloc)?, &seen.first)?;
+    lay_heartbeat_and_close(alloc, &mut writer.kept)?;
+    Ok(writer)
+}
+
+fn lay_heartbeat_and_close(alloc: Global, kept: &mut Kept) -> Result<(), AllocError> {
+    kept.lay(1, HEARTBEAT.as_slice())?;
+    let closing = vec![in alloc; LinkOut::Close { link: 1 }]?;
+    Ok(kept.lists.push(closing)?)
+}
+
 fn told_too_late<'a, R: Threads + Wait + time::Clock + Abort + Sync>(
     rt: &'a R,
     alloc: Global,
@@ -516,19 +558,14 @@ fn told_too_late<'a, R: Threads + Wait + time::Clock + Abort + Sync>(
 ) -> Result<(), Fail> {
     let links = links_of(alloc, HEARTBEAT.as_slice(), 1, 0, seen);
     let reader = reading_gate(rt, alloc, seen, 3, &seen.first);
-    let mut writer = writing_gate(rt, alloc, seen, heartbeat(alloc)?, &seen.first)?;
-    writer.kept.lists.push(vec![in alloc; heartbeat(alloc)?]?)?;
-    writer
-        .kept
-        .lists
-        .push(vec![in alloc; LinkOut::Close { link: 1 }]?)?;
+    let writer = gate_of_late_lists(rt, alloc, seen)?;
     let line = line_of(rt, ClientNumber::new(1), links, reader, writer);
     let Ok(lines) = serve(rt, alloc, vec![in alloc; line]?) else {
         return Err(Fail::new("not served"));
     };
     look_at_closed(rt, lines.as_slice(), seen)?;
     assert!(rt; !seen.is_failed.load(Ordering::SeqCst));
-    assert_eq!(rt; seen.bytes.load(Ordering::SeqCst), 0);
+    assert!(rt; seen.bytes.load(Ordering::SeqCst) == 0);
     Ok(())
 }
 
@@ -538,13 +575,13 @@ fn look_at_closed<'a, R: Abort>(
     lines: &[TestLine<'a, ClientNumber, R>],
     seen: &Seen,
 ) -> Result<(), Fail> {
-    assert_eq!(rt; lines.len(), 1);
-    for line in lines {
-        for end in &line.opener.ends {
-            assert!(rt; end.writer == Ok(WriterEnd::Closed));
-        }
-        assert_eq!(rt; line.opener.ends.len(), 1);
-    }
-    assert_eq!(rt; seen.often.load(Ordering::SeqCst), 1);
+    let [line] = lines else {
+        return Err(Fail::new("not one line"));
+    };
+    let [end] = line.opener.ends.as_slice() else {
+        return Err(Fail::new("not one end"));
+    };
+    assert!(rt; end.writer == Ok(WriterEnd::Closed));
+    assert!(rt; seen.often.load(Ordering::SeqCst) == 1);
     Ok(())
 }

@@ -2,7 +2,7 @@
 
 ghost use Rattle.std.specs.Prelude.{◌≤◌};
 
-use super::gates::Kept;
+use super::gates::{Kept, list_of};
 use super::streams::{Pieces, Torn};
 use gate_workers::{
     Clock, WriterEnd, client_reader, client_writer, port_reader, port_writer, ticker,
@@ -156,23 +156,32 @@ fn a_link_is_up_brings_messages_and_is_gone(rt: HostRuntime) -> Result<(), Fail>
     let two = [HEARTBEAT.as_slice(), HEARTBEAT.as_slice()].concat(rt.alloc())?;
     for often in [0, 1, 3] {
         let (events, end) = read(&rt, rt.alloc(), two.as_slice(), 100, 1_000, often)?;
-        assert_eq!(rt; events.as_slice(), b"U2M2M2G2".as_slice());
-        assert_eq!(rt; end, Ok(()));
+        assert!(rt; events.as_slice() == b"U2M2M2G2".as_slice());
+        assert!(rt; end == Ok(()));
     }
     Ok(())
 }
 
+/// What was read is these events, and ended by this fault.
+fn fails<R: Abort>(
+    rt: &R,
+    read: (Vec<u8>, Result<(), LinkFault>),
+    events: &[u8],
+    fault: LinkFault,
+) {
+    let (told, end) = read;
+    assert!(rt; told.as_slice() == events);
+    assert!(rt; end == Err(fault));
+}
+
 #[test]
 fn a_link_that_fails_is_gone_too(rt: HostRuntime) -> Result<(), Fail> {
-    let (events, end) = read(&rt, rt.alloc(), HEARTBEAT, 2, 1_000, 0)?;
-    assert_eq!(rt; events.as_slice(), b"U2M2G2".as_slice());
-    assert_eq!(rt; end, Err(LinkFault::ReadFailed));
-    let (events, end) = read(&rt, rt.alloc(), TOO_LONG, 100, 1_000, 2)?;
-    assert_eq!(rt; events.as_slice(), b"U2M2G2".as_slice());
-    assert_eq!(rt; end, Err(LinkFault::Malformed));
-    let (events, end) = read(&rt, rt.alloc(), HEARTBEAT, 100, 2, 0)?;
-    assert_eq!(rt; events.as_slice(), b"U2G2".as_slice());
-    assert_eq!(rt; end, Err(LinkFault::StepLimit));
+    let done = read(&rt, rt.alloc(), HEARTBEAT, 2, 1_000, 0)?;
+    fails(&rt, done, b"U2M2G2", LinkFault::ReadFailed);
+    let done = read(&rt, rt.alloc(), TOO_LONG, 100, 1_000, 2)?;
+    fails(&rt, done, b"U2M2G2", LinkFault::Malformed);
+    let done = read(&rt, rt.alloc(), HEARTBEAT, 100, 2, 0)?;
+    fails(&rt, done, b"U2G2", LinkFault::StepLimit);
     Ok(())
 }
 
@@ -198,16 +207,27 @@ fn a_ports_link(rt: HostRuntime) -> Result<(), Fail> {
         &mut clock,
     );
     let events = told(rt.alloc(), gate.events.as_slice())?;
-    assert_eq!(rt; events.as_slice(), b"u3p3p3g3".as_slice());
-    assert_eq!(rt; end, Err(LinkFault::Malformed));
+    assert!(rt; events.as_slice() == b"u3p3p3g3".as_slice());
+    assert!(rt; end == Err(LinkFault::Malformed));
     Ok(())
 }
 
-fn write_to(alloc: Global, link: u64, bytes: &[u8]) -> Result<LinkOut, AllocError> {
-    Ok(LinkOut::Write {
-        link,
-        bytes: Vec::from_slice(alloc, bytes)?,
-    })
+fn torn(alloc: Global, size: usize, writes_left: usize) -> Torn {
+    Torn {
+        taken: Vec::new(alloc),
+        size,
+        writes_left,
+    }
+}
+
+/// Two lists up to a `Close` for link 7, with bytes for another between, and one behind it.
+fn lay_up_to_close(alloc: Global, gate: &mut Kept) -> Result<(), AllocError> {
+    gate.lay(7, b"behind")?;
+    gate.lay_last(7, b"cd")?;
+    let mut list = list_of(alloc, 7, b"ab")?;
+    let bytes = Vec::from_slice(alloc, b"x")?;
+    list.push(LinkOut::Write { link: 6, bytes })?;
+    Ok(gate.lists.push(list)?)
 }
 
 #[test]
@@ -216,17 +236,8 @@ fn a_writer_ends_at_the_close(rt: HostRuntime) -> Result<(), Fail> {
     let flag = AtomicBool::new(false);
     let mut clock = Counting::new(&flag, 0);
     let mut gate = Kept::new(alloc);
-    gate.lists
-        .push(vec![in alloc; write_to(alloc, 7, b"behind")?]?)?;
-    let closing = LinkOut::Close { link: 7 };
-    gate.lists
-        .push(vec![in alloc; write_to(alloc, 7, b"cd")?, closing]?)?;
-    gate.lists.push(vec![in alloc; write_to(alloc, 7, b"ab")?, write_to(alloc, 6, b"x")?]?)?;
-    let mut stream = Torn {
-        taken: Vec::new(alloc),
-        size: 1,
-        writes_left: 100,
-    };
+    lay_up_to_close(alloc, &mut gate)?;
+    let mut stream = torn(alloc, 1, 100);
     let client = ClientNumber::new(2);
     let end = client_writer(
         &rt,
@@ -239,60 +250,46 @@ fn a_writer_ends_at_the_close(rt: HostRuntime) -> Result<(), Fail> {
         &mut clock,
         &flag,
     );
-    assert_eq!(rt; end, Ok(WriterEnd::Closed));
-    assert_eq!(rt; stream.taken.as_slice(), b"abcd".as_slice());
-    assert_eq!(rt; gate.lists.len(), 1);
+    assert!(rt; end == Ok(WriterEnd::Closed));
+    assert!(rt; stream.taken.as_slice() == b"abcd".as_slice());
+    assert!(rt; gate.lists.len() == 1);
     Ok(())
+}
+
+/// Port 1's writer over link 7, which writes what lies there, and is stopped at its third pause.
+fn write_until_stopped<R: Wait>(
+    rt: &R,
+    alloc: Global,
+    gate: &mut Kept,
+    stream: &mut Torn,
+) -> (Result<WriterEnd, LinkFault>, u32) {
+    let flag = AtomicBool::new(false);
+    let mut clock = Counting::new(&flag, 3);
+    let port = PortNumber::new(1);
+    let end = port_writer(rt, alloc, port, 7, 100, stream, gate, &mut clock, &flag);
+    (end, clock.pauses)
 }
 
 #[test]
 fn a_writer_that_is_stopped_writes_what_lies_there(rt: HostRuntime) -> Result<(), Fail> {
-    let alloc = rt.alloc();
-    let flag = AtomicBool::new(false);
-    let mut clock = Counting::new(&flag, 3);
-    let mut gate = Kept::new(alloc);
-    gate.lists
-        .push(vec![in alloc; write_to(alloc, 7, b"ab")?]?)?;
-    let mut stream = Torn {
-        taken: Vec::new(alloc),
-        size: 100,
-        writes_left: 100,
-    };
-    let port = PortNumber::new(1);
-    let end = port_writer(
-        &rt,
-        alloc,
-        port,
-        7,
-        100,
-        &mut stream,
-        &mut gate,
-        &mut clock,
-        &flag,
-    );
-    assert_eq!(rt; end, Ok(WriterEnd::Stopped));
-    assert_eq!(rt; stream.taken.as_slice(), b"ab".as_slice());
-    assert_eq!(rt; clock.pauses, 3);
-    let mut failing = Torn {
-        taken: Vec::new(alloc),
-        size: 1,
-        writes_left: 1,
-    };
-    gate.lists
-        .push(vec![in alloc; write_to(alloc, 7, b"ab")?]?)?;
-    let end = port_writer(
-        &rt,
-        alloc,
-        port,
-        7,
-        100,
-        &mut failing,
-        &mut gate,
-        &mut clock,
-        &flag,
-    );
-    assert_eq!(rt; end, Err(LinkFault::WriteFailed));
-    assert_eq!(rt; failing.taken.as_slice(), b"a".as_slice());
+    let mut gate = Kept::new(rt.alloc());
+    gate.lay(7, b"ab")?;
+    let mut stream = torn(rt.alloc(), 100, 100);
+    let (end, pauses) = write_until_stopped(&rt, rt.alloc(), &mut gate, &mut stream);
+    assert!(rt; end == Ok(WriterEnd::Stopped));
+    assert!(rt; stream.taken.as_slice() == b"ab".as_slice());
+    assert!(rt; pauses == 3);
+    Ok(())
+}
+
+#[test]
+fn a_writer_that_fails(rt: HostRuntime) -> Result<(), Fail> {
+    let mut gate = Kept::new(rt.alloc());
+    gate.lay(7, b"ab")?;
+    let mut stream = torn(rt.alloc(), 1, 1);
+    let (end, _) = write_until_stopped(&rt, rt.alloc(), &mut gate, &mut stream);
+    assert!(rt; end == Err(LinkFault::WriteFailed));
+    assert!(rt; stream.taken.as_slice() == b"a".as_slice());
     Ok(())
 }
 
@@ -303,7 +300,7 @@ fn ticks_of_three_rounds(rt: HostRuntime) -> Result<(), Fail> {
     let mut gate = Kept::new(rt.alloc());
     ticker(&rt, rt.alloc(), 2, 1, &mut gate, &mut clock, &flag);
     let events = told(rt.alloc(), gate.events.as_slice())?;
-    assert_eq!(rt; events.as_slice(), b"T1T2t1T1T2t1T1T2t1".as_slice());
-    assert_eq!(rt; clock.pauses, 3);
+    assert!(rt; events.as_slice() == b"T1T2t1T1T2t1T1T2t1".as_slice());
+    assert!(rt; clock.pauses == 3);
     Ok(())
 }

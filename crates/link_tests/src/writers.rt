@@ -1,6 +1,6 @@
 //! Writers of links.
 
-use super::gates::Kept;
+use super::gates::{Kept, list_of};
 use super::streams::Torn;
 use link_io::{BatchWriter, LinkFault, LinkOut, Wrote};
 use std::alloc::{AllocError, Global};
@@ -14,28 +14,21 @@ const SECOND: &[u8; 6] = b"\x00\x04Sabc";
 
 const BOTH: &[u8; 11] = b"\x00\x03+hi\x00\x04Sabc";
 
-fn write_to(alloc: Global, link: u64, bytes: &[u8]) -> Result<LinkOut, AllocError> {
-    Ok(LinkOut::Write {
-        link,
-        bytes: Vec::from_slice(alloc, bytes)?,
-    })
-}
-
 /// Two lists for link 7, with something for link 6 between, and a third behind a `Close` of link 7.
 fn gate_of_lists(alloc: Global) -> Result<Kept, AllocError> {
     let mut gate = Kept::new(alloc);
-    gate.lists
-        .push(vec![in alloc; write_to(alloc, 8, FIRST)?]?)?;
-    let closing = LinkOut::Close { link: 7 };
-    gate.lists
-        .push(vec![in alloc; write_to(alloc, 7, SECOND)?, closing]?)?;
-    let other = LinkOut::Close { link: 6 };
-    gate.lists.push(vec![in alloc;
-        write_to(alloc, 7, FIRST)?,
-        write_to(alloc, 6, SECOND)?,
-        other,
-    ]?)?;
+    lay_lists(alloc, &mut gate)?;
     Ok(gate)
+}
+
+fn lay_lists(alloc: Global, gate: &mut Kept) -> Result<(), AllocError> {
+    gate.lay(8, FIRST)?;
+    gate.lay_last(7, SECOND)?;
+    let mut list = list_of(alloc, 7, FIRST)?;
+    let bytes = Vec::from_slice(alloc, SECOND)?;
+    list.push(LinkOut::Write { link: 6, bytes })?;
+    list.push(LinkOut::Close { link: 6 })?;
+    Ok(gate.lists.push(list)?)
 }
 
 fn torn(alloc: Global, size: usize, writes_left: usize) -> Torn {
@@ -46,22 +39,28 @@ fn torn(alloc: Global, size: usize, writes_left: usize) -> Torn {
     }
 }
 
+/// A step came to what is expected.
+fn came_to<R: Abort>(rt: &R, wrote: Result<Wrote, LinkFault>, expected: Result<Wrote, LinkFault>) {
+    assert_eq!(rt; wrote, expected);
+}
+
 /// Writes what lies there up to the `Close`, so many bytes a write.
 fn write_up_to_close<R: Abort>(rt: &R, alloc: Global, size: usize) -> Result<(), Fail> {
     let mut gate = gate_of_lists(alloc)?;
     let mut stream = torn(alloc, size, 100);
     let mut writer = BatchWriter::new(alloc, 1, 7, 100);
     let wrote = writer.step(alloc, &mut stream, &mut gate);
-    assert_eq!(rt;
+    came_to(
+        rt,
         wrote,
         Ok(Wrote {
             bytes: 11,
             taken: true,
-            closed: true
-        })
+            closed: true,
+        }),
     );
-    assert_eq!(rt; stream.taken.as_slice(), BOTH.as_slice());
-    assert_eq!(rt; gate.lists.len(), 1);
+    assert!(rt; stream.taken.as_slice() == BOTH.as_slice());
+    assert!(rt; gate.lists.len() == 1);
     Ok(())
 }
 
@@ -79,13 +78,14 @@ fn where_nothing_lies_nothing_is_written(rt: HostRuntime) -> Result<(), Fail> {
     let mut stream = torn(rt.alloc(), 1, 100);
     let mut writer = BatchWriter::new(rt.alloc(), 1, 7, 100);
     let wrote = writer.step(rt.alloc(), &mut stream, &mut gate);
-    assert_eq!(rt;
+    came_to(
+        &rt,
         wrote,
         Ok(Wrote {
             bytes: 0,
             taken: false,
-            closed: false
-        })
+            closed: false,
+        }),
     );
     Ok(())
 }
@@ -98,8 +98,8 @@ fn a_writer_that_fails_after_each_byte(rt: HostRuntime) -> Result<(), Fail> {
         let mut writer = BatchWriter::new(rt.alloc(), 1, 7, 100);
         for _ in 0..2 {
             let wrote = writer.step(rt.alloc(), &mut stream, &mut gate);
-            assert_eq!(rt; wrote, Err(LinkFault::WriteFailed));
-            assert_eq!(rt; stream.taken.as_slice(), &BOTH[..writes]);
+            came_to(&rt, wrote, Err(LinkFault::WriteFailed));
+            assert!(rt; stream.taken.as_slice() == &BOTH[..writes]);
         }
     }
     Ok(())
@@ -111,8 +111,8 @@ fn a_write_of_no_byte_failed(rt: HostRuntime) -> Result<(), Fail> {
     let mut stream = torn(rt.alloc(), 0, 100);
     let mut writer = BatchWriter::new(rt.alloc(), 1, 7, 100);
     let wrote = writer.step(rt.alloc(), &mut stream, &mut gate);
-    assert_eq!(rt; wrote, Err(LinkFault::WriteFailed));
-    assert_eq!(rt; stream.writes_left, 99);
+    came_to(&rt, wrote, Err(LinkFault::WriteFailed));
+    assert!(rt; stream.writes_left == 99);
     Ok(())
 }
 
@@ -123,24 +123,26 @@ fn the_last_step_writes_nothing(rt: HostRuntime) -> Result<(), Fail> {
     let mut writer = BatchWriter::new(rt.alloc(), 1, 7, 1);
     for _ in 0..2 {
         let wrote = writer.step(rt.alloc(), &mut stream, &mut gate);
-        assert_eq!(rt; wrote, Err(LinkFault::StepLimit));
-        assert_eq!(rt; stream.writes_left, 100);
-        assert_eq!(rt; gate.lists.len(), 3);
+        came_to(&rt, wrote, Err(LinkFault::StepLimit));
+        assert!(rt; stream.writes_left == 100);
+        assert!(rt; gate.lists.len() == 3);
     }
     Ok(())
 }
 
+/// The faults in the order of their numbers.
+const FAULTS: [LinkFault; 5] = [
+    LinkFault::ReadFailed,
+    LinkFault::WriteFailed,
+    LinkFault::Malformed,
+    LinkFault::StepLimit,
+    LinkFault::NoMemory,
+];
+
 #[test]
 fn numbers_of_faults(rt: HostRuntime) -> Result<(), Fail> {
-    let faults = [
-        LinkFault::ReadFailed,
-        LinkFault::WriteFailed,
-        LinkFault::Malformed,
-        LinkFault::StepLimit,
-        LinkFault::NoMemory,
-    ];
-    for (place, fault) in faults.iter().enumerate() {
-        assert_eq!(rt; usize::from(fault.number()), place + 1);
+    for (place, fault) in FAULTS.iter().enumerate() {
+        assert!(rt; usize::from(fault.number()) == place + 1);
     }
     Ok(())
 }
