@@ -6,6 +6,8 @@ mod lost_links;
 #[cfg(test)]
 mod many;
 #[cfg(test)]
+mod threads;
+#[cfg(test)]
 mod unfinished;
 #[cfg(test)]
 mod unlawful;

@@ -1,16 +1,18 @@
 //! A day of two clients on two ports, in which a client and a port each lose their link.
 
-use gateway_demo::{
-    Acceptor, Choice, Client, DemoFault, Market, Opened, Opener, Order, connected, loopback,
-};
-use gateway_run::{SettingsFile, end_day, read, run_settings, tell};
+use crate::threads::{ended, listening, log_on_and_buy};
+use gateway_demo::{Acceptor, Choice, Client, DemoFault, Market, Opened, Opener, Order, connected};
+use gateway_run::{Day, RunFault, SettingsFile, end_day, read, run_settings, tell};
 use journal_audit::audit_file;
 use std::alloc::Global;
 use std::hash::RandomState;
 use std::net::{Net, TcpListener, TcpStream};
+use std::process::Abort;
+use std::sync::Wait;
 use std::sync::atomic::{AtomicBool, Ordering};
 use std::test::Fail;
 use std::thread;
+use std::thread::Threads;
 use std::time::{Clock, Duration};
 
 const AUDIT: &[u8] = b"\
@@ -59,13 +61,9 @@ fn come_again<R: Clock + Net<Listener = TcpListener, Stream = TcpStream>>(
     address: &str,
 ) -> Result<(), DemoFault> {
     let mut client = Client::new(rt, alloc, "C1", reached(rt, address)?);
-    client.log_on()?;
-    client.buy(&FIRST)?;
-    client.wait_for_fills(1)?;
+    log_on_and_buy(&mut client, &FIRST)?;
     let mut client = client.over(reached(rt, address)?);
-    client.log_on()?;
-    client.buy(&SECOND)?;
-    client.wait_for_fills(1)?;
+    log_on_and_buy(&mut client, &SECOND)?;
     client.log_out()
 }
 
@@ -76,9 +74,7 @@ fn go_and_come<R: Clock + Net<Listener = TcpListener, Stream = TcpStream>>(
     address: &str,
 ) -> Result<(), DemoFault> {
     let mut client = Client::new(rt, alloc, "C2", reached(rt, address)?);
-    client.log_on()?;
-    client.buy(&THIRD)?;
-    client.wait_for_fills(1)?;
+    log_on_and_buy(&mut client, &THIRD)?;
     client.log_out()?;
     let mut client = client.over(reached(rt, address)?);
     client.log_on()?;
@@ -95,24 +91,44 @@ fn serve_twice<R: Clock + Net<Listener = TcpListener, Stream = TcpStream>>(
 ) -> Result<(), DemoFault> {
     let mut market = Market::new(alloc, Choice::AcceptLive);
     let mut links = Acceptor::of_listener(rt, listener, 2, is_past);
-    for most in [first, u32::MAX] {
-        let Some(link) = links.open() else {
-            return Ok(());
-        };
-        let Opened {
-            mut reader,
-            mut writer,
-            ..
-        } = link.map_err(DemoFault::Link)?;
-        market.serve(most, &mut reader, &mut writer)?;
-    }
-    Ok(())
+    serve_link(&mut market, &mut links, first)?;
+    serve_link(&mut market, &mut links, u32::MAX)
 }
 
-/// The settings of two clients, each on a port of its own.
-fn settings(alloc: Global, clients: [&str; 2], ports: [&str; 2]) -> Result<SettingsFile, Fail> {
-    let [one, two] = clients;
-    let [first, second] = ports;
+/// Serves the next link, until so many orders were entered. Where there is none any more nothing is done.
+fn serve_link<R: Clock + Net<Listener = TcpListener, Stream = TcpStream>>(
+    market: &mut Market,
+    links: &mut Acceptor<'_, R>,
+    most: u32,
+) -> Result<(), DemoFault> {
+    let Some(link) = links.open() else {
+        return Ok(());
+    };
+    let Opened {
+        mut reader,
+        mut writer,
+        ..
+    } = link.map_err(DemoFault::Link)?;
+    market.serve(most, &mut reader, &mut writer)
+}
+
+/// Where the two clients are listened for, and the settings that say so, with each client on a port of its own.
+#[derive(Drop)]
+struct Setup {
+    one: String,
+    two: String,
+    text: String,
+}
+
+/// The settings with ports at these addresses, and with addresses for the clients where nobody listens yet.
+fn set_up<R: Net<Listener = TcpListener, Stream = TcpStream>>(
+    rt: &R,
+    alloc: Global,
+    first: &str,
+    second: &str,
+) -> Result<Setup, Fail> {
+    let one = free_address(rt, alloc)?;
+    let two = free_address(rt, alloc)?;
     let text = format!(in alloc;
         "comp = \"GATE\"
         [[port]]\nname = \"P1\"\naddress = \"{first}\"\nuser = \"USER01\"\npassword = \"PASSWORD\"
@@ -122,62 +138,113 @@ fn settings(alloc: Global, clients: [&str; 2], ports: [&str; 2]) -> Result<Setti
         [[client]]\ncomp = \"C2\"\nlisten = \"{two}\"\nport = \"P2\"
         firm = \"FIRM\"\ncapacity = \"A\"\ncustomer = \"R\"\n"
     )?;
+    Ok(Setup { one, two, text })
+}
+
+fn settings(alloc: Global, text: &str) -> Result<SettingsFile, Fail> {
     read(alloc, text.as_bytes()).map_err(|_| Fail::new("the settings are refused"))
 }
 
-/// An address where nobody listens yet.
+/// An address where nobody listens any more.
 fn free_address<R: Net<Listener = TcpListener, Stream = TcpStream>>(
     rt: &R,
     alloc: Global,
 ) -> Result<String, Fail> {
-    let Ok((_, address)) = loopback(rt, alloc) else {
-        return Err(Fail::new("no listener"));
-    };
+    let (_, address) = listening(rt, alloc)?;
     Ok(address)
+}
+
+/// What a day wrote.
+#[derive(Drop)]
+struct Written {
+    journal: Vec<u8>,
+    output: Vec<u8>,
+    faults: Vec<u8>,
 }
 
 #[test]
 fn a_client_and_a_port_lose_their_links(rt: HostRuntime) -> Result<(), Fail> {
     let alloc = rt.alloc();
-    let rt = &rt;
-    let (Ok((first, first_address)), Ok((second, second_address))) = (
-        loopback(rt, alloc),
-        loopback(rt, alloc),
-    ) else {
-        return Err(Fail::new("no listener"));
+    let (first, first_address) = listening(&rt, alloc)?;
+    let (second, second_address) = listening(&rt, alloc)?;
+    let setup = set_up(&rt, alloc, &first_address, &second_address)?;
+    let mut written = Written {
+        journal: Vec::new(alloc),
+        output: Vec::new(alloc),
+        faults: Vec::new(alloc),
     };
-    let (one, two) = (free_address(rt, alloc)?, free_address(rt, alloc)?);
-    let file = settings(alloc, [&one, &two], [&first_address, &second_address])?;
-    let same = settings(alloc, [&one, &two], [&first_address, &second_address])?;
-    let (one, two) = (one.as_str(), two.as_str());
-    let hasher = RandomState::new(rt)?;
+    let hasher = RandomState::new(&rt)?;
+    let file = settings(alloc, &setup.text)?;
+    let markets = (first, second);
     let is_past = AtomicBool::new(false);
-    let is_past = &is_past;
-    let mut journal = Vec::new(alloc);
-    let mut output = Vec::new(alloc);
-    let mut faults = Vec::new(alloc);
-    let ended = thread::scope(thread::scope_env(), rt, |scope| {
+    let ended = serve_day(
+        &rt,
+        alloc,
+        hasher,
+        file,
+        markets,
+        &setup,
+        &is_past,
+        &mut written,
+    );
+    assert!(rt; ended == (0, Ok(())));
+    assert!(rt; written.output.as_slice() == AUDIT);
+    audits_again(&rt, alloc, &setup, &mut written)
+}
+
+/// The journal of the day is audited as the day was, and nothing was told.
+fn audits_again(
+    rt: &impl Abort,
+    alloc: Global,
+    setup: &Setup,
+    written: &mut Written,
+) -> Result<(), Fail> {
+    let SettingsFile { settings, .. } = settings(alloc, &setup.text)?;
+    let mut again = Vec::new(alloc);
+    let journal = written.journal.as_slice();
+    let status = audit_file(alloc, journal, &settings, &mut again, &mut written.faults);
+    assert!(rt; status == 0 && again.as_slice() == AUDIT);
+    assert!(rt; written.faults.is_empty());
+    Ok(())
+}
+
+/// A day of both clients and both markets.
+fn serve_day<R>(
+    rt: &R,
+    alloc: Global,
+    hasher: RandomState,
+    file: SettingsFile,
+    markets: (TcpListener, TcpListener),
+    setup: &Setup,
+    is_past: &AtomicBool,
+    written: &mut Written,
+) -> (u8, Result<(), DemoFault>)
+where
+    R: Threads + Wait + Sync + Clock + Eprint + Net<Listener = TcpListener, Stream = TcpStream>,
+{
+    let (first, second) = markets;
+    let (one, two) = (setup.one.as_str(), setup.two.as_str());
+    thread::scope(thread::scope_env(), rt, |scope| {
         let first = scope.spawn(move || serve_twice(rt, alloc, first, 1, is_past));
         let second = scope.spawn(move || serve_twice(rt, alloc, second, u32::MAX, is_past));
         let one = scope.spawn(move || come_again(rt, alloc, one));
         let two = scope.spawn(move || go_and_come(rt, alloc, two));
-        let status = match run_settings(rt, alloc, hasher, file, 2) {
-            Ok(day) => end_day(alloc, &day, &mut journal, &mut output, &mut faults),
-            Err(fault) => tell(fault, &mut faults),
-        };
+        let status = write_day(alloc, run_settings(rt, alloc, hasher, file, 2), written);
         is_past.store(true, Ordering::SeqCst);
-        let (Ok(first), Ok(second), Ok(one), Ok(two)) = (first, second, one, two) else {
-            return (status, Err(DemoFault::NoThread));
-        };
-        let markets = first.join(rt).and(second.join(rt));
-        (status, markets.and(one.join(rt)).and(two.join(rt)))
-    });
-    assert!(rt; ended == (0, Ok(())));
-    assert!(rt; output.as_slice() == AUDIT);
-    let mut again = Vec::new(alloc);
-    let journal = journal.as_slice();
-    let status = audit_file(alloc, journal, &same.settings, &mut again, &mut faults);
-    assert!(rt; status == 0 && again.as_slice() == AUDIT);
-    assert!(rt; faults.is_empty());
-    Ok(())
+        let markets = ended(rt, first).and(ended(rt, second));
+        (status, markets.and(ended(rt, one)).and(ended(rt, two)))
+    })
+}
+
+/// Writes what came of a day: its status.
+fn write_day(alloc: Global, ran: Result<Day, RunFault>, written: &mut Written) -> u8 {
+    let Written {
+        journal,
+        output,
+        faults,
+    } = written;
+    match ran {
+        Ok(day) => end_day(alloc, &day, journal, output, faults),
+        Err(fault) => tell(fault, faults),
+    }
 }
