@@ -40,46 +40,57 @@ impl Cases {
         if text.is_empty() || text.starts_with(b"#") {
             return Ok(());
         }
-        if let Some(steps) = steps_of(text) {
-            output.write_all(text)?;
-            output.write_all(b": ")?;
-            return read_endless(alloc, steps).print(output);
+        if self.does(alloc, text, output)? {
+            Ok(())
+        } else {
+            note(text, output)
         }
-        let is_done = match making_of(text) {
+    }
+
+    /// Does what a line says; false where it isn't understood.
+    fn does<W: Write>(&mut self, alloc: Global, text: &[u8], output: &mut W) -> io::Result<bool> {
+        if let Some(steps) = steps_of(text) {
+            print_line(text, output)?;
+            read_endless(alloc, steps).print(output)?;
+            return Ok(true);
+        }
+        match making_of(text) {
             Some((making, seed, count)) => {
                 let tally = self.make(alloc, making, seed, count)?;
-                output.write_all(text)?;
-                output.write_all(b": ")?;
+                print_line(text, output)?;
                 tally.print(output)?;
-                true
+                Ok(true)
             }
-            None => self.record(alloc, text)?,
-        };
-        if !is_done {
-            output.write_all(b"not understood: ")?;
-            output.write_all(text)?;
-            output.write_all(b"\n")?;
+            None => Ok(self.record(alloc, text)?),
         }
-        Ok(())
     }
 
     /// Records a client's frame by its body, or a port's packet; whether the line is one.
     fn record(&mut self, alloc: Global, text: &[u8]) -> Result<bool, AllocError> {
         match line_of(alloc, text) {
-            Ok(Line::ClientMessage(_, body)) => {
+            Ok(line) => self.record_line(alloc, &line),
+            Err(LineFault::NoMemory) => Err(AllocError),
+            Err(LineFault::NotUnderstood) => Ok(false),
+        }
+    }
+
+    fn record_line(&mut self, alloc: Global, line: &Line) -> Result<bool, AllocError> {
+        match line {
+            Line::ClientMessage(_, body) => {
                 self.bodies.push(Vec::from_slice(alloc, body.text())?)?;
                 Ok(true)
             }
-            Ok(Line::PortBytes(_, bytes)) => {
-                let [_, _, packet @ ..] = bytes.as_slice() else {
-                    return Ok(false);
-                };
-                self.packets.push(Vec::from_slice(alloc, packet)?)?;
-                Ok(true)
-            }
-            Err(LineFault::NoMemory) => Err(AllocError),
+            Line::PortBytes(_, bytes) => self.record_packet(alloc, bytes.as_slice()),
             _ => Ok(false),
         }
+    }
+
+    fn record_packet(&mut self, alloc: Global, bytes: &[u8]) -> Result<bool, AllocError> {
+        let [_, _, packet @ ..] = bytes else {
+            return Ok(false);
+        };
+        self.packets.push(Vec::from_slice(alloc, packet)?)?;
+        Ok(true)
     }
 
     /// Makes so many streams or lists of a seed, and reads or writes each.
@@ -93,25 +104,48 @@ impl Cases {
         let mut tally = Tally::new();
         for row in 0..count {
             let mut chance = Chance::of(seed, row);
-            match making {
-                Making::Streams(form) => {
-                    let units = match form {
-                        Form::Frames => self.bodies.as_slice(),
-                        Form::Packets => self.packets.as_slice(),
-                    };
-                    let stream = stream_of(alloc, &mut chance, form, units)?;
-                    read_stream(alloc, &mut chance, form, stream.as_slice(), &mut tally)?;
-                }
-                Making::Lists => write_lists(
-                    alloc,
-                    &mut chance,
-                    self.packets.as_slice(),
-                    &mut tally,
-                )?,
-            }
+            self.make_one(alloc, making, &mut chance, &mut tally)?;
         }
         Ok(tally)
     }
+
+    /// Makes a stream or lists, and reads or writes them.
+    fn make_one(
+        &self,
+        alloc: Global,
+        making: Making,
+        chance: &mut Chance,
+        tally: &mut Tally,
+    ) -> Result<(), AllocError> {
+        match making {
+            Making::Streams(form) => {
+                let stream = stream_of(alloc, chance, form, self.units(form))?;
+                read_stream(alloc, chance, form, stream.as_slice(), tally)
+            }
+            Making::Lists => write_lists(alloc, chance, self.packets.as_slice(), tally),
+        }
+    }
+
+    /// What was recorded of a form.
+    fn units(&self, form: Form) -> &[Vec<u8>] {
+        match form {
+            Form::Frames => self.bodies.as_slice(),
+            Form::Packets => self.packets.as_slice(),
+        }
+    }
+}
+
+/// Prints a line, in front of what comes of it.
+fn print_line<W: Write>(text: &[u8], output: &mut W) -> io::Result<()> {
+    output.write_all(text)?;
+    output.write_all(b": ")
+}
+
+/// Notes a line that isn't understood.
+fn note<W: Write>(text: &[u8], output: &mut W) -> io::Result<()> {
+    output.write_all(b"not understood: ")?;
+    output.write_all(text)?;
+    output.write_all(b"\n")
 }
 
 /// `frames SEED COUNT`, `packets SEED COUNT`, `lists SEED COUNT`.

@@ -26,32 +26,43 @@ pub fn changed(
     let (middle, last) = halves(rest, chance.below(size.saturating_add(1)));
     let mut made = Vec::from_slice(alloc, first)?;
     match chance.below(5) {
-        0 => {
-            if let [byte, behind @ ..] = rest {
-                made.push(*byte ^ chance.byte())?;
-                made.extend_from_slice(behind)?;
-            }
-        }
+        0 => add_other_byte(chance, &mut made, rest)?,
         1 => made.extend_from_slice(last)?,
-        2 => {
-            made.extend_from_slice(middle)?;
-            made.extend_from_slice(rest)?;
-        }
-        3 => {
-            made.extend_from_slice(last)?;
-            made.extend_from_slice(middle)?;
-        }
+        2 => add_both(&mut made, middle, rest)?,
+        3 => add_both(&mut made, last, middle)?,
         _ => {
-            let count = match chance.below(8) {
-                0 => chance.below(limit),
-                1 => about(chance, limit).saturating_sub(bytes.len()),
-                _ => chance.below(FEW),
-            };
+            let count = count_of_added(chance, bytes.len(), limit);
             add_some(&mut made, chance.byte(), count)?;
             made.extend_from_slice(rest)?;
         }
     }
     Ok(made)
+}
+
+/// Adds bytes of which the first is another.
+fn add_other_byte(chance: &mut Chance, made: &mut Vec<u8>, bytes: &[u8]) -> Result<(), AllocError> {
+    match bytes {
+        [byte, behind @ ..] => {
+            made.push(*byte ^ chance.byte())?;
+            made.extend_from_slice(behind)
+        }
+        [] => Ok(()),
+    }
+}
+
+/// Adds bytes, and others behind them.
+fn add_both(made: &mut Vec<u8>, bytes: &[u8], others: &[u8]) -> Result<(), AllocError> {
+    made.extend_from_slice(bytes)?;
+    made.extend_from_slice(others)
+}
+
+/// How many bytes are put in: few, or as many as there are then about `limit`.
+fn count_of_added(chance: &mut Chance, size: usize, limit: usize) -> usize {
+    match chance.below(8) {
+        0 => chance.below(limit),
+        1 => about(chance, limit).saturating_sub(size),
+        _ => chance.below(FEW),
+    }
 }
 
 /// The limit, one less, or one more.

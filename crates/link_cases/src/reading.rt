@@ -35,27 +35,51 @@ pub fn read_stream(
         most: size_of_pieces(chance),
     };
     let mut gate = Kept::new(alloc, chance.next(), chance.below(4).saturating_add(2));
-    let mut units = Vec::new(alloc);
-    let (fault, is_malformed) = match form {
-        Form::Frames => {
-            let mut reader = ClientReader::new(alloc, ClientNumber::new(NUMBER), LINK, STEPS);
-            let fault = read_all(alloc, &mut reader, &mut input, &mut gate);
-            (fault, read_frames(stream, &mut units)?)
-        }
-        Form::Packets => {
-            let mut reader = PortReader::new(alloc, PortNumber::new(NUMBER), LINK, STEPS);
-            let fault = read_all(alloc, &mut reader, &mut input, &mut gate);
-            (fault, read_packets(stream, &mut units)?)
-        }
+    let fault = match form {
+        Form::Frames => fault_of_frames(alloc, &mut input, &mut gate),
+        Form::Packets => fault_of_packets(alloc, &mut input, &mut gate),
     };
-    let end = if is_malformed {
+    count_stream(alloc, form, stream, gate.events.as_slice(), fault, tally)
+}
+
+/// Reads a stream of frames, to its end or to a fault.
+fn fault_of_frames(alloc: Global, input: &mut Pieces<'_>, gate: &mut Kept) -> Option<LinkFault> {
+    let mut reader = ClientReader::new(alloc, ClientNumber::new(NUMBER), LINK, STEPS);
+    read_all(alloc, &mut reader, input, gate)
+}
+
+/// Reads a stream of packets, to its end or to a fault.
+fn fault_of_packets(alloc: Global, input: &mut Pieces<'_>, gate: &mut Kept) -> Option<LinkFault> {
+    let mut reader = PortReader::new(alloc, PortNumber::new(NUMBER), LINK, STEPS);
+    read_all(alloc, &mut reader, input, gate)
+}
+
+/// Counts a stream of which these events came before this fault.
+fn count_stream(
+    alloc: Global,
+    form: Form,
+    stream: &[u8],
+    events: &[Event],
+    fault: Option<LinkFault>,
+    tally: &mut Tally,
+) -> Result<(), AllocError> {
+    let mut units = Vec::new(alloc);
+    let is_malformed = match form {
+        Form::Frames => read_frames(stream, &mut units)?,
+        Form::Packets => read_packets(stream, &mut units)?,
+    };
+    let is_same = fault == end_of(is_malformed) && are_units(events, units.as_slice());
+    tally.count(units.len(), is_malformed, is_same);
+    Ok(())
+}
+
+/// The fault that a stream ends with.
+fn end_of(is_malformed: bool) -> Option<LinkFault> {
+    if is_malformed {
         Some(LinkFault::Malformed)
     } else {
         None
-    };
-    let is_same = fault == end && are_units(gate.events.as_slice(), units.as_slice());
-    tally.count(units.len(), is_malformed, is_same);
-    Ok(())
+    }
 }
 
 /// Pieces of one byte, of few, or of as many as a read gives.
@@ -99,31 +123,31 @@ fn are_units(events: &[Event], units: &[&[u8]]) -> bool {
 
 /// The moment of the event, where it is this unit's.
 fn moment_of(event: &Event, unit: &[u8]) -> Option<u64> {
-    let (number, link, at, is_unit) = match event {
+    match event {
         Event::ClientMessage {
             client,
             link,
             at,
             frame,
-        } => { (client.number(), *link, *at, frame.fields().text() == unit) }
+        } if client.number() == NUMBER && *link == LINK && frame.fields().text() == unit => {
+            Some(*at)
+        }
         Event::PortPacket {
             port,
             link,
             at,
             packet,
-        } => {
-            let is_unit = match unit {
-                [kind, payload @ ..] => packet.kind == *kind
-                    && packet.payload.as_slice() == payload,
-                [] => false,
-            };
-            (port.number(), *link, *at, is_unit)
-        }
-        _ => return None,
-    };
-    if number == NUMBER && link == LINK && is_unit {
-        Some(at)
-    } else {
-        None
+        } if port.number() == NUMBER
+            && *link == LINK
+            && is_packet(packet.kind, packet.payload.as_slice(), unit) => Some(*at),
+        _ => None,
+    }
+}
+
+/// Whether a packet's type and payload are this unit.
+fn is_packet(kind: u8, payload: &[u8], unit: &[u8]) -> bool {
+    match unit {
+        [first, behind @ ..] => kind == *first && payload == behind,
+        [] => false,
     }
 }

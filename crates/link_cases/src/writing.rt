@@ -30,24 +30,58 @@ pub fn write_lists(
     tally: &mut Tally,
 ) -> Result<(), AllocError> {
     let lists = lists_of(alloc, chance, units)?;
-    let mut told = Vec::new(alloc);
-    let is_closing = tell_all(lists.as_slice(), &mut told)?;
+    let told = told_by(alloc, lists.as_slice())?;
+    write_told(alloc, chance, lists, &told, tally)
+}
+
+/// What lists tell the link, and whether one closes it.
+#[derive(Drop)]
+struct Told {
+    bytes: Vec<u8>,
+    is_closing: bool,
+}
+
+/// What the lists tell the link, the last list first, up to one that closes it.
+fn told_by(alloc: Global, lists: &[Vec<LinkOut>]) -> Result<Told, AllocError> {
+    let mut bytes = Vec::new(alloc);
+    let is_closing = tell_all(lists, &mut bytes)?;
+    Ok(Told { bytes, is_closing })
+}
+
+/// Writes lists that tell the link this, and counts them.
+fn write_told(
+    alloc: Global,
+    chance: &mut Chance,
+    lists: Vec<Vec<LinkOut>>,
+    told: &Told,
+    tally: &mut Tally,
+) -> Result<(), AllocError> {
     let count = lists.len();
-    let mut output = Torn {
-        taken: Vec::with_capacity(alloc, told.len())?,
-        chance: chance.next(),
-        most: if chance.once_in(2) { 3 } else { 5_000 },
-        fails_once_in: if chance.once_in(2) { 20 } else { 1_000_000 },
-    };
+    let mut output = torn(alloc, chance, told.bytes.len())?;
     let mut gate = Kept::new(alloc, chance.next(), 2);
     gate.lists = lists;
     let ended = write_all(alloc, &mut output, &mut gate);
-    let is_same = match ended {
-        Some(is_closed) => is_closed == is_closing && output.taken.as_slice() == told.as_slice(),
-        None => told.as_slice().starts_with(output.taken.as_slice()),
-    };
+    let is_same = is_written(ended, told, output.taken.as_slice());
     tally.count(count, ended.is_none(), is_same);
     Ok(())
+}
+
+/// A writer of so many bytes in all.
+fn torn(alloc: Global, chance: &mut Chance, size: usize) -> Result<Torn, AllocError> {
+    Ok(Torn {
+        taken: Vec::with_capacity(alloc, size)?,
+        chance: chance.next(),
+        most: if chance.once_in(2) { 3 } else { 5_000 },
+        fails_once_in: if chance.once_in(2) { 20 } else { 1_000_000 },
+    })
+}
+
+/// Whether these bytes are what was told, where the link was closed or nothing was left, or a beginning of that.
+fn is_written(ended: Option<bool>, told: &Told, taken: &[u8]) -> bool {
+    match ended {
+        Some(is_closed) => is_closed == told.is_closing && taken == told.bytes.as_slice(),
+        None => told.bytes.as_slice().starts_with(taken),
+    }
 }
 
 /// Steps a writer until nothing is left or the link is closed, which is answered; `None` where a write failed. Where
@@ -74,38 +108,55 @@ fn lists_of(
 ) -> Result<Vec<Vec<LinkOut>>, AllocError> {
     let mut lists = Vec::new(alloc);
     for _ in 0..chance.below(MOST_LISTS) {
-        let mut list = Vec::new(alloc);
-        for _ in 0..chance.below(MOST_OUTS) {
-            let link = if chance.once_in(3) { 8 } else { LINK };
-            let out = if chance.once_in(100) {
-                LinkOut::Close { link }
-            } else {
-                let bytes = Vec::from_slice(alloc, one_of(chance, units))?;
-                LinkOut::Write { link, bytes }
-            };
-            list.push(out)?;
-        }
-        lists.push(list)?;
+        lists.push(list_of(alloc, chance, units)?)?;
     }
     Ok(lists)
+}
+
+/// A list by chance.
+fn list_of(
+    alloc: Global,
+    chance: &mut Chance,
+    units: &[Vec<u8>],
+) -> Result<Vec<LinkOut>, AllocError> {
+    let mut list = Vec::new(alloc);
+    for _ in 0..chance.below(MOST_OUTS) {
+        list.push(out_of(alloc, chance, units)?)?;
+    }
+    Ok(list)
+}
+
+/// What a link is told, by chance.
+fn out_of(alloc: Global, chance: &mut Chance, units: &[Vec<u8>]) -> Result<LinkOut, AllocError> {
+    let link = if chance.once_in(3) { 8 } else { LINK };
+    if chance.once_in(100) {
+        return Ok(LinkOut::Close { link });
+    }
+    let bytes = Vec::from_slice(alloc, one_of(chance, units))?;
+    Ok(LinkOut::Write { link, bytes })
 }
 
 /// What the lists tell the link, the last list first, up to one that closes it; whether one does.
 fn tell_all(lists: &[Vec<LinkOut>], told: &mut Vec<u8>) -> Result<bool, AllocError> {
     for list in lists.iter().rev() {
-        let mut is_closing = false;
-        for out in list {
-            match out {
-                LinkOut::Write { link, bytes } if *link == LINK => {
-                    told.extend_from_slice(bytes.as_slice())?;
-                }
-                LinkOut::Close { link } if *link == LINK => is_closing = true,
-                _ => {}
-            }
-        }
-        if is_closing {
+        if tell(list.as_slice(), told)? {
             return Ok(true);
         }
     }
     Ok(false)
+}
+
+/// What a list tells the link; whether it closes it.
+fn tell(list: &[LinkOut], told: &mut Vec<u8>) -> Result<bool, AllocError> {
+    let mut is_closing = false;
+    for out in list {
+        match out {
+            LinkOut::Write { link, bytes } if *link == LINK => {
+                told.extend_from_slice(bytes.as_slice())?;
+            }
+            LinkOut::Close { link } if *link == LINK => is_closing = true,
+            _ => {}
+        }
+    }
+    Ok(is_closing)
 }
