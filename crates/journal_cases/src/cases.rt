@@ -11,7 +11,7 @@ use std::io::{self, Write};
 /// The pages of a case, as far as its lines have written them.
 #[derive(Drop)]
 pub struct Cases {
-    name: Vec<u8>,
+    name: String,
     pages: Vec<Vec<u8>>,
 }
 
@@ -19,14 +19,14 @@ impl Cases {
     /// No case yet.
     pub fn new(alloc: Global) -> Cases {
         Cases {
-            name: Vec::new(alloc),
+            name: String::new(alloc),
             pages: Vec::new(alloc),
         }
     }
 
     /// Does what a line says, and prints what comes of it.
-    pub fn step<W: Write>(&mut self, alloc: Global, text: &[u8], output: &mut W) -> io::Result<()> {
-        if text.is_empty() || text.starts_with(b"#") {
+    pub fn step<W: Write>(&mut self, alloc: Global, text: &str, output: &mut W) -> io::Result<()> {
+        if text.is_empty() || text.starts_with('#') {
             return Ok(());
         }
         let (word, rest) = first_word(text);
@@ -39,40 +39,45 @@ impl Cases {
         if self.write(alloc, word, rest)? {
             return Ok(());
         }
-        output.write_all(b"not understood: ")?;
-        output.write_all(text)?;
-        output.write_all(b"\n")
+        writeln!(output, "not understood: {text}")
     }
 
     /// Writes what a line has of a case; whether it is such a line.
-    fn write(&mut self, alloc: Global, word: &[u8], rest: &[u8]) -> Result<bool, AllocError> {
+    fn write(&mut self, alloc: Global, word: &str, rest: &str) -> Result<bool, AllocError> {
         match word {
-            b"case" => {
-                self.name = Vec::from_slice(alloc, rest)?;
+            "case" => {
+                self.name = String::from_str(alloc, rest)?;
                 self.pages = Vec::new(alloc);
                 Ok(true)
             }
-            b"page" => {
-                let Some(bytes) = bytes_said(alloc, rest)? else {
-                    return Ok(false);
-                };
-                self.pages.push(bytes)?;
-                Ok(true)
-            }
-            b"bytes" => match bytes_said(alloc, rest)? {
-                Some(bytes) => self.add(bytes.as_slice()),
-                None => Ok(false),
-            },
-            b"record" => match record_said(alloc, rest)? {
-                Some(bytes) => self.add(bytes.as_slice()),
-                None => Ok(false),
-            },
+            "page" => self.add_page(bytes_said(alloc, rest)?),
+            "bytes" => self.add(bytes_said(alloc, rest)?),
+            "record" => self.add(record_said(alloc, rest)?),
             _ => Ok(false),
         }
     }
 
+    /// Adds a page that begins with these bytes; whether there are some.
+    fn add_page(&mut self, bytes: Option<Vec<u8>>) -> Result<bool, AllocError> {
+        match bytes {
+            Some(bytes) => {
+                self.pages.push(bytes)?;
+                Ok(true)
+            }
+            None => Ok(false),
+        }
+    }
+
+    /// Adds bytes to the last page; whether there are some.
+    fn add(&mut self, bytes: Option<Vec<u8>>) -> Result<bool, AllocError> {
+        match bytes {
+            Some(bytes) => self.add_bytes(bytes.as_slice()),
+            None => Ok(false),
+        }
+    }
+
     /// Adds bytes to the last page; whether there is one.
-    fn add(&mut self, bytes: &[u8]) -> Result<bool, AllocError> {
+    fn add_bytes(&mut self, bytes: &[u8]) -> Result<bool, AllocError> {
         let Some(page) = self.pages.last_mut() else {
             return Ok(false);
         };
@@ -83,12 +88,8 @@ impl Cases {
     /// Prints whether the pages come to what is wanted.
     fn judge<W: Write>(&self, alloc: Global, wanted: Outcome, output: &mut W) -> io::Result<()> {
         let is_right = outcome(alloc, self.pages.as_slice())? == wanted;
-        output.write_all(self.name.as_slice())?;
-        output.write_all(if is_right {
-            b": right\n".as_slice()
-        } else {
-            b": WRONG\n".as_slice()
-        })
+        let verdict = if is_right { "right" } else { "WRONG" };
+        writeln!(output, "{}: {verdict}", self.name)
     }
 
     /// Prints what comes of all changes of a kind.
@@ -96,34 +97,31 @@ impl Cases {
         &mut self,
         alloc: Global,
         change: Change,
-        word: &[u8],
+        word: &str,
         output: &mut W,
     ) -> io::Result<()> {
         let tally = changed_all(alloc, change, &mut self.pages)?;
-        output.write_all(self.name.as_slice())?;
-        output.write_all(b", ")?;
-        output.write_all(word)?;
-        output.write_all(b": ")?;
+        write!(output, "{}, {word}: ", self.name)?;
         tally.print(output)
     }
 }
 
 /// The change of a word.
-fn change_named(word: &[u8]) -> Option<Change> {
+fn change_named(word: &str) -> Option<Change> {
     match word {
-        b"each-byte" => Some(Change::Bytes),
-        b"each-front" => Some(Change::Fronts),
-        b"each-exchange" => Some(Change::Exchanges),
-        b"each-cut" => Some(Change::Cuts),
+        "each-byte" => Some(Change::Bytes),
+        "each-front" => Some(Change::Fronts),
+        "each-exchange" => Some(Change::Exchanges),
+        "each-cut" => Some(Change::Cuts),
         _ => None,
     }
 }
 
 /// What pages have to come to: `day`, or `refused PAGE FAULT`.
-fn wanted(word: &[u8], rest: &[u8]) -> Option<Outcome> {
+fn wanted(word: &str, rest: &str) -> Option<Outcome> {
     match word {
-        b"day" => Some(Outcome::History),
-        b"refused" => {
+        "day" => Some(Outcome::History),
+        "refused" => {
             let (page, fault) = first_number(rest)?;
             Some(Outcome::Refused(u32::try_from(page).ok()?, fault_named(fault)?))
         }

@@ -103,18 +103,36 @@ fn exchange_all(
 ) -> Result<(), AllocError> {
     let page = page_at(pages, number);
     let places = places_of(alloc, page)?;
-    for first in places.windows(3) {
-        if let [a, b, c] = first {
-            let mut text = Vec::from_slice(alloc, between(page, 0, *a))?;
-            text.extend_from_slice(between(page, *b, *c))?;
-            text.extend_from_slice(between(page, *a, *b))?;
-            text.extend_from_slice(between(page, *c, page.len()))?;
-            let parts = vec![in alloc; text]?;
-            let whole = with_parts(alloc, pages, number, parts)?;
+    for three in places.windows(3) {
+        if let [a, b, c] = three {
+            let text = exchanged(alloc, page, [*a, *b, *c])?;
+            let whole = with_parts(alloc, pages, number, vec![in alloc; text]?)?;
             tally.count(outcome(alloc, whole.as_slice())?, number);
         }
     }
     Ok(())
+}
+
+/// A page in which the record from the first place to the second stands behind the one from there to the third.
+fn exchanged(alloc: Global, page: &[u8], places: [usize; 3]) -> Result<Vec<u8>, AllocError> {
+    let [a, b, c] = places;
+    let mut text = Vec::with_capacity(alloc, page.len())?;
+    add_exchanged(&mut text, page, a, b, c)?;
+    Ok(text)
+}
+
+/// Adds it.
+fn add_exchanged(
+    text: &mut Vec<u8>,
+    page: &[u8],
+    a: usize,
+    b: usize,
+    c: usize,
+) -> Result<(), AllocError> {
+    text.extend_from_slice(between(page, 0, a))?;
+    text.extend_from_slice(between(page, b, c))?;
+    text.extend_from_slice(between(page, a, b))?;
+    text.extend_from_slice(between(page, c, page.len()))
 }
 
 /// A page is cut into two and into three, wherever a record ends.

@@ -10,15 +10,17 @@ pub fn outcome(alloc: Global, pages: &[Vec<u8>]) -> Result<Outcome, AllocError> 
     match History::read(alloc, pages) {
         Err((_, PageFault::NoMemory)) => Err(AllocError),
         Err((page, fault)) => Ok(Outcome::Refused(page, fault)),
-        Ok(history) => {
-            let again = pushed_again(alloc, &history)?;
-            let is_same = has_records(alloc, again.pages(), pages)?;
-            Ok(if is_same {
-                Outcome::History
-            } else {
-                Outcome::Other
-            })
-        }
+        Ok(history) => outcome_of(alloc, &history, pages),
+    }
+}
+
+/// What pages come to that are this history.
+fn outcome_of(alloc: Global, history: &History, pages: &[Vec<u8>]) -> Result<Outcome, AllocError> {
+    let again = pushed_again(alloc, history)?;
+    if has_records(alloc, again.pages(), pages)? {
+        Ok(Outcome::History)
+    } else {
+        Ok(Outcome::Other)
     }
 }
 

@@ -20,7 +20,7 @@ struct Head {
 
 /// The record that a text says: kind, source, link, moment, and the payload as `bytes_said` has it. `None` where it is
 /// none.
-pub fn record_said(alloc: Global, text: &[u8]) -> Result<Option<Vec<u8>>, AllocError> {
+pub fn record_said(alloc: Global, text: &str) -> Result<Option<Vec<u8>>, AllocError> {
     let Some((head, rest)) = head_said(text) else {
         return Ok(None);
     };
@@ -31,7 +31,7 @@ pub fn record_said(alloc: Global, text: &[u8]) -> Result<Option<Vec<u8>>, AllocE
 }
 
 /// Kind, source, link and moment in front of a text, and what stands behind them.
-fn head_said(text: &[u8]) -> Option<(Head, &[u8])> {
+fn head_said(text: &str) -> Option<(Head, &str)> {
     let (kind, rest) = first_number(text)?;
     let (source, rest) = first_number(rest)?;
     let (link, rest) = first_number(rest)?;

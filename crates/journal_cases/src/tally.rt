@@ -63,20 +63,11 @@ impl Tally {
 
     /// Prints the counts.
     pub fn print<W: Write>(self, output: &mut W) -> io::Result<()> {
-        print_count(output, b"refused: head ", self.head)?;
-        print_count(output, b", kind ", self.kind)?;
-        print_count(output, b", cut short ", self.cut_short)?;
-        print_count(output, b", payload ", self.payload)?;
-        print_count(output, b", order ", self.order)?;
-        print_count(output, b"; read: ", self.histories)?;
-        print_count(output, b"; wrong: ", self.wrong)?;
-        output.write_all(b"\n")
+        write!(
+            output,
+            "refused: head {}, kind {}, cut short {}, payload {}, order {}",
+            self.head, self.kind, self.cut_short, self.payload, self.order
+        )?;
+        writeln!(output, "; read: {}; wrong: {}", self.histories, self.wrong)
     }
-}
-
-/// A text, and a number.
-fn print_count<W: Write>(output: &mut W, text: &[u8], count: u64) -> io::Result<()> {
-    let mut digits = itoa::Buffer::new();
-    output.write_all(text)?;
-    output.write_all(digits.format(count).as_bytes())
 }

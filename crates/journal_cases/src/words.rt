@@ -5,58 +5,58 @@ use gate_journal::PageFault;
 use std::alloc::{AllocError, Global};
 
 /// The first word of a text, and what stands behind the space after it: nothing where there is no space.
-pub fn first_word(text: &[u8]) -> (&[u8], &[u8]) {
-    match text.iter().position(|byte| *byte == b' ') {
-        Some(at) => (&text[..at], &text[at + 1..]),
-        None => (text, &[]),
+pub fn first_word(text: &str) -> (&str, &str) {
+    match text.split_once(' ') {
+        Some(parts) => parts,
+        None => (text, ""),
     }
 }
 
 /// The number of a text's first word, and what stands behind it.
-pub fn first_number(text: &[u8]) -> Option<(u64, &[u8])> {
+pub fn first_number(text: &str) -> Option<(u64, &str)> {
     let (word, rest) = first_word(text);
-    Some((number_of(word)?, rest))
+    Some((number_of(word.as_bytes())?, rest))
 }
 
 /// The fault of a word.
-pub fn fault_named(word: &[u8]) -> Option<PageFault> {
+pub fn fault_named(word: &str) -> Option<PageFault> {
     match word {
-        b"head" => Some(PageFault::Head),
-        b"kind" => Some(PageFault::Kind),
-        b"cut" => Some(PageFault::CutShort),
-        b"payload" => Some(PageFault::Payload),
-        b"order" => Some(PageFault::Order),
+        "head" => Some(PageFault::Head),
+        "kind" => Some(PageFault::Kind),
+        "cut" => Some(PageFault::CutShort),
+        "payload" => Some(PageFault::Payload),
+        "order" => Some(PageFault::Order),
         _ => None,
     }
 }
 
 /// The bytes that a text says: `text TEXT`, in which `|` stands for SOH; `hex HEX`; `zeros COUNT`; `field COUNT`, a
 /// field of so many bytes; nothing for nothing. `None` for any other.
-pub fn bytes_said(alloc: Global, text: &[u8]) -> Result<Option<Vec<u8>>, AllocError> {
+pub fn bytes_said(alloc: Global, text: &str) -> Result<Option<Vec<u8>>, AllocError> {
     let (word, rest) = first_word(text);
     match word {
-        b"" => Ok(Some(Vec::new(alloc))),
-        b"text" => Ok(Some(text_said(alloc, rest)?)),
-        b"hex" => hex_said(alloc, rest),
-        b"zeros" => many_said(alloc, b"", 0, b"", rest),
-        b"field" => many_said(alloc, b"1=", b'0', b"\x01", rest),
+        "" => Ok(Some(Vec::new(alloc))),
+        "text" => Ok(Some(text_said(alloc, rest)?)),
+        "hex" => hex_said(alloc, rest),
+        "zeros" => many_said(alloc, b"", 0, b"", rest),
+        "field" => many_said(alloc, b"1=", b'0', b"\x01", rest),
         _ => Ok(None),
     }
 }
 
 /// A text in which `|` stands for SOH.
-fn text_said(alloc: Global, text: &[u8]) -> Result<Vec<u8>, AllocError> {
+fn text_said(alloc: Global, text: &str) -> Result<Vec<u8>, AllocError> {
     let mut bytes = Vec::with_capacity(alloc, text.len())?;
-    for byte in text {
+    for byte in text.as_bytes() {
         bytes.push(if *byte == b'|' { 1 } else { *byte })?;
     }
     Ok(bytes)
 }
 
 /// The bytes of hexadecimal digits, two a byte.
-fn hex_said(alloc: Global, digits: &[u8]) -> Result<Option<Vec<u8>>, AllocError> {
+fn hex_said(alloc: Global, digits: &str) -> Result<Option<Vec<u8>>, AllocError> {
     let mut bytes = Vec::new(alloc);
-    let mut rest = digits;
+    let mut rest = digits.as_bytes();
     while let [high, low, after @ ..] = rest {
         match byte_of(*high, *low) {
             Some(byte) => bytes.push(byte)?,
@@ -74,22 +74,33 @@ fn byte_of(high: u8, low: u8) -> Option<u8> {
     Some((high * 16 + low) as u8)
 }
 
-/// So many bytes in all: the first ones, one again and again, and the last ones.
+/// So many bytes in all: the first ones, one again and again, and the last ones. `None` where the count is none.
 fn many_said(
     alloc: Global,
     first: &[u8],
     byte: u8,
     last: &[u8],
-    count: &[u8],
+    count: &str,
 ) -> Result<Option<Vec<u8>>, AllocError> {
-    let Some(count) = number_of(count) else {
-        return Ok(None);
-    };
+    match number_of(count.as_bytes()) {
+        Some(count) => Ok(Some(many(alloc, first, byte, last, count)?)),
+        None => Ok(None),
+    }
+}
+
+/// The same of this count.
+fn many(
+    alloc: Global,
+    first: &[u8],
+    byte: u8,
+    last: &[u8],
+    count: u64,
+) -> Result<Vec<u8>, AllocError> {
     let fixed = first.len().saturating_add(last.len()) as u64;
     let mut bytes = Vec::from_slice(alloc, first)?;
     for _ in fixed..count {
         bytes.push(byte)?;
     }
     bytes.extend_from_slice(last)?;
-    Ok(Some(bytes))
+    Ok(bytes)
 }
