@@ -55,10 +55,10 @@ fn put_all<K: DeskName, R: Wait>(
     shown: &mut Vec<u8>,
 ) -> Result<(), AllocError> {
     put_and_turn(rt, alloc, shared, client, up(), shown)?;
-    let logon = message(alloc, b'A', 1, b"98=0\x01108=30\x01")?;
+    let logon = message(alloc, 'A', 1, "98=0\x01108=30\x01")?;
     put_and_turn(rt, alloc, shared, client, logon, shown)?;
     for number in 2..END {
-        let test = message(alloc, b'1', number, b"112=ping\x01")?;
+        let test = message(alloc, '1', number, "112=ping\x01")?;
         put_and_turn(rt, alloc, shared, client, test, shown)?;
     }
     Ok(())
