@@ -27,10 +27,20 @@ fn run(rt: &HostRuntime) -> io::Result<()> {
     let Ok(kept) = script_history(alloc, &mut rt.reader()) else {
         return Err(io::Error::from(ErrorKind::InvalidData));
     };
-    let settings = fixed_settings(alloc)?;
-    let mut core = Core::new(alloc, &settings)?;
     let events = kept.events(alloc)?;
-    step_all(rt, &mut core, events.as_slice())
+    step_anew(rt, events.as_slice())
+}
+
+/// Steps the events on a core that no event was given.
+fn step_anew(rt: &HostRuntime, events: &[Event]) -> io::Result<()> {
+    let mut core = new_core(rt.alloc())?;
+    step_all(rt, &mut core, events)
+}
+
+/// A core of every script's settings.
+fn new_core(alloc: Global) -> Result<Core, AllocError> {
+    let settings = fixed_settings(alloc)?;
+    Core::new(alloc, &settings)
 }
 
 /// Steps the events, and prints what those behind the logons tell.
