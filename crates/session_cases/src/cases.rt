@@ -8,9 +8,9 @@ use std::io::{self, Write};
 /// The case that is run, and what it wants of its last step.
 #[derive(Drop)]
 pub struct Cases {
-    name: Vec<u8>,
+    name: String,
     conversation: Conversation,
-    wanted: Vec<u8>,
+    wanted: String,
     is_right: bool,
 }
 
@@ -18,20 +18,20 @@ impl Cases {
     /// No case yet.
     pub fn new(alloc: Global) -> Result<Cases, AllocError> {
         Ok(Cases {
-            name: Vec::new(alloc),
+            name: String::new(alloc),
             conversation: Conversation::new(alloc)?,
-            wanted: Vec::new(alloc),
+            wanted: String::new(alloc),
             is_right: true,
         })
     }
 
     /// Does what a line says. What a step shows is compared with what is wanted of it before the next step.
-    pub fn step<W: Write>(&mut self, alloc: Global, text: &[u8], output: &mut W) -> io::Result<()> {
+    pub fn step<W: Write>(&mut self, alloc: Global, text: &str, output: &mut W) -> io::Result<()> {
         match line_of(text) {
             Some(Line::Remark) => Ok(()),
             Some(Line::Wanted(shown)) => {
-                self.wanted.extend_from_slice(shown)?;
-                self.wanted.push(b'\n')?;
+                self.wanted.push_str(shown)?;
+                self.wanted.push('\n')?;
                 Ok(())
             }
             Some(Line::Case(name)) => {
@@ -41,29 +41,28 @@ impl Cases {
             }
             Some(line) => {
                 self.compare(output)?;
-                let is_understood = self.conversation.step(alloc, line)?;
-                self.note(is_understood, text, output)
+                if self.conversation.step(alloc, line)? {
+                    Ok(())
+                } else {
+                    self.note(text, output)
+                }
             }
-            None => self.note(false, text, output),
+            None => self.note(text, output),
         }
     }
 
     /// Ends the last case, and says whether all that it showed was as it wanted.
     pub fn end<W: Write>(&mut self, output: &mut W) -> io::Result<()> {
         self.compare(output)?;
-        if !self.name.is_empty() {
-            output.write_all(self.name.as_slice())?;
-            output.write_all(if self.is_right {
-                b": right\n".as_slice()
-            } else {
-                b": WRONG\n".as_slice()
-            })?;
+        if self.name.as_str().is_empty() {
+            return Ok(());
         }
-        Ok(())
+        let verdict = if self.is_right { "right" } else { "WRONG" };
+        writeln!(output, "{}: {verdict}", self.name)
     }
 
-    fn begin(&mut self, alloc: Global, name: &[u8]) -> Result<(), AllocError> {
-        self.name = Vec::from_slice(alloc, name)?;
+    fn begin(&mut self, alloc: Global, name: &str) -> Result<(), AllocError> {
+        self.name = String::from_str(alloc, name)?;
         self.conversation = Conversation::new(alloc)?;
         self.is_right = true;
         Ok(())
@@ -71,30 +70,23 @@ impl Cases {
 
     /// Compares what the last step showed with what was wanted of it.
     fn compare<W: Write>(&mut self, output: &mut W) -> io::Result<()> {
-        if self.conversation.shown() != self.wanted.as_slice() {
+        if self.conversation.shown() != self.wanted.as_str().as_bytes() {
             self.is_right = false;
-            output.write_all(b"wanted:\n")?;
-            output.write_all(self.wanted.as_slice())?;
-            output.write_all(b"shown:\n")?;
-            output.write_all(self.conversation.shown())?;
+            self.print_both(output)?;
         }
         self.wanted.clear();
         Ok(())
     }
 
+    /// Prints what was wanted, and what was shown.
+    fn print_both<W: Write>(&self, output: &mut W) -> io::Result<()> {
+        write!(output, "wanted:\n{}shown:\n", self.wanted)?;
+        output.write_all(self.conversation.shown())
+    }
+
     /// Notes a line that isn't understood.
-    fn note<W: Write>(
-        &mut self,
-        is_understood: bool,
-        text: &[u8],
-        output: &mut W,
-    ) -> io::Result<()> {
-        if !is_understood {
-            self.is_right = false;
-            output.write_all(b"not understood: ")?;
-            output.write_all(text)?;
-            output.write_all(b"\n")?;
-        }
-        Ok(())
+    fn note<W: Write>(&mut self, text: &str, output: &mut W) -> io::Result<()> {
+        self.is_right = false;
+        writeln!(output, "not understood: {text}")
     }
 }

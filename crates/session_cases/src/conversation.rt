@@ -94,7 +94,7 @@ impl Conversation {
     }
 
     /// Issues a body; false where the text is none.
-    fn issue(&mut self, alloc: Global, text: &[u8]) -> Result<bool, AllocError> {
+    fn issue(&mut self, alloc: Global, text: &str) -> Result<bool, AllocError> {
         let Some(body) = body_in(alloc, text)? else {
             return Ok(false);
         };
@@ -174,7 +174,7 @@ impl Conversation {
 }
 
 /// The report or the cancel reject that a text's fields say; none where they say neither.
-fn body_in(alloc: Global, text: &[u8]) -> Result<Option<AppBody>, AllocError> {
+fn body_in(alloc: Global, text: &str) -> Result<Option<AppBody>, AllocError> {
     let Some(fields) = fields_of(alloc, text)? else {
         return Ok(None);
     };

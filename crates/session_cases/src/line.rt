@@ -3,12 +3,12 @@
 use decimal_digits::number_of;
 
 /// What a line of the cases says.
-#[derive(Clone, Copy, Debug, PartialEq, Eq)]
+#[derive(Clone, Copy)]
 pub enum Line<'a> {
     /// Nothing: it is empty, or a remark.
     Remark,
     /// A new case, by its name: a new session whose link comes up at moment 0.
-    Case(&'a [u8]),
+    Case(&'a str),
     /// The moment of what follows, in milliseconds.
     At(u64),
     /// Frames are shown whole from here on.
@@ -20,59 +20,43 @@ pub enum Line<'a> {
     /// Time passed.
     Tick,
     /// A body of the application is issued, by its fields.
-    Issued(&'a [u8]),
+    Issued(&'a str),
     /// A message of C1 to GATE, without their names.
-    Message(&'a [u8]),
+    Message(&'a str),
     /// All fields of a message.
-    Raw(&'a [u8]),
+    Raw(&'a str),
     /// Bytes of the link, from which frames are read first.
-    Bytes(&'a [u8]),
+    Bytes(&'a str),
     /// What the last step has to show next.
-    Wanted(&'a [u8]),
+    Wanted(&'a str),
 }
 
 /// What a line says; none where it isn't understood.
-pub fn line_of(text: &[u8]) -> Option<Line<'_>> {
-    if text.is_empty() || text.starts_with(b"#") {
+pub fn line_of(text: &str) -> Option<Line<'_>> {
+    if text.starts_with('#') {
         return Some(Line::Remark);
     }
-    if text == b"whole".as_slice() {
-        return Some(Line::Whole);
+    match text {
+        "" => Some(Line::Remark),
+        "whole" => Some(Line::Whole),
+        "up" => Some(Line::Up),
+        "gone" => Some(Line::Gone),
+        "tick" => Some(Line::Tick),
+        _ => line_with_text(text),
     }
-    if text == b"up".as_slice() {
-        return Some(Line::Up);
-    }
-    if text == b"gone".as_slice() {
-        return Some(Line::Gone);
-    }
-    if text == b"tick".as_slice() {
-        return Some(Line::Tick);
-    }
-    line_with_text(text)
 }
 
 /// A line that begins with a word of its own.
-fn line_with_text(text: &[u8]) -> Option<Line<'_>> {
-    if let Some(name) = text.strip_prefix(b"case ") {
-        return Some(Line::Case(name));
+fn line_with_text(text: &str) -> Option<Line<'_>> {
+    let (word, rest) = text.split_once(' ')?;
+    match word {
+        "case" => Some(Line::Case(rest)),
+        "at" => Some(Line::At(number_of(rest.as_bytes())?)),
+        "C1" => Some(Line::Message(rest)),
+        "raw" => Some(Line::Raw(rest)),
+        "bytes" => Some(Line::Bytes(rest)),
+        "issue" => Some(Line::Issued(rest)),
+        "->" => Some(Line::Wanted(rest)),
+        _ => None,
     }
-    if let Some(digits) = text.strip_prefix(b"at ") {
-        return Some(Line::At(number_of(digits)?));
-    }
-    if let Some(fields) = text.strip_prefix(b"C1 ") {
-        return Some(Line::Message(fields));
-    }
-    if let Some(fields) = text.strip_prefix(b"raw ") {
-        return Some(Line::Raw(fields));
-    }
-    if let Some(bytes) = text.strip_prefix(b"bytes ") {
-        return Some(Line::Bytes(bytes));
-    }
-    if let Some(fields) = text.strip_prefix(b"issue ") {
-        return Some(Line::Issued(fields));
-    }
-    if let Some(shown) = text.strip_prefix(b"-> ") {
-        return Some(Line::Wanted(shown));
-    }
-    None
 }

@@ -12,10 +12,16 @@ use cases::Cases;
 use std::io::{self, BufRead, BufReader};
 
 fn main(rt: HostRuntime) -> io::Result<()> {
+    let mut cases = Cases::new(rt.alloc())?;
+    run(&rt, &mut cases)
+}
+
+/// Runs the cases that standard input has.
+fn run(rt: &HostRuntime, cases: &mut Cases) -> io::Result<()> {
     let alloc = rt.alloc();
-    let mut cases = Cases::new(alloc)?;
     for line in BufReader::new(alloc, rt.reader())?.lines(alloc) {
-        cases.step(alloc, line?.as_str().as_bytes(), &mut io::writer(&rt))?;
+        let line = line?;
+        cases.step(alloc, line.as_str(), &mut io::writer(rt))?;
     }
-    cases.end(&mut io::writer(&rt))
+    cases.end(&mut io::writer(rt))
 }

@@ -6,26 +6,26 @@ use itoa::Buffer;
 use std::alloc::{AllocError, Global};
 
 /// The bytes with SOH for each bar.
-pub fn with_soh(alloc: Global, text: &[u8]) -> Result<Vec<u8>, AllocError> {
+pub fn with_soh(alloc: Global, text: &str) -> Result<Vec<u8>, AllocError> {
     let mut bytes = Vec::with_capacity(alloc, text.len())?;
-    for byte in text {
+    for byte in text.as_bytes() {
         bytes.push(if *byte == b'|' { 1 } else { *byte })?;
     }
     Ok(bytes)
 }
 
 /// The fields of a text in which a bar ends each field but the last; none where it is no fields.
-pub fn fields_of(alloc: Global, text: &[u8]) -> Result<Option<Fields>, AllocError> {
+pub fn fields_of(alloc: Global, text: &str) -> Result<Option<Fields>, AllocError> {
     let mut bytes = with_soh(alloc, text)?;
     bytes.push(1)?;
     split(alloc, bytes.as_slice())
 }
 
 /// The fields of a message of C1 to GATE: its text, with the names behind.
-pub fn from_client(alloc: Global, text: &[u8]) -> Result<Option<Fields>, AllocError> {
-    let mut whole = Vec::from_slice(alloc, text)?;
-    whole.extend_from_slice(b"|49=C1|56=GATE")?;
-    fields_of(alloc, whole.as_slice())
+pub fn from_client(alloc: Global, text: &str) -> Result<Option<Fields>, AllocError> {
+    let mut whole = String::from_str(alloc, text)?;
+    whole.push_str("|49=C1|56=GATE")?;
+    fields_of(alloc, whole.as_str())
 }
 
 /// Whether a field is shown only in whole frames: framing, names, moments.
