@@ -1,6 +1,7 @@
 //! FIX messages as types: read from fields, and written in their own order.
 
 use crate::fields::{fields_of, shown};
+use fix_fields::PrintedFields;
 use fix_types::{
     CancelReject, CancelRequest, Fields, NewOrder, ReplaceRequest, Report, SessionRefusal,
     TextFault, TextWire,
@@ -117,14 +118,26 @@ fn body_of(alloc: Global, fields: &Fields) -> Result<String, AllocError> {
 
 fn reject_body(alloc: Global, fields: &Fields) -> Result<String, AllocError> {
     match read(CancelReject::get(alloc, fields))? {
-        Ok(reject) => shown(alloc, reject.body(alloc)?.text()),
+        Ok(reject) => shown_reject(alloc, &reject),
         Err(refusal) => refused(alloc, refusal),
     }
 }
 
+fn shown_reject(alloc: Global, reject: &CancelReject) -> Result<String, AllocError> {
+    let mut body = PrintedFields::with_capacity(alloc, 0)?;
+    reject.push_body(&mut body)?;
+    shown(alloc, body.text())
+}
+
 fn report_body(alloc: Global, fields: &Fields) -> Result<String, AllocError> {
     match read(Report::get(alloc, fields))? {
-        Ok(report) => shown(alloc, report.body(alloc)?.text()),
+        Ok(report) => shown_report(alloc, &report),
         Err(refusal) => refused(alloc, refusal),
     }
+}
+
+fn shown_report(alloc: Global, report: &Report) -> Result<String, AllocError> {
+    let mut body = PrintedFields::with_capacity(alloc, 0)?;
+    report.push_body(&mut body)?;
+    shown(alloc, body.text())
 }
