@@ -141,6 +141,19 @@ fn connectors<'a, R>(
     Ok(ports)
 }
 
+/// A link for each client, and one for each port.
+fn plan_of<'a, R>(
+    rt: &'a R,
+    alloc: Global,
+    clients: Vec<TcpListener>,
+    addresses: &'a [String],
+    is_over: &'a AtomicBool,
+) -> Result<RunPlan<Acceptor<'a, R>, Connector<'a, R>>, AllocError> {
+    let clients = acceptors(rt, alloc, clients, is_over)?;
+    let ports = connectors(rt, alloc, addresses, is_over)?;
+    Ok(RunPlan { clients, ports })
+}
+
 /// Settings of all clients, as they are read.
 fn all_settings(alloc: Global) -> Result<SettingsFile, Fail> {
     let Ok(text) = settings(alloc) else {
@@ -152,22 +165,20 @@ fn all_settings(alloc: Global) -> Result<SettingsFile, Fail> {
 #[test]
 fn all_clients_on_all_ports_come_and_go(rt: HostRuntime) -> Result<(), Fail> {
     let alloc = rt.alloc();
-    let Ok((clients, addresses)) = listeners(&rt, alloc, NAMES.len()) else {
+    let rt = &rt;
+    let Ok((clients, addresses)) = listeners(rt, alloc, NAMES.len()) else {
         return Err(Fail::new("no listener"));
     };
-    let Ok((markets, market_addresses)) = listeners(&rt, alloc, PORTS) else {
+    let Ok((markets, market_addresses)) = listeners(rt, alloc, PORTS) else {
         return Err(Fail::new("no listener"));
     };
-    let is_over = AtomicBool::new(false);
-    let plan = RunPlan {
-        clients: acceptors(&rt, alloc, clients, &is_over)?,
-        ports: connectors(&rt, alloc, market_addresses.as_slice(), &is_over)?,
-    };
-    let is_past = AtomicBool::new(false);
+    let (is_over, is_past) = (AtomicBool::new(false), AtomicBool::new(false));
+    let (is_over, is_past) = (&is_over, &is_past);
+    let plan = plan_of(rt, alloc, clients, market_addresses.as_slice(), is_over)?;
     let addresses = addresses.as_slice();
-    let hasher = RandomState::new(&rt)?;
+    let hasher = RandomState::new(rt)?;
     serve_all(
-        &rt, alloc, hasher, plan, markets, addresses, &is_over, &is_past,
+        rt, alloc, hasher, plan, markets, addresses, is_over, is_past,
     )
 }
 

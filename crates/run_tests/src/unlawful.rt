@@ -119,20 +119,23 @@ fn is_refused_and_goes<R: Clock, S: Read + Write + Drop>(
 #[test]
 fn a_payload_outside_the_profile_ends_its_port_alone(rt: HostRuntime) -> Result<(), Fail> {
     let alloc = rt.alloc();
-    let (client, address) = listening(&rt, alloc)?;
-    let (market, market_address) = listening(&rt, alloc)?;
+    let rt = &rt;
+    let (client, address) = listening(rt, alloc)?;
+    let (market, market_address) = listening(rt, alloc)?;
     let is_over = AtomicBool::new(false);
+    let is_over = &is_over;
     let plan = RunPlan {
-        clients: vec![in alloc; Acceptor::of_listener(&rt, client, 1, &is_over)]?,
-        ports: vec![in alloc; Connector::new(&rt, &market_address, 1, &is_over)]?,
+        clients: vec![in alloc; Acceptor::of_listener(rt, client, 1, is_over)]?,
+        ports: vec![in alloc; Connector::new(rt, &market_address, 1, is_over)]?,
     };
     let flags = Flags {
         is_past: AtomicBool::new(false),
         has_closed: AtomicBool::new(false),
     };
-    let hasher = RandomState::new(&rt)?;
+    let flags = &flags;
+    let hasher = RandomState::new(rt)?;
     let address = address.as_str();
-    serve_day(&rt, alloc, hasher, plan, market, address, &is_over, &flags)
+    serve_day(rt, alloc, hasher, plan, market, address, is_over, flags)
 }
 
 /// Whether the gateway has come to its end, and whether it has closed its port's link.
