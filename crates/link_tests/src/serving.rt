@@ -318,6 +318,39 @@ fn line_of<'a, P: Drop, R>(
     }
 }
 
+/// Serves the lines of clients.
+fn serve_clients<'a, R: Threads + Wait + time::Clock + Sync>(
+    rt: &'a R,
+    alloc: Global,
+    lines: Vec<TestLine<'a, ClientNumber, R>>,
+) -> Result<Vec<TestLine<'a, ClientNumber, R>>, Fail> {
+    match serve(rt, alloc, lines) {
+        Ok(lines) => Ok(lines),
+        Err(_) => Err(Fail::new("not served")),
+    }
+}
+
+/// Serves the line of the first client, whose one link brings a heartbeat.
+fn serve_one_client<'a, R: Threads + Wait + time::Clock + Sync>(
+    rt: &'a R,
+    alloc: Global,
+    seen: &'a Seen,
+    reader: Waiting<'a, R>,
+    writer: Waiting<'a, R>,
+) -> Result<Vec<TestLine<'a, ClientNumber, R>>, Fail> {
+    let links = links_of(alloc, HEARTBEAT.as_slice(), 1, 0, seen);
+    let line = line_of(rt, ClientNumber::new(1), links, reader, writer);
+    serve_clients(rt, alloc, vec![in alloc; line]?)
+}
+
+fn two_lines<'a, R>(
+    alloc: Global,
+    one: TestLine<'a, ClientNumber, R>,
+    two: TestLine<'a, ClientNumber, R>,
+) -> Result<Vec<TestLine<'a, ClientNumber, R>>, Fail> {
+    Ok(vec![in alloc; one, two]?)
+}
+
 /// The line of a client of this number, whose one link brings these bytes and is told a heartbeat, which sets
 /// `is_taken` as it is taken.
 fn told_line<'a, R>(
@@ -372,9 +405,7 @@ fn waits_for_another<'a, R: Threads + Wait + time::Clock + Abort + Sync>(
         seen,
         &seen.second,
     )?;
-    let Ok(lines) = serve(rt, alloc, vec![in alloc; one, two]?) else {
-        return Err(Fail::new("not served"));
-    };
+    let lines = serve_clients(rt, alloc, two_lines(alloc, one, two)?)?;
     look_at_both(rt, lines.as_slice(), seen)
 }
 
@@ -427,9 +458,7 @@ fn waits_for_itself<'a, R: Threads + Wait + time::Clock + Abort + Sync>(
         seen,
         &seen.never,
     )?;
-    let Ok(lines) = serve(rt, alloc, vec![in alloc; one, two]?) else {
-        return Err(Fail::new("not served"));
-    };
+    let lines = serve_clients(rt, alloc, two_lines(alloc, one, two)?)?;
     look_at_own(rt, lines.as_slice(), seen)
 }
 
@@ -471,25 +500,25 @@ fn three_links<'a, R: Threads + Wait + time::Clock + Abort + Sync>(
     alloc: Global,
     seen: &'a Seen,
 ) -> Result<(), Fail> {
-    let links = links_of(alloc, b"\x00\x01H\x00\x01H".as_slice(), 3, 2, seen);
-    let reader = reading_gate(rt, alloc, seen, 0, &seen.never);
     let writer = writing_gate(rt, alloc, seen, LinkOut::Close { link: 2 }, &seen.never)?;
+    let reader = reading_gate(rt, alloc, seen, 0, &seen.never);
+    let links = links_of(alloc, b"\x00\x01H\x00\x01H".as_slice(), 3, 2, seen);
     let line = line_of(rt, PortNumber::new(1), links, reader, writer);
-    let Ok(lines) = serve(rt, alloc, vec![in alloc; line]?) else {
-        return Err(Fail::new("not served"));
-    };
-    let [line] = lines.as_slice() else {
-        return Err(Fail::new("not one line"));
-    };
-    look_at_three(rt, alloc, line)
+    match serve(rt, alloc, vec![in alloc; line]?) {
+        Ok(lines) => look_at_three(rt, alloc, lines.as_slice()),
+        Err(_) => Err(Fail::new("not served")),
+    }
 }
 
 /// Three links were up, and came to their end; opening one failed.
 fn look_at_three<'a, R: Abort>(
     rt: &'a R,
     alloc: Global,
-    line: &TestLine<'a, PortNumber, R>,
+    lines: &[TestLine<'a, PortNumber, R>],
 ) -> Result<(), Fail> {
+    let [line] = lines else {
+        return Err(Fail::new("not one line"));
+    };
     assert!(rt; line.fault == Some(LinkFault::ReadFailed));
     kept(rt, line, 12);
     assert!(rt; line.opener.ends.len() == 3);
@@ -517,13 +546,9 @@ fn closed_link<'a, R: Threads + Wait + time::Clock + Abort + Sync>(
     alloc: Global,
     seen: &'a Seen,
 ) -> Result<(), Fail> {
-    let links = links_of(alloc, HEARTBEAT.as_slice(), 1, 0, seen);
-    let reader = reading_gate(rt, alloc, seen, 0, &seen.never);
     let writer = writing_gate(rt, alloc, seen, LinkOut::Close { link: 1 }, &seen.never)?;
-    let line = line_of(rt, ClientNumber::new(1), links, reader, writer);
-    let Ok(lines) = serve(rt, alloc, vec![in alloc; line]?) else {
-        return Err(Fail::new("not served"));
-    };
+    let reader = reading_gate(rt, alloc, seen, 0, &seen.never);
+    let lines = serve_one_client(rt, alloc, seen, reader, writer)?;
     look_at_closed(rt, lines.as_slice(), seen)
 }
 
@@ -556,13 +581,9 @@ fn told_too_late<'a, R: Threads + Wait + time::Clock + Abort + Sync>(
     alloc: Global,
     seen: &'a Seen,
 ) -> Result<(), Fail> {
-    let links = links_of(alloc, HEARTBEAT.as_slice(), 1, 0, seen);
-    let reader = reading_gate(rt, alloc, seen, 3, &seen.first);
     let writer = gate_of_late_lists(rt, alloc, seen)?;
-    let line = line_of(rt, ClientNumber::new(1), links, reader, writer);
-    let Ok(lines) = serve(rt, alloc, vec![in alloc; line]?) else {
-        return Err(Fail::new("not served"));
-    };
+    let reader = reading_gate(rt, alloc, seen, 3, &seen.first);
+    let lines = serve_one_client(rt, alloc, seen, reader, writer)?;
     look_at_closed(rt, lines.as_slice(), seen)?;
     assert!(rt; !seen.is_failed.load(Ordering::SeqCst));
     assert!(rt; seen.bytes.load(Ordering::SeqCst) == 0);

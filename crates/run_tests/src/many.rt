@@ -1,14 +1,18 @@
 //! As many clients and ports as there may be.
 
+use crate::threads::ended;
 use gateway_demo::{Acceptor, Client, Connector, DemoFault, Opener, connected, loopback};
-use gateway_run::{RunPlan, SettingsFile, audit_day, read, run};
-use std::alloc::Global;
+use gateway_run::{Day, RunFault, RunPlan, SettingsFile, audit_day, read, run};
+use std::alloc::{AllocError, Global};
 use std::hash::RandomState;
 use std::io::Write;
 use std::net::{Net, TcpListener, TcpStream};
+use std::process::Abort;
+use std::sync::Wait;
 use std::sync::atomic::{AtomicBool, Ordering};
 use std::test::Fail;
 use std::thread;
+use std::thread::Threads;
 use std::time::{Clock, Duration};
 
 const NAMES: [&str; 64] = [
@@ -50,15 +54,25 @@ fn come_and_go<R: Clock + Net<Listener = TcpListener, Stream = TcpStream>>(
 ) -> Result<(), DemoFault> {
     let mut clients = Vec::with_capacity(alloc, NAMES.len())?;
     for (name, address) in NAMES.into_iter().zip(addresses) {
-        let stream = connected(rt, address, Duration::from_secs(10))?;
-        let mut client = Client::new(rt, alloc, name, stream);
-        client.log_on()?;
-        clients.push(client)?;
+        clients.push(logged_on(rt, alloc, name, address)?)?;
     }
     for client in &mut clients {
         client.log_out()?;
     }
     Ok(())
+}
+
+/// A client that is logged on.
+fn logged_on<'a, R: Clock + Net<Listener = TcpListener, Stream = TcpStream>>(
+    rt: &'a R,
+    alloc: Global,
+    name: &'static str,
+    address: &str,
+) -> Result<Client<'a, R, TcpStream>, DemoFault> {
+    let stream = connected(rt, address, Duration::from_secs(10))?;
+    let mut client = Client::new(rt, alloc, name, stream);
+    client.log_on()?;
+    Ok(client)
 }
 
 /// Accepts a link at each of these, and lets all go once `is_past` is set.
@@ -99,6 +113,34 @@ fn listeners<R: Net<Listener = TcpListener, Stream = TcpStream>>(
     Ok((listeners, addresses))
 }
 
+/// One link for each client.
+fn acceptors<'a, R>(
+    rt: &'a R,
+    alloc: Global,
+    listeners: Vec<TcpListener>,
+    is_over: &'a AtomicBool,
+) -> Result<Vec<Acceptor<'a, R>>, AllocError> {
+    let mut clients = Vec::with_capacity(alloc, listeners.len())?;
+    for listener in listeners {
+        clients.push(Acceptor::of_listener(rt, listener, 1, is_over))?;
+    }
+    Ok(clients)
+}
+
+/// One link for each port.
+fn connectors<'a, R>(
+    rt: &'a R,
+    alloc: Global,
+    addresses: &'a [String],
+    is_over: &'a AtomicBool,
+) -> Result<Vec<Connector<'a, R>>, AllocError> {
+    let mut ports = Vec::with_capacity(alloc, addresses.len())?;
+    for address in addresses {
+        ports.push(Connector::new(rt, address, 1, is_over))?;
+    }
+    Ok(ports)
+}
+
 /// One link for each client and each port.
 fn plan_of<'a, R>(
     rt: &'a R,
@@ -106,60 +148,93 @@ fn plan_of<'a, R>(
     listeners: Vec<TcpListener>,
     addresses: &'a [String],
     is_over: &'a AtomicBool,
-) -> Result<RunPlan<Acceptor<'a, R>, Connector<'a, R>>, DemoFault> {
-    let mut clients = Vec::with_capacity(alloc, listeners.len())?;
-    for listener in listeners {
-        clients.push(Acceptor::of_listener(rt, listener, 1, is_over))?;
-    }
-    let mut ports = Vec::with_capacity(alloc, addresses.len())?;
-    for address in addresses {
-        ports.push(Connector::new(rt, address, 1, is_over))?;
-    }
+) -> Result<RunPlan<Acceptor<'a, R>, Connector<'a, R>>, AllocError> {
+    let clients = acceptors(rt, alloc, listeners, is_over)?;
+    let ports = connectors(rt, alloc, addresses, is_over)?;
     Ok(RunPlan { clients, ports })
+}
+
+/// Settings of all clients, as they are read.
+fn all_settings(alloc: Global) -> Result<SettingsFile, Fail> {
+    let Ok(text) = settings(alloc) else {
+        return Err(Fail::new("no memory"));
+    };
+    read(alloc, text.as_slice()).map_err(|_| Fail::new("the settings are refused"))
+}
+
+/// So many listeners with their addresses; where they can't be had the test fails.
+fn listening_at<R: Net<Listener = TcpListener, Stream = TcpStream>>(
+    rt: &R,
+    alloc: Global,
+    count: usize,
+) -> Result<(Vec<TcpListener>, Vec<String>), Fail> {
+    match listeners(rt, alloc, count) {
+        Ok(listening) => Ok(listening),
+        Err(_) => Err(Fail::new("no listener")),
+    }
 }
 
 #[test]
 fn all_clients_on_all_ports_come_and_go(rt: HostRuntime) -> Result<(), Fail> {
     let alloc = rt.alloc();
     let rt = &rt;
-    let Ok(text) = settings(alloc) else {
-        return Err(Fail::new("no memory"));
-    };
-    let Ok(SettingsFile { settings, .. }) = read(alloc, text.as_slice()) else {
-        return Err(Fail::new("the settings are refused"));
-    };
-    let (Ok((clients, addresses)), Ok((markets, market_addresses))) = (
-        listeners(rt, alloc, NAMES.len()),
-        listeners(rt, alloc, PORTS),
-    ) else {
-        return Err(Fail::new("no listener"));
-    };
-    let (is_over, is_past) = (AtomicBool::new(false), AtomicBool::new(false));
-    let (is_over, is_past) = (&is_over, &is_past);
+    let (clients, addresses) = listening_at(rt, alloc, NAMES.len())?;
+    let (listeners, market_addresses) = listening_at(rt, alloc, PORTS)?;
+    // moved out of its pair before the other half is lent
+    let markets = listeners;
+    let is_over = AtomicBool::new(false);
+    let is_over = &is_over;
     let market_addresses = market_addresses.as_slice();
-    let Ok(plan) = plan_of(rt, alloc, clients, market_addresses, is_over) else {
-        return Err(Fail::new("no memory"));
-    };
-    let addresses = addresses.as_slice();
+    let plan = plan_of(rt, alloc, clients, market_addresses, is_over)?;
     let hasher = RandomState::new(rt)?;
+    let is_past = AtomicBool::new(false);
+    let addresses = addresses.as_slice();
+    serve_all(
+        rt, alloc, hasher, plan, markets, addresses, is_over, &is_past,
+    )
+}
+
+/// A day of all clients, who come and go, and of all ports.
+fn serve_all<'a, R>(
+    rt: &'a R,
+    alloc: Global,
+    hasher: RandomState,
+    plan: RunPlan<Acceptor<'a, R>, Connector<'a, R>>,
+    markets: Vec<TcpListener>,
+    addresses: &[String],
+    is_over: &'a AtomicBool,
+    is_past: &AtomicBool,
+) -> Result<(), Fail>
+where
+    R: Threads + Wait + Sync + Clock + Eprint + Abort,
+    R: Net<Listener = TcpListener, Stream = TcpStream>,
+{
+    let SettingsFile { settings, .. } = all_settings(alloc)?;
     let (ran, ended) = thread::scope(thread::scope_env(), rt, |scope| {
         let markets = scope.spawn(move || accept_all(rt, alloc, markets, is_past));
         let clients = scope.spawn(move || come_and_go(rt, alloc, addresses));
         let ran = run(rt, alloc, hasher, settings, plan, is_over);
         is_past.store(true, Ordering::SeqCst);
-        let (Ok(markets), Ok(clients)) = (markets, clients) else {
-            return (ran, Err(DemoFault::NoThread));
-        };
-        (ran, markets.join(rt).and(clients.join(rt)))
+        (ran, ended(rt, markets).and(ended(rt, clients)))
     });
     assert!(rt; ended == Ok(()));
-    let Ok(day) = ran else {
-        return Err(Fail::new("the gateway did not run to its end"));
-    };
+    look_at_end(rt, alloc, ran)
+}
+
+/// The gateway ran to its end.
+fn look_at_end(rt: &impl Abort, alloc: Global, ran: Result<Day, RunFault>) -> Result<(), Fail> {
+    match ran {
+        Ok(day) => Ok(look_at(rt, alloc, &day)),
+        Err(_) => Err(Fail::new("the gateway did not run to its end")),
+    }
+}
+
+/// There was no order, and no fault.
+fn look_at(rt: &impl Abort, alloc: Global, day: &Day) {
     let (mut output, mut errors) = (Vec::new(alloc), Vec::new(alloc));
-    assert_eq!(rt; audit_day(alloc, &day, &mut output, &mut errors), 0);
+    let status = audit_day(alloc, day, &mut output, &mut errors);
+    assert!(rt; status == 0);
     assert!(rt; output.as_slice() == b"orders 0 agree 0\n".as_slice());
     assert!(rt; errors.is_empty());
     assert!(rt; day.fault().is_none());
-    Ok(())
 }

@@ -1,17 +1,22 @@
 //! A market that says what is no message.
 
+use crate::threads::{ended, listening, log_on_and_buy};
 use gateway_demo::{
     Acceptor, Choice, Client, Connector, DemoFault, Market, Opened, Opener, Order, connected,
-    loopback,
 };
-use gateway_run::{PortFault, PortNumber, RunPlan, SettingsFile, audit_day, read, run};
-use std::alloc::Global;
+use gateway_run::{
+    Day, PortFault, PortNumber, RunFault, RunPlan, SettingsFile, audit_day, read, run,
+};
+use std::alloc::{AllocError, Global};
 use std::hash::RandomState;
 use std::io::{Read, Write};
 use std::net::{Net, TcpListener, TcpStream};
+use std::process::Abort;
+use std::sync::Wait;
 use std::sync::atomic::{AtomicBool, Ordering};
 use std::test::Fail;
 use std::thread;
+use std::thread::Threads;
 use std::time::{Clock, Duration};
 
 const SETTINGS: &str = "\
@@ -67,13 +72,19 @@ fn say_nothing_known<R: Clock + Net<Listener = TcpListener, Stream = TcpStream>>
     let mut market = Market::new(alloc, Choice::AcceptLive);
     market.serve(1, &mut reader, &mut writer)?;
     writer.write_all(b"\x00\x03S00")?;
+    read_to_end(&mut reader)?;
+    has_closed.store(true, Ordering::SeqCst);
+    Ok(())
+}
+
+/// Reads until the link is closed.
+fn read_to_end<S: Read>(reader: &mut S) -> Result<(), DemoFault> {
     let mut piece = [0u8; 64];
     for _ in 0..u64::MAX {
         if reader.read(&mut piece)? == 0 {
             break;
         }
     }
-    has_closed.store(true, Ordering::SeqCst);
     Ok(())
 }
 
@@ -86,15 +97,20 @@ fn buy_twice<R: Clock + Net<Listener = TcpListener, Stream = TcpStream>>(
 ) -> Result<(), DemoFault> {
     let stream = connected(rt, address, Duration::from_secs(10))?;
     let mut client = Client::new(rt, alloc, "C1", stream);
-    client.log_on()?;
-    client.buy(&FILLED)?;
-    client.wait_for_fills(1)?;
+    log_on_and_buy(&mut client, &FILLED)?;
     for _ in 0..1_000 {
         if has_closed.load(Ordering::SeqCst) {
             break;
         }
         thread::sleep(rt, Duration::from_millis(10));
     }
+    is_refused_and_goes(&mut client)
+}
+
+/// Has an order refused, and goes.
+fn is_refused_and_goes<R: Clock, S: Read + Write + Drop>(
+    client: &mut Client<'_, R, S>,
+) -> Result<(), DemoFault> {
     client.buy(&REFUSED)?;
     client.wait_for_refusals(1)?;
     client.log_out()
@@ -104,50 +120,98 @@ fn buy_twice<R: Clock + Net<Listener = TcpListener, Stream = TcpStream>>(
 fn a_payload_outside_the_profile_ends_its_port_alone(rt: HostRuntime) -> Result<(), Fail> {
     let alloc = rt.alloc();
     let rt = &rt;
-    let (Ok((client, address)), Ok((market, market_address))) = (
-        loopback(rt, alloc),
-        loopback(rt, alloc),
-    ) else {
-        return Err(Fail::new("no listener"));
+    let (client, address) = listening(rt, alloc)?;
+    let (listener, market_address) = listening(rt, alloc)?;
+    // moved out of its pair before the other half is lent
+    let market = listener;
+    let market_address = market_address.as_str();
+    let is_over = AtomicBool::new(false);
+    let is_over = &is_over;
+    let plan = plan_of(rt, alloc, client, market_address, is_over)?;
+    let hasher = RandomState::new(rt)?;
+    let flags = Flags {
+        is_past: AtomicBool::new(false),
+        has_closed: AtomicBool::new(false),
     };
+    let address = address.as_str();
+    serve_day(rt, alloc, hasher, plan, market, address, is_over, &flags)
+}
+
+/// Whether the gateway has come to its end, and whether it has closed its port's link.
+#[derive(Drop)]
+struct Flags {
+    is_past: AtomicBool,
+    has_closed: AtomicBool,
+}
+
+/// One link for the client and one for the port.
+fn plan_of<'a, R>(
+    rt: &'a R,
+    alloc: Global,
+    client: TcpListener,
+    market: &'a str,
+    is_over: &'a AtomicBool,
+) -> Result<RunPlan<Acceptor<'a, R>, Connector<'a, R>>, AllocError> {
+    Ok(RunPlan {
+        clients: vec![in alloc; Acceptor::of_listener(rt, client, 1, is_over)]?,
+        ports: vec![in alloc; Connector::new(rt, market, 1, is_over)]?,
+    })
+}
+
+/// A day of the client and the market.
+fn serve_day<'a, R>(
+    rt: &'a R,
+    alloc: Global,
+    hasher: RandomState,
+    plan: RunPlan<Acceptor<'a, R>, Connector<'a, R>>,
+    market: TcpListener,
+    address: &str,
+    is_over: &'a AtomicBool,
+    flags: &Flags,
+) -> Result<(), Fail>
+where
+    R: Threads + Wait + Sync + Clock + Eprint + Abort,
+    R: Net<Listener = TcpListener, Stream = TcpStream>,
+{
     let Ok(SettingsFile { settings, .. }) = read(alloc, SETTINGS.as_bytes()) else {
         return Err(Fail::new("the settings are refused"));
     };
-    let (is_over, is_past, has_closed) = (
-        AtomicBool::new(false),
-        AtomicBool::new(false),
-        AtomicBool::new(false),
-    );
-    let (is_over, is_past, has_closed) = (&is_over, &is_past, &has_closed);
-    let plan = RunPlan {
-        clients: vec![in alloc; Acceptor::of_listener(rt, client, 1, is_over)]?,
-        ports: vec![in alloc; Connector::new(rt, &market_address, 1, is_over)]?,
-    };
-    let address = address.as_str();
-    let hasher = RandomState::new(rt)?;
+    let (is_past, has_closed) = (&flags.is_past, &flags.has_closed);
     let (ran, ended) = thread::scope(thread::scope_env(), rt, |scope| {
         let market = scope.spawn(move || say_nothing_known(rt, alloc, market, is_past, has_closed));
         let client = scope.spawn(move || buy_twice(rt, alloc, address, has_closed));
         let ran = run(rt, alloc, hasher, settings, plan, is_over);
         is_past.store(true, Ordering::SeqCst);
-        let (Ok(market), Ok(client)) = (market, client) else {
-            return (ran, Err(DemoFault::NoThread));
-        };
-        (ran, market.join(rt).and(client.join(rt)))
+        (ran, ended(rt, market).and(ended(rt, client)))
     });
     assert!(rt; ended == Ok(()));
-    let Ok(day) = ran else {
-        return Err(Fail::new("the gateway did not run to its end"));
-    };
+    look_at_end(rt, alloc, ran)
+}
+
+/// The gateway ran to its end.
+fn look_at_end(rt: &impl Abort, alloc: Global, ran: Result<Day, RunFault>) -> Result<(), Fail> {
+    match ran {
+        Ok(day) => look_at(rt, alloc, &day),
+        Err(_) => Err(Fail::new("the gateway did not run to its end")),
+    }
+}
+
+/// One batch has a fault, that of the port, and the one order that was filled agrees.
+fn look_at(rt: &impl Abort, alloc: Global, day: &Day) -> Result<(), Fail> {
     let batches = day.history().batches(alloc)?;
     let faults = batches.iter().filter(|batch| batch.fault.is_some()).count();
-    assert_eq!(rt; faults, 1);
+    assert!(rt; faults == 1);
     let told = batches.iter().any(|batch| batch.fault == Some(PortFault::OutsideProfile)
         && batch.port == Some(PortNumber::new(1)));
     assert!(rt; told);
+    look_at_audit(rt, alloc, day);
+    Ok(())
+}
+
+fn look_at_audit(rt: &impl Abort, alloc: Global, day: &Day) {
     let (mut output, mut errors) = (Vec::new(alloc), Vec::new(alloc));
-    assert_eq!(rt; audit_day(alloc, &day, &mut output, &mut errors), 0);
+    let status = audit_day(alloc, day, &mut output, &mut errors);
+    assert!(rt; status == 0);
     assert!(rt; output.as_slice() == AUDIT);
     assert!(rt; errors.is_empty());
-    Ok(())
 }
