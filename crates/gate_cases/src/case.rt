@@ -46,6 +46,21 @@ impl Case {
         })
     }
 
+    /// A case of this name: a script, and what it has to print.
+    pub fn whole(
+        alloc: Global,
+        name: &[u8],
+        script: Vec<u8>,
+        wanted: Vec<u8>,
+    ) -> Result<Case, AllocError> {
+        Ok(Case {
+            name: Vec::from_slice(alloc, name)?,
+            script,
+            wanted,
+            ..Case::new(alloc)
+        })
+    }
+
     /// Takes a line of the case.
     pub fn take(&mut self, alloc: Global, line: &[u8]) -> Result<(), AllocError> {
         if line.is_empty() || line.starts_with(b"#") {
