@@ -1,6 +1,6 @@
 //! Links over TCP: an acceptor for a client's line, a connector for a port's, and the clocks of their workers.
 //!
-//! What a socket does no contract says; the tests of `socket_tests` do.
+//! What a socket does no contract says; the tests of `link_tests` do.
 #![tactic(auto)]
 
 mod acceptor;

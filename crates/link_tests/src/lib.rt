@@ -1,14 +1,19 @@
-//! Tests of the public calls of `link_io`, `gate_workers` and `gate_serving`. Nothing else stands here.
+//! Tests of the public calls of `link_io`, `gate_workers`, `gate_serving` and, over loopback, of `link_sockets`. Nothing
+//! else stands here.
 //!
 //! Expected bytes are typed in from FIX 4.4 Volume 1, "Message Format", and SoupBinTCP 3.00, "Logical Packets".
 #![tactic(auto)]
 
+#[cfg(test)]
+mod clocks;
 #[cfg(test)]
 mod gates;
 #[cfg(test)]
 mod readers;
 #[cfg(test)]
 mod serving;
+#[cfg(test)]
+mod sockets;
 #[cfg(test)]
 mod streams;
 #[cfg(test)]
