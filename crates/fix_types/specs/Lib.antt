@@ -1,4 +1,5 @@
 pub mod Requests
+pub mod Terms
 pub mod NewOrder
 pub mod CancelRequest
 pub mod ReplaceRequest

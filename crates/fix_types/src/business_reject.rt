@@ -15,7 +15,6 @@ use wire_law::TextWire;
 /// Why the gateway doesn't serve a message that is well formed.
 ///
 /// Source: FIX 4.4 Volume 2, "Business Message Reject", with the fields that this gateway writes, in this order.
-#[derive(Drop)]
 pub struct BusinessReject {
     /// RefSeqNum (45): the number of the message.
     pub ref_seq_num: u64,
@@ -25,6 +24,18 @@ pub struct BusinessReject {
     pub reason: u64,
     /// Text (58).
     pub text: Text,
+}
+
+// Not derived: then each way out drops it in one call (docs/DECISIONS.md, "Drops").
+impl Drop for BusinessReject {
+    fn drop(self) {
+        let BusinessReject {
+            ref_seq_num: _,
+            ref_msg_type: _,
+            reason: _,
+            text: _,
+        } = self;
+    }
 }
 
 /// The tags that have to be there, in the order in which they are judged.

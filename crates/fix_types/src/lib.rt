@@ -20,6 +20,7 @@ mod report;
 mod report_fields;
 mod report_reading;
 mod requests;
+mod terms;
 
 pub use application::{AppBody, AppMsg};
 pub use business_reject::BusinessReject;

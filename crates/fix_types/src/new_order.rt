@@ -6,12 +6,13 @@ ghost use Rattle.fix_types.specs.NewOrder.{new_order_slots, IsNewOrder};
 
 use crate::new_order_reading::read_new_order;
 use crate::requests::new_order_refusal;
+use crate::terms::copied_terms;
 use fix_fields::{Fields, PrintedFields, Text};
 use fix_values::writing::{
     push_char, push_float, push_id, push_letter, push_optional_char, push_optional_float,
     push_optional_text, push_text,
 };
-use fix_values::{Character, ClOrdId, FloatText, TextFault, copied_float, copied_text};
+use fix_values::{Character, ClOrdId, FloatText, TextFault};
 use std::alloc::{AllocError, Global};
 use wire_law::TextWire;
 
@@ -67,17 +68,26 @@ impl NewOrder {
     pub fn copied(&self, alloc: Global) -> Result<NewOrder, AllocError>
         ensures { IfOk result (λ copy. copy ≡ self.now) }
     {
+        let cl_ord_id = ClOrdId::copied(alloc, self.cl_ord_id.as_slice())?;
+        let symbol = Text::copied(alloc, self.symbol.as_slice())?;
+        let terms = copied_terms(
+            alloc,
+            &self.order_qty,
+            &self.price,
+            &self.exec_inst,
+            &self.min_qty,
+        )?;
         Ok(NewOrder {
-            cl_ord_id: ClOrdId::copied(alloc, self.cl_ord_id.as_slice())?,
+            cl_ord_id,
             side: self.side,
-            symbol: Text::copied(alloc, self.symbol.as_slice())?,
-            order_qty: FloatText::copied(alloc, self.order_qty.as_slice())?,
+            symbol,
+            order_qty: terms.order_qty,
             ord_type: self.ord_type,
-            price: copied_float(alloc, &self.price)?,
+            price: terms.price,
             time_in_force: self.time_in_force,
-            exec_inst: copied_text(alloc, &self.exec_inst)?,
+            exec_inst: terms.exec_inst,
             order_capacity: self.order_capacity,
-            min_qty: copied_float(alloc, &self.min_qty)?,
+            min_qty: terms.min_qty,
         })
     }
 }

@@ -6,12 +6,13 @@ ghost use Rattle.fix_types.specs.ReplaceRequest.{replace_request_slots, IsReplac
 
 use crate::replace_request_reading::read_replace_request;
 use crate::requests::replace_refusal;
+use crate::terms::copied_terms;
 use fix_fields::{Fields, PrintedFields, Text};
 use fix_values::writing::{
     push_char, push_float, push_id, push_letter, push_optional_char, push_optional_float,
     push_optional_text,
 };
-use fix_values::{Character, ClOrdId, FloatText, TextFault, copied_float, copied_text};
+use fix_values::{Character, ClOrdId, FloatText, TextFault, copied_text};
 use std::alloc::{AllocError, Global};
 use wire_law::TextWire;
 
@@ -19,7 +20,7 @@ use wire_law::TextWire;
 ///
 /// Side, symbol and capacity can't be replaced: they may be missing, and are judged where they are there.
 /// Source: FIX 4.4 Volume 4, "Order Cancel/Replace Request"; tags that it doesn't name here are passed over.
-#[derive(Debug, Drop)]
+#[derive(Debug)]
 pub struct ReplaceRequest {
     /// ClOrdID (11): the request's own.
     pub cl_ord_id: ClOrdId,
@@ -45,25 +46,74 @@ pub struct ReplaceRequest {
     pub min_qty: Option<FloatText>,
 }
 
+// Not derived: then each way out drops it in one call (docs/DECISIONS.md, "Drops").
+impl Drop for ReplaceRequest {
+    fn drop(self) {
+        let ReplaceRequest {
+            cl_ord_id: _,
+            orig_cl_ord_id: _,
+            side: _,
+            symbol: _,
+            order_qty: _,
+            ord_type: _,
+            price: _,
+            time_in_force: _,
+            exec_inst: _,
+            order_capacity: _,
+            min_qty: _,
+        } = self;
+    }
+}
+
 impl ReplaceRequest {
     ghost use Rattle.std.specs.Prelude.{◌≡◌, IfOk};
+
+    /// The request's own ClOrdID (11). The rest is let go.
+    pub fn into_cl_ord_id(self) -> ClOrdId
+        ensures { result ≡ self.cl_ord_id }
+    {
+        let ReplaceRequest {
+            cl_ord_id,
+            orig_cl_ord_id: _,
+            side: _,
+            symbol: _,
+            order_qty: _,
+            ord_type: _,
+            price: _,
+            time_in_force: _,
+            exec_inst: _,
+            order_capacity: _,
+            min_qty: _,
+        } = self;
+        cl_ord_id
+    }
 
     /// The same request again, in memory of its own. A growth for each text.
     pub fn copied(&self, alloc: Global) -> Result<ReplaceRequest, AllocError>
         ensures { IfOk result (λ copy. copy ≡ self.now) }
     {
+        let cl_ord_id = ClOrdId::copied(alloc, self.cl_ord_id.as_slice())?;
+        let orig_cl_ord_id = ClOrdId::copied(alloc, self.orig_cl_ord_id.as_slice())?;
+        let symbol = copied_text(alloc, &self.symbol)?;
+        let terms = copied_terms(
+            alloc,
+            &self.order_qty,
+            &self.price,
+            &self.exec_inst,
+            &self.min_qty,
+        )?;
         Ok(ReplaceRequest {
-            cl_ord_id: ClOrdId::copied(alloc, self.cl_ord_id.as_slice())?,
-            orig_cl_ord_id: ClOrdId::copied(alloc, self.orig_cl_ord_id.as_slice())?,
+            cl_ord_id,
+            orig_cl_ord_id,
             side: self.side,
-            symbol: copied_text(alloc, &self.symbol)?,
-            order_qty: FloatText::copied(alloc, self.order_qty.as_slice())?,
+            symbol,
+            order_qty: terms.order_qty,
             ord_type: self.ord_type,
-            price: copied_float(alloc, &self.price)?,
+            price: terms.price,
             time_in_force: self.time_in_force,
-            exec_inst: copied_text(alloc, &self.exec_inst)?,
+            exec_inst: terms.exec_inst,
             order_capacity: self.order_capacity,
-            min_qty: copied_float(alloc, &self.min_qty)?,
+            min_qty: terms.min_qty,
         })
     }
 }

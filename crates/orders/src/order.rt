@@ -327,11 +327,11 @@ impl Order {
             let replacing = boxed.into_inner();
             let live = self.token;
             let token = replacing.token;
-            let message = replacing.message;
+            let cl_ord_id = replacing.message.into_cl_ord_id();
             self.progress = self.progress.replaced(shares, price);
             push_earlier(&mut self.earlier, live);
             self.token = token;
-            self.cl_ord_id = message.cl_ord_id;
+            self.cl_ord_id = cl_ord_id;
             self.answer(live);
             if is_dead {
                 self.progress = self.progress.gone();

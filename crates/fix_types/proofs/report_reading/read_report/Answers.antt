@@ -35,9 +35,6 @@ text_at-requires c = let p = passed report_tags report_formats c.args.fields.now
 pub char_at-requires : goal.char_at-requires
 char_at-requires c = let p = passed report_tags report_formats c.args.fields.now c.requires in record { there = p.0.1.1.1.1.1.1.0; format = p.1.1.1.1.1.1.1.1.1.1.0 }
 
-pub text_at-requires-2 : goal.text_at-requires-2
-text_at-requires-2 c = let p = passed report_tags report_formats c.args.fields.now c.requires in p.0.1.1.1.1.1.1.1.0
-
 pub optional_number_in-requires-4 : goal.optional_number_in-requires-4
 optional_number_in-requires-4 c = let p = passed report_tags report_formats c.args.fields.now c.requires in p.1.1.1.1.1.1.1.1.1.1.1.0
 
@@ -47,5 +44,5 @@ number_in-requires-3 c = let p = passed report_tags report_formats c.args.fields
 pub number_in-requires-4 : goal.number_in-requires-4
 number_in-requires-4 c = let p = passed report_tags report_formats c.args.fields.now c.requires in record { there = p.0.1.1.1.1.1.1.1.1.1.0; format = p.1.1.1.1.1.1.1.1.1.1.1.1.1.0 }
 
-pub text_at-requires-3 : goal.text_at-requires-3
-text_at-requires-3 c = let p = passed report_tags report_formats c.args.fields.now c.requires in p.0.1.1.1.1.1.1.1.1.1.1.0
+pub report_texts_at-requires : goal.report_texts_at-requires
+report_texts_at-requires c = let p = passed report_tags report_formats c.args.fields.now c.requires in record { quantity = p.0.1.1.1.1.1.1.1.0; average = p.0.1.1.1.1.1.1.1.1.1.1.0 }
