@@ -1,6 +1,6 @@
 //! Files with several faults: the first in the order of judging is named; and how many ports and clients there may be.
 
-use crate::texts::{GOOD, is_read, is_refused_by};
+use super::texts::{GOOD, is_read, is_refused_by};
 use std::alloc::{AllocError, Global};
 use std::test::Fail;
 

@@ -1,6 +1,6 @@
 //! Values at each limit, and beyond it.
 
-use crate::texts::{
+use super::texts::{
     GOOD, SECOND_CLIENT, SECOND_PORT, changed, is_read, is_refused_by, is_refused_with,
 };
 use std::alloc::Global;

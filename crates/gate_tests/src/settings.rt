@@ -1,15 +1,9 @@
-//! Tests of what `settings_file` reads and refuses. Nothing else stands here.
+//! What `settings_file` reads and refuses.
 //!
 //! Which key a text is refused by is typed in from the order of judging, as the README of `settings_file` has it.
-#![tactic(auto)]
 
-#[cfg(test)]
 mod example;
-#[cfg(test)]
 mod order;
-#[cfg(test)]
 mod refused;
-#[cfg(test)]
 mod texts;
-#[cfg(test)]
 mod wrong;

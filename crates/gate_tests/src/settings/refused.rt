@@ -1,6 +1,6 @@
 //! Files that lack a key or have one that isn't known.
 
-use crate::texts::{GOOD, is_read, is_refused_with, refused_key};
+use super::texts::{GOOD, is_read, is_refused_with, refused_key};
 use std::test::Fail;
 
 /// Each line of `GOOD` with a key, and its key.
