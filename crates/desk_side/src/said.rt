@@ -6,7 +6,7 @@ ghost use Rattle.desk_side.specs.Said.{IsSaid};
 use gate_events::{Batch, ClientNumber, PortNumber, Told};
 
 /// What a batch tells: the list for its client and the list for its port.
-#[derive(Debug, Drop)]
+#[derive(Drop)]
 pub struct Said {
     pub client: Option<ClientNumber>,
     pub client_told: Told,

@@ -14,7 +14,6 @@ use std::marker::Model;
 
 /// A core with the history of all that it was stepped by. Contracts see its settings and what the history keeps; the
 /// core is the one that the history leaves. Its indexes are over any hasher.
-#[derive(Debug)]
 pub struct RecordedCore<S: BuildHasher + Drop = BuildHasherDefault<FoldHasher>> {
     settings: Settings,
     core: Core<S>,

@@ -8,7 +8,7 @@ pub struct Turned {
 }
 
 /// What became of an inlet's turn.
-#[derive(Clone, Copy, Debug, PartialEq, Eq)]
+#[derive(Clone, Copy, PartialEq, Eq)]
 pub enum Did {
     /// No event was known.
     Idle,

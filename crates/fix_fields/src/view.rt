@@ -12,7 +12,7 @@ use std::alloc::{AllocError, Global};
 
 /// The fields that a text is, lent: the text stays where it lies, and a value is found by looking through it. It takes
 /// no memory; `to_fields` makes a copy in which values are found by their places.
-#[derive(Clone, Copy, Debug)]
+#[derive(Clone, Copy)]
 pub struct FieldsView<'a> {
     text: &'a [u8],
     pub ghost fields: { is_some (fields_of text.now) ≡ true },

@@ -26,7 +26,7 @@ use stream_buffer::StreamBuffer;
 /// passed, by `pass` or by `feed`, which passes what it gives.
 ///
 /// Source: FIX 4.4 Volume 1, "Message Format".
-#[derive(Debug, Drop)]
+#[derive(Drop)]
 pub struct Framer {
     buffer: StreamBuffer,
     // the size of the frame in front, where it was seen there

@@ -13,14 +13,13 @@ use session_writing::{KeptBodies, ask_body, echo_body, reject_body, text_body};
 use std::alloc::{AllocError, Global};
 
 /// Numbers that are sent again, from one to another.
-#[derive(Clone, Copy, Debug)]
+#[derive(Clone, Copy)]
 pub struct Resend {
     pub from: u64,
     pub to: u64,
 }
 
 /// What a call gives, as far as it is made.
-#[derive(Debug)]
 pub struct Draft {
     pub phase: Phase,
     pub expected: u64,

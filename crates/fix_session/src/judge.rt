@@ -73,7 +73,7 @@ fn judge_high(session: &Session, m: &Fields) -> Row
 }
 
 /// A line of the table of a link that isn't logged on.
-#[derive(Clone, Copy, Debug, PartialEq, Eq)]
+#[derive(Clone, Copy, PartialEq, Eq)]
 pub enum LogonRow {
     /// The end, without a word.
     NotAnswered,

@@ -24,7 +24,6 @@ use std::marker::Model;
 ///
 /// After an error, which is always that memory ran out, the session is as it was. `settle` and `undo` put calls back
 /// that succeeded: no call but these two changes how it was when it was settled.
-#[derive(Debug)]
 pub struct Session {
     gate: Text,
     client: Text,
@@ -56,7 +55,7 @@ impl Drop for Session {
 }
 
 /// How a session was when it was settled, but for its names, which stay, and what numbers were given to.
-#[derive(Clone, Copy, Debug)]
+#[derive(Clone, Copy)]
 struct Settled {
     phase: Phase,
     expected: u64,
@@ -92,7 +91,7 @@ impl Model for Session {
 }
 
 /// What a call gives.
-#[derive(Debug, Drop)]
+#[derive(Drop)]
 pub struct SessionTurn {
     /// What goes to the link, in order.
     pub outs: Vec<SessionOut>,
@@ -101,7 +100,7 @@ pub struct SessionTurn {
 }
 
 /// What issuing a body gives.
-#[derive(Debug, Drop)]
+#[derive(Drop)]
 pub struct IssuedTurn {
     /// What goes to the link: its frame, where the client is logged on.
     pub turn: SessionTurn,

@@ -5,7 +5,7 @@ use order_law::Token;
 use std::marker::Model;
 
 /// An order that was accepted, as the report that told so has it.
-#[derive(Debug, Drop)]
+#[derive(Drop)]
 pub struct Opening {
     /// The number of its client, from 1.
     pub client: u16,

@@ -17,7 +17,7 @@ use order_law::Token;
 use std::alloc::Global;
 
 /// The orders that were opened so far, and how many tokens were given.
-#[derive(Debug, Drop)]
+#[derive(Drop)]
 pub struct Openings {
     pub given: u64,
     /// The oldest first.

@@ -4,7 +4,7 @@ use order_law::Account;
 use std::marker::Model;
 
 /// An order that was accepted, by both of its accounts.
-#[derive(Debug, Drop)]
+#[derive(Drop)]
 pub struct OrderPair {
     /// The number of its client, from 1.
     pub client: u16,

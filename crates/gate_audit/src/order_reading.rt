@@ -5,7 +5,7 @@ use order_accounts::Reading;
 use std::marker::Model;
 
 /// What a client has read of an order that was accepted.
-#[derive(Debug, Drop)]
+#[derive(Drop)]
 pub struct OrderReading {
     /// The number of the client, from 1.
     pub client: u16,

@@ -16,7 +16,7 @@ use soup_packets::{Packet, Payload};
 use std::alloc::{AllocError, Global};
 
 /// A port's session over its links so far, and what it delivered.
-#[derive(Debug, Drop)]
+#[derive(Drop)]
 pub struct PortAgain {
     /// Its current link.
     pub link: Option<u64>,

@@ -18,7 +18,6 @@ use order_core::OrderCore;
 use std::hash::{BuildHasher, BuildHasherDefault, FoldHasher};
 
 /// The lines of all clients and ports, and the order level.
-#[derive(Debug)]
 pub(crate) struct Parts<S: BuildHasher + Drop = BuildHasherDefault<FoldHasher>> {
     pub(crate) clients: Vec<ClientLine>,
     pub(crate) ports: Vec<PortLine>,

@@ -22,7 +22,6 @@ const MOST_EVENTS: u64 = 1 << 48;
 ///
 /// Orders, tokens and ClOrdIDs that were used are found by indexes over any hasher, which changes nothing but how fast
 /// they are found. With a seed that nobody else knows no client can choose ids that make it slow.
-#[derive(Debug)]
 pub struct Core<S: BuildHasher + Drop = BuildHasherDefault<FoldHasher>> {
     parts: Parts<S>,
     /// How many events were stepped.

@@ -16,7 +16,7 @@ use std::marker::Model;
 
 /// Events, each with the batch that it gave, the oldest first, as the pages of a day. Contracts see the events, the
 /// batches and the pages.
-#[derive(Debug, Drop)]
+#[derive(Drop)]
 pub struct History {
     pages: DayPages,
 }

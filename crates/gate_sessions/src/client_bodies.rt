@@ -19,7 +19,7 @@ use fix_types::AppBody;
 use std::alloc::{AllocError, Global};
 
 /// What comes of bodies that are issued to one client.
-#[derive(Debug, Drop)]
+#[derive(Drop)]
 pub struct Issues {
     /// Each body, in order, as it was issued, be its frame written or not: the fields from MsgType (35) on.
     pub reports: Vec<IssuedReport>,

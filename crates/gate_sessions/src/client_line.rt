@@ -13,7 +13,6 @@ use gate_law::{Fields, Text};
 use std::alloc::{AllocError, Global};
 
 /// A client's current link, where it has one, and its session over all its links.
-#[derive(Debug)]
 pub struct ClientLine {
     pub link: Option<u64>,
     pub session: Session,

@@ -13,7 +13,6 @@ use soup_packets::Packet;
 use std::alloc::{AllocError, Global};
 
 /// A port's current link, where it has one, and its session over all its links.
-#[derive(Debug)]
 pub struct PortLine {
     pub link: Option<u64>,
     pub session: PortSession,

@@ -5,7 +5,7 @@ use std::marker::Model;
 use to_market::ClientTerms;
 
 /// A client of the gateway. Contracts see the law's settings of a client.
-#[derive(Debug, Drop)]
+#[derive(Drop)]
 pub struct ClientSettings {
     /// The name by which its frames are known, its SenderCompID (49); served with 1 to 20 bytes from 33 to 126.
     ///

@@ -5,7 +5,7 @@ use std::marker::Model;
 /// Who logs in on a market port. Contracts see the law's terms of a port.
 ///
 /// Source: SoupBinTCP 3.00, "Login Request Packet".
-#[derive(Debug, Drop)]
+#[derive(Drop)]
 pub struct PortSettings {
     /// The user name; served with 1 to 6 bytes. A login pads it right with spaces to 6.
     pub user: Vec<u8>,

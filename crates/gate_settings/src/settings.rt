@@ -15,7 +15,7 @@ use std::marker::Model;
 
 /// The gateway's name, its ports and its clients, each numbered from 1 in this order. Contracts see the law's
 /// settings, and all of them are served.
-#[derive(Debug, Drop)]
+#[derive(Drop)]
 pub struct Settings {
     comp: Text,
     ports: Vec<PortSettings>,

@@ -19,7 +19,7 @@ use std::marker::Model;
 
 /// Of each key that was noted, a hint where the items with it may stand. Contracts see the keys with their hints, and
 /// for how many keys more there is room; of the hasher they see nothing.
-#[derive(Debug, Drop)]
+#[derive(Drop)]
 pub struct HintIndex<K: Eq + Hash + Drop, S: BuildHasher + Drop = BuildHasherDefault<FoldHasher>> {
     hints: IndexMap<K, Hint, S>,
 }

@@ -11,7 +11,7 @@ use std::hash::{Hash, Hasher};
 ///
 /// Of a longer text the first 64 bytes count. Equal numbers and texts have equal keys. Hashed are the number and the
 /// text, and not the zeros behind it.
-#[derive(Clone, Copy, Debug, PartialEq, Eq)]
+#[derive(Clone, Copy, PartialEq, Eq)]
 pub struct TextKey {
     number: u16,
     len: u8,

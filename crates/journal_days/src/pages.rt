@@ -21,14 +21,14 @@ const HEAD: usize = 23;
 const PAGE_LIMIT: usize = 65_536;
 
 /// Where pages end: how many there are, and how many bytes the last one has.
-#[derive(Clone, Copy, Debug)]
+#[derive(Clone, Copy)]
 pub struct PagesMark {
     pub pages: usize,
     pub bytes: usize,
 }
 
 /// The journal's pages, the oldest first. Contracts see the bytes of each.
-#[derive(Debug, Drop)]
+#[derive(Drop)]
 pub struct DayPages {
     pages: Vec<Vec<u8>>,
 }

@@ -10,7 +10,7 @@ ghost use Rattle.journal_days.specs.Left.{records_left};
 use journal_pages::{RecordView, Records};
 
 /// The records of pages, one behind another. They are lent where they lie.
-#[derive(Clone, Copy, Debug, Drop)]
+#[derive(Clone, Copy, Drop)]
 pub struct DayRecords<'a> {
     /// Those of the page that is read.
     here: Records<'a>,

@@ -6,7 +6,7 @@ use std::alloc::{AllocError, Global};
 use std::marker::Model;
 
 /// Bytes that were copied. Contracts see the list.
-#[derive(Debug, Drop)]
+#[derive(Drop)]
 pub struct PageBytes {
     bytes: Vec<u8>,
 }

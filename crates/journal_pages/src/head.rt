@@ -8,7 +8,7 @@ use std::alloc::{AllocError, Global};
 
 /// What stands in front of a record's payload, but for the payload's length. `source` is the number of a client or a
 /// port, 0 in the end of a batch; `link` is 0 in what isn't of a link; `at` is a moment in milliseconds since 1970.
-#[derive(Clone, Copy, Debug)]
+#[derive(Clone, Copy)]
 pub struct RecordHead {
     pub kind: RecordKind,
     pub source: u16,

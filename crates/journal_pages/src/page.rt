@@ -18,7 +18,7 @@ use wire_law::WholeWire;
 const PAGE_HEAD: &[u8; 4] = b"GJ01";
 
 /// Bytes that are a page: records in their order, each with what its kind has.
-#[derive(Debug, Drop)]
+#[derive(Drop)]
 pub struct Page {
     pub bytes: PageBytes,
     ghost whole: { is_page bytes ≡ true },

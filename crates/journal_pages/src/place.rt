@@ -12,7 +12,7 @@ use crate::view::RecordView;
 
 /// What is known of a batch: the moment of its event, its client and its port where one was named, and the rank of the
 /// kind that came last.
-#[derive(Clone, Copy, Debug)]
+#[derive(Clone, Copy)]
 pub struct Batch {
     pub at: u64,
     pub client: Option<u16>,
@@ -21,7 +21,7 @@ pub struct Batch {
 }
 
 /// A place in a page.
-#[derive(Clone, Copy, Debug)]
+#[derive(Clone, Copy)]
 pub enum Place {
     /// Before the first record: any may come.
     PageStart,

@@ -7,7 +7,7 @@ use crate::view::RecordView;
 
 /// The records that stand one behind another in some bytes, up to the first that can't be read: those of a page are
 /// all of its records. They are lent where they lie.
-#[derive(Clone, Copy, Debug, Drop)]
+#[derive(Clone, Copy, Drop)]
 pub struct Records<'a> {
     rest: &'a [u8],
 }

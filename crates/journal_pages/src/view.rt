@@ -7,7 +7,7 @@ use crate::kind::RecordKind;
 
 /// A record that has what its kind has; its payload is lent by the page. `source` is the number of a client or a port,
 /// `at` a moment in milliseconds since 1970.
-#[derive(Clone, Copy, Debug)]
+#[derive(Clone, Copy)]
 pub struct RecordView<'a> {
     pub kind: RecordKind,
     pub source: u16,

@@ -16,7 +16,7 @@ use journal_pages::{PrintedFields, RecordKind, RecordView};
 use std::alloc::{AllocError, Global};
 
 /// What was read of a batch so far. The number of its client or port is 0 as long as none was named.
-#[derive(Debug, Drop)]
+#[derive(Drop)]
 pub struct BatchParts {
     pub client: u16,
     pub reports: Vec<IssuedReport>,

@@ -6,7 +6,7 @@ ghost use Rattle.link_io.specs.Limits.{Begins, end_by};
 use crate::link_fault::LinkFault;
 
 /// How many steps a link's engine still makes, and the fault with which its link ended.
-#[derive(Clone, Copy, Debug)]
+#[derive(Clone, Copy)]
 pub struct Limit {
     /// How many steps are still made before the one that answers that they are used up.
     left: u64,

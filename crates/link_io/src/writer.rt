@@ -36,7 +36,6 @@ pub struct Wrote {
 /// Writes what a link is told onto its stream. What other links are told it passes over.
 ///
 /// Contracts see the bytes that were taken and not yet written, and what is still to be told of the lists taken.
-#[derive(Debug)]
 pub struct BatchWriter {
     number: u16,
     link: u64,

@@ -20,7 +20,7 @@ use std::marker::Model;
 /// What the market keeps of the orders that it was sent.
 ///
 /// Contracts see it as the law's machine.
-#[derive(Debug, Drop)]
+#[derive(Drop)]
 pub struct Book {
     /// The tokens that are used for good, the newest first.
     used: Vec<[u8; 14]>,

@@ -14,7 +14,7 @@ use std::alloc::{AllocError, Global};
 use std::marker::Model;
 
 /// An order that was accepted, with all that it became.
-#[derive(Debug, Drop)]
+#[derive(Drop)]
 pub struct BookedOrder {
     entered: EnterOrder,
     /// Those that were taken, the newest first.

@@ -8,7 +8,7 @@ use std::alloc::{AllocError, AllocFailed};
 use thiserror::Error;
 
 /// What comes of a message that is lawful of an order.
-#[derive(Debug, Drop)]
+#[derive(Drop)]
 pub struct Heard {
     /// What it changes of the order.
     pub change: Change,

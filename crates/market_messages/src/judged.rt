@@ -4,7 +4,7 @@ use crate::heard::Heard;
 use crate::market_fault::MarketFault;
 
 /// What a payload of the market comes to.
-#[derive(Debug, Drop)]
+#[derive(Drop)]
 pub enum Judged {
     /// Nothing comes of it, and it is no fault.
     Silent,

@@ -25,7 +25,7 @@ use std::marker::Model;
 /// A market with one SoupBinTCP session, `SESSION001`, which serves one link after another.
 ///
 /// Contracts see the book, every sequenced payload so far, and how the link stands.
-#[derive(Debug, Drop)]
+#[derive(Drop)]
 pub struct Sim {
     book: Book,
     /// The oldest first.
@@ -42,7 +42,7 @@ impl Model for Sim {
 }
 
 /// Memory for one message that the market says: as it is kept, and as it goes out.
-#[derive(Debug, Drop)]
+#[derive(Drop)]
 struct Room {
     kept: Vec<u8>,
     sent: Vec<u8>,

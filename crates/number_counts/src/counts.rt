@@ -14,7 +14,7 @@ use std::marker::Model;
 
 /// How often each number was counted. Contracts see a list of numbers with their counts, now and as it was settled:
 /// a number that isn't there was never counted.
-#[derive(Debug, Drop)]
+#[derive(Drop)]
 pub struct NumberCounts<S: BuildHasher + Drop = BuildHasherDefault<FoldHasher>> {
     counts: UndoList<NumberCount>,
     numbers: HintIndex<NumberKey, S>,

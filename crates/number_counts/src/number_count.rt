@@ -7,14 +7,14 @@ ghost use Rattle.number_counts.specs.CountLaws.{count-alike};
 use hint_index::{Keyed, Sought};
 
 /// How often a number was counted.
-#[derive(Clone, Copy, Debug)]
+#[derive(Clone, Copy)]
 pub struct NumberCount {
     pub number: u64,
     pub count: usize,
 }
 
 /// A number, as a key and as what is looked for.
-#[derive(Clone, Copy, Debug, PartialEq, Eq, Hash)]
+#[derive(Clone, Copy, PartialEq, Eq, Hash)]
 pub(crate) struct NumberKey {
     pub number: u64,
 }

@@ -14,7 +14,7 @@ use std::alloc::{AllocError, Global};
 use std::marker::Model;
 
 /// What the market's messages say of one order.
-#[derive(Debug, Drop)]
+#[derive(Drop)]
 pub struct Life {
     /// The byte that FIX writes.
     side: u8,

@@ -18,7 +18,7 @@ use std::alloc::Global;
 use std::marker::Model;
 
 /// A fill that the reports told of.
-#[derive(Debug, Drop)]
+#[derive(Drop)]
 struct Fill {
     /// ExecID (17).
     exec_id: Vec<u8>,
@@ -36,7 +36,7 @@ impl Model for Fill {
 }
 
 /// What the reports of an order say to who reads nothing else.
-#[derive(Debug, Drop)]
+#[derive(Drop)]
 pub struct Reading {
     /// Side (54).
     side: u8,

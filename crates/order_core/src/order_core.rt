@@ -23,7 +23,6 @@ use std::marker::Model;
 /// beside what it became until the next `settle`.
 ///
 /// Orders, tokens and used ids are found by indexes over any hasher, which changes nothing but how fast they are found.
-#[derive(Debug)]
 pub struct OrderCore<S: BuildHasher + Drop = BuildHasherDefault<FoldHasher>> {
     ledger: OrderLedger<S>,
     asked: AskedMessages,

@@ -4,7 +4,7 @@ use market_messages::Inbound;
 use order_ledger::AppBody;
 
 /// What a client's message gives: bodies for the client, and messages to its port, in order.
-#[derive(Debug, Drop)]
+#[derive(Drop)]
 pub struct CoreOut {
     /// For the client that sent the message.
     pub bodies: Vec<AppBody>,
@@ -13,7 +13,7 @@ pub struct CoreOut {
 }
 
 /// What a payload of the market gives: bodies for one client at most, in order.
-#[derive(Debug, Drop)]
+#[derive(Drop)]
 pub struct MarketOut {
     /// Whom the bodies are for; `None` where there are none.
     pub client: Option<u16>,

@@ -18,7 +18,7 @@ use std::alloc::{AllocError, Global};
 use std::hash::BuildHasher;
 
 /// What comes to the order level.
-#[derive(Debug, Drop)]
+#[derive(Drop)]
 pub enum Event {
     /// A message of a client, whose port stands so.
     Came {
@@ -34,7 +34,7 @@ pub enum Event {
 }
 
 /// What came of an event.
-#[derive(Debug, Drop)]
+#[derive(Drop)]
 pub struct Outcome {
     /// Whom the bodies are for; `None` where there are none.
     pub client: Option<u16>,

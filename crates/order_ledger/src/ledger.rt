@@ -24,7 +24,6 @@ use to_market::{ClientTerms, PortState};
 /// ledger with no orders where there was none.
 ///
 /// Orders, tokens and used ids are found by indexes over any hasher, which changes nothing but how fast they are found.
-#[derive(Debug)]
 pub struct OrderLedger<S: BuildHasher + Drop = BuildHasherDefault<FoldHasher>> {
     terms: Vec<ClientTerms>,
     table: Table<S>,

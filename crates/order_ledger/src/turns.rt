@@ -7,7 +7,7 @@ use std::alloc::Global;
 use to_market::Inbound;
 
 /// What a client's message gives: bodies for the client, and what its port is asked, in order.
-#[derive(Debug, Drop)]
+#[derive(Drop)]
 pub struct ClientTurn {
     /// For the client that sent the message.
     pub bodies: Vec<AppBody>,
@@ -18,7 +18,7 @@ pub struct ClientTurn {
 }
 
 /// An order that a payload of the market changed.
-#[derive(Clone, Copy, Debug)]
+#[derive(Clone, Copy)]
 pub struct ChangedOrder {
     /// OrderID (37).
     pub order_id: u64,
@@ -27,7 +27,7 @@ pub struct ChangedOrder {
 }
 
 /// What a payload of the market gives: bodies for one client at most, in order.
-#[derive(Debug, Drop)]
+#[derive(Drop)]
 pub struct MarketTurn {
     /// Whom the bodies are for; `None` where there are none.
     pub client: Option<u16>,

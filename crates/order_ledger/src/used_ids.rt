@@ -13,7 +13,7 @@ use std::marker::Model;
 use to_market::ClOrdId;
 
 /// A ClOrdID (11) that a client has used.
-#[derive(Debug, Drop)]
+#[derive(Drop)]
 pub struct UsedId {
     /// The number of the client, from 1.
     client: u16,
@@ -78,7 +78,6 @@ fn is_same_id(client: u16, id: &[u8], used: &UsedId) -> bool
 
 /// The ids that clients have used, the oldest first, each found by its client and its bytes. Contracts see the list,
 /// now and as it was settled, and for how many ids more there is room.
-#[derive(Debug)]
 pub struct UsedIds<S: BuildHasher + Drop = BuildHasherDefault<FoldHasher>> {
     ids: UndoList<UsedId>,
     keys: HintIndex<TextKey, S>,

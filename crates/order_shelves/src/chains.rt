@@ -12,7 +12,7 @@ use std::marker::Model;
 
 /// Where tokens lead: each place that a token names leads on to one, so that all tokens of an order may lead to the
 /// same. Contracts see a list of places.
-#[derive(Debug, Drop)]
+#[derive(Drop)]
 pub(crate) struct Chains {
     leads: Vec<usize>,
 }

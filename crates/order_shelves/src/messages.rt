@@ -13,7 +13,7 @@ use std::marker::Model;
 
 /// Messages of the market that were heard on a port, on shelves by where their tokens lead. Contracts see all of them,
 /// the oldest first.
-#[derive(Debug, Drop)]
+#[derive(Drop)]
 pub struct MessageShelves {
     heard: Vec<Outbound>,
     chains: Chains,

@@ -12,7 +12,7 @@ use std::alloc::{AllocError, Global};
 use std::marker::Model;
 
 /// Reports that a client was told, on shelves by OrderID (37). Contracts see the shelves.
-#[derive(Debug, Drop)]
+#[derive(Drop)]
 pub struct ReportShelves {
     shelves: Shelves<Fields>,
 }

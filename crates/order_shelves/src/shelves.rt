@@ -6,7 +6,7 @@ use std::alloc::{AllocError, Global};
 use std::marker::Model;
 
 /// A row of shelves, each with items in the order in which they were put there. Contracts see a list of lists.
-#[derive(Debug, Drop)]
+#[derive(Drop)]
 pub(crate) struct Shelves<T: Drop> {
     shelves: Vec<Vec<T>>,
 }

@@ -15,13 +15,13 @@ use hint_index::{Keyed, Sought, TextKey};
 use orders::{Boxed, Cancelling, Order, Replacing};
 
 /// The number of an OrderID, as a key.
-#[derive(Clone, Copy, Debug, PartialEq, Eq, Hash)]
+#[derive(Clone, Copy, PartialEq, Eq, Hash)]
 pub(crate) struct NumberKey {
     pub number: u64,
 }
 
 /// A client with a ClOrdID, as a key.
-#[derive(Clone, Copy, Debug, PartialEq, Eq, Hash)]
+#[derive(Clone, Copy, PartialEq, Eq, Hash)]
 pub(crate) struct NameKey {
     key: TextKey,
 }

@@ -9,7 +9,7 @@ use std::marker::Model;
 
 /// A count for each client, at the place of the client's number. Contracts see the list, now and as it was settled:
 /// past its end every count is 0.
-#[derive(Debug, Drop)]
+#[derive(Drop)]
 pub struct OpenCounts {
     counts: UndoList<usize>,
 }

@@ -23,7 +23,6 @@ use undo_orders::UndoOrders;
 
 /// The accepted orders, the oldest first, each found by its number and by the ids that it goes by. Contracts see the
 /// list, now and as it was settled, and for how many orders more there is room.
-#[derive(Debug)]
 pub(crate) struct OrderList<S: BuildHasher + Drop = BuildHasherDefault<FoldHasher>> {
     orders: UndoOrders,
     numbers: HintIndex<NumberKey, S>,

@@ -14,7 +14,7 @@ use std::hash::{BuildHasher, BuildHasherDefault, FoldHasher};
 use std::marker::Model;
 
 /// A token that was given for an order.
-#[derive(Debug, Drop)]
+#[derive(Drop)]
 pub struct GivenToken {
     /// The number of the port that knows it, from 1.
     pub port: u16,
@@ -44,7 +44,6 @@ impl Model for GivenToken {
 /// `undo` puts back what was there at the last `settle`, and no orders where there was none.
 ///
 /// Orders and tokens are found by indexes over any hasher, which changes nothing but how fast they are found.
-#[derive(Debug)]
 pub struct Table<S: BuildHasher + Drop = BuildHasherDefault<FoldHasher>> {
     orders: OrderList<S>,
     tokens: TokenList<S>,

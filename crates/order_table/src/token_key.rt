@@ -10,7 +10,7 @@ use std::hash::{Hash, Hasher};
 /// The key of a port with the text of a token, which takes no memory.
 ///
 /// Of a longer text the first 14 bytes count, and a shorter one is padded. Equal ports and texts have equal keys.
-#[derive(Clone, Copy, Debug, PartialEq, Eq)]
+#[derive(Clone, Copy, PartialEq, Eq)]
 pub struct TokenKey {
     port: u16,
     text: [u8; 14],

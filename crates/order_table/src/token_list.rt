@@ -19,7 +19,6 @@ use std::marker::Model;
 /// The tokens that were given, the oldest first, each found by its port and its text; how many of them replaces of
 /// each order were given is counted. Contracts see the list, now and as it was settled, and for how many tokens more
 /// there is room.
-#[derive(Debug)]
 pub(crate) struct TokenList<S: BuildHasher + Drop = BuildHasherDefault<FoldHasher>> {
     tokens: UndoList<GivenToken>,
     texts: HintIndex<TokenKey, S>,

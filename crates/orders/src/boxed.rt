@@ -6,7 +6,7 @@ use std::alloc::{AllocError, Global};
 use std::marker::Model;
 
 /// A value in memory of its own: an `Option` of it is small where there is none. Contracts see the value.
-#[derive(Debug, Drop)]
+#[derive(Drop)]
 pub struct Boxed<T: Drop> {
     pub(crate) held: Box<T>,
 }

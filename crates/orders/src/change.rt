@@ -8,7 +8,7 @@ use crate::order::ToldTrade;
 /// What a message of the market changes of an order, by its type. What is told of it isn't said here.
 ///
 /// Source: OUCH 4.2, "Outbound Messages".
-#[derive(Clone, Copy, Debug, PartialEq, Eq)]
+#[derive(Clone, Copy)]
 pub enum Change {
     /// Accepted: it is in the book with so many shares at a price in 1/10,000, or dead at once.
     Opened {

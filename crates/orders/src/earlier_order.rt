@@ -12,7 +12,7 @@ use crate::requests::{Cancelling, Replacing};
 use fix_types::ClOrdId;
 
 /// What an order had before it was changed: all that may change of it. Of the lists that only grow it has the lengths.
-#[derive(Debug, Drop)]
+#[derive(Drop)]
 pub struct EarlierOrder {
     pub(crate) token: [u8; 14],
     /// How many tokens it had had before that one.

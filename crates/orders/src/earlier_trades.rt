@@ -6,7 +6,7 @@ ghost use Rattle.orders.specs.EarlierTrades.{most_trades, trades_before};
 use crate::order::ToldTrade;
 
 /// What the trades of an order were before it was changed.
-#[derive(Debug, Drop)]
+#[derive(Drop)]
 pub(crate) enum EarlierTrades {
     /// The first so many of those that there are.
     First(usize),

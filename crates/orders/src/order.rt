@@ -20,12 +20,11 @@ use crate::trades::{make_room, mark};
 use fix_types::{Character, ClOrdId, NewOrder};
 use order_law::Trade;
 use std::alloc::{AllocError, Global};
-use std::fmt;
 use std::marker::Model;
 use std::snapshot::Snapshot;
 
 /// A trade, and the ExecID (17) under which its client was told of it.
-#[derive(Clone, Copy, Debug, PartialEq, Eq)]
+#[derive(Clone, Copy)]
 pub struct ToldTrade {
     pub trade: Trade,
     pub number: u64,
@@ -68,24 +67,6 @@ pub struct Order {
     ghost first_total_set: { first_total ≡ total_of (new_order_fields asked.value) },
     ghost total_set: { progress.stage ≡ Waiting → progress.total ≡ total_of (new_order_fields asked.value) },
     ghost replace_set: { progress.tokens + length (option_to_list replace) ≤ 65_536 },
-}
-
-// Not derived: what is kept for contracts alone has nothing to show.
-impl fmt::Debug for Order {
-    fn fmt<W: fmt::Write>(&self, f: &mut fmt::Formatter<W>) -> fmt::Result {
-        f.debug_struct("Order")
-            .field("client", &self.client)
-            .field("order_id", &self.order_id)
-            .field("cl_ord_id", &self.cl_ord_id)
-            .field("token", &self.token)
-            .field("symbol", &self.symbol)
-            .field("side", &self.side)
-            .field("progress", &self.progress)
-            .field("trades", &self.trades)
-            .field("replace", &self.replace)
-            .field("cancel", &self.cancel)
-            .finish_non_exhaustive()
-    }
 }
 
 // Not derived: then each way out drops it in one call (docs/DECISIONS.md, "Drops").

@@ -7,7 +7,7 @@ ghost use Rattle.order_law.specs.declared.stage.Stage.TheVariants.{Waiting, Work
 use order_law::Stage;
 
 /// How far an order has come: its stage and its quantities. A step gives another value.
-#[derive(Clone, Copy, Debug, PartialEq, Eq)]
+#[derive(Clone, Copy)]
 pub struct Progress {
     /// Shares times price of the trades that stand, in 1/10,000.
     pub value: u128,

@@ -6,7 +6,7 @@ ghost use Rattle.order_machine.specs.tokens.TokenText.{token_text};
 use fix_types::{CancelRequest, ReplaceRequest};
 
 /// A replace that was accepted and isn't answered.
-#[derive(Debug, Drop)]
+#[derive(Drop)]
 pub struct Replacing {
     /// What its client asked.
     pub message: ReplaceRequest,
@@ -17,7 +17,6 @@ pub struct Replacing {
 }
 
 /// A cancel that was accepted and isn't answered.
-#[derive(Debug)]
 pub struct Cancelling {
     /// What its client asked.
     pub message: CancelRequest,

@@ -7,7 +7,7 @@ use std::marker::Model;
 /// Symbol (55) of an order, in place: at most 8 bytes. Contracts see the list of its bytes.
 ///
 /// Source: FIX 4.4 Volume 6, Symbol (55); OUCH 4.2, Stock, whose 8 bytes it has to fit.
-#[derive(Debug, Drop)]
+#[derive(Drop)]
 pub struct Symbol {
     /// With spaces behind it.
     padded: [u8; 8],

@@ -12,7 +12,7 @@ use std::alloc::{AllocError, Global};
 use std::marker::Model;
 
 /// A message that a port was asked.
-#[derive(Clone, Copy, Debug)]
+#[derive(Clone, Copy)]
 pub struct AskedMessage {
     /// The number of its port, from 1.
     pub port: u16,
@@ -26,7 +26,6 @@ pub struct AskedMessage {
 
 /// What the ports were asked and haven't answered, the oldest first. Contracts see it as it is now and as it was
 /// settled: `undo` puts back what was there at the last `settle`, and no messages where there was none.
-#[derive(Debug)]
 pub struct AskedMessages {
     messages: Vec<AskedMessage>,
     /// How many there were when they were settled.

@@ -11,7 +11,7 @@ ghost use Rattle.session_reading.specs.Due.{due_answer};
 use session_law::{Logged, Phase};
 
 /// What is due at a moment.
-#[derive(Clone, Copy, Debug, PartialEq, Eq)]
+#[derive(Clone, Copy, PartialEq, Eq)]
 pub enum Due {
     Nothing,
     /// The link has been up too long without a Logon.

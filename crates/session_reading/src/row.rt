@@ -14,7 +14,7 @@ use crate::words::{has, is_letter};
 use fix_types::{Fields, SessionRejectReason};
 
 /// A line of the table of a client that is logged on.
-#[derive(Clone, Copy, Debug, PartialEq, Eq)]
+#[derive(Clone, Copy, PartialEq, Eq)]
 pub enum Row {
     /// No number: a Logout, and the end.
     NumberMissing,

@@ -19,7 +19,7 @@ use crate::words::{has, number, text};
 use fix_types::{Fields, SessionRejectReason};
 
 /// What the message with the expected number brings.
-#[derive(Clone, Copy, Debug, PartialEq, Eq)]
+#[derive(Clone, Copy, PartialEq, Eq)]
 pub enum Taken {
     /// Nothing is answered.
     Nothing,

@@ -3,7 +3,7 @@
 use session_reading::Kind;
 
 /// What stands round the body of a frame.
-#[derive(Clone, Copy, Debug)]
+#[derive(Clone, Copy)]
 pub struct FrameHead {
     /// MsgSeqNum (34).
     pub number: u64,

@@ -20,7 +20,6 @@ use std::marker::Model;
 /// again. Contracts see the list of both.
 ///
 /// The text of all kept bodies lies in one buffer, as it was written, beside a list of their places.
-#[derive(Debug)]
 pub struct KeptBodies {
     text: Vec<u8>,
     places: Vec<KeptPlace>,

@@ -3,7 +3,7 @@
 use session_reading::Kind;
 
 /// What a number was given to.
-#[derive(Clone, Copy, Debug)]
+#[derive(Clone, Copy)]
 pub enum KeptPlace {
     /// A frame that is gap filled where it is asked for again.
     Filled,

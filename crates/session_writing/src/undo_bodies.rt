@@ -12,7 +12,6 @@ use std::marker::Model;
 ///
 /// Before the first `settle` it counts as settled with no numbers. What was settled is no second copy: it is the first
 /// numbers of the list, or of the list from before numbers began anew.
-#[derive(Debug)]
 pub struct UndoBodies {
     given: KeptBodies,
     /// How many numbers were given when it was settled.

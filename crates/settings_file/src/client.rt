@@ -19,7 +19,7 @@ use toml::Value;
 use wire_law::padded;
 
 /// What a client's table says.
-#[derive(Debug, Drop)]
+#[derive(Drop)]
 pub struct ClientEntry {
     pub settings: ClientSettings,
     pub listen: String,

@@ -14,7 +14,7 @@ use std::alloc::{AllocError, Global};
 use toml::Value;
 
 /// What a port's table says.
-#[derive(Debug, Drop)]
+#[derive(Drop)]
 pub struct PortEntry {
     pub settings: PortSettings,
     pub address: String,

@@ -25,7 +25,7 @@ use std::marker::Model;
 use toml::Value;
 
 /// What a settings file says: the settings of the core, and where its ports and clients are met.
-#[derive(Debug, Drop)]
+#[derive(Drop)]
 pub struct SettingsFile {
     /// What the core is made of.
     pub settings: Settings,

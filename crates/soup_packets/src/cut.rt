@@ -8,7 +8,7 @@ use crate::packet::{Packet, packet_of, size_of};
 use std::alloc::{AllocError, Global};
 
 /// What stands in front of some bytes.
-#[derive(Clone, Copy, Debug, PartialEq, Eq)]
+#[derive(Clone, Copy, PartialEq, Eq)]
 pub enum Head {
     /// Less than a whole packet.
     Partial,

@@ -52,7 +52,7 @@ impl<T: Drop> From<AllocFailed<T>> for PacketFault {
 ///
 /// Contracts speak of the whole stream so far: `Fed stream passed reader` says that the reader has taken it, in any
 /// pieces, and that these packets were passed, by `pass` or by `feed`, which passes what it gives.
-#[derive(Debug, Drop)]
+#[derive(Drop)]
 pub struct Packets {
     buffer: StreamBuffer,
 }

@@ -22,7 +22,6 @@ use wire_law::padded;
 /// leave (`leaves`). Moments are in milliseconds and are handed in; one that goes back counts as no time passed.
 /// After an error, which is always that memory ran out, the session is as it was. `settle` and `undo` put calls back
 /// that succeeded: how it was when it was settled is kept beside how it is, and no call but these two changes it.
-#[derive(Debug)]
 pub struct PortSession {
     port: Port,
     /// How it was when it was settled last.

@@ -11,7 +11,7 @@ use std::marker::Model;
 ///
 /// Contracts see what is held and offered, how many bytes are free in front, how many bytes were written into the
 /// buffer and how many were taken.
-#[derive(Debug, Drop)]
+#[derive(Drop)]
 pub struct StreamBuffer {
     bytes: Vec<u8>,
     // so many bytes in front were let go

@@ -6,7 +6,7 @@ ghost use Rattle.to_client.specs.Occasions.{details_of};
 use fix_values::{ExecType, OrdRejReason};
 
 /// What happened to an order, and what a report says of it beside the order. Reasons are the market's letters.
-#[derive(Clone, Copy, Debug)]
+#[derive(Clone, Copy)]
 pub enum Occasion {
     /// It was accepted, and waits for the market.
     PendingNew,
@@ -25,7 +25,7 @@ pub enum Occasion {
 }
 
 /// The fields that an occasion gives, where it gives them.
-#[derive(Clone, Copy, Debug)]
+#[derive(Clone, Copy)]
 pub struct Details {
     /// ExecType (150).
     pub exec_type: ExecType,

@@ -7,7 +7,7 @@ use fixed_point::{Price4, Shares};
 use ouch_codec::Side;
 
 /// What a new order asks of the market, but for its token and its client's terms.
-#[derive(Clone, Copy, Debug, PartialEq, Eq)]
+#[derive(Clone, Copy, PartialEq, Eq)]
 pub struct NewAsk {
     pub side: Side,
     pub shares: Shares,

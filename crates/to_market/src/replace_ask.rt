@@ -7,7 +7,7 @@ use fixed_point::{Price4, Shares};
 use tokens::Token;
 
 /// What an accepted replace asks of the market, but for the token that its order goes by.
-#[derive(Clone, Copy, Debug, PartialEq, Eq)]
+#[derive(Clone, Copy, PartialEq, Eq)]
 pub struct ReplaceAsk {
     /// The token that the order is to go by.
     pub token: Token,

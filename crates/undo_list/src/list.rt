@@ -8,7 +8,7 @@ use std::alloc::{AllocError, Global};
 use std::marker::Model;
 
 /// What stood at a place before it was changed.
-#[derive(Debug, Drop)]
+#[derive(Drop)]
 pub(crate) struct Was<T: Drop> {
     pub place: usize,
     pub item: T,
@@ -17,7 +17,7 @@ pub(crate) struct Was<T: Drop> {
 /// A list that grows at its end, and whose items are changed. Contracts see it as it is now, and as it was settled.
 ///
 /// Before the first `settle` it counts as settled with no items.
-#[derive(Debug, Drop)]
+#[derive(Drop)]
 pub struct UndoList<T: Drop> {
     items: Vec<T>,
     /// How many items there were when it was settled.

@@ -15,7 +15,7 @@ use std::alloc::{AllocError, Global};
 use std::marker::Model;
 
 /// What an order at a place had before it was changed.
-#[derive(Debug, Drop)]
+#[derive(Drop)]
 pub(crate) struct Was {
     pub place: usize,
     pub earlier: EarlierOrder,
@@ -24,7 +24,6 @@ pub(crate) struct Was {
 /// The accepted orders, the oldest first. Contracts see the list as it is now, and as it was settled.
 ///
 /// Before the first `settle` it counts as settled with no orders.
-#[derive(Debug)]
 pub struct UndoOrders {
     orders: Vec<Order>,
     /// How many orders there were when it was settled.

@@ -21,7 +21,7 @@ use std::alloc::{AllocError, Global};
 use std::hash::BuildHasher;
 
 /// What comes of a message that a client's session delivered.
-#[derive(Debug, Drop)]
+#[derive(Drop)]
 pub(crate) struct Asked {
     /// What was reported, and what the client's link is told of it.
     pub issues: Issues,

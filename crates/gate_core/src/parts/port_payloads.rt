@@ -28,7 +28,7 @@ use std::alloc::{AllocError, Global};
 use std::hash::BuildHasher;
 
 /// What the order level makes of a payload.
-#[derive(Debug, Drop)]
+#[derive(Drop)]
 pub(crate) enum Judged {
     /// Bodies for the client at a place, or nothing for anybody.
     Told {
