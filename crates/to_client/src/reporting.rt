@@ -5,7 +5,7 @@ ghost use Rattle.orders.specs.fix_types.Report.{report_fields};
 ghost use Rattle.order_law.specs.wire_law.Printable.{is_printable};
 ghost use Rattle.order_law.specs.Told as law;
 ghost use Rattle.to_client.specs.Occasions.{average_of_text, details_of, leaves_in, occasion_seen};
-ghost use Rattle.to_client.specs.Shows.{IsOccasion, ShowsAs, id_told, orig_told, report_with};
+ghost use Rattle.to_client.specs.Shows.{IsOccasion, ShowsAs, amounts_with, id_told, orig_told, report_with};
 
 use crate::occasion::{Details, Occasion, fields_given_by};
 use crate::shown::{Request, Shown};
@@ -62,24 +62,58 @@ fn filled_in(
     ensures { IfOk result (λ r. r ≡ report_with number details.now request.now shown.now) }
 {
     let progress = shown.progress;
+    let cl_ord_id = own_id(alloc, request, shown)?;
+    let orig_cl_ord_id = orig_id(alloc, request)?;
+    let symbol = Text::copied(alloc, shown.symbol.as_slice())?;
+    let amounts = amounts_of(alloc, details, progress)?;
     Ok(Report {
         order_id: shown.order_id,
-        cl_ord_id: own_id(alloc, request, shown)?,
-        orig_cl_ord_id: orig_id(alloc, request)?,
+        cl_ord_id,
+        orig_cl_ord_id,
         exec_id: number,
         exec_ref_id: details.exec_ref_id,
         exec_type: details.exec_type,
         ord_status: status_shown(shown),
         ord_rej_reason: details.ord_rej_reason,
         exec_restatement_reason: details.exec_restatement_reason,
-        symbol: Text::copied(alloc, shown.symbol.as_slice())?,
+        symbol,
         side: shown.side,
-        order_qty: number_text(alloc, progress.total)?,
-        price: Some(price_text(alloc, u128::from(progress.price))?),
+        order_qty: amounts.order_qty,
+        price: Some(amounts.price),
         last_qty: details.last_qty,
-        last_px: optional_price_text(alloc, details.last_px)?,
+        last_px: amounts.last_px,
         leaves_qty: leaves(progress),
         cum_qty: progress.executed,
+        avg_px: amounts.avg_px,
+        text: amounts.text,
+    })
+}
+
+/// The texts of an order's amounts, and of why something happened. They are printed in a call of their own: where
+/// memory is wanting a report has few values then that are dropped.
+#[derive(Drop)]
+pub struct Amounts {
+    /// OrderQty (38).
+    pub order_qty: Text,
+    /// Price (44).
+    pub price: Text,
+    /// LastPx (31).
+    pub last_px: Option<Text>,
+    /// AvgPx (6).
+    pub avg_px: Text,
+    /// Text (58).
+    pub text: Option<Text>,
+}
+
+/// The texts of an order that has come so far, with these details.
+fn amounts_of(alloc: Global, details: &Details, progress: &Progress) -> Result<Amounts, AllocError>
+    requires { IfSome details.now.reason (λ byte. is_printable byte ≡ true) }
+    ensures { IfOk result (λ amounts. amounts ≡ amounts_with details.now progress.now) }
+{
+    Ok(Amounts {
+        order_qty: number_text(alloc, progress.total)?,
+        price: price_text(alloc, u128::from(progress.price))?,
+        last_px: optional_price_text(alloc, details.last_px)?,
         avg_px: average_text(alloc, progress)?,
         text: letter_text(alloc, details.reason)?,
     })
