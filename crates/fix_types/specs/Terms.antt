@@ -17,11 +17,11 @@ terms_with quantity price instruction minimum = record {
 }
 
 -- the terms that fields say
-abbrev pub terms_of : List Field → Terms
-terms_of fs = terms_with (text_of 38 fs) (first_value 44 fs) (first_value 18 fs) (first_value 110 fs)
+abbrev pub terms_said : List Field → Terms
+terms_said fs = terms_with (text_of 38 fs) (first_value 44 fs) (first_value 18 fs) (first_value 110 fs)
 
 -- what terms keep
-pub record AreTerms (t : Terms) : Type 0 where
+pub record AreTermTexts (t : Terms) : Type 0 where
   pub order_qty : is_float t.order_qty ≡ true
   pub price : passes formats.Float t.price ≡ true
   pub min_qty : passes formats.Float t.min_qty ≡ true

@@ -2,7 +2,7 @@
 
 ghost use Rattle.std.specs.Prelude.{◌≡◌, true, is_some, IfOk};
 ghost use Rattle.fix_fields.specs.Field.{first_value};
-ghost use Rattle.fix_types.specs.Terms.{AreTerms, terms_of, terms_with};
+ghost use Rattle.fix_types.specs.Terms.{AreTermTexts, terms_said, terms_with};
 ghost use Rattle.fix_values.specs.Formats.{passes};
 ghost use Rattle.fix_values.specs.declared.format.Format.TheVariants as formats;
 
@@ -31,8 +31,8 @@ pub fn terms_at(alloc: Global, fields: &Fields) -> Result<Terms, AllocError>
     requires quantity { passes formats.Float (first_value 38 fields.now) ≡ true }
     requires price { passes formats.Float (first_value 44 fields.now) ≡ true }
     requires minimum { passes formats.Float (first_value 110 fields.now) ≡ true }
-    ensures said { IfOk result (λ terms. terms ≡ terms_of fields.now) }
-    ensures kept { IfOk result AreTerms }
+    ensures said { IfOk result (λ terms. terms ≡ terms_said fields.now) }
+    ensures kept { IfOk result AreTermTexts }
 {
     Ok(Terms {
         order_qty: float_at(alloc, fields, 38)?,
