@@ -6,6 +6,7 @@
 mod lines;
 mod write;
 
+pub use gate_audit::{History, OrderPair, PortFault, PortNumber, ReadingFault, Settings, audit};
 pub use lines::audit_text;
 pub use text_lines::{Lines, StreamFault};
 pub use write::write_audit;

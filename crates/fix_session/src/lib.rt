@@ -16,4 +16,4 @@ mod session;
 mod ticks;
 
 pub use session::{IssuedTurn, Session, SessionTurn};
-pub use session_writing::{IssuedReport, SessionOut};
+pub use session_writing::{IssuedReport, SessionOut, push_number};

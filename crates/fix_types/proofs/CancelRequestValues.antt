@@ -2,7 +2,7 @@
 use Rattle.std.proofs.Common.{◌≡◌, ℕ, List, [], ◌∷◌, refl}
 use Rattle.std.specs.Prelude.{Option, Some, None}
 use Rattle.std.specs.Option.{option_or}
-use Rattle.fix_fields.specs.Field.{first_value}
+use Rattle.fix_values.specs.Field.{first_value}
 use Rattle.fix_values.specs.Slots.{text_of}
 use Rattle.fix_values.proofs.Lookups.{lookup, value_in, text_in}
 use Rattle.fix_types.specs.declared.cancel_request.CancelRequest.{CancelRequest}

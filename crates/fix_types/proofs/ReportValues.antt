@@ -2,7 +2,7 @@
 use Rattle.std.proofs.Common.{◌≡◌, ℕ, List, [], ◌∷◌, refl, decimal}
 use Rattle.std.specs.Prelude.{Option, Some, None}
 use Rattle.std.specs.Option.{option_or}
-use Rattle.fix_fields.specs.Field.{first_value}
+use Rattle.fix_values.specs.Field.{first_value}
 use Rattle.fix_values.specs.Letters.{exec_letter, status_letter}
 use Rattle.fix_values.specs.Slots.{number_text}
 use Rattle.fix_values.proofs.Lookups.{lookup, value_in}

@@ -1,9 +1,9 @@
 -- A written business reject is read again.
 use Rattle.std.proofs.Common.{◌≡◌, List, refl, ap, ◌∙◌}
 use Rattle.std.specs.Prelude.{Option, Some, None}
-use Rattle.fix_fields.specs.Field.{Field}
+use Rattle.fix_values.specs.Field.{Field}
 use Rattle.fix_types.specs.declared.business_reject.BusinessReject.{BusinessReject}
-use Rattle.fix_fields.specs.declared.session_refusal.SessionRefusal.{SessionRefusal}
+use Rattle.fix_values.specs.fix_fields.declared.session_refusal.SessionRefusal.{SessionRefusal}
 use Rattle.fix_types.specs.BusinessReject.{business_reject_tags, business_reject_formats, business_reject_fields, business_reject_refusal, business_reject_of, IsBusinessReject}
 use Rattle.fix_values.proofs.Numbers.{number_of-decimal, is_number-decimal}
 use Rattle.fix_values.proofs.Tables.{none_refused}

@@ -1,9 +1,9 @@
 -- A reject that is written is read again.
 use Rattle.std.proofs.Common.{◌≡◌, List, refl, ap, ◌∙◌}
 use Rattle.std.specs.Prelude.{Option, Some, None, is_some}
-use Rattle.fix_fields.specs.Field.{Field}
+use Rattle.fix_values.specs.Field.{Field}
 use Rattle.fix_values.specs.declared.format.Format.TheVariants as formats
-use Rattle.fix_fields.specs.declared.session_refusal.SessionRefusal.{SessionRefusal}
+use Rattle.fix_values.specs.fix_fields.declared.session_refusal.SessionRefusal.{SessionRefusal}
 use Rattle.fix_values.specs.Formats.{passes}
 use Rattle.fix_values.proofs.Tables.{none_refused}
 use Rattle.fix_values.proofs.Numbers.{number_of-decimal, is_number-decimal}

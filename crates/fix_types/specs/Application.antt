@@ -1,6 +1,6 @@
 -- Messages of clients and bodies for clients as the fields that they say, each by its own layout (FIX 4.4 Volume 4).
 use Rattle.std.specs.Prelude.{List}
-use Rattle.fix_fields.specs.Field.{Field}
+use Rattle.fix_values.specs.Field.{Field}
 use Rattle.fix_types.specs.declared.application.AppBody.{AppBody}
 use Rattle.fix_types.specs.declared.application.AppBody.TheVariants as bodies
 use Rattle.fix_types.specs.declared.application.AppMsg.{AppMsg}

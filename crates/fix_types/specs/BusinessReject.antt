@@ -1,9 +1,9 @@
 -- BusinessMessageReject as fields. (FIX 4.4 Volume 2, "Business Message Reject".)
 use Rattle.std.specs.Prelude.{ℕ, ◌<◌, ◌^◌, List, [], ◌∷◌, Option, decimal}
-use Rattle.fix_fields.specs.Field.{Field}
+use Rattle.fix_values.specs.Field.{Field}
 use Rattle.fix_values.specs.declared.format.Format.TheVariants as formats
 use Rattle.fix_values.specs.declared.format.Row.{Row}
-use Rattle.fix_fields.specs.declared.session_refusal.SessionRefusal.{SessionRefusal}
+use Rattle.fix_values.specs.fix_fields.declared.session_refusal.SessionRefusal.{SessionRefusal}
 use Rattle.fix_types.specs.declared.business_reject.BusinessReject.{BusinessReject}
 use Rattle.fix_values.specs.Formats.{first_refusal}
 use Rattle.fix_values.specs.Slots.{FieldSlot, field_slot, fields_of_slots, text_of, number_of_tag}

@@ -1,9 +1,9 @@
 -- OrderCancelReject as fields. (FIX 4.4 Volume 4, "Order Cancel Reject".)
 use Rattle.std.specs.Prelude.{◌≡◌, ℕ, ◌<◌, ◌^◌, true, List, [], ◌∷◌, Option, IfSome, decimal}
-use Rattle.fix_fields.specs.Field.{Field}
+use Rattle.fix_values.specs.Field.{Field}
 use Rattle.fix_values.specs.declared.format.Format.TheVariants as formats
 use Rattle.fix_values.specs.declared.format.Row.{Row}
-use Rattle.fix_fields.specs.declared.session_refusal.SessionRefusal.{SessionRefusal}
+use Rattle.fix_values.specs.fix_fields.declared.session_refusal.SessionRefusal.{SessionRefusal}
 use Rattle.fix_types.specs.declared.cancel_reject.CancelReject.{CancelReject}
 use Rattle.fix_values.specs.Texts.{is_cl_ord_id}
 use Rattle.fix_values.specs.Letters.{response_letter, response_of, status_letter, ord_status_of}

@@ -1,6 +1,6 @@
 -- OrderCancelRequest as fields. (FIX 4.4 Volume 4, "Order Cancel Request".)
 use Rattle.std.specs.Prelude.{◌≡◌, true, List, [], ◌∷◌}
-use Rattle.fix_fields.specs.Field.{Field}
+use Rattle.fix_values.specs.Field.{Field}
 use Rattle.fix_types.specs.declared.cancel_request.CancelRequest.{CancelRequest}
 use Rattle.fix_values.specs.Texts.{is_cl_ord_id}
 use Rattle.fix_values.specs.Slots.{FieldSlot, field_slot, fields_of_slots, text_of}

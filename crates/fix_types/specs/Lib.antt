@@ -9,5 +9,5 @@ pub mod BusinessReject
 pub mod Application
 pub use Rattle.fix_values.specs.Formats
 pub use Rattle.fix_values.specs.Slots
-pub use Rattle.fix_fields.specs as fix_fields
+pub use Rattle.fix_values.specs.fix_fields as fix_fields
 pub use Rattle.fix_values.specs as fix_values

@@ -1,6 +1,6 @@
 -- NewOrderSingle as fields. (FIX 4.4 Volume 4, "New Order - Single".)
 use Rattle.std.specs.Prelude.{◌≡◌, true, List, [], ◌∷◌}
-use Rattle.fix_fields.specs.Field.{Field, first_value}
+use Rattle.fix_values.specs.Field.{Field, first_value}
 use Rattle.fix_values.specs.declared.format.Format.TheVariants as formats
 use Rattle.fix_types.specs.declared.new_order.NewOrder.{NewOrder}
 use Rattle.fix_values.specs.Texts.{is_cl_ord_id, is_float}

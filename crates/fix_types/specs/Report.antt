@@ -1,9 +1,9 @@
 -- ExecutionReport as fields. (FIX 4.4 Volume 4, "Execution Report".)
 use Rattle.std.specs.Prelude.{◌≡◌, ℕ, ◌<◌, ◌^◌, true, List, [], ◌∷◌, ◌++◌, Option, IfSome, decimal}
-use Rattle.fix_fields.specs.Field.{Field, first_value}
+use Rattle.fix_values.specs.Field.{Field, first_value}
 use Rattle.fix_values.specs.declared.format.Format.TheVariants as formats
 use Rattle.fix_values.specs.declared.format.Row.{Row}
-use Rattle.fix_fields.specs.declared.session_refusal.SessionRefusal.{SessionRefusal}
+use Rattle.fix_values.specs.fix_fields.declared.session_refusal.SessionRefusal.{SessionRefusal}
 use Rattle.fix_types.specs.declared.report.Report.{Report}
 use Rattle.fix_values.specs.Texts.{is_cl_ord_id}
 use Rattle.fix_values.specs.Letters.{exec_letter, exec_type_of, status_letter, ord_status_of}

@@ -2,10 +2,10 @@
 -- Order - Single", "Order Cancel Request" and "Order Cancel/Replace Request", with the fields that the gateway
 -- reads.)
 use Rattle.std.specs.Prelude.{ℕ, List, [], ◌∷◌, Option}
-use Rattle.fix_fields.specs.Field.{Field}
+use Rattle.fix_values.specs.Field.{Field}
 use Rattle.fix_values.specs.declared.format.Format.TheVariants as formats
 use Rattle.fix_values.specs.declared.format.Row.{Row}
-use Rattle.fix_fields.specs.declared.session_refusal.SessionRefusal.{SessionRefusal}
+use Rattle.fix_values.specs.fix_fields.declared.session_refusal.SessionRefusal.{SessionRefusal}
 use Rattle.fix_values.specs.Formats.{first_refusal}
 
 -- the tags that have to be there, in the order in which they are judged

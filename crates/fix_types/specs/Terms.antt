@@ -1,6 +1,6 @@
 -- The texts of the terms of a new order, of a replace and of a report.
 use Rattle.std.specs.Prelude.{◌≡◌, ℕ, true, List, Option}
-use Rattle.fix_fields.specs.Field.{Field, first_value}
+use Rattle.fix_values.specs.Field.{Field, first_value}
 use Rattle.fix_values.specs.declared.format.Format.TheVariants as formats
 use Rattle.fix_types.specs.declared.terms.Terms.{Terms}
 use Rattle.fix_types.specs.declared.report_reading.ReportTexts.{ReportTexts}

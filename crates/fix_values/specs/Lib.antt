@@ -4,3 +4,4 @@ pub mod Reasons
 pub mod Formats
 pub mod Slots
 pub use Rattle.fix_fields.specs.Field
+pub use Rattle.fix_fields.specs as fix_fields

@@ -2,8 +2,8 @@
 use Rattle.std.proofs.Common.{◌≡◌, ◌==◌, ◌<◌, ◌+◌, eqb-true, ℕ, suc, zero, Bool, true, false, List, [], ◌∷◌, map, length, get_or, Option, None, refl, sym, ap, ◌∙◌, arith}
 use Rattle.std.specs.Prelude.{if◌then◌else◌, ◌||◌}
 use Rattle.std.specs.List.{list_any}
-use Rattle.gate_law.specs.Events.{LinkOut}
-use Rattle.gate_law.specs.After.{unless_closed}
+use Rattle.gate_sessions.specs.gate_law.Events.{LinkOut}
+use Rattle.gate_sessions.specs.gate_law.After.{unless_closed}
 use Rattle.gate_sessions.specs.declared.client_line.ClientLine.{ClientLine}
 use Rattle.gate_sessions.specs.declared.port_line.PortLine.{PortLine}
 use Rattle.gate_sessions.specs.Lines.{ClientLinks, PortLinks, link_set}

@@ -2,9 +2,9 @@
 use Rattle.std.specs.Prelude.{ℕ, ◌==◌, Bool, List, [], map, Option, Some, None, if◌then◌else◌}
 use Rattle.std.specs.List.{list_any}
 use Rattle.gate_sessions.specs.session_law.Frames.{ToldLink}
-use Rattle.gate_law.specs.Events.{LinkOut}
-use Rattle.gate_law.specs.Sessions.{to_link}
-use Rattle.gate_law.specs.After.{is_close, unless_closed}
+use Rattle.gate_sessions.specs.gate_law.Events.{LinkOut}
+use Rattle.gate_sessions.specs.Sessions.{to_link}
+use Rattle.gate_sessions.specs.gate_law.After.{is_close, unless_closed}
 
 -- what a client's session says, in bytes
 abbrev pub outs_told_on : Option ℕ → List ToldLink → List LinkOut

@@ -1,10 +1,10 @@
 //! A whole frame of a client.
 
 ghost use Rattle.std.specs.Prelude.{◌≡◌, ◌≤◌, ◌↔◌, length, IsSome, IfSome};
-ghost use Rattle.gate_law.specs.fix_fields.Field.{fields_text};
-ghost use Rattle.session_writing.specs.fix_framing.Stream.{longest};
+ghost use Rattle.gate_sessions.specs.Field.{fields_text};
+ghost use Rattle.gate_sessions.specs.session_writing.fix_framing.Stream.{longest};
 
-use gate_law::Fields;
+use gate_sessions::Fields;
 use std::marker::Model;
 
 /// A whole frame of a client: all its fields, which print in at most `ClientFrame::LONGEST` bytes. Contracts see the
@@ -18,8 +18,8 @@ pub struct ClientFrame {
 
 impl Model for ClientFrame {
     ghost use Rattle.std.specs.Prelude.{List, length, ◌≤◌};
-    ghost use Rattle.gate_law.specs.fix_fields.Field.{Field, fields_text};
-    ghost use Rattle.session_writing.specs.fix_framing.Stream.{longest};
+    ghost use Rattle.gate_sessions.specs.Field.{Field, fields_text};
+    ghost use Rattle.gate_sessions.specs.session_writing.fix_framing.Stream.{longest};
 
     ghost Value = { List Field };
 

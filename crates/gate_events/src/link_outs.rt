@@ -1,14 +1,14 @@
 //! What sessions say, as their links are told it.
 
 ghost use Rattle.std.specs.Prelude.{◌≡◌, ◌++◌, map, IfOk};
-ghost use Rattle.session_writing.specs.Written.{told_bytes};
-ghost use Rattle.gate_law.specs.Sessions.{to_link, to_port, port_line};
-ghost use Rattle.gate_law.specs.After.{is_close};
+ghost use Rattle.gate_sessions.specs.session_writing.Written.{told_bytes};
+ghost use Rattle.gate_sessions.specs.Sessions.{to_link, to_port, port_line};
+ghost use Rattle.gate_sessions.specs.gate_law.After.{is_close};
 ghost use Rattle.gate_events.specs.Seen.{link_out_seen};
 ghost use Rattle.gate_events.specs.Links.{outs_told_on, is_link_closed};
 
 use crate::batch::LinkOut;
-use fix_session::SessionOut;
+use gate_sessions::SessionOut;
 use soup_session::{PortOut, WholeWire};
 use std::alloc::{AllocError, Global};
 

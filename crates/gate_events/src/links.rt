@@ -1,11 +1,11 @@
 //! A line is told what its session said, and loses its link where that closes it.
 
 ghost use Rattle.std.specs.Prelude.{◌≡◌, ◌<◌, ◌+◌, ◌++◌, ℕ, List, length, map, Option, IfOk};
-ghost use Rattle.session_writing.specs.Written.{told_bytes};
+ghost use Rattle.gate_sessions.specs.session_writing.Written.{told_bytes};
 ghost use Rattle.gate_sessions.specs.session_law.Runs.{Timed};
 ghost use Rattle.soup_session.specs.Table.{PortCall};
-ghost use Rattle.gate_law.specs.Settings.{Settings};
-ghost use Rattle.gate_law.specs.Sessions.{to_port};
+ghost use Rattle.gate_sessions.specs.Settings.{Settings};
+ghost use Rattle.gate_sessions.specs.Sessions.{to_port};
 ghost use Rattle.gate_sessions.specs.Lines.{ClientsLeave, ClientLinks, PortsLeave, PortLinks, NextWithin};
 ghost use Rattle.gate_sessions.specs.Lines.{ClientStands, ClientsSettledAs, PortStands, PortsSettledAs};
 ghost use Rattle.gate_events.specs.Seen.{link_out_seen};
@@ -13,8 +13,7 @@ ghost use Rattle.gate_events.specs.Links.{outs_told_on, unlinked};
 
 use crate::batch::LinkOut;
 use crate::link_outs::{closes_link, tell_client, tell_port};
-use fix_session::{SessionOut, SessionTurn};
-use gate_sessions::{ClientLine, PortLine, client_close, port_close};
+use gate_sessions::{ClientLine, PortLine, SessionOut, SessionTurn, client_close, port_close};
 use soup_session::PortOut;
 use std::alloc::{AllocError, Global};
 

@@ -1,7 +1,7 @@
 //! Batches of their parts.
 
 ghost use Rattle.std.specs.Prelude.{◌≡◌, [], ◌∷◌, None, IfOk, map};
-ghost use Rattle.gate_law.specs.Events.{empty, is_the_number, Close};
+ghost use Rattle.gate_sessions.specs.gate_law.Events.{empty, is_the_number, Close};
 ghost use Rattle.gate_events.specs.Seen.{batch_seen, link_out_seen};
 ghost use Rattle.gate_events.specs.Batches.{batch_of};
 

@@ -3,7 +3,7 @@ use Rattle.std.proofs.Common.{◌≡◌, ◌==◌, ℕ, Bool, true, false, not, 
 use Rattle.std.proofs.Common.{◌∙◌, is_some, option_map, length, eq-eqb, inl, inr}
 use Rattle.std.proofs.lemmas.Bool.{eqb-false, ne_eqb, cases_Bool, cond-true, cond-false}
 use Rattle.std.specs.Prelude.{if◌then◌else◌, ◌&&◌, ◌⊎◌}
-use Rattle.fix_types.specs.declared.application.AppMsg.{AppMsg}
+use Rattle.session_law.specs.fix_types.declared.application.AppMsg.{AppMsg}
 use Rattle.soup_packets.specs.declared.packet.Packet.{Packet}
 use Rattle.order_law.specs.ouch_codec.Values.{decoded}
 use Rattle.soup_session.specs.declared.port_fault.PortFault.{PortFault}

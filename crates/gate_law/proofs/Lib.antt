@@ -8,3 +8,4 @@ mod Targets
 pub mod Clients
 pub mod Counted
 pub mod Steps
+pub use Rattle.session_law.proofs as session_law

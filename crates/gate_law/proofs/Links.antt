@@ -5,7 +5,7 @@ use Rattle.std.proofs.lemmas.Bool.{eqb-true, eqb-false, ne_eqb, cases_Bool, cond
 use Rattle.std.proofs.lemmas.List.Folds.{list_any-append}
 use Rattle.std.specs.Prelude.{if◌then◌else◌, ◌&&◌, ◌||◌, ◌⊎◌}
 use Rattle.std.specs.List.{list_any}
-use Rattle.fix_types.specs.declared.application.AppMsg.{AppMsg}
+use Rattle.session_law.specs.fix_types.declared.application.AppMsg.{AppMsg}
 use Rattle.soup_session.specs.declared.port_fault.PortFault.{PortFault}
 use Rattle.session_law.specs.Runs.{Timed, OnMessage}
 use Rattle.fix_fields.specs.Field.{Message}

@@ -2,7 +2,7 @@
 use Rattle.std.proofs.Common.{◌≡◌, ◌==◌, ℕ, Bool, true, false, not, List, [], ◌∷◌, ◌++◌, Option, Some, None, refl, ap, sym, ◌∙◌, length, map, reverse, inl, inr}
 use Rattle.std.proofs.Math.Dec.{eqb-suc-zero}
 use Rattle.std.specs.Prelude.{if◌then◌else◌, ◌&&◌, ◌⊎◌}
-use Rattle.fix_types.specs.declared.application.AppMsg.{AppMsg}
+use Rattle.session_law.specs.fix_types.declared.application.AppMsg.{AppMsg}
 use Rattle.soup_packets.specs.declared.packet.Packet.{Packet}
 use Rattle.soup_session.specs.Table as port
 use Rattle.session_law.specs.Runs.{Timed, OnMessage}

@@ -17,6 +17,7 @@ pub use Rattle.soup_session.specs.Table
 pub use Rattle.fix_fields.specs as fix_fields
 pub use Rattle.fix_stamp.specs as fix_stamp
 pub use Rattle.soup_packets.specs as soup_packets
-pub use Rattle.fix_types.specs as fix_types
+pub use Rattle.session_law.specs.fix_types as fix_types
 pub use Rattle.soup_session.specs as soup_session
 pub use Rattle.order_law.specs as order_law
+pub use Rattle.session_law.specs as session_law

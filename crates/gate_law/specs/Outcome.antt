@@ -8,10 +8,10 @@
 use Rattle.std.specs.Prelude.{ℕ, ◌==◌, Bool, true, false, ◌&&◌, List, [], ◌∷◌, map, drop, Option, Some, None, unwrap_or}
 use Rattle.std.specs.Prelude.{option_map, if◌then◌else◌, slice_index}
 use Rattle.std.specs.List.{flat_map}
-use Rattle.fix_types.specs.declared.application.AppMsg.{AppMsg}
+use Rattle.session_law.specs.fix_types.declared.application.AppMsg.{AppMsg}
 use Rattle.soup_packets.specs.declared.packet.Packet.{Packet}
 use Rattle.order_law.specs.ouch_codec.Values.{decoded}
-use Rattle.fix_types.specs.Application.{message_fields}
+use Rattle.session_law.specs.fix_types.Application.{message_fields}
 use Rattle.soup_session.specs.declared.port_fault.PortFault.{PortFault}
 use Rattle.soup_session.specs.Faults.{fault_number}
 use Rattle.soup_session.specs.Table as calls

@@ -14,5 +14,6 @@ pub use laws::{
     second_links_are_closed, sends_leave_the_state, steps_keep_the_promises,
     turns_are_no_more_than_events,
 };
+pub use order_law::Inbound;
 pub use soup_packets::Packet;
 pub use soup_session::{PortFault, PortOut, PortSession, PortState, PortTurn};

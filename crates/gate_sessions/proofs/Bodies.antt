@@ -11,8 +11,8 @@ use Rattle.fix_types.specs.declared.application.AppBody.TheVariants as bodies
 use Rattle.fix_types.specs.Report as report
 use Rattle.fix_types.specs.CancelReject as reject
 use Rattle.fix_types.specs.Application.{body_fields}
-use Rattle.session_law.specs.Runs.{Timed, state_after}
-use Rattle.order_law.specs.Messages.{is_header, body_of}
+use Rattle.gate_law.specs.session_law.Runs.{Timed, state_after}
+use Rattle.gate_law.specs.order_law.Messages.{is_header, body_of}
 use Rattle.gate_law.specs.Settings.{Settings, client_name}
 use Rattle.gate_law.specs.Sessions.{issue, report_issued}
 use Rattle.gate_sessions.specs.Leaving.{issue_call}

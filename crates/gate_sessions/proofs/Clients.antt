@@ -2,13 +2,13 @@
 use Rattle.std.proofs.Common.{◌≡◌, ℕ, List, [], ◌∷◌, refl, sym, ap, ◌∙◌, subst, map}
 use Rattle.gate_law.specs.fix_fields.Field.{Field}
 use Rattle.gate_law.specs.fix_stamp.Stamp.{stamp_text}
-use Rattle.session_law.specs.declared.kind.Kind.{Kind}
-use Rattle.session_law.specs.Session.{State}
-use Rattle.session_law.specs.Runs.{Call, Issue, SessionHistory, Leaves, Timed, call_turn, turn_after, turns_after}
-use Rattle.session_law.specs.Runs.{state_after, calls_seen, issued_frame, step}
-use Rattle.session_law.specs.Frames.{frame_fields, told_of_out}
-use Rattle.session_law.proofs.Runs.{after-Leaves, Leaves-after}
-use Rattle.session_law.proofs.Expects.{Leaves-named}
+use Rattle.gate_law.specs.session_law.declared.kind.Kind.{Kind}
+use Rattle.gate_law.specs.session_law.Session.{State}
+use Rattle.gate_law.specs.session_law.Runs.{Call, Issue, SessionHistory, Leaves, Timed, call_turn, turn_after, turns_after}
+use Rattle.gate_law.specs.session_law.Runs.{state_after, calls_seen, issued_frame, step}
+use Rattle.gate_law.specs.session_law.Frames.{frame_fields, told_of_out}
+use Rattle.gate_law.proofs.session_law.Runs.{after-Leaves, Leaves-after}
+use Rattle.gate_law.proofs.session_law.Expects.{Leaves-named}
 use Rattle.fix_session.specs.declared.session.SessionTurn.{SessionTurn}
 use Rattle.fix_session.specs.Meets.{Tells}
 use Rattle.gate_law.specs.Settings.{Settings, client_name}

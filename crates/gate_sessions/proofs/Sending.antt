@@ -2,13 +2,13 @@
 use Rattle.std.proofs.Common.{◌≡◌, ℕ, ◌<◌, ◌≤◌, ◌+◌, List, [], ◌∷◌, ◌++◌, length, take, get_or, map, sym, ap, ◌∙◌}
 use Rattle.std.proofs.Common.{append-nil, append_assoc, arith}
 use Rattle.std.proofs.lemmas.List.{map-append, take_more}
-use Rattle.order_law.specs.ouch_codec.declared.inbound.Inbound.{Inbound}
-use Rattle.order_law.specs.ouch_codec.declared.inbound.Inbound.TheVariants.{Enter, Replace, Cancel}
-use Rattle.order_law.specs.ouch_codec.Inbound.{inbound_bytes}
-use Rattle.order_law.specs.ouch_codec.LaidOut.{length-written}
-use Rattle.order_law.specs.ouch_codec.EnterOrderLaws.{enter_order_laid_out}
-use Rattle.order_law.specs.ouch_codec.ReplaceLaws.{replace_laid_out}
-use Rattle.order_law.specs.ouch_codec.CancelLaws.{cancel_laid_out}
+use Rattle.gate_law.specs.order_law.ouch_codec.declared.inbound.Inbound.{Inbound}
+use Rattle.gate_law.specs.order_law.ouch_codec.declared.inbound.Inbound.TheVariants.{Enter, Replace, Cancel}
+use Rattle.gate_law.specs.order_law.ouch_codec.Inbound.{inbound_bytes}
+use Rattle.gate_law.specs.order_law.ouch_codec.LaidOut.{length-written}
+use Rattle.gate_law.specs.order_law.ouch_codec.EnterOrderLaws.{enter_order_laid_out}
+use Rattle.gate_law.specs.order_law.ouch_codec.ReplaceLaws.{replace_laid_out}
+use Rattle.gate_law.specs.order_law.ouch_codec.CancelLaws.{cancel_laid_out}
 use Rattle.gate_law.specs.soup_session.declared.port_turn.PortOut.{PortOut}
 use Rattle.gate_law.specs.soup_session.Table.{PortCall, Send}
 use Rattle.gate_law.specs.Settings.{Settings}

@@ -4,11 +4,11 @@ use Rattle.std.proofs.Common.{ap, ◌∙◌, append-nil, append_assoc, eq-eqb}
 use Rattle.std.proofs.lemmas.List.{map-append, take_more}
 use Rattle.fix_types.specs.declared.application.AppBody.{AppBody}
 use Rattle.fix_types.specs.Application.{body_fields}
-use Rattle.session_law.specs.declared.frame.Out.{Out}
-use Rattle.session_law.specs.Runs.{Timed}
-use Rattle.session_law.specs.Frames.{ToldLink, told_of_out}
+use Rattle.gate_law.specs.session_law.declared.frame.Out.{Out}
+use Rattle.gate_law.specs.session_law.Runs.{Timed}
+use Rattle.gate_law.specs.session_law.Frames.{ToldLink, told_of_out}
 use Rattle.gate_law.specs.fix_fields.Field.{Message}
-use Rattle.order_law.specs.Messages.{body_of}
+use Rattle.gate_law.specs.order_law.Messages.{body_of}
 use Rattle.gate_law.specs.Settings.{Settings, client_name}
 use Rattle.gate_law.specs.Sessions.{client_answer, client_outs, client_reports, issue, issues, report_issued}
 use Rattle.gate_sessions.specs.Leaving.{issue_call}

@@ -3,10 +3,10 @@ use Rattle.std.specs.Prelude.{◌≡◌, ℕ, List, map}
 use Rattle.gate_law.specs.soup_session.declared.machine.Port.{Port}
 use Rattle.gate_law.specs.soup_session.Table as port
 use Rattle.gate_law.specs.soup_session.Calls as ports
-use Rattle.session_law.specs.Session.{State, Given}
-use Rattle.session_law.specs.Expected.{expected}
-use Rattle.session_law.specs.Runs.{Timed, state_after, turns_after}
-use Rattle.session_law.specs.Frames.{told_of_out}
+use Rattle.gate_law.specs.session_law.Session.{State, Given}
+use Rattle.gate_law.specs.session_law.Expected.{expected}
+use Rattle.gate_law.specs.session_law.Runs.{Timed, state_after, turns_after}
+use Rattle.gate_law.specs.session_law.Frames.{told_of_out}
 use Rattle.fix_session.specs.session_writing.Written.{told_bytes}
 use Rattle.fix_session.specs.declared.session.SessionTurn.{SessionTurn}
 use Rattle.fix_session.specs.Issues.{call_of_body}

@@ -3,8 +3,8 @@ use Rattle.std.specs.Prelude.{◌≡◌, ℕ, ◌+◌, ◌≤◌, ◌==◌, List
 use Rattle.gate_law.specs.soup_session.Table as port
 use Rattle.gate_law.specs.soup_session.declared.machine.Port.{Port}
 use Rattle.gate_law.specs.soup_session.Calls.{IsUp, next_of}
-use Rattle.session_law.specs.Session.{State}
-use Rattle.session_law.specs.Runs.{Timed}
+use Rattle.gate_law.specs.session_law.Session.{State}
+use Rattle.gate_law.specs.session_law.Runs.{Timed}
 use Rattle.gate_law.specs.Settings.{Settings}
 use Rattle.gate_sessions.specs.declared.client_line.ClientLine.{ClientLine}
 use Rattle.gate_sessions.specs.declared.port_line.PortLine.{PortLine}

@@ -2,10 +2,10 @@
 
 ghost use Rattle.std.specs.Prelude.{◌≡◌, ◌<◌, ◌+◌, ℕ, List, ◌∷◌, [], ◌++◌, Option, IfOk, OnOk, length, map};
 ghost use Rattle.fix_types.specs.Application.{body_fields};
-ghost use Rattle.session_law.specs.Runs.{Timed};
-ghost use Rattle.session_law.specs.Frames.{told_of_out};
+ghost use Rattle.gate_law.specs.session_law.Runs.{Timed};
+ghost use Rattle.gate_law.specs.session_law.Frames.{told_of_out};
 ghost use Rattle.fix_session.specs.session_writing.Written.{told_bytes};
-ghost use Rattle.order_law.specs.Messages.{body_of};
+ghost use Rattle.gate_law.specs.order_law.Messages.{body_of};
 ghost use Rattle.gate_law.specs.Settings.{Settings, client_name};
 ghost use Rattle.gate_law.specs.Sessions.{client_answer, client_outs, client_reports, issues, report_issued};
 ghost use Rattle.gate_sessions.specs.Leaving.{issue_call};

@@ -1,7 +1,7 @@
 //! A client's line: its current link, and its session.
 
 ghost use Rattle.std.specs.Prelude.{◌≡◌, ℕ, List, [], ◌∷◌, Some, None, IfOk, OnOk, OnErr, true, false};
-ghost use Rattle.session_law.specs.Runs.{Timed, OnLink, OnMessage, OnTick};
+ghost use Rattle.gate_law.specs.session_law.Runs.{Timed, OnLink, OnMessage, OnTick};
 ghost use Rattle.gate_law.specs.Settings.{Settings, client_name};
 ghost use Rattle.gate_law.specs.Sessions.{client_answer, report_issued};
 ghost use Rattle.gate_sessions.specs.Leaving.{ClientLeaves, IsClientAnswer, expected_in, issue_call};

@@ -2,7 +2,7 @@
 
 ghost use Rattle.std.specs.Prelude.{◌≡◌, ◌<◌, ◌+◌, ℕ, List, [], ◌∷◌, Option, Some, None, IfOk, OnOk, OnErr, length};
 ghost use Rattle.std.specs.Prelude.{map, slice_get, slice_set, true, false};
-ghost use Rattle.session_law.specs.Runs.{Timed, OnLink, OnMessage, OnTick};
+ghost use Rattle.gate_law.specs.session_law.Runs.{Timed, OnLink, OnMessage, OnTick};
 ghost use Rattle.gate_law.specs.Settings.{Settings};
 ghost use Rattle.gate_law.specs.Sessions.{client_answer, report_issued};
 ghost use Rattle.gate_sessions.specs.Leaving.{ClientLeaves, IsClientAnswer, issue_call};

@@ -3,8 +3,8 @@
 ghost use Rattle.std.specs.Prelude.{◌≡◌, ℕ, List, [], ◌∷◌, map};
 ghost use Rattle.fix_types.specs.declared.application.AppBody.{AppBody};
 ghost use Rattle.fix_types.specs.Application.{body_fields};
-ghost use Rattle.session_law.specs.Runs.{Timed};
-ghost use Rattle.order_law.specs.Messages.{body_of};
+ghost use Rattle.gate_law.specs.session_law.Runs.{Timed};
+ghost use Rattle.gate_law.specs.order_law.Messages.{body_of};
 ghost use Rattle.gate_law.specs.Settings.{Settings};
 ghost use Rattle.gate_law.specs.Sessions.{issue, report_issued};
 ghost use Rattle.gate_sessions.specs.Leaving.{issue_call};

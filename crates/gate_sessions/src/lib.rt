@@ -18,7 +18,8 @@ pub use client_lines::{
     client_close, client_frame, client_gone, client_issue, client_tick, client_up, clients_settle,
     clients_undo,
 };
-pub use fix_session::IssuedReport;
+pub use fix_session::{IssuedReport, SessionOut, SessionTurn, push_number};
+pub use gate_law::Fields;
 pub use laws::issues_are_what_is_reported;
 pub use port_line::PortLine;
 pub use port_lines::{

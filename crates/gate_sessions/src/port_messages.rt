@@ -1,7 +1,7 @@
 //! Several messages sent on the port's line at a place, one after another.
 
 ghost use Rattle.std.specs.Prelude.{◌≡◌, ◌<◌, ◌+◌, ℕ, List, ◌++◌, Option, IfOk, length, map};
-ghost use Rattle.order_law.specs.ouch_codec.Inbound.{inbound_bytes};
+ghost use Rattle.gate_law.specs.order_law.ouch_codec.Inbound.{inbound_bytes};
 ghost use Rattle.gate_law.specs.soup_session.Table.{PortCall, Send};
 ghost use Rattle.gate_law.specs.Settings.{Settings};
 ghost use Rattle.gate_law.specs.Sessions.{port_answer, port_outs, sends};
@@ -10,8 +10,7 @@ ghost use Rattle.gate_sessions.specs.Lines.{PortStands, PortsSettledAs};
 
 use crate::port_line::PortLine;
 use crate::port_lines::port_send;
-use gate_law::PortOut;
-use order_law::Inbound;
+use gate_law::{Inbound, PortOut};
 use std::alloc::{AllocError, Global};
 
 /// Sends messages, in their order, each once, while the port is up, and gives what goes to the link.

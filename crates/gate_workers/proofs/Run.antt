@@ -6,8 +6,8 @@ use Rattle.std.proofs.KnownBytes.{Consumes-nil, Consumes-trans, Appends-nil, App
 use Rattle.std.specs.Io.KnownBytes.{Appends}
 use Rattle.std.proofs.lemmas.Grind.{flat_map-append}
 use Rattle.std.proofs.lemmas.List.Folds.{list_any-append}
-use Rattle.gate_events.specs.gate_law.Events as law
-use Rattle.gate_events.specs.Links.{is_link_closed}
+use Rattle.link_io.specs.Events as law
+use Rattle.link_io.specs.Links.{is_link_closed}
 use Rattle.link_io.specs.declared.link_fault.LinkFault.{LinkFault}
 use Rattle.link_io.specs.declared.link_fault.LinkFault.TheVariants.{ReadFailed, WriteFailed, Malformed, StepLimit}
 use Rattle.link_io.specs.declared.link_fault.LinkFault.TheVariants.{NoMemory}

@@ -1,6 +1,6 @@
 -- Ticks that are put one after another.
 use Rattle.std.proofs.Common.{◌≡◌, ⊎_elim, ℕ, ◌++◌, List, [], ◌∷◌, sym, ap, ◌∙◌, append_assoc, append-nil}
-use Rattle.gate_events.specs.gate_law.Events.{Event}
+use Rattle.link_io.specs.Events.{Event}
 use Rattle.gate_workers.specs.TickersWork.{AreTicks, IsTick, MayPut, PutsTicks}
 
 pub ticks_none : (clients ports : ℕ) (x : List Event) → PutsTicks clients ports x x

@@ -4,7 +4,7 @@
 -- beginning and end are events of their own is this gateway's.
 use Rattle.std.specs.Prelude.{◌≡◌, ℕ, ◌++◌, Bool, true, false, List, [], ◌∷◌, Option, Result, Ok, Err}
 use Rattle.std.specs.Io.KnownBytes.{Consumes, IsAtEnd}
-use Rattle.gate_events.specs.gate_law.Events as law
+use Rattle.link_io.specs.Events as law
 use Rattle.link_io.specs.declared.link_fault.LinkFault.{LinkFault}
 use Rattle.link_io.specs.declared.link_fault.LinkFault.TheVariants.{ReadFailed, WriteFailed, Malformed, StepLimit}
 use Rattle.link_io.specs.declared.link_fault.LinkFault.TheVariants.{NoMemory}

@@ -1,6 +1,6 @@
 -- What a ticker puts.
 use Rattle.std.specs.Prelude.{◌≡◌, ◌⊎◌, ℕ, ◌≤◌, ◌++◌, List, [], ◌∷◌}
-use Rattle.gate_events.specs.gate_law.Events.{Event, ClientTick, PortTick}
+use Rattle.link_io.specs.Events.{Event, ClientTick, PortTick}
 
 -- a tick of one of so many clients or ports
 abbrev pub IsTick : (clients ports : ℕ) → Event → Type 0

@@ -1,7 +1,7 @@
 -- What the writer's worker of a link has written when its link is over.
 use Rattle.std.specs.Prelude.{◌≡◌, ℕ, ◌<◌, ◌++◌, Bool, true, false, List, [], length, Option, Result, Ok, Err}
 use Rattle.std.specs.Io.KnownBytes.{Appends}
-use Rattle.gate_events.specs.gate_law.Events.{LinkOut}
+use Rattle.link_io.specs.Events.{LinkOut}
 use Rattle.link_io.specs.declared.link_fault.LinkFault.{LinkFault}
 use Rattle.link_io.specs.declared.link_fault.LinkFault.TheVariants.{ReadFailed, WriteFailed, Malformed, StepLimit}
 use Rattle.link_io.specs.declared.link_fault.LinkFault.TheVariants.{NoMemory}

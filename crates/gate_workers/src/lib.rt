@@ -12,8 +12,7 @@ mod ticks;
 mod writer;
 
 pub use clock::Clock;
-pub use gate_events::{Event, LinkOut};
-pub use link_io::{Gate, LinkFault};
+pub use link_io::{Event, Gate, LinkFault, LinkOut};
 pub use reader::{client_reader, port_reader};
 pub use ticks::ticker;
 pub use writer::{WriterEnd, client_writer, port_writer};

@@ -1,16 +1,18 @@
 //! The worker that reads a link.
 
 ghost use Rattle.std.specs.Prelude.{◌≡◌, ◌≤◌, ◌++◌, ◌∷◌, [], ℕ};
-ghost use Rattle.gate_events.specs.gate_law.Events as law;
-ghost use Rattle.gate_events.specs.Seen.{event_seen};
+ghost use Rattle.link_io.specs.Events as law;
+ghost use Rattle.link_io.specs.Seen.{event_seen};
 ghost use Rattle.link_io.specs.Decoding.{AreAllOfFrames, AreAllOfPackets, FramesOfLink, MadeOfFrames, MadeOfPackets};
 ghost use Rattle.link_io.specs.Decoding.{PacketsOfLink};
 ghost use Rattle.gate_workers.specs.ReadersWork.{HasReadAll, ReadsLink};
 
 use crate::clock::Clock;
 use crate::ending::ends_link;
-use gate_events::{ClientNumber, Event, PortNumber};
-use link_io::{ClientReader, Decoder, Gate, LinkFault, PortReader, Progress, Reader};
+use link_io::{
+    ClientNumber, ClientReader, Decoder, Event, Gate, LinkFault, PortNumber, PortReader, Progress,
+    Reader,
+};
 use std::alloc::Global;
 use std::io::Read;
 use std::sync::Wait;

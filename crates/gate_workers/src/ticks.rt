@@ -1,12 +1,11 @@
 //! The worker that has time pass.
 
 ghost use Rattle.std.specs.Prelude.{◌≡◌, ℕ};
-ghost use Rattle.gate_events.specs.Seen.{event_seen};
+ghost use Rattle.link_io.specs.Seen.{event_seen};
 ghost use Rattle.gate_workers.specs.TickersWork.{MayPut, PutsTicks};
 
 use crate::clock::Clock;
-use gate_events::{ClientNumber, Event, PortNumber};
-use link_io::Gate;
+use link_io::{ClientNumber, Event, Gate, PortNumber};
 use std::alloc::Global;
 use std::sync::Wait;
 use std::sync::atomic::{AtomicBool, Ordering};

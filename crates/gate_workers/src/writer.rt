@@ -5,8 +5,7 @@ ghost use Rattle.gate_workers.specs.WritersWork.{WritesLink};
 
 use crate::clock::Clock;
 use crate::ending::ends_link;
-use gate_events::{ClientNumber, PortNumber};
-use link_io::{BatchWriter, Gate, LinkFault};
+use link_io::{BatchWriter, ClientNumber, Gate, LinkFault, PortNumber};
 use std::alloc::Global;
 use std::io::Write;
 use std::sync::Wait;

@@ -1,8 +1,8 @@
 pub mod Own
 pub mod Told
 pub use Rattle.gate_law.specs.Holds
-pub use Rattle.gate_audit.specs.gate_journal.Kept
-pub use Rattle.gate_audit.specs.Pairs
+pub use Rattle.audit_lines.specs.gate_audit.gate_journal.Kept
+pub use Rattle.audit_lines.specs.gate_audit.Pairs
 pub use Rattle.audit_lines.specs.Lines
 pub use Rattle.journal_file.specs.Written
 pub use Rattle.gate_law.specs as gate_law

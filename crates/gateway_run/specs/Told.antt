@@ -4,9 +4,9 @@ use Rattle.std.specs.Io.KnownBytes.{Appends}
 use Rattle.gate_law.specs.Settings.{Settings}
 use Rattle.gate_law.specs.Events.{History}
 use Rattle.gate_law.specs.Holds.{Holds}
-use Rattle.gate_audit.specs.gate_journal.Kept.{Kept}
+use Rattle.audit_lines.specs.gate_audit.gate_journal.Kept.{Kept}
 use Rattle.run_lines.specs.link_io.declared.link_fault.LinkFault.{LinkFault}
-use Rattle.gate_audit.specs.Pairs.{accepted_pairs}
+use Rattle.audit_lines.specs.gate_audit.Pairs.{accepted_pairs}
 use Rattle.audit_lines.specs.Lines.{shown_audit}
 
 -- a day: its settings, its events with their batches, and the first fault of a link

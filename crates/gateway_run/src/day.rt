@@ -1,13 +1,12 @@
 //! A day that is over, and its audit as it is printed.
 
 ghost use Rattle.std.specs.Prelude.{◌≡◌, ◌≤◌};
-ghost use Rattle.gate_audit.specs.gate_journal.Kept.{turns};
+ghost use Rattle.audit_lines.specs.gate_audit.gate_journal.Kept.{turns};
 ghost use Rattle.journal_file.specs.Written.{IsFileOfTurns};
 ghost use Rattle.gateway_run.specs.Told.{AuditIsTold, AuditIsToldOf};
 
 use crate::fault::RunFault;
-use audit_lines::write_audit;
-use gate_audit::{History, ReadingFault, Settings, audit};
+use audit_lines::{History, ReadingFault, Settings, audit, write_audit};
 use gate_serving::LinkFault;
 use journal_file::write_day;
 use std::alloc::Global;
@@ -24,7 +23,7 @@ pub struct Day {
 
 impl Model for Day {
     ghost use Rattle.gate_law.specs.Holds.{Holds};
-    ghost use Rattle.gate_audit.specs.gate_journal.Kept.{turns};
+    ghost use Rattle.audit_lines.specs.gate_audit.gate_journal.Kept.{turns};
     ghost use Rattle.gateway_run.specs.Told.{DayState};
 
     ghost Value = { DayState };
@@ -37,7 +36,7 @@ impl Model for Day {
 impl Day {
     ghost use Rattle.std.specs.Prelude.{◌≡◌};
     ghost use Rattle.gate_law.specs.Holds.{Holds};
-    ghost use Rattle.gate_audit.specs.gate_journal.Kept.{turns};
+    ghost use Rattle.audit_lines.specs.gate_audit.gate_journal.Kept.{turns};
 
     /// A day of this history by these settings, with the first fault of a link. Takes no memory.
     pub(crate) fn new(history: History, settings: Settings, fault: Option<LinkFault>) -> Day

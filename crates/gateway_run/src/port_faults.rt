@@ -3,8 +3,8 @@
 ghost use Rattle.std.specs.Prelude.{◌≡◌};
 
 use crate::telling::{Teller, Whose};
+use audit_lines::{PortFault, PortNumber};
 use desk_gates::{DeskName, Shared};
-use gate_audit::{PortFault, PortNumber};
 use gate_serving::{LinkEnd, LinkFault, Opened, Opener};
 use std::hash::RandomState;
 use std::sync::Wait;

@@ -10,3 +10,4 @@ pub use Rattle.to_market.specs.NewAsks
 pub use Rattle.to_market.specs.Refusals
 pub use Rattle.order_law.specs as order_law
 pub use Rattle.order_table.specs as order_table
+pub use Rattle.client_requests.specs as client_requests

@@ -11,6 +11,9 @@ mod new_order;
 mod turn;
 mod verdicts;
 
+pub use client_requests::{
+    CancelTurn, Cancelling, Order, ReplaceTurn, Replacing, Sender, on_cancel, on_replace,
+};
 pub use new_order::on_new_order;
 pub use order_table::{GivenToken, Table};
 pub use turn::NewOrderTurn;

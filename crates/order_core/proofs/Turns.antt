@@ -4,13 +4,13 @@ use Rattle.std.proofs.Common.{arith, decimal, Option, None, Some, Result, Ok, Er
 use Rattle.std.specs.Prelude.{OnErr, Bool, option_and_then}
 use Rattle.order_ledger.specs.fix_types.declared.application.AppMsg.{AppMsg}
 use Rattle.order_ledger.specs.fix_types.Application.{body_fields, message_fields}
-use Rattle.market_messages.specs.ouch_codec.declared.inbound.Inbound.{Inbound}
-use Rattle.market_messages.specs.ouch_codec.Inbound.{inbound_bytes}
+use Rattle.order_ledger.specs.market_messages.ouch_codec.declared.inbound.Inbound.{Inbound}
+use Rattle.order_ledger.specs.market_messages.ouch_codec.Inbound.{inbound_bytes}
 use Rattle.outstanding.specs.order_law.Headline.{Each, EachWith, Says, Sends}
 use Rattle.outstanding.specs.order_law.History.{Asked, Heard, OrderHistory, Terms, OrderTurn, terms_of}
 use Rattle.outstanding.specs.order_law.Lawful.{order_token}
-use Rattle.market_messages.specs.ouch_codec.declared.outbound.Outbound.{Outbound}
-use Rattle.market_messages.specs.ouch_codec.declared.refusal.DecodeRefusal.{DecodeRefusal}
+use Rattle.order_ledger.specs.market_messages.ouch_codec.declared.outbound.Outbound.{Outbound}
+use Rattle.order_ledger.specs.market_messages.ouch_codec.declared.refusal.DecodeRefusal.{DecodeRefusal}
 use Rattle.outstanding.specs.order_law.Verdicts.{Port, Down, Up, Ended, Faulted}
 use Rattle.order_machine.specs.Table.{TableState, record_by_token, table_without_orders}
 use Rattle.order_machine.specs.Machine.{GivenByEvent, client_step, faulty, market_step}
@@ -18,8 +18,8 @@ use Rattle.order_machine.specs.Runs.{Finds, Leads, LeadsTo, TurnsLeave}
 use Rattle.outstanding.specs.Kept.{HeldMessages, KeptMessage, kept_from, left_by}
 use Rattle.outstanding.specs.KeptInTurns.{ClientTurnsKeep, KeepsOutstanding, MarketTurnsKeep, NothingIsKept}
 use Rattle.outstanding.specs.KeptInTurns.{QuietTurnsKeep, SaidOfOrder}
-use Rattle.market_messages.specs.Turns.{market_fault_number}
-use Rattle.market_messages.specs.declared.market_fault.MarketFault.{MarketFault}
+use Rattle.order_ledger.specs.market_messages.Turns.{market_fault_number}
+use Rattle.order_ledger.specs.market_messages.declared.market_fault.MarketFault.{MarketFault}
 use Rattle.order_ledger.specs.to_market.declared.port_state.PortState.{PortState}
 use Rattle.order_ledger.specs.to_market.PortsSeen.{port_seen}
 use Rattle.order_ledger.specs.declared.market_error.MarketError.{MarketError}

@@ -1,13 +1,13 @@
 -- When what the core gives is what the ledger gives, and what it keeps is what is asked and not answered.
 use Rattle.std.specs.Prelude.{◌≡◌, ℕ, ◌++◌, List, [], Option, Some, None, Result, Ok, Err, decimal}
 use Rattle.order_ledger.specs.fix_types.declared.application.AppMsg.{AppMsg}
-use Rattle.market_messages.specs.ouch_codec.declared.inbound.Inbound.{Inbound}
-use Rattle.market_messages.specs.ouch_codec.declared.outbound.Outbound.{Outbound}
-use Rattle.market_messages.specs.ouch_codec.declared.refusal.DecodeRefusal.{DecodeRefusal}
+use Rattle.order_ledger.specs.market_messages.ouch_codec.declared.inbound.Inbound.{Inbound}
+use Rattle.order_ledger.specs.market_messages.ouch_codec.declared.outbound.Outbound.{Outbound}
+use Rattle.order_ledger.specs.market_messages.ouch_codec.declared.refusal.DecodeRefusal.{DecodeRefusal}
 use Rattle.outstanding.specs.order_law.History.{terms_of}
 use Rattle.outstanding.specs.order_law.Verdicts.{Port, Down, Up, Ended, Faulted}
 use Rattle.order_machine.specs.Machine.{faulty, market_step}
-use Rattle.market_messages.specs.Turns.{market_fault_number}
+use Rattle.order_ledger.specs.market_messages.Turns.{market_fault_number}
 use Rattle.outstanding.specs.Kept.{KeptMessage, kept_from, left_by}
 use Rattle.order_ledger.specs.declared.market_error.MarketError.{MarketError}
 use Rattle.order_ledger.specs.declared.market_error.MarketError.TheVariants as errors

@@ -2,8 +2,8 @@
 use Rattle.std.specs.Prelude.{◌≡◌, ℕ, Bool, true, ◌&&◌, nat_le, List, [], ◌∷◌, map}
 use Rattle.std.specs.List.{list_all}
 use Rattle.order_ledger.specs.fix_types.Application.{body_fields, message_fields}
-use Rattle.market_messages.specs.ouch_codec.Inbound.{inbound_bytes}
-use Rattle.market_messages.specs.ouch_codec.Values.{decoded}
+use Rattle.order_ledger.specs.market_messages.ouch_codec.Inbound.{inbound_bytes}
+use Rattle.order_ledger.specs.market_messages.ouch_codec.Values.{decoded}
 use Rattle.outstanding.specs.order_law.History as law
 use Rattle.order_core.specs.declared.runs.Event.{Event}
 use Rattle.order_core.specs.declared.runs.Event.TheVariants.{Came, Heard}

@@ -2,12 +2,12 @@
 use Rattle.std.specs.Prelude.{ℕ, List, [], Some, None, map, Result, Ok, Err}
 use Rattle.order_ledger.specs.fix_types.declared.application.AppMsg.{AppMsg}
 use Rattle.order_ledger.specs.fix_types.Application.{body_fields, message_fields}
-use Rattle.market_messages.specs.ouch_codec.Inbound.{inbound_bytes}
-use Rattle.market_messages.specs.ouch_codec.declared.outbound.Outbound.{Outbound}
-use Rattle.market_messages.specs.ouch_codec.declared.refusal.DecodeRefusal.{DecodeRefusal}
+use Rattle.order_ledger.specs.market_messages.ouch_codec.Inbound.{inbound_bytes}
+use Rattle.order_ledger.specs.market_messages.ouch_codec.declared.outbound.Outbound.{Outbound}
+use Rattle.order_ledger.specs.market_messages.ouch_codec.declared.refusal.DecodeRefusal.{DecodeRefusal}
 use Rattle.outstanding.specs.order_law.History.{Came, Heard, OrderTurn}
-use Rattle.market_messages.specs.Turns.{market_fault_number}
-use Rattle.market_messages.specs.declared.market_fault.MarketFault.{MarketFault}
+use Rattle.order_ledger.specs.market_messages.Turns.{market_fault_number}
+use Rattle.order_ledger.specs.market_messages.declared.market_fault.MarketFault.{MarketFault}
 use Rattle.order_ledger.specs.declared.market_error.MarketError.{MarketError}
 use Rattle.order_ledger.specs.declared.market_error.MarketError.TheVariants as errors
 use Rattle.order_core.specs.declared.outcome.CoreOut.{CoreOut}

@@ -1,15 +1,17 @@
 //! The value, and the calls that step it.
 
 ghost use Rattle.std.specs.Prelude.{◌≡◌, length, map, IfOk, MatchOption, None, OnErr, ◌<◌, ◌^◌, ◌∷◌, [], List};
-ghost use Rattle.market_messages.specs.ouch_codec.Values.{decoded};
+ghost use Rattle.order_ledger.specs.market_messages.ouch_codec.Values.{decoded};
 ghost use Rattle.outstanding.specs.order_law.Lawful.{token_of_heard};
-ghost use Rattle.market_messages.specs.ouch_codec.Inbound.{inbound_bytes};
+ghost use Rattle.order_ledger.specs.market_messages.ouch_codec.Inbound.{inbound_bytes};
 ghost use Rattle.order_ledger.specs.to_market.PortsSeen.{port_seen};
 ghost use Rattle.order_core.specs.Meets.{left_after, sent_of};
 
 use crate::outcome::{CoreOut, MarketOut};
-use market_messages::{DecodeRefusal, Inbound, Outbound, decode};
-use order_ledger::{AppMsg, ChangedOrder, ClientTerms, MarketError, OrderLedger, PortState};
+use order_ledger::{
+    AppMsg, ChangedOrder, ClientTerms, DecodeRefusal, Inbound, MarketError, OrderLedger, Outbound,
+    PortState, decode,
+};
 use outstanding::AskedMessages;
 use std::alloc::{AllocError, Global};
 use std::hash::{BuildHasher, BuildHasherDefault, FoldHasher};

@@ -1,7 +1,6 @@
 //! What a step gives.
 
-use market_messages::Inbound;
-use order_ledger::AppBody;
+use order_ledger::{AppBody, Inbound};
 
 /// What a client's message gives: bodies for the client, and messages to its port, in order.
 #[derive(Drop)]

@@ -2,7 +2,7 @@
 
 ghost use Rattle.std.specs.Prelude.{◌≡◌, ◌<◌, ◌^◌, ◌∷◌, true, Some, List, length, map, IfOk, OnErr};
 ghost use Rattle.order_ledger.specs.fix_types.Application.{message_fields};
-ghost use Rattle.market_messages.specs.ouch_codec.Values.{decoded};
+ghost use Rattle.order_ledger.specs.market_messages.ouch_codec.Values.{decoded};
 ghost use Rattle.outstanding.specs.order_law.Headline.{Headline};
 ghost use Rattle.outstanding.specs.order_law.History.{Came, Heard, OrderHistory, Terms};
 ghost use Rattle.order_machine.specs.Runs.{IsTableRun};
@@ -12,8 +12,7 @@ ghost use Rattle.order_ledger.specs.to_market.TermsSeen.{terms_seen};
 ghost use Rattle.order_core.specs.State.{IsAfterTurns, core_clients, CoreHasRoom, IsCoreClient, CoreKeeps};
 
 use crate::order_core::OrderCore;
-use market_messages::Inbound;
-use order_ledger::{AppBody, AppMsg, ClientTerms, MarketError, PortState};
+use order_ledger::{AppBody, AppMsg, ClientTerms, Inbound, MarketError, PortState};
 use std::alloc::{AllocError, Global};
 use std::hash::BuildHasher;
 

@@ -18,7 +18,7 @@ use Rattle.order_machine.proofs.Executed.{count-more}
 use Rattle.order_machine.proofs.Lists.{found-passes}
 use Rattle.order_machine.proofs.Placed.{number-put_own}
 use Rattle.order_machine.proofs.Texts.{eq-is}
-use Rattle.client_requests.specs.orders.Changes.{changed_by}
+use Rattle.new_orders.specs.client_requests.orders.Changes.{changed_by}
 use Rattle.new_orders.specs.order_table.Held.{Held, with_number}
 use Rattle.new_orders.proofs.order_table.Counted.{change-new}
 use Rattle.market_messages.specs.declared.heard.Heard.{Heard}

@@ -6,9 +6,9 @@ use denote.Param.SendFields.{declared_send}
 use Rattle.std.specs.declared.hash.Hasher as Hasher
 use Rattle.std.specs.declared.hash.BuildHasher as BuildHasher
 use Rattle.std.proofs.Crossing.{crosses}
-use Rattle.client_requests.specs.orders.contracts.order.Order as Order
-use Rattle.client_requests.specs.orders.contracts.requests.Cancelling as Cancelling
-use Rattle.client_requests.specs.orders.contracts.requests.Replacing as Replacing
+use Rattle.new_orders.specs.client_requests.orders.contracts.order.Order as Order
+use Rattle.new_orders.specs.client_requests.orders.contracts.requests.Cancelling as Cancelling
+use Rattle.new_orders.specs.client_requests.orders.contracts.requests.Replacing as Replacing
 use Rattle.new_orders.specs.order_table.contracts.table.Table as Table
 use Rattle.order_ledger.specs.contracts.ledger.OrderLedger as OrderLedger
 use Rattle.order_ledger.specs.contracts.used_ids.UsedIds as UsedIds

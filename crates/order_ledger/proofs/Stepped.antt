@@ -13,16 +13,16 @@ use Rattle.order_machine.specs.Machine.{GivenByEvent, client_step, tells, with_u
 use Rattle.order_machine.specs.OrderRecord.{OrderRecord, at}
 use Rattle.order_machine.specs.Runs.{Finds}
 use Rattle.order_machine.specs.Table.{GivenToken, TableState, UsedId, by_number, put, used_by}
-use Rattle.client_requests.specs.orders.Seen.{cancel_seen, replace_seen}
-use Rattle.client_requests.specs.orders.declared.requests.Cancelling.{Cancelling}
-use Rattle.client_requests.specs.orders.declared.requests.Replacing.{Replacing}
+use Rattle.new_orders.specs.client_requests.orders.Seen.{cancel_seen, replace_seen}
+use Rattle.new_orders.specs.client_requests.orders.declared.requests.Cancelling.{Cancelling}
+use Rattle.new_orders.specs.client_requests.orders.declared.requests.Replacing.{Replacing}
 use Rattle.new_orders.specs.order_table.Held.{Held, changed, with_number}
 use Rattle.to_market.specs.PortsSeen.{port_seen}
 use Rattle.to_market.specs.TermsSeen.{terms_seen}
 use Rattle.to_market.specs.declared.client_terms.ClientTerms.{ClientTerms}
 use Rattle.hint_index.specs.undo_list.Undoing.{Undoable}
-use Rattle.client_requests.specs.Turns.{AreOf, IsCancelling, IsReplacing}
-use Rattle.client_requests.specs.declared.sender.Sender.{Sender}
+use Rattle.new_orders.specs.client_requests.Turns.{AreOf, IsCancelling, IsReplacing}
+use Rattle.new_orders.specs.client_requests.declared.sender.Sender.{Sender}
 use Rattle.new_orders.specs.Turns.{IsEntering, numbered_on, with_order}
 use Rattle.order_ledger.specs.declared.turns.ClientTurn.{ClientTurn}
 use Rattle.order_ledger.specs.Meets.{GoByNumbers, MeetsFields}

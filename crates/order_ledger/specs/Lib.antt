@@ -13,3 +13,4 @@ pub use Rattle.to_market.specs.PortsSeen
 pub use Rattle.to_market.specs.TermsSeen
 pub use Rattle.fix_types.specs as fix_types
 pub use Rattle.to_market.specs as to_market
+pub use Rattle.market_messages.specs as market_messages

@@ -17,7 +17,7 @@ use Rattle.order_machine.specs.Runs.{Finds}
 use Rattle.market_messages.specs.Turns.{market_fault_number, order_heard}
 use Rattle.order_ledger.specs.declared.market_error.MarketError.{MarketError}
 use Rattle.order_ledger.specs.declared.market_error.MarketError.TheVariants.{NoMemory, Faulty}
-use Rattle.client_requests.specs.Turns.{AreOf}
+use Rattle.new_orders.specs.client_requests.Turns.{AreOf}
 use Rattle.order_ledger.specs.declared.turns.ChangedOrder.{ChangedOrder}
 use Rattle.order_ledger.specs.declared.turns.ClientTurn.{ClientTurn}
 use Rattle.order_ledger.specs.declared.turns.MarketTurn.{MarketTurn}

@@ -15,6 +15,6 @@ mod used_ids;
 pub use fix_types::{AppBody, AppMsg};
 pub use ledger::OrderLedger;
 pub use market_error::MarketError;
-pub use market_messages::MarketFault;
+pub use market_messages::{DecodeRefusal, Inbound, MarketFault, Outbound, decode};
 pub use to_market::{ClientTerms, PortState};
 pub use turns::{ChangedOrder, ClientTurn, MarketTurn};

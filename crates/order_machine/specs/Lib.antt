@@ -12,3 +12,4 @@ pub use Rattle.order_law.specs.Verdicts
 pub use Rattle.fix_fields.specs as fix_fields
 pub use Rattle.fixed_point.specs as fixed_point
 pub use Rattle.tokens.specs as tokens
+pub use Rattle.order_law.specs as order_law

@@ -6,3 +6,4 @@
 #![tactic(auto)]
 
 pub use fix_fields::Text;
+pub use order_law::{Stage, Trade, padded};

@@ -5,13 +5,13 @@ use Rattle.std.specs.Prelude.{Some, None, nat_eq}
 use Rattle.std.specs.Str.Parse.{digits_value}
 use Rattle.hint_index.proofs.Standing.{covered-changed, covered-same}
 use Rattle.hint_index.specs.Hints.{Covered, Hints, LeadsTo, hint_of}
-use Rattle.orders.specs.order_law.History.{Entry}
+use Rattle.undo_orders.specs.orders.order_law.History.{Entry}
 use Rattle.order_machine.specs.OrderRecord.{OrderRecord}
-use Rattle.orders.specs.fix_types.CancelRequest.{cancel_request_fields}
-use Rattle.orders.specs.fix_types.ReplaceRequest.{replace_request_fields}
-use Rattle.orders.specs.Seen.{cancel_of, cancel_seen, replace_of, replace_seen}
-use Rattle.orders.specs.declared.requests.Cancelling.{Cancelling}
-use Rattle.orders.specs.declared.requests.Replacing.{Replacing}
+use Rattle.undo_orders.specs.orders.fix_types.CancelRequest.{cancel_request_fields}
+use Rattle.undo_orders.specs.orders.fix_types.ReplaceRequest.{replace_request_fields}
+use Rattle.undo_orders.specs.Seen.{cancel_of, cancel_seen, replace_of, replace_seen}
+use Rattle.undo_orders.specs.orders.declared.requests.Cancelling.{Cancelling}
+use Rattle.undo_orders.specs.orders.declared.requests.Replacing.{Replacing}
 use Rattle.hint_index.specs.undo_list.Undoing.{Undoable}
 use Rattle.order_table.specs.declared.keys.NameKey.{NameKey}
 use Rattle.order_table.specs.declared.keys.NumberKey.{NumberKey}

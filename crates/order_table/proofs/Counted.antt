@@ -6,15 +6,15 @@ use Rattle.std.specs.List.{count_by, list_all}
 use Rattle.std.proofs.lemmas.Bool.{and_parts}
 use Rattle.std.proofs.lemmas.Bool.Decides.{nat_tests}
 use Rattle.std.proofs.lemmas.List.Folds.{list_all-append}
-use Rattle.orders.specs.order_law.History.{Entry, token_of}
+use Rattle.undo_orders.specs.orders.order_law.History.{Entry, token_of}
 use Rattle.order_machine.specs.OrderRecord.{OrderRecord, at, filled, gone, live_token, over_if, put_in_book, reduced}
 use Rattle.order_machine.specs.OrderRecord.{renamed, still_after, unasked, with_trade}
 use Rattle.order_machine.specs.Table.{GivenToken, has_number, is_replacement_of}
 use Rattle.order_machine.proofs.Lists.{count-push, found-passes}
 use Rattle.order_machine.proofs.Texts.{eq-is, eq-true}
-use Rattle.orders.specs.Changes.{changed_by, replaced_as}
-use Rattle.orders.specs.declared.change.Change.{Change}
-use Rattle.orders.specs.declared.change.Change.TheVariants as changes
+use Rattle.undo_orders.specs.Changes.{changed_by, replaced_as}
+use Rattle.undo_orders.specs.orders.declared.change.Change.{Change}
+use Rattle.undo_orders.specs.orders.declared.change.Change.TheVariants as changes
 use Rattle.hint_index.specs.Newest.{IsNewest}
 use Rattle.order_table.specs.Held.{is_counted}
 

@@ -10,16 +10,16 @@ use Rattle.order_machine.specs.fix_fields.Field.{text}
 use Rattle.hint_index.proofs.Keys.{key-of-same}
 use Rattle.hint_index.specs.declared.hint.Hint.{Hint}
 use Rattle.hint_index.specs.Hints.{Hints, LeadsTo, hint_of}
-use Rattle.orders.specs.order_law.Chain.{goes_by}
-use Rattle.orders.specs.order_law.History.{Entry, token_of}
+use Rattle.undo_orders.specs.orders.order_law.Chain.{goes_by}
+use Rattle.undo_orders.specs.orders.order_law.History.{Entry, token_of}
 use Rattle.order_machine.proofs.Texts.{eq-is, number-decimal}
 use Rattle.order_machine.specs.OrderRecord.{Cancelling, OrderRecord, at, chained, filled, gone, live_token, over_if}
 use Rattle.order_machine.specs.OrderRecord.{put_in_book, reduced, renamed, still_after, unasked, with_tokens}
 use Rattle.order_machine.specs.OrderRecord.{with_trade}
 use Rattle.order_machine.specs.Table.{GivenToken, has_number, is_named, is_token}
-use Rattle.orders.specs.Changes.{changed_by, replaced_as}
-use Rattle.orders.specs.declared.change.Change.{Change}
-use Rattle.orders.specs.declared.change.Change.TheVariants as changes
+use Rattle.undo_orders.specs.Changes.{changed_by, replaced_as}
+use Rattle.undo_orders.specs.orders.declared.change.Change.{Change}
+use Rattle.undo_orders.specs.orders.declared.change.Change.TheVariants as changes
 use Rattle.order_table.specs.declared.keys.NameKey.{NameKey}
 use Rattle.order_table.specs.declared.keys.NumberKey.{NumberKey}
 use Rattle.order_table.specs.declared.token_key.TokenKey.{TokenKey}

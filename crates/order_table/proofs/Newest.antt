@@ -11,7 +11,7 @@ use Rattle.order_machine.specs.OrderRecord.{OrderRecord}
 use Rattle.order_machine.specs.Table.{has_number, put}
 use Rattle.hint_index.proofs.Newest.{length-reverse}
 use Rattle.hint_index.specs.Newest.{IsNewest}
-use Rattle.orders.specs.order_law.History.{Entry}
+use Rattle.undo_orders.specs.orders.order_law.History.{Entry}
 use Rattle.order_machine.proofs.Executed.{count-more}
 use Rattle.order_machine.proofs.Lists.{count-push, found-passes}
 use Rattle.order_machine.proofs.Texts.{decimal-same, eq-is, eq-other, eq-true}

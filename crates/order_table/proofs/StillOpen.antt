@@ -3,16 +3,16 @@ use Rattle.std.proofs.Common.{◌≡◌, ℕ, zero, suc, ◌+◌, ◌≤◌, Boo
 use Rattle.std.proofs.Common.{arith, eq-eqb, slice_get, slice_set}
 use Rattle.std.specs.Prelude.{◌&&◌, ◌==◌, not, Some, slice_index}
 use Rattle.std.specs.List.{count_by}
-use Rattle.orders.specs.order_law.Life.{is_closed}
-use Rattle.orders.specs.order_law.declared.stage.Stage.{Stage}
-use Rattle.orders.specs.order_law.History.{Entry}
+use Rattle.undo_orders.specs.orders.order_law.Life.{is_closed}
+use Rattle.undo_orders.specs.orders.order_law.declared.stage.Stage.{Stage}
+use Rattle.undo_orders.specs.orders.order_law.History.{Entry}
 use Rattle.order_machine.specs.OrderRecord.{OrderRecord}
 use Rattle.order_machine.specs.Table.{is_open_of}
 use Rattle.order_machine.proofs.Executed.{count-more}
 use Rattle.order_machine.proofs.Lists.{count-push}
-use Rattle.orders.specs.Changes.{Fits, changed_by}
-use Rattle.orders.specs.declared.change.Change.{Change}
-use Rattle.orders.specs.declared.change.Change.TheVariants as changes
+use Rattle.undo_orders.specs.Changes.{Fits, changed_by}
+use Rattle.undo_orders.specs.orders.declared.change.Change.{Change}
+use Rattle.undo_orders.specs.orders.declared.change.Change.TheVariants as changes
 use Rattle.order_table.specs.Held.{AreOpenCounts, one_if}
 
 -- ---- a count, after a write

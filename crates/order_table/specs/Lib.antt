@@ -5,10 +5,10 @@ pub mod Names
 pub mod Replaces
 pub mod Rooms
 pub mod TokenKeys
-pub use Rattle.orders.specs.order_law.Chain
-pub use Rattle.orders.specs.order_law.Life
+pub use Rattle.undo_orders.specs.orders.order_law.Chain
+pub use Rattle.undo_orders.specs.orders.order_law.Life
 pub use Rattle.order_machine.specs.OrderRecord
 pub use Rattle.order_machine.specs.Table
-pub use Rattle.orders.specs.Changes
-pub use Rattle.orders.specs.Seen
+pub use Rattle.undo_orders.specs.Changes
+pub use Rattle.undo_orders.specs.Seen
 pub use Rattle.hint_index.specs as hint_index

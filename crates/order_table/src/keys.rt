@@ -2,9 +2,9 @@
 
 ghost use Rattle.std.specs.Prelude.{◌≡◌, ℕ, true, Some, decimal, option_map};
 ghost use Rattle.order_table.specs.declared.keys.NameKey.{NameKey as Key};
-ghost use Rattle.orders.specs.order_law.Chain.{goes_by};
+ghost use Rattle.undo_orders.specs.orders.order_law.Chain.{goes_by};
 ghost use Rattle.order_machine.specs.OrderRecord.{chained};
-ghost use Rattle.orders.specs.Seen.{cancel_seen, has_cancel_id, has_id, replace_seen};
+ghost use Rattle.undo_orders.specs.Seen.{cancel_seen, has_cancel_id, has_id, replace_seen};
 ghost use Rattle.order_machine.specs.Table as table;
 ghost use Rattle.order_table.specs.Keys as keys;
 ghost use Rattle.order_table.specs.KeyLaws.{name-alike, number-alike, token-alike};
@@ -12,7 +12,7 @@ ghost use Rattle.order_table.specs.KeyLaws.{name-alike, number-alike, token-alik
 use crate::table::GivenToken;
 use crate::token_key::TokenKey;
 use hint_index::{Keyed, Sought, TextKey};
-use orders::{Boxed, Cancelling, Order, Replacing};
+use undo_orders::{Boxed, Cancelling, Order, Replacing};
 
 /// The number of an OrderID, as a key.
 #[derive(Clone, Copy, PartialEq, Eq, Hash)]

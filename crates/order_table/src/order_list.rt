@@ -10,16 +10,15 @@ ghost use Rattle.order_table.specs.declared.keys.NameKey.{NameKey as Key};
 ghost use Rattle.order_machine.specs.OrderRecord.{OrderRecord, at};
 ghost use Rattle.order_machine.specs.Table as table;
 ghost use Rattle.order_table.specs.Keys.{has_name_key, same_name};
-ghost use Rattle.orders.specs.Changes.{Fits, changed_by};
-ghost use Rattle.orders.specs.Seen.{cancel_of, replace_of};
+ghost use Rattle.undo_orders.specs.Changes.{Fits, changed_by};
+ghost use Rattle.undo_orders.specs.Seen.{cancel_of, replace_of};
 
 use crate::keys::{ByName, ByNumber, NameKey, NumberKey, key_of_cancel, key_of_replace};
 use hint_index::HintIndex;
-use orders::{Cancelling, Change, Order, Replacing};
 use std::alloc::{AllocError, Global};
 use std::hash::{BuildHasher, BuildHasherDefault, FoldHasher};
 use std::marker::Model;
-use undo_orders::UndoOrders;
+use undo_orders::{Cancelling, Change, Order, Replacing, UndoOrders};
 
 /// The accepted orders, the oldest first, each found by its number and by the ids that it goes by. Contracts see the
 /// list, now and as it was settled, and for how many orders more there is room.

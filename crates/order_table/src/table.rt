@@ -2,16 +2,16 @@
 
 ghost use Rattle.std.specs.Prelude.{◌≡◌, ◌<◌, true, not, decimal};
 ghost use Rattle.std.specs.List.{count_by};
-ghost use Rattle.orders.specs.order_law.Life.{is_closed};
+ghost use Rattle.undo_orders.specs.orders.order_law.Life.{is_closed};
 ghost use Rattle.order_table.specs.Held.{IsCounted};
 
 use crate::open_counts::OpenCounts;
 use crate::order_list::{OrderList, client_of};
 use crate::token_list::TokenList;
-use orders::{Cancelling, Change, Order, Replacing, Stage};
 use std::alloc::{AllocError, Global};
 use std::hash::{BuildHasher, BuildHasherDefault, FoldHasher};
 use std::marker::Model;
+use undo_orders::{Cancelling, Change, Order, Replacing, Stage};
 
 /// A token that was given for an order.
 #[derive(Drop)]
@@ -119,13 +119,13 @@ impl<S: BuildHasher + Drop> Table<S> {
     ghost use Rattle.std.specs.Prelude.{option_to_list};
     ghost use Rattle.std.specs.List.{count_by};
     ghost use Rattle.std.specs.Prelude.{false};
-    ghost use Rattle.orders.specs.order_law.Life.{is_closed};
+    ghost use Rattle.undo_orders.specs.orders.order_law.Life.{is_closed};
     ghost use Rattle.order_machine.specs.OrderRecord as record_of;
     ghost use Rattle.order_machine.specs.OrderRecord.{at};
     ghost use Rattle.order_machine.specs.Table.{is_replacement_of, open_count, put};
-    ghost use Rattle.orders.specs.Changes.{Fits, changed_by};
+    ghost use Rattle.undo_orders.specs.Changes.{Fits, changed_by};
     ghost use Rattle.order_table.specs.Held.{changed, found, found_by_id, put_back, settled_now, with_number};
-    ghost use Rattle.orders.specs.Seen.{cancel_seen, replace_seen};
+    ghost use Rattle.undo_orders.specs.Seen.{cancel_seen, replace_seen};
 
     /// One order more, which has had one token and has no pending replace, and the token that it was given.
     /// `AllocError` leaves the table as it was.

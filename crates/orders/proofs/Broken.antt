@@ -1,7 +1,7 @@
 -- An order whose trade is taken back.
 use Rattle.std.proofs.Common.{◌≡◌, ◌≢◌, ◌+◌, ◌-◌, ◌*◌, List, map, refl, sym, ◌∙◌}
-use Rattle.order_law.specs.declared.stage.Stage.{Stage}
-use Rattle.order_law.specs.declared.stage.Stage.TheVariants.{Waiting, Working, Closed}
+use Rattle.order_machine.specs.order_law.declared.stage.Stage.{Stage}
+use Rattle.order_machine.specs.order_law.declared.stage.Stage.TheVariants.{Waiting, Working, Closed}
 use Rattle.order_machine.specs.OrderRecord as record_of
 use Rattle.order_machine.specs.OrderRecord.{OrderRecord, with_trade_broken, mark}
 use Rattle.orders.specs.declared.order.ToldTrade.{ToldTrade}

@@ -1,8 +1,8 @@
 -- The quantities of an order that is replaced.
 use Rattle.std.proofs.Common.{◌≡◌, ℕ, ◌+◌, Bool, true, false, refl}
 use Rattle.std.specs.Prelude.{Option, None}
-use Rattle.order_law.specs.declared.stage.Stage.TheVariants.{Working}
-use Rattle.order_law.specs.History.{Entry, token_of}
+use Rattle.order_machine.specs.order_law.declared.stage.Stage.TheVariants.{Working}
+use Rattle.order_machine.specs.History.{Entry, token_of}
 use Rattle.order_machine.specs.OrderRecord.{Cancelling, OrderRecord, at, over_if, put_in_book, renamed}
 use Rattle.orders.specs.declared.progress.Progress.{Progress}
 use Rattle.orders.specs.Changes.{with_quantities}

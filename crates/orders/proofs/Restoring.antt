@@ -3,7 +3,7 @@ use Rattle.std.proofs.Common.{◌≡◌, ℕ, ◌≤◌, ◌-◌, Bool, true, fa
 use Rattle.std.specs.Prelude.{◌==◌, Option, Some, None, option_map, unwrap_or, if◌then◌else◌, bytes_eq}
 use Rattle.std.proofs.Math.Seq.{take-length, take-append_seam}
 use Rattle.std.proofs.lemmas.List.{length-reverse, reverse-append, reverse-reverse, take-map}
-use Rattle.order_law.specs.History.{Entry, token_of}
+use Rattle.order_machine.specs.History.{Entry, token_of}
 use Rattle.order_machine.specs.OrderRecord.{OrderRecord, at, filled, gone, live_token, over_if, put_in_book, reduced, renamed, still_after, unasked, with_trade}
 use Rattle.order_machine.specs.OrderRecord as record_of
 use Rattle.orders.specs.Changes.{changed_by, marks_trades, renames, replaced_as}

@@ -1,8 +1,8 @@
 -- What a change makes of an order, in `order_machine`'s words: a change has of a message what is left to do with it.
 use Rattle.std.specs.Prelude.{◌≡◌, ◌≢◌, ◌≤◌, ℕ, Bool, true, false, Option, Some, None, bytes_eq}
 use Rattle.order_machine.specs.fixed_point.Decimal.{most_shares}
-use Rattle.order_law.specs.declared.stage.Stage.TheVariants.{Waiting, Working}
-use Rattle.order_law.specs.History.{Entry, token_of}
+use Rattle.order_machine.specs.order_law.declared.stage.Stage.TheVariants.{Waiting, Working}
+use Rattle.order_machine.specs.History.{Entry, token_of}
 use Rattle.order_machine.specs.OrderRecord.{OrderRecord, after_canceled, after_traded, at, live_token, market_refused}
 use Rattle.order_machine.specs.OrderRecord.{over_if, put_in_book, renamed, still_after, unasked, with_trade_broken}
 use Rattle.orders.specs.declared.change.Change.{Change}

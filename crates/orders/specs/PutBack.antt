@@ -1,8 +1,8 @@
 -- An order that is put back to what it had before it was changed.
 use Rattle.std.specs.Prelude.{◌≡◌, ◌≤◌, ℕ, Bool, ◌&&◌, ◌||◌, ◌==◌, not, nat_le, List, ◌∷◌, length, drop, Option}
 use Rattle.std.specs.Prelude.{option_map, unwrap_or, if◌then◌else◌}
-use Rattle.order_law.specs.Asks.{total_of}
-use Rattle.order_law.specs.Life.{is_waiting}
+use Rattle.order_machine.specs.order_law.Asks.{total_of}
+use Rattle.order_machine.specs.order_law.Life.{is_waiting}
 use Rattle.order_machine.specs.OrderRecord.{OrderRecord}
 use Rattle.orders.specs.declared.earlier_order.EarlierOrder.{EarlierOrder}
 use Rattle.orders.specs.declared.earlier_trades.EarlierTrades.{EarlierTrades}

@@ -3,11 +3,11 @@ use Rattle.std.specs.Prelude.{ℕ, Bool, false, List, ◌∷◌, Option, Some, N
 use Rattle.std.specs.Prelude.{option_to_list}
 use Rattle.fix_types.specs.CancelRequest.{cancel_request_fields}
 use Rattle.fix_types.specs.ReplaceRequest.{replace_request_fields}
-use Rattle.order_law.specs.History.{Entry}
+use Rattle.order_machine.specs.History.{Entry}
 use Rattle.order_machine.specs.fix_fields.Field.{text}
 use Rattle.orders.specs.declared.requests.Cancelling.{Cancelling}
 use Rattle.orders.specs.declared.requests.Replacing.{Replacing}
-use Rattle.order_law.specs.Life.{marked}
+use Rattle.order_machine.specs.order_law.Life.{marked}
 use Rattle.orders.specs.declared.order.ToldTrade.{ToldTrade}
 use Rattle.orders.specs.declared.progress.Progress.{Progress}
 use Rattle.order_machine.specs.OrderRecord.{OrderRecord}

@@ -1,9 +1,9 @@
 //! What an order had before it was changed.
 
 ghost use Rattle.std.specs.Prelude.{◌≡◌, ◌≤◌, ◌+◌, length, option_to_list};
-ghost use Rattle.order_law.specs.declared.stage.Stage.TheVariants.{Waiting};
+ghost use Rattle.order_machine.specs.order_law.declared.stage.Stage.TheVariants.{Waiting};
 ghost use Rattle.orders.specs.EarlierTrades.{most_trades};
-ghost use Rattle.order_law.specs.wire_law.Printable.{ArePrintable};
+ghost use Rattle.order_machine.specs.order_law.wire_law.Printable.{ArePrintable};
 
 use crate::boxed::Boxed;
 use crate::earlier_trades::EarlierTrades;

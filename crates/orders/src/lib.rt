@@ -23,7 +23,7 @@ pub use change::Change;
 pub use earlier_order::EarlierOrder;
 pub use fix_types::{AppBody, CancelReject, CancelRequest, NewOrder, ReplaceRequest, Report};
 pub use order::{Order, ToldTrade};
-pub use order_law::{Stage, Trade};
+pub use order_machine::{Stage, Trade};
 pub use progress::Progress;
 pub use requests::{Cancelling, Replacing};
 pub use symbol::Symbol;

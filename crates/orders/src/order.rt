@@ -1,13 +1,13 @@
 //! An accepted order.
 
 ghost use Rattle.std.specs.Prelude.{◌≡◌, ◌≢◌, ◌≤◌, ◌<◌, ◌+◌, false, [], IfOk, length, option_to_list};
-ghost use Rattle.order_law.specs.declared.stage.Stage.TheVariants.{Waiting, Working};
+ghost use Rattle.order_machine.specs.order_law.declared.stage.Stage.TheVariants.{Waiting, Working};
 ghost use Rattle.fix_types.specs.NewOrder.{new_order_fields};
-ghost use Rattle.order_law.specs.Asks.{total_of};
+ghost use Rattle.order_machine.specs.order_law.Asks.{total_of};
 ghost use Rattle.order_machine.specs.OrderRecord.{OrderRecord, over_if};
 ghost use Rattle.orders.specs.Changes.{with_quantities};
 ghost use Rattle.orders.specs.Seen.{progressed};
-ghost use Rattle.order_law.specs.wire_law.Printable.{ArePrintable};
+ghost use Rattle.order_machine.specs.order_law.wire_law.Printable.{ArePrintable};
 
 use crate::answering::without;
 use crate::boxed::Boxed;
@@ -18,7 +18,7 @@ use crate::requests::{Cancelling, Replacing};
 use crate::symbol::Symbol;
 use crate::trades::{make_room, mark};
 use fix_types::{Character, ClOrdId, NewOrder};
-use order_law::Trade;
+use order_machine::Trade;
 use std::alloc::{AllocError, Global};
 use std::marker::Model;
 use std::snapshot::Snapshot;
@@ -128,7 +128,7 @@ impl Order {
     ghost use Rattle.std.specs.List.{list_any};
     ghost use Rattle.order_machine.specs.tokens.TokenText.{token_text};
     ghost use Rattle.fix_types.specs.NewOrder.{new_order_fields};
-    ghost use Rattle.order_law.specs.Asks.{limit_of};
+    ghost use Rattle.order_machine.specs.order_law.Asks.{limit_of};
     ghost use Rattle.order_machine.specs.OrderRecord.{at, entered, last_after, live_token, replacements, still_after};
     ghost use Rattle.order_machine.specs.OrderRecord.{unasked};
     ghost use Rattle.orders.specs.Changes.{Fits, changed_by, replaced_as, with_quantities};

@@ -2,9 +2,9 @@
 
 ghost use Rattle.std.specs.Prelude.{◌≡◌, ◌≢◌, ◌≤◌, ◌<◌, ◌+◌, ◌-◌, ◌*◌, ◌^◌, false, true};
 ghost use Rattle.order_machine.specs.fixed_point.Decimal.{most_shares};
-ghost use Rattle.order_law.specs.declared.stage.Stage.TheVariants.{Waiting, Working, Closed};
+ghost use Rattle.order_machine.specs.order_law.declared.stage.Stage.TheVariants.{Waiting, Working, Closed};
 
-use order_law::Stage;
+use order_machine::Stage;
 
 /// How far an order has come: its stage and its quantities. A step gives another value.
 #[derive(Clone, Copy)]

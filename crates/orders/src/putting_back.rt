@@ -1,8 +1,8 @@
 //! How an order is put back to what it had before it was changed.
 
 ghost use Rattle.std.specs.Prelude.{◌≡◌, Option, IfOk, length, unwrap_or};
-ghost use Rattle.order_law.specs.declared.stage.Stage.TheVariants.{Waiting};
-ghost use Rattle.order_law.specs.History.{Entry};
+ghost use Rattle.order_machine.specs.order_law.declared.stage.Stage.TheVariants.{Waiting};
+ghost use Rattle.order_machine.specs.History.{Entry};
 ghost use Rattle.order_machine.specs.OrderRecord.{Cancelling as CancellingRecord, OrderRecord, at};
 ghost use Rattle.orders.specs.Changes.{changed_by};
 ghost use Rattle.orders.specs.PutBack.{GoesOn, can_have_had, put_back};
@@ -15,7 +15,7 @@ use crate::earlier_order::EarlierOrder;
 use crate::earlier_trades::{EarlierTrades, put_trades_back};
 use crate::order::Order;
 use fix_types::ClOrdId;
-use order_law::Stage;
+use order_machine::Stage;
 use std::alloc::{AllocError, Global};
 
 impl Order {

@@ -1,7 +1,6 @@
 //! The symbol of an order.
 
-use order_law::padded;
-use order_machine::Text;
+use order_machine::{Text, padded};
 use std::marker::Model;
 
 /// Symbol (55) of an order, in place: at most 8 bytes. Contracts see the list of its bytes.

@@ -4,7 +4,7 @@ ghost use Rattle.std.specs.Prelude.{◌≡◌, map};
 ghost use Rattle.orders.specs.Seen.{told_marked};
 
 use crate::order::ToldTrade;
-use order_law::Trade;
+use order_machine::Trade;
 use std::alloc::AllocError;
 
 /// Makes room for one trade more: of the first for that alone, since most orders have one. The trades stay.

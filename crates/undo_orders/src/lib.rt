@@ -6,3 +6,4 @@
 mod list;
 
 pub use list::UndoOrders;
+pub use orders::{Boxed, Cancelling, Change, Order, Replacing, Stage};

@@ -8,11 +8,10 @@ ghost use Rattle.to_market.specs.PortsSeen.{port_seen};
 use super::{OrderLedger, terms_at};
 use crate::turns::ClientTurn;
 use crate::used_ids::UsedId;
-use client_requests::{
-    CancelTurn, Cancelling, ReplaceTurn, Replacing, Sender, on_cancel, on_replace,
-};
 use fix_types::{AppBody, CancelRequest, ReplaceRequest};
-use new_orders::GivenToken;
+use new_orders::{
+    CancelTurn, Cancelling, GivenToken, ReplaceTurn, Replacing, Sender, on_cancel, on_replace,
+};
 use std::alloc::{AllocError, Global};
 use std::hash::BuildHasher;
 use to_market::{ClOrdId, Inbound, PortState};
@@ -20,7 +19,7 @@ use to_market::{ClOrdId, Inbound, PortState};
 impl<S: BuildHasher + Drop> OrderLedger<S> {
     ghost use Rattle.order_ledger.specs.Meets.{GoByNumbers, MeetsFields};
     ghost use Rattle.order_ledger.specs.State.{IsClient, HasRoom, Keeps};
-    ghost use Rattle.client_requests.specs.Turns.{IsCancelling, IsReplacing};
+    ghost use Rattle.new_orders.specs.client_requests.Turns.{IsCancelling, IsReplacing};
 
     /// A cancel of a client.
     pub(super) fn cancel(

@@ -1,5 +1,5 @@
 use Rattle.std.proofs.Common.{sym, ◌∙◌}
-use Rattle.gate_law.specs.After.{is_close}
+use Rattle.gate_sessions.specs.gate_law.After.{is_close}
 use Rattle.gate_events.specs.Seen.{link_out_seen}
 use Rattle.gate_events.proofs.Closing.{any-at}
 use Rattle.gate_events.proofs.link_outs.closes_link.Goals as goal

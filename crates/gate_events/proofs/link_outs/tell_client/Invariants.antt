@@ -1,6 +1,6 @@
 use Rattle.std.proofs.Common.{◌≡◌, ◌++◌, map}
-use Rattle.session_writing.specs.Written.{told_bytes}
-use Rattle.gate_law.specs.Sessions.{to_link}
+use Rattle.gate_sessions.specs.session_writing.Written.{told_bytes}
+use Rattle.gate_sessions.specs.Sessions.{to_link}
 use Rattle.gate_events.specs.Seen.{link_out_seen}
 use Rattle.gate_events.proofs.link_outs.tell_client.Given as goal
 

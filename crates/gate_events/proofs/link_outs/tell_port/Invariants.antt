@@ -1,5 +1,5 @@
 use Rattle.std.proofs.Common.{◌≡◌, ◌++◌, map, take}
-use Rattle.gate_law.specs.Sessions.{port_line}
+use Rattle.gate_sessions.specs.Sessions.{port_line}
 use Rattle.gate_events.specs.Seen.{link_out_seen}
 use Rattle.gate_events.proofs.link_outs.tell_port.Given as goal
 

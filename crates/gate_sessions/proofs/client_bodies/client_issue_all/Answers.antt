@@ -1,10 +1,10 @@
 use Rattle.std.proofs.Common.{◌≡◌, ◌+◌, ◌++◌, ◌∷◌, [], ℕ, List, ap, ◌∙◌, map, subst, sym, take}
 use Rattle.std.proofs.lemmas.List.{take_all}
 use Rattle.fix_types.specs.Application.{body_fields}
-use Rattle.session_law.specs.Frames.{told_of_out}
-use Rattle.session_law.specs.Runs.{Timed}
+use Rattle.gate_law.specs.session_law.Frames.{told_of_out}
+use Rattle.gate_law.specs.session_law.Runs.{Timed}
 use Rattle.fix_session.specs.session_writing.Written.{told_bytes}
-use Rattle.order_law.specs.Messages.{body_of}
+use Rattle.gate_law.specs.order_law.Messages.{body_of}
 use Rattle.gate_law.specs.Settings.{client_name}
 use Rattle.gate_law.specs.Sessions.{client_outs, client_reports, issues}
 use Rattle.gate_sessions.specs.Leaving.{issue_call}

@@ -1,7 +1,7 @@
 use Rattle.std.proofs.Common.{◌≡◌, ◌+◌, ℕ, List, Option, length, map, take}
 use Rattle.fix_types.specs.Application.{body_fields}
-use Rattle.session_law.specs.Runs.{Timed}
-use Rattle.session_law.specs.Frames.{told_of_out}
+use Rattle.gate_law.specs.session_law.Runs.{Timed}
+use Rattle.gate_law.specs.session_law.Frames.{told_of_out}
 use Rattle.fix_session.specs.session_writing.Written.{told_bytes}
 use Rattle.gate_law.specs.Settings.{Settings, client_name}
 use Rattle.gate_law.specs.Sessions.{client_outs, client_reports, issues}

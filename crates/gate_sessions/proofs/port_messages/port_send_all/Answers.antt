@@ -1,5 +1,5 @@
 use Rattle.std.proofs.Common.{◌≡◌, ◌+◌, ◌++◌, ◌∷◌, [], ℕ, List, ap, ◌∙◌, map, subst, sym, take}
-use Rattle.order_law.specs.ouch_codec.Inbound.{inbound_bytes}
+use Rattle.gate_law.specs.order_law.ouch_codec.Inbound.{inbound_bytes}
 use Rattle.gate_law.specs.soup_session.Table.{PortCall, Send}
 use Rattle.gate_law.specs.Sessions.{port_outs, sends}
 use Rattle.gate_sessions.specs.Lines.{PortsLeave, called_all}

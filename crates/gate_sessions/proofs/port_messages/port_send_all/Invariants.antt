@@ -1,5 +1,5 @@
 use Rattle.std.proofs.Common.{◌≡◌, ◌+◌, ℕ, List, Option, length, map, take}
-use Rattle.order_law.specs.ouch_codec.Inbound.{inbound_bytes}
+use Rattle.gate_law.specs.order_law.ouch_codec.Inbound.{inbound_bytes}
 use Rattle.gate_law.specs.soup_session.Table.{PortCall}
 use Rattle.gate_law.specs.Settings.{Settings}
 use Rattle.gate_law.specs.Sessions.{port_outs, sends}

@@ -1,5 +1,5 @@
 use Rattle.std.proofs.Common.{◌≡◌, ◌∙◌, ap, ℕ}
-use Rattle.gate_events.specs.gate_law.Events as law
+use Rattle.link_io.specs.Events as law
 use Rattle.link_io.specs.Decoding.{AreAllOfFrames, FramesOfLink, MadeOfFrames}
 use Rattle.gate_workers.proofs.Run.{read-of, whole_link}
 use Rattle.gate_workers.proofs.reader.client_reader.Goals as goal

@@ -1,5 +1,5 @@
 use Rattle.std.proofs.Common.{◌≡◌}
-use Rattle.gate_events.specs.Seen.{event_seen}
+use Rattle.link_io.specs.Seen.{event_seen}
 use Rattle.gate_workers.proofs.reader.put.Given as goal
 
 abbrev pub invariant-loop : goal.invariant-loop

@@ -1,5 +1,5 @@
 use Rattle.std.proofs.Common.{◌∙◌, refl, arith}
-use Rattle.gate_events.specs.gate_law.Events.{ClientTick}
+use Rattle.link_io.specs.Events.{ClientTick}
 use Rattle.gate_workers.proofs.Ticking.{ticks_more, ticks_none}
 use Rattle.gate_workers.proofs.ticks.tick_clients.Goals as goal
 

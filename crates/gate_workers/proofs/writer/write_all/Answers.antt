@@ -1,5 +1,5 @@
 use Rattle.std.proofs.Common.{◌≡◌, ◌∙◌, refl, sym, ap, subst, [], List, Ok, Err}
-use Rattle.gate_events.specs.gate_law.Events as law
+use Rattle.link_io.specs.Events as law
 use Rattle.link_io.specs.declared.link_fault.LinkFault.{LinkFault}
 use Rattle.link_io.specs.declared.writer.Wrote.{Wrote}
 use Rattle.link_io.specs.Writing.{WriterState, unwritten}

@@ -1,7 +1,7 @@
 use Rattle.std.proofs.Common.{◌≡◌, true, sym, ap, ◌∙◌, subst}
 use Rattle.std.specs.Prelude.{Option, Some, option_map}
-use Rattle.orders.specs.Seen.{replace_seen}
-use Rattle.orders.specs.declared.requests.Replacing.{Replacing}
+use Rattle.undo_orders.specs.Seen.{replace_seen}
+use Rattle.undo_orders.specs.orders.declared.requests.Replacing.{Replacing}
 use Rattle.order_table.specs.Keys.{is_key_of_replace, name_key}
 use Rattle.order_table.specs.KeyLaws.{same-name-is}
 use Rattle.order_table.specs.declared.keys.NameKey.{NameKey}

@@ -2,7 +2,7 @@ use Rattle.std.proofs.Common.{◌≡◌, true, ap, ◌∙◌, subst}
 use Rattle.std.specs.Prelude.{option_map}
 use Rattle.hint_index.specs.Hints.{LeadsTo, hint_of}
 use Rattle.order_machine.specs.OrderRecord.{OrderRecord}
-use Rattle.orders.specs.Seen.{cancel_seen, replace_seen}
+use Rattle.undo_orders.specs.Seen.{cancel_seen, replace_seen}
 use Rattle.order_table.specs.declared.keys.NameKey.{NameKey}
 use Rattle.order_table.specs.Keys.{has_name_key, name_key, same_name}
 use Rattle.order_table.proofs.Named.{name-leads}

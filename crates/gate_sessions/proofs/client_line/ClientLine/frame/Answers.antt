@@ -1,5 +1,5 @@
 use Rattle.std.proofs.lemmas.Result.{IfOk-weaker}
-use Rattle.session_law.specs.Runs.{OnMessage}
+use Rattle.gate_law.specs.session_law.Runs.{OnMessage}
 use Rattle.gate_sessions.proofs.Clients.{client-answers, client-more}
 use Rattle.gate_sessions.proofs.client_line.ClientLine.frame.Goals as goal
 

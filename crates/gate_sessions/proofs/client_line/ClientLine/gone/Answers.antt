@@ -1,5 +1,5 @@
 use Rattle.std.proofs.Common.{false}
-use Rattle.session_law.specs.Runs.{OnLink}
+use Rattle.gate_law.specs.session_law.Runs.{OnLink}
 use Rattle.gate_sessions.proofs.Clients.{client-more}
 use Rattle.gate_sessions.proofs.client_line.ClientLine.gone.Goals as goal
 

@@ -1,9 +1,9 @@
 use Rattle.std.proofs.Common.{sym, subst}
-use Rattle.session_law.specs.Runs.{Leaves, turns_after}
-use Rattle.session_law.proofs.Runs.{after-Leaves}
+use Rattle.gate_law.specs.session_law.Runs.{Leaves, turns_after}
+use Rattle.gate_law.proofs.session_law.Runs.{after-Leaves}
 use Rattle.gate_law.specs.Settings.{client_name}
 use Rattle.gate_sessions.specs.Leaving.{ClientLeaves}
-use Rattle.session_law.proofs.Runs.{after-Leaves}
+use Rattle.gate_law.proofs.session_law.Runs.{after-Leaves}
 use Rattle.gate_sessions.proofs.client_line.ClientLine.next_in.Goals as goal
 
 pub returns : goal.returns

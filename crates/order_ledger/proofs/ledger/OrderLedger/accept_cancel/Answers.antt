@@ -1,6 +1,6 @@
 use Rattle.std.proofs.Common.{◌≡◌, Some, ap, arith}
 use Rattle.order_machine.specs.OrderRecord.{OrderRecord, at}
-use Rattle.client_requests.specs.orders.Seen.{cancel_seen}
+use Rattle.new_orders.specs.client_requests.orders.Seen.{cancel_seen}
 use Rattle.order_ledger.specs.State.{clients, ledger_numbers}
 use Rattle.order_ledger.proofs.Stepped.{now-is, same-tokens, table_of}
 use Rattle.order_ledger.proofs.ledger.OrderLedger.accept_cancel.Goals as goal

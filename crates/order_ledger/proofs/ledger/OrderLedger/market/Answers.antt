@@ -6,7 +6,7 @@ use Rattle.new_orders.specs.order_law.Reading.{is_report}
 use Rattle.new_orders.specs.order_law.Told.{told_of_entry}
 use Rattle.order_machine.specs.Machine.{market_step}
 use Rattle.order_machine.specs.Table.{TableState}
-use Rattle.client_requests.specs.orders.Changes.{Fits}
+use Rattle.new_orders.specs.client_requests.orders.Changes.{Fits}
 use Rattle.new_orders.specs.order_table.Held.{Held}
 use Rattle.market_messages.specs.declared.judged.Judged.{Judged}
 use Rattle.market_messages.specs.declared.judged.Judged.TheVariants.{Faulty, Silent}

@@ -3,7 +3,7 @@ use Rattle.std.specs.Prelude.{Some}
 use Rattle.hint_index.proofs.Standing.{covered-same}
 use Rattle.hint_index.specs.Hints.{Covered, LeadsTo, hint_of}
 use Rattle.order_machine.specs.OrderRecord.{at}
-use Rattle.orders.specs.Seen.{cancel_of}
+use Rattle.undo_orders.specs.Seen.{cancel_of}
 use Rattle.order_table.specs.declared.keys.NameKey.{NameKey}
 use Rattle.order_table.specs.Keys.{has_name_key, name_key, same_name}
 use Rattle.order_table.specs.Names.{KeepsNamesBut}

@@ -7,7 +7,7 @@ use Rattle.order_machine.specs.Table.{has_number}
 use Rattle.hint_index.proofs.Newest.{newest-there}
 use Rattle.hint_index.specs.Newest.{IsNewest}
 use Rattle.order_table.specs.Held.{Held, changed, with_number}
-use Rattle.orders.specs.Seen.{cancel_of, cancel_seen}
+use Rattle.undo_orders.specs.Seen.{cancel_of, cancel_seen}
 use Rattle.order_table.proofs.Changing.{cancel-as}
 use Rattle.order_table.proofs.Counted.{kept, own-number}
 use Rattle.order_table.proofs.Named.{item-at}

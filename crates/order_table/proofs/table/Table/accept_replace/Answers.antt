@@ -2,13 +2,13 @@ use Rattle.std.proofs.Common.{rules, ◌≡◌, ℕ, List, [], ◌∷◌, ◌++�
 use Rattle.std.specs.Prelude.{Some}
 use Rattle.std.proofs.lemmas.Result.{IfOk-from_err}
 use Rattle.std.specs.List.{find, count_by}
-use Rattle.orders.specs.order_law.History.{Entry}
+use Rattle.undo_orders.specs.orders.order_law.History.{Entry}
 use Rattle.order_machine.specs.OrderRecord.{OrderRecord, at}
 use Rattle.order_machine.specs.Table.{GivenToken, has_number, is_replacement_of, put}
 use Rattle.hint_index.proofs.Newest.{newest-there}
 use Rattle.hint_index.specs.Newest.{IsNewest}
 use Rattle.order_table.specs.Held.{Held, is_counted, with_number}
-use Rattle.orders.specs.Seen.{replace_of, replace_seen}
+use Rattle.undo_orders.specs.Seen.{replace_of, replace_seen}
 use Rattle.order_table.proofs.Changing.{replace-as}
 use Rattle.order_table.proofs.Newest.{count-reverse}
 use Rattle.order_table.proofs.Counted.{all-at, counted-few, own-number, own-token, replacing}

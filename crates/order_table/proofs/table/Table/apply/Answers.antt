@@ -5,7 +5,7 @@ use Rattle.order_machine.specs.OrderRecord.{OrderRecord}
 use Rattle.order_machine.specs.Table.{has_number}
 use Rattle.hint_index.specs.Newest.{IsNewest}
 use Rattle.order_table.specs.Held.{Held, changed, with_number}
-use Rattle.orders.specs.Changes.{Fits, changed_by}
+use Rattle.undo_orders.specs.Changes.{Fits, changed_by}
 use Rattle.order_table.proofs.Changing.{length-written, set-item}
 use Rattle.order_table.proofs.Counted.{change-few, change-new, kept}
 use Rattle.order_table.proofs.Standing.{changed-value, on-err, same-counted, same-value}

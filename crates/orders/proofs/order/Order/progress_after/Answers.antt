@@ -1,6 +1,6 @@
 use Rattle.std.proofs.Common.{◌≡◌, ◌+◌, Option, Some, sym, ap, ◌∙◌}
 use Rattle.std.specs.Prelude.{bytes_eq, option_map}
-use Rattle.order_law.specs.History.{Entry}
+use Rattle.order_machine.specs.History.{Entry}
 use Rattle.order_machine.specs.OrderRecord.{OrderRecord, live_token, still_after}
 use Rattle.orders.specs.declared.change.Change.{Change}
 use Rattle.orders.specs.Changes.{changed_by, replaced_as, with_quantities}

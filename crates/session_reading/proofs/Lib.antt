@@ -1,0 +1,1 @@
+pub use Rattle.session_law.proofs as session_law
