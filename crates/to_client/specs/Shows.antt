@@ -11,7 +11,6 @@ use Rattle.fix_values.specs.declared.ord_status.OrdStatus.TheVariants as statuse
 use Rattle.fix_values.specs.Letters.{exec_letter}
 use Rattle.fix_values.specs.Slots.{char_text, number_text}
 use Rattle.orders.specs.fix_types.declared.report.Report.{Report}
-use Rattle.orders.specs.declared.progress.Progress.{Progress}
 use Rattle.fixed_point.specs.Price.{price_text}
 use Rattle.order_law.specs.fix_fields.Field.{Message, text}
 use Rattle.order_law.specs.History.{Entry}
