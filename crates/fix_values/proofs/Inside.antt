@@ -7,7 +7,7 @@ use Rattle.std.proofs.lemmas.Fmt.{decimal_by_steps_wide}
 use Rattle.std.proofs.lemmas.List.Folds.{list_all-append}
 use Rattle.fix_fields.specs.Field.{is_inside}
 use Rattle.fix_fields.proofs.Tags.{and_parts}
-use Rattle.fixed_point.specs.Price.{four_digits, significant, fraction_text, price_text}
+use Rattle.fixed_point.specs.Price.{four_digits, significant, fraction_text}
 
 pub inside-append : (xs ys : List ℕ) → list_all is_inside xs ≡ true → list_all is_inside ys ≡ true → list_all is_inside (xs ++ ys) ≡ true
 inside-append xs ys h i = list_all-append is_inside xs ys ∙ rw (h, i) refl
@@ -25,7 +25,7 @@ inside-take (suc k) (x ∷ xs) h =
     let p = and_parts (is_inside x) (list_all is_inside xs) h in
     rw (p.0, inside-take k xs p.1) refl
 
-inside-fraction_text : (n : ℕ) → list_all is_inside (fraction_text n) ≡ true
+pub inside-fraction_text : (n : ℕ) → list_all is_inside (fraction_text n) ≡ true
 inside-fraction_text n = by_test (n == 0)
   where
     by_test : (test : Bool) → list_all is_inside (if test then [] else (46 ∷ take (significant n) (four_digits n))) ≡ true
@@ -41,8 +41,3 @@ inside-decimal n h = decimal_by_steps_wide (λ n ds. list_all is_inside ds ≡ t
 
     more : (n : ℕ) (ds : List ℕ) → 10 ≤ n → list_all is_inside ds ≡ true → list_all is_inside (ds ++ ((48 + n % 10) ∷ [])) ≡ true
     more n ds h front = inside-append ds ((48 + n % 10) ∷ []) front (rw (inside_digit (n % 10)) refl)
-
--- no printed price has one
-pub inside-price_text : (n : ℕ) → n < 2 ^ 128 → list_all is_inside (price_text n) ≡ true
-unfolding price_text
-inside-price_text n h = inside-append (decimal (n / 10_000)) (fraction_text (n % 10_000)) (inside-decimal (n / 10_000) (omega arith)) (inside-fraction_text (n % 10_000))

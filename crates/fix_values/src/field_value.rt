@@ -1,6 +1,6 @@
 //! A value of a field, whatever its type.
 
-ghost use Rattle.std.specs.Prelude.{◌≡◌, ◌∷◌, [], true, decimal};
+ghost use Rattle.std.specs.Prelude.{◌≡◌, ◌<◌, ◌^◌, ◌∷◌, [], true, decimal};
 ghost use Rattle.fix_fields.specs.Field.{is_inside};
 ghost use Rattle.fixed_point.specs.Price.{price_text};
 
@@ -12,8 +12,8 @@ use std::marker::Model;
 pub(crate) enum Said {
     /// A whole number.
     Number(u64),
-    /// A price in 1/10,000.
-    Price(u128),
+    /// A price: its whole part, and its fraction in 1/10,000.
+    Price { whole: u64, fraction: u16 },
     /// One byte.
     Letter(u8),
     /// A text.
@@ -60,10 +60,14 @@ impl FieldValue {
 
     /// A price in 1/10,000, written as its one text: any price, and any average. Takes no memory.
     pub fn price(units: u128) -> FieldValue
+        requires { units < 2 ^ 70 }
         ensures { result ≡ price_text units }
     {
         FieldValue {
-            said: Said::Price(units),
+            said: Said::Price {
+                whole: (units / 10_000) as u64,
+                fraction: (units % 10_000) as u16,
+            },
         }
     }
 

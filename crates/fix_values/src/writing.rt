@@ -81,7 +81,9 @@ pub fn push_value(
 {
     match &value.said {
         Said::Number(number) => push_number(fields, tag, *number),
-        Said::Price(units) => fields.push(tag, PriceText::of(*units).as_slice()),
+        Said::Price { whole, fraction } => {
+            fields.push(tag, PriceText::of(u128::from(*whole), *fraction).as_slice())
+        }
         Said::Letter(letter) => push_letter(fields, tag, *letter),
         Said::Text(text) => push_text(fields, tag, text),
     }

@@ -1,8 +1,8 @@
 //! From amounts to texts.
 
-ghost use Rattle.std.specs.Prelude.{◌≡◌, ◌<◌, ◌≤◌, Some, IfOk};
+ghost use Rattle.std.specs.Prelude.{◌≡◌, ◌≤◌, Some, IfOk};
 ghost use Rattle.fixed_point.specs.Decimal.{worth};
-ghost use Rattle.fixed_point.specs.Price.{four_digits, significant, price_text};
+ghost use Rattle.fixed_point.specs.Price.{four_digits, fraction_text, significant, price_text};
 
 use itoa::Buffer;
 use std::alloc::{AllocError, Global};
@@ -36,17 +36,15 @@ impl Model for PriceText {
 }
 
 impl PriceText {
-    ghost use Rattle.std.specs.Prelude.{[], ◌+◌, ◌++◌, length};
+    ghost use Rattle.std.specs.Prelude.{[], ◌+◌, ◌++◌, decimal, length};
 
-    /// The text of so many 1/10,000. Takes no memory.
-    #[tactic(auto, unfolding(crate::specs::Price::price_text))]
-    pub fn of(units: u128) -> PriceText
-        ensures { result ≡ price_text units }
+    /// The text of a price by its whole part, and its fraction in 1/10,000. Takes no memory.
+    pub fn of(whole: u128, fraction: u16) -> PriceText
+        ensures { result ≡ decimal whole ++ fraction_text fraction }
     {
         let mut text = PriceText::empty();
         let mut buffer = Buffer::new();
-        text.push(buffer.format(units / 10_000).as_bytes());
-        let fraction = (units % 10_000) as u16;
+        text.push(buffer.format(whole).as_bytes());
         if fraction > 0 {
             text.push(b".");
             text.push(&digits_of(fraction)[..significant_digits(fraction)]);
@@ -84,16 +82,17 @@ impl PriceText {
 
 /// The one text of a price in 1/10,000, as `PriceText` has it, in memory of its own. One growth. The one error is that
 /// memory ran out, and leaves nothing behind.
+#[tactic(auto, unfolding(crate::specs::Price::price_text))]
 pub fn print_price(alloc: Global, units: u128) -> Result<Vec<u8>, AllocError>
     ensures text { IfOk result (λ text. text.items ≡ price_text units) }
     ensures denotes { IfOk result (λ text. worth text.items ≡ Some units) }
 {
-    Vec::from_slice(alloc, PriceText::of(units).as_slice())
+    let text = PriceText::of(units / 10_000, (units % 10_000) as u16);
+    Vec::from_slice(alloc, text.as_slice())
 }
 
 /// The four digits of a number below 10,000.
 fn digits_of(fraction: u16) -> [u8; 4]
-    requires { fraction < 10_000 }
     ensures { result ≡ four_digits fraction }
 {
     [
