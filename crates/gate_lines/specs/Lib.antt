@@ -9,4 +9,3 @@ pub use Rattle.gate_law.specs as gate_law
 pub use Rattle.batch_lines.specs as batch_lines
 pub use Rattle.audit_lines.specs as audit_lines
 pub use Rattle.script_steps.specs as script_steps
-pub use Rattle.audit_lines.specs.gate_audit as gate_audit

@@ -16,7 +16,7 @@ mod script;
 mod stop;
 
 pub use audit::audit_script;
-pub use audit_lines::{History, ReadingFault, Settings, audit, write_audit};
+pub use audit_lines::write_audit;
 pub use batch_lines::{Flags, batch_text};
 pub use script::{run_script, run_script_with, script_history, tell};
 pub use stop::Stop;

@@ -4,12 +4,12 @@ use Rattle.std.specs.Prelude.{◌⊎◌}
 use Rattle.std.specs.Io.KnownBytes.{Appends}
 use Rattle.gate_lines.specs.gate_law.Settings.{Settings}
 use Rattle.gate_lines.specs.gate_law.Holds.{Holds}
-use Rattle.gate_lines.specs.gate_audit.Pairs.{accepted_pairs, pairs}
+use Rattle.gate_audit.specs.Pairs.{accepted_pairs, pairs}
 use Rattle.gate_lines.specs.audit_lines.Lines.{shown_audit}
 use Rattle.journal_file.specs.journal_pages.declared.fault.PageFault.{PageFault}
 use Rattle.journal_file.specs.journal_pages.declared.fault.PageFault.TheVariants as faults
 use Rattle.journal_file.specs.journal_days.Day.{day_fault}
-use Rattle.gate_lines.specs.gate_audit.gate_journal.Kept.{Kept, kept_in, turns}
+use Rattle.gate_audit.specs.gate_journal.Kept.{Kept, kept_in, turns}
 use Rattle.journal_file.specs.File.{IsNoFile, IsNoMemory, file_of}
 use Rattle.journal_audit.specs.Audits.{IsAuditOfFile, IsNoDaysFile}
 

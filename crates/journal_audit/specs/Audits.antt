@@ -3,12 +3,12 @@ use Rattle.std.specs.Prelude.{ℕ, List, Option}
 use Rattle.std.specs.Io.KnownBytes.{Appends}
 use Rattle.gate_lines.specs.gate_law.Settings.{Settings}
 use Rattle.gate_lines.specs.gate_law.Holds.{Holds}
-use Rattle.gate_lines.specs.gate_audit.Pairs.{accepted_pairs, pairs}
+use Rattle.gate_audit.specs.Pairs.{accepted_pairs, pairs}
 use Rattle.gate_lines.specs.audit_lines.Lines.{shown_audit}
 use Rattle.gate_lines.specs.Scripts.{ComesTo}
 use Rattle.gate_lines.specs.script_steps.Settings.{fixed}
 use Rattle.journal_file.specs.journal_pages.declared.fault.PageFault.{PageFault}
-use Rattle.gate_lines.specs.gate_audit.gate_journal.Kept.{Kept, kept_in, turns}
+use Rattle.gate_audit.specs.gate_journal.Kept.{Kept, kept_in, turns}
 use Rattle.journal_file.specs.File.{IsNoFile}
 use Rattle.journal_file.specs.Written.{IsFile, IsFileOfTurns}
 

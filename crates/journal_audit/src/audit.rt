@@ -3,13 +3,14 @@
 ghost use Rattle.std.specs.Prelude.{◌≡◌, ◌≤◌, IfOk};
 ghost use Rattle.std.specs.Io.KnownBytes.{Appends, Keeps};
 ghost use Rattle.gate_lines.specs.gate_law.Holds.{Holds};
-ghost use Rattle.gate_lines.specs.gate_audit.Pairs.{accepted_pairs, pairs};
+ghost use Rattle.gate_audit.specs.Pairs.{accepted_pairs, pairs};
 ghost use Rattle.gate_lines.specs.audit_lines.Lines.{shown_audit};
 ghost use Rattle.journal_file.specs.journal_pages.declared.fault.PageFault.TheVariants.{NoMemory};
-ghost use Rattle.gate_lines.specs.gate_audit.gate_journal.Kept.{turns};
+ghost use Rattle.gate_audit.specs.gate_journal.Kept.{turns};
 ghost use Rattle.journal_audit.specs.Audits.{IsAuditOfFile, IsNoDaysFile};
 
-use gate_lines::{History, ReadingFault, Settings, audit, write_audit};
+use gate_audit::{History, ReadingFault, Settings, audit};
+use gate_lines::write_audit;
 use journal_file::{PageFault, read_day};
 use std::alloc::Global;
 use std::io::Write;
