@@ -58,7 +58,7 @@ impl FieldValue {
         }
     }
 
-    /// A price in 1/10,000, written as its one text: any price, and any average. Takes no memory.
+    /// A price in 1/10,000, written as its one text: any price of an order, and any average. Takes no memory.
     pub fn price(units: u128) -> FieldValue
         requires { units < 2 ^ 70 }
         ensures { result ≡ price_text units }

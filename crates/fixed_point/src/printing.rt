@@ -38,7 +38,7 @@ impl Model for PriceText {
 impl PriceText {
     ghost use Rattle.std.specs.Prelude.{[], ◌+◌, ◌++◌, decimal, length};
 
-    /// The text of a price by its whole part, and its fraction in 1/10,000. Takes no memory.
+    /// The text of a price by its whole part, and its fraction in 1/10,000, 0 to 9,999. Takes no memory.
     pub fn of(whole: u128, fraction: u16) -> PriceText
         ensures { result ≡ decimal whole ++ fraction_text fraction }
     {
