@@ -1,13 +1,13 @@
 -- A body that takes a number, is kept, and is written where the client is logged on, is what the table gives.
 use Rattle.std.proofs.Common.{◌≡◌, ℕ, List, [], ◌∷◌, ◌++◌, map, max, Some, None, if◌then◌else◌, sym, ap, ◌∙◌, subst}
 use Rattle.fix_fields.specs.Field.{Message}
-use Rattle.session_writing.specs.session_law.declared.kind.Kind.{Kind}
-use Rattle.session_writing.specs.session_law.declared.phase.Phase.{Phase}
-use Rattle.session_writing.specs.session_law.declared.frame.Out.TheVariants.{Write}
-use Rattle.session_writing.specs.session_law.Frames.{told_of_out}
-use Rattle.session_writing.specs.session_law.Session.{State, Slot, fresh, next_out, on_written}
-use Rattle.session_writing.specs.session_law.Table.{is_logged_on}
-use Rattle.session_writing.specs.session_law.Runs.{Issue, step}
+use Rattle.session_law.specs.declared.kind.Kind.{Kind}
+use Rattle.session_law.specs.declared.phase.Phase.{Phase}
+use Rattle.session_law.specs.declared.frame.Out.TheVariants.{Write}
+use Rattle.session_law.specs.Frames.{told_of_out}
+use Rattle.session_law.specs.Session.{State, Slot, fresh, next_out, on_written}
+use Rattle.session_law.specs.Table.{is_logged_on}
+use Rattle.session_law.specs.Runs.{Issue, step}
 use Rattle.session_writing.specs.Written.{told_bytes}
 use Rattle.fix_session.specs.declared.session.SessionTurn.{SessionTurn}
 use Rattle.fix_session.specs.Meets.{Meets}

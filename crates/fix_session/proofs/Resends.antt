@@ -4,11 +4,11 @@ use Rattle.std.specs.Prelude.{nat_le}
 use Rattle.std.proofs.lemmas.List.{length-take, length-drop}
 use Rattle.std.proofs.lemmas.Bool.{ltb-true, ltb-false}
 use Rattle.std.proofs.lemmas.Bool.Decides.{nat_tests}
-use Rattle.session_writing.specs.session_law.declared.phase.Phase.{Phase}
-use Rattle.session_writing.specs.session_law.declared.frame.Frame.{Frame}
-use Rattle.session_writing.specs.session_law.declared.frame.Out.{Out}
-use Rattle.session_writing.specs.session_law.declared.frame.Out.TheVariants.{Write}
-use Rattle.session_writing.specs.session_law.Session.{State, Slot, Given, again, gap_fill, resent, resend, on_resent, on_written, sent_again}
+use Rattle.session_law.specs.declared.phase.Phase.{Phase}
+use Rattle.session_law.specs.declared.frame.Frame.{Frame}
+use Rattle.session_law.specs.declared.frame.Out.{Out}
+use Rattle.session_law.specs.declared.frame.Out.TheVariants.{Write}
+use Rattle.session_law.specs.Session.{State, Slot, Given, again, gap_fill, resent, resend, on_resent, on_written, sent_again}
 use Rattle.fix_session.specs.declared.draft.Draft.{Draft}
 use Rattle.fix_session.specs.declared.draft.Resend.{Resend}
 use Rattle.fix_session.specs.Made.{made, resent_outs}

@@ -1,11 +1,11 @@
 -- A call that meets the table is a turn more, and has the headline.
 use Rattle.std.proofs.Common.{ℕ, List, ◌∷◌, sym, subst}
-use Rattle.session_writing.specs.session_law.Session.{State}
-use Rattle.session_writing.specs.session_law.Runs.{Call, SessionHistory, Leaves, call_turn, turn_after, step}
-use Rattle.session_writing.specs.session_law.Numbers.{SessionHeadline}
-use Rattle.session_writing.specs.session_law.Bounds.{MovesLittle, most_taken}
-use Rattle.session_writing.proofs.session_law.Bounds.{step-little}
-use Rattle.session_writing.proofs.session_law.Runs.{Leaves-more, Leaves-headline}
+use Rattle.session_law.specs.Session.{State}
+use Rattle.session_law.specs.Runs.{Call, SessionHistory, Leaves, call_turn, turn_after, step}
+use Rattle.session_law.specs.Numbers.{SessionHeadline}
+use Rattle.session_law.specs.Bounds.{MovesLittle, most_taken}
+use Rattle.session_law.proofs.Bounds.{step-little}
+use Rattle.session_law.proofs.Runs.{Leaves-more, Leaves-headline}
 use Rattle.fix_session.specs.declared.session.SessionTurn.{SessionTurn}
 use Rattle.fix_session.specs.Meets.{Meets, Tells}
 

@@ -1,12 +1,12 @@
 -- What a body of the application is, as it is issued.
-use Rattle.session_writing.specs.session_law.declared.kind.Kind.{Kind}
-use Rattle.session_writing.specs.session_law.declared.kind.Kind.TheVariants as kinds
+use Rattle.session_law.specs.declared.kind.Kind.{Kind}
+use Rattle.session_law.specs.declared.kind.Kind.TheVariants as kinds
 use Rattle.fix_fields.specs.Field.{Message}
-use Rattle.session_writing.specs.session_law.Runs.{Call, Issue}
-use Rattle.session_writing.specs.session_reading.fix_types.declared.application.AppBody.{AppBody}
-use Rattle.session_writing.specs.session_reading.fix_types.declared.application.AppBody.TheVariants as bodies
-use Rattle.session_writing.specs.session_reading.fix_types.CancelReject.{cancel_reject_body}
-use Rattle.session_writing.specs.session_reading.fix_types.Report.{report_body}
+use Rattle.session_law.specs.Runs.{Call, Issue}
+use Rattle.session_reading.specs.fix_types.declared.application.AppBody.{AppBody}
+use Rattle.session_reading.specs.fix_types.declared.application.AppBody.TheVariants as bodies
+use Rattle.session_reading.specs.fix_types.CancelReject.{cancel_reject_body}
+use Rattle.session_reading.specs.fix_types.Report.{report_body}
 
 abbrev pub issued_kind : AppBody → Kind
 issued_kind (bodies.Report report) = kinds.Report

@@ -5,14 +5,14 @@ pub mod Issues
 pub mod Logons
 pub use Rattle.fix_fields.specs.Field
 pub use Rattle.session_writing.specs.fix_stamp.Stamp
-pub use Rattle.session_writing.specs.session_law.Bounds
-pub use Rattle.session_writing.specs.session_law.Expected
-pub use Rattle.session_writing.specs.session_law.Formats
-pub use Rattle.session_writing.specs.session_law.Frames
-pub use Rattle.session_writing.specs.session_law.Numbers
-pub use Rattle.session_writing.specs.session_law.Runs
-pub use Rattle.session_writing.specs.session_law.Session
-pub use Rattle.session_writing.specs.session_law.Table
-pub use Rattle.session_writing.specs.session_reading.Due
-pub use Rattle.session_writing.specs.session_reading.Judged
+pub use Rattle.session_law.specs.Bounds
+pub use Rattle.session_law.specs.Expected
+pub use Rattle.session_law.specs.Formats
+pub use Rattle.session_law.specs.Frames
+pub use Rattle.session_law.specs.Numbers
+pub use Rattle.session_law.specs.Runs
+pub use Rattle.session_law.specs.Session
+pub use Rattle.session_law.specs.Table
+pub use Rattle.session_reading.specs.Due
+pub use Rattle.session_reading.specs.Judged
 pub use Rattle.session_writing.specs as session_writing

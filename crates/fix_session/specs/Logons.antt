@@ -1,8 +1,8 @@
 -- What the lines of a link that isn't logged on give.
 use Rattle.std.specs.Prelude.{ℕ, Bool, List, [], ◌∷◌, None, Some}
 use Rattle.fix_fields.specs.Field.{Message, text}
-use Rattle.session_writing.specs.session_law.Session.{Act, Answer, Grow, AskAgain, Shut}
-use Rattle.session_writing.specs.session_law.Table.{acts, too_low}
+use Rattle.session_law.specs.Session.{Act, Answer, Grow, AskAgain, Shut}
+use Rattle.session_law.specs.Table.{acts, too_low}
 use Rattle.fix_session.specs.declared.judge.LogonRow.{LogonRow}
 use Rattle.fix_session.specs.declared.judge.LogonRow.TheVariants as rows
 

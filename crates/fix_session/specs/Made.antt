@@ -1,8 +1,8 @@
 -- What a draft is seen as.
 use Rattle.std.specs.Prelude.{ℕ, List, [], ◌++◌, map, Option, Some, None, if◌then◌else◌}
-use Rattle.session_writing.specs.session_law.declared.frame.Out.{Out}
-use Rattle.session_writing.specs.session_law.declared.frame.Out.TheVariants.{Write}
-use Rattle.session_writing.specs.session_law.Session.{State, Slot, Given, resend}
+use Rattle.session_law.specs.declared.frame.Out.{Out}
+use Rattle.session_law.specs.declared.frame.Out.TheVariants.{Write}
+use Rattle.session_law.specs.Session.{State, Slot, Given, resend}
 use Rattle.fix_session.specs.declared.draft.Draft.{Draft}
 use Rattle.fix_session.specs.declared.draft.Resend.{Resend}
 

@@ -1,8 +1,8 @@
 -- When the code's call is what the table gives.
 use Rattle.std.specs.Prelude.{◌≡◌, ℕ, List, map}
-use Rattle.session_writing.specs.session_law.Session.{State, Given}
-use Rattle.session_writing.specs.session_law.Runs.{CallTurn}
-use Rattle.session_writing.specs.session_law.Frames.{told_of_out}
+use Rattle.session_law.specs.Session.{State, Given}
+use Rattle.session_law.specs.Runs.{CallTurn}
+use Rattle.session_law.specs.Frames.{told_of_out}
 use Rattle.session_writing.specs.Written.{told_bytes}
 use Rattle.fix_session.specs.declared.session.SessionTurn.{SessionTurn}
 

@@ -3,19 +3,19 @@
 ghost use Rattle.std.specs.Prelude.{fold, ◌≡◌, ◌≤◌, ◌<◌, ◌^◌, ◌++◌, ◌∷◌, [], length, IfOk, OnOk, Some, None, codes};
 ghost use Rattle.std.specs.Prelude.{decimal, true, false, nat_le};
 ghost use Rattle.fix_fields.specs.Field.{IsValue};
-ghost use Rattle.session_writing.specs.session_law.Session.{State, Given, perform, quiet, answered, sent_again, SayUnsupported, kept};
-ghost use Rattle.session_writing.specs.session_law.Session.{Say, Heartbeat};
-ghost use Rattle.session_writing.specs.session_law.Table as table;
+ghost use Rattle.session_law.specs.Session.{State, Given, perform, quiet, answered, sent_again, SayUnsupported, kept};
+ghost use Rattle.session_law.specs.Session.{Say, Heartbeat};
+ghost use Rattle.session_law.specs.Table as table;
 ghost use Rattle.fix_fields.specs.Field as tags;
 ghost use Rattle.fix_session.specs.Made.{made};
-ghost use Rattle.session_writing.specs.session_reading.Judged.{taken_answer, row_answer, RowFits, TakenFits};
+ghost use Rattle.session_reading.specs.Judged.{taken_answer, row_answer, RowFits, TakenFits};
 
 use crate::draft::Draft;
 use crate::session::Session;
 use fix_fields::{Fields, SessionRejectReason};
-use session_writing::{
-    Kind, Row, Taken, echo_body, numbered, text, too_low_body, unsupported_body,
-};
+use session_law::Kind;
+use session_reading::{Row, Taken, numbered, text};
+use session_writing::{echo_body, too_low_body, unsupported_body};
 use std::alloc::{AllocError, Global};
 
 /// Does what the line of the table says, from nothing on.

@@ -1,16 +1,15 @@
 //! An answer as it is made: nothing of the session changes before all of it stands.
 
-ghost use Rattle.session_writing.specs.session_law.Table as table;
+ghost use Rattle.session_law.specs.Table as table;
 ghost use Rattle.std.specs.Prelude.{max, fold, ◌≤◌, ◌≡◌, ◌+◌, ◌<◌, ◌^◌, ◌∷◌, ◌++◌, [], length, IfOk, OnErr, OnOk, Some};
 ghost use Rattle.std.specs.Prelude.{None, nat_le, true, false, if◌then◌else◌};
-ghost use Rattle.session_writing.specs.session_law.Session.{on_written};
+ghost use Rattle.session_law.specs.Session.{on_written};
 
 use crate::session::Session;
 use fix_fields::{Fields, printed_fields};
-use session_writing::{
-    AppMsg, Frame, KeptBodies, Kind, Logged, Out, Phase, application_of, ask_body, echo_body,
-    reject_body, text_body,
-};
+use session_law::{Frame, Kind, Logged, Out, Phase};
+use session_reading::{AppMsg, application_of};
+use session_writing::{KeptBodies, ask_body, echo_body, reject_body, text_body};
 use std::alloc::{AllocError, Global};
 
 /// Numbers that are sent again, from one to another.
@@ -54,13 +53,13 @@ impl Drop for Draft {
 }
 
 impl Draft {
-    ghost use Rattle.session_writing.specs.session_law.Runs.{at_moment, heard};
-    ghost use Rattle.session_writing.specs.session_law.Table.{is_logged_on};
-    ghost use Rattle.session_writing.specs.session_law.Session.{quiet, logged, reset, Logon, perform, numbered, said, kept, next_out};
-    ghost use Rattle.session_writing.specs.session_law.Session.{Given, Say, Shut, Grow, Expect, Slot, AskAgain, Test};
-    ghost use Rattle.session_writing.specs.session_law.Session.{Deliver, sent_again};
-    ghost use Rattle.session_writing.specs.session_law.Formats.{application_refusal};
-    ghost use Rattle.session_writing.specs.session_law.Table.{reject_act, log_out, log_out_silently};
+    ghost use Rattle.session_law.specs.Runs.{at_moment, heard};
+    ghost use Rattle.session_law.specs.Table.{is_logged_on};
+    ghost use Rattle.session_law.specs.Session.{quiet, logged, reset, Logon, perform, numbered, said, kept, next_out};
+    ghost use Rattle.session_law.specs.Session.{Given, Say, Shut, Grow, Expect, Slot, AskAgain, Test};
+    ghost use Rattle.session_law.specs.Session.{Deliver, sent_again};
+    ghost use Rattle.session_law.specs.Formats.{application_refusal};
+    ghost use Rattle.session_law.specs.Table.{reject_act, log_out, log_out_silently};
     ghost use Rattle.fix_fields.specs.Field.{IsValue};
     ghost use Rattle.fix_session.specs.Made.{made};
 

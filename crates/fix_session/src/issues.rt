@@ -4,7 +4,8 @@ ghost use Rattle.std.specs.Prelude.{◌≡◌, ◌++◌, IfOk, OnOk};
 ghost use Rattle.fix_session.specs.Issues as law;
 
 use fix_fields::PrintedFields;
-use session_writing::{AppBody, Kind};
+use session_law::Kind;
+use session_reading::AppBody;
 use std::alloc::{AllocError, Global};
 
 /// The type of the frame of a body.

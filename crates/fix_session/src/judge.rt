@@ -2,15 +2,15 @@
 //! nothing and takes no memory.
 
 ghost use Rattle.std.specs.Prelude.{◌≡◌, ◌≤◌, ◌<◌, ◌^◌, length, if◌then◌else◌, codes};
-ghost use Rattle.session_writing.specs.session_law.Table as table;
-ghost use Rattle.session_writing.specs.session_law.Table.{answer_by, resend_answer, with_acts, ask_again};
-ghost use Rattle.session_writing.specs.session_reading.Judged.{row_answer, RowFits};
+ghost use Rattle.session_law.specs.Table as table;
+ghost use Rattle.session_law.specs.Table.{answer_by, resend_answer, with_acts, ask_again};
+ghost use Rattle.session_reading.specs.Judged.{row_answer, RowFits};
 ghost use Rattle.fix_session.specs.Logons.{logon_answer};
 
 use crate::draft::first_number;
 use crate::session::Session;
 use fix_fields::Fields;
-use session_writing::{
+use session_reading::{
     Row, interval_of, is, is_interval, is_letter, is_plain_reset, is_reset_flag, is_type,
     judge_low, judge_plain_reset, judge_resend, judge_taken, numbered, resets,
 };

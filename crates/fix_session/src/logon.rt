@@ -1,9 +1,9 @@
 //! What the lines of a link that isn't logged on give.
 
 ghost use Rattle.std.specs.Prelude.{◌≡◌, ◌≤◌, ◌^◌, ◌∷◌, [], IfOk, Some};
-ghost use Rattle.session_writing.specs.session_law.Session.{Shut, answered, logon_opened};
-ghost use Rattle.session_writing.specs.session_law.Runs.{at_moment, heard};
-ghost use Rattle.session_writing.specs.session_law.Table as table;
+ghost use Rattle.session_law.specs.Session.{Shut, answered, logon_opened};
+ghost use Rattle.session_law.specs.Runs.{at_moment, heard};
+ghost use Rattle.session_law.specs.Table as table;
 ghost use Rattle.fix_fields.specs.Field as tags;
 ghost use Rattle.fix_session.specs.Made.{made};
 ghost use Rattle.fix_session.specs.Logons.{logon_answer};
@@ -14,7 +14,9 @@ use crate::draft::Draft;
 use crate::judge::LogonRow;
 use crate::session::Session;
 use fix_fields::Fields;
-use session_writing::{Kind, logon_body, numbered};
+use session_law::Kind;
+use session_reading::numbered;
+use session_writing::logon_body;
 use std::alloc::{AllocError, Global};
 
 /// What the line gives at this moment.

@@ -2,8 +2,8 @@
 
 ghost use Rattle.std.specs.Prelude.{◌≡◌, ◌≤◌, ◌<◌, ◌+◌, ◌^◌, ◌∷◌, ◌++◌, [], List, map, ℕ, length, nat_le};
 ghost use Rattle.std.specs.Prelude.{if◌then◌else◌, IfOk, OnErr, OnOk, Some, None};
-ghost use Rattle.session_writing.specs.session_law.Session.{on_written};
-ghost use Rattle.session_writing.specs.session_law.Table.{is_logged_on};
+ghost use Rattle.session_law.specs.Session.{on_written};
+ghost use Rattle.session_law.specs.Table.{is_logged_on};
 
 use crate::answer::answer;
 use crate::draft::{Draft, Resend};
@@ -12,9 +12,10 @@ use crate::judge::{judge, judge_logon};
 use crate::logon::answer_logon;
 use crate::ticks::do_due;
 use fix_fields::{Fields, PrintedFields, Text};
+use session_law::{Kind, Logged, Phase};
+use session_reading::{AppBody, AppMsg, due_at};
 use session_writing::{
-    AppBody, AppMsg, FrameHead, IssuedReport, Kind, Logged, Phase, SessionOut, UndoBodies,
-    append_written, due_at, issued_outs, report_of_body,
+    FrameHead, IssuedReport, SessionOut, UndoBodies, append_written, issued_outs, report_of_body,
 };
 use std::alloc::{AllocError, Global};
 use std::marker::Model;
@@ -108,25 +109,25 @@ pub struct IssuedTurn {
 }
 
 impl Session {
-    ghost use Rattle.session_writing.specs.session_law.Session.{next_out, new_session, quiet, Given, fresh};
-    ghost use Rattle.session_writing.specs.session_law.Runs.{SessionHistory, Leaves, turn_after, step, Call, OnLink, OnMessage, OnTick};
-    ghost use Rattle.session_writing.specs.session_law.Runs.{Issue, at_moment, heard, by_rows, issued_frame};
-    ghost use Rattle.session_writing.specs.session_law.Expected.{expected};
-    ghost use Rattle.session_writing.specs.session_law.Numbers.{SessionHeadline, given};
-    ghost use Rattle.session_writing.specs.session_law.Table.{asked_number, logon_rows, logged_on_rows, message_number, resets};
+    ghost use Rattle.session_law.specs.Session.{next_out, new_session, quiet, Given, fresh};
+    ghost use Rattle.session_law.specs.Runs.{SessionHistory, Leaves, turn_after, step, Call, OnLink, OnMessage, OnTick};
+    ghost use Rattle.session_law.specs.Runs.{Issue, at_moment, heard, by_rows, issued_frame};
+    ghost use Rattle.session_law.specs.Expected.{expected};
+    ghost use Rattle.session_law.specs.Numbers.{SessionHeadline, given};
+    ghost use Rattle.session_law.specs.Table.{asked_number, logon_rows, logged_on_rows, message_number, resets};
     ghost use Rattle.fix_session.specs.Meets.{Meets, Tells};
     ghost use Rattle.fix_session.specs.Issues as issues;
     ghost use Rattle.fix_session.specs.Issues.{call_of_body};
-    ghost use Rattle.session_writing.specs.session_law.Frames.{frame_fields};
+    ghost use Rattle.session_law.specs.Frames.{frame_fields};
     ghost use Rattle.session_writing.specs.fix_stamp.Stamp.{stamp_text};
     ghost use Rattle.fix_fields.specs.Field.{IsValue};
-    ghost use Rattle.session_writing.specs.session_law.Frames.{told_of_out};
+    ghost use Rattle.session_law.specs.Frames.{told_of_out};
     ghost use Rattle.session_writing.specs.Written.{told_bytes};
     ghost use Rattle.fix_session.specs.Made.{made, resent_outs};
-    ghost use Rattle.session_writing.specs.session_law.Bounds.{MovesLittle};
+    ghost use Rattle.session_law.specs.Bounds.{MovesLittle};
 
     /// A session of a client with the gateway, by their names: no link, and number 1 on both sides.
-    #[tactic(auto, unfolding(session_writing::specs::session_law::Runs::Leaves))]
+    #[tactic(auto, unfolding(session_law::specs::Runs::Leaves))]
     pub fn new(alloc: Global, gate: Text, client: Text) -> Session
         ensures leaves { Leaves gate client [] result.session }
         ensures settled { result.settled ≡ result.session }

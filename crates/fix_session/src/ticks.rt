@@ -1,14 +1,15 @@
 //! What a tick brings.
 
 ghost use Rattle.std.specs.Prelude.{◌≡◌, OnOk};
-ghost use Rattle.session_writing.specs.session_law.Session.{quiet, answered};
-ghost use Rattle.session_writing.specs.session_reading.Due.{due_answer};
+ghost use Rattle.session_law.specs.Session.{quiet, answered};
+ghost use Rattle.session_reading.specs.Due.{due_answer};
 ghost use Rattle.fix_session.specs.Made.{made};
 
 use crate::draft::Draft;
 use crate::session::Session;
 use fix_fields::Fields;
-use session_writing::{Due, Kind};
+use session_law::Kind;
+use session_reading::Due;
 use std::alloc::{AllocError, Global};
 
 /// Does what is due, from nothing on.

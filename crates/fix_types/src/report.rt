@@ -4,13 +4,14 @@ use crate::report_fields::{push_amounts, push_head};
 use crate::report_reading::read_report;
 use fix_values::writing::push_letter;
 use fix_values::{
-    Character, ClOrdId, ExecType, Fields, Format, OrdStatus, PrintedFields, Row, Text, TextFault,
-    first_refusal,
+    Character, ClOrdId, ExecType, FieldValue, Fields, Format, OrdStatus, PrintedFields, Row, Text,
+    TextFault, first_refusal,
 };
 use std::alloc::{AllocError, Global};
 use wire_law::TextWire;
 
-/// What the gateway tells a client of an order. Quantities and prices are texts, since a refused order's are its own.
+/// What the gateway tells a client of an order. Its total, its prices and its text are field values, since a refused
+/// order's total and price are its own texts.
 ///
 /// Source: FIX 4.4 Volume 4, "Execution Report", with the fields that this gateway writes, in this order.
 #[derive(Debug)]
@@ -38,21 +39,21 @@ pub struct Report {
     /// Side (54).
     pub side: Character,
     /// OrderQty (38).
-    pub order_qty: Text,
+    pub order_qty: FieldValue,
     /// Price (44).
-    pub price: Option<Text>,
+    pub price: Option<FieldValue>,
     /// LastQty (32).
     pub last_qty: Option<u64>,
     /// LastPx (31).
-    pub last_px: Option<Text>,
+    pub last_px: Option<FieldValue>,
     /// LeavesQty (151): the shares that are open.
     pub leaves_qty: u64,
     /// CumQty (14): the shares that are executed.
     pub cum_qty: u64,
     /// AvgPx (6).
-    pub avg_px: Text,
+    pub avg_px: FieldValue,
     /// Text (58).
-    pub text: Option<Text>,
+    pub text: Option<FieldValue>,
 }
 
 // Not derived: then each way out drops it in one call (docs/DECISIONS.md, "Drops").

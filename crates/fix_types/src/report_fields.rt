@@ -8,7 +8,7 @@ use crate::report::Report;
 use fix_values::PrintedFields;
 use fix_values::writing::{
     push_char, push_id, push_letter, push_number, push_optional_id, push_optional_number,
-    push_optional_text, push_text,
+    push_optional_value, push_text, push_value,
 };
 use std::alloc::AllocError;
 
@@ -35,12 +35,12 @@ pub fn push_amounts(fields: &mut PrintedFields, report: &Report) -> Result<(), A
 {
     push_text(fields, 55, &report.symbol)?;
     push_char(fields, 54, report.side)?;
-    push_text(fields, 38, &report.order_qty)?;
-    push_optional_text(fields, 44, &report.price)?;
+    push_value(fields, 38, &report.order_qty)?;
+    push_optional_value(fields, 44, &report.price)?;
     push_optional_number(fields, 32, report.last_qty)?;
-    push_optional_text(fields, 31, &report.last_px)?;
+    push_optional_value(fields, 31, &report.last_px)?;
     push_number(fields, 151, report.leaves_qty)?;
     push_number(fields, 14, report.cum_qty)?;
-    push_text(fields, 6, &report.avg_px)?;
-    push_optional_text(fields, 58, &report.text)
+    push_value(fields, 6, &report.avg_px)?;
+    push_optional_value(fields, 58, &report.text)
 }

@@ -10,7 +10,7 @@ use fix_values::reading::{
     char_at, exec_type_at, id_at, number_in, optional_id_at, optional_number_in, optional_text_at,
     ord_status_at, text_at,
 };
-use fix_values::{Fields, Text};
+use fix_values::{FieldValue, Fields, Text};
 use std::alloc::{AllocError, Global};
 
 /// The texts of a report, but for its ids and its symbol. They are read in a call of their own: where memory is wanting
@@ -51,14 +51,14 @@ pub fn read_report(alloc: Global, fields: &Fields) -> Result<Report, AllocError>
         exec_restatement_reason: optional_number_in(fields, 378),
         symbol,
         side: char_at(fields, 54),
-        order_qty: texts.order_qty,
-        price: texts.price,
+        order_qty: FieldValue::text(texts.order_qty),
+        price: texts.price.map(FieldValue::text),
         last_qty: optional_number_in(fields, 32),
-        last_px: texts.last_px,
+        last_px: texts.last_px.map(FieldValue::text),
         leaves_qty: number_in(fields, 151),
         cum_qty: number_in(fields, 14),
-        avg_px: texts.avg_px,
-        text: texts.text,
+        avg_px: FieldValue::text(texts.avg_px),
+        text: texts.text.map(FieldValue::text),
     })
 }
 

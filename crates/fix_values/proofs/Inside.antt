@@ -1,12 +1,12 @@
 -- Texts that no SOH stands in.
-use Rattle.std.proofs.Common.{◌≡◌, Bool, true, false, ℕ, ◌+◌, ◌/◌, ◌%◌, ◌^◌, ◌<◌, zero, suc, List, [], ◌∷◌, ◌++◌, take, refl, ◌∙◌, arith, decimal}
+use Rattle.std.proofs.Common.{◌≡◌, Bool, true, false, ℕ, ◌+◌, ◌/◌, ◌%◌, ◌^◌, ◌<◌, ◌≤◌, zero, suc, List, [], ◌∷◌, ◌++◌, take, refl, ◌∙◌, arith, decimal}
 use Rattle.std.specs.Prelude.{◌==◌, if◌then◌else◌}
 use Rattle.std.specs.List.{list_all}
 use Rattle.std.proofs.lemmas.Bool.Decides.{nat_tests}
+use Rattle.std.proofs.lemmas.Fmt.{decimal_by_steps_wide}
 use Rattle.std.proofs.lemmas.List.Folds.{list_all-append}
 use Rattle.fix_fields.specs.Field.{is_inside}
 use Rattle.fix_fields.proofs.Tags.{and_parts}
-use Rattle.fix_values.proofs.Numbers.{inside-decimal}
 use Rattle.fixed_point.specs.Price.{four_digits, significant, fraction_text, price_text}
 
 pub inside-append : (xs ys : List ℕ) → list_all is_inside xs ≡ true → list_all is_inside ys ≡ true → list_all is_inside (xs ++ ys) ≡ true
@@ -32,7 +32,17 @@ inside-fraction_text n = by_test (n == 0)
     by_test true = refl
     by_test false = inside-take (significant n) (four_digits n) (inside-four_digits n)
 
+-- no number in decimal has one
+pub inside-decimal : (n : ℕ) → n < 10 ^ 64 → list_all is_inside (decimal n) ≡ true
+inside-decimal n h = decimal_by_steps_wide (λ n ds. list_all is_inside ds ≡ true) one more n h
+  where
+    one : (n : ℕ) → n < 10 → list_all is_inside ((48 + n) ∷ []) ≡ true
+    one n h = rw (inside_digit n) refl
+
+    more : (n : ℕ) (ds : List ℕ) → 10 ≤ n → list_all is_inside ds ≡ true → list_all is_inside (ds ++ ((48 + n % 10) ∷ [])) ≡ true
+    more n ds h front = inside-append ds ((48 + n % 10) ∷ []) front (rw (inside_digit (n % 10)) refl)
+
 -- no printed price has one
-pub inside-price_text : (n : ℕ) → n < 2 ^ 70 → list_all is_inside (price_text n) ≡ true
+pub inside-price_text : (n : ℕ) → n < 2 ^ 128 → list_all is_inside (price_text n) ≡ true
 unfolding price_text
 inside-price_text n h = inside-append (decimal (n / 10_000)) (fraction_text (n % 10_000)) (inside-decimal (n / 10_000) (omega arith)) (inside-fraction_text (n % 10_000))

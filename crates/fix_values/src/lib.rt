@@ -13,6 +13,7 @@ mod copying;
 mod cxl_rej_reason;
 mod cxl_rej_response_to;
 mod exec_type;
+mod field_value;
 mod float_text;
 mod format;
 mod ord_rej_reason;
@@ -27,6 +28,7 @@ pub use copying::{copied_float, copied_text};
 pub use cxl_rej_reason::CxlRejReason;
 pub use cxl_rej_response_to::CxlRejResponseTo;
 pub use exec_type::ExecType;
+pub use field_value::FieldValue;
 pub use fix_fields::{
     Fields, PrintedFields, SOH, SessionRefusal, SessionRejectReason, Text, split,
 };

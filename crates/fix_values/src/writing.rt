@@ -9,8 +9,10 @@ ghost use Rattle.fix_values.specs.Slots.{slot, field_slot, slot_fields, char_tex
 
 use crate::character::Character;
 use crate::cl_ord_id::ClOrdId;
+use crate::field_value::{FieldValue, Said};
 use crate::float_text::FloatText;
 use fix_fields::{PrintedFields, Text};
+use fixed_point::PriceText;
 use std::alloc::AllocError;
 
 /// Adds a letter.
@@ -65,6 +67,38 @@ pub fn push_optional_text(
     match text {
         None => Ok(()),
         Some(text) => push_text(fields, tag, text),
+    }
+}
+
+/// Adds a value of any type.
+pub fn push_value(
+    fields: &mut PrintedFields,
+    tag: u32,
+    value: &FieldValue,
+) -> Result<(), AllocError>
+    requires { IsTag tag }
+    ensures { OnOk result (fields.new ≡ fields.old ++ slot_fields (field_slot tag value.now)) }
+{
+    match &value.said {
+        Said::Number(number) => push_number(fields, tag, *number),
+        Said::Price(units) => fields.push(tag, PriceText::of(*units).as_slice()),
+        Said::Letter(letter) => push_letter(fields, tag, *letter),
+        Said::Text(text) => push_text(fields, tag, text),
+    }
+}
+
+/// Adds a value of any type, where there is one.
+pub fn push_optional_value(
+    fields: &mut PrintedFields,
+    tag: u32,
+    value: &Option<FieldValue>,
+) -> Result<(), AllocError>
+    requires { IsTag tag }
+    ensures { OnOk result (fields.new ≡ fields.old ++ slot_fields (slot tag value.now)) }
+{
+    match value {
+        None => Ok(()),
+        Some(value) => push_value(fields, tag, value),
     }
 }
 

@@ -22,7 +22,7 @@ pub use averaging::average;
 pub use laws::{printed_denotes, printed_reads_back, said_in_range};
 pub use parsing::{parse_price, parse_qty};
 pub use price4::Price4;
-pub use printing::print_price;
+pub use printing::{PriceText, print_price};
 pub use refusal::DecimalRefusal;
 pub use shares::Shares;
 pub use worth::{WorthRefusal, parse_worth};

@@ -6,31 +6,89 @@ ghost use Rattle.fixed_point.specs.Price.{four_digits, significant, price_text};
 
 use itoa::Buffer;
 use std::alloc::{AllocError, Global};
+use std::marker::Model;
 
-/// The longest text of a price: 35 digits, a point and four digits.
-const LONGEST: usize = 40;
+/// Room for the text of every price: 40 digits, a point and four digits.
+const ROOM: usize = 45;
 
-/// The one text of a price in 1/10,000: `23.45` of 234,500, `23` of 230,000.
+/// The one text of a price in 1/10,000, without memory of its own: `23.45` of 234,500, `23` of 230,000. Contracts see
+/// the list of its bytes.
 ///
 /// The whole part without zeros in front, and where the fraction isn't 0 a point and the fraction without zeros at its
 /// end. Any number has a text, as an average or a sum may lie outside the range of `Price4`; read as a decimal, it is
-/// the number again. The one error is that memory ran out, and leaves nothing behind.
+/// the number again.
 ///
 /// Source: FIX 4.4 Volume 1, data type Price.
-#[tactic(auto, unfolding(crate::specs::Price::price_text))]
+#[derive(Drop)]
+pub struct PriceText {
+    bytes: [u8; ROOM],
+    len: usize,
+}
+
+impl Model for PriceText {
+    ghost use Rattle.std.specs.Prelude.{ℕ, List, ◌≤◌, take};
+
+    ghost Value = { List ℕ };
+
+    ghost view = { λ text. take text.len text.bytes };
+
+    ghost invariant = { λ text. text.len ≤ 45 };
+}
+
+impl PriceText {
+    ghost use Rattle.std.specs.Prelude.{[], ◌+◌, ◌++◌, length};
+
+    /// The text of so many 1/10,000. Takes no memory.
+    #[tactic(auto, unfolding(crate::specs::Price::price_text))]
+    pub fn of(units: u128) -> PriceText
+        ensures { result ≡ price_text units }
+    {
+        let mut text = PriceText::empty();
+        let mut buffer = Buffer::new();
+        text.push(buffer.format(units / 10_000).as_bytes());
+        let fraction = (units % 10_000) as u16;
+        if fraction > 0 {
+            text.push(b".");
+            text.push(&digits_of(fraction)[..significant_digits(fraction)]);
+        }
+        text
+    }
+
+    /// Its bytes.
+    pub fn as_slice(&self) -> &[u8]
+        ensures { result.now ≡ self.now }
+    {
+        &self.bytes[..self.len]
+    }
+
+    /// No text yet.
+    fn empty() -> PriceText
+        ensures { result ≡ [] }
+    {
+        PriceText {
+            bytes: [0; ROOM],
+            len: 0,
+        }
+    }
+
+    /// Adds bytes, for which there is room.
+    fn push(&mut self, more: &[u8])
+        requires { length self.old + length more.now ≤ 45 }
+        ensures { self.new ≡ self.old ++ more.now }
+    {
+        let end = self.len + more.len();
+        self.bytes[self.len..end].copy_from_slice(more);
+        self.len = end;
+    }
+}
+
+/// The one text of a price in 1/10,000, as `PriceText` has it, in memory of its own. One growth. The one error is that
+/// memory ran out, and leaves nothing behind.
 pub fn print_price(alloc: Global, units: u128) -> Result<Vec<u8>, AllocError>
     ensures text { IfOk result (λ text. text.items ≡ price_text units) }
     ensures denotes { IfOk result (λ text. worth text.items ≡ Some units) }
 {
-    let mut text = Vec::with_capacity(alloc, LONGEST)?;
-    let mut buffer = Buffer::new();
-    text.extend_from_slice(buffer.format(units / 10_000).as_bytes())?;
-    let fraction = (units % 10_000) as u16;
-    if fraction > 0 {
-        text.push(b'.')?;
-        text.extend_from_slice(&digits_of(fraction)[..significant_digits(fraction)])?;
-    }
-    Ok(text)
+    Vec::from_slice(alloc, PriceText::of(units).as_slice())
 }
 
 /// The four digits of a number below 10,000.

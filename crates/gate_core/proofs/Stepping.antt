@@ -13,6 +13,7 @@ use Rattle.gate_law.specs.After.{lists_after, is_within_day, lists, most_events,
 use Rattle.gate_law.specs.Due.{Gives}
 use Rattle.gate_law.specs.Promises.{Asks}
 use Rattle.gate_law.specs.Holds.{Holds, IsRun}
+use Rattle.order_core.specs.order_machine.Runs.{NumbersLeft}
 use Rattle.gate_core.specs.declared.parts.Parts.{Parts}
 use Rattle.gate_core.specs.Core.{stepped}
 use Rattle.gate_core.proofs.Fields.{CoreFields, FieldsAfter}
@@ -123,7 +124,7 @@ next-step s h c new e b keeps linked few other is steps one_more =
     let t : Turn = record { event = e; batch = b } in
     let within = below-limit h c.events is.count other in
     let count : length h < most_events = grind (arith, nat_tests, within) in
-    let turns : length (lists s h).turns < 2 ^ 58 = omega (arith, count, few s h) in
+    let turns : NumbersLeft (lists s h).turns = omega (arith, count, few s h) in
     let ready : Ready s (lists s h) c.parts = record { parts = is.parts; linked = linked s h is.holds.run; few = turns } in
     let step = steps (lists s h) ready in
     let headline = subst (λ (w : Bool). Headline (terms s) (if w then lists_after s e b (lists s h) else lists s h).turns) (sym within) (step.orders is.holds.orders) in

@@ -20,6 +20,7 @@ use Rattle.gate_sessions.specs.order_law.Messages.{body_of}
 use Rattle.gate_sessions.specs.order_law.History as orders
 use Rattle.gate_sessions.specs.order_law.Headline.{Headline}
 use Rattle.order_core.specs.State as core
+use Rattle.order_core.specs.order_machine.Runs.{NumbersLeft}
 use Rattle.order_core.specs.declared.outcome.CoreOut.{CoreOut}
 use Rattle.gate_law.specs.Settings.{Settings, terms, port_of, client_name, has_client, has_port}
 use Rattle.gate_law.specs.Events.{Event, Batch, is_the_number}
@@ -43,7 +44,7 @@ use Rattle.gate_core.specs.State.{ArePartsOf, AreOpenOnLinks}
 pub record Ready {S H : Type 0} (s : Settings) (v : Lists) (g : Parts S H) : Type 0 where
   pub parts : ArePartsOf s v g
   pub linked : AreOpenOnLinks s v
-  pub few : length v.turns < 2 ^ 58
+  pub few : NumbersLeft v.turns
 
 -- What a step promises: the batch is the one that is given, the messages that go to the market are those that are to,
 -- the order level keeps its headline, and the parts are what the lists are then.
@@ -148,7 +149,7 @@ pub record AfterFrame {S H : Type 0} (s : Settings) (n link at : ℕ) (frame : M
   pub said_is : map told_bytes said ≡ map (told_of_out s.comp (client_name s n))
       (client_answer s n (v.client_calls n) (at, OnMessage frame)).outs
   pub linked : AreOpenOnLinks s v
-  pub few : length v.turns < 2 ^ 58
+  pub few : NumbersLeft v.turns
   pub parts : ArePartsOf s (client_called n (at, OnMessage frame) v) g
 
 -- ---- a payload that a port's session delivered
@@ -202,5 +203,5 @@ pub record AfterPacket {S H : Type 0} (s : Settings) (p link at : ℕ) (packet :
   pub payload_is : (port_answer s p (v.port_calls p) (table.OnPacket packet at)).payload ≡ payload
   pub said_is : said ≡ (port_answer s p (v.port_calls p) (table.OnPacket packet at)).outs
   pub linked : AreOpenOnLinks s v
-  pub few : length v.turns < 2 ^ 58
+  pub few : NumbersLeft v.turns
   pub parts : ArePartsOf s (port_called p (table.OnPacket packet at) v) g

@@ -4,3 +4,4 @@ pub mod Computed
 pub mod Lawful
 pub mod Links
 pub mod Served
+pub mod Sent

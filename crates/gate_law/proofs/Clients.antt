@@ -17,7 +17,7 @@ use Rattle.gate_law.specs.Clients.{IsFrom, AreFrom}
 -- ---- whose what was accepted is
 
 -- what was accepted, if anything, is of a client of which this holds
-abbrev IsOf : (ℕ → Type 0) → Option Entry → Type 0
+abbrev pub IsOf : (ℕ → Type 0) → Option Entry → Type 0
 IsOf P None = Unit {0}
 IsOf P (Some e) = P e.client
 
@@ -25,7 +25,7 @@ either-of : (P : ℕ → Type 0) (b : Bool) (x y : Entry) → P x.client → P y
 either-of P true x y p q = p
 either-of P false x y p q = q
 
-entry-of : (P : ℕ → Type 0) (terms : List Terms) (before : OrderHistory) (e : OrderEvent) → IsFrom P e → IsOf P (entry_at terms e before)
+pub entry-of : (P : ℕ → Type 0) (terms : List Terms) (before : OrderHistory) (e : OrderEvent) → IsFrom P e → IsOf P (entry_at terms e before)
 entry-of P terms before (Heard p m) from = tt
 entry-of P terms before (Came client m port) from = by_verdict (verdict terms (issued client before) (accepted terms before) port m) refl
   where

@@ -7,5 +7,6 @@ mod Faults
 mod Targets
 pub mod Clients
 pub mod Counted
+mod Sent
 pub mod Steps
 pub use Rattle.session_law.proofs as session_law

@@ -15,9 +15,10 @@ use Rattle.gate_law.proofs.Telling.{runs-tell, turns-after}
 use Rattle.gate_law.proofs.Links.{EndsAll, links-current}
 use Rattle.gate_law.proofs.Faults.{faults-close}
 use Rattle.gate_law.proofs.Targets.{targets-kept}
+use Rattle.gate_law.proofs.Sent.{all-sent}
 
 pub holds-first : (s : Settings) → Headline (terms s) [] → Holds s []
-holds-first s orders = record { run = tt; asks = tt; orders = orders; reads = λ client. refl; faults = tt; targets = tt }
+holds-first s orders = record { run = tt; asks = tt; orders = orders; sent = all-sent s [] tt tt orders; reads = λ client. refl; faults = tt; targets = tt }
 
 -- a fact of an event that is stepped
 of-turn : (w : Bool) (P : Type 0) (b : Batch) → w ≡ true → P → OfTurn w P b
@@ -28,7 +29,8 @@ pub holds-past : (s : Settings) (h : History) (e : Event) → is_within_day h �
 holds-past s h e late was = record {
   run = (of-late (is_within_day h) _ late, was.run);
   asks = (of-late (is_within_day h) _ late, was.asks);
-  orders = subst (λ (v : Lists). Headline (terms s) v.turns) (sym same) was.orders;
+  orders = unchanged;
+  sent = all-sent s (record { event = e; batch = empty } ∷ h) (of-late (is_within_day h) _ late, was.run) (of-late (is_within_day h) _ late, was.asks) unchanged;
   reads = λ client. was.reads client ∙ ap (λ (v : Lists). order_issued client v.turns) (sym same);
   faults = (of-late (is_within_day h) _ late, was.faults);
   targets = (of-late (is_within_day h) _ late, was.targets);
@@ -41,12 +43,16 @@ holds-past s h e late was = record {
     same : lists s (record { event = e; batch = empty } ∷ h) ≡ lists s h
     same = cond-false (is_within_day h) _ _ late
 
+    unchanged : Headline (terms s) (order_turns s (record { event = e; batch = empty } ∷ h))
+    unchanged = subst (λ (v : Lists). Headline (terms s) v.turns) (sym same) was.orders
+
 pub holds-step : EndsAll → (s : Settings) (h : History) (e : Event) (b : Batch) → is_within_day h ≡ true → Holds s h → Gives s e b (lists s h) → Asks s e b (lists s h)
     → Headline (terms s) (order_turns s (record { event = e; batch = b } ∷ h)) → Holds s (record { event = e; batch = b } ∷ h)
 holds-step ends s h e b is was g asks orders = record {
   run = run;
   asks = (of-turn (is_within_day h) _ b is asks, was.asks);
   orders = orders;
+  sent = all-sent s (record { event = e; batch = b } ∷ h) run (of-turn (is_within_day h) _ b is asks, was.asks) orders;
   reads = runs-tell s (record { event = e; batch = b } ∷ h) run;
   faults = (of-turn (is_within_day h) _ b is (faults-close ends s e b (lists s h) g (links-current ends s h was.run)), was.faults);
   targets = (of-turn (is_within_day h) _ b is (targets-kept s b (lists s h) e g turns), was.targets);

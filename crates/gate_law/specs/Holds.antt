@@ -10,6 +10,7 @@ use Rattle.gate_law.specs.Outcome.{bodies}
 use Rattle.gate_law.specs.After.{lists, order_turns, is_within_day}
 use Rattle.gate_law.specs.Due.{Gives}
 use Rattle.gate_law.specs.Promises.{Asks, Faults, Targets}
+use Rattle.gate_law.specs.Sent.{AllSent}
 
 abbrev pub OfTurn : Bool → Type 0 → Batch → Type 0
 OfTurn true P b = P
@@ -37,6 +38,8 @@ pub record Holds (s : Settings) (h : History) : Type 0 where
   pub asks : EachTurn s (Asks s) h
   -- the order level's promise: reports read as the market's messages, and every refusal is the table's
   pub orders : Headline (terms s) (order_turns s h)
+  -- while a port is up, nothing that it is asked is left unsent
+  pub sent : (p : ℕ) → AllSent s p h
   -- of reports that are those of the batches
   pub reads : (client : ℕ) → told_by_batches client h ≡ history.issued client (order_turns s h)
   -- a fault closes its port alone

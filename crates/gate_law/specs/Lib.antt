@@ -7,6 +7,7 @@ pub mod Outcome
 pub mod After
 pub mod Due
 pub mod Promises
+pub mod Sent
 pub mod Holds
 pub mod Clients
 pub use Rattle.order_law.specs.Headline

@@ -14,7 +14,7 @@ use Rattle.order_ledger.specs.market_messages.ouch_codec.declared.refusal.Decode
 use Rattle.outstanding.specs.order_law.Verdicts.{Port, Down, Up, Ended, Faulted}
 use Rattle.order_machine.specs.Table.{TableState, record_by_token, table_without_orders}
 use Rattle.order_machine.specs.Machine.{GivenByEvent, client_step, faulty, market_step}
-use Rattle.order_machine.specs.Runs.{Finds, Leads, LeadsTo, TurnsLeave}
+use Rattle.order_machine.specs.Runs.{Finds, Leads, LeadsTo, NumbersLeft, TurnsLeave}
 use Rattle.outstanding.specs.Kept.{HeldMessages, KeptMessage, kept_from, left_by}
 use Rattle.outstanding.specs.KeptInTurns.{ClientTurnsKeep, KeepsOutstanding, MarketTurnsKeep, NothingIsKept}
 use Rattle.outstanding.specs.KeptInTurns.{QuietTurnsKeep, SaidOfOrder}
@@ -84,7 +84,7 @@ module _ (terms : List Terms) (before : OrderHistory) (old : OrderCoreState) (cl
         };
       }
 
-  pub client-after : length before < 2 ^ 58 → ClientTurnsKeep → SaidOfOrder → GoByNumbers old.table
+  pub client-after : NumbersLeft before → ClientTurnsKeep → SaidOfOrder → GoByNumbers old.table
       → ((order_of : List ℕ → Option ℕ) → LeadsTo (client_step old.table client (message_fields message) (port_seen port)).state (terms_of old.table.terms client).port order_of
       → Each (Finds order_of) (client_step old.table client (message_fields message) (port_seen port)).asks)
       → MeetsClient old client message (port_seen port) out new → IsAfterTurns terms before old → IsAfterTurns terms (client_turn client message port out ∷ before) new
@@ -101,7 +101,7 @@ module _ (terms : List Terms) (before : OrderHistory) (old : OrderCoreState) (cl
 
 -- ---- a payload
 
-module _ (terms : List Terms) (before : OrderHistory) (old : OrderCoreState) (port : ℕ) (short : length before < 2 ^ 58) (market : MarketTurnsKeep) (quiet : QuietTurnsKeep) (leaves : TurnsLeave terms before old.table) (keeps : KeepsOutstanding terms before old.kept) (t : OrderTurn) (new : TableState) (leads : Leads old.table t new) where
+module _ (terms : List Terms) (before : OrderHistory) (old : OrderCoreState) (port : ℕ) (short : NumbersLeft before) (market : MarketTurnsKeep) (quiet : QuietTurnsKeep) (leaves : TurnsLeave terms before old.table) (keeps : KeepsOutstanding terms before old.kept) (t : OrderTurn) (new : TableState) (leads : Leads old.table t new) where
   -- a message leaves what is outstanding of what is kept
   kept-by_token : (m : Outbound) → t.event ≡ Heard port (Ok m) → (market_step old.table port (Ok m)).fault ≡ None → (c : ChangedOrder) (is : ChangesOrder old.table port (Ok m) c)
       → (x : Option (List ℕ)) → order_token m ≡ x → KeepsOutstanding terms (t ∷ before) (left_by port m (decimal c.order_id) c.is_closed old.kept)
@@ -131,7 +131,7 @@ module _ (terms : List Terms) (before : OrderHistory) (old : OrderCoreState) (po
     };
   }
 
-  pub told-after : length before < 2 ^ 58 → MarketTurnsKeep → QuietTurnsKeep → (out : MarketOut) → MeetsHandled old port heard out new
+  pub told-after : NumbersLeft before → MarketTurnsKeep → QuietTurnsKeep → (out : MarketOut) → MeetsHandled old port heard out new
       → IsAfterTurns terms before old → IsAfterTurns terms (told_turn port heard out ∷ before) new
   told-after short market quiet out meets after =
       let parts = parts-of terms before old after in
@@ -152,7 +152,7 @@ module _ (terms : List Terms) (before : OrderHistory) (old : OrderCoreState) (po
     };
   }
 
-  pub fault-after : length before < 2 ^ 58 → QuietTurnsKeep → (fault : MarketFault) → market_step old.table port heard ≡ faulty old.table (market_fault_number fault) → new ≡ old
+  pub fault-after : NumbersLeft before → QuietTurnsKeep → (fault : MarketFault) → market_step old.table port heard ≡ faulty old.table (market_fault_number fault) → new ≡ old
       → IsAfterTurns terms before old → IsAfterTurns terms (fault_turn port heard fault ∷ before) new
   fault-after short quiet fault is same after =
       let parts = parts-of terms before old after in
@@ -169,7 +169,7 @@ OfTurn-weaker port heard (Err (errors.Faulty fault)) P Q weaker p = weaker (faul
 
 pub market-after : (old : OrderCoreState) (port : ℕ) (heard : Result Outbound DecodeRefusal) (result : Result MarketOut MarketError) (new : OrderCoreState)
     → MarketTurnsKeep → QuietTurnsKeep → MeetsPayload old port heard result new → OnErr result (new ≡ old)
-    → OfCall port heard result (λ turn. (terms : List Terms) (before : OrderHistory) → length before < 2 ^ 58 → IsAfterTurns terms before old → IsAfterTurns terms (turn ∷ before) new)
+    → OfCall port heard result (λ turn. (terms : List Terms) (before : OrderHistory) → NumbersLeft before → IsAfterTurns terms before old → IsAfterTurns terms (turn ∷ before) new)
 market-after old port heard (Ok out) new market quiet meets same =
     λ terms before short after. told-after terms before old port heard new short market quiet out meets after
 market-after old port heard (Err errors.NoMemory) new market quiet meets same = tt

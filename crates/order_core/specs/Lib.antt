@@ -12,3 +12,4 @@ pub use Rattle.order_ledger.specs.to_market.PortsSeen
 pub use Rattle.order_ledger.specs.to_market.TermsSeen
 pub use Rattle.order_ledger.specs.market_messages as market_messages
 pub use Rattle.order_ledger.specs as order_ledger
+pub use Rattle.order_machine.specs as order_machine

@@ -1,11 +1,12 @@
 //! The value, and the calls that step it.
 
-ghost use Rattle.std.specs.Prelude.{◌≡◌, length, map, IfOk, MatchOption, None, OnErr, ◌<◌, ◌^◌, ◌∷◌, [], List};
+ghost use Rattle.std.specs.Prelude.{◌≡◌, length, map, IfOk, MatchOption, None, OnErr, ◌∷◌, [], List};
 ghost use Rattle.order_ledger.specs.market_messages.ouch_codec.Values.{decoded};
 ghost use Rattle.outstanding.specs.order_law.Lawful.{token_of_heard};
 ghost use Rattle.order_ledger.specs.market_messages.ouch_codec.Inbound.{inbound_bytes};
 ghost use Rattle.order_ledger.specs.to_market.PortsSeen.{port_seen};
 ghost use Rattle.order_core.specs.Meets.{left_after, sent_of};
+ghost use Rattle.order_machine.specs.Runs.{NumbersLeft};
 
 use crate::outcome::{CoreOut, MarketOut};
 use order_ledger::{
@@ -120,10 +121,10 @@ impl<S: BuildHasher + Drop> OrderCore<S> {
         requires client { IsCoreClient self.old client }
         requires room { CoreHasRoom self.old }
         ensures after { IfOk result (λ out. (terms : List Terms) (before : OrderHistory)
-            → length before < 2 ^ 58 → IsAfterTurns terms before self.old
+            → NumbersLeft before → IsAfterTurns terms before self.old
             → IsAfterTurns terms (client_turn client message.now port out ∷ before) self.new) }
         ensures headline { IfOk result (λ out. (terms : List Terms) (before : OrderHistory)
-            → length before < 2 ^ 58 → IsAfterTurns terms before self.old
+            → NumbersLeft before → IsAfterTurns terms before self.old
             → Headline terms (client_turn client message.now port out ∷ before)) }
         ensures keeps { CoreKeeps self.old self.new }
         ensures settled { self.new.settled ≡ self.old.settled }
@@ -148,11 +149,11 @@ impl<S: BuildHasher + Drop> OrderCore<S> {
     ) -> Result<MarketOut, MarketError>
         requires room { CoreHasRoom self.old }
         ensures after { OfCall port (decoded payload.now) result (λ turn. (terms : List Terms) (before : OrderHistory)
-            → length before < 2 ^ 58 → IsAfterTurns terms before self.old
+            → NumbersLeft before → IsAfterTurns terms before self.old
             → IsAfterTurns terms (turn ∷ before) self.new) }
         ensures headline { OfCall port (decoded payload.now) result
             (λ turn. (terms : List Terms) (before : OrderHistory)
-            → length before < 2 ^ 58 → IsAfterTurns terms before self.old → Headline terms (turn ∷ before)) }
+            → NumbersLeft before → IsAfterTurns terms before self.old → Headline terms (turn ∷ before)) }
         ensures nobody { IfOk result (λ out. out.bodies.items ≡ [] → out.client ≡ None) }
         ensures keeps { CoreKeeps self.old self.new }
         ensures settled { self.new.settled ≡ self.old.settled }
@@ -166,7 +167,7 @@ impl<S: BuildHasher + Drop> OrderCore<S> {
     ///
     /// Source: SoupBinTCP 3.00, "Login Request Packet"; OUCH 4.2, "Enter Order Message" (a token is taken once).
     pub fn outstanding(&self, alloc: Global, port: u16) -> Result<Vec<Inbound>, AllocError>
-        ensures { IfOk result (λ messages. (terms : List Terms) (before : OrderHistory) → length before < 2 ^ 59
+        ensures { IfOk result (λ messages. (terms : List Terms) (before : OrderHistory) → NumbersLeft before
             → IsAfterTurns terms before self.now
             → EachWith (SaysIn terms before port) (outstanding terms port before) (map inbound_bytes messages.items)) }
     {
@@ -178,7 +179,7 @@ impl<S: BuildHasher + Drop> OrderCore<S> {
     ///
     /// Source: OUCH 4.2, "Outbound Messages" (Order Token).
     pub fn client_of(&self, port: u16, payload: &[u8]) -> Option<u16>
-        ensures { (terms : List Terms) (before : OrderHistory) → length before < 2 ^ 58
+        ensures { (terms : List Terms) (before : OrderHistory) → NumbersLeft before
             → IsAfterTurns terms before self.now
             → result ≡ option_map (λ (new : Entry). new.client)
             (option_and_then (order_of_token terms port (accepted terms before))

@@ -1,11 +1,11 @@
 //! Whole runs: what comes of a list of events, from no order on.
 
-ghost use Rattle.std.specs.Prelude.{◌≡◌, ◌<◌, ◌^◌, ◌∷◌, true, Some, List, length, map, IfOk, OnErr};
+ghost use Rattle.std.specs.Prelude.{◌≡◌, ◌∷◌, true, Some, List, length, map, IfOk, OnErr};
 ghost use Rattle.order_ledger.specs.fix_types.Application.{message_fields};
 ghost use Rattle.order_ledger.specs.market_messages.ouch_codec.Values.{decoded};
 ghost use Rattle.outstanding.specs.order_law.Headline.{Headline};
 ghost use Rattle.outstanding.specs.order_law.History.{Came, Heard, OrderHistory, Terms};
-ghost use Rattle.order_machine.specs.Runs.{IsTableRun};
+ghost use Rattle.order_machine.specs.Runs.{IsTableRun, NumbersLeft};
 ghost use Rattle.order_core.specs.Runs.{AreKnown, run_history, is_known_client, outcome_turn, turn_of_outcome};
 ghost use Rattle.order_ledger.specs.to_market.PortsSeen.{port_seen};
 ghost use Rattle.order_ledger.specs.to_market.TermsSeen.{terms_seen};
@@ -54,10 +54,10 @@ pub fn step<S: BuildHasher + Drop>(
     requires client { is_known_client (core_clients core.old) event.now ≡ true }
     requires room { CoreHasRoom core.old }
     ensures after { IfOk result (λ outcome. (terms : List Terms) (before : OrderHistory)
-        → length before < 2 ^ 58 → IsAfterTurns terms before core.old
+        → NumbersLeft before → IsAfterTurns terms before core.old
         → IsAfterTurns terms (turn_of_outcome event.now outcome ∷ before) core.new) }
     ensures headline { IfOk result (λ outcome. (terms : List Terms) (before : OrderHistory)
-        → length before < 2 ^ 58 → IsAfterTurns terms before core.old
+        → NumbersLeft before → IsAfterTurns terms before core.old
         → Headline terms (turn_of_outcome event.now outcome ∷ before)) }
     ensures keeps { CoreKeeps core.old core.new }
     ensures settled { core.new.settled ≡ core.old.settled }
@@ -84,11 +84,11 @@ fn client_outcome<S: BuildHasher + Drop>(
     requires client { IsCoreClient core.old client }
     requires room { CoreHasRoom core.old }
     ensures after { IfOk result (λ outcome. (terms : List Terms) (before : OrderHistory)
-        → length before < 2 ^ 58 → IsAfterTurns terms before core.old
+        → NumbersLeft before → IsAfterTurns terms before core.old
         → IsAfterTurns terms (outcome_turn (Came client (message_fields message.now) (port_seen port)) outcome
         ∷ before) core.new) }
     ensures headline { IfOk result (λ outcome. (terms : List Terms) (before : OrderHistory)
-        → length before < 2 ^ 58 → IsAfterTurns terms before core.old
+        → NumbersLeft before → IsAfterTurns terms before core.old
         → Headline terms (outcome_turn (Came client (message_fields message.now) (port_seen port)) outcome ∷ before)) }
     ensures keeps { CoreKeeps core.old core.new }
     ensures settled { core.new.settled ≡ core.old.settled }
@@ -112,10 +112,10 @@ fn market_outcome<S: BuildHasher + Drop>(
 ) -> Result<Outcome, AllocError>
     requires room { CoreHasRoom core.old }
     ensures after { IfOk result (λ outcome. (terms : List Terms) (before : OrderHistory)
-        → length before < 2 ^ 58 → IsAfterTurns terms before core.old
+        → NumbersLeft before → IsAfterTurns terms before core.old
         → IsAfterTurns terms (outcome_turn (Heard port (decoded payload.now)) outcome ∷ before) core.new) }
     ensures headline { IfOk result (λ outcome. (terms : List Terms) (before : OrderHistory)
-        → length before < 2 ^ 58 → IsAfterTurns terms before core.old
+        → NumbersLeft before → IsAfterTurns terms before core.old
         → Headline terms (outcome_turn (Heard port (decoded payload.now)) outcome ∷ before)) }
     ensures keeps { CoreKeeps core.old core.new }
     ensures settled { core.new.settled ≡ core.old.settled }
@@ -148,7 +148,7 @@ pub fn run(
     events: &[Event],
 ) -> Result<Vec<Outcome>, AllocError>
     requires clients { AreKnown (length terms.now) events.now }
-    requires short { length events.now < 2 ^ 57 }
+    requires numbers { NumbersLeft events.now }
     ensures count { IfOk result (λ outcomes. length outcomes.items ≡ length events.now) }
     ensures exact { IfOk result (λ outcomes. IsTableRun (map terms_seen terms.now)
         (run_history events.now outcomes.items)) }

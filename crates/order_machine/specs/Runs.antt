@@ -1,5 +1,5 @@
 -- Which table a run of turns leaves.
-use Rattle.std.specs.Prelude.{◌≡◌, ℕ, List, [], ◌∷◌, Option, Some, option_map}
+use Rattle.std.specs.Prelude.{◌≡◌, ℕ, ◌<◌, ◌^◌, List, [], ◌∷◌, length, Option, Some, option_map}
 use Rattle.std.specs.Str.Parse.{digits_value}
 use Rattle.order_law.specs.History.{Asked, Said, SaysNew, SaysReplace, SaysCancel, Terms, terms_of, OrderEvent, Came}
 use Rattle.order_law.specs.History.{Heard, OrderHistory, OrderTurn}
@@ -7,6 +7,10 @@ use Rattle.order_law.specs.Headline.{Says, Sends}
 use Rattle.order_machine.specs.OrderRecord.{OrderRecord}
 use Rattle.order_machine.specs.Table.{TableState, record_by_token, table_without_orders}
 use Rattle.order_machine.specs.Machine.{GivenByEvent, table_step}
+
+-- So few turns that numbers are left for one more: a turn gives three at most, and they stay below 2 ^ 60.
+abbrev pub NumbersLeft : {X : Type 0} → List X → Type 0
+NumbersLeft turns = length turns < 2 ^ 58
 
 -- the tokens of a port lead to these orders
 abbrev pub LeadsTo : TableState → ℕ → (List ℕ → Option ℕ) → Type 0

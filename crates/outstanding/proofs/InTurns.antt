@@ -236,7 +236,8 @@ market-turns terms before s short leaves kept (asked, same, along) t new port m 
 )
 
 pub outstanding-is_kept : OutstandingIsKept
-outstanding-is_kept terms h s short leaves kept (asked, same, along) port =
+outstanding-is_kept terms h s few leaves kept (asked, same, along) port =
+    let short : length h < 2 ^ 59 = omega (arith, few) in
     let table = (Leaves-Holding terms h s short leaves).table in
     let finds : Each (Finds (order_number terms port (accepted terms h))) (on_port port asked) =
     subst (Each (Finds (order_number terms port (accepted terms h)))) (sym (same port)) (outstanding-found terms h table.held (known-in terms h s short leaves) port) in

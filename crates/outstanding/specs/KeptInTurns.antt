@@ -1,5 +1,5 @@
 -- What is kept from turn to turn, beside the table that the turns leave: on each port what the law says is outstanding.
-use Rattle.std.specs.Prelude.{◌≡◌, ℕ, ◌<◌, ◌^◌, List, [], ◌∷◌, ◌++◌, length, map, Option, Some, None, Result, Ok}
+use Rattle.std.specs.Prelude.{◌≡◌, ℕ, List, [], ◌∷◌, ◌++◌, map, Option, Some, None, Result, Ok}
 use Rattle.order_law.specs.ouch_codec.declared.inbound.Inbound.{Inbound}
 use Rattle.order_law.specs.ouch_codec.Inbound.{inbound_bytes}
 use Rattle.order_law.specs.ouch_codec.declared.outbound.Outbound.{Outbound}
@@ -14,7 +14,7 @@ use Rattle.order_machine.specs.OrderRecord.{OrderRecord}
 use Rattle.order_machine.specs.Table.{TableState, record_by_token, put}
 use Rattle.order_machine.specs.Machine.{client_step, market_step}
 use Rattle.order_machine.specs.Outstanding.{OnPort, on_port}
-use Rattle.order_machine.specs.Runs.{Finds, Leads, TurnsLeave}
+use Rattle.order_machine.specs.Runs.{Finds, Leads, NumbersLeft, TurnsLeave}
 use Rattle.outstanding.specs.Kept.{KeptMessage, bytes_on, kept_from, left_by}
 use Rattle.outstanding.specs.Keeping.{AreKept, always}
 
@@ -43,7 +43,7 @@ SaidOfOrder =
 -- are sent at once or not.
 abbrev pub ClientTurnsKeep : Type 0
 ClientTurnsKeep =
-    (terms : List Terms) (before : OrderHistory) (s : TableState) → length before < 2 ^ 58 → TurnsLeave terms before s
+    (terms : List Terms) (before : OrderHistory) (s : TableState) → NumbersLeft before → TurnsLeave terms before s
     → (kept : List KeptMessage) → KeepsOutstanding terms before kept
     → (t : OrderTurn) (new : TableState) (client : ℕ) (m : Message) (port : Port) → t.event ≡ Came client m port
     → Leads s t new
@@ -57,7 +57,7 @@ ClientTurnsKeep =
 -- and what was asked of the order if it is closed now.
 abbrev pub MarketTurnsKeep : Type 0
 MarketTurnsKeep =
-    (terms : List Terms) (before : OrderHistory) (s : TableState) → length before < 2 ^ 58 → TurnsLeave terms before s
+    (terms : List Terms) (before : OrderHistory) (s : TableState) → NumbersLeft before → TurnsLeave terms before s
     → (kept : List KeptMessage) → KeepsOutstanding terms before kept
     → (t : OrderTurn) (new : TableState) (port : ℕ) (m : Outbound) → t.event ≡ Heard port (Ok m) → Leads s t new
     → (token : List ℕ) (order now : OrderRecord) → record_by_token s port token ≡ Some order → now.new ≡ order.new
@@ -67,7 +67,7 @@ MarketTurnsKeep =
 -- A turn of a payload that changes no order, be it a fault or not: nothing goes.
 abbrev pub QuietTurnsKeep : Type 0
 QuietTurnsKeep =
-    (terms : List Terms) (before : OrderHistory) (s : TableState) → length before < 2 ^ 58 → TurnsLeave terms before s
+    (terms : List Terms) (before : OrderHistory) (s : TableState) → NumbersLeft before → TurnsLeave terms before s
     → (kept : List KeptMessage) → KeepsOutstanding terms before kept
     → (t : OrderTurn) (new : TableState) (port : ℕ) (heard : Result Outbound DecodeRefusal)
     → t.event ≡ Heard port heard → Leads s t new
@@ -77,6 +77,6 @@ QuietTurnsKeep =
 -- A port's own messages say what is outstanding on it, one by one and in order.
 abbrev pub OutstandingIsKept : Type 0
 OutstandingIsKept =
-    (terms : List Terms) (h : OrderHistory) (s : TableState) → length h < 2 ^ 59 → TurnsLeave terms h s
+    (terms : List Terms) (h : OrderHistory) (s : TableState) → NumbersLeft h → TurnsLeave terms h s
     → (kept : List KeptMessage) → KeepsOutstanding terms h kept
     → (port : ℕ) → EachWith (SaysIn terms h port) (outstanding terms port h) (bytes_on port kept)

@@ -13,5 +13,3 @@ pub use Rattle.session_reading.specs.session_law.Session
 pub use Rattle.session_reading.specs.session_law.Table
 pub use Rattle.fix_stamp.specs as fix_stamp
 pub use Rattle.fix_framing.specs as fix_framing
-pub use Rattle.session_reading.specs.session_law as session_law
-pub use Rattle.session_reading.specs as session_reading

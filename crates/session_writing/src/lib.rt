@@ -20,9 +20,4 @@ pub use head::FrameHead;
 pub use issued_report::{IssuedReport, issued_outs, report_of_body};
 pub use kept::KeptBodies;
 pub use output::{SessionOut, append_written};
-pub use session_reading::{
-    AppBody, AppMsg, Due, Frame, Kind, Logged, Out, Phase, Row, Taken, application_of, due_at,
-    interval_of, is, is_interval, is_letter, is_plain_reset, is_reset_flag, is_type, judge_low,
-    judge_plain_reset, judge_resend, judge_taken, numbered, resets, text,
-};
 pub use undo_bodies::UndoBodies;

@@ -1,6 +1,6 @@
 -- An order whose pending requests are answered, as it is shown.
-use Rattle.std.proofs.Common.{◌≡◌, ℕ, Bool, true, false, List, [], ◌∷◌, ◌++◌, map, refl, subst, sym, ap, ◌∙◌, codes}
-use Rattle.std.specs.Prelude.{Option, Some, None, IfSome, filter, option_to_list, not}
+use Rattle.std.proofs.Common.{◌≡◌, ℕ, true, false, List, [], ◌∷◌, ◌++◌, map, refl, subst, sym, ap, ◌∙◌, codes}
+use Rattle.std.specs.Prelude.{Option, Some, None, IfSome, filter, option_to_list}
 use Rattle.std.specs.List.{find, list_any}
 use Rattle.std.proofs.lemmas.List.{append_assoc, map-append}
 use Rattle.orders.specs.fix_types.declared.application.AppBody.{AppBody}

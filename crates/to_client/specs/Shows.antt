@@ -11,14 +11,12 @@ use Rattle.fix_values.specs.declared.ord_status.OrdStatus.TheVariants as statuse
 use Rattle.fix_values.specs.Letters.{exec_letter}
 use Rattle.fix_values.specs.Slots.{char_text, number_text}
 use Rattle.orders.specs.fix_types.declared.report.Report.{Report}
-use Rattle.orders.specs.declared.progress.Progress.{Progress}
 use Rattle.fixed_point.specs.Price.{price_text}
 use Rattle.order_law.specs.fix_fields.Field.{Message, text}
 use Rattle.order_law.specs.History.{Entry}
 use Rattle.order_law.specs.Verdicts.{is_replace}
 use Rattle.order_law.specs.Told as law
 use Rattle.to_client.specs.declared.occasion.Details.{Details}
-use Rattle.to_client.specs.declared.reporting.Amounts.{Amounts}
 use Rattle.to_client.specs.declared.shown.Request.{Request}
 use Rattle.to_client.specs.declared.shown.Shown.{Shown}
 use Rattle.to_client.specs.Occasions.{average_of_text, leaves_in, status_as}
@@ -95,16 +93,6 @@ pub record IsOccasion (d : Details) (q : Option Request) (o : law.Occasion) : Ty
   pub shares : d.last_qty ≡ o.shares
   pub at : d.last_px ≡ o.at
   pub why : char_text d.reason ≡ o.why
-
--- the texts of an order's amounts, with these details
-abbrev pub amounts_with : Details → Progress → Amounts
-amounts_with d p = record {
-  order_qty = decimal p.total;
-  price = price_text p.price;
-  last_px = option_map (λ n. price_text n) d.last_px;
-  avg_px = average_of_text p;
-  text = char_text d.reason;
-}
 
 -- the report with these details
 abbrev pub report_with : ℕ → Details → Option Request → Shown → Report

@@ -11,7 +11,6 @@ mod reporting;
 mod request_reports;
 mod shown;
 mod status;
-mod texts;
 
 pub use endings::{push_cancel_rejected, push_canceled, push_reject, push_report, push_too_late};
 pub use fix_values::{Character, CxlRejReason};
@@ -24,4 +23,3 @@ pub use reporting::report_of;
 pub use request_reports::{report_canceled, report_pending, report_replaced};
 pub use shown::{Request, Shown};
 pub use status::{status_of, status_shown};
-pub use texts::{number_text, price_text};

@@ -7,8 +7,7 @@ ghost use Rattle.fix_values.specs.Reasons.{ord_rej_number};
 ghost use Rattle.order_law.specs.Told as law;
 ghost use Rattle.to_client.specs.Refusals.{refusal_of};
 
-use crate::texts::number_text;
-use fix_values::{ClOrdId, ExecType, FloatText, OrdRejReason, OrdStatus};
+use fix_values::{ClOrdId, ExecType, FieldValue, FloatText, OrdRejReason, OrdStatus};
 use order_law::Text;
 use orders::{NewOrder, Report};
 use std::alloc::{AllocError, Global};
@@ -56,23 +55,30 @@ fn refused(
         exec_restatement_reason: None,
         symbol: Text::copied(alloc, order.symbol.as_slice())?,
         side: order.side,
-        order_qty: Text::copied(alloc, order.order_qty.as_slice())?,
+        order_qty: own_value(alloc, &order.order_qty)?,
         price: own_price(alloc, &order.price)?,
         last_qty: None,
         last_px: None,
         leaves_qty: 0,
         cum_qty: 0,
-        avg_px: number_text(alloc, 0)?,
-        text: Some(why),
+        avg_px: FieldValue::number(0),
+        text: Some(FieldValue::text(why)),
     })
 }
 
 /// A price as the client wrote it, where there is one.
-fn own_price(alloc: Global, price: &Option<FloatText>) -> Result<Option<Text>, AllocError>
+fn own_price(alloc: Global, price: &Option<FloatText>) -> Result<Option<FieldValue>, AllocError>
     ensures { IfOk result (λ own. own ≡ price.now) }
 {
     match price {
         None => Ok(None),
-        Some(price) => Ok(Some(Text::copied(alloc, price.as_slice())?)),
+        Some(price) => Ok(Some(own_value(alloc, price)?)),
     }
+}
+
+/// A quantity or a price as the client wrote it.
+fn own_value(alloc: Global, float: &FloatText) -> Result<FieldValue, AllocError>
+    ensures { IfOk result (λ own. own ≡ float.now) }
+{
+    Ok(FieldValue::text(Text::copied(alloc, float.as_slice())?))
 }

@@ -1,17 +1,17 @@
 //! An execution report on an order.
 
-ghost use Rattle.std.specs.Prelude.{◌≡◌, ◌∷◌, [], true, IfOk, IfSome};
+ghost use Rattle.std.specs.Prelude.{◌≡◌, true, IfOk, IfSome, option_map};
+ghost use Rattle.fixed_point.specs.Price.{price_text};
 ghost use Rattle.orders.specs.fix_types.Report.{report_fields};
 ghost use Rattle.order_law.specs.wire_law.Printable.{is_printable};
 ghost use Rattle.order_law.specs.Told as law;
-ghost use Rattle.to_client.specs.Occasions.{average_of_text, details_of, leaves_in, occasion_seen};
-ghost use Rattle.to_client.specs.Shows.{IsOccasion, ShowsAs, amounts_with, id_told, orig_told, report_with};
+ghost use Rattle.to_client.specs.Occasions.{details_of, leaves_in, occasion_seen};
+ghost use Rattle.to_client.specs.Shows.{IsOccasion, ShowsAs, id_told, orig_told, report_with};
 
 use crate::occasion::{Details, Occasion, fields_given_by};
 use crate::shown::{Request, Shown};
 use crate::status::status_shown;
-use crate::texts::{letter_text, number_text, optional_price_text, price_text};
-use fix_values::ClOrdId;
+use fix_values::{ClOrdId, FieldValue};
 use fixed_point::average;
 use order_law::{Stage, Text};
 use orders::{Progress, Report};
@@ -65,7 +65,6 @@ fn filled_in(
     let cl_ord_id = own_id(alloc, request, shown)?;
     let orig_cl_ord_id = orig_id(alloc, request)?;
     let symbol = Text::copied(alloc, shown.symbol.as_slice())?;
-    let amounts = amounts_of(alloc, details, progress)?;
     Ok(Report {
         order_id: shown.order_id,
         cl_ord_id,
@@ -78,44 +77,14 @@ fn filled_in(
         exec_restatement_reason: details.exec_restatement_reason,
         symbol,
         side: shown.side,
-        order_qty: amounts.order_qty,
-        price: Some(amounts.price),
+        order_qty: FieldValue::number(progress.total),
+        price: Some(FieldValue::price(u128::from(progress.price))),
         last_qty: details.last_qty,
-        last_px: amounts.last_px,
+        last_px: last_price(details),
         leaves_qty: leaves(progress),
         cum_qty: progress.executed,
-        avg_px: amounts.avg_px,
-        text: amounts.text,
-    })
-}
-
-/// The texts of an order's amounts, and of why something happened. They are printed in a call of their own: where
-/// memory is wanting a report has few values then that are dropped.
-#[derive(Drop)]
-pub struct Amounts {
-    /// OrderQty (38).
-    pub order_qty: Text,
-    /// Price (44).
-    pub price: Text,
-    /// LastPx (31).
-    pub last_px: Option<Text>,
-    /// AvgPx (6).
-    pub avg_px: Text,
-    /// Text (58).
-    pub text: Option<Text>,
-}
-
-/// The texts of an order that has come so far, with these details.
-fn amounts_of(alloc: Global, details: &Details, progress: &Progress) -> Result<Amounts, AllocError>
-    requires { IfSome details.now.reason (λ byte. is_printable byte ≡ true) }
-    ensures { IfOk result (λ amounts. amounts ≡ amounts_with details.now progress.now) }
-{
-    Ok(Amounts {
-        order_qty: number_text(alloc, progress.total)?,
-        price: price_text(alloc, u128::from(progress.price))?,
-        last_px: optional_price_text(alloc, details.last_px)?,
-        avg_px: average_text(alloc, progress)?,
-        text: letter_text(alloc, details.reason)?,
+        avg_px: FieldValue::price(average(progress.value, progress.executed)),
+        text: details.reason.map(FieldValue::letter),
     })
 }
 
@@ -150,9 +119,12 @@ fn leaves(progress: &Progress) -> u64
     }
 }
 
-/// AvgPx (6): the value of what is executed over its shares, rounded down.
-fn average_text(alloc: Global, progress: &Progress) -> Result<Text, AllocError>
-    ensures { IfOk result (λ text. text ≡ average_of_text progress.now) }
+/// LastPx (31): the price of a trade.
+fn last_price(details: &Details) -> Option<FieldValue>
+    ensures { result ≡ option_map (λ n. price_text n) details.now.last_px }
 {
-    price_text(alloc, average(progress.value, progress.executed))
+    match details.last_px {
+        None => None,
+        Some(units) => Some(FieldValue::price(u128::from(units))),
+    }
 }

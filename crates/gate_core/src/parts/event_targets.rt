@@ -1,9 +1,10 @@
 //! Whom an event may be for, by the parts.
 
-ghost use Rattle.std.specs.Prelude.{◌≡◌, ◌<◌, ◌^◌, length};
+ghost use Rattle.std.specs.Prelude.{◌≡◌};
 ghost use Rattle.gate_law.specs.Settings.{Settings};
 ghost use Rattle.gate_law.specs.Lists.{Lists};
 ghost use Rattle.gate_events.specs.Seen.{event_seen};
+ghost use Rattle.order_core.specs.order_machine.Runs.{NumbersLeft};
 ghost use Rattle.gate_core.specs.State.{IsShaped, ArePartsOf};
 ghost use Rattle.gate_core.specs.Targets.{client_for, clients_port, known_client, known_port, port_for};
 
@@ -16,7 +17,7 @@ impl<S: BuildHasher + Drop> Parts<S> {
     /// Whom the batch of an event may name.
     pub(crate) fn targets(&self, event: &Event) -> Targets
         requires shaped { IsShaped self.now }
-        ensures client { (s : Settings) (v : Lists) → ArePartsOf s v self.now → length v.turns < 2 ^ 58
+        ensures client { (s : Settings) (v : Lists) → ArePartsOf s v self.now → NumbersLeft v.turns
             → result.client ≡ client_for s (event_seen event.now) v }
         ensures port { (s : Settings) (v : Lists) → ArePartsOf s v self.now
             → result.port ≡ port_for s (event_seen event.now) }

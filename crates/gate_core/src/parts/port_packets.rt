@@ -8,6 +8,7 @@ ghost use Rattle.gate_law.specs.Lists.{Lists};
 ghost use Rattle.gate_law.specs.Sessions.{fault_in, port_state};
 ghost use Rattle.gate_events.specs.Seen.{batch_seen};
 ghost use Rattle.order_core.specs.State.{CoreHasRoom};
+ghost use Rattle.order_core.specs.order_machine.Runs.{NumbersLeft};
 ghost use Rattle.gate_sessions.specs.Lines.{NextWithin};
 ghost use Rattle.gate_core.specs.State.{IsShaped, ArePartsOf};
 ghost use Rattle.gate_core.specs.Steps.{Grows, AfterPacket, Ready, Stepped};
@@ -88,7 +89,7 @@ impl<S: BuildHasher + Drop> Parts<S> {
         requires place { place < length self.old.ports.items }
         requires few { place < 16 }
         ensures sent { IfOk result (λ outs. (s : Settings) (v : Lists) → ArePartsOf s v self.old
-            → length v.turns < 2 ^ 58 → IsSentAgain s (place + 1) at stood outs.items v self.new) }
+            → NumbersLeft v.turns → IsSentAgain s (place + 1) at stood outs.items v self.new) }
         ensures grows { Grows 0 0 self.old self.new }
     {
         if stood.is_up() || !self.port_state(place).is_up() {

@@ -3,6 +3,7 @@
 ghost use Rattle.std.specs.Prelude.{◌≡◌, ◌<◌, ◌≤◌, ◌+◌, ◌^◌, ◌&&◌, ℕ, List, [], Some, None, length, map, nat_le};
 ghost use Rattle.std.specs.Prelude.{is_some, IfOk, IfSome};
 ghost use Rattle.order_core.specs.State.{CoreHasRoom};
+ghost use Rattle.order_core.specs.order_machine.Runs.{NumbersLeft};
 ghost use Rattle.order_core.specs.order_ledger.Seen.{client_seen};
 ghost use Rattle.gate_law.specs.Settings.{Settings};
 ghost use Rattle.gate_law.specs.Lists.{Lists, port_called};
@@ -49,7 +50,7 @@ impl<S: BuildHasher + Drop> Parts<S> {
     ) -> Result<Judged, AllocError>
         requires few { place < 16 }
         requires room { CoreHasRoom self.old.orders }
-        ensures turn { IfOk result (λ judged. (s : Settings) (v : Lists) → length v.turns < 2 ^ 58
+        ensures turn { IfOk result (λ judged. (s : Settings) (v : Lists) → NumbersLeft v.turns
             → ArePartsOf s v self.old → PayloadIsJudged s (place + 1) payload.now judged v self.new) }
         ensures within { IfOk result (λ judged. IsWithin (length self.old.clients.items) judged) }
         ensures grows { Grows 3 0 self.old self.new }

@@ -1,8 +1,8 @@
 use Rattle.std.proofs.Common.{◌∙◌, ap, refl}
-use Rattle.session_writing.specs.session_law.declared.kind.Kind.TheVariants as kinds
+use Rattle.session_law.specs.declared.kind.Kind.TheVariants as kinds
 use Rattle.fix_fields.specs.Field.{Message, text}
-use Rattle.session_writing.specs.session_law.Session.{Given, Logon, said, quiet, logged, reset}
-use Rattle.session_writing.specs.session_law.Runs.{heard, at_moment}
+use Rattle.session_law.specs.Session.{Given, Logon, said, quiet, logged, reset}
+use Rattle.session_law.specs.Runs.{heard, at_moment}
 use Rattle.fix_session.proofs.logon.open.Goals as goal
 
 pub returns-clause-opened : goal.returns-clause-opened

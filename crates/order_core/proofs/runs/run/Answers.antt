@@ -1,6 +1,7 @@
 use Rattle.std.proofs.Common.{◌≡◌, ◌<◌, ◌^◌, [], length, take, map, sym, subst, ap, ◌∙◌, arith, take_all}
 use Rattle.std.proofs.Common.{length-append, length-take-le}
 use Rattle.outstanding.specs.order_law.History.{OrderHistory}
+use Rattle.order_machine.specs.Runs.{NumbersLeft}
 use Rattle.order_machine.proofs.Running.{headline-of}
 use Rattle.order_core.specs.State.{OrderCoreState, IsAfterTurns, core_clients, core_numbers}
 use Rattle.order_core.specs.Runs.{run_history, is_known_client}
@@ -25,13 +26,13 @@ step-requires-clause-client c =
 pub step-requires-clause-room : goal.step-requires-clause-room
 step-requires-clause-room c =
     let still : core_numbers c.settle.new.self ≡ core_numbers c.loop-event.core = ap core_numbers c.settle.ensures in
-    omega (arith, c.loop-event.invariant.issued, still, c.requires.short, c.loop-event-test.true)
+    omega (arith, c.loop-event.invariant.issued, still, c.requires.numbers, c.loop-event-test.true)
 
 pub loop-event-preserved : goal.loop-event-preserved
 loop-event-preserved c = record {
   after =
       let before = run_history (take c.loop-event.event-index c.args.events.now) c.loop-event.outcomes.items in
-      let short : length before < 2 ^ 58 = omega (arith, length-onto (take c.loop-event.event-index c.args.events.now) c.loop-event.outcomes.items [], length-take-le c.loop-event.event-index c.args.events.now (omega arith), c.requires.short) in
+      let short : NumbersLeft before = omega (arith, length-onto (take c.loop-event.event-index c.args.events.now) c.loop-event.outcomes.items [], length-take-le c.loop-event.event-index c.args.events.now (omega arith), c.requires.numbers) in
       rw c.in_ok-push.ensures.items (subst (λ (h : OrderHistory). IsAfterTurns (map terms_seen c.args.terms.now) h c.step.new.core)
       (sym (history-more c.args.events.now c.loop-event.outcomes.items c.loop-event.event-index c.event-item.result c.in_ok-outcome.outcome c.loop-event-test.true c.event-item.is c.loop-event.invariant.same))
       (c.in_ok-outcome.ensures.after (map terms_seen c.args.terms.now) before short
@@ -53,4 +54,4 @@ pub returns-clause-headline : goal.returns-clause-headline
 returns-clause-headline c =
     let after = rw (take_all c.loop-event.event-index c.args.events.now (omega arith)) at c.loop-event.invariant.after in
     let leaves = (parts-of (map terms_seen c.args.terms.now) (run_history c.args.events.now c.loop-event.outcomes.items) c.loop-event.core after).0 in
-    headline-of (map terms_seen c.args.terms.now) (run_history c.args.events.now c.loop-event.outcomes.items) c.loop-event.core.table (omega (arith, length-onto c.args.events.now c.loop-event.outcomes.items [], c.requires.short)) leaves
+    headline-of (map terms_seen c.args.terms.now) (run_history c.args.events.now c.loop-event.outcomes.items) c.loop-event.core.table (omega (arith, length-onto c.args.events.now c.loop-event.outcomes.items [], c.requires.numbers)) leaves

@@ -1,9 +1,8 @@
-use Rattle.std.proofs.Common.{◌++◌, List, [], map, refl, subst, sym, ap, ◌∙◌, codes, Option}
+use Rattle.std.proofs.Common.{◌++◌, List, [], map, refl, subst, sym, ap, ◌∙◌, codes}
 use Rattle.std.proofs.lemmas.Result.{IfOk-weaker}
 use Rattle.orders.specs.fix_types.Report.{report_fields}
 use Rattle.fix_values.specs.Slots.{char_text}
 use Rattle.orders.specs.fix_types.Application.{body_fields}
-use Rattle.order_law.specs.History.{Entry}
 use Rattle.order_law.specs.fix_fields.Field.{Message}
 use Rattle.order_law.specs.Told as law
 use Rattle.to_client.specs.declared.occasion.Details.{Details}

@@ -1,4 +1,3 @@
-use Rattle.std.proofs.Common.{refl}
 use Rattle.fix_values.specs.Reasons.{cxl_rej_number}
 use Rattle.to_client.proofs.Answered.{pushed-reject}
 use Rattle.to_client.proofs.endings.push_reject.Goals as goal

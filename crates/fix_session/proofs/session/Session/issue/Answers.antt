@@ -2,11 +2,11 @@ use Rattle.std.proofs.Common.{◌≡◌, ap, subst, ◌∙◌}
 use Rattle.std.specs.Prelude.{IfOk}
 use Rattle.std.proofs.lemmas.Result.{IfOk-weaker}
 use Rattle.session_writing.specs.fix_stamp.Stamp.{stamp_text}
-use Rattle.session_writing.specs.session_law.declared.kind.Kind.{Kind}
+use Rattle.session_law.specs.declared.kind.Kind.{Kind}
 use Rattle.fix_fields.specs.Field.{Message}
-use Rattle.session_writing.specs.session_law.Frames.{frame_fields}
-use Rattle.session_writing.specs.session_law.Session.{fresh, next_out}
-use Rattle.session_writing.specs.session_law.Runs.{Call, Issue, at_moment, step}
+use Rattle.session_law.specs.Frames.{frame_fields}
+use Rattle.session_law.specs.Session.{fresh, next_out}
+use Rattle.session_law.specs.Runs.{Call, Issue, at_moment, step}
 use Rattle.fix_session.specs.Issues.{call_of_body, issued_kind}
 use Rattle.fix_session.specs.Meets.{Meets}
 use Rattle.fix_session.proofs.Turns.{tells, one-more, one-more-headline}

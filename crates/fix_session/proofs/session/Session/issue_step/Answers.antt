@@ -1,6 +1,6 @@
 use Rattle.std.proofs.Common.{◌++◌, ◌∷◌, [], Some, None, refl, ap, ◌∙◌}
 use Rattle.fix_fields.specs.Field.{Message}
-use Rattle.session_writing.specs.session_law.Session.{State, fresh, next_out}
+use Rattle.session_law.specs.Session.{State, fresh, next_out}
 use Rattle.fix_session.specs.Held.{SessionHeld}
 use Rattle.fix_session.proofs.Issuing.{issued}
 use Rattle.fix_session.proofs.session.Session.issue_step.Goals as goal

@@ -1,9 +1,9 @@
 use Rattle.std.proofs.Common.{◌≡◌, subst, rules}
 use Rattle.std.specs.Prelude.{IfOk}
-use Rattle.session_writing.specs.session_law.declared.phase.Phase.{Phase}
-use Rattle.session_writing.specs.session_law.declared.phase.Phase.TheVariants.{AwaitingLogon, LoggedOn}
-use Rattle.session_writing.specs.session_law.Table.{message_rows}
-use Rattle.session_writing.specs.session_law.Runs.{heard, at_moment, by_rows}
+use Rattle.session_law.specs.declared.phase.Phase.{Phase}
+use Rattle.session_law.specs.declared.phase.Phase.TheVariants.{AwaitingLogon, LoggedOn}
+use Rattle.session_law.specs.Table.{message_rows}
+use Rattle.session_law.specs.Runs.{heard, at_moment, by_rows}
 use Rattle.fix_session.specs.Meets.{Meets}
 use Rattle.fix_session.proofs.session.Session.message_step.Goals as goal
 

@@ -1,5 +1,5 @@
 use Rattle.std.proofs.Common.{◌∙◌, ap}
-use Rattle.session_writing.proofs.session_law.Expects.{Leaves-expected}
+use Rattle.session_law.proofs.Expects.{Leaves-expected}
 use Rattle.fix_session.specs.Held.{SessionHeld}
 use Rattle.fix_session.proofs.session.Session.next_in.Goals as goal
 

@@ -1,6 +1,6 @@
 use Rattle.std.proofs.Common.{ℕ, ◌+◌, length, ap, ◌∙◌, List}
-use Rattle.session_writing.specs.session_law.Session.{Slot}
-use Rattle.session_writing.proofs.session_law.Runs.{Leaves-numbers}
+use Rattle.session_law.specs.Session.{Slot}
+use Rattle.session_law.proofs.Runs.{Leaves-numbers}
 use Rattle.fix_session.proofs.session.Session.next_out.Goals as goal
 
 pub returns : goal.returns

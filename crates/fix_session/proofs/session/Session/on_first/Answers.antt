@@ -1,7 +1,7 @@
 use Rattle.std.proofs.Common.{ap, ◌∙◌, sym, arith}
-use Rattle.session_writing.specs.session_law.Session.{Given, Answer, answered}
-use Rattle.session_writing.specs.session_law.Runs.{at_moment, heard}
-use Rattle.session_writing.proofs.session_law.Bounds.{logon-little}
+use Rattle.session_law.specs.Session.{Given, Answer, answered}
+use Rattle.session_law.specs.Runs.{at_moment, heard}
+use Rattle.session_law.proofs.Bounds.{logon-little}
 use Rattle.fix_session.proofs.session.Session.on_first.Goals as goal
 
 pub take-requires : goal.take-requires

@@ -1,4 +1,4 @@
-use Rattle.session_writing.specs.session_law.Runs.{OnLink}
+use Rattle.session_law.specs.Runs.{OnLink}
 use Rattle.fix_session.proofs.Turns.{tells, one-more, one-more-headline}
 use Rattle.fix_session.proofs.session.Session.on_link.Goals as goal
 

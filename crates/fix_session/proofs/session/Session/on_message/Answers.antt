@@ -1,5 +1,5 @@
 use Rattle.std.proofs.lemmas.Result.{IfOk-weaker}
-use Rattle.session_writing.specs.session_law.Runs.{OnMessage}
+use Rattle.session_law.specs.Runs.{OnMessage}
 use Rattle.fix_session.proofs.Turns.{little, tells, one-more, one-more-headline}
 use Rattle.fix_session.proofs.session.Session.on_message.Goals as goal
 

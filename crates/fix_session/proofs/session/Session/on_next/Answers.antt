@@ -1,9 +1,9 @@
 use Rattle.std.proofs.Common.{ap, ◌∙◌, sym, arith}
-use Rattle.session_writing.specs.session_law.Session.{Given, Answer, answered}
-use Rattle.session_writing.specs.session_law.Runs.{at_moment, heard}
-use Rattle.session_writing.specs.session_law.Table.{message_number}
-use Rattle.session_writing.specs.session_reading.Judged.{row_answer}
-use Rattle.session_writing.proofs.session_law.Bounds.{logged-on-little}
+use Rattle.session_law.specs.Session.{Given, Answer, answered}
+use Rattle.session_law.specs.Runs.{at_moment, heard}
+use Rattle.session_law.specs.Table.{message_number}
+use Rattle.session_reading.specs.Judged.{row_answer}
+use Rattle.session_law.proofs.Bounds.{logged-on-little}
 use Rattle.fix_session.proofs.session.Session.on_next.Goals as goal
 
 pub take-requires : goal.take-requires

@@ -1,5 +1,5 @@
 use Rattle.std.proofs.lemmas.Result.{IfOk-weaker}
-use Rattle.session_writing.specs.session_law.Runs.{OnTick}
+use Rattle.session_law.specs.Runs.{OnTick}
 use Rattle.fix_session.proofs.Turns.{tells, one-more, one-more-headline}
 use Rattle.fix_session.proofs.session.Session.on_tick.Goals as goal
 

@@ -1,6 +1,7 @@
-use Rattle.std.proofs.Common.{◌<◌, ◌^◌, ℕ, Option, length, sym, subst, arith}
+use Rattle.std.proofs.Common.{Option, sym, subst, arith}
 use Rattle.gate_law.specs.After.{lists}
 use Rattle.gate_law.specs.Promises.{IsAmong}
+use Rattle.order_core.specs.order_machine.Runs.{NumbersLeft}
 use Rattle.gate_core.proofs.Fields.{fields-of}
 use Rattle.gate_events.specs.Seen.{event_seen}
 use Rattle.gate_core.proofs.Naming.{names-targets, parts-of, turns-few}
@@ -9,7 +10,7 @@ use Rattle.gate_core.proofs.whole.Core.targets.Goals as goal
 
 pub returns-clause-client : goal.returns-clause-client
 returns-clause-client g c s before is =
-    let few : length (lists s before).turns < 2 ^ 58 = omega (arith, turns-few no-more-turns s before) in
+    let few : NumbersLeft (lists s before).turns = omega (arith, turns-few no-more-turns s before) in
     c.targets.ensures.client s (lists s before) (parts-of s before _ (fields-of s before (record { parts = c.self.inside.parts; events = c.self.inside.events }) _ c.args.self.now c.self.view_is is)) few
 
 pub returns-clause-port : goal.returns-clause-port
@@ -17,7 +18,7 @@ returns-clause-port g c s before is = c.targets.ensures.port s (lists s before) 
 
 pub returns-clause-named : goal.returns-clause-named
 returns-clause-named g c s before batch is holds =
-    let few : length (lists s before).turns < 2 ^ 58 = omega (arith, turns-few no-more-turns s before) in
+    let few : NumbersLeft (lists s before).turns = omega (arith, turns-few no-more-turns s before) in
     let parts = parts-of s before _ (fields-of s before (record { parts = c.self.inside.parts; events = c.self.inside.events }) _ c.args.self.now c.self.view_is is) in
     let named = names-targets s before (event_seen c.args.event.now) batch holds in (
       subst (λ (x : Option ℕ). IsAmong batch.client x) (sym (c.targets.ensures.client s (lists s before) parts few)) named.0,

@@ -3,6 +3,7 @@ use Rattle.order_ledger.specs.market_messages.ouch_codec.declared.outbound.Outbo
 use Rattle.order_ledger.specs.market_messages.ouch_codec.declared.refusal.DecodeRefusal.{DecodeRefusal}
 use Rattle.order_ledger.specs.market_messages.ouch_codec.Values.{decoded}
 use Rattle.outstanding.specs.order_law.History.{OrderHistory, Terms, OrderTurn}
+use Rattle.order_machine.specs.Runs.{NumbersLeft}
 use Rattle.order_machine.proofs.Running.{headline-of}
 use Rattle.outstanding.proofs.InTurns.{market-turns, quiet-turns}
 use Rattle.order_core.specs.State.{IsAfterTurns}
@@ -12,7 +13,7 @@ use Rattle.order_core.proofs.order_core.OrderCore.market.Goals as goal
 
 pub returns-clause-after : goal.returns-clause-after
 returns-clause-after g c =
-    subst (λ (heard : Result Outbound DecodeRefusal). OfCall c.args.port heard c.market_step.result (λ (t : OrderTurn). (terms : List Terms) (before : OrderHistory) → length before < 2 ^ 58 → IsAfterTurns terms before c.args.self.now → IsAfterTurns terms (t ∷ before) c.market_step.new.self)) c.decode.ensures
+    subst (λ (heard : Result Outbound DecodeRefusal). OfCall c.args.port heard c.market_step.result (λ (t : OrderTurn). (terms : List Terms) (before : OrderHistory) → NumbersLeft before → IsAfterTurns terms before c.args.self.now → IsAfterTurns terms (t ∷ before) c.market_step.new.self)) c.decode.ensures
     (market-after c.args.self.now c.args.port c.decode.result c.market_step.result c.market_step.new.self
     market-turns quiet-turns
     c.market_step.ensures.meets c.market_step.ensures.err)

@@ -1,1 +1,0 @@
-pub use Rattle.session_law.proofs as session_law
