@@ -11,7 +11,7 @@ mod serving;
 mod slot;
 mod splitting;
 
-pub use gate_workers::{Clock, Gate, LinkFault, WriterEnd, ticker};
+pub use gate_workers::{Clock, Gate, LinkFault, Prompt, WriterEnd, ends_link, ticker};
 pub use line::{Line, Worker};
 pub use opener::{Closer, LinkEnd, Opened, Opener};
 pub use peer::Peer;

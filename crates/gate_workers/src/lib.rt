@@ -12,7 +12,8 @@ mod ticks;
 mod writer;
 
 pub use clock::Clock;
-pub use link_io::{Event, Gate, LinkFault, LinkOut};
+pub use ending::ends_link;
+pub use link_io::{Event, Gate, LinkFault, LinkOut, Prompt};
 pub use reader::{client_reader, port_reader};
 pub use ticks::ticker;
 pub use writer::{WriterEnd, client_writer, port_writer};

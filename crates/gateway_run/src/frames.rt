@@ -1,9 +1,11 @@
 //! What is told of the frames of a client's link, so that whoever runs the gateway sees why nothing goes through: those
 //! that it is sent and that refuse a message, ask for messages again or end a session; and bytes that are no frame.
 
+ghost use Rattle.std.specs.Prelude.{◌≡◌, ◌≤◌, length};
+
 use crate::skipped::SkipReader;
 use crate::telling::Teller;
-use gate_serving::{LinkEnd, LinkFault, Opened, Opener};
+use gate_serving::{LinkEnd, LinkFault, Opened, Opener, Prompt};
 use memchr::memmem::find;
 use std::alloc::{AllocError, Global};
 use std::io::{self, Write};
@@ -89,15 +91,38 @@ impl<'a, W: Write, R: Clock + Eprint> Write for FrameWriter<'a, W, R> {
 
     fn write(&mut self, buf: &[u8]) -> io::Result<usize> {
         let written = self.writer.write(buf)?;
-        if self.left == 0 && written > 0 {
-            tell_frames(&self.teller, self.alloc, buf);
-        }
-        self.left = buf.len() - written;
+        self.tell(buf, written);
         Ok(written)
     }
 
     fn flush(&mut self) -> io::Result<()> {
         self.writer.flush()
+    }
+}
+
+impl<'a, W: Prompt, R: Clock + Eprint> Prompt for FrameWriter<'a, W, R> {
+    ghost did_try = { λ f bytes took g. W.did_try f.writer bytes took g.writer };
+
+    fn write_promptly(&mut self, buf: &[u8]) -> io::Result<usize> {
+        let written = self.writer.write_promptly(buf)?;
+        self.tell(buf, written);
+        Ok(written)
+    }
+}
+
+impl<'a, W, R: Clock + Eprint> FrameWriter<'a, W, R> {
+    /// Tells of the frames of what was given to be written, of which so many bytes are. What was given before and
+    /// wasn't written stands in front, and was told of.
+    fn tell(&mut self, given: &[u8], written: usize)
+        requires { written ≤ length given.now }
+        ensures { self.new.writer ≡ self.old.writer }
+    {
+        if written == 0 {
+            return;
+        }
+        let (_, fresh) = given.split_at(self.left.min(given.len()));
+        tell_frames(&self.teller, self.alloc, fresh);
+        self.left = given.len() - written;
     }
 }
 

@@ -33,3 +33,7 @@ abbrev pub FailedWrite : {S : Type 0} → (S → List ℕ → Option ℕ → S �
 FailedWrite {S = S} did_write new =
     (old : S) × (bytes : List ℕ) × (0 < length bytes)
     × (did_write old bytes None new ⊎ did_write old bytes (Some 0) new)
+
+-- the stream is as it was, or was written promptly just once
+abbrev pub TriesOnce : {S : Type 0} → (S → List ℕ → Option ℕ → S → Type 0) → (old new : S) → Type 0
+TriesOnce did_try old new = (new ≡ old) ⊎ ((bytes : List ℕ) × (took : Option ℕ) × did_try old bytes took new)

@@ -124,3 +124,18 @@ pub record Writes (answer : Result Wrote LinkFault) (old new : WriterState) (tak
   pub stops : StopsAtClose old taken
   pub tells : Tells answer (written ++ rest) (old.is_taken || not (length taken == 0))
       (old.is_closing || do_close old.link taken) written rest new
+
+-- one write of a writer whose link goes on: of the bytes that were to be written and those of the lists taken, the
+-- first are written, and the others are to be written still
+pub record WritesOnce (old new : WriterState) (taken_old taken_new : List (List LinkOut))
+    (sent_old sent_new : Option (List ℕ)) : Type 0 where
+  pub taken : List (List LinkOut)
+  pub written : List ℕ
+  pub takes : taken_new ≡ taken_old ++ taken
+  pub appends : Appends sent_old sent_new written
+  pub whole : unwritten old ++ lists_bytes old.link taken ≡ written ++ unwritten new
+  pub number : new.number ≡ old.number
+  pub link : new.link ≡ old.link
+  pub is_taken : new.is_taken ≡ (old.is_taken || not (length taken == 0))
+  pub is_closing : new.is_closing ≡ (old.is_closing || do_close old.link taken)
+  pub stops : StopsAtClose old taken

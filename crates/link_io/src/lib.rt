@@ -24,5 +24,5 @@ pub use link_fault::LinkFault;
 pub use port_packets::PortPackets;
 pub use progress::Progress;
 pub use reader::{ClientReader, PortReader, Reader};
-pub use streams::{Sink, Source};
+pub use streams::{Prompt, Sink, Source};
 pub use writer::{BatchWriter, Wrote};

@@ -1,7 +1,7 @@
 //! How many steps a link's engine still makes, and the fault with which its link ended.
 
-ghost use Rattle.std.specs.Prelude.{◌≡◌, ◌≤◌, ◌-◌, None};
-ghost use Rattle.link_io.specs.Limits.{Begins, end_by};
+ghost use Rattle.std.specs.Prelude.{◌≡◌, ◌≤◌, ◌-◌, None, is_some};
+ghost use Rattle.link_io.specs.Limits.{Begins, end_by, refusal};
 
 use crate::link_fault::LinkFault;
 
@@ -39,6 +39,13 @@ impl Limit {
         }
         self.left -= 1;
         Ok(())
+    }
+
+    /// Whether no step is made any more.
+    pub(crate) fn is_over(&self) -> bool
+        ensures { result ≡ is_some (refusal self.now) }
+    {
+        self.over.is_some() || self.left == 0
     }
 
     /// The step failed: the link is over, unless memory ran out.

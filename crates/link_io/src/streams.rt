@@ -55,3 +55,23 @@ impl<W: Write> Sink for W {
         self.write(buf)
     }
 }
+
+/// A stream that can also be written promptly, by writes that don't wait for a peer that reads nothing now. What such a
+/// write answered contracts say by `did_try`, which nothing gives but a call.
+pub trait Prompt: Write {
+    ghost use Rattle.std.specs.Prelude.{ℕ, List, Option, Some, None, IfOk, OnErr};
+    ghost use Rattle.std.specs.Io.{WritesAtMost};
+    ghost use Rattle.std.specs.Io.KnownBytes.{WriteAppends};
+
+    // A prompt write of these bytes onto the first took so many, or failed where no number is said, and left the
+    // second.
+    ghost did_try: { Self → List ℕ → Option ℕ → Self → Type 0 };
+
+    /// Writes once, as `write` does, and comes back soon: it fails where the peer takes nothing for a moment. After a
+    /// failure the stream is as before: `write` meets the failure again, where it is one that lasts.
+    fn write_promptly(&mut self, buf: &[u8]) -> io::Result<usize>
+        ensures bound { WritesAtMost result buf.now }
+        ensures bytes { WriteAppends (Self.contents self.old) (Self.contents self.new) result buf.now }
+        ensures took { IfOk result (λ count. did_try self.old buf.now (Some count) self.new) }
+        ensures failed { OnErr result (did_try self.old buf.now None self.new) };
+}

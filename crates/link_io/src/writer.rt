@@ -4,14 +4,15 @@ ghost use Rattle.std.specs.Prelude.{◌≡◌, ◌≤◌, ◌+◌, ◌-◌, ◌+
 ghost use Rattle.std.specs.Prelude.{true, false, IfOk, IfErr, OnOk, OnErr, MatchResult};
 ghost use Rattle.gate_events.specs.Seen.{link_out_seen};
 ghost use Rattle.link_io.specs.Limits.{refusal, limit_after};
-ghost use Rattle.link_io.specs.Answered.{FailedWrite};
-ghost use Rattle.link_io.specs.Writing.{bytes_told, Joins, TakesList, Refills, Sends, Writes};
+ghost use Rattle.link_io.specs.Answered.{FailedWrite, TriesOnce};
+ghost use Rattle.link_io.specs.Writing.{bytes_told, unwritten, HasSent, Joins, TakesList, Refills, Sends};
+ghost use Rattle.link_io.specs.Writing.{Writes, WritesOnce};
 ghost use Rattle.link_io.specs.declared.link_fault.LinkFault.{LinkFault as Fault};
 
 use crate::gate::Gate;
 use crate::limit::Limit;
 use crate::link_fault::LinkFault;
-use crate::streams::Sink;
+use crate::streams::{Prompt, Sink};
 use gate_events::{LinkOut, closes_link};
 use std::alloc::{AllocError, Global};
 use std::marker::Model;
@@ -150,6 +151,69 @@ impl BatchWriter {
         }
     }
 
+    /// Takes the lists that lie there, as a step does, and writes what they tell this link by one prompt write. Whether
+    /// that was all: nothing lay behind these lists, the stream took each byte, and none of them closes this link.
+    ///
+    /// Else the rest is left to the next step: what the stream didn't take, the stream's failure, which it meets again,
+    /// what was taken where memory ran out, and the end of a link that is closed. It counts as none of the steps, and
+    /// nothing is done where these are used up or the link is over.
+    pub fn step_once<W: Prompt, G: Gate>(
+        &mut self,
+        alloc: Global,
+        stream: &mut W,
+        gate: &mut G,
+    ) -> bool
+        ensures writes { refusal self.old.limit ≡ None → WritesOnce self.old self.new
+            (G.was_taken gate.old) (G.was_taken gate.new) (W.contents stream.old) (W.contents stream.new) }
+        ensures all { result ≡ true → (unwritten self.new ≡ []) × (self.new.is_closing ≡ false) }
+        ensures tries { TriesOnce W.did_try stream.old stream.new }
+        ensures refused { (fault : Fault) → refusal self.old.limit ≡ Some fault → (result ≡ false)
+            × (self.new ≡ self.old) × (stream.new ≡ stream.old) × (gate.new ≡ gate.old) }
+        ensures limit { self.new.limit ≡ self.old.limit }
+        ensures none_put { G.was_put gate.new ≡ G.was_put gate.old }
+    {
+        if self.limit.is_over() {
+            return false;
+        }
+        self.try_lists(alloc, stream, gate)
+    }
+
+    /// The same, of a link that goes on.
+    fn try_lists<W: Prompt, G: Gate>(&mut self, alloc: Global, stream: &mut W, gate: &mut G) -> bool
+        ensures writes { WritesOnce self.old self.new
+            (G.was_taken gate.old) (G.was_taken gate.new) (W.contents stream.old) (W.contents stream.new) }
+        ensures all { result ≡ true → (unwritten self.new ≡ []) × (self.new.is_closing ≡ false) }
+        ensures tries { TriesOnce W.did_try stream.old stream.new }
+        ensures limit { self.new.limit ≡ self.old.limit }
+        ensures none_put { G.was_put gate.new ≡ G.was_put gate.old }
+    {
+        let Ok(is_more) = self.refill(alloc, gate) else {
+            return false;
+        };
+        let is_written = self.try_pending(stream);
+        is_written && !is_more && !self.is_closing
+    }
+
+    /// Writes what is pending by one prompt write, where there is something. What the stream took goes: whether that
+    /// was all.
+    fn try_pending<W: Prompt>(&mut self, stream: &mut W) -> bool
+        ensures sent { HasSent self.old.bytes self.new.bytes (W.contents stream.old) (W.contents stream.new) }
+        ensures left { self.new ≡ record self.old { bytes = self.new.bytes } }
+        ensures all { result ≡ true → self.new.bytes ≡ [] }
+        ensures tries { TriesOnce W.did_try stream.old stream.new }
+    {
+        if self.pending.is_empty() {
+            return true;
+        }
+        match stream.write_promptly(self.pending.as_slice()) {
+            Ok(count) => {
+                self.pending.drain(..count);
+                self.pending.is_empty()
+            }
+            Err(_) => false,
+        }
+    }
+
     /// The same, of a link that goes on.
     fn write_lists<W: Sink, G: Gate>(
         &mut self,
@@ -189,8 +253,8 @@ impl BatchWriter {
         wrote
     }
 
-    /// Takes lists, and joins what they tell this link.
-    fn refill<G: Gate>(&mut self, alloc: Global, gate: &mut G) -> Result<(), AllocError>
+    /// Takes lists, and joins what they tell this link. Whether more may lie there.
+    fn refill<G: Gate>(&mut self, alloc: Global, gate: &mut G) -> Result<bool, AllocError>
         ensures refills { Refills self.old self.new (G.was_taken gate.old) (G.was_taken gate.new) }
         ensures joined { OnOk result (self.new.held ≡ []) }
         ensures none_put { G.was_put gate.new ≡ G.was_put gate.old }
@@ -198,14 +262,14 @@ impl BatchWriter {
         self.join(alloc)?;
         for _ in 0..MOST_LISTS {
             if self.has_enough() {
-                break;
+                return Ok(true);
             }
             if !self.take_list(gate) {
-                break;
+                return Ok(false);
             }
             self.join(alloc)?;
         }
-        Ok(())
+        Ok(true)
     }
 
     /// Whether no further list is to be taken before what there is is written.

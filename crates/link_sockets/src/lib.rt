@@ -12,5 +12,5 @@ mod turns;
 pub use acceptor::Acceptor;
 pub use clock::SystemClock;
 pub use connector::Connector;
-pub use gate_serving::{Clock, Closer, LinkEnd, LinkFault, Opened, Opener};
+pub use gate_serving::{Clock, Closer, LinkEnd, LinkFault, Opened, Opener, Prompt};
 pub use stream::{SocketCloser, SocketReader, SocketWriter};

@@ -1,6 +1,6 @@
 //! A link's stream, by what is done with it.
 
-use gate_serving::{Closer, Opened};
+use gate_serving::{Closer, Opened, Prompt};
 use std::io::{ErrorKind, Read, Write};
 use std::net::{Shutdown, TcpStream};
 use std::sync::atomic::{AtomicBool, Ordering};
@@ -12,11 +12,14 @@ fn longest_read() -> Duration {
     Duration::from_millis(250)
 }
 
-/// How long a write waits for a peer that doesn't read. Then it ends, with the bytes that went out, and fails where
-/// none did.
-fn longest_write() -> Duration {
-    Duration::from_secs(5)
+/// How long a prompt write waits for a peer that doesn't read. Then it ends, with the bytes that went out, and fails
+/// where none did.
+fn longest_prompt_write() -> Duration {
+    Duration::from_millis(10)
 }
+
+/// How often a write is tried, promptly each time, before it fails: for five seconds.
+const MOST_TRIES: u32 = 500;
 
 /// How often, and how long each time, a closer looks whether the peer has closed too.
 const LOOKS: u32 = 100;
@@ -50,7 +53,8 @@ impl<'a> Read for SocketReader<'a> {
     }
 }
 
-/// Writes a stream. A write fails where the peer reads nothing for five seconds.
+/// Writes a stream. A write fails where the peer reads nothing for five seconds, a prompt one where it reads nothing
+/// for ten milliseconds.
 #[derive(Drop)]
 pub struct SocketWriter {
     stream: TcpStream,
@@ -58,11 +62,28 @@ pub struct SocketWriter {
 
 impl Write for SocketWriter {
     fn write(&mut self, buf: &[u8]) -> io::Result<usize> {
+        for _ in 1..MOST_TRIES {
+            match self.stream.write(buf) {
+                Ok(count) => return Ok(count),
+                Err(error) => match error.kind() {
+                    ErrorKind::WouldBlock | ErrorKind::TimedOut => {}
+                    _ => return Err(error),
+                },
+            }
+        }
         self.stream.write(buf)
     }
 
     fn flush(&mut self) -> io::Result<()> {
         self.stream.flush()
+    }
+}
+
+impl Prompt for SocketWriter {
+    ghost did_try = { λ _ _ _ _. Unit {0} };
+
+    fn write_promptly(&mut self, buf: &[u8]) -> io::Result<usize> {
+        self.stream.write(buf)
     }
 }
 
@@ -95,7 +116,7 @@ pub(crate) fn link_of<'a, R>(
 ) -> io::Result<Opened<SocketReader<'a>, SocketWriter, SocketCloser<'a, R>>> {
     stream.set_nodelay(true)?;
     stream.set_read_timeout(Some(longest_read()))?;
-    stream.set_write_timeout(Some(longest_write()))?;
+    stream.set_write_timeout(Some(longest_prompt_write()))?;
     let written = stream.try_clone()?;
     let closed = stream.try_clone()?;
     Ok(Opened {

@@ -1,6 +1,6 @@
 //! A gate that keeps what it was given.
 
-ghost use Rattle.std.specs.Prelude.{◌≡◌, map, IfOk};
+ghost use Rattle.std.specs.Prelude.{◌≡◌, [], map, IfOk};
 ghost use Rattle.link_io.specs.gate_events.Seen.{link_out_seen};
 
 use link_io::{Event, Gate, LinkOut};
@@ -32,7 +32,9 @@ impl Drop for Kept {
 
 impl Kept {
     /// Nothing was put, and nothing lies there.
-    pub fn new(alloc: Global) -> Kept {
+    pub fn new(alloc: Global) -> Kept
+        ensures given { result.given.items ≡ [] }
+    {
         Kept {
             alloc,
             events: Vec::new(alloc),
@@ -43,12 +45,16 @@ impl Kept {
     }
 
     /// A list lies there, to be taken before all others: these bytes for a link.
-    pub fn lay(&mut self, link: u64, bytes: &[u8]) -> Result<(), AllocError> {
+    pub fn lay(&mut self, link: u64, bytes: &[u8]) -> Result<(), AllocError>
+        ensures given { self.new.given ≡ self.old.given }
+    {
         Ok(self.lists.push(list_of(self.alloc, link, bytes)?)?)
     }
 
     /// The same with a `Close` of the link behind the bytes.
-    pub fn lay_last(&mut self, link: u64, bytes: &[u8]) -> Result<(), AllocError> {
+    pub fn lay_last(&mut self, link: u64, bytes: &[u8]) -> Result<(), AllocError>
+        ensures given { self.new.given ≡ self.old.given }
+    {
         let mut list = list_of(self.alloc, link, bytes)?;
         list.push(LinkOut::Close { link })?;
         Ok(self.lists.push(list)?)

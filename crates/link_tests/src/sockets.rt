@@ -1,6 +1,6 @@
 //! Links over loopback.
 
-use link_sockets::{Acceptor, Closer, Connector, LinkFault, Opened, Opener};
+use link_sockets::{Acceptor, Closer, Connector, LinkFault, Opened, Opener, Prompt};
 use std::io::{Read, Write};
 use std::net::{TcpListener, TcpStream};
 use std::sync::atomic::{AtomicBool, Ordering};
@@ -150,5 +150,44 @@ fn a_port_is_connected_again_after_a_second(rt: HostRuntime) -> Result<(), Fail>
     assert!(rt; matches!(connector.open(), Some(Err(LinkFault::ReadFailed))));
     is_over.store(true, Ordering::SeqCst);
     assert!(rt; connector.open().is_none());
+    Ok(())
+}
+
+/// How many milliseconds the first prompt write lasted that failed.
+fn failed_promptly<W: Prompt, R: Clock>(rt: &R, writer: &mut W) -> Result<u128, Fail> {
+    for _ in 0..100_000 {
+        let before = shown(rt)?;
+        if writer.write_promptly(&[b'x'; 10_000]).is_err() {
+            return Ok(shown(rt)?.saturating_sub(before));
+        }
+    }
+    Err(Fail::new("never failed"))
+}
+
+/// The same of the first write.
+fn failed<W: Write, R: Clock>(rt: &R, writer: &mut W) -> Result<u128, Fail> {
+    for _ in 0..100_000 {
+        let before = shown(rt)?;
+        if writer.write(&[b'x'; 10_000]).is_err() {
+            return Ok(shown(rt)?.saturating_sub(before));
+        }
+    }
+    Err(Fail::new("never failed"))
+}
+
+#[test]
+fn a_write_waits_for_its_peer_and_a_prompt_one_does_not(rt: HostRuntime) -> Result<(), Fail> {
+    let is_over = AtomicBool::new(false);
+    let listener = TcpListener::bind(&rt, "127.0.0.1:0")?;
+    let address = listener.local_addr()?;
+    let mut acceptor = Acceptor::of_listener(&rt, listener, 1, &is_over);
+    let _peer = TcpStream::connect(&rt, address)?;
+    let Some(Ok(mut link)) = acceptor.open() else {
+        return Err(Fail::new("not opened"));
+    };
+    let promptly = failed_promptly(&rt, &mut link.writer)?;
+    assert!(rt; promptly >= 9 && promptly < 2_000);
+    let waited = failed(&rt, &mut link.writer)?;
+    assert!(rt; waited >= 4_900 && waited < 30_000);
     Ok(())
 }

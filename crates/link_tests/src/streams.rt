@@ -1,5 +1,6 @@
 //! Readers and writers that fail.
 
+use link_io::Prompt;
 use std::io::{self, ErrorKind, Read, Write};
 
 /// A reader that gives so many bytes a read of what it has, and fails at its read of this number, from 0.
@@ -67,5 +68,13 @@ impl Write for Torn {
 
     fn flush(&mut self) -> io::Result<()> {
         Ok(())
+    }
+}
+
+impl Prompt for Torn {
+    ghost did_try = { λ _ _ _ _. Unit {0} };
+
+    fn write_promptly(&mut self, buf: &[u8]) -> io::Result<usize> {
+        self.write(buf)
     }
 }

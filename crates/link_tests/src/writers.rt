@@ -130,6 +130,101 @@ fn the_last_step_writes_nothing(rt: HostRuntime) -> Result<(), Fail> {
     Ok(())
 }
 
+#[test]
+fn a_prompt_step_writes_once_and_leaves_the_rest(rt: HostRuntime) -> Result<(), Fail> {
+    let mut gate = gate_of_lists(rt.alloc())?;
+    let mut stream = torn(rt.alloc(), 4, 100);
+    let mut writer = BatchWriter::new(rt.alloc(), 1, 7, 100);
+    assert!(rt; !writer.step_once(rt.alloc(), &mut stream, &mut gate));
+    assert!(rt; stream.taken.as_slice() == &BOTH[..4]);
+    let wrote = writer.step(rt.alloc(), &mut stream, &mut gate);
+    came_to(
+        &rt,
+        wrote,
+        Ok(Wrote {
+            bytes: 7,
+            taken: true,
+            closed: true,
+        }),
+    );
+    assert!(rt; stream.taken.as_slice() == BOTH.as_slice());
+    assert!(rt; gate.lists.len() == 1);
+    Ok(())
+}
+
+#[test]
+fn a_prompt_step_writes_all_that_lies_there(rt: HostRuntime) -> Result<(), Fail> {
+    let mut gate = Kept::new(rt.alloc());
+    gate.lay(7, SECOND)?;
+    gate.lay(8, SECOND)?;
+    gate.lay(7, FIRST)?;
+    let mut stream = torn(rt.alloc(), 11, 1);
+    let mut writer = BatchWriter::new(rt.alloc(), 1, 7, 100);
+    assert!(rt; writer.step_once(rt.alloc(), &mut stream, &mut gate));
+    assert!(rt; stream.taken.as_slice() == BOTH.as_slice());
+    assert!(rt; writer.step_once(rt.alloc(), &mut stream, &mut gate));
+    let wrote = writer.step(rt.alloc(), &mut stream, &mut gate);
+    came_to(
+        &rt,
+        wrote,
+        Ok(Wrote {
+            bytes: 0,
+            taken: true,
+            closed: false,
+        }),
+    );
+    Ok(())
+}
+
+#[test]
+fn a_prompt_step_takes_no_more_lists_than_a_step(rt: HostRuntime) -> Result<(), Fail> {
+    let mut gate = Kept::new(rt.alloc());
+    for _ in 0..65 {
+        gate.lay(7, FIRST)?;
+    }
+    let mut stream = torn(rt.alloc(), 1_000, 2);
+    let mut writer = BatchWriter::new(rt.alloc(), 1, 7, 100);
+    assert!(rt; !writer.step_once(rt.alloc(), &mut stream, &mut gate));
+    assert!(rt; stream.taken.len() == 320);
+    assert!(rt; writer.step_once(rt.alloc(), &mut stream, &mut gate));
+    assert!(rt; stream.taken.len() == 325);
+    Ok(())
+}
+
+#[test]
+fn a_prompt_step_leaves_a_failure_to_the_next_step(rt: HostRuntime) -> Result<(), Fail> {
+    let mut gate = gate_of_lists(rt.alloc())?;
+    let mut stream = torn(rt.alloc(), 100, 0);
+    let mut writer = BatchWriter::new(rt.alloc(), 1, 7, 100);
+    assert!(rt; !writer.step_once(rt.alloc(), &mut stream, &mut gate));
+    stream.writes_left = 1;
+    assert!(rt; !writer.step_once(rt.alloc(), &mut stream, &mut gate));
+    assert!(rt; stream.taken.as_slice() == BOTH.as_slice());
+    stream.writes_left = 0;
+    let wrote = writer.step(rt.alloc(), &mut stream, &mut gate);
+    came_to(
+        &rt,
+        wrote,
+        Ok(Wrote {
+            bytes: 0,
+            taken: true,
+            closed: true,
+        }),
+    );
+    Ok(())
+}
+
+#[test]
+fn a_prompt_step_at_the_last_step_does_nothing(rt: HostRuntime) -> Result<(), Fail> {
+    let mut gate = gate_of_lists(rt.alloc())?;
+    let mut stream = torn(rt.alloc(), 100, 100);
+    let mut writer = BatchWriter::new(rt.alloc(), 1, 7, 1);
+    assert!(rt; !writer.step_once(rt.alloc(), &mut stream, &mut gate));
+    assert!(rt; stream.writes_left == 100);
+    assert!(rt; gate.lists.len() == 3);
+    Ok(())
+}
+
 /// The faults in the order of their numbers.
 const FAULTS: [LinkFault; 5] = [
     LinkFault::ReadFailed,

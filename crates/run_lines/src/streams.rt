@@ -1,6 +1,6 @@
 //! A link's stream, by what is done with it. That of the clock is at its end, and takes what it is given.
 
-use gate_serving::Closer;
+use gate_serving::{Closer, Prompt};
 use std::io;
 use std::io::{Read, Write};
 use std::sync::atomic::AtomicBool;
@@ -45,6 +45,18 @@ impl<A: Write, C: Write> Write for RunWriter<A, C> {
             RunWriter::Client(stream) => stream.flush(),
             RunWriter::Port(stream) => stream.flush(),
             RunWriter::Clock => Ok(()),
+        }
+    }
+}
+
+impl<A: Prompt, C: Prompt> Prompt for RunWriter<A, C> {
+    ghost did_try = { λ _ _ _ _. Unit {0} };
+
+    fn write_promptly(&mut self, buf: &[u8]) -> io::Result<usize> {
+        match self {
+            RunWriter::Client(stream) => stream.write_promptly(buf),
+            RunWriter::Port(stream) => stream.write_promptly(buf),
+            RunWriter::Clock => Ok(buf.len()),
         }
     }
 }

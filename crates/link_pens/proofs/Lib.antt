@@ -1,0 +1,2 @@
+mod SoFar
+mod Keeping
