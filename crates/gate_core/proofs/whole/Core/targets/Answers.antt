@@ -1,4 +1,4 @@
-use Rattle.std.proofs.Common.{Option, sym, subst, arith}
+use Rattle.std.proofs.Common.{ℕ, Option, sym, subst, arith}
 use Rattle.gate_law.specs.After.{lists}
 use Rattle.gate_law.specs.Promises.{IsAmong}
 use Rattle.order_core.specs.order_machine.Runs.{NumbersLeft}
