@@ -1,4 +1,4 @@
-use Rattle.std.proofs.Common.{◌≡◌, ◌+◌, List, map, true, false, sym, ap, ◌∙◌, arith, subst}
+use Rattle.std.proofs.Common.{◌≡◌, ◌+◌, List, map, true, false, sym, ap, ◌∙◌, subst}
 use Rattle.std.proofs.lemmas.Result.{IfOk-weaker}
 use Rattle.ouch_codec.specs.Inbound.{inbound_bytes}
 use Rattle.ouch_codec.specs.declared.inbound.Inbound.{Inbound}
@@ -22,7 +22,7 @@ returns-clause-sent g c =
       messages = ms;
       due = subst (λ b. AreDue b s p v ms) (sym (comes-up c.args.stood (port_state s p (v.port_calls p)) (sym c.is_up.ensures ∙ c.if-is_up.false) up))
           (subst (λ (xs : List Inbound). EachWith (SaysIn (terms s) v.turns p) (outstanding (terms s) p v.turns) (map inbound_bytes xs)) (sym c.deref.ensures.value)
-          (c.in_ok-messages.ensures (terms s) v.turns (omega arith) parts.orders));
+          (c.in_ok-messages.ensures (terms s) v.turns few parts.orders));
       sent = sent s v parts (λ down. absurd (let clash : true ≡ false = sym up ∙ down in cc));
     })
     c.send.ensures.sent
