@@ -34,6 +34,6 @@ returns-clause-headline g c =
     (λ client id o named. number-of terms before c.args.self.now.table client id o short leaves named)
     (λ order_of leads. asked-found terms before c.args.self.now.table c.args.client (message_fields c.args.message.now) (port_seen c.args.port) order_of short leaves leads)
     meets after in
-    headline-of terms (client_turn c.args.client c.args.message.now c.args.port out ∷ before) c.client_step.new.self.table (omega arith)
+    headline-of terms (client_turn c.args.client c.args.message.now c.args.port out ∷ before) c.client_step.new.self.table (omega (arith, short))
     (parts-of terms (client_turn c.args.client c.args.message.now c.args.port out ∷ before) c.client_step.new.self then_after).0)
     c.client_step.ensures.meets

@@ -21,5 +21,5 @@ returns-clause-after g c =
 pub returns-clause-headline : goal.returns-clause-headline
 returns-clause-headline g c =
     OfTurn-weaker c.args.port (decoded c.args.payload.now) c.market_step.result _ _
-    (λ turn leads terms before short after. headline-of terms _ c.market_step.new.self.table (omega arith) (parts-of terms _ c.market_step.new.self (leads terms before short after)).0)
+    (λ turn leads terms before short after. headline-of terms _ c.market_step.new.self.table (omega (arith, short)) (parts-of terms _ c.market_step.new.self (leads terms before short after)).0)
     (returns-clause-after g c)
