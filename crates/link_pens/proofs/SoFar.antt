@@ -15,7 +15,7 @@ use Rattle.link_io.specs.Writing.{WriterState, Writes, WritesOnce, do_close, lin
 use Rattle.gate_serving.specs.gate_workers.declared.writer.WriterEnd.{WriterEnd}
 use Rattle.gate_serving.specs.gate_workers.declared.writer.WriterEnd.TheVariants.{Closed, Stopped}
 use Rattle.gate_serving.specs.WritersWork.{TellsEnd, WritesLink}
-use Rattle.link_pens.specs.Steps.{end_of}
+use Rattle.link_pens.specs.Steps.{step_end}
 use Rattle.link_pens.specs.Pens.{WritesSoFar}
 
 -- nothing yet
@@ -87,7 +87,7 @@ used_up limit f none e = by_left (limit.left == 0) (rw none at e)
 limit-goes_on : (limit new : Limit) (r : Result Wrote LinkFault) → end_after r ≡ None → refusal limit ≡ None → new ≡ limit_after limit r → new.over ≡ None
 limit-goes_on limit new r ends goes e = ap (λ (l : Limit). l.over) e ∙ rw (goes, ends) refl
 
-still_open : (w : Wrote) (stop : Bool) → end_of (Ok w) stop ≡ None → w.closed ≡ false
+still_open : (w : Wrote) (stop : Bool) → step_end (Ok w) stop ≡ None → w.closed ≡ false
 still_open w stop e = by_closed w.closed refl
   where
     by_closed : (b : Bool) → w.closed ≡ b → w.closed ≡ false
@@ -126,7 +126,7 @@ module _ (n : ℕ) (a b : WriterState) (x y z : List (List LinkOut)) (l m k : Op
     }
 
   -- goes on
-  wrote_on : (r : Result Wrote LinkFault) (stop : Bool) → end_of r stop ≡ None → Writes r a b y z m k → b.limit ≡ limit_after a.limit r → refusal a.limit ≡ None → WritesSoFar n b x z l k
+  wrote_on : (r : Result Wrote LinkFault) (stop : Bool) → step_end r stop ≡ None → Writes r a b y z m k → b.limit ≡ limit_after a.limit r → refusal a.limit ≡ None → WritesSoFar n b x z l k
   wrote_on (Ok w) stop e s limit goes =
       let (none, bytes, taken, closed, empty, untold, unclosed) = s.tells in
       on_with (Ok w) s (none ∙ sym empty) (unclosed ∙ (sym (still_open w stop e) ∙ (closed ∙ closes (Ok w) s))) (limit-goes_on a.limit b.limit (Ok w) refl goes limit)
@@ -139,7 +139,7 @@ module _ (n : ℕ) (a b : WriterState) (x y z : List (List LinkOut)) (l m k : Op
   wrote_on (Err StepLimit) stop e s limit goes = absurd s.tells
 
   -- is over
-  wrote_over : (r : Result Wrote LinkFault) (stop : Bool) (end : Result WriterEnd LinkFault) → end_of r stop ≡ Some end → Writes r a b y z m k → WritesLink n end x z l k
+  wrote_over : (r : Result Wrote LinkFault) (stop : Bool) (end : Result WriterEnd LinkFault) → step_end r stop ≡ Some end → Writes r a b y z m k → WritesLink n end x z l k
   wrote_over (Ok w) stop end e s = by_closed w.closed refl
     where
       all-told : (is : WriterEnd) → TellsEnd (Ok is) w.closed [] → WritesLink n (Ok is) x z l k
@@ -180,7 +180,7 @@ module _ (n : ℕ) (a b : WriterState) (x y z : List (List LinkOut)) (l m k : Op
 
   module _ (r : Result Wrote LinkFault) (stop : Bool) (writes : refusal a.limit ≡ None → Writes r a b y z m k)
       (refused : (f : LinkFault) → refusal a.limit ≡ Some f → (r ≡ Err f) × (k ≡ m) × (z ≡ y)) where
-    pub stepped_on : end_of r stop ≡ None → b.limit ≡ limit_after a.limit r → WritesSoFar n b x z l k
+    pub stepped_on : step_end r stop ≡ None → b.limit ≡ limit_after a.limit r → WritesSoFar n b x z l k
     stepped_on e limit = by_refusal (refusal a.limit) refl
       where
         by_refusal : (v : Option LinkFault) → refusal a.limit ≡ v → WritesSoFar n b x z l k
@@ -189,7 +189,7 @@ module _ (n : ℕ) (a b : WriterState) (x y z : List (List LinkOut)) (l m k : Op
             let is : r ≡ Err StepLimit = (refused f q).0 ∙ ap (λ (v : LinkFault). Err v) (used_up a.limit f h.goes_on q) in
             absurd (let wrong = rw is at e in cc)
 
-    pub stepped_over : (end : Result WriterEnd LinkFault) → end_of r stop ≡ Some end → WritesLink n end x z l k
+    pub stepped_over : (end : Result WriterEnd LinkFault) → step_end r stop ≡ Some end → WritesLink n end x z l k
     stepped_over end e = by_refusal (refusal a.limit) refl
       where
         by_refusal : (v : Option LinkFault) → refusal a.limit ≡ v → WritesLink n end x z l k

@@ -7,12 +7,12 @@ use Rattle.gate_serving.specs.gate_workers.declared.writer.WriterEnd.{WriterEnd}
 use Rattle.gate_serving.specs.gate_workers.declared.writer.WriterEnd.TheVariants.{Closed, Stopped}
 
 -- by the fault, where it ends the link
-abbrev pub faulted : Option LinkFault → Option (Result WriterEnd LinkFault)
-faulted (Some fault) = Some (Err fault)
-faulted None = None
+abbrev pub fault_end : Option LinkFault → Option (Result WriterEnd LinkFault)
+fault_end (Some fault) = Some (Err fault)
+fault_end None = None
 
 -- closed, where the step says so; stopped, where it took nothing and the writer is to stop; by a fault
-abbrev pub end_of : Result Wrote LinkFault → (is_stopped : Bool) → Option (Result WriterEnd LinkFault)
-end_of (Ok w) is_stopped =
+abbrev pub step_end : Result Wrote LinkFault → (is_stopped : Bool) → Option (Result WriterEnd LinkFault)
+step_end (Ok w) is_stopped =
     if w.closed then Some (Ok Closed) else (if is_stopped && not w.taken then Some (Ok Stopped) else None)
-end_of (Err fault) is_stopped = faulted (end_by fault)
+step_end (Err fault) is_stopped = fault_end (end_by fault)

@@ -2,7 +2,7 @@
 
 ghost use Rattle.std.specs.Prelude.{◌≡◌, ◌≤◌, ◌+◌, [], None, Some, true, false, IfOk, IfErr, OnOk};
 ghost use Rattle.gate_serving.specs.Lines.{LineWritten};
-ghost use Rattle.link_pens.specs.Steps.{end_of};
+ghost use Rattle.link_pens.specs.Steps.{step_end};
 ghost use Rattle.link_pens.specs.Pens.{PenKept, SameLink, LinkTried, NothingHeld, Opens, StepsPen};
 
 use crate::link::Link;
@@ -164,7 +164,7 @@ impl<W: Prompt + Drop, G: Gate + Drop> Work<W, G> {
 
 /// How a link ended by a step that came to this, where it did.
 fn ended(wrote: Result<Wrote, LinkFault>, is_stopped: bool) -> Option<Result<WriterEnd, LinkFault>>
-    ensures { result ≡ end_of wrote is_stopped }
+    ensures { result ≡ step_end wrote is_stopped }
 {
     match wrote {
         Ok(wrote) => {
