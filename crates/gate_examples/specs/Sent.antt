@@ -39,6 +39,13 @@ unfolding client_answer port_answer port_state report_issued digits stamp_text c
     price quantity amount amount_of within scaled fraction worth worth_of last_digits
 cancel_is_sent = refl
 
+-- by the port that a batch names: what goes to one port was sent to no other
+other_port : (sent histories.day_ordered_on_a_faulted_port ≡ [])
+    × (sent_since_up settings 2 histories.day_ordered_on_a_faulted_port ≡ enter_message 1 300 ∷ [])
+unfolding client_answer port_answer port_state report_issued digits stamp_text calendar_day day_of_years day_of_months
+    price quantity amount amount_of within scaled fraction worth worth_of last_digits
+other_port = (refl, refl)
+
 -- an order that is entered, and not sent
 abbrev order_unsent : History
 order_unsent =
