@@ -15,7 +15,7 @@ use fix_fields::{Fields, PrintedFields, Text};
 use session_law::{Kind, Logged, Phase};
 use session_reading::{AppBody, AppMsg, due_at};
 use session_writing::{
-    FrameHead, IssuedReport, SessionOut, UndoBodies, append_written, issued_outs, report_of_body,
+    FrameHead, IssuedReport, SessionOut, UndoBodies, append_written, issued_frame, report_of_body,
 };
 use std::alloc::{AllocError, Global};
 use std::marker::Model;
@@ -102,8 +102,8 @@ pub struct SessionTurn {
 /// What issuing a body gives.
 #[derive(Drop)]
 pub struct IssuedTurn {
-    /// What goes to the link: its frame, where the client is logged on.
-    pub turn: SessionTurn,
+    /// What goes to the link: the bytes of its frame, where the client is logged on.
+    pub frame: Option<Vec<u8>>,
     /// The body as it was issued, written or not.
     pub report: IssuedReport,
 }
@@ -115,14 +115,14 @@ impl Session {
     ghost use Rattle.session_law.specs.Expected.{expected};
     ghost use Rattle.session_law.specs.Numbers.{SessionHeadline, given};
     ghost use Rattle.session_law.specs.Table.{asked_number, logon_rows, logged_on_rows, message_number, resets};
-    ghost use Rattle.fix_session.specs.Meets.{Meets, Tells};
+    ghost use Rattle.fix_session.specs.Meets.{IsIssuedSo, Meets, Tells};
     ghost use Rattle.fix_session.specs.Issues as issues;
     ghost use Rattle.fix_session.specs.Issues.{call_of_body};
     ghost use Rattle.session_law.specs.Frames.{frame_fields};
     ghost use Rattle.session_writing.specs.fix_stamp.Stamp.{stamp_text};
     ghost use Rattle.fix_fields.specs.Field.{IsValue};
     ghost use Rattle.session_law.specs.Frames.{told_of_out};
-    ghost use Rattle.session_writing.specs.Written.{told_bytes};
+    ghost use Rattle.session_writing.specs.Written.{told_bytes, told_frame};
     ghost use Rattle.fix_session.specs.Made.{made, resent_outs};
     ghost use Rattle.session_law.specs.Bounds.{MovesLittle};
 
@@ -200,8 +200,9 @@ impl Session {
         body: &AppBody,
         at: u64,
     ) -> Result<IssuedTurn, AllocError>
-        ensures turn { IfOk result (λ issued. Tells self.old.session.gate self.old.session.client issued.turn
-            (turn_after self.old.session at (call_of_body body.now))) }
+        ensures frame { IfOk result (λ issued. told_frame issued.frame
+            ≡ map (told_of_out self.old.session.gate self.old.session.client)
+            (turn_after self.old.session at (call_of_body body.now)).outs) }
         ensures report { IfOk result (λ issued. issued.report
             ≡ frame_fields stamp_text self.old.session.gate self.old.session.client
             (issued_frame self.old.session at (issues.issued_kind body.now) (issues.issued_body body.now))) }
@@ -326,8 +327,8 @@ impl Session {
         body: &PrintedFields,
         at: u64,
     ) -> Result<IssuedTurn, AllocError>
-        ensures meets { IfOk result (λ issued. Meets self.old.session
-            (step self.old.session at (Issue kind body.now)) issued.turn self.new.session) }
+        ensures meets { IfOk result (λ issued. IsIssuedSo self.old.session
+            (step self.old.session at (Issue kind body.now)) issued.frame self.new.session) }
         ensures report { IfOk result (λ issued. issued.report
             ≡ frame_fields stamp_text self.old.session.gate self.old.session.client
             (issued_frame self.old.session at kind body.now)) }
@@ -336,12 +337,11 @@ impl Session {
     {
         let now = self.latest.max(at);
         let report = self.next_report(alloc, kind, body, now)?;
-        let outs = issued_outs(alloc, self.phase, &report)?;
+        let frame = issued_frame(alloc, self.phase, &report)?;
         self.given.keep(kind, body.text(), now)?;
         self.latest = now;
         self.phase = phase_issued(self.phase, now);
-        let turn = SessionTurn { outs, app: None };
-        Ok(IssuedTurn { turn, report })
+        Ok(IssuedTurn { frame, report })
     }
 
     /// The report of a body under the next number, at this time.

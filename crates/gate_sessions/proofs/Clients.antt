@@ -6,7 +6,7 @@ use Rattle.gate_law.specs.session_law.declared.kind.Kind.{Kind}
 use Rattle.gate_law.specs.session_law.Session.{State}
 use Rattle.gate_law.specs.session_law.Runs.{Call, Issue, SessionHistory, Leaves, Timed, call_turn, turn_after, turns_after}
 use Rattle.gate_law.specs.session_law.Runs.{state_after, calls_seen, issued_frame, step}
-use Rattle.gate_law.specs.session_law.Frames.{frame_fields, told_of_out}
+use Rattle.gate_law.specs.session_law.Frames.{ToldLink, frame_fields, told_of_out}
 use Rattle.gate_law.proofs.session_law.Runs.{after-Leaves, Leaves-after}
 use Rattle.gate_law.proofs.session_law.Expects.{Leaves-named}
 use Rattle.fix_session.specs.declared.session.SessionTurn.{SessionTurn}
@@ -56,6 +56,21 @@ client-answers s c calls old at call turn tells is =
           ∙ ap (λ (n : List ℕ). map (told_of_out gate n) (step now at call).outs) named.1;
       app = told.app;
     }
+
+-- and of a body that is issued
+pub client-frame : (s : Settings) (c : ℕ) (calls : List Timed) (old : State) (at : ℕ) (call : Call) (told : List ToldLink)
+    → told ≡ map (told_of_out old.gate old.client) (turn_after old at call).outs → ClientLeaves s c calls old
+    → told ≡ map (told_of_out s.comp (client_name s c)) (client_answer s c calls (at, call)).outs
+unfolding ClientLeaves client_answer turn_after
+client-frame s c calls old at call told tells is =
+    let gate = s.comp in
+    let client = client_name s c in
+    let now = state_after gate client calls in
+    let named = Leaves-named gate client (turns_after gate client calls) now (after-Leaves gate client calls) in
+    let now_told : told ≡ map (told_of_out now.gate now.client) (step now at call).outs = subst (λ (x : State). told ≡ map (told_of_out x.gate x.client) (step x at call).outs) is tells in
+    now_told
+    ∙ ap (λ (g : List ℕ). map (told_of_out g now.client) (step now at call).outs) named.0
+    ∙ ap (λ (n : List ℕ). map (told_of_out gate n) (step now at call).outs) named.1
 
 pub client-reports : (s : Settings) (c : ℕ) (calls : List Timed) (old : State) (at : ℕ) (kind : Kind) (body fields : List Field)
     → fields ≡ frame_fields stamp_text old.gate old.client (issued_frame old at kind body)

@@ -4,7 +4,7 @@ ghost use Rattle.std.specs.Prelude.{◌≡◌, ◌<◌, ◌+◌, ℕ, List, ◌�
 ghost use Rattle.fix_types.specs.Application.{body_fields};
 ghost use Rattle.gate_law.specs.session_law.Runs.{Timed};
 ghost use Rattle.gate_law.specs.session_law.Frames.{told_of_out};
-ghost use Rattle.fix_session.specs.session_writing.Written.{told_bytes};
+ghost use Rattle.fix_session.specs.session_writing.Written.{told_bytes, told_frame};
 ghost use Rattle.gate_law.specs.order_law.Messages.{body_of};
 ghost use Rattle.gate_law.specs.Settings.{Settings, client_name};
 ghost use Rattle.gate_law.specs.Sessions.{client_answer, client_outs, client_reports, issues, report_issued};
@@ -14,7 +14,7 @@ ghost use Rattle.gate_sessions.specs.Lines.{ClientStands, ClientsSettledAs};
 
 use crate::client_line::ClientLine;
 use crate::client_lines::client_issue;
-use fix_session::{IssuedReport, IssuedTurn, SessionOut, SessionTurn};
+use fix_session::{IssuedReport, IssuedTurn, SessionOut};
 use fix_types::AppBody;
 use std::alloc::{AllocError, Global};
 
@@ -54,8 +54,8 @@ pub fn client_issue_all(
     ensures length { length lines.new.items ≡ length lines.old.items }
 {
     let mut all = Issues {
-        reports: Vec::new(alloc),
-        outs: Vec::new(alloc),
+        reports: Vec::with_capacity(alloc, bodies.len())?,
+        outs: Vec::with_capacity(alloc, bodies.len())?,
     };
     for body in bodies {
         issue_one(lines, alloc, place, body, at, &mut all)?;
@@ -87,15 +87,17 @@ fn issue_one(
         → ClientsSettledAs was lines.new.items }
     ensures length { length lines.new.items ≡ length lines.old.items }
 {
-    let IssuedTurn { turn, report } = client_issue(lines, alloc, place, body, at)?;
+    let IssuedTurn { frame, report } = client_issue(lines, alloc, place, body, at)?;
     all.reports.push(report)?;
-    let mut outs = outs_of(turn);
-    all.outs.append(&mut outs)
+    push_frame(&mut all.outs, frame)
 }
 
-/// What goes to the link: an issued body brings no message of the client.
-fn outs_of(turn: SessionTurn) -> Vec<SessionOut>
-    ensures { result ≡ turn.outs }
+/// Appends a frame, where there is one.
+fn push_frame(outs: &mut Vec<SessionOut>, frame: Option<Vec<u8>>) -> Result<(), AllocError>
+    ensures { OnOk result (map told_bytes outs.new.items ≡ map told_bytes outs.old.items ++ told_frame frame) }
 {
-    turn.outs
+    if let Some(bytes) = frame {
+        outs.push(SessionOut::Frame(bytes))?;
+    }
+    Ok(())
 }

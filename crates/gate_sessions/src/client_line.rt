@@ -1,7 +1,9 @@
 //! A client's line: its current link, and its session.
 
-ghost use Rattle.std.specs.Prelude.{◌≡◌, ℕ, List, [], ◌∷◌, Some, None, IfOk, OnOk, OnErr, true, false};
+ghost use Rattle.std.specs.Prelude.{◌≡◌, ℕ, List, [], ◌∷◌, Some, None, IfOk, OnOk, OnErr, map, true, false};
 ghost use Rattle.gate_law.specs.session_law.Runs.{Timed, OnLink, OnMessage, OnTick};
+ghost use Rattle.gate_law.specs.session_law.Frames.{told_of_out};
+ghost use Rattle.fix_session.specs.session_writing.Written.{told_frame};
 ghost use Rattle.gate_law.specs.Settings.{Settings, client_name};
 ghost use Rattle.gate_law.specs.Sessions.{client_answer, report_issued};
 ghost use Rattle.gate_sessions.specs.Leaving.{ClientLeaves, IsClientAnswer, expected_in, issue_call};
@@ -166,7 +168,8 @@ impl ClientLine {
             → ClientLeaves s c (issue_call at body.now ∷ calls) self.new.session.session) }
         ensures answers { IfOk result (λ issued. (s : Settings) (c : ℕ) (calls : List Timed)
             → ClientLeaves s c calls self.old.session.session
-            → IsClientAnswer s c (client_answer s c calls (issue_call at body.now)) issued.turn) }
+            → told_frame issued.frame ≡ map (told_of_out s.comp (client_name s c))
+            (client_answer s c calls (issue_call at body.now)).outs) }
         ensures report { IfOk result (λ issued. (s : Settings) (c : ℕ) (calls : List Timed)
             → ClientLeaves s c calls self.old.session.session
             → report_issued s c calls (issue_call at body.now) ≡ issued.report ∷ []) }

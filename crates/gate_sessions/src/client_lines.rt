@@ -3,7 +3,9 @@
 ghost use Rattle.std.specs.Prelude.{◌≡◌, ◌<◌, ◌+◌, ℕ, List, [], ◌∷◌, Option, Some, None, IfOk, OnOk, OnErr, length};
 ghost use Rattle.std.specs.Prelude.{map, slice_get, slice_set, true, false};
 ghost use Rattle.gate_law.specs.session_law.Runs.{Timed, OnLink, OnMessage, OnTick};
-ghost use Rattle.gate_law.specs.Settings.{Settings};
+ghost use Rattle.gate_law.specs.session_law.Frames.{told_of_out};
+ghost use Rattle.fix_session.specs.session_writing.Written.{told_frame};
+ghost use Rattle.gate_law.specs.Settings.{Settings, client_name};
 ghost use Rattle.gate_law.specs.Sessions.{client_answer, report_issued};
 ghost use Rattle.gate_sessions.specs.Leaving.{ClientLeaves, IsClientAnswer, issue_call};
 ghost use Rattle.gate_sessions.specs.Lines.{ClientsLeave, ClientLinks, called, link_set};
@@ -114,8 +116,8 @@ pub fn client_issue(
         → ClientsLeave s (called (place + 1) (issue_call at body.now) calls) lines.new.items) }
     ensures answers { IfOk result (λ issued. (s : Settings) (calls : ℕ → List Timed)
         → ClientsLeave s calls lines.old.items
-        → IsClientAnswer s (place + 1) (client_answer s (place + 1) (calls (place + 1))
-        (issue_call at body.now)) issued.turn) }
+        → told_frame issued.frame ≡ map (told_of_out s.comp (client_name s (place + 1)))
+        (client_answer s (place + 1) (calls (place + 1)) (issue_call at body.now)).outs) }
     ensures report { IfOk result (λ issued. (s : Settings) (calls : ℕ → List Timed)
         → ClientsLeave s calls lines.old.items
         → report_issued s (place + 1) (calls (place + 1)) (issue_call at body.now) ≡ issued.report ∷ []) }

@@ -1,7 +1,7 @@
 //! A conversation with one session.
 
 use crate::line::Line;
-use crate::shown::{fields_of, from_client, show_turn, with_soh};
+use crate::shown::{fields_of, from_client, show_issued, show_turn, with_soh};
 use fix_framing::{FrameFault, Framer};
 use fix_session::{IssuedTurn, Session, SessionTurn};
 use fix_types::{AppBody, CancelReject, Fields, Report, Text, TextFault, TextWire};
@@ -105,7 +105,7 @@ impl Conversation {
     fn issue_body(&mut self, alloc: Global, body: &AppBody) -> Result<(), AllocError> {
         self.issue_in_vain(alloc, body);
         let issued = self.issue_again(alloc, body)?;
-        show_turn(alloc, &mut self.shown, &issued.turn, self.is_whole)
+        show_issued(alloc, &mut self.shown, &issued, self.is_whole)
     }
 
     /// Issues a body, and that is put back.

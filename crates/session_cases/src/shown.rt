@@ -1,6 +1,6 @@
 //! Fields as they are typed, and outputs as they are shown: `|` for SOH.
 
-use fix_session::{SessionOut, SessionTurn};
+use fix_session::{IssuedTurn, SessionOut, SessionTurn};
 use fix_types::{AppMsg, Fields, TextWire, split};
 use itoa::Buffer;
 use std::alloc::{AllocError, Global};
@@ -91,6 +91,19 @@ pub fn show_turn(
     }
     match &turn.app {
         Some(message) => show_message(alloc, shown, message),
+        None => Ok(()),
+    }
+}
+
+/// What goes to the link of a body that was issued.
+pub fn show_issued(
+    alloc: Global,
+    shown: &mut Vec<u8>,
+    issued: &IssuedTurn,
+    is_whole: bool,
+) -> Result<(), AllocError> {
+    match &issued.frame {
+        Some(bytes) => show_frame(alloc, shown, bytes.as_slice(), is_whole),
         None => Ok(()),
     }
 }

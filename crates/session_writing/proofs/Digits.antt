@@ -1,5 +1,5 @@
 -- Numbers as they are written.
-use Rattle.std.proofs.Common.{◌≡◌, true, ℕ, ◌^◌, ◌<◌, List, [], ◌∷◌, ◌++◌, refl, decimal, codes}
+use Rattle.std.proofs.Common.{ℕ, ◌^◌, ◌<◌, List, [], ◌∷◌, ◌++◌, refl, decimal, codes}
 use Rattle.std.specs.List.{list_all}
 use Rattle.fix_framing.specs.fix_fields.Field.{IsValue, is_inside}
 use Rattle.fix_framing.proofs.fix_fields.Decimals.{inside-decimal}

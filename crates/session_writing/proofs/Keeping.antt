@@ -1,16 +1,14 @@
 -- What is kept stays kept behind other text, and is as it was further on.
 use Rattle.std.proofs.Common.{◌≡◌, ℕ, zero, suc, ◌+◌, ◌-◌, ◌<◌, ◌≤◌, Bool, true, false, List, [], ◌∷◌, ◌++◌, length}
-use Rattle.std.proofs.Common.{get_or, take, drop, map, refl, sym, subst, ap, ◌∙◌, arith, Some, min}
+use Rattle.std.proofs.Common.{get_or, take, drop, map, refl, sym, subst, ap, ◌∙◌, arith, Some}
 use Rattle.std.specs.Prelude.{slice_range, nat_le, ◌&&◌}
 use Rattle.std.specs.List.{list_all}
 use Rattle.std.proofs.lemmas.List.{take-append-le, drop-append-le, length-append, length-drop, map-append, take_all}
 use Rattle.std.proofs.lemmas.List.{take-map, drop-map, take-append-drop, length-take-le}
 use Rattle.std.proofs.lemmas.List.Folds.{list_all-append, list_all_at, list_all_more}
-use Rattle.fix_framing.specs.fix_fields.Field.{Message}
 use Rattle.fix_framing.specs.fix_fields.Printed.{PrintsFields, fields_in, prints_fields}
 use Rattle.fix_framing.proofs.fix_fields.Tags.{and_parts, le_test, le_true}
 use Rattle.session_reading.specs.session_law.declared.kind.Kind.{Kind}
-use Rattle.session_reading.specs.session_law.declared.frame.Kept.{Kept}
 use Rattle.session_reading.specs.session_law.Session.{Slot}
 use Rattle.session_writing.specs.declared.place.KeptPlace.{KeptPlace}
 use Rattle.session_writing.specs.declared.place.KeptPlace.TheVariants as places

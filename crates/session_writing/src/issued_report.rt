@@ -11,10 +11,10 @@ ghost use Rattle.session_reading.specs.session_law.declared.frame.Frame.{Frame};
 ghost use Rattle.session_reading.specs.session_law.declared.frame.Out.TheVariants.{Write};
 ghost use Rattle.session_writing.specs.Heads.{frame_with};
 ghost use Rattle.session_writing.specs.Longest.{longest_report};
-ghost use Rattle.session_writing.specs.Written.{told_bytes};
+ghost use Rattle.session_writing.specs.Written.{told_frame};
 
 use crate::head::FrameHead;
-use crate::output::{SessionOut, printed_frame};
+use crate::output::printed_frame;
 use fix_framing::{Fields, PrintedFields, frame_of_text};
 use session_reading::Phase;
 use std::alloc::{AllocError, Global};
@@ -99,21 +99,18 @@ pub fn report_of_body(
     }
 }
 
-/// What goes to the link of a report: its frame where the client is logged on, nothing elsewhere. Two growths.
-pub fn issued_outs(
+/// What goes to the link of a report: its frame where the client is logged on, nothing elsewhere. One growth.
+pub fn issued_frame(
     alloc: Global,
     phase: Phase,
     report: &IssuedReport,
-) -> Result<Vec<SessionOut>, AllocError>
-    ensures { IfOk result (λ outs. (gate client : List ℕ) (f : Frame)
-        → report.now ≡ frame_fields stamp_text gate client f → map told_bytes outs.items
+) -> Result<Option<Vec<u8>>, AllocError>
+    ensures { IfOk result (λ frame. (gate client : List ℕ) (f : Frame)
+        → report.now ≡ frame_fields stamp_text gate client f → told_frame frame
         ≡ map (told_of_out gate client) (if is_logged_on phase then Write f ∷ [] else [])) }
 {
     match phase {
-        Phase::LoggedOn(_) => {
-            let bytes = frame_of_text(alloc, report.text())?;
-            Ok(vec![in alloc; SessionOut::Frame(bytes)]?)
-        }
-        Phase::Down | Phase::AwaitingLogon(_) => Ok(Vec::new(alloc)),
+        Phase::LoggedOn(_) => Ok(Some(frame_of_text(alloc, report.text())?)),
+        Phase::Down | Phase::AwaitingLogon(_) => Ok(None),
     }
 }

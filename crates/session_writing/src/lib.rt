@@ -17,7 +17,7 @@ pub use bodies::{
     unsupported_body,
 };
 pub use head::FrameHead;
-pub use issued_report::{IssuedReport, issued_outs, report_of_body};
+pub use issued_report::{IssuedReport, issued_frame, report_of_body};
 pub use kept::KeptBodies;
 pub use output::{SessionOut, append_written};
 pub use undo_bodies::UndoBodies;

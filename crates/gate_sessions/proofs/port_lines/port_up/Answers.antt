@@ -1,8 +1,8 @@
-use Rattle.std.proofs.Common.{◌≡◌, ◌≤◌, ◌+◌, ◌==◌, ℕ, Option, Some, ◌∙◌, ap, subst, sym}
+use Rattle.std.proofs.Common.{◌≡◌, ◌≤◌, ◌+◌, Some, ◌∙◌, ap, subst, sym}
 use Rattle.std.proofs.lemmas.Result.{IfOk-weaker}
 use Rattle.gate_law.specs.soup_session.Calls.{next_of}
 use Rattle.gate_sessions.specs.declared.port_line.PortLine.{PortLine}
-use Rattle.gate_sessions.specs.Lines.{PortStands, link_set, port_settled}
+use Rattle.gate_sessions.specs.Lines.{link_set, port_settled}
 use Rattle.gate_sessions.proofs.Places.{each-set, set-here, set-elsewhere}
 use Rattle.gate_sessions.proofs.port_lines.port_up.Goals as goal
 

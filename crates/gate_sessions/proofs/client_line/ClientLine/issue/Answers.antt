@@ -1,7 +1,8 @@
 use Rattle.std.proofs.lemmas.Result.{IfOk-weaker}
+use Rattle.fix_session.specs.session_writing.Written.{told_frame}
 use Rattle.fix_session.specs.Issues.{call_of_body, issued_kind, issued_body}
 use Rattle.gate_sessions.specs.Leaving.{issue_call}
-use Rattle.gate_sessions.proofs.Clients.{client-answers, client-more, client-reports}
+use Rattle.gate_sessions.proofs.Clients.{client-frame, client-more, client-reports}
 use Rattle.gate_sessions.proofs.client_line.ClientLine.issue.Goals as goal
 
 pub returns-clause-leaves : goal.returns-clause-leaves
@@ -10,7 +11,7 @@ returns-clause-leaves c = IfOk-weaker c.issue.result _ _ (λ issued l s k calls.
 
 pub returns-clause-answers : goal.returns-clause-answers
 unfolding issue_call
-returns-clause-answers c = IfOk-weaker c.issue.result _ _ (λ issued t s k calls. client-answers s k calls c.args.self.now.session.session c.args.at (call_of_body c.args.body.now) issued.turn t) (rw c.touch.ensures.session at c.issue.ensures.turn)
+returns-clause-answers c = IfOk-weaker c.issue.result _ _ (λ issued t s k calls. client-frame s k calls c.args.self.now.session.session c.args.at (call_of_body c.args.body.now) (told_frame issued.frame) t) (rw c.touch.ensures.session at c.issue.ensures.frame)
 
 pub returns-clause-report : goal.returns-clause-report
 unfolding issue_call
