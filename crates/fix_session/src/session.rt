@@ -7,15 +7,16 @@ ghost use Rattle.session_law.specs.Table.{is_logged_on};
 
 use crate::answer::answer;
 use crate::draft::{Draft, Resend};
-use crate::issues::{body_of, kind_of};
+use crate::issues::kind_of;
 use crate::judge::{judge, judge_logon};
 use crate::logon::answer_logon;
 use crate::ticks::do_due;
-use fix_fields::{Fields, PrintedFields, Text};
+use fix_fields::{Fields, Text};
 use session_law::{Kind, Logged, Phase};
 use session_reading::{AppBody, AppMsg, due_at};
 use session_writing::{
-    FrameHead, IssuedReport, SessionOut, UndoBodies, append_written, issued_frame, report_of_body,
+    BodyReport, FrameHead, IssuedReport, SessionOut, UndoBodies, append_written, issued_frame,
+    report_of_body,
 };
 use std::alloc::{AllocError, Global};
 use std::marker::Model;
@@ -116,8 +117,8 @@ impl Session {
     ghost use Rattle.session_law.specs.Numbers.{SessionHeadline, given};
     ghost use Rattle.session_law.specs.Table.{asked_number, logon_rows, logged_on_rows, message_number, resets};
     ghost use Rattle.fix_session.specs.Meets.{IsIssuedSo, Meets, Tells};
-    ghost use Rattle.fix_session.specs.Issues as issues;
-    ghost use Rattle.fix_session.specs.Issues.{call_of_body};
+    ghost use Rattle.fix_session.specs.Issues.{call_of_body, issued_kind};
+    ghost use Rattle.session_writing.specs.Issued.{issued_body};
     ghost use Rattle.session_law.specs.Frames.{frame_fields};
     ghost use Rattle.session_writing.specs.fix_stamp.Stamp.{stamp_text};
     ghost use Rattle.fix_fields.specs.Field.{IsValue};
@@ -193,7 +194,7 @@ impl Session {
     }
 
     /// Issues a body: it takes a number and is kept, and is written where the client is logged on. Its text is made
-    /// once: the frame and what is kept are copies of it.
+    /// once, in the report's: the frame and what is kept are copies of it.
     pub fn issue(
         &mut self,
         alloc: Global,
@@ -205,7 +206,7 @@ impl Session {
             (turn_after self.old.session at (call_of_body body.now)).outs) }
         ensures report { IfOk result (λ issued. issued.report
             ≡ frame_fields stamp_text self.old.session.gate self.old.session.client
-            (issued_frame self.old.session at (issues.issued_kind body.now) (issues.issued_body body.now))) }
+            (issued_frame self.old.session at (issued_kind body.now) (issued_body body.now))) }
         ensures leaves { OnOk result ((gate client : List ℕ) (h : SessionHistory)
             → Leaves gate client h self.old.session
             → Leaves gate client (turn_after self.old.session at (call_of_body body.now) ∷ h) self.new.session) }
@@ -216,8 +217,7 @@ impl Session {
         ensures settled { self.new.settled ≡ self.old.settled }
         ensures err { OnErr result (self.new ≡ self.old) }
     {
-        let fields = body_of(alloc, body)?;
-        self.issue_step(alloc, kind_of(body), &fields, at)
+        self.issue_step(alloc, body, at)
     }
 
     /// A frame of the client.
@@ -323,24 +323,25 @@ impl Session {
     fn issue_step(
         &mut self,
         alloc: Global,
-        kind: Kind,
-        body: &PrintedFields,
+        body: &AppBody,
         at: u64,
     ) -> Result<IssuedTurn, AllocError>
         ensures meets { IfOk result (λ issued. IsIssuedSo self.old.session
-            (step self.old.session at (Issue kind body.now)) issued.frame self.new.session) }
+            (step self.old.session at (call_of_body body.now)) issued.frame self.new.session) }
         ensures report { IfOk result (λ issued. issued.report
             ≡ frame_fields stamp_text self.old.session.gate self.old.session.client
-            (issued_frame self.old.session at kind body.now)) }
+            (issued_frame self.old.session at (issued_kind body.now) (issued_body body.now))) }
         ensures settled { self.new.settled ≡ self.old.settled }
         ensures err { OnErr result (self.new ≡ self.old) }
     {
         let now = self.latest.max(at);
-        let report = self.next_report(alloc, kind, body, now)?;
-        let frame = issued_frame(alloc, self.phase, &report)?;
-        self.given.keep(kind, body.text(), now)?;
+        let kind = kind_of(body);
+        let made = self.next_report(alloc, kind, body, now)?;
+        let frame = issued_frame(alloc, self.phase, made.report())?;
+        self.given.keep(kind, made.body(), now)?;
         self.latest = now;
         self.phase = phase_issued(self.phase, now);
+        let report = made.into_report();
         Ok(IssuedTurn { frame, report })
     }
 
@@ -349,11 +350,12 @@ impl Session {
         &self,
         alloc: Global,
         kind: Kind,
-        body: &PrintedFields,
+        body: &AppBody,
         at: u64,
-    ) -> Result<IssuedReport, AllocError>
-        ensures { IfOk result (λ report. report ≡ frame_fields stamp_text self.now.session.gate self.now.session.client
-            (fresh (next_out self.now.session) kind body.now at)) }
+    ) -> Result<BodyReport, AllocError>
+        ensures report { IfOk result (λ made. made.report ≡ frame_fields stamp_text self.now.session.gate
+            self.now.session.client (fresh (next_out self.now.session) kind (issued_body body.now) at)) }
+        ensures body { IfOk result (λ made. made.body ≡ issued_body body.now) }
     {
         let head = FrameHead {
             number: self.last() + 1,
@@ -361,7 +363,7 @@ impl Session {
             at,
             first: None,
         };
-        report_of_body(alloc, self.gate(), self.client(), head, body.text())
+        report_of_body(alloc, self.gate(), self.client(), head, body)
     }
 
     /// A frame of the client. Where it is judged, nothing changes; what it brings is made, and then taken over whole.

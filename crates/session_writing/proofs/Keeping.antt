@@ -17,7 +17,7 @@ use Rattle.session_writing.specs.Keeping.{slot_at, slots_at, is_within, prints_a
 -- ---- behind a text
 
 -- what is written behind a text leaves its parts
-range-append : (text more : List ℕ) (start end : ℕ) → start ≤ end → end ≤ length text → slice_range (text ++ more) start end ≡ slice_range text start end
+pub range-append : (text more : List ℕ) (start end : ℕ) → start ≤ end → end ≤ length text → slice_range (text ++ more) start end ≡ slice_range text start end
 range-append text more start end ordered ends =
     let begins : start ≤ length text = omega (arith, ordered, ends) in
     let size : end - start ≤ length (drop start text) = omega (arith, length-drop start text, ordered, ends) in
@@ -75,7 +75,7 @@ drop-behind (x ∷ front) text n =
     let e : length (x ∷ front) + n ≡ suc (length front + n) = omega arith in
     ap (λ k. drop k (x ∷ (front ++ text))) e ∙ drop-behind front text n
 
-range-further : (front text : List ℕ) (start end : ℕ) → slice_range (front ++ text) (length front + start) (length front + end) ≡ slice_range text start end
+pub range-further : (front text : List ℕ) (start end : ℕ) → slice_range (front ++ text) (length front + start) (length front + end) ≡ slice_range text start end
 range-further front text start end =
     let size : length front + end - (length front + start) ≡ end - start = omega arith in
     ap (λ n. take n (drop (length front + start) (front ++ text))) size ∙ ap (λ (t : List ℕ). take (end - start) t) (drop-behind front text start)
@@ -135,7 +135,7 @@ pub both-kept-at : (text more after : List ℕ) (kept behind room further all : 
 both-kept-at text more after kept behind room further all shift are also s f t r a = rw (t, a, r, f, s) (both-kept text more kept behind are also)
 
 -- one body behind the others
-whole : (body : List ℕ) → slice_range body 0 (length body) ≡ body
+pub whole : (body : List ℕ) → slice_range body 0 (length body) ≡ body
 whole body = let all : length body - 0 ≡ length body = omega arith in ap (λ n. take n body) all ∙ take_all (length body) body (omega arith)
 
 one-kept : (text body : List ℕ) (kept : List KeptPlace) (kind : Kind) (at : ℕ) → ArePlaces text kept → PrintsFields body

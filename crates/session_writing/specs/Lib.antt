@@ -1,4 +1,5 @@
 pub mod Heads
+pub mod Issued
 pub mod Keeping
 pub mod Longest
 pub mod Undoing

@@ -2,19 +2,15 @@
 
 ghost use Rattle.std.specs.Prelude.{◌≡◌, ◌≤◌, ◌↔◌, ◌∷◌, [], ℕ, List, length, map, IfOk, IsSome, IfSome};
 ghost use Rattle.std.specs.Prelude.{if◌then◌else◌};
-ghost use Rattle.fix_framing.specs.fix_fields.Field.{AreFields, IsValue, fields_text};
-ghost use Rattle.fix_framing.specs.fix_fields.Printed.{PrintsFields, fields_in};
+ghost use Rattle.fix_framing.specs.fix_fields.Field.{AreFields, fields_text};
 ghost use Rattle.fix_stamp.specs.Stamp.{stamp_text};
 ghost use Rattle.session_reading.specs.session_law.Frames.{frame_fields, told_of_out};
 ghost use Rattle.session_reading.specs.session_law.Table.{is_logged_on};
 ghost use Rattle.session_reading.specs.session_law.declared.frame.Frame.{Frame};
 ghost use Rattle.session_reading.specs.session_law.declared.frame.Out.TheVariants.{Write};
-ghost use Rattle.session_writing.specs.Heads.{frame_with};
 ghost use Rattle.session_writing.specs.Longest.{longest_report};
 ghost use Rattle.session_writing.specs.Written.{told_frame};
 
-use crate::head::FrameHead;
-use crate::output::printed_frame;
 use fix_framing::{Fields, PrintedFields, frame_of_text};
 use session_reading::Phase;
 use std::alloc::{AllocError, Global};
@@ -74,25 +70,10 @@ impl IssuedReport {
     }
 }
 
-/// The report of a body that is issued, whose fields are this text, between the gateway and a client of these names.
-/// One growth, where the names have 60 bytes at most.
-///
-/// Where it prints in more than `IssuedReport::LONGEST` bytes it is answered as want of memory. No report does, since
-/// its longest texts are those of a frame of 8,192 bytes at most; that isn't proved.
-pub fn report_of_body(
-    alloc: Global,
-    gate: &[u8],
-    client: &[u8],
-    head: FrameHead,
-    body: &[u8],
-) -> Result<IssuedReport, AllocError>
-    requires gate { IsValue gate.now }
-    requires client { IsValue client.now }
-    requires body { PrintsFields body.now }
-    ensures { IfOk result (λ report. report
-        ≡ frame_fields stamp_text gate.now client.now (frame_with head (fields_in body.now))) }
+/// The report of these fields; want of memory where they print in more than `IssuedReport::LONGEST` bytes.
+pub(crate) fn report_in_limit(printed: PrintedFields) -> Result<IssuedReport, AllocError>
+    ensures { IfOk result (λ report. report ≡ printed) }
 {
-    let printed = printed_frame(alloc, gate, client, head, body)?;
     match IssuedReport::of(printed) {
         Some(report) => Ok(report),
         None => Err(AllocError),

@@ -4,6 +4,7 @@
 #![tactic(auto)]
 
 mod bodies;
+mod body_report;
 mod head;
 mod issued_report;
 mod kept;
@@ -16,8 +17,9 @@ pub use bodies::{
     ask_body, echo_body, logon_body, push_number, reject_body, text_body, too_low_body,
     unsupported_body,
 };
+pub use body_report::{BodyReport, report_of_body};
 pub use head::FrameHead;
-pub use issued_report::{IssuedReport, issued_frame, report_of_body};
+pub use issued_report::{IssuedReport, issued_frame};
 pub use kept::KeptBodies;
 pub use output::{SessionOut, append_written};
 pub use undo_bodies::UndoBodies;

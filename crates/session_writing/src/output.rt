@@ -2,7 +2,7 @@
 //!
 //! Source: FIX 4.4 Volume 2, "Standard Message Header".
 
-ghost use Rattle.std.specs.Prelude.{◌≡◌, ◌++◌, ◌∷◌, [], IfOk, OnOk, map, codes, take};
+ghost use Rattle.std.specs.Prelude.{◌≡◌, ◌<◌, ◌^◌, ◌++◌, ◌∷◌, [], IfOk, OnOk, map, codes, take};
 ghost use Rattle.fix_framing.specs.fix_fields.Field.{IsValue, Message, field};
 ghost use Rattle.fix_framing.specs.fix_fields.Printed.{PrintsFields, fields_in};
 ghost use Rattle.fix_stamp.specs.Stamp.{stamp_text};
@@ -120,12 +120,34 @@ pub(crate) fn printed_frame(
     ensures { IfOk result (λ printed. printed
         ≡ frame_fields stamp_text gate.now client.now (frame_with head (fields_in body.now))) }
 {
-    let mut fields = PrintedFields::with_capacity(alloc, ROUND_A_BODY + body.len())?;
     let now = stamp(head.at);
-    push_header(&mut fields, gate, client, head, &now)?;
-    push_again(&mut fields, head.first)?;
+    let mut fields = printed_front(alloc, body.len(), gate, client, head, &now)?;
     fields.append_text(body)?;
     push_issue(&mut fields, head, &now)?;
+    Ok(fields)
+}
+
+/// The fields of a frame before its body, whose moment is written so, in a text with room for a body of so many bytes.
+/// One growth, where the names have 60 bytes at most.
+pub(crate) fn printed_front(
+    alloc: Global,
+    room: usize,
+    gate: &[u8],
+    client: &[u8],
+    head: FrameHead,
+    now: &[u8],
+) -> Result<PrintedFields, AllocError>
+    requires room { room < 2 ^ 63 }
+    requires gate { IsValue gate.now }
+    requires client { IsValue client.now }
+    requires now { now.now ≡ stamp_text head.at }
+    requires value { IsValue now.now }
+    ensures { IfOk result (λ front. front ≡ field 35 (text_of_kind head.kind) ∷ field 49 gate.now ∷ field 56 client.now
+        ∷ number_as_field 34 head.number ∷ field 52 (stamp_text head.at) ∷ again_fields stamp_text head.first) }
+{
+    let mut fields = PrintedFields::with_capacity(alloc, ROUND_A_BODY + room)?;
+    push_header(&mut fields, gate, client, head, now)?;
+    push_again(&mut fields, head.first)?;
     Ok(fields)
 }
 
@@ -166,7 +188,11 @@ fn push_again(fields: &mut PrintedFields, first: Option<u64>) -> Result<(), Allo
 
 /// Adds TransactTime (60) to what was issued: the moment of its issue, which is that of the frame, written so, or the
 /// first one where it is sent again.
-fn push_issue(fields: &mut PrintedFields, head: FrameHead, now: &[u8]) -> Result<(), AllocError>
+pub(crate) fn push_issue(
+    fields: &mut PrintedFields,
+    head: FrameHead,
+    now: &[u8],
+) -> Result<(), AllocError>
     requires now { now.now ≡ stamp_text head.at }
     requires value { IsValue now.now }
     ensures { (body : Message) → OnOk result (fields.new

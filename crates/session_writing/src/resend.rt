@@ -91,7 +91,7 @@ fn append_gap(
 }
 
 /// What stands in a text from one place to another.
-fn part_of(text: &[u8], start: usize, end: usize) -> &[u8]
+pub(crate) fn part_of(text: &[u8], start: usize, end: usize) -> &[u8]
     requires ordered { start ≤ end }
     requires ends { end ≤ length text.now }
     ensures { result.now ≡ slice_range text.now start end }

@@ -1,9 +1,8 @@
-use Rattle.std.proofs.Common.{List, ◌++◌, ◌∷◌, [], ap, ◌∙◌}
-use Rattle.fix_framing.specs.fix_fields.Field.{Field, field}
+use Rattle.std.proofs.Common.{List, ◌++◌, ap, ◌∙◌}
+use Rattle.fix_framing.specs.fix_fields.Field.{Field}
 use Rattle.fix_framing.specs.fix_fields.Printed.{fields_in}
 use Rattle.fix_stamp.specs.Stamp.{stamp_text}
-use Rattle.session_reading.specs.session_law.Messages.{number_as_field}
-use Rattle.session_reading.specs.session_law.Frames.{again_fields, issue_fields, kind_text}
+use Rattle.session_reading.specs.session_law.Frames.{issue_fields}
 use Rattle.session_writing.specs.Heads.{frame_with}
 use Rattle.session_writing.proofs.output.printed_frame.Goals as goal
 
@@ -11,11 +10,6 @@ pub returns : goal.returns
 returns c =
     let head = c.args.head in
     let body = fields_in c.args.body.now in
-    let front : List Field = field 35 (kind_text head.kind) ∷ field 49 c.args.gate.now ∷ field 56 c.args.client.now ∷ number_as_field 34 head.number ∷ field 52 (stamp_text head.at) ∷ [] in
-    let again = again_fields stamp_text head.first in
-    let issue = issue_fields stamp_text (frame_with head body) in
     c.in_ok-push_issue.ensures body
-    ∙ ap (λ (fs : List Field). fs ++ issue) (c.in_ok-append_text.ensures.ok
-    ∙ ap (λ (fs : List Field). fs ++ body) (c.in_ok-push_again.ensures
-    ∙ ap (λ (fs : List Field). fs ++ again) (c.in_ok-push_header.ensures
-    ∙ ap (λ (fs : List Field). fs ++ front) c.in_ok-fields.ensures)))
+    ∙ ap (λ (fs : List Field). fs ++ issue_fields stamp_text (frame_with head body)) (c.in_ok-append_text.ensures.ok
+    ∙ ap (λ (fs : List Field). fs ++ body) c.in_ok-fields.ensures)

@@ -1,7 +1,12 @@
 use Rattle.std.proofs.Common.{◌++◌, ◌∷◌, [], Some, ap, ◌∙◌}
 use Rattle.fix_fields.specs.Field.{Message}
-use Rattle.session_law.specs.Session.{State, fresh, next_out}
+use Rattle.session_law.specs.declared.kind.Kind.{Kind}
+use Rattle.session_law.specs.Frames.{frame_fields}
+use Rattle.session_law.specs.Session.{Slot, State, fresh, next_out}
+use Rattle.session_writing.specs.Issued.{issued_body}
+use Rattle.session_writing.specs.fix_stamp.Stamp.{stamp_text}
 use Rattle.fix_session.specs.Held.{SessionHeld}
+use Rattle.fix_session.specs.Issues.{issued_kind}
 use Rattle.fix_session.proofs.Issuing.{issued}
 use Rattle.fix_session.proofs.session.Session.issue_step.Goals as goal
 
@@ -9,11 +14,19 @@ pub returns-clause-meets : goal.returns-clause-meets
 returns-clause-meets c =
     let old = c.args.self.now.session in
     let inside = c.self.inside in
+    let body = issued_body c.args.body.now in
+    let kind = issued_kind c.args.body.now in
+    let now = c.max-now.result in
     let s : State = record { gate = inside.gate; client = inside.client; phase = inside.phase; expected = inside.expected; given = inside.given.given; latest = inside.latest } in
-    let keeps = c.in_ok-keep.ensures.given ∙ ap (λ (b : Message). inside.given.given ++ Some (record { kind = c.args.kind; body = b; at = c.max-now.result }) ∷ []) c.text.ensures.same in
-    issued s old c.args.at c.args.kind c.args.body.now c.in_ok-frame.frame c.max-now.result c.phase_issued-self-inside.result c.keep.new.self.given
+    let kept : Kind → Message → Slot = λ k b. Some (record { kind = k; body = b; at = now }) in
+    let keeps = c.in_ok-keep.ensures.given
+    ∙ ap (λ (b : Message). inside.given.given ++ kept c.kind_of-kind.result b ∷ []) (c.body.ensures.same ∙ c.in_ok-made.ensures.body)
+    ∙ ap (λ (k : Kind). inside.given.given ++ kept k body ∷ []) c.kind_of-kind.ensures in
+    let report = c.report.ensures ∙ c.in_ok-made.ensures.report
+    ∙ ap (λ (k : Kind). frame_fields stamp_text old.gate old.client (fresh (next_out old) k body now)) c.kind_of-kind.ensures in
+    issued s old c.args.at kind body c.in_ok-frame.frame now c.phase_issued-self-inside.result c.keep.new.self.given
     (ap (λ (h : SessionHeld). h.session) c.self.view_is)
     c.max-now.ensures
     c.phase_issued-self-inside.ensures
     keeps
-    (c.in_ok-frame.ensures old.gate old.client (fresh (next_out old) c.args.kind c.args.body.now c.max-now.result) c.in_ok-report.ensures)
+    (c.in_ok-frame.ensures old.gate old.client (fresh (next_out old) kind body now) report)

@@ -1,6 +1,7 @@
 use Rattle.std.proofs.lemmas.Result.{IfOk-weaker}
 use Rattle.fix_session.specs.session_writing.Written.{told_frame}
-use Rattle.fix_session.specs.Issues.{call_of_body, issued_kind, issued_body}
+use Rattle.fix_session.specs.session_writing.Issued.{issued_body}
+use Rattle.fix_session.specs.Issues.{call_of_body, issued_kind}
 use Rattle.gate_sessions.specs.Leaving.{issue_call}
 use Rattle.gate_sessions.proofs.Clients.{client-frame, client-more, client-reports}
 use Rattle.gate_sessions.proofs.client_line.ClientLine.issue.Goals as goal
