@@ -6,7 +6,8 @@ use Rattle.fix_types.specs.Application.{body_fields}
 use Rattle.ouch_codec.specs.declared.inbound.Inbound.{Inbound}
 use Rattle.ouch_codec.specs.Inbound.{inbound_bytes}
 use Rattle.session_law.specs.Frames.{told_of_out}
-use Rattle.gate_events.specs.session_writing.Written.{told_bytes}
+use Rattle.gate_events.specs.Links.{outs_told_on}
+use Rattle.gate_events.specs.Seen.{link_out_seen}
 use Rattle.soup_session.specs.States.{is_up}
 use Rattle.soup_session.specs.Table as table
 use Rattle.fix_fields.specs.Field.{Message}
@@ -45,7 +46,7 @@ is-asked s n at port message core bodies messages out v first second new is same
       core = core;
       headline = turn.headline;
       only = turn.sends;
-      outs = subst (λ (bs : List Message). map told_bytes out.issues.outs.items ≡ map (told_of_out s.comp (client_name s n)) (client_outs s n (v.client_calls n) (issues at bs))) bodies_are issued.outs;
+      outs = subst (λ (bs : List Message). map link_out_seen out.issues.outs.items ≡ outs_told_on (v.client_link n) (map (told_of_out s.comp (client_name s n)) (client_outs s n (v.client_calls n) (issues at bs)))) bodies_are issued.outs;
       reports = subst (λ (bs : List Message). out.issues.reports.items ≡ client_reports s n (v.client_calls n) (issues at bs)) bodies_are issued.reports;
       bodies_are = issued.bodies_are ∙ bodies_are;
       port_outs_are = all.outs_are

@@ -7,7 +7,7 @@ use Rattle.fix_types.specs.declared.application.AppMsg.{AppMsg}
 use Rattle.fix_types.specs.Application.{message_fields}
 use Rattle.session_law.specs.Frames.{ToldLink, told_of_out}
 use Rattle.session_law.specs.Runs.{Timed, OnMessage}
-use Rattle.gate_events.specs.session_writing.Written.{told_bytes}
+use Rattle.gate_events.specs.Seen.{link_out_seen}
 use Rattle.soup_session.specs.declared.port_state.PortState.{PortState}
 use Rattle.soup_session.specs.declared.port_state.PortState.TheVariants.{Down, LoggingIn, Up, Ended, Faulted}
 use Rattle.soup_session.specs.States.{is_open, is_up}
@@ -117,7 +117,7 @@ pub asked-step : {S H : Type 0} (s : Settings) (v : Lists) (mid new : Parts S H)
     → AreOpenOnLinks s v
     → (asked : IsAsked s n at message out (client_called n (at, OnMessage frame) v) mid)
     → (let x = after_turn s n at (orders_turn_of s n message asked.core v) (client_called n (at, OnMessage frame) v) in
-    client_out ≡ outs_told_on (x.client_link n) first ++ outs_told_on (x.client_link n) (map told_bytes out.issues.outs.items)
+    client_out ≡ outs_told_on (x.client_link n) first ++ map link_out_seen out.issues.outs.items
     → port_out ≡ to_port (x.port_link (port_of s n)) out.port_outs.items ++ to_port (x.port_link (port_of s n)) []
     → ClientsLeave s x.client_calls new.clients.items → ClientLinks (unlinked n client_out x.client_link) new.clients.items → length new.clients.items ≡ length mid.clients.items
     → PortsLeave s x.port_calls new.ports.items → PortLinks (unlinked (port_of s n) port_out x.port_link) new.ports.items → length new.ports.items ≡ length mid.ports.items
@@ -146,10 +146,10 @@ asked-step s v mid new n link at frame message out first client_out port_out hav
     record {
       gives = record {
         client_out = told_lines
-            ∙ ap (λ (l : ℕ → Option ℕ). outs_told_on (l n) first ++ outs_told_on (l n) (map told_bytes out.issues.outs.items)) (client-links-stay s n at t w)
-            ∙ client-told s n (v.client_link n) _ first (map told_bytes out.issues.outs.items) (client_answer s n (v.client_calls n) call).outs
+            ∙ ap (λ (l : ℕ → Option ℕ). outs_told_on (l n) first ++ map link_out_seen out.issues.outs.items) (client-links-stay s n at t w)
+            ∙ client-told s n (v.client_link n) _ first (map link_out_seen out.issues.outs.items) (client_answer s n (v.client_calls n) call).outs
             (client_outs s n (call ∷ v.client_calls n) (issues at t.bodies)) refl said
-            (asked.outs ∙ ap (λ (calls : List Timed). map (told_of_out s.comp (client_name s n)) (client_outs s n calls (issues at t.bodies))) (own-call n call v))
+            (asked.outs ∙ ap (λ (calls : List Timed). outs_told_on (v.client_link n) (map (told_of_out s.comp (client_name s n)) (client_outs s n calls (issues at t.bodies)))) (own-call n call v))
             ∙ ap (λ (y : Outcome). to_client_of s y v) (sym is);
         reports = asked.reports
             ∙ ap (λ (calls : List Timed). client_reports s n calls (issues at t.bodies)) (own-call n call v)

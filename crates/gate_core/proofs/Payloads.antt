@@ -11,7 +11,7 @@ use Rattle.soup_session.specs.Faults.{fault_number}
 use Rattle.soup_session.specs.declared.port_turn.PortOut.{PortOut}
 use Rattle.soup_session.specs.States.{is_up}
 use Rattle.soup_session.specs.Table as table
-use Rattle.gate_events.specs.session_writing.Written.{told_bytes}
+use Rattle.gate_events.specs.Seen.{link_out_seen}
 use Rattle.gate_sessions.specs.order_law.Headline.{Headline}
 use Rattle.fix_fields.specs.Field.{Message}
 use Rattle.gate_sessions.specs.order_law.Messages.{body_of}
@@ -25,7 +25,7 @@ use Rattle.gate_law.specs.Outcome.{outcome}
 use Rattle.gate_law.specs.After.{lists_after, links_closed, with_outcome}
 use Rattle.gate_law.specs.Due.{to_client_of, to_port_of, reports_of}
 use Rattle.gate_law.specs.Promises.{Asks, AsksAgain, comes_up}
-use Rattle.gate_sessions.specs.declared.client_bodies.Issues.{Issues}
+use Rattle.gate_events.specs.declared.issuing.Issues.{Issues}
 use Rattle.gate_sessions.specs.Lines.{ClientsLeave, ClientLinks, PortsLeave, PortLinks}
 use Rattle.gate_core.specs.declared.parts.Parts.{Parts}
 use Rattle.gate_events.specs.Links.{outs_told_on, unlinked}
@@ -140,7 +140,7 @@ module _ {S H : Type 0} (s : Settings) (p link at : ℕ) (packet : Packet) (payl
       → PayloadIsTold s p payload (Some q) bs (port_called p hears v) first
       → IsIssued s n at bs out (turned (Some (heard_turn p payload n bs None)) (port_called p hears v)) mid
       → (let x : Lists = client_called_all n (issues at bs) (turned (Some (heard_turn p payload n bs None)) (port_called p hears v)) in
-      client_out ≡ outs_told_on (x.client_link n) (map told_bytes out.outs.items) ++ outs_told_on (x.client_link n) (map told_bytes [])
+      client_out ≡ outs_told_on (x.client_link n) [] ++ map link_out_seen out.outs.items
       → port_out ≡ to_port (x.port_link p) said ++ to_port (x.port_link p) []
       → ClientsLeave s x.client_calls new.clients.items → ClientLinks (unlinked n client_out x.client_link) new.clients.items → length new.clients.items ≡ length mid.clients.items
       → PortsLeave s x.port_calls new.ports.items → PortLinks (unlinked p port_out x.port_link) new.ports.items → length new.ports.items ≡ length mid.ports.items
@@ -161,9 +161,8 @@ module _ {S H : Type 0} (s : Settings) (p link at : ℕ) (packet : Packet) (payl
       ap (λ (o : Outcome). links_closed b (with_outcome o v)) is
       ∙ ap (links_closed b) (ap (port_called p hears) (client-called-is n (issues at bs) y) ∙ sym x_is) in
       let their_lines = lines
-      ∙ ap (λ (w : Lists). outs_told_on (w.client_link n) (map told_bytes out.outs.items) ++ outs_told_on (w.client_link n) (map told_bytes [])) x_is
-      ∙ client-told s n (v.client_link n) _ (map told_bytes out.outs.items) (map told_bytes []) (client_outs s n (v.client_calls n) (issues at bs)) [] refl issued.outs refl
-      ∙ ap (to_client s n (v.client_link n)) (append-nil (client_outs s n (v.client_calls n) (issues at bs))) in
+      ∙ ap (λ (w : Lists). outs_told_on (w.client_link n) [] ++ map link_out_seen out.outs.items) x_is
+      ∙ client-told s n (v.client_link n) _ [] (map link_out_seen out.outs.items) [] (client_outs s n (v.client_calls n) (issues at bs)) refl refl issued.outs in
       let its_packets = packets-of port_out (packets ∙ ap (λ (w : Lists). to_port (w.port_link p) said ++ to_port (w.port_link p) []) x_is) in
       record {
         gives = record {

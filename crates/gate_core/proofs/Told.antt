@@ -24,17 +24,22 @@ to-client-append : (s : Settings) (c : ℕ) (link : Option ℕ) (xs ys : List Ou
 to-client-append s c None xs ys = refl
 to-client-append s c (Some link) xs ys = map-append (λ (out : Out). to_link link (told_of_out s.comp (client_name s c) out)) xs ys
 
--- a client's link is told what its session said in one call and in others
-pub client-told : (s : Settings) (c : ℕ) (link : Option ℕ) (outs : List LinkOut) (first rest : List ToldLink) (xs ys : List Out)
-    → outs ≡ outs_told_on link first ++ outs_told_on link rest → first ≡ map (told_of_out s.comp (client_name s c)) xs → rest ≡ map (told_of_out s.comp (client_name s c)) ys
+-- a client's link is told what its session said in one call, and what it is told of others
+pub client-told : (s : Settings) (c : ℕ) (link : Option ℕ) (outs : List LinkOut) (first : List ToldLink) (rest : List LinkOut) (xs ys : List Out)
+    → outs ≡ outs_told_on link first ++ rest → first ≡ map (told_of_out s.comp (client_name s c)) xs → rest ≡ outs_told_on link (map (told_of_out s.comp (client_name s c)) ys)
     → outs ≡ to_client s c link (xs ++ ys)
 client-told s c link outs first rest xs ys are is_first is_rest =
     are
-    ∙ ap (λ (x : List ToldLink). outs_told_on link x ++ outs_told_on link rest) is_first
-    ∙ ap (λ (y : List ToldLink). outs_told_on link (map (told_of_out s.comp (client_name s c)) xs) ++ outs_told_on link y) is_rest
+    ∙ ap (λ (x : List ToldLink). outs_told_on link x ++ rest) is_first
+    ∙ ap (λ (y : List LinkOut). outs_told_on link (map (told_of_out s.comp (client_name s c)) xs) ++ y) is_rest
     ∙ ap (λ (x : List LinkOut). x ++ outs_told_on link (map (told_of_out s.comp (client_name s c)) ys)) (told-to-client s c link xs)
     ∙ ap (λ (y : List LinkOut). to_client s c link xs ++ y) (told-to-client s c link ys)
     ∙ sym (to-client-append s c link xs ys)
+
+-- nothing more is nothing on a link
+pub nothing-on : (link : Option ℕ) → [] ≡ outs_told_on link []
+nothing-on None = refl
+nothing-on (Some link) = refl
 
 pub to-port-append : (link : Option ℕ) (xs ys : List PortOut) → to_port link (xs ++ ys) ≡ to_port link xs ++ to_port link ys
 to-port-append None xs ys = refl

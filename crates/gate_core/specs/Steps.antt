@@ -30,7 +30,9 @@ use Rattle.gate_law.specs.Sessions.{client_reports, port_outs}
 use Rattle.gate_law.specs.After.{lists_after}
 use Rattle.gate_law.specs.Due.{Gives}
 use Rattle.gate_law.specs.Promises.{Asks}
-use Rattle.gate_sessions.specs.declared.client_bodies.Issues.{Issues}
+use Rattle.gate_events.specs.declared.issuing.Issues.{Issues}
+use Rattle.gate_events.specs.Links.{outs_told_on}
+use Rattle.gate_events.specs.Seen.{link_out_seen}
 use Rattle.gate_sessions.specs.Lines.{NextWithin}
 use Rattle.gate_sessions.specs.Lines.{ClientStands, ClientsSettledAs, PortStands, PortsSettledAs}
 use Rattle.gate_core.specs.declared.parts.Parts.{Parts}
@@ -104,8 +106,8 @@ pub record IsTurn {S H : Type 0} (s : Settings) (client : ℕ) (message : AppMsg
 pub record IsIssued {S H : Type 0} (s : Settings) (client at : ℕ) (bodies : List Message) (out : Issues) (v : Lists)
     (new : Parts S H) : Type 0 where
   pub parts : ArePartsOf s (client_called_all client (issues at bodies) v) new
-  pub outs : map told_bytes out.outs.items ≡ map (told_of_out s.comp (client_name s client))
-      (client_outs s client (v.client_calls client) (issues at bodies))
+  pub outs : map link_out_seen out.outs.items ≡ outs_told_on (v.client_link client)
+      (map (told_of_out s.comp (client_name s client)) (client_outs s client (v.client_calls client) (issues at bodies)))
   pub reports : out.reports.items ≡ client_reports s client (v.client_calls client) (issues at bodies)
   pub bodies_are : map body_of out.reports.items ≡ bodies
 
@@ -122,14 +124,16 @@ abbrev pub after_turn : Settings → ℕ → ℕ → orders.OrderTurn → Lists 
 after_turn s client at t v = port_called_all (port_of s client) (sends at t.sends)
     (client_called_all client (issues at t.bodies) (turned (Some t) v))
 
--- What a message that a client's session delivered comes to: `out` has what the client's session and its port's say.
+-- What a message that a client's session delivered comes to: `out` has what the client's link is told, and what its
+-- port's session says.
 pub record IsAsked {S H : Type 0} (s : Settings) (client at : ℕ) (message : AppMsg) (out : Asked) (v : Lists)
     (new : Parts S H) : Type 0 where
   pub core : CoreOut
   pub headline : Headline (terms s) (orders_turn_of s client message core v ∷ v.turns)
   pub only : OnlyWhileUp s (port_of s client) v (map inbound_bytes core.sends.items)
-  pub outs : map told_bytes out.issues.outs.items ≡ map (told_of_out s.comp (client_name s client))
-      (client_outs s client (v.client_calls client) (issues at (map body_fields core.bodies.items)))
+  pub outs : map link_out_seen out.issues.outs.items ≡ outs_told_on (v.client_link client)
+      (map (told_of_out s.comp (client_name s client))
+      (client_outs s client (v.client_calls client) (issues at (map body_fields core.bodies.items))))
   pub reports : out.issues.reports.items ≡ client_reports s client (v.client_calls client)
       (issues at (map body_fields core.bodies.items))
   pub bodies_are : map body_of out.issues.reports.items ≡ map body_fields core.bodies.items

@@ -1,2 +1,3 @@
 mod Closing
+mod OnLinks
 mod Sources

@@ -7,6 +7,7 @@
 mod batch;
 mod client_frame;
 mod event;
+mod issuing;
 mod link_outs;
 mod links;
 mod number;
@@ -19,6 +20,7 @@ pub use batch::{Batch, LinkOut};
 pub use client_frame::ClientFrame;
 pub use event::Event;
 pub use gate_sessions::{IssuedReport, SessionOut, SessionTurn, push_number};
+pub use issuing::{Issues, client_issue_all};
 pub use link_outs::closes_link;
 pub use links::{only_outs, told_client, told_port};
 pub use number::{ClientNumber, PortNumber};

@@ -12,8 +12,29 @@ use gate_sessions::SessionOut;
 use soup_session::{PortOut, WholeWire};
 use std::alloc::{AllocError, Global};
 
+/// What a client's session said, onto its link where there is one, and then these. Takes no memory where it said
+/// nothing.
+pub(crate) fn told_first(
+    alloc: Global,
+    link: Option<u64>,
+    first: Vec<SessionOut>,
+    rest: Vec<LinkOut>,
+) -> Result<Vec<LinkOut>, AllocError>
+    ensures { IfOk result (λ outs. map link_out_seen outs.items
+        ≡ outs_told_on link (map told_bytes first.items) ++ map link_out_seen rest.items) }
+{
+    if first.is_empty() {
+        return Ok(rest);
+    }
+    let mut outs = Vec::new(alloc);
+    tell_client(link, first, &mut outs)?;
+    let mut rest = rest;
+    outs.append(&mut rest)?;
+    Ok(outs)
+}
+
 /// What a client's session said goes onto its link, where there is one.
-pub(crate) fn tell_client(
+fn tell_client(
     link: Option<u64>,
     outs: Vec<SessionOut>,
     to: &mut Vec<LinkOut>,

@@ -12,23 +12,23 @@ ghost use Rattle.gate_events.specs.Seen.{link_out_seen};
 ghost use Rattle.gate_events.specs.Links.{outs_told_on, unlinked};
 
 use crate::batch::LinkOut;
-use crate::link_outs::{closes_link, tell_client, tell_port};
+use crate::link_outs::{closes_link, tell_port, told_first};
 use gate_sessions::{ClientLine, PortLine, SessionOut, SessionTurn, client_close, port_close};
 use soup_session::PortOut;
 use std::alloc::{AllocError, Global};
 
-/// Tells the link of the client at a place what its session said in one call and then in others.
+/// Tells the link of the client at a place what its session said in one call, and then what it is to be told of others.
 pub fn told_client(
     lines: &mut Vec<ClientLine>,
     alloc: Global,
     place: usize,
     first: Vec<SessionOut>,
-    rest: Vec<SessionOut>,
+    rest: Vec<LinkOut>,
 ) -> Result<Vec<LinkOut>, AllocError>
     requires place { place < length lines.old.items }
     ensures outs { IfOk result (λ outs. (links : ℕ → Option ℕ) → ClientLinks links lines.old.items
         → map link_out_seen outs.items ≡ outs_told_on (links (place + 1)) (map told_bytes first.items)
-        ++ outs_told_on (links (place + 1)) (map told_bytes rest.items)) }
+        ++ map link_out_seen rest.items) }
     ensures leave { (s : Settings) (calls : ℕ → List Timed) → ClientsLeave s calls lines.old.items
         → ClientsLeave s calls lines.new.items }
     ensures links { IfOk result (λ outs. (links : ℕ → Option ℕ) → ClientLinks links lines.old.items
@@ -38,9 +38,7 @@ pub fn told_client(
     ensures length { length lines.new.items ≡ length lines.old.items }
 {
     let link = lines[place].link;
-    let mut outs = Vec::new(alloc);
-    tell_client(link, first, &mut outs)?;
-    tell_client(link, rest, &mut outs)?;
+    let outs = told_first(alloc, link, first, rest)?;
     close_client(lines, place, &outs);
     Ok(outs)
 }

@@ -4,4 +4,4 @@ mod Places
 mod Ports
 mod Sending
 mod Settling
-mod Several
+pub mod Several

@@ -4,7 +4,6 @@
 //! calls each session has had, and which link is current.
 #![tactic(auto)]
 
-mod client_bodies;
 mod client_line;
 mod client_lines;
 mod laws;
@@ -12,13 +11,13 @@ mod port_line;
 mod port_lines;
 mod port_messages;
 
-pub use client_bodies::{Issues, client_issue_all};
 pub use client_line::ClientLine;
 pub use client_lines::{
     client_close, client_frame, client_gone, client_issue, client_tick, client_up, clients_settle,
     clients_undo,
 };
-pub use fix_session::{IssuedReport, SessionOut, SessionTurn, push_number};
+pub use fix_session::{IssuedReport, IssuedTurn, SessionOut, SessionTurn, push_number};
+pub use fix_types::AppBody;
 pub use gate_law::Fields;
 pub use laws::issues_are_what_is_reported;
 pub use port_line::PortLine;

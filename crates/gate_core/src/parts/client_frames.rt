@@ -14,9 +14,10 @@ use super::Parts;
 use super::client_messages::Asked;
 use fix_types::AppMsg;
 use gate_events::{
-    Batch, ClientFrame, ClientNumber, PortNumber, SessionOut, SessionTurn, told_client, told_port,
+    Batch, ClientFrame, ClientNumber, Issues, PortNumber, SessionOut, SessionTurn, told_client,
+    told_port,
 };
-use gate_sessions::{Issues, client_frame};
+use gate_sessions::client_frame;
 use std::alloc::{AllocError, Global};
 use std::hash::BuildHasher;
 

@@ -13,7 +13,8 @@ ghost use Rattle.gate_core.specs.Steps.{Grows, IsAsked, IsIssued, IsSent, IsTurn
 
 use super::Parts;
 use fix_types::{AppBody, AppMsg};
-use gate_sessions::{Issues, client_issue_all, port_send_all};
+use gate_events::{Issues, client_issue_all};
+use gate_sessions::port_send_all;
 use order_core::{CoreOut, PortState};
 use ouch_codec::Inbound;
 use soup_session::PortOut;

@@ -21,8 +21,8 @@ ghost use Rattle.gate_core.specs.Steps.{Stepped};
 
 use super::{Parts, place_of};
 use fix_types::AppBody;
-use gate_events::{Batch, ClientNumber, PortNumber, told_client, told_port};
-use gate_sessions::{Issues, port_fail};
+use gate_events::{Batch, ClientNumber, Issues, PortNumber, told_client, told_port};
+use gate_sessions::port_fail;
 use order_core::{MarketError, MarketFault};
 use soup_session::{PortFault, PortOut, PortState};
 use std::alloc::{AllocError, Global};
@@ -124,7 +124,7 @@ impl<S: BuildHasher + Drop> Parts<S> {
         ensures grows { Grows 0 0 self.old self.new }
     {
         let Issues { reports, outs } = self.issue(alloc, client, bodies, at)?;
-        let client_out = told_client(&mut self.clients, alloc, client, outs, Vec::new(alloc))?;
+        let client_out = told_client(&mut self.clients, alloc, client, Vec::new(alloc), outs)?;
         let port_out = told_port(&mut self.ports, alloc, place, said, &[])?;
         let (client, port) = (ClientNumber::at_place(client), PortNumber::at_place(place));
         Ok(Batch::of_parts(client, reports, client_out, port, port_out, None))

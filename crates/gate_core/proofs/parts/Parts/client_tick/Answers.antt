@@ -1,4 +1,5 @@
 use Rattle.gate_events.specs.session_writing.declared.output.SessionOut.{SessionOut}
+use Rattle.gate_events.specs.declared.batch.LinkOut.{LinkOut}
 use Rattle.std.proofs.Common.{Vec, Global, ◌≡◌, ◌+◌, ℕ, List, map, true, None, [], refl, sym, ap, ◌∙◌, subst}
 use Rattle.session_law.specs.Runs.{OnTick}
 use Rattle.gate_events.specs.session_writing.Written.{told_bytes}
@@ -10,7 +11,7 @@ use Rattle.gate_core.specs.declared.parts.Parts.{Parts}
 use Rattle.gate_events.specs.Seen.{link_out_seen}
 use Rattle.gate_core.specs.Steps.{Stepped}
 use Rattle.gate_events.specs.Batches.{batch_of}
-use Rattle.gate_core.proofs.Told.{client-told}
+use Rattle.gate_core.proofs.Told.{client-told, nothing-on}
 use Rattle.gate_core.proofs.ClientLinks.{client-tick}
 use Rattle.gate_core.proofs.Growing.{clients-grow}
 use Rattle.gate_core.proofs.parts.Parts.client_tick.Goals as goal
@@ -31,10 +32,10 @@ returns-clause-step g c s v ready =
     (client-tick s v c.args.self.now new n c.args.at outs
     (subst (λ (m : ℕ). has_client s m ≡ true) is (sym (c.in-Some.ensures.known s v ready.parts)))
     ready
-    (client-told s n (v.client_link n) outs (map told_bytes c.only_outs-said.result.items) (map told_bytes c.new.result.items)
+    (client-told s n (v.client_link n) outs (map told_bytes c.only_outs-said.result.items) (map link_out_seen c.new.result.items)
     (client_answer s n (v.client_calls n) (c.args.at, OnTick)).outs [] said
     (ap (λ (x : Vec SessionOut Global). map told_bytes x.items) c.only_outs-said.ensures ∙ answer.outs)
-    (ap (λ (xs : List SessionOut). map told_bytes xs) c.new.ensures.items))
+    (ap (λ (xs : List LinkOut). map link_out_seen xs) c.new.ensures.items ∙ nothing-on (v.client_link n)))
     (c.told_client.ensures.leave s (called n (c.args.at, OnTick) v.client_calls) (c.in_ok-client_tick.ensures.leave s v.client_calls ready.parts.clients))
     (c.in_ok-outs.ensures.links v.client_link links)
     (c.told_client.ensures.length ∙ c.client_tick.ensures.length) refl refl refl))

@@ -43,7 +43,7 @@ returns-clause-step it c s v link packet payload g given told =
     let client_out = map link_out_seen c.in_ok-client_out.client_out.items in
     let port_out = map link_out_seen c.in_ok-port_out.port_out.items in
     let lines = c.in_ok-client_out.ensures.outs x.client_link issued.parts.client_links
-    ∙ ap (λ (xs : List SessionOut). outs_told_on (x.client_link n) (map frames out.outs.items) ++ outs_told_on (x.client_link n) (map frames xs)) c.new.ensures.items in
+    ∙ ap (λ (xs : List SessionOut). outs_told_on (x.client_link n) (map frames xs) ++ map link_out_seen out.outs.items) c.new.ensures.items in
     subst (λ (b : Batch). Stepped s (PortPacket p link c.args.at packet) b v new)
     (sym (c.of_parts.ensures
     ∙ ap (λ (k : ℕ). batch_of k out.reports.items client_out c.at_place-port.result port_out None) c.at_place-client.ensures

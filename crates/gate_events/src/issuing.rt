@@ -1,21 +1,22 @@
-//! Several bodies issued on the client's line at a place, one after another.
+//! Several bodies issued on the client's line at a place, one after another, as its link is told them.
 
 ghost use Rattle.std.specs.Prelude.{◌≡◌, ◌<◌, ◌+◌, ℕ, List, ◌∷◌, [], ◌++◌, Option, IfOk, OnOk, length, map};
-ghost use Rattle.fix_types.specs.Application.{body_fields};
-ghost use Rattle.gate_law.specs.session_law.Runs.{Timed};
-ghost use Rattle.gate_law.specs.session_law.Frames.{told_of_out};
-ghost use Rattle.fix_session.specs.session_writing.Written.{told_bytes, told_frame};
-ghost use Rattle.gate_law.specs.order_law.Messages.{body_of};
-ghost use Rattle.gate_law.specs.Settings.{Settings, client_name};
-ghost use Rattle.gate_law.specs.Sessions.{client_answer, client_outs, client_reports, issues, report_issued};
+ghost use Rattle.gate_sessions.specs.Application.{body_fields};
+ghost use Rattle.gate_sessions.specs.session_law.Runs.{Timed};
+ghost use Rattle.gate_sessions.specs.session_law.Frames.{told_of_out};
+ghost use Rattle.gate_sessions.specs.session_writing.Written.{told_frame};
+ghost use Rattle.gate_sessions.specs.Messages.{body_of};
+ghost use Rattle.gate_sessions.specs.Settings.{Settings, client_name};
+ghost use Rattle.gate_sessions.specs.Sessions.{client_answer, client_outs, client_reports, issues, report_issued};
+ghost use Rattle.gate_sessions.specs.Sessions.{to_link};
 ghost use Rattle.gate_sessions.specs.Leaving.{issue_call};
 ghost use Rattle.gate_sessions.specs.Lines.{ClientsLeave, ClientLinks, called, called_all};
 ghost use Rattle.gate_sessions.specs.Lines.{ClientStands, ClientsSettledAs};
+ghost use Rattle.gate_events.specs.Seen.{link_out_seen};
+ghost use Rattle.gate_events.specs.Links.{outs_told_on};
 
-use crate::client_line::ClientLine;
-use crate::client_lines::client_issue;
-use fix_session::{IssuedReport, IssuedTurn, SessionOut};
-use fix_types::AppBody;
+use crate::batch::LinkOut;
+use gate_sessions::{AppBody, ClientLine, IssuedReport, IssuedTurn, client_issue};
 use std::alloc::{AllocError, Global};
 
 /// What comes of bodies that are issued to one client.
@@ -23,11 +24,11 @@ use std::alloc::{AllocError, Global};
 pub struct Issues {
     /// Each body, in order, as it was issued, be its frame written or not: the fields from MsgType (35) on.
     pub reports: Vec<IssuedReport>,
-    /// What goes to the client's link, in order.
-    pub outs: Vec<SessionOut>,
+    /// What the client's link is told, in order.
+    pub outs: Vec<LinkOut>,
 }
 
-/// Issues bodies, in their order, each once, and gives what is reported of each and what goes to the link.
+/// Issues bodies, in their order, each once, and gives what is reported of each and what the current link is told.
 ///
 /// `AllocError` leaves every link and the number of lines as they were; how many of the bodies were issued isn't said.
 pub fn client_issue_all(
@@ -40,9 +41,11 @@ pub fn client_issue_all(
     requires place { place < length lines.old.items }
     ensures leave { OnOk result ((s : Settings) (calls : ℕ → List Timed) → ClientsLeave s calls lines.old.items
         → ClientsLeave s (called_all (place + 1) (issues at (map body_fields bodies.now)) calls) lines.new.items) }
-    ensures outs { IfOk result (λ all. (s : Settings) (calls : ℕ → List Timed) → ClientsLeave s calls lines.old.items
-        → map told_bytes all.outs.items ≡ map (told_of_out s.comp (client_name s (place + 1)))
-        (client_outs s (place + 1) (calls (place + 1)) (issues at (map body_fields bodies.now)))) }
+    ensures outs { IfOk result (λ all. (s : Settings) (calls : ℕ → List Timed) (links : ℕ → Option ℕ)
+        → ClientsLeave s calls lines.old.items → ClientLinks links lines.old.items
+        → map link_out_seen all.outs.items ≡ outs_told_on (links (place + 1))
+        (map (told_of_out s.comp (client_name s (place + 1)))
+        (client_outs s (place + 1) (calls (place + 1)) (issues at (map body_fields bodies.now))))) }
     ensures reports { IfOk result (λ all. (s : Settings) (calls : ℕ → List Timed) → ClientsLeave s calls lines.old.items
         → all.reports.items ≡ client_reports s (place + 1) (calls (place + 1))
         (issues at (map body_fields bodies.now))) }
@@ -53,21 +56,23 @@ pub fn client_issue_all(
         → ClientsSettledAs was lines.new.items }
     ensures length { length lines.new.items ≡ length lines.old.items }
 {
+    let link = lines[place].link;
     let mut all = Issues {
         reports: Vec::with_capacity(alloc, bodies.len())?,
         outs: Vec::with_capacity(alloc, bodies.len())?,
     };
     for body in bodies {
-        issue_one(lines, alloc, place, body, at, &mut all)?;
+        issue_one(lines, alloc, place, link, body, at, &mut all)?;
     }
     Ok(all)
 }
 
-/// Issues a body, and takes over what is reported of it and what goes to the link.
+/// Issues a body, and takes over what is reported of it and what this link is told.
 fn issue_one(
     lines: &mut Vec<ClientLine>,
     alloc: Global,
     place: usize,
+    link: Option<u64>,
     body: &AppBody,
     at: u64,
     all: &mut Issues,
@@ -76,9 +81,9 @@ fn issue_one(
     ensures leave { OnOk result ((s : Settings) (calls : ℕ → List Timed) → ClientsLeave s calls lines.old.items
         → ClientsLeave s (called (place + 1) (issue_call at body.now) calls) lines.new.items) }
     ensures outs { OnOk result ((s : Settings) (calls : ℕ → List Timed) → ClientsLeave s calls lines.old.items
-        → map told_bytes all.new.outs.items ≡ map told_bytes all.old.outs.items
-        ++ map (told_of_out s.comp (client_name s (place + 1)))
-        (client_answer s (place + 1) (calls (place + 1)) (issue_call at body.now)).outs) }
+        → map link_out_seen all.new.outs.items ≡ map link_out_seen all.old.outs.items
+        ++ outs_told_on link (map (told_of_out s.comp (client_name s (place + 1)))
+        (client_answer s (place + 1) (calls (place + 1)) (issue_call at body.now)).outs)) }
     ensures reports { OnOk result ((s : Settings) (calls : ℕ → List Timed) → ClientsLeave s calls lines.old.items
         → all.new.reports.items ≡ all.old.reports.items
         ++ report_issued s (place + 1) (calls (place + 1)) (issue_call at body.now)) }
@@ -89,15 +94,31 @@ fn issue_one(
 {
     let IssuedTurn { frame, report } = client_issue(lines, alloc, place, body, at)?;
     all.reports.push(report)?;
-    push_frame(&mut all.outs, frame)
+    tell_frame(link, frame, &mut all.outs)
 }
 
-/// Appends a frame, where there is one.
-fn push_frame(outs: &mut Vec<SessionOut>, frame: Option<Vec<u8>>) -> Result<(), AllocError>
-    ensures { OnOk result (map told_bytes outs.new.items ≡ map told_bytes outs.old.items ++ told_frame frame) }
+/// A frame goes onto this link, where there are both.
+fn tell_frame(
+    link: Option<u64>,
+    frame: Option<Vec<u8>>,
+    outs: &mut Vec<LinkOut>,
+) -> Result<(), AllocError>
+    ensures { OnOk result (map link_out_seen outs.new.items
+        ≡ map link_out_seen outs.old.items ++ outs_told_on link (told_frame frame)) }
+{
+    match link {
+        None => Ok(()),
+        Some(link) => write_frame(link, frame, outs),
+    }
+}
+
+/// A frame goes onto a link, where there is one.
+fn write_frame(link: u64, frame: Option<Vec<u8>>, outs: &mut Vec<LinkOut>) -> Result<(), AllocError>
+    ensures { OnOk result (map link_out_seen outs.new.items
+        ≡ map link_out_seen outs.old.items ++ map (to_link link) (told_frame frame)) }
 {
     if let Some(bytes) = frame {
-        outs.push(SessionOut::Frame(bytes))?;
+        outs.push(LinkOut::Write { link, bytes })?;
     }
     Ok(())
 }
