@@ -19,7 +19,7 @@ use Rattle.gate_law.specs.Settings.{Settings, has_port, terms}
 use Rattle.gate_law.specs.Events.{Batch, LinkOut, PortPacket, is_for_client, is_the_number}
 use Rattle.gate_law.specs.Lists.{Lists, client_called_all, port_called, turned}
 use Rattle.gate_law.specs.Sessions.{client_outs, is_no_send, issues, port_answer, port_outs, port_state, sends}
-use Rattle.gate_law.specs.Sessions.{to_client, to_port}
+use Rattle.gate_law.specs.Sessions.{to_port}
 use Rattle.gate_law.specs.Outcome.{Outcome, addressee, bodies, is_stepped, message_in, messages, of_port, Stays}
 use Rattle.gate_law.specs.Outcome.{outcome}
 use Rattle.gate_law.specs.After.{lists_after, links_closed, with_outcome}
