@@ -107,7 +107,8 @@ pub record IsIssued {S H : Type 0} (s : Settings) (client at : ℕ) (bodies : Li
     (new : Parts S H) : Type 0 where
   pub parts : ArePartsOf s (client_called_all client (issues at bodies) v) new
   pub outs : map link_out_seen out.outs.items ≡ outs_told_on (v.client_link client)
-      (map (told_of_out s.comp (client_name s client)) (client_outs s client (v.client_calls client) (issues at bodies)))
+      (map (told_of_out s.comp (client_name s client))
+      (client_outs s client (v.client_calls client) (issues at bodies)))
   pub reports : out.reports.items ≡ client_reports s client (v.client_calls client) (issues at bodies)
   pub bodies_are : map body_of out.reports.items ≡ bodies
 
