@@ -4,9 +4,9 @@ use Rattle.fix_fields.specs.declared.text.Bytes.{Bytes}
 use Rattle.fix_fields.specs.declared.text.Bytes.TheVariants.{Few, Many}
 
 -- those that are kept
-abbrev pub bytes_of : Bytes → List ℕ
-bytes_of (Few count bytes) = take count bytes
-bytes_of (Many bytes) = bytes.items
+abbrev pub kept_bytes : Bytes → List ℕ
+kept_bytes (Few count bytes) = take count bytes
+kept_bytes (Many bytes) = bytes.items
 
 -- no more of them are counted than lie in the value
 abbrev pub AreThere : Bytes → Type 0
