@@ -33,7 +33,7 @@ impl Drop for CancelRequest {
 }
 
 impl CancelRequest {
-    /// The same request again, in memory of its own. Two growths.
+    /// The same request again, in memory of its own. Two growths at most.
     pub fn copied(&self, alloc: Global) -> Result<CancelRequest, AllocError>
         ensures { IfOk result (λ copy. copy ≡ self.now) }
     {
@@ -81,7 +81,7 @@ impl TextWire<Fields, TextFault> for CancelRequest {
     }
 }
 
-/// The cancel request that fields say, which meet no refusal. Two growths.
+/// The cancel request that fields say, which meet no refusal. Two growths at most.
 pub fn read_cancel_request(alloc: Global, fields: &Fields) -> Result<CancelRequest, AllocError>
     requires { requests.cancel_refusal fields.now ≡ None }
     ensures said { IfOk result (λ request. request ≡ cancel_request_of fields.now) }

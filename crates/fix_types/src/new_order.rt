@@ -63,7 +63,7 @@ impl Drop for NewOrder {
 impl NewOrder {
     ghost use Rattle.std.specs.Prelude.{◌≡◌, IfOk};
 
-    /// The same order again, in memory of its own. A growth for each text.
+    /// The same order again, in memory of its own. A growth for each long text.
     pub fn copied(&self, alloc: Global) -> Result<NewOrder, AllocError>
         ensures { IfOk result (λ copy. copy ≡ self.now) }
     {

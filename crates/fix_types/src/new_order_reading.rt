@@ -10,7 +10,7 @@ use fix_values::Fields;
 use fix_values::reading::{char_at, id_at, optional_char_at, text_at};
 use std::alloc::{AllocError, Global};
 
-/// The new order that fields say, which meet no refusal. A growth for each text.
+/// The new order that fields say, which meet no refusal. A growth for each long text.
 pub fn read_new_order(alloc: Global, fields: &Fields) -> Result<NewOrder, AllocError>
     requires { new_order_refusal fields.now ≡ None }
     ensures said { IfOk result (λ order. order ≡ new_order_of fields.now) }

@@ -89,7 +89,7 @@ impl ReplaceRequest {
         cl_ord_id
     }
 
-    /// The same request again, in memory of its own. A growth for each text.
+    /// The same request again, in memory of its own. A growth for each long text.
     pub fn copied(&self, alloc: Global) -> Result<ReplaceRequest, AllocError>
         ensures { IfOk result (λ copy. copy ≡ self.now) }
     {

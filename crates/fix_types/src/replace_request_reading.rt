@@ -10,7 +10,7 @@ use fix_values::Fields;
 use fix_values::reading::{char_at, id_at, optional_char_at, optional_text_at};
 use std::alloc::{AllocError, Global};
 
-/// The replace request that fields say, which meet no refusal. A growth for each text.
+/// The replace request that fields say, which meet no refusal. A growth for each long text.
 pub fn read_replace_request(alloc: Global, fields: &Fields) -> Result<ReplaceRequest, AllocError>
     requires { replace_refusal fields.now ≡ None }
     ensures said { IfOk result (λ request. request ≡ replace_request_of fields.now) }

@@ -24,7 +24,7 @@ pub struct Terms {
     pub min_qty: Option<FloatText>,
 }
 
-/// The terms that fields say. A growth for each text.
+/// The terms that fields say. A growth for each long text.
 pub fn terms_at(alloc: Global, fields: &Fields) -> Result<Terms, AllocError>
     requires there { is_some (first_value 38 fields.now) ≡ true }
     requires quantity { passes formats.Float (first_value 38 fields.now) ≡ true }
@@ -41,7 +41,7 @@ pub fn terms_at(alloc: Global, fields: &Fields) -> Result<Terms, AllocError>
     })
 }
 
-/// These texts again, in memory of their own. A growth for each.
+/// These texts again, in memory of their own. A growth for each long one.
 pub fn copied_terms(
     alloc: Global,
     order_qty: &FloatText,

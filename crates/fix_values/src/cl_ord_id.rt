@@ -28,7 +28,7 @@ impl Model for ClOrdId {
 }
 
 impl ClOrdId {
-    /// A copy of these bytes. One growth.
+    /// A copy of these bytes. One growth at most.
     pub fn copied(alloc: Global, bytes: &[u8]) -> Result<ClOrdId, AllocError>
         requires size { is_cl_ord_id bytes.now ≡ true }
         requires value { IsValue bytes.now }

@@ -6,7 +6,7 @@ use crate::float_text::FloatText;
 use fix_fields::Text;
 use std::alloc::{AllocError, Global};
 
-/// The same text in memory of its own, where there is one. One growth then.
+/// The same text in memory of its own, where there is one. One growth at most.
 pub fn copied_text(alloc: Global, text: &Option<Text>) -> Result<Option<Text>, AllocError>
     ensures { IfOk result (λ copy. copy ≡ text.now) }
 {
@@ -16,7 +16,7 @@ pub fn copied_text(alloc: Global, text: &Option<Text>) -> Result<Option<Text>, A
     }
 }
 
-/// The same float as it was written in memory of its own, where there is one. One growth then.
+/// The same float as it was written in memory of its own, where there is one. One growth at most.
 pub fn copied_float(
     alloc: Global,
     float: &Option<FloatText>,

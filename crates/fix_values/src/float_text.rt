@@ -28,7 +28,7 @@ impl Model for FloatText {
 }
 
 impl FloatText {
-    /// A copy of these bytes. One growth.
+    /// A copy of these bytes. One growth at most.
     pub fn copied(alloc: Global, bytes: &[u8]) -> Result<FloatText, AllocError>
         requires float { is_float bytes.now ≡ true }
         requires value { IsValue bytes.now }

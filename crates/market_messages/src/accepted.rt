@@ -51,7 +51,7 @@ fn tell_accepted(
     ensures few { IfOk result (λ bodies. length bodies.items ≤ 3) }
 {
     let opened = order.progress_after(opened_by(message, false));
-    let mut bodies = Vec::with_capacity(alloc, 3)?;
+    let mut bodies = Vec::with_capacity(alloc, 1)?;
     let shown = shown_of(order, &opened);
     let report = report_of(alloc, issued + 1, Occasion::New, &shown)?;
     push_report(&mut bodies, report)?;

@@ -48,7 +48,7 @@ fn tell_canceled(
     ensures few { IfOk result (λ bodies. length bodies.items ≤ 3) }
 {
     let progress = order.progress_after(Change::Canceled(message.decrement));
-    let mut bodies = Vec::with_capacity(alloc, 3)?;
+    let mut bodies = Vec::with_capacity(alloc, 1)?;
     if message.decrement == order.progress.unfilled {
         let shown = shown_of(order, &progress);
         let reason = Some(message.reason);

@@ -52,7 +52,7 @@ fn tell_executed(
     let (shares, price) = (message.shares, message.price);
     let told = told_trade(message, issued + 1);
     let progress = order.progress_after(Change::Traded(told));
-    let mut bodies = Vec::with_capacity(alloc, 3)?;
+    let mut bodies = Vec::with_capacity(alloc, 1)?;
     let shown = shown_of(order, &progress);
     let occasion = Occasion::Trade { shares, price };
     let report = report_of(alloc, issued + 1, occasion, &shown)?;

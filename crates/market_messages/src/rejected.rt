@@ -58,7 +58,7 @@ fn tell_refused(
 {
     let refused = order.progress_after(Change::Refused);
     let occasion = Occasion::Rejected(message.reason);
-    let mut bodies = Vec::with_capacity(alloc, 3)?;
+    let mut bodies = Vec::with_capacity(alloc, 1)?;
     let shown = shown_of(order, &refused);
     let report = report_of(alloc, issued + 1, occasion, &shown)?;
     push_report(&mut bodies, report)?;
@@ -84,7 +84,7 @@ fn tell_not_replaced(
         has_pending_replace: false,
         ..shown_of(order, &progress)
     };
-    let mut bodies = Vec::with_capacity(alloc, 2)?;
+    let mut bodies = Vec::with_capacity(alloc, 1)?;
     let letter = [message.reason];
     let code = CxlRejReason::BrokerOption;
     push_reject(alloc, &mut bodies, &pending.replace, &shown, code, &letter)?;

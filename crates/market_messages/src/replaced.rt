@@ -60,7 +60,7 @@ fn tell_replaced(
         ≡ told_of issued (market.Replaced message.now) order.now) }
     ensures few { IfOk result (λ bodies. length bodies.items ≤ 3) }
 {
-    let mut bodies = Vec::with_capacity(alloc, 3)?;
+    let mut bodies = Vec::with_capacity(alloc, 1)?;
     let Some(replacing) = &order.replace else {
         return Ok(bodies);
     };

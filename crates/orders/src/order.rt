@@ -136,7 +136,7 @@ impl Order {
     ghost use Rattle.orders.specs.declared.change.Change.TheVariants as changes;
 
     /// A new order that was accepted: it waits for the market. Its token is that of the number, its total and price are
-    /// what its message asks. One growth: for its ClOrdID.
+    /// what its message asks. One growth at most: for its ClOrdID.
     pub fn entered(
         alloc: Global,
         client: u16,

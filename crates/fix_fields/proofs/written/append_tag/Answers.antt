@@ -1,4 +1,4 @@
-use Rattle.std.proofs.Common.{◌≡◌, ◌≤◌, ◌<◌, ◌+◌, ◌%◌, ◌/◌, ◌++◌, ◌∷◌, [], List, length, decimal, ℕ, arith, ap, ◌∙◌, refl, sym, append_assoc}
+use Rattle.std.proofs.Common.{◌≡◌, ◌≤◌, ◌<◌, ◌+◌, ◌%◌, ◌/◌, ◌++◌, ◌∷◌, [], List, length, decimal, ℕ, arith, ap, ◌∙◌, refl, append_assoc}
 use Rattle.std.proofs.lemmas.Fmt.{length-decimal-le, decimal_digit, decimal_step}
 use Rattle.fix_fields.proofs.written.append_tag.Goals as goal
 use Rattle.fix_fields.proofs.written.append_tag.Goals.{then-tag-ge10, else-tag-ge10}
