@@ -1,12 +1,13 @@
 //! The type of a message, its number, and what a SequenceReset says.
 
 ghost use Rattle.std.specs.Prelude.{◌≡◌, ◌<◌, ◌^◌, ◌||◌, ◌∷◌, [], true, false, MatchOption, IfSome, unwrap_or, codes};
+ghost use Rattle.std.specs.Prelude.{bytes_eq};
 ghost use Rattle.std.specs.List.{list_all};
 ghost use Rattle.fix_types.specs.fix_fields.Reasons.{session_reject_number};
 ghost use Rattle.session_law.specs.Messages as law;
 ghost use Rattle.session_law.specs.Table as table;
 
-use crate::words::{has, is_letter, number};
+use crate::words::{has, is_byte, is_letter, number};
 use fix_types::{Fields, SessionRejectReason};
 
 /// Whether a message has this type (35) of one letter or digit.
@@ -85,10 +86,10 @@ pub fn new_number_reason(m: &Fields) -> SessionRejectReason
     }
 }
 
-/// Whether nothing is answered to the type: Heartbeat, Reject, BusinessMessageReject.
-pub fn is_silent(m: &Fields) -> bool
-    ensures { result ≡ (table.is_type (codes "0") m.now
-        || (table.is_type (codes "3") m.now || table.is_type (codes "j") m.now)) }
+/// Whether nothing is answered to a type: Heartbeat, Reject, BusinessMessageReject.
+pub fn is_silent(kind: &[u8]) -> bool
+    ensures { result ≡ (bytes_eq kind.now (codes "0")
+        || (bytes_eq kind.now (codes "3") || bytes_eq kind.now (codes "j"))) }
 {
-    is_type(m, b'0') || (is_type(m, b'3') || is_type(m, b'j'))
+    is_byte(kind, b'0') || (is_byte(kind, b'3') || is_byte(kind, b'j'))
 }

@@ -1,22 +1,23 @@
 //! Application messages, before anybody judges their values.
 
-ghost use Rattle.std.specs.Prelude.{◌≡◌, IfOk, None};
-ghost use Rattle.session_law.specs.Table as table;
+ghost use Rattle.std.specs.Prelude.{◌≡◌, ◌||◌, IfOk, None, bytes_eq, codes};
 ghost use Rattle.session_law.specs.Formats as formats;
 ghost use Rattle.session_law.specs.Formats.{application_refusal};
 
 use crate::message::is_type;
+use crate::words::is_byte;
 use fix_types::{
     AppMsg, Fields, SessionRefusal, cancel_refusal, new_order_refusal, read_cancel_request,
     read_new_order, read_replace_request, replace_refusal,
 };
 use std::alloc::{AllocError, Global};
 
-/// Whether a message is the application's: NewOrderSingle, OrderCancelRequest, OrderCancelReplaceRequest.
-pub fn is_application(m: &Fields) -> bool
-    ensures { result ≡ table.is_application m.now }
+/// Whether a type is the application's: NewOrderSingle, OrderCancelRequest, OrderCancelReplaceRequest.
+pub fn is_app_type(kind: &[u8]) -> bool
+    ensures { result ≡ (bytes_eq kind.now (codes "D")
+        || (bytes_eq kind.now (codes "F") || bytes_eq kind.now (codes "G"))) }
 {
-    is_type(m, b'D') || (is_type(m, b'F') || is_type(m, b'G'))
+    is_byte(kind, b'D') || (is_byte(kind, b'F') || is_byte(kind, b'G'))
 }
 
 /// What an application message is refused with: a required tag is missing, or a value has another format.

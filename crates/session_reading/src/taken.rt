@@ -11,11 +11,9 @@ ghost use Rattle.session_law.specs.Formats.{application_refusal};
 ghost use Rattle.session_reading.specs.declared.taken.Taken.TheVariants as taken;
 ghost use Rattle.session_reading.specs.Judged.{taken_answer, TakenFits};
 
-use crate::message::{
-    is_other_type, is_sequence_reset, is_silent, is_type, new_number, new_number_reason, numbered,
-};
-use crate::requests::{is_application, refusal_of};
-use crate::words::{has, number, text};
+use crate::message::{is_other_type, is_silent, new_number, new_number_reason, numbered};
+use crate::requests::{is_app_type, refusal_of};
+use crate::words::{has, is_byte, number, text};
 use fix_types::{Fields, SessionRejectReason};
 
 /// What the message with the expected number brings.
@@ -105,28 +103,29 @@ fn judge_faultless(m: &Fields, last: u64) -> Taken
     ensures answer { answer_by (table.expected_rows last m.now) ≡ taken_answer m.now result }
     ensures fits { TakenFits m.now last result }
 {
-    if is_silent(m) {
+    let kind = text(m, 35);
+    if is_silent(kind) {
         return Taken::Nothing;
     }
-    if is_type(m, b'1') {
+    if is_byte(kind, b'1') {
         return judge_test(m);
     }
-    if is_type(m, b'2') {
+    if is_byte(kind, b'2') {
         return judge_resend(m, last);
     }
-    if is_sequence_reset(m) {
+    if is_byte(kind, b'4') {
         return judge_gap_fill(m);
     }
-    if is_type(m, b'5') {
+    if is_byte(kind, b'5') {
         return Taken::LoggedOut;
     }
-    if is_type(m, b'A') {
+    if is_byte(kind, b'A') {
         return Taken::AlreadyLoggedOn;
     }
-    if is_application(m) {
+    if is_app_type(kind) {
         return judge_application(m);
     }
-    if is_other_type(text(m, 35)) {
+    if is_other_type(kind) {
         return Taken::Unsupported;
     }
     rejected(35, SessionRejectReason::InvalidMsgType)

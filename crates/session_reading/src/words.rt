@@ -1,6 +1,6 @@
 //! What is read from the fields of a message. Where a tag stands twice, the first is read.
 
-ghost use Rattle.std.specs.Prelude.{◌≡◌, ◌<◌, ◌^◌, ◌∷◌, [], IfSome};
+ghost use Rattle.std.specs.Prelude.{◌≡◌, ◌<◌, ◌^◌, ◌∷◌, [], IfSome, bytes_eq};
 ghost use Rattle.fix_types.specs.fix_fields.Field.{IsValue};
 ghost use Rattle.fix_types.specs.fix_fields.Field as tags;
 ghost use Rattle.session_law.specs.Messages as law;
@@ -30,8 +30,14 @@ pub fn is(m: &Fields, tag: u32, wanted: &[u8]) -> bool
 pub fn is_letter(m: &Fields, tag: u32, wanted: u8) -> bool
     ensures { result ≡ tags.is tag (wanted ∷ []) m.now }
 {
-    let value = text(m, tag);
-    value.len() == 1 && value[0] == wanted
+    is_byte(text(m, tag), wanted)
+}
+
+/// Whether a text is this one byte.
+pub fn is_byte(text: &[u8], wanted: u8) -> bool
+    ensures { result ≡ bytes_eq text.now (wanted ∷ []) }
+{
+    text.len() == 1 && text[0] == wanted
 }
 
 /// Whether a tag is there.
