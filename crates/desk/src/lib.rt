@@ -8,9 +8,11 @@
 mod desk_value;
 mod opening;
 mod shared;
+mod told_outlets;
 
-pub use desk_ends::{DeskName, Finished, Inlet, Outlet};
+pub use desk_ends::{DeskName, Finished, Inlet, Outlet, Recipient};
 pub use desk_steps::Turned;
 pub use desk_value::{Closed, Desk};
 pub use opening::{Parts, open_desk};
 pub use shared::{Shared, Turns};
+pub use told_outlets::{ToldOutlets, WriteTold};

@@ -1,6 +1,7 @@
 //! A desk that threads share.
 
 use crate::desk_value::{Closed, Desk};
+use crate::told_outlets::{ToldOutlets, WriteTold};
 use desk_ends::{DeskName, Finished};
 use desk_steps::{PortFault, Turned};
 use std::alloc::{AllocError, Global};
@@ -10,7 +11,7 @@ use std::sync::{Mutex, MutexGuard, Wait};
 use std::thread::Parker;
 use std::time::Duration;
 
-/// So many rounds are made under one lock at most, before the bells of those that were told something ring.
+/// So many rounds are made under one lock at most, before what they told is written.
 const UNDER_ONE_LOCK: u32 = 8;
 
 /// So many rounds step what lies in a ring: it has as many places.
@@ -68,17 +69,22 @@ impl<K: DeskName, S: BuildHasher + Drop> Shared<K, S> {
     /// A round (`Desk::round`) under the lock. Rings the bells of the outlets that were told something, once the lock
     /// is free.
     pub fn turn(&self, rt: &impl Wait, alloc: Global) -> Result<Turned, AllocError> {
-        let (turned, rung) = self.turn_locked(rt, alloc)?;
-        self.ring_all(rung);
+        let (turned, told) = self.turn_locked(rt, alloc)?;
+        self.write_told(alloc, told);
         Ok(turned)
     }
 
-    /// Has so many rounds made, or fewer where one makes no step, eight at a time under the lock. Rings the bells of
-    /// the outlets that were told something once the lock is free: who wakes finds all that eight rounds told it.
+    /// Has so many rounds made, or fewer where one makes no step, eight at a time under the lock. Behind each eight, the
+    /// lock free, `writer` writes what they told: all that eight rounds told an outlet lies there then.
     ///
-    /// It waits for nobody. Where another thread has the lock, that one makes rounds until one makes no step once it is
+    /// It waits for nobody but `writer`. Where another thread has the lock, that one makes rounds until one makes no step once it is
     /// free, and none is counted here. `AllocError` comes only where memory is refused before a round made a step.
-    pub fn turns(&self, alloc: Global, wanted: u32) -> Result<Turns, AllocError> {
+    pub fn turns<T: WriteTold>(
+        &self,
+        alloc: Global,
+        wanted: u32,
+        writer: &T,
+    ) -> Result<Turns, AllocError> {
         let mut turns = Turns {
             rounds: 0,
             steps: 0,
@@ -93,9 +99,9 @@ impl<K: DeskName, S: BuildHasher + Drop> Shared<K, S> {
             }
             let desk = &mut *guard;
             let made = rounds(desk, alloc, left.min(UNDER_ONE_LOCK), &mut turns);
-            let rung = desk.take_rung();
+            let told = ToldOutlets::of_bits(desk.take_rung());
             drop(guard);
-            self.ring_all(rung);
+            writer.write_told(alloc, told);
             left = match made {
                 Ok(true) => left.saturating_sub(UNDER_ONE_LOCK),
                 Ok(false) => 0,
@@ -131,24 +137,15 @@ impl<K: DeskName, S: BuildHasher + Drop> Shared<K, S> {
     }
 
     /// A round under the lock, and the outlets that were told something.
-    fn turn_locked(&self, rt: &impl Wait, alloc: Global) -> Result<(Turned, u128), AllocError> {
+    fn turn_locked(
+        &self,
+        rt: &impl Wait,
+        alloc: Global,
+    ) -> Result<(Turned, ToldOutlets), AllocError> {
         let mut guard = self.desk.lock(rt);
         let desk = &mut *guard;
         let turned = desk.round(alloc)?;
-        Ok((turned, desk.take_rung()))
-    }
-
-    /// Rings the bell of each outlet whose bit is set, the last one's first: ports stand behind clients, and what a
-    /// port is told is what its market waits for.
-    fn ring_all(&self, rung: u128) {
-        if rung == 0 {
-            return;
-        }
-        for at in (0..self.bells.len()).rev() {
-            if has_bit(rung, at) {
-                self.ring(at);
-            }
-        }
+        Ok((turned, ToldOutlets::of_bits(desk.take_rung())))
     }
 
     /// Waits until an outlet's bell rings, at most so long; it may wait less. A bell that rang since the last wait ends
@@ -202,6 +199,21 @@ impl<K: DeskName, S: BuildHasher + Drop> Shared<K, S> {
     }
 }
 
+impl<K: DeskName, S: BuildHasher + Drop> WriteTold for Shared<K, S> {
+    /// Rings the bells of these outlets, the last one's first: ports stand behind clients, and what a port is told is
+    /// what its market waits for. Their writers write it.
+    fn write_told(&self, _alloc: Global, told: ToldOutlets) {
+        if told.is_empty() {
+            return;
+        }
+        for at in (0..self.bells.len()).rev() {
+            if told.contains(at) {
+                self.ring(at);
+            }
+        }
+    }
+}
+
 /// Rounds, so many at most, until one makes no step, beside those that were made: whether all of them made one.
 /// `AllocError` leaves those that made one counted.
 fn rounds<K: DeskName, S: BuildHasher + Drop>(
@@ -219,9 +231,4 @@ fn rounds<K: DeskName, S: BuildHasher + Drop>(
         turns.steps = turns.steps.saturating_add(turned.steps);
     }
     Ok(true)
-}
-
-/// Whether the bit of this place is set.
-fn has_bit(bits: u128, place: usize) -> bool {
-    place < 128 && bits >> place & 1 == 1
 }

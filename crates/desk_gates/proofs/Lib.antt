@@ -1,1 +1,2 @@
 pub use Rattle.desk.proofs as desk
+pub mod Sent

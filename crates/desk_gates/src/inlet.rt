@@ -1,7 +1,10 @@
 //! An inlet as a gate.
 
+use crate::outlet_pen::{OutletEnd, OutletPen};
+use crate::told_pens::ToldPens;
 use desk::{DeskName, Finished, Inlet, Shared};
 use gate_workers::{Event, Gate, LinkOut};
+use link_pens::Prompt;
 use std::alloc::{AllocError, Global};
 use std::hash::{BuildHasher, BuildHasherDefault, FoldHasher};
 use std::sync::Wait;
@@ -10,25 +13,46 @@ use std::sync::Wait;
 const MOST_TURNS: u32 = 1_024;
 
 /// The gate of a reader, or of the ticker: puts events through an inlet, and has the desk turned as often as events
-/// were put, until a turn makes no step. Nothing is taken through it.
+/// were put, until a turn makes no step. What these turns told the links of others it writes by their pens, where these
+/// are idle, and rings their bells elsewhere. Nothing is taken through it.
 #[derive(Drop)]
-pub struct InletGate<'a, K: DeskName, S: BuildHasher + Drop = BuildHasherDefault<FoldHasher>> {
+pub struct InletGate<
+    'p,
+    'a,
+    W: Prompt + Drop,
+    G: OutletEnd + Drop,
+    K: DeskName,
+    S: BuildHasher + Drop = BuildHasherDefault<FoldHasher>,
+> {
     shared: &'a Shared<K, S>,
+    pens: ToldPens<'p, 'a, W, G, K, S>,
     inlet: Inlet<K>,
     /// The events that were put since, less the turns that were made: never more than `MOST_TURNS`.
     owed: u32,
 }
 
-impl<'a, K: DeskName, S: BuildHasher + Drop> InletGate<'a, K, S> {
+impl<'p, 'a, W: Prompt + Drop, G: OutletEnd + Drop, K: DeskName, S: BuildHasher + Drop> InletGate<
+    'p,
+    'a,
+    W,
+    G,
+    K,
+    S,
+> {
     ghost use Rattle.std.specs.Prelude.{◌≡◌, IfSome};
     ghost use Rattle.desk.specs.desk_ends.Rings.{put_at};
 
-    /// The gate over an inlet of this desk. Takes no memory.
-    pub fn new(shared: &'a Shared<K, S>, inlet: Inlet<K>) -> InletGate<'a, K, S>
+    /// The gate over an inlet of this desk, with the pens of its outlets, by position. Takes no memory.
+    pub fn new(
+        shared: &'a Shared<K, S>,
+        pens: &'p [OutletPen<W, G>],
+        inlet: Inlet<K>,
+    ) -> InletGate<'p, 'a, W, G, K, S>
         ensures { result.inlet ≡ inlet }
     {
         InletGate {
             shared,
+            pens: ToldPens::new(shared, pens),
             inlet,
             owed: 0,
         }
@@ -40,6 +64,7 @@ impl<'a, K: DeskName, S: BuildHasher + Drop> InletGate<'a, K, S> {
     {
         let InletGate {
             shared: _,
+            pens: _,
             inlet,
             owed: _,
         } = self;
@@ -47,7 +72,8 @@ impl<'a, K: DeskName, S: BuildHasher + Drop> InletGate<'a, K, S> {
     }
 }
 
-impl<'a, K: DeskName, S: BuildHasher + Drop> Gate for InletGate<'a, K, S> {
+impl<'p, 'a, W: Prompt + Drop, G: OutletEnd + Drop, K: DeskName, S: BuildHasher + Drop> Gate
+    for InletGate<'p, 'a, W, G, K, S> {
     ghost use Rattle.std.specs.Prelude.{[], map};
     ghost use Rattle.gate_workers.specs.gate_events.Seen.{event_seen};
 
@@ -70,10 +96,11 @@ impl<'a, K: DeskName, S: BuildHasher + Drop> Gate for InletGate<'a, K, S> {
         None
     }
 
-    /// Has the desk turn once, and again for each further event that was put, until a turn makes no step. Where another
-    /// thread turns it, that one does so (`Shared::turns`), and nothing is waited for.
+    /// Has the desk turn once, and again for each further event that was put, until a turn makes no step, and has what
+    /// they told written. Where another thread turns the desk, that one does so (`Shared::turns`), and nothing is waited
+    /// for but a prompt write.
     fn turn<R: Wait>(&mut self, _rt: &R, alloc: Global) -> Result<u32, AllocError> {
-        let turns = self.shared.turns(alloc, self.owed.max(1))?;
+        let turns = self.shared.turns(alloc, self.owed.max(1), &self.pens)?;
         self.owed = self.owed.saturating_sub(turns.rounds);
         Ok(turns.steps)
     }

@@ -5,9 +5,13 @@
 mod bell;
 mod inlet;
 mod outlet;
+mod outlet_pen;
+mod told_pens;
 
 pub use bell::BellClock;
 pub use desk::{DeskName, Finished, Inlet, Outlet, Parts, Shared, open_desk};
 pub use gate_workers::{Clock, Gate};
 pub use inlet::InletGate;
+pub use link_pens::{PenWorker, Prompt};
 pub use outlet::OutletGate;
+pub use outlet_pen::{OutletEnd, OutletPen};

@@ -1,6 +1,7 @@
 //! An outlet as a gate.
 
-use desk::{DeskName, Finished, Outlet, Shared};
+use crate::outlet_pen::OutletEnd;
+use desk::{DeskName, Finished, Outlet, Recipient, Shared};
 use gate_workers::{Event, Gate, LinkOut};
 use std::alloc::{AllocError, Global};
 use std::hash::{BuildHasher, BuildHasherDefault, FoldHasher};
@@ -15,7 +16,8 @@ const FULL: u32 = 1_024;
 pub struct OutletGate<'a, K: DeskName, S: BuildHasher + Drop = BuildHasherDefault<FoldHasher>> {
     shared: &'a Shared<K, S>,
     outlet: Outlet<K>,
-    /// The lists that were taken since none lay there, or since the last turn.
+    /// The lists that were taken since none lay there, or since the last turn: a turn that is owed isn't forgotten where
+    /// none lies there.
     in_a_row: u32,
 }
 
@@ -61,7 +63,9 @@ impl<'a, K: DeskName, S: BuildHasher + Drop> Gate for OutletGate<'a, K, S> {
 
     fn take(&mut self) -> Option<Vec<LinkOut>> {
         let Some(told) = self.outlet.take() else {
-            self.in_a_row = 0;
+            if self.in_a_row < FULL {
+                self.in_a_row = 0;
+            }
             return None;
         };
         self.in_a_row = self.in_a_row.saturating_add(1);
@@ -76,5 +80,13 @@ impl<'a, K: DeskName, S: BuildHasher + Drop> Gate for OutletGate<'a, K, S> {
         self.in_a_row = 0;
         let turned = self.shared.turn(rt, alloc)?;
         Ok(turned.steps)
+    }
+}
+
+impl<'a, K: DeskName, S: BuildHasher + Drop> OutletEnd for OutletGate<'a, K, S> {
+    ghost told = { λ g. g.outlet.to };
+
+    fn recipient(&self) -> Recipient {
+        self.outlet.recipient()
     }
 }

@@ -85,7 +85,7 @@ fn makes_rounds<K: DeskName, R: Abort>(
     most: u32,
     rounds: u32,
 ) -> Result<(), AllocError> {
-    let turns = shared.turns(alloc, most)?;
+    let turns = shared.turns(alloc, most, shared)?;
     let expected = Turns {
         rounds,
         steps: rounds,

@@ -94,5 +94,5 @@ fn put_and_turn<K: DeskName>(
     if event.is_from(&inlet.source()) {
         let _ = inlet.put(event);
     }
-    let _ = shared.turns(alloc, 1);
+    let _ = shared.turns(alloc, 1, shared);
 }

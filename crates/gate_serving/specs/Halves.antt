@@ -1,12 +1,13 @@
 -- Lines and their halves: how one is made of the other, and what a half has done.
-use Rattle.std.specs.Prelude.{◌≡◌, ℕ, Bool, false, List, Option, Result}
+use Rattle.std.specs.Prelude.{◌≡◌, ℕ, false, List, Option, Result}
 use Rattle.gate_events.specs.gate_law.Events.{Event, LinkOut}
 use Rattle.gate_workers.specs.link_io.declared.link_fault.LinkFault.{LinkFault}
+use Rattle.gate_workers.specs.declared.writer.WriterEnd.{WriterEnd}
 use Rattle.gate_serving.specs.declared.halves.Reads.{Reads}
 use Rattle.gate_serving.specs.declared.halves.Writes.{Writes}
 use Rattle.gate_serving.specs.declared.line.Line.{Line}
 use Rattle.gate_serving.specs.declared.line.Worker.{Worker}
-use Rattle.gate_serving.specs.Lines.{LineRead, LineWritten}
+use Rattle.gate_serving.specs.Lines.{LineRead, LineWrittenBy}
 
 -- the halves of a line, before anything was done
 abbrev pub IsSplit : {P O A B W K : Type 0} → Line P O A B → Reads P O A W K × Writes P B W K → Type 0
@@ -32,8 +33,6 @@ ReadsDid reads has_ended opened was_put was_taken old new =
     × (was_taken new.worker.gate ≡ was_taken old.worker.gate)
 
 -- what was done by its writer
-abbrev pub WritesDid : {P H D W K : Type 0} → (H → List Event) → (H → List (List LinkOut))
-    → (old new : Writes P (Worker H D) W K) → Type 0
-WritesDid was_put was_taken old new =
-    LineWritten (was_taken old.worker.gate) (was_taken new.worker.gate)
-    × (was_put new.worker.gate ≡ was_put old.worker.gate)
+abbrev pub WritesDid : {P B W K : Type 0} → (wrote : B → ℕ → Result WriterEnd LinkFault → B → Type 0)
+    → (let_go : B → B → Type 0) → (old new : Writes P B W K) → Type 0
+WritesDid wrote let_go old new = LineWrittenBy wrote let_go old.worker new.worker

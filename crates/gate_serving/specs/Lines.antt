@@ -22,8 +22,31 @@ LinksRead reads (end ∷ before) put_old put_new =
     (between : List Event) × LinksRead reads before put_old between
     × OfAStream (reads (length before + 1) end between put_new)
 
--- Links of a line that were written one after the other, likewise: what was taken for each, in order. What was taken
--- between two links, and behind the last, was let go.
+-- what lay there was let go, so often
+abbrev pub LetGoAt : {B : Type 0} → (let_go : B → B → Type 0) → (at : List B) → (old new : B) → Type 0
+LetGoAt let_go [] old new = new ≡ old
+LetGoAt let_go (last ∷ before) old new = LetGoAt let_go before old last × let_go last new
+
+abbrev pub HasLetGo : {B : Type 0} → (let_go : B → B → Type 0) → (old new : B) → Type 0
+HasLetGo {B = B} let_go old new = (places : List B) × LetGoAt let_go places old new
+
+-- Links of a line that were written one after the other, likewise. What lay there between two links, and behind the
+-- last, was let go.
+abbrev pub LinksWrittenBy : {B : Type 0} → (wrote : B → ℕ → Result WriterEnd LinkFault → B → Type 0)
+    → (let_go : B → B → Type 0) → (ends : List (Result WriterEnd LinkFault)) → (old new : B) → Type 0
+LinksWrittenBy wrote let_go [] old new = new ≡ old
+LinksWrittenBy {B = B} wrote let_go (end ∷ before) old new =
+    (between over : B) × LinksWrittenBy wrote let_go before old between
+    × wrote between (length before + 1) end over × HasLetGo let_go over new
+
+-- What a line's writer has done: links were written.
+abbrev pub LineWrittenBy : {B : Type 0} → (wrote : B → ℕ → Result WriterEnd LinkFault → B → Type 0)
+    → (let_go : B → B → Type 0) → (old new : B) → Type 0
+LineWrittenBy wrote let_go old new =
+    (ends : List (Result WriterEnd LinkFault)) × LinksWrittenBy wrote let_go ends old new
+
+-- Of a worker over a gate: what was taken for each link, in order. What was taken between two links, and behind the
+-- last, was let go.
 abbrev pub LinksWritten : (ends : List (Result WriterEnd LinkFault)) → (taken_old taken_new : List (List LinkOut))
     → Type 0
 LinksWritten [] taken_old taken_new = taken_new ≡ taken_old
@@ -50,16 +73,15 @@ LineWritten taken_old taken_new =
 abbrev pub MayBeDone : {A : Type 0} → (A → A → Type 0) → A → A → Type 0
 MayBeDone did old new = (new ≡ old) ⊎ did old new
 
--- A line that was served, by what its opener and the gates of its reader and its writer show.
-pub record LineServed {P O G C H D : Type 0}
+-- A line that was served, by what its opener, its reader's gate and its writer show.
+pub record LineServed {P O G C B : Type 0}
     (reads : P → ℕ → Result Unit LinkFault → List Event → List Event → Option (List ℕ) → Option (List ℕ) → Type 0)
     (has_ended : O → Type 0) (opened : O → ℕ) (reader_put : G → List Event) (reader_taken : G → List (List LinkOut))
-    (writer_put : H → List Event) (writer_taken : H → List (List LinkOut)) (all_over : Bool)
-    (old new : Line P O (Worker G C) (Worker H D)) : Type 0 where
+    (wrote : B → ℕ → Result WriterEnd LinkFault → B → Type 0) (let_go : B → B → Type 0) (all_over : Bool)
+    (old new : Line P O (Worker G C) B) : Type 0 where
   pub peer : new.peer ≡ old.peer
   pub steps : new.steps ≡ old.steps
   pub read : LineRead (reads old.peer) all_over (has_ended new.opener) (opened old.opener) (opened new.opener)
       (reader_put old.reader.gate) (reader_put new.reader.gate)
-  pub written : LineWritten (writer_taken old.writer.gate) (writer_taken new.writer.gate)
+  pub written : LineWrittenBy wrote let_go old.writer new.writer
   pub none_taken : reader_taken new.reader.gate ≡ reader_taken old.reader.gate
-  pub none_put : writer_put new.writer.gate ≡ writer_put old.writer.gate

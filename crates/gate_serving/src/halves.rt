@@ -1,19 +1,18 @@
 //! The two halves of a line: what its links are opened and read with, and what they are written with.
 
 ghost use Rattle.std.specs.Prelude.{◌≡◌, ◌≤◌, ◌<◌, true, IfNone, IfSome};
-ghost use mathlib.Core.List.{IsPrefix};
 ghost use Rattle.gate_serving.specs.Halves.{ReadsDid, WritesDid};
-ghost use Rattle.gate_serving.specs.Lines.{LineRead, LineWritten, OfAStream};
-ghost use Rattle.gate_workers.specs.WritersWork.{WritesLink};
+ghost use Rattle.gate_serving.specs.Lines.{HasLetGo, LineRead, LineWrittenBy, OfAStream};
 
 use crate::job::Job;
 use crate::line::Worker;
+use crate::line_writer::LineWriter;
 use crate::opener::{Closer, LinkEnd, Opened, Opener};
 use crate::peer::Peer;
 use crate::slot::{Given, Next, Slot};
 use gate_workers::{Clock, Gate, LinkFault, WriterEnd};
 use std::alloc::Global;
-use std::io::{Read, Write};
+use std::io::Read;
 use std::sync::Wait;
 use std::sync::atomic::{AtomicBool, Ordering};
 
@@ -186,15 +185,14 @@ fn read_link<R: Wait, P: Peer + Drop, S: Read + Drop, G: Gate, C: Clock, W: Drop
     })
 }
 
-impl<'a, P, H, D, W, K> Job for Writes<'a, P, Worker<H, D>, W, K>
+impl<'a, P, B, W, K> Job for Writes<'a, P, B, W, K>
 where
     P: Peer + Drop,
-    H: Gate + Drop,
-    D: Clock + Drop,
-    W: Write + Drop,
+    B: LineWriter<W> + Drop,
+    W: Drop,
     K: Closer + Drop,
 {
-    ghost did = { WritesDid H.was_put H.was_taken };
+    ghost did = { WritesDid B.wrote B.let_go_between };
 
     /// Writes each link that the line's reader hands over, until no further one comes.
     fn run<R: Wait>(self, rt: &R, alloc: Global, flag: &AtomicBool) -> Self {
@@ -204,43 +202,37 @@ where
             worker,
             slot,
         } = self;
-        let Worker {
-            mut gate,
-            mut clock,
-        } = worker;
-        write_links(rt, alloc, flag, peer, steps, slot, &mut gate, &mut clock);
+        let mut worker = worker;
+        write_links(rt, alloc, flag, peer, steps, slot, &mut worker);
         Writes {
             peer,
             steps,
-            worker: Worker { gate, clock },
+            worker,
             slot,
         }
     }
 }
 
 /// Writes links, numbered from 1 as they come, until no further one does. What is told between two of them is for links
-/// that are over: it is taken, and let go.
-fn write_links<R: Wait, P, H, D, W, K>(
+/// that are over: it is let go.
+fn write_links<R: Wait, P, B, W, K>(
     rt: &R,
     alloc: Global,
     flag: &AtomicBool,
     peer: P,
     steps: u64,
     slot: &Slot<W, K>,
-    gate: &mut H,
-    clock: &mut D,
+    worker: &mut B,
 )
 where
     P: Peer + Drop,
-    H: Gate,
-    D: Clock,
-    W: Write + Drop,
+    B: LineWriter<W>,
+    W: Drop,
     K: Closer + Drop,
-    ensures written { LineWritten (H.was_taken gate.old) (H.was_taken gate.new) }
-    ensures none_put { H.was_put gate.new ≡ H.was_put gate.old }
+    ensures written { LineWrittenBy B.wrote B.let_go_between worker.old worker.new }
 {
     for before in 0..u64::MAX {
-        let Some(given) = next_link(rt, alloc, flag, before, slot, gate) else {
+        let Some(given) = next_link(rt, alloc, flag, before, slot, worker) else {
             return;
         };
         let end = write_link(
@@ -250,8 +242,7 @@ where
             before + 1,
             steps,
             given,
-            gate,
-            clock,
+            worker,
             slot.stop(),
         );
         slot.end(rt, end);
@@ -259,18 +250,17 @@ where
 }
 
 /// The link behind so many, once there is one; `None` where none comes. Until then what is told links that are over is
-/// taken, so that no event waits for one of them.
-fn next_link<R: Wait, H: Gate, W: Drop, K: Drop>(
+/// let go, so that no event waits for one of them.
+fn next_link<R: Wait, B: LineWriter<W>, W: Drop, K: Drop>(
     rt: &R,
     alloc: Global,
     flag: &AtomicBool,
     before: u64,
     slot: &Slot<W, K>,
-    gate: &mut H,
+    worker: &mut B,
 ) -> Option<Given<W, K>>
-    ensures taken { IsPrefix (H.was_taken gate.old) (H.was_taken gate.new) }
-    ensures first { before ≡ 0 → H.was_taken gate.new ≡ H.was_taken gate.old }
-    ensures none_put { H.was_put gate.new ≡ H.was_put gate.old }
+    ensures gone { HasLetGo B.let_go_between worker.old worker.new }
+    ensures first { before ≡ 0 → worker.new ≡ worker.old }
 {
     for _ in rt.forever() {
         match slot.next(rt, flag) {
@@ -278,7 +268,7 @@ fn next_link<R: Wait, H: Gate, W: Drop, K: Drop>(
             Next::Over => return None,
             Next::NotYet => {
                 if before != 0 {
-                    let_go(rt, alloc, gate);
+                    worker.let_go(rt, alloc);
                 }
             }
         }
@@ -286,51 +276,21 @@ fn next_link<R: Wait, H: Gate, W: Drop, K: Drop>(
     unreachable!()
 }
 
-/// How many lists are let go at most before the writer looks for a link again.
-const LET_GO: u32 = 4_096;
-
-/// Takes what lies there, and has the core stepped where its ring may have been full.
-fn let_go<R: Wait, H: Gate>(rt: &R, alloc: Global, gate: &mut H)
-    ensures taken { IsPrefix (H.was_taken gate.old) (H.was_taken gate.new) }
-    ensures none_put { H.was_put gate.new ≡ H.was_put gate.old }
-{
-    for _ in 0..LET_GO {
-        if gate.take().is_none() {
-            return;
-        }
-        let _ = gate.turn(rt, alloc);
-    }
-}
-
 /// Writes a link until it is closed, faulted or stopped. Unless it was stopped, its stream is shut down.
-fn write_link<R: Wait, P: Peer + Drop, W: Write + Drop, K: Closer + Drop, H: Gate, D: Clock>(
+fn write_link<R: Wait, P: Peer + Drop, W: Drop, K: Closer + Drop, B: LineWriter<W>>(
     rt: &R,
     alloc: Global,
     peer: P,
     link: u64,
     steps: u64,
     given: Given<W, K>,
-    gate: &mut H,
-    clock: &mut D,
+    worker: &mut B,
     stop: &AtomicBool,
 ) -> Result<WriterEnd, LinkFault>
-    ensures written { OfAStream (WritesLink link result (H.was_taken gate.old) (H.was_taken gate.new)) }
-    ensures none_put { H.was_put gate.new ≡ H.was_put gate.old }
+    ensures written { B.wrote worker.old link result worker.new }
 {
-    let Given {
-        mut stream,
-        mut closer,
-    } = given;
-    let end = peer.write(
-        rt,
-        alloc,
-        link,
-        steps.max(1),
-        &mut stream,
-        gate,
-        clock,
-        stop,
-    );
+    let Given { stream, mut closer } = given;
+    let end = worker.write(rt, alloc, peer, link, steps.max(1), stream, stop);
     if end != Ok(WriterEnd::Stopped) {
         closer.close(stop);
     }

@@ -5,6 +5,7 @@
 mod halves;
 mod job;
 mod line;
+mod line_writer;
 mod opener;
 mod peer;
 mod serving;
@@ -13,6 +14,7 @@ mod splitting;
 
 pub use gate_workers::{Clock, Gate, LinkFault, Prompt, WriterEnd, ends_link, ticker};
 pub use line::{Line, Worker};
+pub use line_writer::LineWriter;
 pub use opener::{Closer, LinkEnd, Opened, Opener};
 pub use peer::Peer;
 pub use serving::{ServeFault, serve};

@@ -7,12 +7,13 @@ ghost use Rattle.gate_serving.specs.declared.serving.ServeFault.TheVariants.{NoM
 
 use crate::job::run_all;
 use crate::line::{Line, Worker};
+use crate::line_writer::LineWriter;
 use crate::opener::{Closer, Opener};
 use crate::peer::Peer;
 use crate::splitting::{joined, slots_of, split};
 use gate_workers::{Clock, Gate};
 use std::alloc::Global;
-use std::io::{Read, Write};
+use std::io::Read;
 use std::sync::Wait;
 use std::sync::atomic::{AtomicBool, Ordering};
 use std::thread::Threads;
@@ -31,30 +32,26 @@ pub enum ServeFault {
 ///
 /// `NoMemory` before any thread starts: the lines are as they were. `NoThread` once one can't be had: from then on no
 /// further link is opened.
-pub fn serve<R, P, O, G, C, H, D>(
+pub fn serve<R, P, O, G, C, B>(
     rt: &R,
     alloc: Global,
-    lines: Vec<Line<P, O, Worker<G, C>, Worker<H, D>>>,
-) -> Result<
-    Vec<Line<P, O, Worker<G, C>, Worker<H, D>>>,
-    (ServeFault, Vec<Line<P, O, Worker<G, C>, Worker<H, D>>>),
->
+    lines: Vec<Line<P, O, Worker<G, C>, B>>,
+) -> Result<Vec<Line<P, O, Worker<G, C>, B>>, (ServeFault, Vec<Line<P, O, Worker<G, C>, B>>)>
 where
     R: Threads + Wait + Sync,
     P: Peer + Send + Drop,
     O: Opener + Send + Drop,
     O::Reader: Read + Send + Drop,
-    O::Writer: Write + Send + Drop,
+    O::Writer: Send + Drop,
     O::Closer: Closer + Send + Drop,
     G: Gate + Send + Drop,
     C: Clock + Send + Drop,
-    H: Gate + Send + Drop,
-    D: Clock + Send + Drop,
+    B: LineWriter<O::Writer> + Send + Drop,
     ensures served { IfOk result (λ back. AllZip
-        (LineServed P.reads O.has_ended O.opened G.was_put G.was_taken H.was_put H.was_taken true)
+        (LineServed P.reads O.has_ended O.opened G.was_put G.was_taken B.wrote B.let_go_between true)
         lines.items back.items) }
     ensures no_thread { IfErr result (λ e. e.0 ≡ NoThread → AllZip
-        (LineServed P.reads O.has_ended O.opened G.was_put G.was_taken H.was_put H.was_taken false)
+        (LineServed P.reads O.has_ended O.opened G.was_put G.was_taken B.wrote B.let_go_between false)
         lines.items e.1.items) }
     ensures no_memory { IfErr result (λ e. e.0 ≡ NoMemory → e.1.items ≡ lines.items) }
 {

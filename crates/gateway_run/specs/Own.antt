@@ -4,8 +4,12 @@ use Rattle.gate_events.specs.declared.source.Source.{Source}
 use Rattle.gate_events.specs.declared.source.Source.TheVariants as sources
 use Rattle.gate_events.specs.declared.source.Recipient.{Recipient}
 use Rattle.gate_events.specs.declared.source.Recipient.TheVariants as recipients
-use Rattle.run_lines.specs.declared.gate.RunGate.{RunGate}
-use Rattle.run_lines.specs.declared.gate.RunGate.TheVariants as gates
+use Rattle.std.specs.declared.io.Write as Write
+use Rattle.run_lines.specs.link_io.declared.streams.Prompt as Prompt
+use Rattle.run_lines.specs.link_io.declared.gate.Gate as Gate
+use Rattle.run_lines.specs.link_pens.declared.pen_worker.PenWorker.{PenWorker}
+use Rattle.run_lines.specs.declared.line_pen.RunPen.{RunPen}
+use Rattle.run_lines.specs.declared.line_pen.RunPen.TheVariants as pens
 use Rattle.run_lines.specs.declared.peer.RunPeer.{RunPeer}
 use Rattle.run_lines.specs.declared.peer.RunPeer.TheVariants as peers
 
@@ -21,7 +25,8 @@ recipient_of (peers.Client n) = Some (recipients.Client n)
 recipient_of (peers.Port n) = Some (recipients.Port n)
 recipient_of (peers.Clock ticks) = None
 
--- something of a gate, where there is one
-abbrev pub of_gate : {G X : Type 0} → (G → X) → RunGate G → Option X
-of_gate part (gates.Gate gate) = Some (part gate)
-of_gate part gates.Nothing = None
+-- something of a pen, where there is one
+abbrev pub of_pen : {W G C X : Type 0} {p : Prompt.Ghosts W} {w : Write.Ghosts W} {g : Gate.Ghosts G}
+    → (PenWorker W G C p w g → X) → RunPen W G C p w g → Option X
+of_pen part (pens.Pen pen) = Some (part pen)
+of_pen part pens.Nothing = None

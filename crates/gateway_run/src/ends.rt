@@ -1,11 +1,11 @@
 //! The ends of a desk, as lines that threads serve.
 
-ghost use Rattle.std.specs.Prelude.{◌≡◌, All};
-ghost use Rattle.gateway_run.specs.Own.{of_gate, recipient_of, source_of_peer};
+ghost use Rattle.std.specs.Prelude.{◌≡◌, All, true};
+ghost use Rattle.gateway_run.specs.Own.{of_pen, recipient_of, source_of_peer};
 
 use crate::lines::{Count, RunLine, client_line, clock_line, port_line};
 use crate::port_faults::PortLinks;
-use desk_gates::{DeskName, Inlet, Outlet, Shared};
+use desk_gates::{DeskName, Inlet, OutletEnd, OutletPen, Prompt, Shared};
 use gate_events::{ClientNumber, PortNumber, Recipient, Source};
 use run_lines::{ClientCounts, CountedLinks};
 use std::alloc::{AllocError, Global};
@@ -25,18 +25,37 @@ pub struct RunPlan<A, C> {
 /// The lines of a desk's clients, of its ports and of its clock, in this order. Its type keeps that each puts the
 /// events of its own client, port or clock, and takes what that is told.
 #[derive(Drop)]
-pub(crate) struct Ends<'a, A, C, K: DeskName, R> {
-    pub(crate) lines: Vec<RunLine<'a, A, C, K, R>>,
+pub(crate) struct Ends<'p, 'a, W: Prompt + Drop, G: OutletEnd + Drop, A, C, K: DeskName, R> {
+    pub(crate) lines: Vec<RunLine<'p, 'a, W, G, A, C, K, R>>,
     ghost puts_own: { All (λ l. l.reader.gate.inlet.source ≡ source_of_peer l.peer) lines.items },
-    ghost takes_own: { All (λ l. of_gate (λ g. g.outlet.to) l.writer.gate ≡ recipient_of l.peer) lines.items },
+    ghost takes_own: { All (λ l. of_pen (λ p. G.told p.pen.now.first.value) l.writer ≡ recipient_of l.peer)
+        lines.items },
 }
 
-impl<'a, A: Drop, C: Drop, K: DeskName, R: Wait + Clock + Eprint> Ends<'a, A, C, K, R> {
+impl<
+    'p,
+    'a,
+    W: Prompt + Drop,
+    G: OutletEnd + Drop,
+    A: Drop,
+    C: Drop,
+    K: DeskName,
+    R: Wait + Clock + Eprint,
+> Ends<'p, 'a, W, G, A, C, K, R> {
     /// No line yet.
-    fn new(alloc: Global) -> Ends<'a, A, C, K, R> {
+    fn new(alloc: Global) -> Ends<'p, 'a, W, G, A, C, K, R> {
         Ends {
             lines: Vec::new(alloc),
         }
+    }
+
+    /// Adds a line that is over its own ends.
+    fn add(&mut self, line: RunLine<'p, 'a, W, G, A, C, K, R>) -> Result<(), AllocError>
+        requires puts_own { line.reader.gate.inlet.source ≡ source_of_peer line.peer }
+        requires takes_own { of_pen (λ p. G.told p.pen.now.first.value) line.writer ≡ recipient_of line.peer }
+    {
+        self.lines.push(line)?;
+        Ok(())
     }
 
     /// Adds the line of a client over its inlet and outlet. One over another's would not be added.
@@ -47,13 +66,12 @@ impl<'a, A: Drop, C: Drop, K: DeskName, R: Wait + Clock + Eprint> Ends<'a, A, C,
         client: ClientNumber,
         opener: CountedLinks<'a, A>,
         inlet: Inlet<K>,
-        outlet: Outlet<K>,
+        pens: &'p [OutletPen<W, G>],
+        pen: &'p OutletPen<W, G>,
     ) -> Result<(), AllocError> {
-        if inlet.source() == Source::Client(client)
-            && outlet.recipient() == Recipient::Client(client)
-        {
-            let line = client_line(rt, shared, client, opener, inlet, outlet);
-            self.lines.push(line)?;
+        if is_of(&inlet, Source::Client(client)) && is_to(pen, Recipient::Client(client)) {
+            let line = client_line(rt, shared, client, opener, inlet, pens, pen);
+            return self.add(line);
         }
         Ok(())
     }
@@ -66,12 +84,13 @@ impl<'a, A: Drop, C: Drop, K: DeskName, R: Wait + Clock + Eprint> Ends<'a, A, C,
         port: PortNumber,
         opener: C,
         inlet: Inlet<K>,
-        outlet: Outlet<K>,
+        pens: &'p [OutletPen<W, G>],
+        pen: &'p OutletPen<W, G>,
     ) -> Result<(), AllocError> {
-        if inlet.source() == Source::Port(port) && outlet.recipient() == Recipient::Port(port) {
+        if is_of(&inlet, Source::Port(port)) && is_to(pen, Recipient::Port(port)) {
             let links = PortLinks::new(rt, shared, port, opener);
-            let line = port_line(rt, shared, port, links, inlet, outlet);
-            self.lines.push(line)?;
+            let line = port_line(rt, shared, port, links, inlet, pens, pen);
+            return self.add(line);
         }
         Ok(())
     }
@@ -85,38 +104,62 @@ impl<'a, A: Drop, C: Drop, K: DeskName, R: Wait + Clock + Eprint> Ends<'a, A, C,
         counts: &'a ClientCounts,
         is_over: &'a AtomicBool,
         inlet: Inlet<K>,
+        pens: &'p [OutletPen<W, G>],
     ) -> Result<(), AllocError> {
         if inlet.source() == Source::Clock {
-            let line = clock_line(rt, shared, count, counts, is_over, inlet);
-            self.lines.push(line)?;
+            let line = clock_line(rt, shared, count, counts, is_over, inlet, pens);
+            return self.add(line);
         }
         Ok(())
     }
 }
 
-/// Lines over the inlets and outlets of a desk: each inlet of a client or port with the outlet at its position.
-pub(crate) fn ends_of<'a, A: Drop, C: Drop, K: DeskName, R: Wait + Clock + Eprint>(
+/// Whether an inlet's events are of this source.
+fn is_of<K: DeskName>(inlet: &Inlet<K>, source: Source) -> bool
+    ensures { result ≡ true → inlet.now.source ≡ source }
+{
+    inlet.source() == source
+}
+
+/// Whether a pen writes what this one is told.
+fn is_to<W: Prompt + Drop, G: OutletEnd + Drop>(pen: &OutletPen<W, G>, recipient: Recipient) -> bool
+    ensures { result ≡ true → pen.now.to ≡ recipient }
+{
+    pen.recipient() == recipient
+}
+
+/// Lines over the inlets and the outlets' pens of a desk: each inlet of a client or port with the pen at its position.
+pub(crate) fn ends_of<
+    'p,
+    'a,
+    W: Prompt + Drop,
+    G: OutletEnd + Drop,
+    A: Drop,
+    C: Drop,
+    K: DeskName,
+    R: Wait + Clock + Eprint,
+>(
     rt: &'a R,
     alloc: Global,
     shared: &'a Shared<K, RandomState>,
     inlets: Vec<Inlet<K>>,
-    outlets: Vec<Outlet<K>>,
+    pens: &'p [OutletPen<W, G>],
     clients: Vec<CountedLinks<'a, A>>,
     ports: Vec<C>,
-) -> Result<Ends<'a, A, C, K, R>, AllocError> {
+) -> Result<Ends<'p, 'a, W, G, A, C, K, R>, AllocError> {
     let mut accepting = clients.into_iter();
     let mut connecting = ports.into_iter();
     let mut ends = Ends::new(alloc);
-    for (inlet, outlet) in inlets.into_iter().zip(outlets) {
+    for (inlet, pen) in inlets.into_iter().zip(pens) {
         match inlet.source() {
             Source::Client(client) => {
                 if let Some(opener) = accepting.next() {
-                    ends.add_client(rt, shared, client, opener, inlet, outlet)?;
+                    ends.add_client(rt, shared, client, opener, inlet, pens, pen)?;
                 }
             }
             Source::Port(port) => {
                 if let Some(opener) = connecting.next() {
-                    ends.add_port(rt, shared, port, opener, inlet, outlet)?;
+                    ends.add_port(rt, shared, port, opener, inlet, pens, pen)?;
                 }
             }
             Source::Clock => {}

@@ -1,17 +1,20 @@
 //! The lines of a gateway, over the ends of its desk.
 
-ghost use Rattle.std.specs.Prelude.{◌≡◌, None, Some};
+ghost use Rattle.std.specs.Prelude.{◌≡◌, All, [], None, Some};
 ghost use Rattle.gate_events.specs.declared.source.Recipient.TheVariants as recipients;
 ghost use Rattle.gate_events.specs.declared.source.Source.TheVariants as sources;
-ghost use Rattle.gateway_run.specs.Own.{of_gate, recipient_of, source_of_peer};
-ghost use Rattle.run_lines.specs.declared.gate.RunGate.TheVariants as gates;
+ghost use Rattle.gateway_run.specs.Own.{of_pen, recipient_of, source_of_peer};
+ghost use Rattle.run_lines.specs.declared.line_pen.RunPen.TheVariants as writers;
 
 use crate::clock::RunClock;
 use crate::port_faults::PortLinks;
-use desk_gates::{BellClock, DeskName, Finished, Inlet, InletGate, Outlet, OutletGate, Shared};
+use desk_gates::{
+    BellClock, DeskName, Finished, Inlet, InletGate, Outlet, OutletEnd, OutletGate, OutletPen,
+    PenWorker, Prompt, Shared,
+};
 use gate_events::{ClientNumber, PortNumber};
 use gate_serving::{Line, LinkFault, Worker};
-use run_lines::{ClientCounts, CountedLinks, RunGate, RunOpener, RunPeer, Ticks};
+use run_lines::{ClientCounts, CountedLinks, RunOpener, RunPeer, RunPen, Ticks};
 use std::alloc::{AllocError, Global};
 use std::hash::RandomState;
 use std::sync::Wait;
@@ -32,20 +35,20 @@ fn between_ticks() -> Duration {
 }
 
 /// A reader's worker over an inlet.
-pub(crate) type Reading<'a, K, R> = Worker<InletGate<'a, K, RandomState>, RunClock<'a, R>>;
-
-/// A writer's worker over an outlet; that of the clock has none.
-pub(crate) type Writing<'a, K, R> = Worker<
-    RunGate<OutletGate<'a, K, RandomState>>,
-    BellClock<'a, K, R, RandomState>,
+pub(crate) type Reading<'p, 'a, W, G, K, R> = Worker<
+    InletGate<'p, 'a, W, G, K, RandomState>,
+    RunClock<'a, R>,
 >;
 
+/// A writer by the pen of an outlet; that of the clock has none.
+pub(crate) type Writing<'p, 'a, W, G, K, R> = RunPen<'p, W, G, BellClock<'a, K, R, RandomState>>;
+
 /// A line of a gateway.
-pub(crate) type RunLine<'a, A, C, K, R> = Line<
+pub(crate) type RunLine<'p, 'a, W, G, A, C, K, R> = Line<
     RunPeer<'a>,
     RunOpener<CountedLinks<'a, A>, PortLinks<'a, C, K, R>>,
-    Reading<'a, K, R>,
-    Writing<'a, K, R>,
+    Reading<'p, 'a, W, G, K, R>,
+    Writing<'p, 'a, W, G, K, R>,
 >;
 
 /// How many clients and ports there are.
@@ -56,82 +59,106 @@ pub(crate) struct Count {
 }
 
 /// The line of a client over these ends.
-pub(crate) fn client_line<'a, A, C, K: DeskName, R: Wait + Clock>(
+pub(crate) fn client_line<
+    'p,
+    'a,
+    W: Prompt + Drop,
+    G: OutletEnd + Drop,
+    A,
+    C,
+    K: DeskName,
+    R: Wait + Clock,
+>(
     rt: &'a R,
     shared: &'a Shared<K, RandomState>,
     client: ClientNumber,
     opener: CountedLinks<'a, A>,
     inlet: Inlet<K>,
-    outlet: Outlet<K>,
-) -> RunLine<'a, A, C, K, R>
+    pens: &'p [OutletPen<W, G>],
+    pen: &'p OutletPen<W, G>,
+) -> RunLine<'p, 'a, W, G, A, C, K, R>
     ensures peer { source_of_peer result.peer ≡ sources.Client client }
     ensures told { recipient_of result.peer ≡ Some (recipients.Client client) }
     ensures inlet { result.reader.gate.inlet ≡ inlet }
-    ensures outlet { of_gate (λ g. g.outlet.to) result.writer.gate ≡ Some outlet.to }
+    ensures pen { of_pen (λ p. G.told p.pen.now.first.value) result.writer ≡ Some pen.now.to }
     ensures fault { result.fault ≡ None }
 {
-    let at = outlet.position();
+    let at = inlet.position();
     Line {
         peer: RunPeer::Client(client),
         steps: STEPS,
         fault: None,
         opener: RunOpener::Client(opener),
         reader: Worker {
-            gate: InletGate::new(shared, inlet),
+            gate: InletGate::new(shared, pens, inlet),
             clock: RunClock::new(rt, pause()),
         },
-        writer: Worker {
-            gate: RunGate::Gate(OutletGate::new(shared, outlet)),
-            clock: BellClock::new(rt, shared, at, pause()),
-        },
+        writer: RunPen::Pen(PenWorker::new(pen.pen(), BellClock::new(rt, shared, at, pause()))),
     }
 }
 
 /// The line of a port over these ends.
-pub(crate) fn port_line<'a, A, C, K: DeskName, R: Wait + Clock>(
+pub(crate) fn port_line<
+    'p,
+    'a,
+    W: Prompt + Drop,
+    G: OutletEnd + Drop,
+    A,
+    C,
+    K: DeskName,
+    R: Wait + Clock,
+>(
     rt: &'a R,
     shared: &'a Shared<K, RandomState>,
     port: PortNumber,
     opener: PortLinks<'a, C, K, R>,
     inlet: Inlet<K>,
-    outlet: Outlet<K>,
-) -> RunLine<'a, A, C, K, R>
+    pens: &'p [OutletPen<W, G>],
+    pen: &'p OutletPen<W, G>,
+) -> RunLine<'p, 'a, W, G, A, C, K, R>
     ensures peer { source_of_peer result.peer ≡ sources.Port port }
     ensures told { recipient_of result.peer ≡ Some (recipients.Port port) }
     ensures inlet { result.reader.gate.inlet ≡ inlet }
-    ensures outlet { of_gate (λ g. g.outlet.to) result.writer.gate ≡ Some outlet.to }
+    ensures pen { of_pen (λ p. G.told p.pen.now.first.value) result.writer ≡ Some pen.now.to }
     ensures fault { result.fault ≡ None }
 {
-    let at = outlet.position();
+    let at = inlet.position();
     Line {
         peer: RunPeer::Port(port),
         steps: STEPS,
         fault: None,
         opener: RunOpener::Port(opener),
         reader: Worker {
-            gate: InletGate::new(shared, inlet),
+            gate: InletGate::new(shared, pens, inlet),
             clock: RunClock::new(rt, pause()),
         },
-        writer: Worker {
-            gate: RunGate::Gate(OutletGate::new(shared, outlet)),
-            clock: BellClock::new(rt, shared, at, pause()),
-        },
+        writer: RunPen::Pen(PenWorker::new(pen.pen(), BellClock::new(rt, shared, at, pause()))),
     }
 }
 
 /// The line of the clock over its inlet, with one link, on which time passes until `is_over` is set.
-pub(crate) fn clock_line<'a, A, C, K: DeskName, R: Wait + Clock>(
+pub(crate) fn clock_line<
+    'p,
+    'a,
+    W: Prompt + Drop,
+    G: OutletEnd + Drop,
+    A,
+    C,
+    K: DeskName,
+    R: Wait + Clock,
+>(
     rt: &'a R,
     shared: &'a Shared<K, RandomState>,
     count: Count,
     counts: &'a ClientCounts,
     is_over: &'a AtomicBool,
     inlet: Inlet<K>,
-) -> RunLine<'a, A, C, K, R>
+    pens: &'p [OutletPen<W, G>],
+) -> RunLine<'p, 'a, W, G, A, C, K, R>
     ensures peer { source_of_peer result.peer ≡ sources.Clock }
     ensures told { recipient_of result.peer ≡ None }
     ensures inlet { result.reader.gate.inlet ≡ inlet }
-    ensures nothing { result.writer.gate ≡ gates.Nothing }
+    ensures nothing { result.writer ≡ writers.Nothing }
     ensures fault { result.fault ≡ None }
 {
     let Count { clients, ports } = count;
@@ -145,13 +172,10 @@ pub(crate) fn clock_line<'a, A, C, K: DeskName, R: Wait + Clock>(
         fault: None,
         opener: RunOpener::Clock(true),
         reader: Worker {
-            gate: InletGate::new(shared, inlet),
+            gate: InletGate::new(shared, pens, inlet),
             clock: RunClock::watching(rt, between_ticks(), counts, is_over),
         },
-        writer: Worker {
-            gate: RunGate::Nothing,
-            clock: BellClock::new(rt, shared, 0, pause()),
-        },
+        writer: RunPen::Nothing,
     }
 }
 
@@ -174,44 +198,61 @@ impl<K: DeskName> Left<K> {
     }
 
     /// Ends the inlet of a gate, and keeps what was put.
-    fn end_inlet(&mut self, gate: InletGate<'_, K, RandomState>) -> Result<(), AllocError> {
+    fn end_inlet<W: Prompt + Drop, G: OutletEnd + Drop>(
+        &mut self,
+        gate: InletGate<'_, '_, W, G, K, RandomState>,
+    ) -> Result<(), AllocError> {
         if let Some(put) = gate.finish() {
             self.finished.push(put)?;
         }
         Ok(())
     }
 
-    /// Ends the outlet of a gate, where it has one, and keeps what was taken.
-    fn end_outlet(
+    /// Ends the outlets of pens, and keeps what was taken. One whose link isn't over is let go.
+    pub(crate) fn end_outlets<W: Prompt + Drop>(
         &mut self,
-        gate: RunGate<OutletGate<'_, K, RandomState>>,
+        pens: Vec<OutletPen<W, OutletGate<'_, K, RandomState>>>,
     ) -> Result<(), AllocError> {
-        match gate {
-            RunGate::Gate(gate) => {
+        for pen in pens {
+            if let Some(gate) = pen.into_gate() {
                 self.finished.push(gate.finish())?;
-                Ok(())
             }
-            RunGate::Nothing => Ok(()),
         }
+        Ok(())
     }
 }
 
-/// What is left of lines: ends their ends, and keeps what was put and taken, and the first fault.
-pub(crate) fn left_of<'a, A: Drop, C: Drop, K: DeskName, R>(
-    alloc: Global,
-    lines: Vec<RunLine<'a, A, C, K, R>>,
-) -> Result<Left<K>, AllocError> {
+/// What is left of lines: ends their inlets, and keeps what was put, and the first fault.
+pub(crate) fn left_of<
+    'p,
+    'a,
+    W: Prompt + Drop,
+    G: OutletEnd + Drop,
+    A: Drop,
+    C: Drop,
+    K: DeskName,
+    R,
+>(alloc: Global, lines: Vec<RunLine<'p, 'a, W, G, A, C, K, R>>) -> Result<Left<K>, AllocError> {
     let mut left = Left::new(alloc);
     for line in lines {
-        let Line {
-            fault,
-            reader,
-            writer,
-            ..
-        } = line;
+        let Line { fault, reader, .. } = line;
         left.end_inlet(reader.gate)?;
-        left.end_outlet(writer.gate)?;
         left.fault = left.fault.or(fault);
     }
     Ok(left)
+}
+
+/// The pens of a desk's outlets, by position.
+pub(crate) fn pens_of<'a, W: Prompt + Drop, K: DeskName>(
+    alloc: Global,
+    shared: &'a Shared<K, RandomState>,
+    outlets: Vec<Outlet<K>>,
+) -> Result<Vec<OutletPen<W, OutletGate<'a, K, RandomState>>>, AllocError>
+    requires fresh { All (λ outlet. outlet.took ≡ []) outlets.items }
+{
+    let mut pens = Vec::with_capacity(alloc, outlets.len())?;
+    for outlet in outlets {
+        pens.push(OutletPen::new(OutletGate::new(shared, outlet)))?;
+    }
+    Ok(pens)
 }

@@ -5,14 +5,14 @@ ghost use Rattle.std.specs.Prelude.{◌≡◌, ◌<◌, length};
 use crate::day::Day;
 use crate::ends::{Ends, RunPlan, ends_of};
 use crate::fault::RunFault;
-use crate::lines::{Count, Left, left_of};
+use crate::lines::{Count, Left, left_of, pens_of};
 use audit_lines::Settings;
-use desk_gates::{DeskName, Inlet, Outlet, Parts, Shared, open_desk};
+use desk_gates::{DeskName, Inlet, OutletEnd, OutletPen, Parts, Prompt, Shared, open_desk};
 use gate_serving::{Closer, Opener, serve};
-use run_lines::{ClientCounts, CountedLinks};
+use run_lines::{ClientCounts, CountedLinks, RunWriter};
 use std::alloc::{AllocError, Global};
 use std::hash::RandomState;
-use std::io::{Read, Write};
+use std::io::Read;
 use std::marker::Brand;
 use std::sync::Wait;
 use std::sync::atomic::AtomicBool;
@@ -36,11 +36,11 @@ where
     R: Threads + Wait + Sync + Clock + Eprint,
     A: Opener + Send + Drop,
     A::Reader: Read + Send + Drop,
-    A::Writer: Write + Send + Drop,
+    A::Writer: Prompt + Send + Drop,
     A::Closer: Closer + Send + Drop,
     C: Opener + Send + Drop,
     C::Reader: Read + Send + Drop,
-    C::Writer: Write + Send + Drop,
+    C::Writer: Prompt + Send + Drop,
     C::Closer: Closer + Send + Drop,
 {
     let count = Count {
@@ -65,20 +65,30 @@ where
     R: Threads + Wait + Sync + Clock + Eprint,
     A: Opener + Send + Drop,
     A::Reader: Read + Send + Drop,
-    A::Writer: Write + Send + Drop,
+    A::Writer: Prompt + Send + Drop,
     A::Closer: Closer + Send + Drop,
     C: Opener + Send + Drop,
     C::Reader: Read + Send + Drop,
-    C::Writer: Write + Send + Drop,
+    C::Writer: Prompt + Send + Drop,
     C::Closer: Closer + Send + Drop,
     requires named { (parts.inlets ≡ K.inlets) × (parts.outlets ≡ K.outlets) }
     requires clock { 0 < length parts.inlets }
 {
     let (shared, inlets, outlets) = open_desk::<K, RandomState>(alloc, parts)?;
     let counts = ClientCounts::of(plan.clients.len().min(usize::from(count.clients)) as u32);
-    let left = serve_desk(
-        rt, alloc, count, &shared, &counts, inlets, outlets, plan, is_over,
+    let pens = pens_of::<RunWriter<A::Writer, C::Writer>, K>(alloc, &shared, outlets)?;
+    let mut left = serve_desk(
+        rt,
+        alloc,
+        count,
+        &shared,
+        &counts,
+        inlets,
+        pens.as_slice(),
+        plan,
+        is_over,
     )?;
+    left.end_outlets(pens)?;
     let Ok(closed) = shared.close(alloc, left.finished) else {
         return Err(RunFault::NoMemory);
     };
@@ -87,14 +97,14 @@ where
 
 /// Serves the ends of a desk, the last inlet being the clock's, until the clients' links have been served, and ends
 /// them.
-fn serve_desk<'a, K, R, A, C>(
+fn serve_desk<'p, 'a, K, R, A, C, G>(
     rt: &'a R,
     alloc: Global,
     count: Count,
     shared: &'a Shared<K, RandomState>,
     counts: &'a ClientCounts,
     inlets: Vec<Inlet<K>>,
-    outlets: Vec<Outlet<K>>,
+    pens: &'p [OutletPen<RunWriter<A::Writer, C::Writer>, G>],
     plan: RunPlan<A, C>,
     is_over: &'a AtomicBool,
 ) -> Result<Left<K>, RunFault>
@@ -103,12 +113,13 @@ where
     R: Threads + Wait + Sync + Clock + Eprint,
     A: Opener + Send + Drop,
     A::Reader: Read + Send + Drop,
-    A::Writer: Write + Send + Drop,
+    A::Writer: Prompt + Send + Drop,
     A::Closer: Closer + Send + Drop,
     C: Opener + Send + Drop,
     C::Reader: Read + Send + Drop,
-    C::Writer: Write + Send + Drop,
+    C::Writer: Prompt + Send + Drop,
     C::Closer: Closer + Send + Drop,
+    G: OutletEnd + Send + Drop,
     requires clock { 0 < length inlets.items }
 {
     let mut inlets = inlets;
@@ -117,8 +128,8 @@ where
     };
     let RunPlan { clients, ports } = plan;
     let clients = counted(alloc, clients, counts, is_over)?;
-    let mut ends = ends_of(rt, alloc, shared, inlets, outlets, clients, ports)?;
-    ends.add_clock(rt, shared, count, counts, is_over, clock)?;
+    let mut ends = ends_of(rt, alloc, shared, inlets, pens, clients, ports)?;
+    ends.add_clock(rt, shared, count, counts, is_over, clock, pens)?;
     let Ends { lines, .. } = ends;
     match serve(rt, alloc, lines) {
         Ok(lines) => Ok(left_of(alloc, lines)?),

@@ -1,2 +1,3 @@
 mod SoFar
 mod Keeping
+pub mod Sent

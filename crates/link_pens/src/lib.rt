@@ -4,8 +4,10 @@
 
 mod link;
 mod pen;
+mod pen_worker;
 mod stepped;
 mod work;
 
-pub use gate_serving::{Clock, Gate, LinkFault, Prompt, WriterEnd};
+pub use gate_serving::{Clock, Gate, LineWriter, LinkFault, Prompt, WriterEnd};
 pub use pen::Pen;
+pub use pen_worker::PenWorker;

@@ -8,6 +8,7 @@ use crate::stepped::Stepped;
 use crate::work::Work;
 use gate_serving::{Clock, Gate, LinkFault, Prompt, WriterEnd};
 use std::alloc::Global;
+use std::snapshot::Snapshot;
 use std::sync::atomic::{AtomicBool, Ordering};
 use std::sync::{Mutex, Wait};
 
@@ -22,15 +23,20 @@ const LET_GO: u32 = 4_096;
 #[derive(Drop)]
 pub struct Pen<W: Prompt + Drop, G: Gate + Drop> {
     work: Mutex<Work<W, G>>,
+    /// The gate as it came: for contracts alone.
+    first: Snapshot<G>,
 }
 
 impl<W: Prompt + Drop, G: Gate + Drop> Pen<W, G> {
     /// For the links of the client or port of this number, over a gate of which nothing was taken. Takes no memory.
     pub fn new(number: u16, gate: G) -> Pen<W, G>
         requires fresh { G.was_taken gate ≡ [] }
+        ensures first { result.first.value ≡ gate }
     {
+        let first = Snapshot::of(&gate);
         Pen {
             work: Mutex::new(Work::new(number, gate)),
+            first,
         }
     }
 
@@ -110,11 +116,12 @@ impl<W: Prompt + Drop, G: Gate + Drop> Pen<W, G> {
     pub fn into_gate(self) -> Result<G, Pen<W, G>>
         ensures written { IfOk result (λ gate. ∥ LineWritten [] (G.was_taken gate) ∥₁) }
     {
-        let Pen { work } = self;
+        let Pen { work, first } = self;
         match work.into_inner().into_gate() {
             Ok(gate) => Ok(gate),
             Err(work) => Err(Pen {
                 work: Mutex::new(work),
+                first,
             }),
         }
     }

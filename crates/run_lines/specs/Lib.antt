@@ -1,4 +1,4 @@
-pub mod Gates
 pub mod Openers
 pub mod Peers
 pub use Rattle.link_io.specs as link_io
+pub use Rattle.link_pens.specs as link_pens

@@ -2,14 +2,14 @@
 #![tactic(auto)]
 
 mod counted;
-mod gate;
+mod line_pen;
 mod opener;
 mod peer;
 mod streams;
 
 pub use counted::{ClientCounts, CountedLinks};
-pub use gate::RunGate;
 pub use gate_serving::{Clock, Closer, Gate, LinkEnd, LinkFault, Opened, Opener, Peer, WriterEnd};
+pub use line_pen::RunPen;
 pub use opener::RunOpener;
 pub use peer::{RunPeer, Ticks};
 pub use streams::{RunCloser, RunReader, RunWriter};

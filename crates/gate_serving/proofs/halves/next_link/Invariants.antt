@@ -1,10 +1,9 @@
 use Rattle.std.proofs.Common.{◌≡◌}
-use mathlib.Core.List.{IsPrefix}
+use Rattle.gate_serving.specs.Lines.{HasLetGo}
 use Rattle.gate_serving.proofs.halves.next_link.Given as goal
 
 abbrev pub invariant-loop : goal.invariant-loop
 invariant-loop g l = record {
-  taken : IsPrefix (g.H.Gate.was_taken l.fn.gate) (g.H.Gate.was_taken l.gate);
-  first : l.fn.before ≡ 0 → g.H.Gate.was_taken l.gate ≡ g.H.Gate.was_taken l.fn.gate;
-  none_put : g.H.Gate.was_put l.gate ≡ g.H.Gate.was_put l.fn.gate;
+  gone : HasLetGo g.B.LineWriter.let_go_between l.fn.worker l.worker;
+  first : l.fn.before ≡ 0 → l.worker ≡ l.fn.worker;
 }

@@ -14,17 +14,17 @@ joined-back-requires-clause-room g c =
 pub returns-then-not-load-clause-served : goal.returns-then-not-load-clause-served
 returns-then-not-load-clause-served g c =
     all_through IsSplit
-    (HalvesDid g.P.Peer.reads g.O.Opener.has_ended g.O.Opener.opened g.G.Gate.was_put g.G.Gate.was_taken g.H.Gate.was_put g.H.Gate.was_taken)
+    (HalvesDid g.P.Peer.reads g.O.Opener.has_ended g.O.Opener.opened g.G.Gate.was_put g.G.Gate.was_taken g.B.LineWriter.wrote g.B.LineWriter.let_go_between)
     IsJoined (λ x. ◌≡◌ {A = Bool} x.0.all_over true)
-    (LineServed g.P.Peer.reads g.O.Opener.has_ended g.O.Opener.opened g.G.Gate.was_put g.G.Gate.was_taken g.H.Gate.was_put g.H.Gate.was_taken true)
-    (served_whole g.P.Peer.reads g.O.Opener.has_ended g.O.Opener.opened g.G.Gate.was_put g.G.Gate.was_taken g.H.Gate.was_put g.H.Gate.was_taken)
+    (LineServed g.P.Peer.reads g.O.Opener.has_ended g.O.Opener.opened g.G.Gate.was_put g.G.Gate.was_taken g.B.LineWriter.wrote g.B.LineWriter.let_go_between true)
+    (served_whole g.P.Peer.reads g.O.Opener.has_ended g.O.Opener.opened g.G.Gate.was_put g.G.Gate.was_taken g.B.LineWriter.wrote g.B.LineWriter.let_go_between)
     _ _ _ _ c.split-halves.ensures.lines c.run_all-halves.ensures.did (c.joined-back.ensures.all_over c.if-all_over.true) c.joined-back.ensures.lines
 
 pub returns-clause-no_thread : goal.returns-clause-no_thread
 returns-clause-no_thread g c = λ e.
     all_through IsSplit
-    (HalvesDid g.P.Peer.reads g.O.Opener.has_ended g.O.Opener.opened g.G.Gate.was_put g.G.Gate.was_taken g.H.Gate.was_put g.H.Gate.was_taken)
+    (HalvesDid g.P.Peer.reads g.O.Opener.has_ended g.O.Opener.opened g.G.Gate.was_put g.G.Gate.was_taken g.B.LineWriter.wrote g.B.LineWriter.let_go_between)
     IsJoined (λ x. Unit {0})
-    (LineServed g.P.Peer.reads g.O.Opener.has_ended g.O.Opener.opened g.G.Gate.was_put g.G.Gate.was_taken g.H.Gate.was_put g.H.Gate.was_taken false)
-    (served_in_part g.P.Peer.reads g.O.Opener.has_ended g.O.Opener.opened g.G.Gate.was_put g.G.Gate.was_taken g.H.Gate.was_put g.H.Gate.was_taken)
+    (LineServed g.P.Peer.reads g.O.Opener.has_ended g.O.Opener.opened g.G.Gate.was_put g.G.Gate.was_taken g.B.LineWriter.wrote g.B.LineWriter.let_go_between false)
+    (served_in_part g.P.Peer.reads g.O.Opener.has_ended g.O.Opener.opened g.G.Gate.was_put g.G.Gate.was_taken g.B.LineWriter.wrote g.B.LineWriter.let_go_between)
     _ _ _ _ c.split-halves.ensures.lines c.run_all-halves.ensures.did (all_of_any c.run_all-halves.result.items) c.joined-back.ensures.lines

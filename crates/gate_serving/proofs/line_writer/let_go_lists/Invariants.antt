@@ -1,6 +1,6 @@
 use Rattle.std.proofs.Common.{◌≡◌}
 use mathlib.Core.List.{IsPrefix}
-use Rattle.gate_serving.proofs.halves.let_go.Given as goal
+use Rattle.gate_serving.proofs.line_writer.let_go_lists.Given as goal
 
 abbrev pub invariant-loop : goal.invariant-loop
 invariant-loop g l = record {

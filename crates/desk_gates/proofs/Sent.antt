@@ -1,0 +1,58 @@
+-- An outlet's pen may be shared, and an inlet's gate may go to another thread, since what the threads share of a desk may
+-- be shared.
+use denote.RattleType.{RattleType}
+use denote.Ref.{NamedLft}
+use denote.Param.Send.{IsSend, IsSync, sendable}
+use denote.Param.SendFields.{declared_send, declared_sync}
+use Rattle.std.specs.declared.hash.Hasher as Hasher
+use Rattle.std.specs.declared.hash.BuildHasher as BuildHasher
+use Rattle.std.specs.declared.io.Write as Write
+use Rattle.std.proofs.Crossing.{crosses}
+use Rattle.gate_workers.specs.link_io.declared.streams.Prompt as Prompt
+use Rattle.gate_workers.specs.link_io.declared.gate.Gate as Gate
+use Rattle.desk_gates.specs.declared.outlet_pen.OutletEnd as OutletEnd
+use Rattle.link_pens.proofs.Sent.{pen_sync}
+use Rattle.desk.proofs.Sent.{inlet_send, outlet_send, shared_sync}
+use Rattle.desk.specs.desk_ends.declared.name.DeskName as DeskName
+use Rattle.link_pens.specs.contracts.pen_worker.PenWorker as PenWorker
+use Rattle.desk_gates.specs.contracts.inlet.InletGate as InletGate
+use Rattle.desk_gates.specs.contracts.outlet.OutletGate as OutletGate
+use Rattle.desk_gates.specs.contracts.outlet_pen.OutletPen as OutletPen
+use Rattle.desk_gates.specs.contracts.told_pens.ToldPens as ToldPens
+
+module _ (K S T : RattleType) (k : DeskName.Ghosts K.Denot) (g : BuildHasher.Ghosts S.Denot T.Denot)
+    (h : Hasher.Ghosts T.Denot) (ss : IsSend S) where
+  pub outlet_gate_send : (a : NamedLft) → IsSend (OutletGate.the_row a K S T k g h)
+  outlet_gate_send a = let shared = shared_sync K S T k g h ss in declared_send (OutletGate.the_type a K S T k g h) (
+    search (shared, sendable) depth 40,
+    (search (outlet_send, sendable) depth 40, (search sendable depth 40, tt)),
+  )
+
+module _ (W G : RattleType) (p : Prompt.Ghosts W.Denot) (w : Write.Ghosts W.Denot) (t : Gate.Ghosts G.Denot)
+    (sw : IsSend W) (sg : IsSend G) where
+  pub pen_worker_send : (a : NamedLft) (C : RattleType) → IsSend C → IsSend (PenWorker.the_row a W G C p w t)
+  pen_worker_send a C c = let pen = pen_sync W G sw sg p w t in declared_send (PenWorker.the_type a W G C p w t)
+      (search (pen, sendable) depth 40, (search (c, sendable) depth 40, tt))
+
+module _ (W G : RattleType) (p : Prompt.Ghosts W.Denot) (w : Write.Ghosts W.Denot) (e : OutletEnd.Ghosts G.Denot)
+    (t : Gate.Ghosts G.Denot) (sw : IsSend W) (sg : IsSend G) where
+  pub outlet_pen_sync : IsSync (OutletPen.the_row W G p w e t)
+  outlet_pen_sync = declared_sync (OutletPen.the_type W G p w e t)
+      (search (sendable, crosses) depth 40, (search (pen_sync, sw, sg, sendable) depth 40, tt))
+
+  module _ (K S T : RattleType) (k : DeskName.Ghosts K.Denot) (g : BuildHasher.Ghosts S.Denot T.Denot)
+      (h : Hasher.Ghosts T.Denot) (ss : IsSend S) where
+    told_pens_send : (q a : NamedLft) → IsSend (ToldPens.the_row q a W G K S T p w e t k g h)
+    told_pens_send q a = let shared = shared_sync K S T k g h ss in declared_send
+        (ToldPens.the_type q a W G K S T p w e t k g h)
+        (search (shared, sendable) depth 40, (search (outlet_pen_sync, sendable, crosses) depth 40, tt))
+
+    pub inlet_gate_send : (q a : NamedLft) → IsSend (InletGate.the_row q a W G K S T p w e t k g h)
+    inlet_gate_send q a = let shared = shared_sync K S T k g h ss in declared_send
+        (InletGate.the_type q a W G K S T p w e t k g h) (
+          search (shared, sendable) depth 40,
+          (
+            search (told_pens_send, sendable) depth 40,
+            (search (inlet_send, sendable) depth 40, (search sendable depth 40, tt)),
+          ),
+        )

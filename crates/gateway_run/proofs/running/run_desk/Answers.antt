@@ -1,0 +1,27 @@
+-- No list was taken from the outlets of a desk that was opened just now, and their gates may go to other threads.
+use denote.Param.{param}
+use denote.Param.Send.{IsSend, sendable}
+use denote.Ref.{NamedLft}
+use denote.RattleType.{RattleType}
+use Rattle.std.proofs.Common.{◌≡◌, []}
+use Rattle.std.proofs.Crossing.{crosses}
+use Rattle.std.specs.declared.hash.BuildHasher as BuildHasher
+use Rattle.std.specs.declared.hash.Hasher as Hasher
+use Rattle.desk_gates.proofs.Sent.{outlet_gate_send}
+use Rattle.desk_gates.specs.desk.declared.DeskName as DeskName
+use Rattle.desk_gates.specs.desk.desk_ends.Rings.{Taking}
+use Rattle.desk_gates.specs.contracts.outlet.OutletGate as OutletGate
+use Rattle.gateway_run.proofs.Kept.{at_each}
+use Rattle.gateway_run.proofs.running.run_desk.Goals as goal
+
+pub pens_of-requires : goal.pens_of-requires
+pens_of-requires g c =
+    record { fresh = at_each (λ (x : Taking). x.took ≡ []) _ (λ d x e. (c.in_ok-shared.ensures.outlets.1 d x e).1) }
+
+pub serve_desk-requires-send-G : goal.serve_desk-requires-send-G
+serve_desk-requires-send-G g c κs l =
+    let gates : (a : NamedLft) (K S T : RattleType) (k : DeskName.Ghosts K.Denot)
+    (b : BuildHasher.Ghosts S.Denot T.Denot) (h : Hasher.Ghosts T.Denot) → IsSend S
+    → IsSend (OutletGate.the_row a K S T k b h)
+    = λ a K S T k b h s. outlet_gate_send K S T k b h s a in
+    search (gates, sendable, crosses) depth 100 fits 500000

@@ -1,0 +1,44 @@
+//! What writes a line's links.
+
+use gate_serving::{Clock, Gate, LineWriter, LinkFault, Peer, Prompt, WriterEnd};
+use link_pens::PenWorker;
+use std::alloc::Global;
+use std::sync::Wait;
+use std::sync::atomic::AtomicBool;
+
+/// The writer of a client's or port's links by their pen, or none: the clock is told nothing.
+#[derive(Drop)]
+pub enum RunPen<'p, W: Prompt + Drop, G: Gate + Drop, C> {
+    Pen(PenWorker<'p, W, G, C>),
+    Nothing,
+}
+
+impl<'p, W: Prompt + Drop, G: Gate + Drop, C: Clock + Drop> LineWriter<W> for RunPen<'p, W, G, C> {
+    ghost wrote = { λ old link end new. Unit {0} };
+
+    ghost let_go_between = { λ old new. Unit {0} };
+
+    /// Writes a link by the pen; that of the clock is told nothing.
+    fn write<R: Wait, P: Peer + Drop>(
+        &mut self,
+        rt: &R,
+        alloc: Global,
+        peer: P,
+        link: u64,
+        steps: u64,
+        stream: W,
+        stop: &AtomicBool,
+    ) -> Result<WriterEnd, LinkFault> {
+        match self {
+            RunPen::Pen(pen) => pen.write(rt, alloc, peer, link, steps, stream, stop),
+            RunPen::Nothing => Ok(WriterEnd::Stopped),
+        }
+    }
+
+    fn let_go<R: Wait>(&mut self, rt: &R, alloc: Global) {
+        match self {
+            RunPen::Pen(pen) => pen.let_go(rt, alloc),
+            RunPen::Nothing => {}
+        }
+    }
+}
