@@ -12,4 +12,6 @@ mod full_rings;
 #[cfg(test)]
 mod threads;
 #[cfg(test)]
+mod told_at_once;
+#[cfg(test)]
 mod turned_by_both;
