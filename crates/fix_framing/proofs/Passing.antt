@@ -8,8 +8,10 @@ use Rattle.fix_fields.specs.Reading.{fields_of}
 use Rattle.fix_framing.specs.Stream.{Place, Frame, Waiting, End, Rest, Over, StreamParts, place, parts, parts_behind, with_frame, ReaderStanding, with_frames, IsOn, left, end_of, longer, Passed, Sought, IsSeen, IsRemembered, PassesFrame, IsTaken, BytesLeave, Feeds, counted_skips}
 use Rattle.fix_fields.specs.declared.view.FieldsView.{FieldsView}
 use Rattle.fix_framing.specs.declared.frame_fault.FrameFault.{FrameFault}
-use Rattle.fix_framing.specs.Front.{LendsFrame}
-use Rattle.fix_framing.specs.Seen.{IsNext}
+use Rattle.fix_framing.specs.declared.frame_fault.FrameFault.TheVariants as fault
+use Rattle.fix_framing.specs.Front.{GivesFrame, IsFramed, LendsFrame}
+use Rattle.fix_framing.specs.declared.place.Framed.{Framed}
+use Rattle.fix_framing.specs.Seen.{IsNext, IsNextFrame}
 use Rattle.fix_framing.proofs.Places.{frame_is_there, frame_fields, place_more}
 use Rattle.fix_framing.proofs.Parts.{joined, go_on, parts-append, parts-frame, parts-waiting, parts-too_long, feeds}
 
@@ -208,3 +210,66 @@ feeds_taken fed piece given old new open_ taken left = by_end old.end refl
         let t = taken bytes e in
         subst (λ (g : List (List Field)). Feeds fed piece g new) (sym t.frames) (feeds fed piece bytes old new (parts (bytes ++ piece)) left e refl t.end t.skipped)
     by_end Over e = absurd (open_ e)
+
+-- ---- a frame that is given at once
+
+abbrev size_of : Option Framed → Option ℕ
+size_of None = None
+size_of (Some framed) = Some framed.size
+
+next_of_framed : (found : Option Framed) (over : Bool) (p : Place) → IsNextFrame found over p → IsNext (size_of found) over p
+next_of_framed (Some framed) true p next = absurd next
+next_of_framed (Some framed) false p next = (framed.fields, next)
+next_of_framed None true p next = next
+next_of_framed None false p next = next
+
+pub sought_frame : (old new : ReaderStanding) (held : List ℕ) (k : ℕ) (found : Option Framed) (over : Bool) → old.end ≡ Rest held → IsOn held [] k k → IsNextFrame found over (place (drop k held))
+    → new.end ≡ end_of over (drop k held) → new.skipped ≡ counted_skips (old.skipped + k) → LetsGo k old.kept new.kept → Sought old new
+sought_frame old new held k found over was on next is skipped kept =
+    sought old new held k (size_of found) over was on (next_of_framed found over (place (drop k held)) next) is skipped kept
+
+pub framed_next : (found : Option Framed) (over : Bool) (rest : List ℕ) (end : End) → IsNextFrame found over (place rest) → end ≡ end_of over rest → IsFramed found end
+framed_next found over rest end next e = subst (IsFramed found) (sym e) (by_case found over next)
+  where
+    by_case : (found : Option Framed) (over : Bool) → IsNextFrame found over (place rest) → IsFramed found (end_of over rest)
+    by_case (Some framed) true next = absurd next
+    by_case (Some framed) false next = next
+    by_case None true next = tt
+    by_case None false next = next
+
+framed_at : (framed : Framed) (a b : End) → a ≡ b → IsFramed (Some framed) a → IsFramed (Some framed) b
+framed_at framed a b e h = subst (IsFramed (Some framed)) e h
+
+pub framed_there : (framed : Framed) (over : Bool) (held : List ℕ) (end : End) → end_of over held ≡ end → IsFramed (Some framed) end → framed.size ≤ length held
+framed_there framed true held end e seen = absurd (framed_at framed end Over (sym e) seen)
+framed_there framed false held end e seen = (frame_is_there held framed.size framed.fields (framed_at framed end (Rest held) (sym e) seen)).there
+
+framed_left : (framed : Framed) (over : Bool) (held : List ℕ) (end : End) → end_of over held ≡ end → IsFramed (Some framed) end
+    → left end ≡ with_frame framed.fields (left (end_of over (drop framed.size held)))
+framed_left framed true held end e seen = absurd (framed_at framed end Over (sym e) seen)
+framed_left framed false held end e seen =
+    ap left (sym e) ∙ parts-frame held framed.size framed.fields (framed_at framed end (Rest held) (sym e) seen)
+
+pub gives : (old mid new : ReaderStanding) (framed : Framed) (over : Bool) (held : List ℕ) → Sought old mid → end_of over held ≡ mid.end → IsFramed (Some framed) mid.end
+    → new.end ≡ end_of over (drop framed.size held) → new.skipped ≡ mid.skipped → LetsGo framed.size mid.kept new.kept → GivesFrame (Ok (Some framed.fields)) old new
+gives old mid new framed over held sought was seen end skipped kept =
+    let step : left mid.end ≡ with_frame framed.fields (left new.end) = framed_left framed over held mid.end was seen ∙ ap (λ (e : End). with_frame framed.fields (left e)) (sym end) in (
+      sym sought.frames ∙ ap (λ (p : StreamParts). p.frames) step,
+      passes_frame old mid new framed.fields sought step skipped,
+      (mid.kept, sought.kept.0, framed.size, sought.kept.1, kept),
+    )
+
+pub none_framed : (old now : ReaderStanding) (bytes : List ℕ) → now.end ≡ Rest bytes → IsFramed None now.end → Sought old now → GivesFrame (Ok None) old now
+none_framed old now bytes e seen sought =
+    let waits = parts-waiting bytes (subst (IsFramed None) e seen) in (
+      sym sought.frames ∙ ap (λ (d : End). (left d).frames) e ∙ ap (λ (p : StreamParts). p.frames) waits,
+      (bytes, sym sought.end ∙ ap (λ (d : End). (left d).end) e ∙ ap (λ (p : StreamParts). p.end) waits),
+      sought,
+    )
+
+pub over_framed : (old now : ReaderStanding) → now.end ≡ Over → Sought old now → GivesFrame (Err fault.TooLong) old now
+over_framed old now e sought = (
+  sym sought.frames ∙ ap (λ (d : End). (left d).frames) e,
+  sym sought.end ∙ ap (λ (d : End). (left d).end) e,
+  sought,
+)

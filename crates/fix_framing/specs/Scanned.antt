@@ -2,7 +2,8 @@
 use Rattle.std.specs.Prelude.{ℕ, List, [], drop}
 use Rattle.fix_framing.specs.declared.scan.Scanned.{Scanned}
 use Rattle.fix_framing.specs.declared.scan.Next.{Next}
-use Rattle.fix_framing.specs.Seen.{IsNext}
+use Rattle.fix_framing.specs.declared.scan.NextFrame.{NextFrame}
+use Rattle.fix_framing.specs.Seen.{IsNext, IsNextFrame}
 use Rattle.fix_framing.specs.Stream.{StreamParts, IsOn, end_of, place}
 
 -- with this left behind all
@@ -17,3 +18,8 @@ scanned_parts scanned rest = record {
 abbrev pub StandsNext : Next → List ℕ → Type 0
 StandsNext next text =
     IsOn text [] next.skipped next.skipped × IsNext next.size next.is_over (place (drop next.skipped text))
+
+-- the same, with the fields of the frame
+abbrev pub StandsFramed : NextFrame → List ℕ → Type 0
+StandsFramed next text =
+    IsOn text [] next.skipped next.skipped × IsNextFrame next.frame next.is_over (place (drop next.skipped text))

@@ -4,6 +4,7 @@ use Rattle.fix_fields.specs.Field.{Field}
 use Rattle.fix_fields.specs.Reading.{fields_of}
 use Rattle.fix_framing.specs.declared.start.Start.{Start as ReadStart}
 use Rattle.fix_framing.specs.declared.start.Start.TheVariants as start
+use Rattle.fix_framing.specs.declared.place.Framed.{Framed}
 use Rattle.fix_framing.specs.declared.place.Place.{Place as ReadPlace}
 use Rattle.fix_framing.specs.declared.place.Place.TheVariants as place
 use Rattle.fix_framing.specs.declared.place.Framing.{Framing}
@@ -23,7 +24,7 @@ IsShort start.LessThanHead = Unit {0}
 IsShort start.NoHead = Unit {0}
 
 abbrev pub place_seen : ReadPlace → Place
-place_seen (place.Frame size fields) = Frame size fields
+place_seen (place.Frame framed) = Frame framed.size framed.fields
 place_seen place.Skipped = Skipped
 place_seen place.Waiting = Waiting
 place_seen place.TooLong = TooLong
@@ -55,3 +56,10 @@ IsNext (Some size) true place = ⊥
 IsNext (Some size) false place = (fields : List Field) × (place ≡ Frame size fields)
 IsNext None true place = place ≡ TooLong
 IsNext None false place = place ≡ Waiting
+
+-- the same, with the fields of the frame
+abbrev pub IsNextFrame : Option Framed → Bool → Place → Type 0
+IsNextFrame (Some framed) true place = ⊥
+IsNextFrame (Some framed) false place = place ≡ Frame framed.size framed.fields
+IsNextFrame None true place = place ≡ TooLong
+IsNextFrame None false place = place ≡ Waiting

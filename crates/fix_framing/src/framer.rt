@@ -1,19 +1,20 @@
 //! The reader of a stream.
 
 ghost use Rattle.std.specs.Prelude.{◌≡◌, ◌≢◌, ◌<◌, ◌≤◌, ◌*◌, ◌^◌, ◌++◌, ℕ, List, [], length};
-ghost use Rattle.std.specs.Prelude.{IfOk, IfNone, IsOk, OnOk, OnErr, Err, IsTrue, ◌↔◌, ⊤};
+ghost use Rattle.std.specs.Prelude.{IfOk, IfNone, IsOk, OnOk, OnErr, Err, None, IsTrue, ◌↔◌, ⊤};
 ghost use Rattle.std.specs.Borrow.{sem, follows_so};
 ghost use mathlib.Core.Option.{none};
 ghost use Rattle.stream_buffer.specs.Buffer.{Takes, Counts};
 ghost use Rattle.fix_fields.specs.Field.{Field};
-ghost use Rattle.fix_framing.specs.Stream.{Rest, Over, BytesLeave, Feeds, parts, counted_skips};
+ghost use Rattle.fix_framing.specs.Stream.{ReaderStanding, Rest, Over, BytesLeave, Feeds, parts, counted_skips};
 ghost use Rattle.fix_framing.specs.Stream.{Passed, PassesFrame, Sought, IsSeen, IsTaken, left, longer};
-ghost use Rattle.fix_framing.specs.Front.{LendsFrame};
+ghost use Rattle.fix_framing.specs.Front.{GivesFrame, IsFramed, LendsFrame};
 ghost use Rattle.fix_framing.specs.declared.frame_fault.FrameFault.TheVariants.{TooLong, NoMemory};
 ghost use Rattle.fix_framing.specs.contracts.framer.Framer.{the_row};
 
 use crate::frame_fault::FrameFault;
-use crate::scan::{next_of, scan_in};
+use crate::place::Framed;
+use crate::scan::{next_frame_of, next_of, scan_in};
 use fix_fields::{Fields, FieldsView};
 use std::alloc::{AllocError, Global};
 use std::marker::Model;
@@ -110,6 +111,52 @@ impl Framer {
         self.seen = None;
         self.buffer.pass(size);
         true
+    }
+
+    /// The frame that comes next, moved out: its fields, and it is passed; `None` where none is whole. Bytes before it
+    /// are skipped. What `front` and `pass` do with a copy between them, in one reading of its bytes. Two growths.
+    ///
+    /// `TooLong` where a head announces a frame of more than 8,192 bytes. `NoMemory` leaves the reader as it was.
+    ///
+    /// Source: FIX 4.4 Volume 1, "Message Format".
+    pub fn next(&mut self, alloc: Global) -> Result<Option<Fields>, FrameFault>
+        ensures { GivesFrame result self.old self.new }
+    {
+        let Some(framed) = self.seek_frame(alloc)? else {
+            return self.none_is_whole();
+        };
+        self.seen = None;
+        self.buffer.pass(framed.size);
+        Ok(Some(framed.fields))
+    }
+
+    /// Skips what no frame begins with. The frame in front, where one is whole. An error leaves all as it was.
+    fn seek_frame(&mut self, alloc: Global) -> Result<Option<Framed>, AllocError>
+        ensures sought { OnOk result (Sought self.old self.new) }
+        ensures framed { IfOk result (λ framed. IsFramed framed self.new.end) }
+        ensures err { OnErr result (self.new ≡ self.old) }
+    {
+        if self.is_over {
+            return Ok(None);
+        }
+        let next = next_frame_of(alloc, self.buffer.held())?;
+        self.seen = None;
+        self.buffer.pass(next.skipped);
+        self.skipped = self.skipped.saturating_add(next.skipped as u64);
+        self.is_over = next.is_over;
+        Ok(next.frame)
+    }
+
+    /// What is said where no frame is whole.
+    fn none_is_whole(&self) -> Result<Option<Fields>, FrameFault>
+        requires { IsFramed None self.now.end }
+        ensures { (old : ReaderStanding) → Sought old self.now → GivesFrame result old self.now }
+    {
+        if self.is_over {
+            Err(FrameFault::TooLong)
+        } else {
+            Ok(None)
+        }
     }
 
     /// Skips what no frame begins with. The size of the frame in front, where one is whole.

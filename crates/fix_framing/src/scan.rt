@@ -3,10 +3,10 @@
 ghost use Rattle.std.specs.Prelude.{◌≡◌, ◌≤◌, ◌++◌, [], length, drop, IfOk, OnOk, OnErr};
 ghost use Rattle.stream_buffer.specs.Buffer.{Counts};
 ghost use Rattle.fix_framing.specs.Stream.{parts, place};
-ghost use Rattle.fix_framing.specs.Scanned.{scanned_parts, StandsNext};
+ghost use Rattle.fix_framing.specs.Scanned.{scanned_parts, StandsFramed, StandsNext};
 ghost use Rattle.fix_framing.specs.Seen.{IsAhead};
 
-use crate::place::{Framing, Place, framing_of, place_of};
+use crate::place::{Framed, Framing, Place, framing_of, place_of};
 use fix_fields::{Fields, FieldsView};
 use std::alloc::{AllocError, Global};
 use stream_buffer::StreamBuffer;
@@ -30,6 +30,14 @@ pub(crate) struct Next {
     pub(crate) is_over: bool,
 }
 
+/// The same, with the fields of the frame.
+#[derive(Drop)]
+pub(crate) struct NextFrame {
+    pub(crate) skipped: usize,
+    pub(crate) frame: Option<Framed>,
+    pub(crate) is_over: bool,
+}
+
 /// The parts of a text. Each byte of a frame is read a bounded number of times.
 pub(crate) fn scan(alloc: Global, text: &[u8]) -> Result<Scanned, AllocError>
     ensures parts { IfOk result (λ scanned. scanned_parts scanned (drop scanned.used text.now) ≡ parts text.now) }
@@ -41,8 +49,9 @@ pub(crate) fn scan(alloc: Global, text: &[u8]) -> Result<Scanned, AllocError>
     loop {
         let (_, rest) = text.split_at(at);
         match place_of(alloc, rest)? {
-            Place::Frame { size, fields } => {
-                frames.push(fields)?;
+            Place::Frame(framed) => {
+                let size = framed.size;
+                frames.push(framed.fields)?;
                 at += size;
             }
             Place::Skipped => {
@@ -178,5 +187,39 @@ fn ahead_of(stream: &[u8]) -> Framing
             }
         }
         other => other,
+    }
+}
+
+/// What comes next in a text, with the fields of a frame. Only a frame takes memory, two growths.
+pub(crate) fn next_frame_of(alloc: Global, text: &[u8]) -> Result<NextFrame, AllocError>
+    ensures { IfOk result (λ next. StandsFramed next text.now) }
+{
+    let mut at = 0usize;
+    loop {
+        let (_, rest) = text.split_at(at);
+        match place_of(alloc, rest)? {
+            Place::Skipped => at += 1,
+            Place::Frame(framed) => {
+                return Ok(NextFrame {
+                    skipped: at,
+                    frame: Some(framed),
+                    is_over: false,
+                });
+            }
+            Place::Waiting => {
+                return Ok(NextFrame {
+                    skipped: at,
+                    frame: None,
+                    is_over: false,
+                });
+            }
+            Place::TooLong => {
+                return Ok(NextFrame {
+                    skipped: at,
+                    frame: None,
+                    is_over: true,
+                });
+            }
+        }
     }
 }

@@ -12,7 +12,7 @@ use Rattle.fix_framing.specs.fix_fields.View.{lent_fields}
 use Rattle.fix_framing.specs.fix_fields.declared.view.FieldsView.{FieldsView}
 use Rattle.fix_framing.specs.declared.frame_fault.FrameFault.{FrameFault}
 use Rattle.fix_framing.specs.declared.frame_fault.FrameFault.TheVariants as fault
-use Rattle.fix_framing.specs.Front.{LendsFrame}
+use Rattle.fix_framing.specs.Front.{GivesFrame}
 use Rattle.fix_framing.specs.Frame.{trailer_size}
 use Rattle.fix_framing.specs.Stream.{Start, Head, LessThanHead, NoHead, Place, Frame, Skipped, Waiting, TooLong, place}
 use Rattle.fix_framing.specs.Stream.{place_of, place_of_head, framed_by, is_whole, parts, parts_behind, parts_of}
@@ -87,20 +87,8 @@ left_short Over fields more e = cc
 
 -- ---- the next frame
 
-pub next_some : (b : Bool) (old v new : ReaderStanding) (view : FieldsView) → Sought old v → LendsFrame (left old.end) (Ok (Some view))
-    → PassesFrame b v new → NextFrame (Ok (Some (lent_fields view))) old new
-next_some true old v new view sought (more, lends) (fields, first, passes, let_go) =
-    let same : fields ≡ lent_fields view = same_first fields (lent_fields view) (left new.end).frames more (sym first ∙ (sought.frames ∙ lends)) in (
-      λ taken passed h. subst (λ (f : List Field). Passed taken (passed ++ f ∷ []) new) same (passes taken passed (sought.passed taken passed h)),
-      sym sought.frames ∙ (first ∙ ap (λ (f : List Field). f ∷ (left new.end).frames) same),
-      left_short old.end (lent_fields view) more lends,
-    )
-  where
-    same_first : (a b : List Field) (x y : List Message) → a ∷ x ≡ b ∷ y → a ≡ b
-    same_first a b x y e = cc
-next_some false old v new view sought (more, lends) (none, same, all) =
-    let wrong : [] ≡ lent_fields view ∷ more = sym none ∙ (sought.frames ∙ lends) in
-    cc
+pub next_some : (fields : List Field) (old new : ReaderStanding) → GivesFrame (Ok (Some fields)) old new → NextFrame (Ok (Some fields)) old new
+next_some fields old new (first, passes, let_go) = (passes, first, left_short old.end fields (left new.end).frames first)
 
 end_of_passed : (taken : List ℕ) (passed : List Message) (r : ReaderStanding) → Passed taken passed r → (parts taken).end ≡ (left r.end).end
 unfolding Passed
@@ -111,17 +99,16 @@ unfolding Passed
 frames_of_passed taken passed r (skipped, whole, count) none =
     ap (λ (p : StreamParts). p.frames) whole ∙ (ap (λ (l : List Message). passed ++ l) none ∙ append-nil passed)
 
-pub next_none : (old v : ReaderStanding) → Sought old v → LendsFrame (left old.end) (Ok None) → NextFrame (Ok None) old v
-next_none old v sought (none, waits) taken passed h =
+pub next_none : (old v : ReaderStanding) → GivesFrame (Ok None) old v → NextFrame (Ok None) old v
+next_none old v (none, waits, sought) taken passed h =
     (sought.passed taken passed h, frames_of_passed taken passed old h none, (waits.0, end_of_passed taken passed old h ∙ waits.1))
 
-pub next_malformed : (fault : FrameFault) (old v : ReaderStanding) → Sought old v → LendsFrame (left old.end) (Err fault) → NextFrame (Err Malformed) old v
-next_malformed fault.TooLong old v sought (none, over) taken passed h =
+pub next_malformed : (old v : ReaderStanding) → GivesFrame (Err fault.TooLong) old v → NextFrame (Err Malformed) old v
+next_malformed old v (none, over, sought) taken passed h =
     (sought.passed taken passed h, frames_of_passed taken passed old h none, end_of_passed taken passed old h ∙ over)
-next_malformed fault.NoMemory old v sought lends taken passed h = absurd lends
 
-pub next_refused : (old v : ReaderStanding) → Sought old v → NextFrame (Err NoMemory) old v
-next_refused old v sought = sought.passed
+pub next_refused : (old v : ReaderStanding) → GivesFrame (Err fault.NoMemory) old v → NextFrame (Err NoMemory) old v
+next_refused old v same taken passed h = subst (λ (r : ReaderStanding). Passed taken passed r) (sym same) h
 
 -- ---- as events
 

@@ -7,7 +7,7 @@ ghost use Rattle.link_io.specs.Decoding.{NextFrame};
 
 use crate::decoder::Decoder;
 use crate::link_fault::LinkFault;
-use fix_framing::{Fields, Framer};
+use fix_framing::{Fields, FrameFault, Framer};
 use gate_events::{ClientFrame, ClientNumber, Event};
 use std::alloc::{AllocError, Global};
 use std::marker::Model;
@@ -76,15 +76,13 @@ impl Decoder for ClientFrames {
     }
 }
 
-/// The next frame, out of the reader: one copy.
+/// The next frame, out of the reader.
 fn next_frame(framer: &mut Framer, alloc: Global) -> Result<Option<Fields>, LinkFault>
     ensures { NextFrame result framer.old framer.new }
 {
-    let fields = match framer.front() {
-        Ok(Some(view)) => view.to_fields(alloc)?,
-        Ok(None) => return Ok(None),
-        Err(_) => return Err(LinkFault::Malformed),
-    };
-    framer.pass();
-    Ok(Some(fields))
+    match framer.next(alloc) {
+        Ok(fields) => Ok(fields),
+        Err(FrameFault::TooLong) => Err(LinkFault::Malformed),
+        Err(FrameFault::NoMemory) => Err(LinkFault::NoMemory),
+    }
 }
