@@ -8,17 +8,14 @@ use Rattle.gate_events.specs.gate_law.Events.{Event, ClientMessage}
 use Rattle.fix_framing.specs.fix_fields.Field.{Field, Message, fields_text}
 use Rattle.fix_framing.specs.fix_fields.Reading.{fields_of}
 use Rattle.fix_framing.proofs.fix_fields.Reading.{fields_of-found}
-use Rattle.fix_framing.specs.fix_fields.View.{lent_fields}
-use Rattle.fix_framing.specs.fix_fields.declared.view.FieldsView.{FieldsView}
-use Rattle.fix_framing.specs.declared.frame_fault.FrameFault.{FrameFault}
 use Rattle.fix_framing.specs.declared.frame_fault.FrameFault.TheVariants as fault
 use Rattle.fix_framing.specs.Front.{GivesFrame}
 use Rattle.fix_framing.specs.Frame.{trailer_size}
 use Rattle.fix_framing.specs.Stream.{Start, Head, LessThanHead, NoHead, Place, Frame, Skipped, Waiting, TooLong, place}
 use Rattle.fix_framing.specs.Stream.{place_of, place_of_head, framed_by, is_whole, parts, parts_behind, parts_of}
-use Rattle.fix_framing.specs.Stream.{StreamParts, End, Rest, Over, left, longest, Passed, PassesFrame, Sought}
+use Rattle.fix_framing.specs.Stream.{StreamParts, End, Rest, Over, left, longest, Passed}
 use Rattle.fix_framing.specs.Stream.{ReaderStanding, start}
-use Rattle.link_io.specs.declared.link_fault.LinkFault.TheVariants.{Malformed, NoMemory}
+use Rattle.link_io.specs.declared.link_fault.LinkFault.TheVariants.{Malformed}
 use Rattle.link_io.specs.Decoding.{BringFrames, FramesOfLink, MadeOfFrames, NextFrame}
 
 either : (b : Bool) → (b ≡ true) ⊎ (b ≡ false)
@@ -87,7 +84,7 @@ left_short Over fields more e = cc
 
 -- ---- the next frame
 
-pub next_some : (fields : List Field) (old new : ReaderStanding) → GivesFrame (Ok (Some fields)) old new → NextFrame (Ok (Some fields)) old new
+next_some : (fields : List Field) (old new : ReaderStanding) → GivesFrame (Ok (Some fields)) old new → NextFrame (Ok (Some fields)) old new
 next_some fields old new (first, passes, let_go) = (passes, first, left_short old.end fields (left new.end).frames first)
 
 end_of_passed : (taken : List ℕ) (passed : List Message) (r : ReaderStanding) → Passed taken passed r → (parts taken).end ≡ (left r.end).end
@@ -99,16 +96,17 @@ unfolding Passed
 frames_of_passed taken passed r (skipped, whole, count) none =
     ap (λ (p : StreamParts). p.frames) whole ∙ (ap (λ (l : List Message). passed ++ l) none ∙ append-nil passed)
 
-pub next_none : (old v : ReaderStanding) → GivesFrame (Ok None) old v → NextFrame (Ok None) old v
+next_none : (old v : ReaderStanding) → GivesFrame (Ok None) old v → NextFrame (Ok None) old v
 next_none old v (none, waits, sought) taken passed h =
     (sought.passed taken passed h, frames_of_passed taken passed old h none, (waits.0, end_of_passed taken passed old h ∙ waits.1))
+
+pub next_given : (found : Option Message) (old new : ReaderStanding) → GivesFrame (Ok found) old new → NextFrame (Ok found) old new
+next_given (Some fields) old new given = next_some fields old new given
+next_given None old new given = next_none old new given
 
 pub next_malformed : (old v : ReaderStanding) → GivesFrame (Err fault.TooLong) old v → NextFrame (Err Malformed) old v
 next_malformed old v (none, over, sought) taken passed h =
     (sought.passed taken passed h, frames_of_passed taken passed old h none, end_of_passed taken passed old h ∙ over)
-
-pub next_refused : (old v : ReaderStanding) → GivesFrame (Err fault.NoMemory) old v → NextFrame (Err NoMemory) old v
-next_refused old v same taken passed h = subst (λ (r : ReaderStanding). Passed taken passed r) (sym same) h
 
 -- ---- as events
 
