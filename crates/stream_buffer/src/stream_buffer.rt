@@ -177,9 +177,7 @@ fn drop_front(bytes: &mut Vec<u8>, count: usize)
     requires { count ≤ vec_len bytes.old }
     ensures { bytes.new.items ≡ drop count bytes.old.items }
 {
-    if count == bytes.len() {
-        bytes.clear();
-    } else {
-        bytes.drain(..count);
-    }
+    let left = bytes.len() - count;
+    bytes.copy_within(count.., 0);
+    bytes.truncate(left);
 }
