@@ -208,3 +208,16 @@ pub record IsTaken (p : StreamParts) (given : List (List Field)) (old new : Read
   pub frames : given ≡ p.frames
   pub end : new.end ≡ p.end
   pub skipped : new.skipped ≡ counted_skips (old.skipped + p.skipped)
+
+-- ---- what stands in front of a text of whole frames
+
+-- the body that a head announces, and what stands behind its frame, where all of that is there
+abbrev pub body_of_head : Start → List ℕ → Option (List ℕ × List ℕ)
+body_of_head (Head head body) text =
+    if nat_lt (length text) (head + body + trailer_size) then None
+    else Some (take body (drop head text), drop (head + body + trailer_size) text)
+body_of_head LessThanHead text = None
+body_of_head NoHead text = None
+
+unfoldable pub front_body : List ℕ → Option (List ℕ × List ℕ)
+front_body text = body_of_head (start text) text

@@ -14,7 +14,8 @@ mod scan;
 mod start;
 mod writing;
 
-pub use fix_fields::{Fields, PrintedFields, printed_fields};
+pub use fix_fields::{Fields, PrintedFields, SOH, printed_fields};
 pub use frame_fault::FrameFault;
 pub use framer::Framer;
+pub use place::front_body;
 pub use writing::{frame, frame_of_text};

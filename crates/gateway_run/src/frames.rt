@@ -5,8 +5,8 @@ ghost use Rattle.std.specs.Prelude.{◌≡◌, ◌≤◌, length};
 
 use crate::skipped::SkipReader;
 use crate::telling::Teller;
+use fix_framing::{SOH, front_body};
 use gate_serving::{LinkEnd, LinkFault, Opened, Opener, Prompt};
-use memchr::memmem::find;
 use std::alloc::{AllocError, Global};
 use std::io::{self, Write};
 use std::time::Clock;
@@ -130,53 +130,37 @@ impl<'a, W, R: Clock + Eprint> FrameWriter<'a, W, R> {
 fn tell_frames<R: Clock + Eprint>(teller: &Teller<'_, R>, alloc: Global, text: &[u8]) {
     let mut rest = text;
     for _ in 0..text.len() {
-        let Some((message, behind)) = next_message(rest) else {
+        let Some((body, behind)) = front_body(rest) else {
             return;
         };
-        if is_told(message) {
-            tell_message(teller, alloc, message);
+        if is_told(body) {
+            tell_message(teller, alloc, body);
         }
         rest = behind;
     }
 }
 
-/// The next message of a text of frames, from MsgType (35) to its CheckSum (10), and what stands behind it.
-///
-/// Source: FIX 4.4 Volume 2, "Standard Message Header", "Standard Message Trailer".
-fn next_message(text: &[u8]) -> Option<(&[u8], &[u8])> {
-    let (_, from_type) = text.split_at(find(text, b"\x0135=")?);
-    let (message, behind) = match find(from_type, b"\x0110=") {
-        Some(place) => from_type.split_at(place),
-        None => (from_type, b"".as_slice()),
-    };
-    match message.split_first() {
-        Some((_, message)) => Some((message, behind)),
-        None => None,
-    }
+/// Whether a frame of this body is told of: a ResendRequest, a Reject or a Logout.
+fn is_told(body: &[u8]) -> bool {
+    matches!(body, [b'3', b'5', b'=', b'2' | b'3' | b'5', SOH, ..])
 }
 
-/// Whether a message is told of: a ResendRequest, a Reject or a Logout.
-fn is_told(message: &[u8]) -> bool {
-    message.starts_with(b"35=2\x01")
-        || message.starts_with(b"35=3\x01")
-        || message.starts_with(b"35=5\x01")
-}
-
-/// Tells of a message; that one was sent, where memory runs out.
-fn tell_message<R: Clock + Eprint>(teller: &Teller<'_, R>, alloc: Global, message: &[u8]) {
-    match shown(alloc, message) {
+/// Tells of a frame by its body; that one was sent, where memory runs out.
+fn tell_message<R: Clock + Eprint>(teller: &Teller<'_, R>, alloc: Global, body: &[u8]) {
+    match shown(alloc, body) {
         Ok(text) => teller.tell(text.as_str()),
         Err(_) => teller.tell("sent a Reject, a ResendRequest or a Logout"),
     }
 }
 
-/// A message as it is told.
-fn shown(alloc: Global, message: &[u8]) -> Result<String, AllocError> {
-    let mut text = String::with_capacity(alloc, message.len().saturating_add(5))?;
+/// A message as it is told, without the SOH behind its last field.
+fn shown(alloc: Global, body: &[u8]) -> Result<String, AllocError> {
+    let mut text = String::with_capacity(alloc, body.len().saturating_add(5))?;
     text.push_str("sent ")?;
+    let (message, _) = body.split_at(body.len().saturating_sub(1));
     for byte in message {
         text.push(match *byte {
-            1 => '|',
+            SOH => '|',
             32..=126 => char::from(*byte),
             _ => '.',
         })?;
