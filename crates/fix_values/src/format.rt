@@ -11,7 +11,7 @@ use crate::cxl_rej_response_to::CxlRejResponseTo;
 use crate::exec_type::ExecType;
 use crate::ord_status::OrdStatus;
 use fix_fields::{Fields, SessionRefusal, SessionRejectReason};
-use fixed_point::{DecimalRefusal, parse_price};
+use fixed_point::is_float;
 
 /// What the value of a field has to be.
 #[derive(Clone, Copy)]
@@ -54,18 +54,6 @@ pub fn fits(format: Format, value: &[u8]) -> bool
         Format::OrdStatus => is_ord_status(value),
         Format::OrderId => is_order_id(value),
         Format::CxlRejResponseTo => is_response(value),
-    }
-}
-
-/// Whether a text denotes a number.
-fn is_float(value: &[u8]) -> bool
-    ensures { result ≡ texts.is_float value.now }
-{
-    match parse_price(value) {
-        Ok(_) => true,
-        Err(DecimalRefusal::NotFloat) => false,
-        Err(DecimalRefusal::NotExact) => true,
-        Err(DecimalRefusal::OutOfRange) => true,
     }
 }
 

@@ -1,6 +1,6 @@
 //! The parts of a decimal text, and the size of the fraction that they make.
 
-ghost use Rattle.std.specs.Prelude.{◌≡◌, ◌^◌, ◌≤◌, false};
+ghost use Rattle.std.specs.Prelude.{◌≡◌, ◌^◌, ◌≤◌, ◌++◌, false, is_some};
 ghost use Rattle.fixed_point.specs.Decimal as decimal;
 ghost use Rattle.fixed_point.specs.Steps.{scaled_size};
 
@@ -54,4 +54,24 @@ pub fn size_of(whole: &[u8], behind: &[u8], places: usize) -> Result<u64, Decima
         return Err(DecimalRefusal::NotExact);
     }
     Ok((number * power_of_ten(places - near.len())).min(TOO_LARGE))
+}
+
+/// Whether a text denotes a number: an optional `-`, and then digits with at most one point and at least one digit.
+/// Takes no memory.
+///
+/// Source: FIX 4.4 Volume 1, data type float.
+#[tactic(auto, unfolding(crate::specs::Decimal::fraction))]
+pub fn is_float(text: &[u8]) -> bool
+    ensures { result ≡ is_some (decimal.fraction text.now) }
+{
+    let (_, rest) = sign_of(text);
+    let (whole, behind) = parts_of(rest);
+    are_of_float(whole, behind)
+}
+
+/// Whether these parts before and behind the point are those of a float.
+pub fn are_of_float(whole: &[u8], behind: &[u8]) -> bool
+    ensures { result ≡ decimal.are_digits (whole.now ++ behind.now) }
+{
+    whole.len() + behind.len() > 0 && are_digits(whole) && are_digits(behind)
 }

@@ -19,6 +19,7 @@ mod shares;
 mod worth;
 
 pub use averaging::average;
+pub use decimal::is_float;
 pub use laws::{printed_denotes, printed_reads_back, said_in_range};
 pub use parsing::{parse_price, parse_qty};
 pub use price4::Price4;

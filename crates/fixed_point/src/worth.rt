@@ -5,9 +5,8 @@ ghost use Rattle.decimal_digits.specs.Digits.{number_of};
 ghost use Rattle.fixed_point.specs.Decimal as decimal;
 ghost use Rattle.fixed_point.specs.Worth.{counted};
 
-use crate::decimal::{parts_of, sign_of};
+use crate::decimal::{are_of_float, parts_of, sign_of};
 use crate::digits::{are_zeros, exact_on, power_of_ten};
-use decimal_digits::are_digits;
 use thiserror::Error;
 
 /// Why a text gives no number of 1/10,000.
@@ -33,7 +32,7 @@ pub fn parse_worth(text: &[u8]) -> Result<u128, WorthRefusal>
 {
     let (negative, rest) = sign_of(text);
     let (whole, behind) = parts_of(rest);
-    if !is_float(whole, behind) {
+    if !are_of_float(whole, behind) {
         return Err(WorthRefusal::NoWorth);
     }
     let (near, far) = behind.split_at(behind.len().min(4));
@@ -41,13 +40,6 @@ pub fn parse_worth(text: &[u8]) -> Result<u128, WorthRefusal>
         return Err(WorthRefusal::NoWorth);
     }
     signed(negative, units_of(whole, near))
-}
-
-/// Whether these parts before and behind the point are those of a float.
-fn is_float(whole: &[u8], behind: &[u8]) -> bool
-    ensures { result ≡ decimal.are_digits (whole.now ++ behind.now) }
-{
-    whole.len() + behind.len() > 0 && are_digits(whole) && are_digits(behind)
 }
 
 /// How many 1/10,000 these digits before and behind the point make; `None` for 2^128 and more.
