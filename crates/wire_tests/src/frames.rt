@@ -1,7 +1,7 @@
 ghost use Rattle.std.specs.Prelude.{◌≤◌};
 
 use fix_fields::{Fields, is_value};
-use fix_framing::{FrameFault, Framer, frame};
+use fix_framing::{FrameFault, Framer, frame, front_body};
 use std::alloc::{AllocError, Global};
 use std::process::Abort;
 use std::test::Fail;
@@ -14,6 +14,7 @@ const HEARTBEAT: &[u8; 26] = b"8=FIX.4.4\x019=5\x0135=0\x0110=163\x01";
 enum Way {
     Fed,
     Lent,
+    Moved,
 }
 
 /// What came of a stream: the texts of all frames one behind another, and the reader's counters.
@@ -45,6 +46,7 @@ fn take(
     match way {
         Way::Fed => feed(alloc, framer, texts, piece),
         Way::Lent => lend(alloc, framer, texts, piece),
+        Way::Moved => moved(alloc, framer, texts, piece),
     }
 }
 
@@ -73,6 +75,22 @@ fn lend(
             None => return Ok(()),
         }
         framer.pass();
+    }
+    Ok(())
+}
+
+fn moved(
+    alloc: Global,
+    framer: &mut Framer,
+    texts: &mut Vec<u8>,
+    piece: &[u8],
+) -> Result<(), FrameFault> {
+    framer.put(alloc, piece)?;
+    for _ in 0..=piece.len() {
+        match framer.next(alloc)? {
+            Some(fields) => texts.extend_from_slice(fields.text())?,
+            None => return Ok(()),
+        }
     }
     Ok(())
 }
@@ -168,7 +186,7 @@ const STREAMS: [(&[u8], &[u8], u64); 10] = [
 
 const SIZES: [usize; 5] = [1, 2, 3, 7, 4_096];
 
-const WAYS: [Way; 2] = [Way::Fed, Way::Lent];
+const WAYS: [Way; 3] = [Way::Fed, Way::Lent, Way::Moved];
 
 /// In pieces of each size, and in each way, a stream gives these texts, and so many bytes are skipped.
 fn gives(
@@ -339,6 +357,7 @@ fn nothing_in_front<R: Abort>(
     piece: &[u8],
 ) -> Result<(), Fail> {
     assert!(rt; matches!(framer.front(), Err(FrameFault::TooLong)));
+    assert!(rt; matches!(framer.next(alloc), Err(FrameFault::TooLong)));
     assert!(rt; !framer.pass());
     framer.put(alloc, piece)?;
     assert!(rt; is_too_long(framer.feed(alloc, piece)));
@@ -357,6 +376,21 @@ fn what_is_written_is_read(rt: HostRuntime) -> Result<(), Fail> {
         frame(rt.alloc(), &heartbeat)?.as_slice(),
         HEARTBEAT.as_slice()
     );
+    Ok(())
+}
+
+/// The bodies of whole frames, one behind another, by what their heads announce.
+#[test]
+fn bodies_in_front(rt: HostRuntime) -> Result<(), Fail> {
+    let (_, frames) = TWO_AND_TOO_LONG.split_at(2);
+    let (body, behind) = front_body(frames).ok_or("a frame is whole")?;
+    assert!(rt; body == b"35=0\x01".as_slice());
+    let (body, behind) = front_body(behind).ok_or("a second one is whole")?;
+    assert!(rt; body == b"35=0\x01".as_slice());
+    assert!(rt; front_body(behind).is_none());
+    assert!(rt; front_body(TWO_AND_TOO_LONG).is_none());
+    let (short, _) = HEARTBEAT.split_at(25);
+    assert!(rt; front_body(short).is_none());
     Ok(())
 }
 
