@@ -1,19 +1,24 @@
 //! What is told of bytes that a client sends and that are part of no frame.
 
 use crate::telling::Teller;
-use fix_framing::Framer;
+use fix_framing::{Framer, front_body};
 use std::alloc::Global;
 use std::io::{self, Read};
 use std::time::Clock;
 
 /// The reader of a client's link. It tells how many bytes were skipped, since no frame has them: at the first, whenever
 /// they are twice as many, and at the end of the stream. Where memory runs out it counts no further.
+///
+/// What looks like whole frames is counted before the next read, when its events have been put and stepped: nobody's
+/// order waits for it.
 #[derive(Drop)]
 pub(crate) struct SkipReader<'a, S, R> {
     teller: Teller<'a, R>,
     alloc: Global,
     reader: S,
     frames: Framer,
+    /// What was read last, if it isn't counted yet.
+    last: Vec<u8>,
     is_counting: bool,
     /// How many were told of.
     told: u64,
@@ -27,6 +32,7 @@ impl<'a, S, R> SkipReader<'a, S, R> {
             alloc,
             reader,
             frames: Framer::new(alloc),
+            last: Vec::new(alloc),
             is_counting: true,
             told: 0,
         }
@@ -34,21 +40,35 @@ impl<'a, S, R> SkipReader<'a, S, R> {
 }
 
 impl<'a, S, R: Clock + Eprint> SkipReader<'a, S, R> {
-    /// Counts on with these bytes.
+    /// Counts on with these bytes: at once, unless they look like whole frames.
     fn count(&mut self, piece: &[u8]) {
         if !self.is_counting {
             return;
         }
-        if self.frames.put(self.alloc, piece).is_err() {
+        if self.last.extend_from_slice(piece).is_err() {
             self.is_counting = false;
             return;
         }
-        // Each frame that is whole now ends in this piece.
-        for _ in 0..piece.len() {
+        if !are_whole_frames(piece) {
+            self.count_last();
+        }
+    }
+
+    /// Counts on with what was read last, if it isn't counted yet.
+    fn count_last(&mut self) {
+        if self.last.is_empty() {
+            return;
+        }
+        if self.frames.put(self.alloc, self.last.as_slice()).is_err() {
+            self.is_counting = false;
+        }
+        // Each frame that is whole now ends in these bytes.
+        for _ in 0..self.last.len() {
             if !self.frames.pass() {
                 break;
             }
         }
+        self.last.clear();
         if self.frames.skipped() / 2 >= self.told {
             self.tell();
         }
@@ -66,6 +86,7 @@ impl<'a, S, R: Clock + Eprint> SkipReader<'a, S, R> {
 
 impl<'a, S: Read, R: Clock + Eprint> Read for SkipReader<'a, S, R> {
     fn read(&mut self, buf: &mut [u8]) -> io::Result<usize> {
+        self.count_last();
         let read = self.reader.read(buf)?;
         if read == 0 {
             self.tell();
@@ -74,4 +95,16 @@ impl<'a, S: Read, R: Clock + Eprint> Read for SkipReader<'a, S, R> {
         }
         Ok(read)
     }
+}
+
+/// Whether a text is heads with all that each announces, one behind another, and nothing else.
+fn are_whole_frames(text: &[u8]) -> bool {
+    let mut rest = text;
+    for _ in 0..text.len() {
+        match front_body(rest) {
+            Some((_, behind)) => rest = behind,
+            None => break,
+        }
+    }
+    rest.is_empty()
 }
