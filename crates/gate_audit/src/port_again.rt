@@ -140,8 +140,8 @@ impl PortAgain {
             → IsAgain terms (read.called_packet terms packet.now (batch_seen batch.now) r) self.new) }
         ensures next { next_of self.new.session.port ≤ next_of self.old.session.port + 1 }
     {
-        let turn = self.session.on_packet(alloc, packet, 0)?;
-        if let Some(message) = message_of(&turn.payload, batch.fault) {
+        let turn = self.session.on_packet(packet, 0);
+        if let Some(message) = message_of(turn.is_delivered, &packet.payload, batch.fault) {
             self.handled.push(message)?;
         }
         Ok(())
@@ -159,13 +159,13 @@ impl PortAgain {
     }
 }
 
-/// What a payload that was delivered is decoded as, where that is a message and was no fault.
-fn message_of(payload: &Option<Payload>, fault: Option<PortFault>) -> Option<Outbound>
-    ensures { result ≡ read.message_of payload.now fault }
+/// What a payload is decoded as, where it was delivered, is a message and was no fault.
+fn message_of(is_delivered: bool, payload: &Payload, fault: Option<PortFault>) -> Option<Outbound>
+    ensures { result ≡ read.message_of (if is_delivered then Some payload.now else None) fault }
 {
-    let Some(payload) = payload else {
+    if !is_delivered {
         return None;
-    };
+    }
     match decode(payload.as_slice()) {
         Ok(message) => { if fault.is_none() { Some(message) } else { None } }
         Err(_) => None,

@@ -1,6 +1,6 @@
 -- A frame whose message is delivered: the batch, and the parts after it.
 use Rattle.std.proofs.Common.{◌≡◌, ℕ, true, false, List, [], ◌∷◌, ◌++◌, map, length, Option, Some, None, refl, sym, ap}
-use Rattle.std.proofs.Common.{◌∙◌, subst, append-nil, eq-eqb}
+use Rattle.std.proofs.Common.{◌∙◌, subst, eq-eqb}
 use Rattle.std.specs.Prelude.{◌&&◌, is_some}
 use Rattle.std.specs.List.{flat_map}
 use Rattle.fix_types.specs.declared.application.AppMsg.{AppMsg}
@@ -33,27 +33,23 @@ use Rattle.gate_events.specs.Batches.{batch_of}
 use Rattle.gate_core.proofs.ClientEvents.{client-called-is}
 use Rattle.gate_core.proofs.Closed.{closed-parts}
 use Rattle.gate_core.proofs.Parted.{port-called-is}
-use Rattle.gate_core.proofs.Told.{client-told, port-told}
+use Rattle.gate_core.proofs.Told.{client-told, nothing-on-port}
 
 -- ---- lists after a turn
 
-after-is : (s : Settings) (n at : ℕ) (t : orders.OrderTurn) (v : Lists) → (w : Lists) × (after_turn s n at t v ≡ w) × (w.client_link ≡ v.client_link) × (w.port_link ≡ v.port_link) × (w.turns ≡ t ∷ v.turns)
+after-is : (s : Settings) (n at : ℕ) (t : orders.OrderTurn) (v : Lists) → (w : Lists) × (after_turn s n at t v ≡ w) × (w.client_link ≡ v.client_link) × (w.turns ≡ t ∷ v.turns)
 after-is s n at t v = (
   _,
   port-called-is (port_of s n) (sends at t.sends) (client_called_all n (issues at t.bodies) (turned (Some t) v)),
   ap (λ (w : Lists). w.client_link) (client-called-is n (issues at t.bodies) (turned (Some t) v)),
-  ap (λ (w : Lists). w.port_link) (client-called-is n (issues at t.bodies) (turned (Some t) v)),
   ap (λ (w : Lists). w.turns) (client-called-is n (issues at t.bodies) (turned (Some t) v)),
 )
 
 client-links-stay : (s : Settings) (n at : ℕ) (t : orders.OrderTurn) (v : Lists) → (after_turn s n at t v).client_link ≡ v.client_link
 client-links-stay s n at t v = let is = after-is s n at t v in ap (λ (w : Lists). w.client_link) is.1 ∙ is.2
 
-port-links-stay : (s : Settings) (n at : ℕ) (t : orders.OrderTurn) (v : Lists) → (after_turn s n at t v).port_link ≡ v.port_link
-port-links-stay s n at t v = let is = after-is s n at t v in ap (λ (w : Lists). w.port_link) is.1 ∙ is.3
-
 one-turn-more : (s : Settings) (n at : ℕ) (t : orders.OrderTurn) (v : Lists) → (after_turn s n at t v).turns ≡ t ∷ v.turns
-one-turn-more s n at t v = let is = after-is s n at t v in ap (λ (w : Lists). w.turns) is.1 ∙ is.4
+one-turn-more s n at t v = let is = after-is s n at t v in ap (λ (w : Lists). w.turns) is.1 ∙ is.3
 
 -- a call of one's own is the newest
 own-call : (n : ℕ) (call : Timed) (v : Lists) → (client_called n call v).client_calls n ≡ call ∷ v.client_calls n
@@ -118,7 +114,7 @@ pub asked-step : {S H : Type 0} (s : Settings) (v : Lists) (mid new : Parts S H)
     → (asked : IsAsked s n at message out (client_called n (at, OnMessage frame) v) mid)
     → (let x = after_turn s n at (orders_turn_of s n message asked.core v) (client_called n (at, OnMessage frame) v) in
     client_out ≡ outs_told_on (x.client_link n) first ++ map link_out_seen out.issues.outs.items
-    → port_out ≡ to_port (x.port_link (port_of s n)) out.port_outs.items ++ to_port (x.port_link (port_of s n)) []
+    → port_out ≡ to_port (x.port_link (port_of s n)) [] ++ map link_out_seen out.port_outs.items
     → ClientsLeave s x.client_calls new.clients.items → ClientLinks (unlinked n client_out x.client_link) new.clients.items → length new.clients.items ≡ length mid.clients.items
     → PortsLeave s x.port_calls new.ports.items → PortLinks (unlinked (port_of s n) port_out x.port_link) new.ports.items → length new.ports.items ≡ length mid.ports.items
     → new.client_ports ≡ mid.client_ports → new.orders ≡ mid.orders
@@ -134,9 +130,8 @@ asked-step s v mid new n link at frame message out first client_out port_out hav
     let o : Outcome = asked_with s n at frame v message t.bodies t.sends in
     let packets : port_out ≡ to_port (v.port_link p) (port_outs s p (v.port_calls p) (sends at t.sends)) =
     told_packets
-    ∙ ap (λ (l : ℕ → Option ℕ). to_port (l p) out.port_outs.items ++ to_port (l p) []) (port-links-stay s n at t w)
-    ∙ port-told (v.port_link p) _ out.port_outs.items [] (port_outs s p (v.port_calls p) (sends at t.sends)) [] refl asked.port_outs_are refl
-    ∙ ap (to_port (v.port_link p)) (append-nil (port_outs s p (v.port_calls p) (sends at t.sends))) in
+    ∙ ap (λ (xs : List LinkOut). xs ++ map link_out_seen out.port_outs.items) (sym (nothing-on-port (x.port_link p)))
+    ∙ asked.port_outs_are in
     let sent : messages b ≡ t.sends = messages-read s p at v t.sends port_out have linked asked.only packets in
     let is : outcome s (ClientMessage n link at frame) b v ≡ o =
     rw (on, app) refl

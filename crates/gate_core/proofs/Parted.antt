@@ -4,7 +4,6 @@ use Rattle.session_law.specs.Runs.{Timed}
 use Rattle.soup_session.specs.Table.{PortCall}
 use Rattle.soup_session.specs.declared.port_state.PortState.{PortState}
 use Rattle.soup_session.specs.declared.port_state.PortState.TheVariants.{Down, LoggingIn, Up, Ended, Faulted}
-use Rattle.soup_session.specs.declared.port_turn.PortOut.{PortOut}
 use Rattle.soup_session.specs.States.{is_up}
 use Rattle.gate_law.specs.Settings.{Settings}
 use Rattle.gate_law.specs.Lists.{Lists, client_called_all, port_called_all, port_called}
@@ -12,7 +11,9 @@ use Rattle.gate_sessions.specs.Lines.{ClientsLeave, ClientLinks, PortsLeave, Por
 use Rattle.gate_core.specs.declared.parts.Parts.{Parts}
 use Rattle.gate_core.specs.State.{ArePartsOf}
 use Rattle.gate_core.specs.Steps.{IsSent}
+use Rattle.gate_law.specs.Events.{LinkOut}
 use Rattle.gate_core.proofs.ClientEvents.{client-called-is}
+use Rattle.gate_core.proofs.Told.{nothing-on-port}
 
 pub clients-parts : {S H : Type 0} (s : Settings) (c : ℕ) (calls : List Timed) (v : Lists) (g new : Parts S H) → ArePartsOf s v g
     → ClientsLeave s (called_all c calls v.client_calls) new.clients.items → ClientLinks v.client_link new.clients.items → length new.clients.items ≡ length g.clients.items
@@ -61,6 +62,6 @@ not-up Up other = absurd (other refl)
 not-up Ended other = refl
 not-up (Faulted n) other = refl
 
-pub unsent : {S H : Type 0} (s : Settings) (p at : ℕ) (messages : List (List ℕ)) (outs : List PortOut) (v : Lists) (g : Parts S H) → ArePartsOf s v g → messages ≡ [] → outs ≡ [] → IsSent s p at messages outs v g
+pub unsent : {S H : Type 0} (s : Settings) (p at : ℕ) (messages : List (List ℕ)) (outs : List LinkOut) (v : Lists) (g : Parts S H) → ArePartsOf s v g → messages ≡ [] → outs ≡ [] → IsSent s p at messages outs v g
 unsent s p at messages outs v g parts none quiet =
-    subst (λ (ms : List (List ℕ)). IsSent s p at ms outs v g) (sym none) (record { parts = parts; outs_are = quiet })
+    subst (λ (ms : List (List ℕ)). IsSent s p at ms outs v g) (sym none) (record { parts = parts; outs_are = quiet ∙ nothing-on-port (v.port_link p) })

@@ -1,7 +1,7 @@
 -- A port's packet of which the session delivers no payload.
 use Rattle.std.proofs.Common.{◌≡◌, ℕ, Bool, true, false, List, [], ◌∷◌, ◌++◌, length, Option, Some, None, refl, sym}
 use Rattle.std.proofs.Common.{ap, ◌∙◌, eqb-true, eq-eqb, subst}
-use Rattle.std.specs.Prelude.{◌&&◌, if◌then◌else◌}
+use Rattle.std.specs.Prelude.{◌&&◌, if◌then◌else◌, option_to_list}
 use Rattle.std.specs.List.{flat_map}
 use Rattle.gate_law.specs.soup_packets.declared.packet.Packet.{Packet}
 use Rattle.soup_session.specs.declared.port_fault.PortFault.{PortFault}
@@ -11,7 +11,8 @@ use Rattle.soup_session.specs.declared.port_turn.PortTurn.{PortTurn}
 use Rattle.soup_session.specs.States.{is_up}
 use Rattle.soup_session.specs.Table.{PortCall, OnPacket, PortAnswer}
 use Rattle.soup_session.specs.Calls.{IsAnswer}
-use Rattle.gate_law.specs.Settings.{Settings, has_port}
+use Rattle.gate_law.specs.Settings.{Settings, has_port, port_terms}
+use Rattle.soup_session.proofs.Brought.{delivered-is}
 use Rattle.gate_law.specs.Events.{Event, PortPacket, LinkOut, Batch, is_the_number}
 use Rattle.gate_law.specs.Lists.{Lists, port_called}
 use Rattle.gate_law.specs.Sessions.{port_answer, port_outs, port_state, sends, to_port, fault_in}
@@ -23,7 +24,7 @@ use Rattle.gate_events.specs.Links.{unlinked}
 use Rattle.gate_core.specs.Steps.{AfterPacket, Ready, Stepped}
 use Rattle.gate_events.specs.Batches.{batch_of}
 use Rattle.gate_core.specs.Hearing.{IsSentAgain, AreDue, came_up}
-use Rattle.gate_core.proofs.Told.{port-told}
+use Rattle.gate_core.proofs.Told.{port-told-with}
 use Rattle.gate_core.proofs.Parted.{ports-parts}
 use Rattle.gate_core.proofs.PortEvents.{port-event, by_port}
 use Rattle.gate_core.proofs.PortLinks.{ReadsSent}
@@ -55,12 +56,12 @@ current-is true link (Some current) on = ap Some (eqb-true current link on)
 current-is true link None on = absurd (cc)
 current-is false link current on = absurd (cc)
 
-pub port-heard : {S H : Type 0} → ReadsSent → (s : Settings) (v : Lists) (p link at : ℕ) (packet : Packet) (stood : PortState) (said more : List PortOut) (fault : Option PortFault) (outs : List LinkOut) (heard g new : Parts S H)
+pub port-heard : {S H : Type 0} → ReadsSent → (s : Settings) (v : Lists) (p link at : ℕ) (packet : Packet) (stood : PortState) (said : List PortOut) (more : List LinkOut) (fault : Option PortFault) (outs : List LinkOut) (heard g new : Parts S H)
     → AfterPacket s p link at packet None said v heard
     → stood ≡ port_state s p (v.port_calls p)
     → (again : IsSentAgain s p at stood more (port_called p (OnPacket packet at) v) g)
     → fault ≡ fault_in (port_state s p ((port_called p (OnPacket packet at) v).port_calls p))
-    → outs ≡ to_port (v.port_link p) said ++ to_port (v.port_link p) more
+    → outs ≡ to_port (v.port_link p) said ++ more
     → PortsLeave s (called_all p (OnPacket packet at ∷ sends at again.messages) v.port_calls) new.ports.items
     → PortLinks (unlinked p outs v.port_link) new.ports.items
     → length new.ports.items ≡ length g.ports.items
@@ -73,8 +74,8 @@ port-heard reads s v p link at packet stood said more fault outs heard g new giv
     let ms = again.messages in
     let a : PortAnswer = port_answer s p (v.port_calls p) c in
     let lines : outs ≡ to_port (v.port_link p) (port_outs s p (v.port_calls p) (c ∷ sends at ms)) =
-    port-told (v.port_link p) outs said more a.outs (port_outs s p (c ∷ v.port_calls p) (sends at ms)) told given.said_is
-    (again.sent.outs_are ∙ ap (λ (calls : List PortCall). port_outs s p calls (sends at ms)) (called-here p c v)) in
+    port-told-with (v.port_link p) outs said more a.outs (port_outs s p (c ∷ v.port_calls p) (sends at ms)) told given.said_is
+    (again.sent.outs_are ∙ ap (λ (calls : List PortCall). to_port (v.port_link p) (port_outs s p calls (sends at ms))) (called-here p c v)) in
     let asked : messages b ≡ ms =
     ap (flat_map message_in) (lines ∙ ap (λ (l : Option ℕ). to_port l (port_outs s p (v.port_calls p) (c ∷ sends at ms))) (current-is (has_port s p) link (v.port_link p) given.on))
     ∙ reads s p link at (v.port_calls p) c ms refl in
@@ -102,10 +103,11 @@ pub after-packet : {S H : Type 0} (s : Settings) (v : Lists) (p link at : ℕ) (
     → PortLinks v.port_link new.ports.items
     → length new.ports.items ≡ length g.ports.items
     → new.clients ≡ g.clients → new.client_ports ≡ g.client_ports → new.orders ≡ g.orders
-    → AfterPacket s p link at packet turn.payload turn.outs.items v new
+    → AfterPacket s p link at packet (if turn.is_delivered then Some packet.payload else None) (option_to_list turn.out) v new
+unfolding port_answer
 after-packet s v p link at packet turn g new on answer ready leave links count same_clients same_client_ports same_orders = record {
   on = on;
-  payload_is = sym answer.payload;
+  payload_is = delivered-is (port_terms s p) (v.port_calls p) packet at turn answer;
   said_is = answer.outs;
   linked = ready.linked;
   few = ready.few;

@@ -13,6 +13,8 @@ use Rattle.gate_law.specs.Events.{LinkOut, is_the_number}
 use Rattle.gate_law.specs.Sessions.{to_client, to_port, to_link, port_line}
 use Rattle.gate_law.specs.After.{unless_closed}
 use Rattle.gate_events.specs.Links.{outs_told_on, unlinked}
+use Rattle.gate_events.specs.declared.batch.LinkOut as batch
+use Rattle.gate_events.specs.Seen.{link_out_seen}
 
 -- ---- what goes to a link
 
@@ -41,6 +43,11 @@ pub nothing-on : (link : Option ℕ) → [] ≡ outs_told_on link []
 nothing-on None = refl
 nothing-on (Some link) = refl
 
+-- of a port's link too
+pub nothing-on-port : (link : Option ℕ) → [] ≡ to_port link []
+nothing-on-port None = refl
+nothing-on-port (Some link) = refl
+
 pub to-port-append : (link : Option ℕ) (xs ys : List PortOut) → to_port link (xs ++ ys) ≡ to_port link xs ++ to_port link ys
 to-port-append None xs ys = refl
 to-port-append (Some link) xs ys = map-append (port_line link) xs ys
@@ -52,6 +59,23 @@ port-told link outs first rest xs ys are is_first is_rest =
     are
     ∙ ap (λ (x : List PortOut). to_port link x ++ to_port link rest) is_first
     ∙ ap (λ (y : List PortOut). to_port link xs ++ to_port link y) is_rest
+    ∙ sym (to-port-append link xs ys)
+
+-- where its session said this in one call, and nothing else is to be told
+pub port-told-alone : (link : Option ℕ) (outs : List LinkOut) (first : List PortOut) (rest : List batch.LinkOut)
+    → outs ≡ to_port link first ++ map link_out_seen rest → rest ≡ [] → outs ≡ to_port link first ++ to_port link []
+port-told-alone link outs first rest are none =
+    are
+    ∙ ap (λ (xs : List batch.LinkOut). to_port link first ++ map link_out_seen xs) none
+    ∙ ap (λ (xs : List LinkOut). to_port link first ++ xs) (nothing-on-port link)
+
+-- what its session said in one call, and what it is told of others
+pub port-told-with : (link : Option ℕ) (outs : List LinkOut) (first : List PortOut) (rest : List LinkOut) (xs ys : List PortOut)
+    → outs ≡ to_port link first ++ rest → first ≡ xs → rest ≡ to_port link ys → outs ≡ to_port link (xs ++ ys)
+port-told-with link outs first rest xs ys are is_first is_rest =
+    are
+    ∙ ap (λ (x : List PortOut). to_port link x ++ rest) is_first
+    ∙ ap (λ (y : List LinkOut). to_port link xs ++ y) is_rest
     ∙ sym (to-port-append link xs ys)
 
 -- ---- the one whom a batch names

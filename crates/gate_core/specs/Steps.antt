@@ -23,10 +23,10 @@ use Rattle.order_core.specs.State as core
 use Rattle.order_core.specs.order_machine.Runs.{NumbersLeft}
 use Rattle.order_core.specs.declared.outcome.CoreOut.{CoreOut}
 use Rattle.gate_law.specs.Settings.{Settings, terms, port_of, client_name, has_client, has_port}
-use Rattle.gate_law.specs.Events.{Event, Batch, is_the_number}
+use Rattle.gate_law.specs.Events.{Event, Batch, LinkOut, is_the_number}
 use Rattle.gate_law.specs.Lists.{Lists, client_called, port_called, turned, client_called_all, port_called_all}
 use Rattle.gate_law.specs.Sessions.{client_answer, port_answer, port_state, stands_of, issues, sends, client_outs}
-use Rattle.gate_law.specs.Sessions.{client_reports, port_outs}
+use Rattle.gate_law.specs.Sessions.{client_reports, port_outs, to_port}
 use Rattle.gate_law.specs.After.{lists_after}
 use Rattle.gate_law.specs.Due.{Gives}
 use Rattle.gate_law.specs.Promises.{Asks}
@@ -113,10 +113,10 @@ pub record IsIssued {S H : Type 0} (s : Settings) (client at : ℕ) (bodies : Li
   pub bodies_are : map body_of out.reports.items ≡ bodies
 
 -- messages are sent on a port, in order
-pub record IsSent {S H : Type 0} (s : Settings) (p at : ℕ) (messages : List (List ℕ)) (outs : List PortOut) (v : Lists)
+pub record IsSent {S H : Type 0} (s : Settings) (p at : ℕ) (messages : List (List ℕ)) (outs : List LinkOut) (v : Lists)
     (new : Parts S H) : Type 0 where
   pub parts : ArePartsOf s (port_called_all p (sends at messages) v) new
-  pub outs_are : outs ≡ port_outs s p (v.port_calls p) (sends at messages)
+  pub outs_are : outs ≡ to_port (v.port_link p) (port_outs s p (v.port_calls p) (sends at messages))
 
 -- ---- a turn with what it causes
 
@@ -126,7 +126,7 @@ after_turn s client at t v = port_called_all (port_of s client) (sends at t.send
     (client_called_all client (issues at t.bodies) (turned (Some t) v))
 
 -- What a message that a client's session delivered comes to: `out` has what the client's link is told, and what its
--- port's session says.
+-- port's link is.
 pub record IsAsked {S H : Type 0} (s : Settings) (client at : ℕ) (message : AppMsg) (out : Asked) (v : Lists)
     (new : Parts S H) : Type 0 where
   pub core : CoreOut
@@ -138,8 +138,9 @@ pub record IsAsked {S H : Type 0} (s : Settings) (client at : ℕ) (message : Ap
   pub reports : out.issues.reports.items ≡ client_reports s client (v.client_calls client)
       (issues at (map body_fields core.bodies.items))
   pub bodies_are : map body_of out.issues.reports.items ≡ map body_fields core.bodies.items
-  pub port_outs_are : out.port_outs.items ≡ port_outs s (port_of s client) (v.port_calls (port_of s client))
-      (sends at (map inbound_bytes core.sends.items))
+  pub port_outs_are : map link_out_seen out.port_outs.items ≡ to_port (v.port_link (port_of s client))
+      (port_outs s (port_of s client) (v.port_calls (port_of s client))
+      (sends at (map inbound_bytes core.sends.items)))
   pub parts : ArePartsOf s (after_turn s client at (orders_turn_of s client message core v) v) new
 
 -- ---- a frame on a client's current link

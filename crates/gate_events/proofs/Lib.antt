@@ -1,3 +1,4 @@
 mod Closing
 mod OnLinks
+mod PortSends
 mod Sources

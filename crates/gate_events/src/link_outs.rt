@@ -1,6 +1,6 @@
 //! What sessions say, as their links are told it.
 
-ghost use Rattle.std.specs.Prelude.{◌≡◌, ◌++◌, map, IfOk};
+ghost use Rattle.std.specs.Prelude.{◌≡◌, ◌++◌, map, option_to_list, IfOk};
 ghost use Rattle.gate_sessions.specs.session_writing.Written.{told_bytes};
 ghost use Rattle.gate_sessions.specs.Sessions.{to_link, to_port, port_line};
 ghost use Rattle.gate_sessions.specs.gate_law.After.{is_close};
@@ -61,28 +61,74 @@ fn client_line(link: u64, out: SessionOut) -> LinkOut
     }
 }
 
-/// What a port's session said, onto its link where there is one.
+/// What a port's session said, onto its link where there is one, and then these. Takes no memory where it said
+/// nothing.
+pub(crate) fn port_told_first(
+    alloc: Global,
+    link: Option<u64>,
+    first: Option<PortOut>,
+    rest: Vec<LinkOut>,
+) -> Result<Vec<LinkOut>, AllocError>
+    ensures { IfOk result (λ outs. map link_out_seen outs.items
+        ≡ to_port link (option_to_list first) ++ map link_out_seen rest.items) }
+{
+    if first.is_none() {
+        return Ok(rest);
+    }
+    let mut outs = told_out(alloc, link, first)?;
+    let mut rest = rest;
+    outs.append(&mut rest)?;
+    Ok(outs)
+}
+
+/// What a port's session said in one call, as its link is told it, where there is one.
+pub fn told_out(
+    alloc: Global,
+    link: Option<u64>,
+    out: Option<PortOut>,
+) -> Result<Vec<LinkOut>, AllocError>
+    ensures { IfOk result (λ outs. map link_out_seen outs.items ≡ to_port link (option_to_list out)) }
+{
+    let mut outs = Vec::new(alloc);
+    tell_port(alloc, link, out, &mut outs)?;
+    Ok(outs)
+}
+
+/// What a port's session said goes onto its link, where there is one.
 pub(crate) fn tell_port(
     alloc: Global,
     link: Option<u64>,
-    outs: &[PortOut],
+    out: Option<PortOut>,
     to: &mut Vec<LinkOut>,
 ) -> Result<(), AllocError>
     ensures { IfOk result (λ u. map link_out_seen to.new.items
-        ≡ map link_out_seen to.old.items ++ to_port link outs.now) }
+        ≡ map link_out_seen to.old.items ++ to_port link (option_to_list out)) }
 {
-    let Some(link) = link else {
-        return Ok(());
-    };
-    for out in outs {
+    match link {
+        None => Ok(()),
+        Some(link) => write_port(alloc, link, out, to),
+    }
+}
+
+/// What a port's session said goes onto a link.
+fn write_port(
+    alloc: Global,
+    link: u64,
+    out: Option<PortOut>,
+    to: &mut Vec<LinkOut>,
+) -> Result<(), AllocError>
+    ensures { IfOk result (λ u. map link_out_seen to.new.items
+        ≡ map link_out_seen to.old.items ++ map (port_line link) (option_to_list out)) }
+{
+    if let Some(out) = out {
         to.push(port_line_of(alloc, link, out)?)?;
     }
     Ok(())
 }
 
 /// One output of a port's session.
-fn port_line_of(alloc: Global, link: u64, out: &PortOut) -> Result<LinkOut, AllocError>
-    ensures { IfOk result (λ line. link_out_seen line ≡ port_line link out.now) }
+fn port_line_of(alloc: Global, link: u64, out: PortOut) -> Result<LinkOut, AllocError>
+    ensures { IfOk result (λ line. link_out_seen line ≡ port_line link out) }
 {
     match out {
         PortOut::Packet(packet) => {

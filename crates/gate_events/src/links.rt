@@ -1,6 +1,6 @@
 //! A line is told what its session said, and loses its link where that closes it.
 
-ghost use Rattle.std.specs.Prelude.{◌≡◌, ◌<◌, ◌+◌, ◌++◌, ℕ, List, length, map, Option, IfOk};
+ghost use Rattle.std.specs.Prelude.{◌≡◌, ◌<◌, ◌+◌, ◌++◌, ℕ, List, length, map, Option, option_to_list, IfOk};
 ghost use Rattle.gate_sessions.specs.session_writing.Written.{told_bytes};
 ghost use Rattle.gate_sessions.specs.session_law.Runs.{Timed};
 ghost use Rattle.soup_session.specs.Table.{PortCall};
@@ -12,7 +12,7 @@ ghost use Rattle.gate_events.specs.Seen.{link_out_seen};
 ghost use Rattle.gate_events.specs.Links.{outs_told_on, unlinked};
 
 use crate::batch::LinkOut;
-use crate::link_outs::{closes_link, tell_port, told_first};
+use crate::link_outs::{closes_link, port_told_first, told_first};
 use gate_sessions::{ClientLine, PortLine, SessionOut, SessionTurn, client_close, port_close};
 use soup_session::PortOut;
 use std::alloc::{AllocError, Global};
@@ -43,18 +43,18 @@ pub fn told_client(
     Ok(outs)
 }
 
-/// Tells the link of the port at a place what its session said in one call and then in others.
+/// Tells the link of the port at a place what its session said in one call, and then what it is to be told of others.
 pub fn told_port(
     lines: &mut Vec<PortLine>,
     alloc: Global,
     place: usize,
-    first: &[PortOut],
-    rest: &[PortOut],
+    first: Option<PortOut>,
+    rest: Vec<LinkOut>,
 ) -> Result<Vec<LinkOut>, AllocError>
     requires place { place < length lines.old.items }
     ensures outs { IfOk result (λ outs. (links : ℕ → Option ℕ) → PortLinks links lines.old.items
-        → map link_out_seen outs.items ≡ to_port (links (place + 1)) first.now
-        ++ to_port (links (place + 1)) rest.now) }
+        → map link_out_seen outs.items ≡ to_port (links (place + 1)) (option_to_list first)
+        ++ map link_out_seen rest.items) }
     ensures leave { (s : Settings) (calls : ℕ → List PortCall) → PortsLeave s calls lines.old.items
         → PortsLeave s calls lines.new.items }
     ensures links { IfOk result (λ outs. (links : ℕ → Option ℕ) → PortLinks links lines.old.items
@@ -65,9 +65,7 @@ pub fn told_port(
     ensures length { length lines.new.items ≡ length lines.old.items }
 {
     let link = lines[place].link;
-    let mut outs = Vec::new(alloc);
-    tell_port(alloc, link, first, &mut outs)?;
-    tell_port(alloc, link, rest, &mut outs)?;
+    let outs = port_told_first(alloc, link, first, rest)?;
     close_port(lines, place, &outs);
     Ok(outs)
 }

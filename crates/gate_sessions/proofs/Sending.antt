@@ -1,7 +1,5 @@
--- One more message after several, on the port's line of one number.
-use Rattle.std.proofs.Common.{◌≡◌, ℕ, ◌<◌, ◌≤◌, ◌+◌, List, [], ◌∷◌, ◌++◌, length, take, get_or, map, sym, ap, ◌∙◌}
-use Rattle.std.proofs.Common.{append-nil, append_assoc, arith}
-use Rattle.std.proofs.lemmas.List.{map-append, take_more}
+-- A message fits into a packet.
+use Rattle.std.proofs.Common.{◌≡◌, ℕ, ◌≤◌, length, arith}
 use Rattle.gate_law.specs.order_law.ouch_codec.declared.inbound.Inbound.{Inbound}
 use Rattle.gate_law.specs.order_law.ouch_codec.declared.inbound.Inbound.TheVariants.{Enter, Replace, Cancel}
 use Rattle.gate_law.specs.order_law.ouch_codec.Inbound.{inbound_bytes}
@@ -9,46 +7,11 @@ use Rattle.gate_law.specs.order_law.ouch_codec.LaidOut.{length-written}
 use Rattle.gate_law.specs.order_law.ouch_codec.EnterOrderLaws.{enter_order_laid_out}
 use Rattle.gate_law.specs.order_law.ouch_codec.ReplaceLaws.{replace_laid_out}
 use Rattle.gate_law.specs.order_law.ouch_codec.CancelLaws.{cancel_laid_out}
-use Rattle.gate_law.specs.soup_session.declared.port_turn.PortOut.{PortOut}
-use Rattle.gate_law.specs.soup_session.Table.{PortCall, Send}
-use Rattle.gate_law.specs.Settings.{Settings}
-use Rattle.gate_law.specs.Sessions.{port_answer, port_outs, sends}
-use Rattle.gate_sessions.specs.Lines.{called_all}
-use Rattle.gate_sessions.proofs.Several.{called-all-here, onto}
 
 at-most : (n width : ℕ) → n ≡ width → width ≤ 65_534 → n ≤ 65_534
 at-most n width is few = omega arith
 
--- a message fits into a packet
 pub inbound-fits : (m : Inbound) → length (inbound_bytes m) ≤ 65_534
 inbound-fits (Enter m) = at-most _ 49 (length-written enter_order_laid_out m) (omega arith)
 inbound-fits (Replace m) = at-most _ 47 (length-written replace_laid_out m) (omega arith)
 inbound-fits (Cancel m) = at-most _ 19 (length-written cancel_laid_out m) (omega arith)
-
-port-outs-more : (s : Settings) (n : ℕ) (before calls : List PortCall) (call : PortCall)
-    → port_outs s n before (calls ++ call ∷ []) ≡ port_outs s n before calls ++ (port_answer s n (onto calls before) call).outs
-port-outs-more s n before [] call = append-nil (port_answer s n before call).outs
-port-outs-more s n before (c ∷ calls) call =
-    ap (λ (outs : List PortOut). (port_answer s n before c).outs ++ outs) (port-outs-more s n (c ∷ before) calls call)
-    ∙ sym (append_assoc (port_answer s n before c).outs (port_outs s n (c ∷ before) calls) (port_answer s n (onto calls (c ∷ before)) call).outs)
-
--- what goes to the link, with one call more
-pub outs-more : (s : Settings) (n : ℕ) (before : ℕ → List PortCall) (calls : List PortCall) (call : PortCall) (old new : List PortOut)
-    → old ≡ port_outs s n (before n) calls
-    → new ≡ old ++ (port_answer s n (called_all n calls before n) call).outs
-    → new ≡ port_outs s n (before n) (calls ++ call ∷ [])
-outs-more s n before calls call old new old_is new_is =
-    new_is
-    ∙ ap (λ (is : List PortOut). is ++ (port_answer s n (called_all n calls before n) call).outs) old_is
-    ∙ ap (λ (so_far : List PortCall). port_outs s n (before n) calls ++ (port_answer s n so_far call).outs) (called-all-here n calls before)
-    ∙ sym (port-outs-more s n (before n) calls call)
-
--- the calls that send messages, up to one more
-pub sends-more : (at : ℕ) (messages : List Inbound) (i : ℕ) (message : Inbound) → i < length messages → message ≡ get_or messages i message
-    → sends at (map inbound_bytes (take (i + 1) messages)) ≡ sends at (map inbound_bytes (take i messages)) ++ Send (inbound_bytes message) at ∷ []
-sends-more at messages i message lt is =
-    let before = take i messages in
-    ap (λ (ms : List Inbound). sends at (map inbound_bytes ms)) (take_more messages i message lt)
-    ∙ ap (λ (m : Inbound). sends at (map inbound_bytes (before ++ m ∷ []))) (sym is)
-    ∙ ap (sends at) (map-append inbound_bytes before (message ∷ []))
-    ∙ map-append (λ (m : List ℕ). Send m at) (map inbound_bytes before) (inbound_bytes message ∷ [])

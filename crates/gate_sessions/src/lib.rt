@@ -9,7 +9,6 @@ mod client_lines;
 mod laws;
 mod port_line;
 mod port_lines;
-mod port_messages;
 
 pub use client_line::ClientLine;
 pub use client_lines::{
@@ -18,12 +17,11 @@ pub use client_lines::{
 };
 pub use fix_session::{IssuedReport, IssuedTurn, SessionOut, SessionTurn, push_number};
 pub use fix_types::AppBody;
-pub use gate_law::Fields;
+pub use gate_law::{Fields, Inbound};
 pub use laws::issues_are_what_is_reported;
 pub use port_line::PortLine;
 pub use port_lines::{
     port_close, port_fail, port_gone, port_packet, port_send, port_tick, port_up, ports_settle,
     ports_undo,
 };
-pub use port_messages::port_send_all;
 pub use soup_packets::Packet;

@@ -9,7 +9,7 @@ ghost use Rattle.gate_sessions.specs.Leaving.{PortLeaves};
 ghost use Rattle.gate_sessions.specs.Lines.{port_now, port_settled};
 
 use gate_law::{PortFault, PortSession, PortState, PortTurn};
-use soup_packets::Packet;
+use soup_packets::{Packet, Payload};
 use std::alloc::{AllocError, Global};
 
 /// A port's current link, where it has one, and its session over all its links.
@@ -107,77 +107,59 @@ impl PortLine {
     }
 
     /// A packet on the current link.
-    pub fn packet(
-        &mut self,
-        alloc: Global,
-        packet: &Packet,
-        at: u64,
-    ) -> Result<PortTurn, AllocError>
+    pub fn packet(&mut self, packet: &Packet, at: u64) -> PortTurn
         requires room { PortHasRoom self.old.session.port }
-        ensures leaves { IfOk result (λ t. (s : Settings) (p : ℕ) (calls : List PortCall)
-            → PortLeaves s p calls self.old.session.port
-            → PortLeaves s p (OnPacket packet.now at ∷ calls) self.new.session.port) }
-        ensures answers { IfOk result (λ t. (s : Settings) (p : ℕ) (calls : List PortCall)
-            → PortLeaves s p calls self.old.session.port
-            → IsAnswer (port_answer s p calls (OnPacket packet.now at)) t) }
+        ensures leaves { (s : Settings) (p : ℕ) (calls : List PortCall) → PortLeaves s p calls self.old.session.port
+            → PortLeaves s p (OnPacket packet.now at ∷ calls) self.new.session.port }
+        ensures answers { (s : Settings) (p : ℕ) (calls : List PortCall) → PortLeaves s p calls self.old.session.port
+            → IsAnswer (port_answer s p calls (OnPacket packet.now at)) result }
         ensures link { self.new.link ≡ self.old.link }
         ensures settled { port_settled self.new ≡ port_settled self.old }
         ensures next { next_of self.new.session.port ≤ next_of self.old.session.port + 1 }
-        ensures err { OnErr result (self.new ≡ self.old) }
     {
-        self.session.on_packet(alloc, packet, at)
+        self.session.on_packet(packet, at)
     }
 
     /// Time passes.
-    pub fn tick(&mut self, alloc: Global, at: u64) -> Result<PortTurn, AllocError>
-        ensures leaves { IfOk result (λ t. (s : Settings) (p : ℕ) (calls : List PortCall)
-            → PortLeaves s p calls self.old.session.port
-            → PortLeaves s p (OnTick at ∷ calls) self.new.session.port) }
-        ensures answers { IfOk result (λ t. (s : Settings) (p : ℕ) (calls : List PortCall)
-            → PortLeaves s p calls self.old.session.port
-            → IsAnswer (port_answer s p calls (OnTick at)) t) }
+    pub fn tick(&mut self, alloc: Global, at: u64) -> PortTurn
+        ensures leaves { (s : Settings) (p : ℕ) (calls : List PortCall) → PortLeaves s p calls self.old.session.port
+            → PortLeaves s p (OnTick at ∷ calls) self.new.session.port }
+        ensures answers { (s : Settings) (p : ℕ) (calls : List PortCall) → PortLeaves s p calls self.old.session.port
+            → IsAnswer (port_answer s p calls (OnTick at)) result }
         ensures link { self.new.link ≡ self.old.link }
         ensures settled { port_settled self.new ≡ port_settled self.old }
         ensures next { next_of self.new.session.port ≡ next_of self.old.session.port }
-        ensures err { OnErr result (self.new ≡ self.old) }
     {
         self.session.on_tick(alloc, at)
     }
 
     /// A message goes out while the port is up.
-    pub fn send(&mut self, alloc: Global, message: &[u8], at: u64) -> Result<PortTurn, AllocError>
+    pub fn send(&mut self, message: Payload, at: u64) -> PortTurn
         requires up { IsUp self.old.session.port }
-        requires most { length message.now ≤ 65_534 }
-        ensures leaves { IfOk result (λ t. (s : Settings) (p : ℕ) (calls : List PortCall)
-            → PortLeaves s p calls self.old.session.port
-            → PortLeaves s p (Send message.now at ∷ calls) self.new.session.port) }
-        ensures answers { IfOk result (λ t. (s : Settings) (p : ℕ) (calls : List PortCall)
-            → PortLeaves s p calls self.old.session.port
-            → IsAnswer (port_answer s p calls (Send message.now at)) t) }
+        ensures leaves { (s : Settings) (p : ℕ) (calls : List PortCall) → PortLeaves s p calls self.old.session.port
+            → PortLeaves s p (Send message at ∷ calls) self.new.session.port }
+        ensures answers { (s : Settings) (p : ℕ) (calls : List PortCall) → PortLeaves s p calls self.old.session.port
+            → IsAnswer (port_answer s p calls (Send message at)) result }
         ensures link { self.new.link ≡ self.old.link }
         ensures settled { port_settled self.new ≡ port_settled self.old }
         ensures next { next_of self.new.session.port ≡ next_of self.old.session.port }
-        ensures up { IfOk result (λ t. IsUp self.new.session.port) }
-        ensures err { OnErr result (self.new ≡ self.old) }
+        ensures up { IsUp self.new.session.port }
     {
-        self.session.send(alloc, message, at)
+        self.session.send(message, at)
     }
 
     /// The payload that was delivered last is at fault at the order level.
-    pub fn fail(&mut self, alloc: Global, fault: PortFault) -> Result<PortTurn, AllocError>
+    pub fn fail(&mut self, fault: PortFault) -> PortTurn
         requires up { IsUp self.old.session.port }
-        ensures leaves { IfOk result (λ t. (s : Settings) (p : ℕ) (calls : List PortCall)
-            → PortLeaves s p calls self.old.session.port
-            → PortLeaves s p (Fail fault ∷ calls) self.new.session.port) }
-        ensures answers { IfOk result (λ t. (s : Settings) (p : ℕ) (calls : List PortCall)
-            → PortLeaves s p calls self.old.session.port
-            → IsAnswer (port_answer s p calls (Fail fault)) t) }
+        ensures leaves { (s : Settings) (p : ℕ) (calls : List PortCall) → PortLeaves s p calls self.old.session.port
+            → PortLeaves s p (Fail fault ∷ calls) self.new.session.port }
+        ensures answers { (s : Settings) (p : ℕ) (calls : List PortCall) → PortLeaves s p calls self.old.session.port
+            → IsAnswer (port_answer s p calls (Fail fault)) result }
         ensures link { self.new.link ≡ self.old.link }
         ensures settled { port_settled self.new ≡ port_settled self.old }
         ensures next { next_of self.new.session.port ≡ next_of self.old.session.port }
-        ensures err { OnErr result (self.new ≡ self.old) }
     {
-        self.session.fail(alloc, fault)
+        self.session.fail(fault)
     }
 
     /// How the port stands.

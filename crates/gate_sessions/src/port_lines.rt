@@ -2,6 +2,7 @@
 
 ghost use Rattle.std.specs.Prelude.{◌≡◌, ◌<◌, ◌≤◌, ◌+◌, ◌-◌, ◌^◌, ℕ, List, ◌∷◌, Option, Some, None, IfOk, OnErr};
 ghost use Rattle.std.specs.Prelude.{length, map, slice_get, slice_set};
+ghost use Rattle.gate_law.specs.order_law.ouch_codec.Inbound.{inbound_bytes};
 ghost use Rattle.gate_law.specs.soup_session.Table.{PortCall, OnUp, OnPacket, OnGone, OnTick, Send, Fail};
 ghost use Rattle.gate_law.specs.soup_session.Calls.{IsAnswer, PortHasRoom, IsUp};
 ghost use Rattle.gate_law.specs.Settings.{Settings};
@@ -11,8 +12,8 @@ ghost use Rattle.gate_sessions.specs.Lines.{PortsLeave, PortLinks, NextWithin, I
 ghost use Rattle.gate_sessions.specs.Lines.{PortStands, PortsSettledAs, port_now, port_settled};
 
 use crate::port_line::PortLine;
-use gate_law::{PortFault, PortTurn};
-use soup_packets::Packet;
+use gate_law::{Inbound, PortFault, PortTurn};
+use soup_packets::{Packet, Payload};
 use std::alloc::{AllocError, Global};
 
 /// A link is current from now on.
@@ -69,40 +70,29 @@ pub fn port_close(lines: &mut Vec<PortLine>, place: usize)
 }
 
 /// A packet on the current link.
-pub fn port_packet(
-    lines: &mut Vec<PortLine>,
-    alloc: Global,
-    place: usize,
-    packet: &Packet,
-    at: u64,
-) -> Result<PortTurn, AllocError>
+pub fn port_packet(lines: &mut Vec<PortLine>, place: usize, packet: &Packet, at: u64) -> PortTurn
     requires place { place < length lines.old.items }
     requires room { NextWithin (2 ^ 59) lines.old.items }
-    ensures leave { IfOk result (λ t. (s : Settings) (calls : ℕ → List PortCall) → PortsLeave s calls lines.old.items
-        → PortsLeave s (called (place + 1) (OnPacket packet.now at) calls) lines.new.items) }
-    ensures answers { IfOk result (λ t. (s : Settings) (calls : ℕ → List PortCall) → PortsLeave s calls lines.old.items
-        → IsAnswer (port_answer s (place + 1) (calls (place + 1)) (OnPacket packet.now at)) t) }
+    ensures leave { (s : Settings) (calls : ℕ → List PortCall) → PortsLeave s calls lines.old.items
+        → PortsLeave s (called (place + 1) (OnPacket packet.now at) calls) lines.new.items }
+    ensures answers { (s : Settings) (calls : ℕ → List PortCall) → PortsLeave s calls lines.old.items
+        → IsAnswer (port_answer s (place + 1) (calls (place + 1)) (OnPacket packet.now at)) result }
     ensures links { (links : ℕ → Option ℕ) → PortLinks links lines.old.items → PortLinks links lines.new.items }
     ensures next { (n : ℕ) → NextWithin n lines.old.items → NextWithin (n + 1) lines.new.items }
     ensures settled { (was : ℕ → PortStands) → PortsSettledAs was lines.old.items
         → PortsSettledAs was lines.new.items }
     ensures length { length lines.new.items ≡ length lines.old.items }
 {
-    lines[place].packet(alloc, packet, at)
+    lines[place].packet(packet, at)
 }
 
 /// Time passes.
-pub fn port_tick(
-    lines: &mut Vec<PortLine>,
-    alloc: Global,
-    place: usize,
-    at: u64,
-) -> Result<PortTurn, AllocError>
+pub fn port_tick(lines: &mut Vec<PortLine>, alloc: Global, place: usize, at: u64) -> PortTurn
     requires place { place < length lines.old.items }
-    ensures leave { IfOk result (λ t. (s : Settings) (calls : ℕ → List PortCall) → PortsLeave s calls lines.old.items
-        → PortsLeave s (called (place + 1) (OnTick at) calls) lines.new.items) }
-    ensures answers { IfOk result (λ t. (s : Settings) (calls : ℕ → List PortCall) → PortsLeave s calls lines.old.items
-        → IsAnswer (port_answer s (place + 1) (calls (place + 1)) (OnTick at)) t) }
+    ensures leave { (s : Settings) (calls : ℕ → List PortCall) → PortsLeave s calls lines.old.items
+        → PortsLeave s (called (place + 1) (OnTick at) calls) lines.new.items }
+    ensures answers { (s : Settings) (calls : ℕ → List PortCall) → PortsLeave s calls lines.old.items
+        → IsAnswer (port_answer s (place + 1) (calls (place + 1)) (OnTick at)) result }
     ensures links { (links : ℕ → Option ℕ) → PortLinks links lines.old.items → PortLinks links lines.new.items }
     ensures next { (n : ℕ) → NextWithin n lines.old.items → NextWithin n lines.new.items }
     ensures settled { (was : ℕ → PortStands) → PortsSettledAs was lines.old.items
@@ -112,21 +102,20 @@ pub fn port_tick(
     lines[place].tick(alloc, at)
 }
 
-/// A message goes out while the port is up.
+/// A message goes out while the port is up. One growth.
 pub fn port_send(
     lines: &mut Vec<PortLine>,
     alloc: Global,
     place: usize,
-    message: &[u8],
+    message: &Inbound,
     at: u64,
 ) -> Result<PortTurn, AllocError>
     requires place { place < length lines.old.items }
     requires up { IsUpAt place lines.old.items }
-    requires most { length message.now ≤ 65_534 }
     ensures leave { IfOk result (λ t. (s : Settings) (calls : ℕ → List PortCall) → PortsLeave s calls lines.old.items
-        → PortsLeave s (called (place + 1) (Send message.now at) calls) lines.new.items) }
+        → PortsLeave s (called (place + 1) (Send (inbound_bytes message.now) at) calls) lines.new.items) }
     ensures answers { IfOk result (λ t. (s : Settings) (calls : ℕ → List PortCall) → PortsLeave s calls lines.old.items
-        → IsAnswer (port_answer s (place + 1) (calls (place + 1)) (Send message.now at)) t) }
+        → IsAnswer (port_answer s (place + 1) (calls (place + 1)) (Send (inbound_bytes message.now) at)) t) }
     ensures links { (links : ℕ → Option ℕ) → PortLinks links lines.old.items → PortLinks links lines.new.items }
     ensures next { (n : ℕ) → NextWithin n lines.old.items → NextWithin n lines.new.items }
     ensures up { IfOk result (λ t. IsUpAt place lines.new.items) }
@@ -134,29 +123,52 @@ pub fn port_send(
         → PortsSettledAs was lines.new.items }
     ensures length { length lines.new.items ≡ length lines.old.items }
 {
-    lines[place].send(alloc, message, at)
+    let payload = payload_of(alloc, message)?;
+    Ok(send_payload(lines, place, payload, at))
+}
+
+/// What goes out is the payload of its packet.
+fn send_payload(lines: &mut Vec<PortLine>, place: usize, payload: Payload, at: u64) -> PortTurn
+    requires place { place < length lines.old.items }
+    requires up { IsUpAt place lines.old.items }
+    ensures leave { (s : Settings) (calls : ℕ → List PortCall) → PortsLeave s calls lines.old.items
+        → PortsLeave s (called (place + 1) (Send payload at) calls) lines.new.items }
+    ensures answers { (s : Settings) (calls : ℕ → List PortCall) → PortsLeave s calls lines.old.items
+        → IsAnswer (port_answer s (place + 1) (calls (place + 1)) (Send payload at)) result }
+    ensures links { (links : ℕ → Option ℕ) → PortLinks links lines.old.items → PortLinks links lines.new.items }
+    ensures next { (n : ℕ) → NextWithin n lines.old.items → NextWithin n lines.new.items }
+    ensures up { IsUpAt place lines.new.items }
+    ensures settled { (was : ℕ → PortStands) → PortsSettledAs was lines.old.items
+        → PortsSettledAs was lines.new.items }
+    ensures length { length lines.new.items ≡ length lines.old.items }
+{
+    lines[place].send(payload, at)
+}
+
+/// The payload of a message's packet. One growth.
+fn payload_of(alloc: Global, message: &Inbound) -> Result<Payload, AllocError>
+    ensures { IfOk result (λ payload. payload ≡ inbound_bytes message.now) }
+{
+    let mut bytes = vec![in alloc; 0; message.len()]?;
+    message.put(bytes.as_mut_slice());
+    Ok(Payload::from_vec(bytes))
 }
 
 /// The payload that was delivered last is at fault at the order level.
-pub fn port_fail(
-    lines: &mut Vec<PortLine>,
-    alloc: Global,
-    place: usize,
-    fault: PortFault,
-) -> Result<PortTurn, AllocError>
+pub fn port_fail(lines: &mut Vec<PortLine>, place: usize, fault: PortFault) -> PortTurn
     requires place { place < length lines.old.items }
     requires up { IsUpAt place lines.old.items }
-    ensures leave { IfOk result (λ t. (s : Settings) (calls : ℕ → List PortCall) → PortsLeave s calls lines.old.items
-        → PortsLeave s (called (place + 1) (Fail fault) calls) lines.new.items) }
-    ensures answers { IfOk result (λ t. (s : Settings) (calls : ℕ → List PortCall) → PortsLeave s calls lines.old.items
-        → IsAnswer (port_answer s (place + 1) (calls (place + 1)) (Fail fault)) t) }
+    ensures leave { (s : Settings) (calls : ℕ → List PortCall) → PortsLeave s calls lines.old.items
+        → PortsLeave s (called (place + 1) (Fail fault) calls) lines.new.items }
+    ensures answers { (s : Settings) (calls : ℕ → List PortCall) → PortsLeave s calls lines.old.items
+        → IsAnswer (port_answer s (place + 1) (calls (place + 1)) (Fail fault)) result }
     ensures links { (links : ℕ → Option ℕ) → PortLinks links lines.old.items → PortLinks links lines.new.items }
     ensures next { (n : ℕ) → NextWithin n lines.old.items → NextWithin n lines.new.items }
     ensures settled { (was : ℕ → PortStands) → PortsSettledAs was lines.old.items
         → PortsSettledAs was lines.new.items }
     ensures length { length lines.new.items ≡ length lines.old.items }
 {
-    lines[place].fail(alloc, fault)
+    lines[place].fail(fault)
 }
 
 /// Each line can be put back to how it is now.

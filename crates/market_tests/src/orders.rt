@@ -2,7 +2,7 @@
 
 use crate::logins::{bytes_of, packet};
 use market_sim::{Choice, Packet, Sim, SimEvent, Trading};
-use soup_session::{PortOut, PortSession, PortState, PortTurn};
+use soup_session::{PortOut, PortSession, PortState};
 use std::alloc::Global;
 use std::process::Abort;
 use std::test::Fail;
@@ -18,12 +18,8 @@ fn heard(alloc: Global, session: &mut PortSession, packets: &[Packet]) -> Result
         if session.next() >= 1_000 {
             return Err(Fail::new("more messages than there are"));
         }
-        let PortTurn {
-            outs: _outs,
-            payload,
-        } = session.on_packet(alloc, packet, 0)?;
-        if let Some(payload) = payload {
-            payloads.extend_from_slice(payload.as_slice())?;
+        if session.on_packet(packet, 0).is_delivered {
+            payloads.extend_from_slice(packet.payload.as_slice())?;
         }
     }
     Ok(payloads)
@@ -32,19 +28,14 @@ fn heard(alloc: Global, session: &mut PortSession, packets: &[Packet]) -> Result
 /// The session's link is up: its login comes to the market, and the market's packets to it.
 fn connected(alloc: Global, session: &mut PortSession, sim: &mut Sim) -> Result<Vec<u8>, Fail> {
     sim.step(alloc, SimEvent::Up)?;
-    let PortTurn {
-        outs,
-        payload: _payload,
-    } = session.on_up(alloc, 0)?;
-    let mut payloads = Vec::new(alloc);
-    for out in outs {
-        if let PortOut::Packet(login) = out {
+    let turn = session.on_up(alloc, 0)?;
+    match turn.out {
+        Some(PortOut::Packet(login)) => {
             let packets = sim.step(alloc, SimEvent::Packet(login, Choice::Nothing))?;
-            let given = heard(alloc, session, packets.as_slice())?;
-            payloads.extend_from_slice(given.as_slice())?;
+            heard(alloc, session, packets.as_slice())
         }
+        _ => Ok(Vec::new(alloc)),
     }
-    Ok(payloads)
 }
 
 /// The session's link is up, and these payloads come to it.

@@ -4,7 +4,7 @@ use crate::bytes::{bytes_of, show_bytes, show_number};
 use crate::line::{Step, number_of, words_of};
 use crate::packets::{copies_of, feed, packet_of, reads, show_packet, writes, zeros};
 use itoa::Buffer;
-use soup_packets::{Packet, Packets};
+use soup_packets::{Packet, Packets, Payload};
 use soup_session::{PortFault, PortOut, PortSession, PortState, PortTurn, WholeWire};
 use std::alloc::{AllocError, Global};
 
@@ -56,15 +56,15 @@ impl Conversation {
         match step {
             Step::Up => {
                 let turn = self.session.on_up(alloc, self.at)?;
-                self.show_turn(alloc, &turn)
+                self.show_turn(alloc, &turn, None)
             }
             Step::Gone => {
                 self.session.on_gone();
                 Ok(true)
             }
             Step::Tick => {
-                let turn = self.session.on_tick(alloc, self.at)?;
-                self.show_turn(alloc, &turn)
+                let turn = self.session.on_tick(alloc, self.at);
+                self.show_turn(alloc, &turn, None)
             }
             Step::Hears(text) => self.hears(alloc, text),
             Step::Sends(text) => self.sends(alloc, text),
@@ -95,29 +95,29 @@ impl Conversation {
     }
 
     fn hears_packet(&mut self, alloc: Global, packet: &Packet) -> Result<bool, AllocError> {
-        match self.hear(alloc, packet)? {
-            Some(turn) => self.show_turn(alloc, &turn),
+        match self.hear(packet) {
+            Some(turn) => self.show_turn(alloc, &turn, Some(packet)),
             None => Ok(false),
         }
     }
 
     /// A packet comes. A session that has no room for one number more can't hear it.
-    fn hear(&mut self, alloc: Global, packet: &Packet) -> Result<Option<PortTurn>, AllocError> {
+    fn hear(&mut self, packet: &Packet) -> Option<PortTurn> {
         if self.session.next() >= 1 << 60 {
-            return Ok(None);
+            return None;
         }
-        Ok(Some(self.session.on_packet(alloc, packet, self.at)?))
+        Some(self.session.on_packet(packet, self.at))
     }
 
     fn sends(&mut self, alloc: Global, text: &str) -> Result<bool, AllocError> {
         let Some(message) = bytes_of(alloc, text)? else {
             return Ok(false);
         };
-        if !self.session.state().is_up() || message.len() > 65_534 {
+        if !self.session.state().is_up() || message.len() > Payload::MOST {
             return Ok(false);
         }
-        let turn = self.session.send(alloc, message.as_slice(), self.at)?;
-        self.show_turn(alloc, &turn)
+        let turn = self.session.send(Payload::from_vec(message), self.at);
+        self.show_turn(alloc, &turn, None)
     }
 
     fn fails(&mut self, alloc: Global, text: &str) -> Result<bool, AllocError> {
@@ -131,8 +131,8 @@ impl Conversation {
         if !self.session.state().is_up() {
             return Ok(false);
         }
-        let turn = self.session.fail(alloc, fault)?;
-        self.show_turn(alloc, &turn)
+        let turn = self.session.fail(fault);
+        self.show_turn(alloc, &turn, None)
     }
 
     /// Sequenced packets of the numbers from one to another come. What is delivered of them is shown in one line.
@@ -193,10 +193,10 @@ impl Conversation {
         packet: &Packet,
         given: &mut String,
     ) -> Result<bool, AllocError> {
-        match self.hear(alloc, packet)? {
+        match self.hear(packet) {
             Some(turn) => {
-                self.show_outs(alloc, turn.outs.as_slice())?;
-                give(&turn, given)?;
+                self.show_out(alloc, &turn)?;
+                give(&turn, packet, given)?;
                 Ok(true)
             }
             None => Ok(false),
@@ -221,26 +221,37 @@ impl Conversation {
         Ok(true)
     }
 
-    /// Shows what goes out, and the payload that is delivered.
-    fn show_turn(&mut self, alloc: Global, turn: &PortTurn) -> Result<bool, AllocError> {
-        self.show_outs(alloc, turn.outs.as_slice())?;
-        if let Some(payload) = &turn.payload {
-            self.shown.push_str("given ")?;
-            show_bytes(&mut self.shown, payload.as_slice())?;
-            self.shown.push('\n')?;
+    /// Shows what goes out, and the payload that is delivered of the packet that came, where one did.
+    fn show_turn(
+        &mut self,
+        alloc: Global,
+        turn: &PortTurn,
+        packet: Option<&Packet>,
+    ) -> Result<bool, AllocError> {
+        self.show_out(alloc, turn)?;
+        if turn.is_delivered {
+            self.show_given(packet)?;
         }
         Ok(true)
     }
 
-    /// Shows what goes out.
-    fn show_outs(&mut self, alloc: Global, outs: &[PortOut]) -> Result<(), AllocError> {
-        for out in outs {
-            match out {
-                PortOut::Packet(packet) => show_packet(alloc, &mut self.shown, packet)?,
-                PortOut::Close => self.shown.push_str("close\n")?,
-            }
+    /// Shows the payload of a packet.
+    fn show_given(&mut self, packet: Option<&Packet>) -> Result<(), AllocError> {
+        if let Some(packet) = packet {
+            self.shown.push_str("given ")?;
+            show_bytes(&mut self.shown, packet.payload.as_slice())?;
+            self.shown.push('\n')?;
         }
         Ok(())
+    }
+
+    /// Shows what goes out.
+    fn show_out(&mut self, alloc: Global, turn: &PortTurn) -> Result<(), AllocError> {
+        match &turn.out {
+            Some(PortOut::Packet(packet)) => show_packet(alloc, &mut self.shown, packet),
+            Some(PortOut::Close) => self.shown.push_str("close\n"),
+            None => Ok(()),
+        }
     }
 
     /// Shows the session's state, the number that it wants next, and the session of its last login.
@@ -272,13 +283,11 @@ impl Conversation {
     }
 }
 
-/// Puts the payload that a turn delivers behind those that were.
-fn give(turn: &PortTurn, given: &mut String) -> Result<(), AllocError> {
-    match &turn.payload {
-        Some(payload) => {
-            given.push(' ')?;
-            show_bytes(given, payload.as_slice())
-        }
-        None => Ok(()),
+/// Puts the payload that a packet's turn delivers behind those that were.
+fn give(turn: &PortTurn, packet: &Packet, given: &mut String) -> Result<(), AllocError> {
+    if !turn.is_delivered {
+        return Ok(());
     }
+    given.push(' ')?;
+    show_bytes(given, packet.payload.as_slice())
 }

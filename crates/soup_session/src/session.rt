@@ -1,16 +1,17 @@
 //! The session of a market port.
 
-ghost use Rattle.std.specs.Prelude.{◌≡◌, ◌≤◌, ◌<◌, ◌+◌, List, [], ◌∷◌, length, IfOk, OnErr};
+ghost use Rattle.std.specs.Prelude.{◌≡◌, ◌≤◌, ◌<◌, ◌+◌, ℕ, List, [], ◌∷◌, length, IfOk, OnErr};
+ghost use Rattle.soup_packets.specs.declared.packet.Packet.{Packet};
 ghost use Rattle.soup_session.specs.Table.{LoginTerms, PortCall, OnUp, OnPacket, OnGone, OnTick, Send, Fail, answer};
 ghost use Rattle.soup_session.specs.Table.{standing, wanted};
 ghost use Rattle.soup_session.specs.Calls.{CallsLeave, IsAnswer, DeliversEachOnce, PortHasRoom, IsUp, next_of};
-ghost use Rattle.soup_session.specs.Calls.{EndsByClose};
+ghost use Rattle.soup_session.specs.Calls.{DeliversOwn, EndsByClose};
 
 use crate::machine::{Answered, Port, closes, on_gone, on_packet, on_tick, on_up, send};
 use crate::port_fault::PortFault;
 use crate::port_state::PortState;
 use crate::port_turn::PortTurn;
-use soup_packets::Packet;
+use soup_packets::{Packet, Payload};
 use std::alloc::{AllocError, Global};
 use std::marker::Model;
 use wire_law::padded;
@@ -20,7 +21,7 @@ use wire_law::padded;
 /// Contracts speak of all its calls: `Leaves terms calls session` says that these calls, the newest first, leave it
 /// so. Then each call gives what the table has for it (`answers`), and the session is what the calls with this one
 /// leave (`leaves`). Moments are in milliseconds and are handed in; one that goes back counts as no time passed.
-/// After an error, which is always that memory ran out, the session is as it was. `settle` and `undo` put calls back
+/// Only `on_up` takes memory; where that ran out the session is as it was. `settle` and `undo` put calls back
 /// that succeeded: how it was when it was settled is kept beside how it is, and no call but these two changes it.
 pub struct PortSession {
     port: Port,
@@ -92,14 +93,16 @@ impl PortSession {
     /// The memory is this one now.
     fn take(&mut self, answered: Answered) -> PortTurn
         ensures port { self.new ≡ record self.old { port = answered.port } }
-        ensures outs { result.outs ≡ answered.outs }
-        ensures payload { result.payload ≡ answered.payload }
+        ensures out { result.out ≡ answered.out }
+        ensures delivered { result.is_delivered ≡ answered.is_delivered }
     {
-        self.port = answered.port;
-        PortTurn {
-            outs: answered.outs,
-            payload: answered.payload,
-        }
+        let Answered {
+            port,
+            out,
+            is_delivered,
+        } = answered;
+        self.port = port;
+        PortTurn { out, is_delivered }
     }
 
     /// A link came up: Login Request, with the known session, blank at first, and the number of the next payload. Where
@@ -121,35 +124,26 @@ impl PortSession {
         Ok(self.take(answered))
     }
 
-    /// A packet of the server on the port's link. Where there is no link it does nothing.
+    /// A packet of the server on the port's link. Where there is no link it does nothing. Takes no memory.
     ///
-    /// `payload` is that of a sequenced packet which is the first of its number. A packet of another type, length or
-    /// time is fault 1, a login that skips a number 5, one of another session 6: the link is closed, and the port
-    /// stays faulted.
+    /// The payload of a sequenced packet which is the first of its number is delivered. A packet of another type,
+    /// length or time is fault 1, a login that skips a number 5, one of another session 6: the link is closed, and the
+    /// port stays faulted.
     ///
     /// Source: SoupBinTCP 3.00, "Packets Sent by the Server".
-    pub fn on_packet(
-        &mut self,
-        alloc: Global,
-        packet: &Packet,
-        at: u64,
-    ) -> Result<PortTurn, AllocError>
+    pub fn on_packet(&mut self, packet: &Packet, at: u64) -> PortTurn
         requires room { PortHasRoom self.old.port }
-        ensures leaves { IfOk result (λ t. (terms : LoginTerms) (before : List PortCall)
-            → CallsLeave terms before self.old.port
-            → CallsLeave terms (OnPacket packet.now at ∷ before) self.new.port) }
-        ensures answers { IfOk result (λ t. (terms : LoginTerms) (before : List PortCall)
-            → CallsLeave terms before self.old.port
-            → IsAnswer (answer terms before (OnPacket packet.now at)) t) }
-        ensures delivered { IfOk result (λ t. (terms : LoginTerms) (before : List PortCall)
-            → CallsLeave terms before self.old.port
-            → DeliversEachOnce terms (OnPacket packet.now at ∷ before)) }
+        ensures leaves { (terms : LoginTerms) (before : List PortCall) → CallsLeave terms before self.old.port
+            → CallsLeave terms (OnPacket packet.now at ∷ before) self.new.port }
+        ensures answers { (terms : LoginTerms) (before : List PortCall) → CallsLeave terms before self.old.port
+            → IsAnswer (answer terms before (OnPacket packet.now at)) result }
+        ensures delivered { (terms : LoginTerms) (before : List PortCall) → CallsLeave terms before self.old.port
+            → DeliversEachOnce terms (OnPacket packet.now at ∷ before) }
         ensures next { next_of self.new.port ≤ next_of self.old.port + 1 }
         ensures settled { self.new.settled ≡ self.old.settled }
-        ensures err { OnErr result (self.new ≡ self.old) }
     {
-        let answered = on_packet(alloc, self.port, packet, at)?;
-        Ok(self.take(answered))
+        let answered = on_packet(self.port, packet, at);
+        self.take(answered)
     }
 
     /// The link is gone. An ended or faulted port stays so.
@@ -164,61 +158,51 @@ impl PortSession {
     }
 
     /// Time passed: a link that was silent for more than 15,000 ms is closed; a heartbeat is due where nothing was sent
-    /// for more than 1,000 ms while up.
+    /// for more than 1,000 ms while up. Takes no memory.
     ///
     /// Source: SoupBinTCP 3.00, "Heartbeats".
-    pub fn on_tick(&mut self, alloc: Global, at: u64) -> Result<PortTurn, AllocError>
-        ensures leaves { IfOk result (λ t. (terms : LoginTerms) (before : List PortCall)
-            → CallsLeave terms before self.old.port
-            → CallsLeave terms (OnTick at ∷ before) self.new.port) }
-        ensures answers { IfOk result (λ t. (terms : LoginTerms) (before : List PortCall)
-            → CallsLeave terms before self.old.port
-            → IsAnswer (answer terms before (OnTick at)) t) }
+    pub fn on_tick(&mut self, alloc: Global, at: u64) -> PortTurn
+        ensures leaves { (terms : LoginTerms) (before : List PortCall) → CallsLeave terms before self.old.port
+            → CallsLeave terms (OnTick at ∷ before) self.new.port }
+        ensures answers { (terms : LoginTerms) (before : List PortCall) → CallsLeave terms before self.old.port
+            → IsAnswer (answer terms before (OnTick at)) result }
         ensures next { next_of self.new.port ≡ next_of self.old.port }
         ensures settled { self.new.settled ≡ self.old.settled }
-        ensures err { OnErr result (self.new ≡ self.old) }
     {
-        let answered = on_tick(alloc, self.port, at)?;
-        Ok(self.take(answered))
+        let answered = on_tick(alloc, self.port, at);
+        self.take(answered)
     }
 
-    /// A message of at most 65,534 bytes goes out while up.
+    /// A message goes out while up, in the packet whose payload it is. Takes no memory.
     ///
     /// Source: SoupBinTCP 3.00, "Unsequenced Data Packet".
-    pub fn send(&mut self, alloc: Global, message: &[u8], at: u64) -> Result<PortTurn, AllocError>
+    pub fn send(&mut self, message: Payload, at: u64) -> PortTurn
         requires up { IsUp self.old.port }
-        requires most { length message.now ≤ 65_534 }
-        ensures leaves { IfOk result (λ t. (terms : LoginTerms) (before : List PortCall)
-            → CallsLeave terms before self.old.port
-            → CallsLeave terms (Send message.now at ∷ before) self.new.port) }
-        ensures answers { IfOk result (λ t. (terms : LoginTerms) (before : List PortCall)
-            → CallsLeave terms before self.old.port
-            → IsAnswer (answer terms before (Send message.now at)) t) }
+        ensures leaves { (terms : LoginTerms) (before : List PortCall) → CallsLeave terms before self.old.port
+            → CallsLeave terms (Send message at ∷ before) self.new.port }
+        ensures answers { (terms : LoginTerms) (before : List PortCall) → CallsLeave terms before self.old.port
+            → IsAnswer (answer terms before (Send message at)) result }
         ensures next { next_of self.new.port ≡ next_of self.old.port }
         ensures settled { self.new.settled ≡ self.old.settled }
-        ensures up { IfOk result (λ t. IsUp self.new.port) }
-        ensures err { OnErr result (self.new ≡ self.old) }
+        ensures up { IsUp self.new.port }
     {
-        let answered = send(alloc, self.port, message, at)?;
-        Ok(self.take(answered))
+        let answered = send(self.port, message, at);
+        self.take(answered)
     }
 
     /// The payload that was delivered last is at fault at the order level: the link is closed, and the port stays
-    /// faulted.
-    pub fn fail(&mut self, alloc: Global, fault: PortFault) -> Result<PortTurn, AllocError>
+    /// faulted. Takes no memory.
+    pub fn fail(&mut self, fault: PortFault) -> PortTurn
         requires up { IsUp self.old.port }
-        ensures leaves { IfOk result (λ t. (terms : LoginTerms) (before : List PortCall)
-            → CallsLeave terms before self.old.port
-            → CallsLeave terms (Fail fault ∷ before) self.new.port) }
-        ensures answers { IfOk result (λ t. (terms : LoginTerms) (before : List PortCall)
-            → CallsLeave terms before self.old.port
-            → IsAnswer (answer terms before (Fail fault)) t) }
+        ensures leaves { (terms : LoginTerms) (before : List PortCall) → CallsLeave terms before self.old.port
+            → CallsLeave terms (Fail fault ∷ before) self.new.port }
+        ensures answers { (terms : LoginTerms) (before : List PortCall) → CallsLeave terms before self.old.port
+            → IsAnswer (answer terms before (Fail fault)) result }
         ensures next { next_of self.new.port ≡ next_of self.old.port }
         ensures settled { self.new.settled ≡ self.old.settled }
-        ensures err { OnErr result (self.new ≡ self.old) }
     {
-        let answered = closes(alloc, self.port, PortState::Faulted(fault))?;
-        Ok(self.take(answered))
+        let answered = closes(self.port, PortState::Faulted(fault));
+        self.take(answered)
     }
 
     /// How the port stands. Takes no memory.
@@ -251,4 +235,10 @@ impl PortSession {
 /// A call on a link closes it just where the session has no link after it. It does nothing: its contract is the law.
 pub fn links_end_by_a_close()
     ensures { (terms : LoginTerms) (before : List PortCall) (c : PortCall) → EndsByClose terms before c }
+{}
+
+/// What is delivered at a packet is the packet's payload. It does nothing: its contract is the law.
+pub fn payloads_are_those_of_their_packets()
+    ensures { (terms : LoginTerms) (before : List PortCall) (packet : Packet) (at : ℕ)
+        → DeliversOwn terms before packet at }
 {}

@@ -76,7 +76,7 @@ impl<S: BuildHasher + Drop> Parts<S> {
             port_outs,
         } = self.ask(alloc, place, port, message, at)?;
         let client_out = told_client(&mut self.clients, alloc, place, said, outs)?;
-        let port_out = told_port(&mut self.ports, alloc, port, &port_outs, &[])?;
+        let port_out = told_port(&mut self.ports, alloc, port, None, port_outs)?;
         let (client, port) = (ClientNumber::at_place(place), PortNumber::at_place(port));
         Ok(Batch::of_parts(client, reports, client_out, port, port_out, None))
     }

@@ -7,17 +7,16 @@ ghost use Rattle.gate_settings.specs.to_market.PortsSeen.{port_seen};
 ghost use Rattle.gate_law.specs.Settings.{Settings, port_of};
 ghost use Rattle.gate_law.specs.Lists.{Lists};
 ghost use Rattle.gate_law.specs.Sessions.{stands_of};
+ghost use Rattle.gate_events.specs.Seen.{link_out_seen};
 ghost use Rattle.gate_core.specs.State.{IsShaped, ArePartsOf};
 ghost use Rattle.order_core.specs.State.{CoreHasRoom};
 ghost use Rattle.gate_core.specs.Steps.{Grows, IsAsked, IsIssued, IsSent, IsTurn, OnlyWhileUp, Ready};
 
 use super::Parts;
 use fix_types::{AppBody, AppMsg};
-use gate_events::{Issues, client_issue_all};
-use gate_sessions::port_send_all;
+use gate_events::{Issues, LinkOut, client_issue_all, port_send_all};
 use order_core::{CoreOut, PortState};
 use ouch_codec::Inbound;
-use soup_session::PortOut;
 use std::alloc::{AllocError, Global};
 use std::hash::BuildHasher;
 
@@ -26,8 +25,8 @@ use std::hash::BuildHasher;
 pub(crate) struct Asked {
     /// What was reported, and what the client's link is told of it.
     pub issues: Issues,
-    /// What goes to the link of the client's port.
-    pub port_outs: Vec<PortOut>,
+    /// What the link of the client's port is told.
+    pub port_outs: Vec<LinkOut>,
 }
 
 impl<S: BuildHasher + Drop> Parts<S> {
@@ -111,11 +110,11 @@ impl<S: BuildHasher + Drop> Parts<S> {
         place: usize,
         messages: &[Inbound],
         at: u64,
-    ) -> Result<Vec<PortOut>, AllocError>
+    ) -> Result<Vec<LinkOut>, AllocError>
         requires place { place < length self.old.ports.items }
         ensures sent { IfOk result (λ outs. (s : Settings) (v : Lists) → ArePartsOf s v self.old
             → OnlyWhileUp s (place + 1) v (map inbound_bytes messages.now)
-            → IsSent s (place + 1) at (map inbound_bytes messages.now) outs.items v self.new) }
+            → IsSent s (place + 1) at (map inbound_bytes messages.now) (map link_out_seen outs.items) v self.new) }
         ensures grows { Grows 0 0 self.old self.new }
     {
         match self.ports[place].state() {

@@ -40,7 +40,7 @@ impl<S: BuildHasher + Drop> Parts<S> {
         match self.port_link(place) {
             None => {
                 let turn = port_up(&mut self.ports, alloc, place, link, at)?;
-                let outs = told_port(&mut self.ports, alloc, place, &turn.outs, &[])?;
+                let outs = told_port(&mut self.ports, alloc, place, turn.out, Vec::new(alloc))?;
                 Ok(Batch::for_port(alloc, port, outs, None))
             }
             Some(current) if current == link => Ok(Batch::empty(alloc)),
@@ -75,8 +75,8 @@ impl<S: BuildHasher + Drop> Parts<S> {
         let Some(place) = self.port_place(port) else {
             return Ok(Batch::empty(alloc));
         };
-        let turn = port_tick(&mut self.ports, alloc, place, at)?;
-        let outs = told_port(&mut self.ports, alloc, place, &turn.outs, &[])?;
+        let turn = port_tick(&mut self.ports, alloc, place, at);
+        let outs = told_port(&mut self.ports, alloc, place, turn.out, Vec::new(alloc))?;
         Ok(Batch::for_port(alloc, port, outs, None))
     }
 

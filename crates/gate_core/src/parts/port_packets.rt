@@ -1,12 +1,12 @@
 //! A port's packet of which the session delivers no payload.
 
-ghost use Rattle.std.specs.Prelude.{◌≡◌, ◌<◌, ◌+◌, ◌^◌, ℕ, length, None, IfOk};
+ghost use Rattle.std.specs.Prelude.{◌≡◌, ◌<◌, ◌+◌, ◌^◌, ℕ, length, map, None, option_to_list, IfOk};
 ghost use Rattle.gate_law.specs.soup_packets.declared.packet.Packet as packet;
 ghost use Rattle.gate_law.specs.Settings.{Settings};
 ghost use Rattle.gate_law.specs.Events.{PortPacket};
 ghost use Rattle.gate_law.specs.Lists.{Lists};
 ghost use Rattle.gate_law.specs.Sessions.{fault_in, port_state};
-ghost use Rattle.gate_events.specs.Seen.{batch_seen};
+ghost use Rattle.gate_events.specs.Seen.{batch_seen, link_out_seen};
 ghost use Rattle.order_core.specs.State.{CoreHasRoom};
 ghost use Rattle.order_core.specs.order_machine.Runs.{NumbersLeft};
 ghost use Rattle.gate_sessions.specs.Lines.{NextWithin};
@@ -15,7 +15,7 @@ ghost use Rattle.gate_core.specs.Steps.{Grows, AfterPacket, Ready, Stepped};
 ghost use Rattle.gate_core.specs.Hearing.{IsSentAgain};
 
 use super::Parts;
-use gate_events::{Batch, PortNumber, told_port};
+use gate_events::{Batch, LinkOut, PortNumber, told_port};
 use gate_law::Packet;
 use gate_sessions::port_packet;
 use soup_session::{PortFault, PortOut, PortState, PortTurn};
@@ -44,10 +44,11 @@ impl<S: BuildHasher + Drop> Parts<S> {
             return Ok(Batch::empty(alloc));
         };
         let stood = self.port_state(place);
-        let PortTurn { outs, payload } = port_packet(&mut self.ports, alloc, place, packet, at)?;
-        match payload {
-            Some(payload) => self.payload_delivered(alloc, place, payload.as_slice(), at, &outs),
-            None => self.no_payload_delivered(alloc, place, stood, outs, at),
+        let PortTurn { out, is_delivered } = port_packet(&mut self.ports, place, packet, at);
+        if is_delivered {
+            self.payload_delivered(alloc, place, packet.payload.as_slice(), at, out)
+        } else {
+            self.no_payload_delivered(alloc, place, stood, out, at)
         }
     }
 
@@ -60,20 +61,20 @@ impl<S: BuildHasher + Drop> Parts<S> {
         alloc: Global,
         place: usize,
         stood: PortState,
-        said: Vec<PortOut>,
+        said: Option<PortOut>,
         at: u64,
     ) -> Result<Batch, AllocError>
         requires place { place < length self.old.ports.items }
         requires few { place < 16 }
         ensures step { IfOk result (λ b. (s : Settings) (v : Lists) (link : ℕ) (packet : packet.Packet)
-            → AfterPacket s (place + 1) link at packet None said.items v self.old
+            → AfterPacket s (place + 1) link at packet None (option_to_list said) v self.old
             → stood ≡ port_state s (place + 1) (v.port_calls (place + 1))
             → Stepped s (PortPacket (place + 1) link at packet) (batch_seen b) v self.new) }
         ensures grows { Grows 0 0 self.old self.new }
     {
         let fault = fault_of(self.port_state(place));
         let sent = self.send_again(alloc, place, stood, at)?;
-        let outs = told_port(&mut self.ports, alloc, place, &said, &sent)?;
+        let outs = told_port(&mut self.ports, alloc, place, said, sent)?;
         Ok(Batch::for_port(alloc, PortNumber::at_place(place), outs, fault))
     }
 
@@ -85,11 +86,11 @@ impl<S: BuildHasher + Drop> Parts<S> {
         place: usize,
         stood: PortState,
         at: u64,
-    ) -> Result<Vec<PortOut>, AllocError>
+    ) -> Result<Vec<LinkOut>, AllocError>
         requires place { place < length self.old.ports.items }
         requires few { place < 16 }
         ensures sent { IfOk result (λ outs. (s : Settings) (v : Lists) → ArePartsOf s v self.old
-            → NumbersLeft v.turns → IsSentAgain s (place + 1) at stood outs.items v self.new) }
+            → NumbersLeft v.turns → IsSentAgain s (place + 1) at stood (map link_out_seen outs.items) v self.new) }
         ensures grows { Grows 0 0 self.old self.new }
     {
         if stood.is_up() || !self.port_state(place).is_up() {

@@ -1,7 +1,7 @@
 //! What a payload that a port's session delivered comes to.
 
 ghost use Rattle.std.specs.Prelude.{◌≡◌, ◌<◌, ◌≤◌, ◌+◌, ◌^◌, ◌&&◌, ℕ, List, [], Some, None, length, map, nat_le};
-ghost use Rattle.std.specs.Prelude.{is_some, IfOk, IfSome};
+ghost use Rattle.std.specs.Prelude.{is_some, option_to_list, IfOk, IfSome};
 ghost use Rattle.order_core.specs.State.{CoreHasRoom};
 ghost use Rattle.order_core.specs.order_machine.Runs.{NumbersLeft};
 ghost use Rattle.order_core.specs.order_ledger.Seen.{client_seen};
@@ -21,7 +21,7 @@ ghost use Rattle.gate_core.specs.Steps.{Stepped};
 
 use super::{Parts, place_of};
 use fix_types::AppBody;
-use gate_events::{Batch, ClientNumber, Issues, PortNumber, told_client, told_port};
+use gate_events::{Batch, ClientNumber, Issues, PortNumber, told_client, told_out, told_port};
 use gate_sessions::port_fail;
 use order_core::{MarketError, MarketFault};
 use soup_session::{PortFault, PortOut, PortState};
@@ -82,13 +82,13 @@ impl<S: BuildHasher + Drop> Parts<S> {
         place: usize,
         payload: &[u8],
         at: u64,
-        said: &[PortOut],
+        said: Option<PortOut>,
     ) -> Result<Batch, AllocError>
         requires place { place < length self.old.ports.items }
         requires shaped { IsShaped self.old }
         requires room { CoreHasRoom self.old.orders }
         ensures step { IfOk result (λ b. (s : Settings) (v : Lists) (link : ℕ) (packet : Packet)
-            → AfterPacket s (place + 1) link at packet (Some payload.now) said.now v self.old
+            → AfterPacket s (place + 1) link at packet (Some payload.now) (option_to_list said) v self.old
             → Stepped s (PortPacket (place + 1) link at packet) (batch_seen b) v self.new) }
         ensures grows { Grows 3 0 self.old self.new }
     {
@@ -110,14 +110,14 @@ impl<S: BuildHasher + Drop> Parts<S> {
         client: usize,
         bodies: &[AppBody],
         at: u64,
-        said: &[PortOut],
+        said: Option<PortOut>,
     ) -> Result<Batch, AllocError>
         requires place { place < length self.old.ports.items }
         requires client { client < length self.old.clients.items }
         requires shaped { IsShaped self.old }
         ensures step { IfOk result (λ b. (s : Settings) (v : Lists) (link : ℕ) (packet : Packet) (payload : List ℕ)
             (g : Parts S S.Hasher)
-            → AfterPacket s (place + 1) link at packet (Some payload) said.now v g
+            → AfterPacket s (place + 1) link at packet (Some payload) (option_to_list said) v g
             → PayloadIsTold s (place + 1) payload (Some client) (map body_fields bodies.now)
             (port_called (place + 1) (OnPacket packet at) v) self.old
             → Stepped s (PortPacket (place + 1) link at packet) (batch_seen b) v self.new) }
@@ -125,7 +125,7 @@ impl<S: BuildHasher + Drop> Parts<S> {
     {
         let Issues { reports, outs } = self.issue(alloc, client, bodies, at)?;
         let client_out = told_client(&mut self.clients, alloc, client, Vec::new(alloc), outs)?;
-        let port_out = told_port(&mut self.ports, alloc, place, said, &[])?;
+        let port_out = told_port(&mut self.ports, alloc, place, said, Vec::new(alloc))?;
         let (client, port) = (ClientNumber::at_place(client), PortNumber::at_place(place));
         Ok(Batch::of_parts(client, reports, client_out, port, port_out, None))
     }
@@ -135,18 +135,18 @@ impl<S: BuildHasher + Drop> Parts<S> {
         &mut self,
         alloc: Global,
         place: usize,
-        said: &[PortOut],
+        said: Option<PortOut>,
     ) -> Result<Batch, AllocError>
         requires place { place < length self.old.ports.items }
         requires shaped { IsShaped self.old }
         ensures step { IfOk result (λ b. (s : Settings) (v : Lists) (link at : ℕ) (packet : Packet) (payload : List ℕ)
             (g : Parts S S.Hasher)
-            → AfterPacket s (place + 1) link at packet (Some payload) said.now v g
+            → AfterPacket s (place + 1) link at packet (Some payload) (option_to_list said) v g
             → PayloadIsTold s (place + 1) payload None [] (port_called (place + 1) (OnPacket packet at) v) self.old
             → Stepped s (PortPacket (place + 1) link at packet) (batch_seen b) v self.new) }
         ensures grows { Grows 0 0 self.old self.new }
     {
-        let port_out = told_port(&mut self.ports, alloc, place, said, &[])?;
+        let port_out = told_port(&mut self.ports, alloc, place, said, Vec::new(alloc))?;
         Ok(Batch::for_port(alloc, PortNumber::at_place(place), port_out, None))
     }
 
@@ -156,21 +156,23 @@ impl<S: BuildHasher + Drop> Parts<S> {
         alloc: Global,
         place: usize,
         fault: PortFault,
-        said: &[PortOut],
+        said: Option<PortOut>,
     ) -> Result<Batch, AllocError>
         requires place { place < length self.old.ports.items }
         requires shaped { IsShaped self.old }
         ensures step { IfOk result (λ b. (s : Settings) (v : Lists) (link at : ℕ) (packet : Packet) (payload : List ℕ)
             (g : Parts S S.Hasher)
-            → AfterPacket s (place + 1) link at packet (Some payload) said.now v g
+            → AfterPacket s (place + 1) link at packet (Some payload) (option_to_list said) v g
             → IsFaulty s (place + 1) payload fault (port_called (place + 1) (OnPacket packet at) v) self.old
             → Stepped s (PortPacket (place + 1) link at packet) (batch_seen b) v self.new) }
         ensures grows { Grows 0 0 self.old self.new }
     {
         match self.ports[place].state() {
             PortState::Up => {
-                let turn = port_fail(&mut self.ports, alloc, place, fault)?;
-                let port_out = told_port(&mut self.ports, alloc, place, said, &turn.outs)?;
+                let link = self.port_link(place);
+                let turn = port_fail(&mut self.ports, place, fault);
+                let rest = told_out(alloc, link, turn.out)?;
+                let port_out = told_port(&mut self.ports, alloc, place, said, rest)?;
                 Ok(Batch::for_port(alloc, PortNumber::at_place(place), port_out, Some(fault)))
             }
             // A payload is delivered only while the port is up, and its turn leaves it so: no history comes here.

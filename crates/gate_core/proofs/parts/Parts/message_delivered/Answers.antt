@@ -1,7 +1,6 @@
 use Rattle.std.proofs.Common.{◌≡◌, ◌+◌, ℕ, List, [], ◌++◌, None, map, refl, sym, ap, ◌∙◌, subst}
 use Rattle.gate_events.specs.session_writing.Written.{told_bytes}
 use Rattle.session_law.specs.Runs.{OnMessage}
-use Rattle.soup_session.specs.declared.port_turn.PortOut.{PortOut}
 use Rattle.gate_law.specs.Settings.{port_of}
 use Rattle.gate_law.specs.Events.{ClientMessage, Batch}
 use Rattle.gate_law.specs.Lists.{Lists, client_called}
@@ -46,8 +45,7 @@ returns-clause-step g c s v link frame heard =
     let port_out = map link_out_seen c.in_ok-port_out.port_out.items in
     let lines = c.in_ok-client_out.ensures.outs x.client_link asked.parts.client_links in
     let packets = c.in_ok-port_out.ensures.outs x.port_link asked.parts.port_links
-    ∙ ap (λ (k : ℕ). to_port (x.port_link k) c.deref.result.now ++ to_port (x.port_link k) []) is
-    ∙ ap (λ (xs : List PortOut). to_port (x.port_link p) xs ++ to_port (x.port_link p) []) c.deref.ensures.value in
+    ∙ ap (λ (k : ℕ). to_port (x.port_link k) [] ++ map link_out_seen out.port_outs.items) is in
     subst (λ (b : Batch). Stepped s (ClientMessage n link c.args.at frame) b v new)
     (sym (c.of_parts.ensures
     ∙ ap (λ (k : ℕ). batch_of k out.issues.reports.items client_out c.at_place-port.result port_out None) c.at_place-client.ensures

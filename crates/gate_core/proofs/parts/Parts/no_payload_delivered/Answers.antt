@@ -1,5 +1,5 @@
 use Rattle.std.proofs.Common.{◌+◌, ℕ, [], List, ◌∷◌, ◌++◌, map, refl, sym, ap, ◌∙◌, subst}
-use Rattle.soup_session.specs.declared.port_turn.PortOut.{PortOut}
+use Rattle.std.specs.Prelude.{option_to_list}
 use Rattle.soup_session.specs.Table.{PortCall, OnPacket}
 use Rattle.gate_law.specs.Events.{PortPacket, Batch}
 use Rattle.gate_law.specs.Lists.{port_called}
@@ -29,12 +29,10 @@ returns-clause-step g c s v link packet given before =
     let parts = with-calls s p calls v between again.sent.parts in
     subst (λ (b : Batch). Stepped s (PortPacket p link c.args.at packet) b v new)
     (sym (c.for_port.ensures ∙ ap (λ (n : ℕ). batch_of 0 [] [] n outs fault) c.at_place.ensures))
-    (port-heard reads-after s v p link c.args.at packet c.args.stood c.args.said.items c.in_ok-sent.sent.items fault outs c.args.self.now between new
+    (port-heard reads-after s v p link c.args.at packet c.args.stood (option_to_list c.args.said) (map link_out_seen c.in_ok-sent.sent.items) fault outs c.args.self.now between new
     given before again
     (c.fault_of-fault.ensures ∙ ap fault_in state_is)
-    (c.in_ok-outs.ensures.outs v.port_link parts.port_links
-    ∙ ap (λ (outs : List PortOut). to_port (v.port_link p) outs ++ to_port (v.port_link p) c.deref-2.result.now) c.deref.ensures.value
-    ∙ ap (λ (outs : List PortOut). to_port (v.port_link p) c.args.said.items ++ to_port (v.port_link p) outs) c.deref-2.ensures.value)
+    (c.in_ok-outs.ensures.outs v.port_link parts.port_links)
     (c.told_port.ensures.leave s (called_all p calls v.port_calls) parts.ports)
     (c.in_ok-outs.ensures.links v.port_link parts.port_links)
     c.told_port.ensures.length refl refl refl)

@@ -9,7 +9,8 @@ use Rattle.gate_core.specs.declared.parts.Parts.{Parts}
 use Rattle.gate_events.specs.Seen.{link_out_seen}
 use Rattle.gate_core.specs.Steps.{Stepped}
 use Rattle.gate_events.specs.Batches.{batch_of}
-use Rattle.gate_core.proofs.Told.{port-told}
+use Rattle.std.specs.Prelude.{option_to_list}
+use Rattle.gate_core.proofs.Told.{port-told, port-told-alone}
 use Rattle.gate_core.proofs.Growing.{ports-grow}
 use Rattle.gate_core.proofs.PortLinks.{port-comes, port-again, port-refused}
 use Rattle.gate_law.proofs.Messages.{reads-after}
@@ -25,14 +26,14 @@ returns-in_ok-outs-in-None-clause-step g c s v ready =
     let after = link_set n (Some c.args.link) v.port_link in
     let links = c.in_ok-turn-in-None.ensures.links v.port_link ready.parts.port_links in
     let answer = c.in_ok-turn-in-None.ensures.answers s v.port_calls ready.parts.ports in
-    let said = c.in_ok-outs-in-None.ensures.outs after links in
+    let said = port-told-alone (after n) outs (option_to_list c.in_ok-turn-in-None.turn.out) _ (c.in_ok-outs-in-None.ensures.outs after links) c.new.ensures.items in
     subst (λ (b : Batch). Stepped s (PortUp c.args.port c.args.link c.args.at) b v new) (sym c.for_port.ensures)
     (subst (λ (m : ℕ). Stepped s (PortUp m c.args.link c.args.at) (batch_of 0 [] [] m outs None) v new) (sym is)
     (port-comes s v c.args.self.now new n c.args.link c.args.at outs
     (subst (λ (m : ℕ). has_port s m ≡ true) is (sym (c.in-Some.ensures.known s v ready.parts)))
     (sym (c.port_link.ensures.link s v ready.parts) ∙ c.in-None.is)
     ready reads-after
-    (port-told (after n) outs c.deref.result.now [] (port_answer s n (v.port_calls n) (OnUp c.args.at)).outs [] said (c.deref.ensures.value ∙ answer.outs) refl)
+    (port-told (after n) outs (option_to_list c.in_ok-turn-in-None.turn.out) [] (port_answer s n (v.port_calls n) (OnUp c.args.at)).outs [] said answer.outs refl)
     (c.told_port.ensures.leave s (called n (OnUp c.args.at) v.port_calls) (c.in_ok-turn-in-None.ensures.leave s v.port_calls ready.parts.ports))
     (c.in_ok-outs-in-None.ensures.links after links)
     (c.told_port.ensures.length ∙ c.port_up.ensures.length) refl refl refl))

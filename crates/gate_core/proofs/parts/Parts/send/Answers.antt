@@ -2,6 +2,7 @@ use Rattle.std.proofs.Common.{◌+◌, map, refl, ap, sym, ◌∙◌}
 use Rattle.std.proofs.lemmas.Option.{slice_get_read}
 use Rattle.soup_session.specs.States.{is_up}
 use Rattle.gate_law.specs.Sessions.{sends}
+use Rattle.gate_events.specs.Seen.{link_out_seen}
 use Rattle.ouch_codec.specs.Inbound.{inbound_bytes}
 use Rattle.gate_core.proofs.Growing.{ports-grow}
 use Rattle.gate_core.proofs.Parted.{ports-parts, unsent, not-up}
@@ -17,7 +18,7 @@ returns-in_ok-outs-in-Up-clause-sent g c s v parts only =
       parts = ports-parts s (c.args.place + 1) (sends c.args.at (map inbound_bytes c.args.messages.now)) v c.args.self.now _ parts
           (c.in_ok-outs-in-Up.ensures.leave s v.port_calls parts.ports) (c.port_send_all.ensures.links v.port_link parts.port_links)
           c.port_send_all.ensures.length refl refl refl;
-      outs_are = c.in_ok-outs-in-Up.ensures.answers s v.port_calls parts.ports;
+      outs_are = c.in_ok-outs-in-Up.ensures.outs s v.port_calls v.port_link parts.ports parts.port_links;
     }
 
 pub returns-in_ok-outs-in-Up-clause-grows : goal.returns-in_ok-outs-in-Up-clause-grows
@@ -29,7 +30,7 @@ returns-in_default g c = record {
   sent = λ s v parts only.
       let leaves = parts.ports c.args.place c.index.result.now (slice_get_read c.args.self.now.ports.items _ c.args.place c.index.result.now refl c.requires.place c.index.ensures) in
       let stands = c.state.ensures.state s (c.args.place + 1) (v.port_calls (c.args.place + 1)) leaves in
-      unsent s (c.args.place + 1) c.args.at (map inbound_bytes c.args.messages.now) c.new.result.items v c.args.self.now parts
-      (only (ap is_up (sym stands) ∙ not-up c.state.result c.in_default.not-Up)) c.new.ensures.items;
+      unsent s (c.args.place + 1) c.args.at (map inbound_bytes c.args.messages.now) (map link_out_seen c.new.result.items) v c.args.self.now parts
+      (only (ap is_up (sym stands) ∙ not-up c.state.result c.in_default.not-Up)) (ap (map link_out_seen) c.new.ensures.items);
   grows = ports-grow c.args.self.now c.args.self.now refl (λ n within. within) (λ was kept. kept) refl refl refl;
 }

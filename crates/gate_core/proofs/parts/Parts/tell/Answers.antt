@@ -12,6 +12,8 @@ use Rattle.gate_events.specs.Seen.{link_out_seen}
 use Rattle.gate_events.specs.Batches.{batch_of}
 use Rattle.gate_core.specs.Steps.{Stepped, heard_turn}
 use Rattle.gate_core.proofs.Growing.{clients-grow, grows-then, lines-grow}
+use Rattle.std.specs.Prelude.{option_to_list}
+use Rattle.gate_core.proofs.Told.{port-told-alone}
 use Rattle.gate_core.proofs.Payloads.{told-step}
 use Rattle.gate_law.proofs.Messages.{reads-after}
 use Rattle.gate_core.proofs.parts.Parts.tell.Goals as goal
@@ -48,8 +50,8 @@ returns-clause-step it c s v link packet payload g given told =
     (sym (c.of_parts.ensures
     ∙ ap (λ (k : ℕ). batch_of k out.reports.items client_out c.at_place-port.result port_out None) c.at_place-client.ensures
     ∙ ap (λ (k : ℕ). batch_of n out.reports.items client_out k port_out None) c.at_place-port.ensures))
-    (told-step s p link c.args.at packet payload c.args.said.now v g given q n bs out c.args.self.now c.issue.new.self new
+    (told-step s p link c.args.at packet payload (option_to_list c.args.said) v g given q n bs out c.args.self.now c.issue.new.self new
     client_out port_out
-    reads-after refl told issued lines (c.in_ok-port_out.ensures.outs x.port_link issued.parts.port_links)
+    reads-after refl told issued lines (port-told-alone (x.port_link p) port_out (option_to_list c.args.said) _ (c.in_ok-port_out.ensures.outs x.port_link issued.parts.port_links) c.new-2.ensures.items)
     (c.told_client.ensures.leave s x.client_calls issued.parts.clients) (c.in_ok-client_out.ensures.links x.client_link issued.parts.client_links) c.told_client.ensures.length
     (c.told_port.ensures.leave s x.port_calls issued.parts.ports) (c.in_ok-port_out.ensures.links x.port_link issued.parts.port_links) c.told_port.ensures.length refl refl)

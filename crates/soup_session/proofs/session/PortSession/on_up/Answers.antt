@@ -10,4 +10,4 @@ returns-clause-leaves c = λ terms before l.
 
 pub returns-clause-answers : goal.returns-clause-answers
 returns-clause-answers c = λ terms before l.
-    answers_call terms before c.self.inside.port (OnUp c.args.at) c.in_ok-answered.answered c.take.result c.in_ok-answered.ensures c.take.ensures.outs c.take.ensures.payload (subst (λ (h : PortHeld). CallsLeave terms before h.port) (sym c.self.view_is) l)
+    answers_call terms before c.self.inside.port (OnUp c.args.at) c.in_ok-answered.answered c.take.result c.in_ok-answered.ensures c.take.ensures.out c.take.ensures.delivered (subst (λ (h : PortHeld). CallsLeave terms before h.port) (sym c.self.view_is) l)

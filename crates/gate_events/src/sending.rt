@@ -1,19 +1,20 @@
-//! Several messages sent on the port's line at a place, one after another.
+//! Several messages sent on the port's line at a place, one after another, as its link is told them.
 
-ghost use Rattle.std.specs.Prelude.{◌≡◌, ◌<◌, ◌+◌, ℕ, List, ◌++◌, Option, IfOk, length, map};
-ghost use Rattle.gate_law.specs.order_law.ouch_codec.Inbound.{inbound_bytes};
-ghost use Rattle.gate_law.specs.soup_session.Table.{PortCall, Send};
-ghost use Rattle.gate_law.specs.Settings.{Settings};
-ghost use Rattle.gate_law.specs.Sessions.{port_answer, port_outs, sends};
+ghost use Rattle.std.specs.Prelude.{◌≡◌, ◌<◌, ◌+◌, ℕ, List, ◌++◌, Option, IfOk, length, map, option_to_list};
+ghost use Rattle.gate_sessions.specs.Inbound.{inbound_bytes};
+ghost use Rattle.gate_sessions.specs.Settings.{Settings};
+ghost use Rattle.gate_sessions.specs.Sessions.{port_answer, port_outs, sends, to_port};
 ghost use Rattle.gate_sessions.specs.Lines.{PortsLeave, PortLinks, NextWithin, IsUpAt, called, called_all};
 ghost use Rattle.gate_sessions.specs.Lines.{PortStands, PortsSettledAs};
+ghost use Rattle.soup_session.specs.Table.{PortCall, Send};
+ghost use Rattle.gate_events.specs.Seen.{link_out_seen};
 
-use crate::port_line::PortLine;
-use crate::port_lines::port_send;
-use gate_law::{Inbound, PortOut};
+use crate::batch::LinkOut;
+use crate::link_outs::tell_port;
+use gate_sessions::{Inbound, PortLine, port_send};
 use std::alloc::{AllocError, Global};
 
-/// Sends messages, in their order, each once, while the port is up, and gives what goes to the link.
+/// Sends messages, in their order, each once, while the port is up, and gives what the current link is told.
 ///
 /// `AllocError` leaves every link and the number of lines as they were; how many of the messages were sent isn't said.
 pub fn port_send_all(
@@ -22,14 +23,15 @@ pub fn port_send_all(
     place: usize,
     messages: &[Inbound],
     at: u64,
-) -> Result<Vec<PortOut>, AllocError>
+) -> Result<Vec<LinkOut>, AllocError>
     requires place { place < length lines.old.items }
     requires up { IsUpAt place lines.old.items }
     ensures leave { IfOk result (λ outs. (s : Settings) (calls : ℕ → List PortCall) → PortsLeave s calls lines.old.items
         → PortsLeave s (called_all (place + 1) (sends at (map inbound_bytes messages.now)) calls) lines.new.items) }
-    ensures answers { IfOk result (λ outs. (s : Settings) (calls : ℕ → List PortCall)
-        → PortsLeave s calls lines.old.items
-        → outs.items ≡ port_outs s (place + 1) (calls (place + 1)) (sends at (map inbound_bytes messages.now))) }
+    ensures outs { IfOk result (λ outs. (s : Settings) (calls : ℕ → List PortCall) (links : ℕ → Option ℕ)
+        → PortsLeave s calls lines.old.items → PortLinks links lines.old.items
+        → map link_out_seen outs.items ≡ to_port (links (place + 1))
+        (port_outs s (place + 1) (calls (place + 1)) (sends at (map inbound_bytes messages.now)))) }
     ensures links { (links : ℕ → Option ℕ) → PortLinks links lines.old.items → PortLinks links lines.new.items }
     ensures next { (n : ℕ) → NextWithin n lines.old.items → NextWithin n lines.new.items }
     ensures up { IfOk result (λ outs. IsUpAt place lines.new.items) }
@@ -37,29 +39,31 @@ pub fn port_send_all(
         → PortsSettledAs was lines.new.items }
     ensures length { length lines.new.items ≡ length lines.old.items }
 {
-    let mut outs = Vec::new(alloc);
+    let link = lines[place].link;
+    let mut outs = Vec::with_capacity(alloc, messages.len())?;
     for message in messages {
-        send_one(lines, alloc, place, message, at, &mut outs)?;
+        send_one(lines, alloc, place, link, message, at, &mut outs)?;
     }
     Ok(outs)
 }
 
-/// Sends a message.
+/// Sends a message, and takes over what this link is told.
 fn send_one(
     lines: &mut Vec<PortLine>,
     alloc: Global,
     place: usize,
+    link: Option<u64>,
     message: &Inbound,
     at: u64,
-    outs: &mut Vec<PortOut>,
+    outs: &mut Vec<LinkOut>,
 ) -> Result<(), AllocError>
     requires place { place < length lines.old.items }
     requires up { IsUpAt place lines.old.items }
     ensures leave { IfOk result (λ u. (s : Settings) (calls : ℕ → List PortCall) → PortsLeave s calls lines.old.items
         → PortsLeave s (called (place + 1) (Send (inbound_bytes message.now) at) calls) lines.new.items) }
-    ensures answers { IfOk result (λ u. (s : Settings) (calls : ℕ → List PortCall) → PortsLeave s calls lines.old.items
-        → outs.new.items ≡ outs.old.items ++ (port_answer s (place + 1) (calls (place + 1))
-        (Send (inbound_bytes message.now) at)).outs) }
+    ensures outs { IfOk result (λ u. (s : Settings) (calls : ℕ → List PortCall) → PortsLeave s calls lines.old.items
+        → map link_out_seen outs.new.items ≡ map link_out_seen outs.old.items ++ to_port link
+        (port_answer s (place + 1) (calls (place + 1)) (Send (inbound_bytes message.now) at)).outs) }
     ensures links { (links : ℕ → Option ℕ) → PortLinks links lines.old.items → PortLinks links lines.new.items }
     ensures next { (n : ℕ) → NextWithin n lines.old.items → NextWithin n lines.new.items }
     ensures up { IfOk result (λ u. IsUpAt place lines.new.items) }
@@ -67,16 +71,6 @@ fn send_one(
         → PortsSettledAs was lines.new.items }
     ensures length { length lines.new.items ≡ length lines.old.items }
 {
-    let bytes = bytes_of(alloc, message)?;
-    let mut turn = port_send(lines, alloc, place, bytes.as_slice(), at)?;
-    outs.append(&mut turn.outs)
-}
-
-/// The bytes of a message.
-fn bytes_of(alloc: Global, message: &Inbound) -> Result<Vec<u8>, AllocError>
-    ensures { IfOk result (λ bytes. bytes.items ≡ inbound_bytes message.now) }
-{
-    let mut bytes = vec![in alloc; 0; message.len()]?;
-    message.put(bytes.as_mut_slice());
-    Ok(bytes)
+    let turn = port_send(lines, alloc, place, message, at)?;
+    tell_port(alloc, link, turn.out, outs)
 }
