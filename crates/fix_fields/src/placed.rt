@@ -83,6 +83,25 @@ pub(crate) fn put_number(text: &mut [u8], at: usize, tag: u32, number: u64) -> u
     start + 21 - first
 }
 
+/// Writes a field whose value has so many bytes at a place of a text. Gives the place behind it.
+pub(crate) fn put_array<const N: usize>(
+    text: &mut [u8],
+    at: usize,
+    tag: u32,
+    value: &[u8; N],
+) -> usize
+    requires tag { IsTag tag }
+    requires room { at + length value.now + 11 ≤ length text.old }
+    ensures written { take result text.new ≡ take at text.old ++ (decimal tag ++ 61 ∷ (value.now ++ 1 ∷ [])) }
+    ensures within { result ≤ length text.new }
+    ensures length { length text.new ≡ length text.old }
+{
+    let start = put_tag(text, at, tag);
+    put(text, start, value);
+    put(text, start + N, &[SOH]);
+    start + N + 1
+}
+
 /// Writes a field at a place of a text. Gives the place behind it.
 pub(crate) fn put_field(text: &mut [u8], at: usize, tag: u32, value: &[u8]) -> usize
     requires tag { IsTag tag }

@@ -5,7 +5,9 @@ ghost use Rattle.fix_fields.specs.Field.{AreFields, IsTag, IsValue, fields_text,
 ghost use Rattle.fix_fields.specs.Printed.{PrintsFields, fields_in};
 
 use crate::fields::Fields;
-use crate::placed::{ROUND_A_VALUE, grow, put, put_byte, put_few, put_field, put_number, reserve};
+use crate::placed::{
+    ROUND_A_VALUE, grow, put, put_array, put_byte, put_few, put_field, put_number, reserve,
+};
 use crate::text::{Bytes, Text};
 use std::alloc::{AllocError, Global};
 use std::marker::Model;
@@ -55,6 +57,25 @@ impl PrintedFields {
         };
         reserve(&mut self.text, self.size, more)?;
         self.size = put_field(self.text.as_mut_slice(), self.size, tag, value);
+        Ok(())
+    }
+
+    /// Adds a value of so many bytes, without SOH. `AllocError` leaves the fields as they were. One growth at most.
+    pub fn push_array<const N: usize>(
+        &mut self,
+        tag: u32,
+        value: &[u8; N],
+    ) -> Result<(), AllocError>
+        requires tag { IsTag tag }
+        requires value { IsValue value.now }
+        ensures ok { OnOk result (self.new ≡ self.old ++ field tag value.now ∷ []) }
+        ensures err { OnErr result (self.new ≡ self.old) }
+    {
+        let Some(more) = N.checked_add(ROUND_A_VALUE) else {
+            return Err(AllocError);
+        };
+        reserve(&mut self.text, self.size, more)?;
+        self.size = put_array(self.text.as_mut_slice(), self.size, tag, value);
         Ok(())
     }
 
