@@ -47,4 +47,12 @@ impl ClOrdId {
     {
         self.text.as_slice()
     }
+
+    /// Its text.
+    pub(crate) fn text(&self) -> &Text
+        ensures text { result.now ≡ self.now }
+        ensures size { is_cl_ord_id self.now ≡ true }
+    {
+        &self.text
+    }
 }

@@ -2,6 +2,7 @@
 
 ghost use Rattle.std.specs.Prelude.{◌≡◌, ◌<◌, ◌^◌, ◌++◌, ◌∷◌, [], true, OnOk, IfSome, decimal};
 ghost use Rattle.fix_fields.specs.Field.{IsTag, IsValue};
+ghost use Rattle.fixed_point.specs.Price.{fraction_text};
 ghost use Rattle.fix_values.specs.declared.format.Format.TheVariants as formats;
 ghost use Rattle.fix_values.specs.Texts.{is_cl_ord_id, is_float};
 ghost use Rattle.fix_values.specs.Formats.{passes};
@@ -21,7 +22,7 @@ pub fn push_letter(fields: &mut PrintedFields, tag: u32, letter: u8) -> Result<(
     requires letter { IsValue (letter ∷ []) }
     ensures { OnOk result (fields.new ≡ fields.old ++ slot_fields (field_slot tag (letter ∷ []))) }
 {
-    fields.push(tag, &[letter])
+    fields.push_byte(tag, letter)
 }
 
 /// Adds a value of one byte.
@@ -52,7 +53,7 @@ pub fn push_text(fields: &mut PrintedFields, tag: u32, text: &Text) -> Result<()
     requires { IsTag tag }
     ensures { OnOk result (fields.new ≡ fields.old ++ slot_fields (field_slot tag text.now)) }
 {
-    fields.push(tag, text.as_slice())
+    fields.push_text(tag, text)
 }
 
 /// Adds a text, where there is one.
@@ -81,9 +82,7 @@ pub fn push_value(
 {
     match &value.said {
         Said::Number(number) => push_number(fields, tag, *number),
-        Said::Price { whole, fraction } => {
-            fields.push(tag, PriceText::of(u128::from(*whole), *fraction).as_slice())
-        }
+        Said::Price { whole, fraction } => push_price(fields, tag, *whole, *fraction),
         Said::Letter(letter) => push_letter(fields, tag, *letter),
         Said::Text(text) => push_text(fields, tag, text),
     }
@@ -176,7 +175,7 @@ pub fn push_id(fields: &mut PrintedFields, tag: u32, id: &ClOrdId) -> Result<(),
     ensures written { OnOk result (fields.new ≡ fields.old ++ slot_fields (field_slot tag id.now)) }
     ensures kept { is_cl_ord_id id.now ≡ true }
 {
-    fields.push(tag, id.as_slice())
+    fields.push_text(tag, id.text())
 }
 
 /// Adds the number of an order in decimal, or `NONE` where there is none.
@@ -193,4 +192,22 @@ pub fn push_order_id(
         None => fields.push(tag, b"NONE"),
         Some(number) => push_number(fields, tag, number),
     }
+}
+
+/// Adds a price by its whole part, and its fraction in 1/10,000. One without a fraction is a number.
+fn push_price(
+    fields: &mut PrintedFields,
+    tag: u32,
+    whole: u64,
+    fraction: u16,
+) -> Result<(), AllocError>
+    requires tag { IsTag tag }
+    requires value { IsValue (decimal whole ++ fraction_text fraction) }
+    ensures { OnOk result (fields.new
+        ≡ fields.old ++ slot_fields (field_slot tag (decimal whole ++ fraction_text fraction))) }
+{
+    if fraction == 0 {
+        return push_number(fields, tag, whole);
+    }
+    fields.push(tag, PriceText::of(u128::from(whole), fraction).as_slice())
 }

@@ -135,7 +135,7 @@ pub(crate) fn printed_front(
     gate: &[u8],
     client: &[u8],
     head: FrameHead,
-    now: &[u8],
+    now: &[u8; 21],
 ) -> Result<PrintedFields, AllocError>
     requires room { room < 2 ^ 63 }
     requires gate { IsValue gate.now }
@@ -157,7 +157,7 @@ fn push_header(
     gate: &[u8],
     client: &[u8],
     head: FrameHead,
-    now: &[u8],
+    now: &[u8; 21],
 ) -> Result<(), AllocError>
     requires gate { IsValue gate.now }
     requires client { IsValue client.now }
@@ -166,11 +166,11 @@ fn push_header(
     ensures { OnOk result (fields.new ≡ fields.old ++ field 35 (text_of_kind head.kind) ∷ field 49 gate.now
         ∷ field 56 client.now ∷ number_as_field 34 head.number ∷ field 52 (stamp_text head.at) ∷ []) }
 {
-    fields.push(35, kind_text(head.kind))?;
+    fields.push_byte(35, kind_letter(head.kind))?;
     fields.push(49, gate)?;
     fields.push(56, client)?;
     fields.push_number(34, head.number)?;
-    fields.push(52, now)
+    fields.push_array(52, now)
 }
 
 /// Adds PossDupFlag (43) and OrigSendingTime (122), where a frame is sent again.
@@ -180,8 +180,8 @@ fn push_again(fields: &mut PrintedFields, first: Option<u64>) -> Result<(), Allo
     match first {
         None => Ok(()),
         Some(first) => {
-            fields.push(43, b"Y")?;
-            fields.push(122, &stamp(first))
+            fields.push_byte(43, b'Y')?;
+            fields.push_array(122, &stamp(first))
         }
     }
 }
@@ -191,7 +191,7 @@ fn push_again(fields: &mut PrintedFields, first: Option<u64>) -> Result<(), Allo
 pub(crate) fn push_issue(
     fields: &mut PrintedFields,
     head: FrameHead,
-    now: &[u8],
+    now: &[u8; 21],
 ) -> Result<(), AllocError>
     requires now { now.now ≡ stamp_text head.at }
     requires value { IsValue now.now }
@@ -202,8 +202,8 @@ pub(crate) fn push_issue(
         return Ok(());
     }
     match head.first {
-        None => fields.push(60, now),
-        Some(first) => fields.push(60, &stamp(first)),
+        None => fields.push_array(60, now),
+        Some(first) => fields.push_array(60, &stamp(first)),
     }
 }
 
@@ -215,20 +215,20 @@ fn is_issued(kind: Kind) -> bool
 }
 
 /// MsgType (35).
-fn kind_text(kind: Kind) -> &'static [u8]
-    ensures text { result.now ≡ text_of_kind kind }
-    ensures value { IsValue result.now }
+fn kind_letter(kind: Kind) -> u8
+    ensures text { text_of_kind kind ≡ result ∷ [] }
+    ensures value { IsValue (result ∷ []) }
 {
     match kind {
-        Kind::Logon => b"A",
-        Kind::Heartbeat => b"0",
-        Kind::TestRequest => b"1",
-        Kind::ResendRequest => b"2",
-        Kind::Reject => b"3",
-        Kind::SequenceReset => b"4",
-        Kind::Logout => b"5",
-        Kind::BusinessReject => b"j",
-        Kind::Report => b"8",
-        Kind::CancelReject => b"9",
+        Kind::Logon => b'A',
+        Kind::Heartbeat => b'0',
+        Kind::TestRequest => b'1',
+        Kind::ResendRequest => b'2',
+        Kind::Reject => b'3',
+        Kind::SequenceReset => b'4',
+        Kind::Logout => b'5',
+        Kind::BusinessReject => b'j',
+        Kind::Report => b'8',
+        Kind::CancelReject => b'9',
     }
 }
