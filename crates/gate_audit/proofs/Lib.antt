@@ -14,5 +14,6 @@ mod FirstTokens
 mod Pairing
 mod Whole
 mod Counting
+mod Heard
 mod Held
 mod Shelved

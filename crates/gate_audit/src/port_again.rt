@@ -1,6 +1,7 @@
 //! A port's session, called once more with what a history brought it.
 
-ghost use Rattle.std.specs.Prelude.{◌≡◌, ◌<◌, ◌≤◌, ◌+◌, ◌^◌, IfOk, Some, None, is_some, if◌then◌else◌};
+ghost use Rattle.std.specs.Prelude.{◌≡◌, ◌<◌, ◌≤◌, ◌+◌, ◌++◌, ◌^◌, IfOk, Some, None, is_some, option_to_list};
+ghost use Rattle.std.specs.Prelude.{if◌then◌else◌};
 ghost use Rattle.gate_core.specs.soup_session.Table.{LoginTerms};
 ghost use Rattle.gate_core.specs.soup_session.Calls.{next_of};
 ghost use Rattle.gate_core.specs.gate_settings.Kept.{CanLogIn};
@@ -89,7 +90,7 @@ impl PortAgain {
                 ..
             } => {
                 if *own == port && self.link == Some(*link) {
-                    self.on_packet(alloc, packet, batch)?;
+                    self.on_packet(packet, batch)?;
                 }
             }
             Event::PortGone {
@@ -134,17 +135,15 @@ impl PortAgain {
     }
 
     /// A packet on the current link.
-    fn on_packet(&mut self, alloc: Global, packet: &Packet, batch: &Batch) -> Result<(), AllocError>
+    fn on_packet(&mut self, packet: &Packet, batch: &Batch) -> Result<(), AllocError>
         requires room { next_of self.old.session.port < 2 ^ 60 }
         ensures again { IfOk result (λ u. (terms : LoginTerms) (r : Again) → IsAgain terms r self.old
             → IsAgain terms (read.called_packet terms packet.now (batch_seen batch.now) r) self.new) }
         ensures next { next_of self.new.session.port ≤ next_of self.old.session.port + 1 }
     {
         let turn = self.session.on_packet(packet, 0);
-        if let Some(message) = message_of(turn.is_delivered, &packet.payload, batch.fault) {
-            self.handled.push(message)?;
-        }
-        Ok(())
+        let message = message_of(turn.is_delivered, &packet.payload, batch.fault);
+        push_message(&mut self.handled, message)
     }
 
     /// A link that the batch closes is gone.
@@ -157,6 +156,16 @@ impl PortAgain {
             self.on_gone();
         }
     }
+}
+
+/// Adds a message, where there is one. One growth at most.
+fn push_message(handled: &mut Vec<Outbound>, message: Option<Outbound>) -> Result<(), AllocError>
+    ensures { IfOk result (λ u. handled.new.items ≡ handled.old.items ++ option_to_list message) }
+{
+    if let Some(message) = message {
+        handled.push(message)?;
+    }
+    Ok(())
 }
 
 /// What a payload is decoded as, where it was delivered, is a message and was no fault.
