@@ -29,3 +29,7 @@ module _ {K A : Type 0} (eq : K → K → Bool) (has : K → A → Bool) (respec
 pub on-ok : {A E P : Type 0} (r : Result A E) → IsOk r → OnOk r P → P
 on-ok (Ok a) is p = p
 on-ok (Err e) is p = absurd (true≢false (sym is))
+
+pub put-over : {A : Type 0} (b : Bool) (x y z : A) → cond b x (cond b y z) ≡ cond b x z
+put-over true x y z = refl
+put-over false x y z = refl

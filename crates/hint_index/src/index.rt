@@ -1,7 +1,8 @@
 //! The index.
 
 ghost use Rattle.std.specs.Prelude.{◌≡◌, ◌≤◌, ◌+◌, ℕ, List, true, false, None, Some, [], IfOk, OnOk, reverse};
-ghost use Rattle.std.specs.Prelude.{slice_get};
+ghost use Rattle.std.specs.Prelude.{slice_get, cond};
+ghost use Rattle.hint_index.specs.declared.hint.Hint.{Hint};
 ghost use Rattle.std.specs.Prelude.{MatchOption};
 ghost use Rattle.std.specs.List.{find, list_any};
 ghost use Rattle.undo_list.specs.Undoing.{IsWithin};
@@ -67,6 +68,8 @@ impl<K: Eq + Hash + Drop, S: BuildHasher + Drop> HintIndex<K, S> {
     ///
     /// Items that are there, and those that the list is put back to, are led to as before.
     pub fn note<T: Keyed<K>, L: SettledList<T>>(&mut self, list: &L, key: K, place: usize)
+    where
+        K: Copy,
         requires room { 1 ≤ self.old.room }
         ensures leads { LeadsTo (hint_of K.eq self.new key) place }
         ensures keeps { (k : K) → LeadsTo (hint_of K.eq self.old k) place → LeadsTo (hint_of K.eq self.new k) place }
@@ -74,9 +77,45 @@ impl<K: Eq + Hash + Drop, S: BuildHasher + Drop> HintIndex<K, S> {
             → Covered K.eq T.has self.new (L.lists list.now) }
         ensures room_left { self.old.room ≤ self.new.room + 1 }
     {
-        let hint = self.hints.get(&key).copied();
-        let is_only = is_only(hint, list.items(), list.is_unchanged(), &key, place);
-        let _ = self.hints.insert(key, Hint { place, is_only });
+        let was = self.put(key, place);
+        let is_only = is_only(was, list.items(), list.is_unchanged(), &key, place);
+        if !is_only {
+            self.share(&key);
+        }
+    }
+
+    /// Puts a hint that an item with a key stands at a place alone, and gives the one that was there.
+    fn put(&mut self, key: K, place: usize) -> Option<Hint>
+        requires { 1 ≤ self.old.room }
+        ensures was { result ≡ hint_of K.eq self.old key }
+        ensures there { hint_of K.eq self.new key ≡ Some (record { place = place; is_only = true }) }
+        ensures put { (q : K) → hint_of K.eq self.new q
+            ≡ cond (K.eq key q) (Some (record { place = place; is_only = true })) (hint_of K.eq self.old q) }
+        ensures room_left { self.old.room ≤ self.new.room + 1 }
+    {
+        match self.hints.insert(
+            key,
+            Hint {
+                place,
+                is_only: true,
+            },
+        ) {
+            Ok(was) => was,
+            Err(_) => None,
+        }
+    }
+
+    /// Says of a key's hint that items with it may stand elsewhere, too.
+    fn share(&mut self, key: &K)
+        ensures shared { (h : Hint) → hint_of K.eq self.old key.now ≡ Some h → (q : K) → hint_of K.eq self.new q
+            ≡ cond (K.eq key.now q) (Some (record { place = h.place; is_only = false })) (hint_of K.eq self.old q) }
+        ensures own { (h : Hint) → hint_of K.eq self.old key.now ≡ Some h
+            → hint_of K.eq self.new key.now ≡ Some (record { place = h.place; is_only = false }) }
+        ensures room { self.old.room ≤ self.new.room }
+    {
+        if let Some(hint) = self.hints.get_mut(key) {
+            hint.is_only = false;
+        }
     }
 
     /// The place of the newest item that is looked for, by a key that each such item has. Takes no memory.

@@ -9,7 +9,7 @@ ghost use Rattle.market_messages.specs.Meets.{MeetsRow, is_lawful, told_of};
 
 use crate::heard::{Heard, RowFault};
 use crate::terms::is_same_terms;
-use orders::{AppBody, Change, Order, Stage};
+use orders::{AppBody, Change, Order, Stage, is_same_token};
 use ouch_codec::{Accepted, OrderState};
 use std::alloc::{AllocError, Global};
 use to_client::{Occasion, pending_of, push_canceled, push_report, report_of, shown_of};
@@ -90,7 +90,7 @@ pub fn is_dead(state: OrderState) -> bool
 fn may_open(order: &Order, message: &Accepted) -> bool
     ensures { result ≡ is_lawful (market.Accepted message.now) order.now }
 {
-    message.token == order.token
+    is_same_token(&message.token, &order.token)
         && (order.progress.stage == Stage::Waiting
             && is_same_terms(order, &message.stock, message.side))
 }

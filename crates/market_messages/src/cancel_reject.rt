@@ -6,7 +6,7 @@ ghost use Rattle.ouch_codec.specs.declared.outbound.Outbound.TheVariants as mark
 ghost use Rattle.market_messages.specs.Meets.{MeetsRow, is_lawful, told_of};
 
 use crate::heard::{Heard, RowFault};
-use orders::{AppBody, Change, Order, Stage};
+use orders::{AppBody, Change, Order, Stage, is_same_token};
 use ouch_codec::CancelReject;
 use std::alloc::{AllocError, Global};
 use to_client::{pending_of, push_cancel_rejected, shown_of};
@@ -54,5 +54,5 @@ fn tell_cancel_reject(
 fn may_reject_cancel(order: &Order, message: &CancelReject) -> bool
     ensures { result ≡ is_lawful (market.CancelReject message.now) order.now }
 {
-    message.token == order.token && order.progress.stage == Stage::Working
+    is_same_token(&message.token, &order.token) && order.progress.stage == Stage::Working
 }

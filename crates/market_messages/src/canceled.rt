@@ -6,7 +6,7 @@ ghost use Rattle.ouch_codec.specs.declared.outbound.Outbound.TheVariants as mark
 ghost use Rattle.market_messages.specs.Meets.{MeetsRow, is_lawful, told_of};
 
 use crate::heard::{Heard, RowFault};
-use orders::{AppBody, Change, Order, Stage};
+use orders::{AppBody, Change, Order, Stage, is_same_token};
 use ouch_codec::Canceled;
 use std::alloc::{AllocError, Global};
 use to_client::{Occasion, pending_of, push_canceled, push_report, report_of, shown_of};
@@ -67,6 +67,6 @@ fn tell_canceled(
 fn may_cancel(order: &Order, message: &Canceled) -> bool
     ensures { result ≡ is_lawful (market.Canceled message.now) order.now }
 {
-    (message.token == order.token && order.progress.stage == Stage::Working)
+    (is_same_token(&message.token, &order.token) && order.progress.stage == Stage::Working)
         && (1 <= message.decrement && message.decrement <= order.progress.unfilled)
 }

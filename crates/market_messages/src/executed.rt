@@ -8,7 +8,7 @@ ghost use Rattle.order_machine.specs.OrderRecord.{record_life, trade_in};
 ghost use Rattle.market_messages.specs.Meets.{MeetsRow, is_lawful, told_of};
 
 use crate::heard::{Heard, RowFault};
-use orders::{AppBody, Change, Order, Stage, ToldTrade, Trade};
+use orders::{AppBody, Change, Order, Stage, ToldTrade, Trade, is_same_token};
 use ouch_codec::Executed;
 use std::alloc::{AllocError, Global};
 use to_client::{Occasion, pending_of, push_report, push_too_late, report_of, shown_of};
@@ -83,7 +83,7 @@ fn told_trade(message: &Executed, number: u64) -> ToldTrade
 fn may_trade(order: &Order, message: &Executed) -> bool
     ensures { result ≡ is_lawful (market.Executed message.now) order.now }
 {
-    (message.token == order.token && order.progress.stage == Stage::Working)
+    (is_same_token(&message.token, &order.token) && order.progress.stage == Stage::Working)
         && ((1 <= message.shares && message.shares <= order.progress.unfilled)
             && !has_match(order, message.match_number))
 }

@@ -6,7 +6,7 @@ ghost use Rattle.ouch_codec.specs.declared.outbound.Outbound.TheVariants as mark
 ghost use Rattle.market_messages.specs.Meets.{MeetsRow, rejects_new, rejects_replace, told_of};
 
 use crate::heard::{Heard, RowFault};
-use orders::{AppBody, Change, Order, Stage};
+use orders::{AppBody, Change, Order, Stage, is_same_token};
 use ouch_codec::Rejected;
 use std::alloc::{AllocError, Global};
 use to_client::{
@@ -101,7 +101,7 @@ fn tell_not_replaced(
 fn may_refuse(order: &Order, message: &Rejected) -> bool
     ensures { result ≡ rejects_new message.now order.now }
 {
-    message.token == order.token && order.progress.stage == Stage::Waiting
+    is_same_token(&message.token, &order.token) && order.progress.stage == Stage::Waiting
 }
 
 /// Whether this is the token of a pending replace of an order that isn't closed.

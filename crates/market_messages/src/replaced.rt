@@ -15,7 +15,7 @@ ghost use Rattle.market_messages.specs.Meets.{MeetsRow, is_lawful, told_of};
 use crate::accepted::is_dead;
 use crate::heard::{Heard, RowFault};
 use crate::terms::is_same_terms;
-use orders::{AppBody, Change, Order, Stage};
+use orders::{AppBody, Change, Order, Stage, is_same_token};
 use ouch_codec::Replaced;
 use std::alloc::{AllocError, Global};
 use to_client::{
@@ -115,6 +115,6 @@ fn replaced_by(message: &Replaced, is_dead: bool) -> Change
 fn may_replace(order: &Order, message: &Replaced) -> bool
     ensures { result ≡ is_lawful (market.Replaced message.now) order.now }
 {
-    (message.previous_token == order.token && order.progress.stage == Stage::Working)
+    (is_same_token(&message.previous_token, &order.token) && order.progress.stage == Stage::Working)
         && (order.awaits(&message.token) && is_same_terms(order, &message.stock, message.side))
 }

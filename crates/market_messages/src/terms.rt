@@ -20,17 +20,33 @@ pub fn is_same_terms(order: &Order, stock: &[u8; 8], side: Side) -> bool
 fn is_stock(stock: &[u8; 8], symbol: &Symbol) -> bool
     ensures { result ≡ bytes_eq (unpadded stock.now) symbol.now }
 {
-    trimmed(stock) == symbol.as_slice()
+    is_same_text(trimmed(stock), symbol.as_slice())
+}
+
+/// Whether two short texts are the same.
+fn is_same_text(text: &[u8], other: &[u8]) -> bool
+    ensures { result ≡ bytes_eq text.now other.now }
+{
+    if text.len() != other.len() {
+        return false;
+    }
+    for place in 0..text.len() {
+        if text[place] != other[place] {
+            return false;
+        }
+    }
+    true
 }
 
 /// A text without the spaces behind it.
 fn trimmed(text: &[u8]) -> &[u8]
     ensures { result.now ≡ unpadded text.now }
 {
-    match text {
-        [front @ .., b' '] => trimmed(front),
-        _ => text,
+    let mut front = text;
+    while let [rest @ .., b' '] = front {
+        front = rest;
     }
+    front
 }
 
 /// Whether FIX's side is the market's.

@@ -86,21 +86,23 @@ module _ (s : TableState) (order_ids exec_ids : ℕ) (sender : Sender) (held : H
   accepted-gives o given b verdict is_order is_given is_body =
       ap (by_verdict s client m) verdict ∙ rw (is_order, is_given, is_body) refl
 
-  pub entering-in : (enter : EnterOrder) (o : OrderRecord) (given : GivenToken) (body : AppBody) (asks : List Inbound) → verdict_in s client (port_seen sender.port) m ≡ Accepted
+  pub entering-in : (enter : EnterOrder) (o : OrderRecord) (given : GivenToken) (bodies : List AppBody) (asks : List Inbound) → verdict_in s client (port_seen sender.port) m ≡ Accepted
       → AsksNext sender held d enter → o ≡ entered (entry_after (order_ids + 1) sender held d) → given ≡ given_to sender.terms.port enter.token (order_ids + 1)
-      → body_fields body ≡ law.report (exec_ids + 1) (law.plain (codes "A")) (shown_as o)
+      → map body_fields bodies ≡ law.report (exec_ids + 1) (law.plain (codes "A")) (shown_as o) ∷ []
       → ((standing : Standing) (order_of : List ℕ → Option ℕ) (asked : Asked) → Says standing order_of asked (enter_bytes enter) → EachWith (Says standing order_of) (asked ∷ []) (map inbound_bytes asks))
       → length asks ≤ 2
-      → IsEntering s sender m (order_ids + 1) o given body asks
-  entering-in enter o given body asks verdict next is_order is_given is_body says few =
+      → IsEntering s sender m (order_ids + 1) o given bodies asks
+  entering-in enter o given bodies asks verdict next is_order is_given is_told says few =
       let of_state : o ≡ entered (entry_of_new s client m) = is_order ∙ ap entered (sym same-entry) in
+      let pending : Message = law.report (exec_ids + 1) (law.plain (codes "A")) (shown_as o) in
       record {
         asked = new_asked s.terms (entry_of_new s client m) Waiting;
         of_asked = (ap (λ (n : ℕ). decimal (n + 1)) after.numbered, tt);
-        gives = accepted-gives o given (body_fields body) verdict of_state
+        gives = accepted-gives o given pending verdict of_state
             (is_given ∙ ap (λ (t : List ℕ). given_to sender.terms.port t (order_ids + 1)) next.token ∙ sym same-given)
-            (is_body ∙ ap (λ (x : OrderRecord). law.report (exec_ids + 1) (law.plain (codes "A")) (shown_as x)) of_state
-            ∙ ap (λ (n : ℕ). law.report (n + 1) (law.plain (codes "A")) (shown_as (entered (entry_of_new s client m)))) (sym after.stands.reports));
+            (ap (λ (x : OrderRecord). law.report (exec_ids + 1) (law.plain (codes "A")) (shown_as x)) of_state
+            ∙ ap (λ (n : ℕ). law.report (n + 1) (law.plain (codes "A")) (shown_as (entered (entry_of_new s client m)))) (sym after.stands.reports))
+            ∙ ap (λ (bs : List Message). tells (with_order (used_by client m) o given s) client bs (new_asked s.terms (entry_of_new s client m) Waiting)) (sym is_told);
         says = λ order_of finds. says (terms_of s.terms client).standing order_of _ (next-says order_of);
         few = few;
         fresh = subst (λ (x : OrderRecord). length x.tokens + length (option_to_list x.replace) ≤ 1) (sym is_order) (omega arith);

@@ -1,5 +1,5 @@
 -- What a new order makes of a table, as one answer. (FIX 4.4 Volume 4, "New Order - Single".)
-use Rattle.std.specs.Prelude.{◌≡◌, ◌≤◌, ℕ, ◌+◌, Bool, List, [], ◌∷◌, ◌++◌, Some, decimal, length, option_to_list}
+use Rattle.std.specs.Prelude.{◌≡◌, ◌≤◌, ℕ, ◌+◌, Bool, List, [], ◌∷◌, ◌++◌, Some, decimal, length, map, option_to_list}
 use Rattle.client_requests.specs.fix_types.declared.application.AppBody.{AppBody}
 use Rattle.client_requests.specs.fix_types.declared.new_order.NewOrder.{NewOrder}
 use Rattle.client_requests.specs.fix_types.NewOrder.{new_order_fields}
@@ -44,11 +44,11 @@ with_order id o given s = record s {
 
 -- it waits under this OrderID, which its client is told
 pub record IsEntering (s : TableState) (sender : Sender) (m : Message) (order_id : ℕ) (o : OrderRecord)
-    (given : GivenToken) (body : AppBody) (asks : List Inbound) : Type 0 where
+    (given : GivenToken) (bodies : List AppBody) (asks : List Inbound) : Type 0 where
   pub asked : List Asked
   pub of_asked : AreOf order_id asked
   pub gives : client_step s sender.client m (port_seen sender.port)
-      ≡ tells (with_order (used_by sender.client m) o given s) sender.client (body_fields body ∷ []) asked
+      ≡ tells (with_order (used_by sender.client m) o given s) sender.client (map body_fields bodies) asked
   pub says : SaysAll s sender asked asks
   pub few : length asks ≤ 2
   pub fresh : length o.tokens + length (option_to_list o.replace) ≤ 1
@@ -58,7 +58,7 @@ IsNewOrderTurn s sender m (turns.Refused body) =
     client_step s sender.client m (port_seen sender.port)
     ≡ tells (numbered_on sender.client m s) sender.client (body_fields body ∷ []) []
 IsNewOrderTurn s sender m
-    (turns.Accepted order_id o given body asks) = IsEntering s sender m order_id o given body asks.items
+    (turns.Accepted order_id o given bodies asks) = IsEntering s sender m order_id o given bodies.items asks.items
 
 -- a state with this table, after so many OrderIDs and reports
 pub record StandsAfter (s : TableState) (order_ids exec_ids : ℕ) (sender : Sender) (held : Held) (id : List ℕ)

@@ -20,7 +20,7 @@ use order_law::{EnterOrder, Inbound};
 use order_table::{GivenToken, Table};
 use std::alloc::{AllocError, Global};
 use std::hash::BuildHasher;
-use to_client::{Occasion, report_of};
+use to_client::{Occasion, push_report, report_of};
 
 /// What an accepted new order comes to, where this message asks it.
 pub fn accept<S: BuildHasher + Drop>(
@@ -40,7 +40,7 @@ pub fn accept<S: BuildHasher + Drop>(
 {
     let order_id = order_ids + 1;
     let waiting = entered(alloc, order_id, table, sender, order, &enter)?;
-    let body = report_pending(alloc, exec_ids + 1, &waiting)?;
+    let bodies = report_pending(alloc, exec_ids + 1, &waiting)?;
     let given = GivenToken {
         port: sender.terms.port,
         token: enter.token,
@@ -52,7 +52,7 @@ pub fn accept<S: BuildHasher + Drop>(
         order_id,
         order: waiting,
         given,
-        body,
+        bodies,
         asks,
     })
 }
@@ -81,12 +81,15 @@ fn entered<S: BuildHasher + Drop>(
     )
 }
 
-/// The report that an order waits for the market.
-fn report_pending(alloc: Global, number: u64, order: &Order) -> Result<AppBody, AllocError>
-    ensures { IfOk result (λ body. body_fields body ≡ law.report number (law.plain (codes "A")) (shown_as order.now)) }
+/// What is told of an order that waits for the market: one report. It is put into its list at once, since it is large.
+fn report_pending(alloc: Global, number: u64, order: &Order) -> Result<Vec<AppBody>, AllocError>
+    ensures { IfOk result (λ bodies. map body_fields bodies.items
+        ≡ law.report number (law.plain (codes "A")) (shown_as order.now) ∷ []) }
 {
+    let mut bodies = Vec::with_capacity(alloc, 1)?;
     let report = report_of(alloc, number, Occasion::PendingNew, &shown_now(order))?;
-    Ok(AppBody::Report(report))
+    push_report(&mut bodies, report)?;
+    Ok(bodies)
 }
 
 /// What an accepted new order asks: one Enter Order.

@@ -16,8 +16,8 @@ pub enum NewOrderTurn {
         order: Order,
         /// Its token: the next one.
         given: GivenToken,
-        /// The report that it waits.
-        body: AppBody,
+        /// The one report, that it waits: in the list that its client is told.
+        bodies: Vec<AppBody>,
         /// What the market is asked, at once or as soon as the port is up.
         asks: Vec<Inbound>,
     },

@@ -51,12 +51,12 @@ AsksOf old client turn g =
 abbrev OfOrder : ClientTurn → GivenByEvent → Type 0
 OfOrder turn g = AreOf turn.order_id g.asks
 
--- one body is told, and this is asked of one order
-given-meets : (old : TableState) (client : ℕ) (m : Message) (port : Port) (turn : ClientTurn) (new : TableState) (body : AppBody) (asked : List Asked)
-    → client_step old client m port ≡ tells new client (body_fields body ∷ []) asked → turn.bodies.items ≡ body ∷ [] → AreOf turn.order_id asked
+-- these bodies are told, and this is asked of one order
+given-meets : (old : TableState) (client : ℕ) (m : Message) (port : Port) (turn : ClientTurn) (new : TableState) (bodies : List AppBody) (asked : List Asked)
+    → client_step old client m port ≡ tells new client (map body_fields bodies) asked → turn.bodies.items ≡ bodies → AreOf turn.order_id asked
     → ((order_of : List ℕ → Option ℕ) → Each (Finds order_of) asked → EachWith (Says (terms_of old.terms client).standing order_of) asked (map inbound_bytes turn.asks.items))
     → MeetsFields old client m port turn new
-given-meets old client m port turn new body asked is told of_order says = record {
+given-meets old client m port turn new bodies asked is told of_order says = record {
   state = ap (λ (g : GivenByEvent). g.state) (sym is);
   for_client = ap (λ (g : GivenByEvent). g.client) is;
   bodies = ap (map body_fields) told ∙ ap (λ (g : GivenByEvent). g.bodies) (sym is);
@@ -70,7 +70,7 @@ ended-meets : (old : TableState) (client : ℕ) (m : Message) (port : Port) (tur
     → client_step old client m port ≡ tells left client (body_fields body ∷ []) [] → turn.bodies.items ≡ body ∷ [] → turn.asks.items ≡ [] → new ≡ left
     → MeetsFields old client m port turn new
 ended-meets old client m port turn new left body is told nothing state =
-    given-meets old client m port turn new body [] (is ∙ ap (λ (s : TableState). tells s client (body_fields body ∷ []) []) (sym state)) told tt
+    given-meets old client m port turn new (body ∷ []) [] (is ∙ ap (λ (s : TableState). tells s client (body_fields body ∷ []) []) (sym state)) told tt
     (λ order_of finds. subst (λ (asks : List Inbound). EachWith (Says (terms_of old.terms client).standing order_of) [] (map inbound_bytes asks)) (sym nothing) tt)
 
 -- a request: nothing changes but that its id is used
@@ -96,21 +96,24 @@ with-lists old client m orders us tokens ts same_orders same_tokens =
     ap (λ (os : List OrderRecord). record (with_used client m old) { orders = os; tokens = tokens; exec_ids = old.exec_ids + 1 }) same_orders
     ∙ ap (λ (gs : List GivenToken). record (with_used client m old) { orders = us; tokens = gs; exec_ids = old.exec_ids + 1 }) same_tokens
 
-module _ (old : TableState) (sender : Sender) (m : Message) (turn : ClientTurn) (new : TableState) (order_id : ℕ) (body : AppBody) (told : turn.bodies.items ≡ body ∷ []) (numbered_as : turn.order_id ≡ order_id) where
-  pub entering-meets : (o : OrderRecord) (given : GivenToken) → IsEntering old sender m order_id o given body turn.asks.items → new ≡ with_order (used_by sender.client m) o given old
-      → MeetsFields old sender.client m (port_seen sender.port) turn new
-  entering-meets o given is state =
-      given-meets old sender.client m (port_seen sender.port) turn new body is.asked
-      (is.gives ∙ ap (λ (s : TableState). tells s sender.client (body_fields body ∷ []) is.asked) (sym state))
-      told (subst (λ (k : ℕ). AreOf k is.asked) (sym numbered_as) is.of_asked) is.says
+-- a new order waits
+pub entering-meets : (old : TableState) (sender : Sender) (m : Message) (turn : ClientTurn) (new : TableState) (order_id : ℕ) (bodies : List AppBody)
+    → turn.bodies.items ≡ bodies → turn.order_id ≡ order_id
+    → (o : OrderRecord) (given : GivenToken) → IsEntering old sender m order_id o given bodies turn.asks.items → new ≡ with_order (used_by sender.client m) o given old
+    → MeetsFields old sender.client m (port_seen sender.port) turn new
+entering-meets old sender m turn new order_id bodies told numbered_as o given is state =
+    given-meets old sender.client m (port_seen sender.port) turn new bodies is.asked
+    (is.gives ∙ ap (λ (s : TableState). tells s sender.client (map body_fields bodies) is.asked) (sym state))
+    told (subst (λ (k : ℕ). AreOf k is.asked) (sym numbered_as) is.of_asked) is.says
 
+module _ (old : TableState) (sender : Sender) (m : Message) (turn : ClientTurn) (new : TableState) (order_id : ℕ) (body : AppBody) (told : turn.bodies.items ≡ body ∷ []) (numbered_as : turn.order_id ≡ order_id) where
   module _ (numbered : GoByNumbers old) (was held : Held) (same_orders : was.orders ≡ old.orders) (same_tokens : was.tokens ≡ old.tokens) (state : new ≡ with_table old sender.client m held) where
     pub cancelling-meets : (c : Cancelling) → IsCancelling old sender m order_id c body turn.asks.items
         → ((o : OrderRecord) → by_number old (decimal order_id) ≡ Some o → held ≡ changed (at o o.replace (Some (cancel_seen o.new.client order_id c))) was)
         → MeetsFields old sender.client m (port_seen sender.port) turn new
     cancelling-meets c is is_changed =
         let found : by_number old (decimal order_id) ≡ Some is.order = ap (by_number old) (sym is.of_order) ∙ numbered sender.client _ is.order is.named in
-        given-meets old sender.client m (port_seen sender.port) turn new body is.asked
+        given-meets old sender.client m (port_seen sender.port) turn new (body ∷ []) is.asked
         (is.gives ∙ ap (λ (s : TableState). tells s sender.client (body_fields body ∷ []) is.asked) (sym (state ∙ ap (with_table old sender.client m) (is_changed is.order found)
         ∙ with-lists old sender.client m _ (put (at is.order is.order.replace (Some (cancel_seen is.order.new.client order_id c))) old.orders) _ old.tokens (ap (put (at is.order is.order.replace (Some (cancel_seen is.order.new.client order_id c)))) same_orders) same_tokens)))
         told (subst (λ (k : ℕ). AreOf k is.asked) (sym numbered_as) is.of_asked) is.says
@@ -120,7 +123,7 @@ module _ (old : TableState) (sender : Sender) (m : Message) (turn : ClientTurn) 
         → MeetsFields old sender.client m (port_seen sender.port) turn new
     replacing-meets r given is is_changed =
         let found : by_number old (decimal order_id) ≡ Some is.order = ap (by_number old) (sym is.of_order) ∙ numbered sender.client _ is.order is.named in
-        given-meets old sender.client m (port_seen sender.port) turn new body is.asked
+        given-meets old sender.client m (port_seen sender.port) turn new (body ∷ []) is.asked
         (is.gives ∙ ap (λ (s : TableState). tells s sender.client (body_fields body ∷ []) is.asked) (sym (state ∙ ap (with_table old sender.client m) (is_changed is.order found)
         ∙ with-lists old sender.client m _ (put (at is.order (Some (replace_seen is.order.new.client order_id r)) is.order.cancel) old.orders) _ (given ∷ old.tokens) (ap (put (at is.order (Some (replace_seen is.order.new.client order_id r)) is.order.cancel)) same_orders) (ap (λ (ts : List GivenToken). given ∷ ts) same_tokens))))
         told (subst (λ (k : ℕ). AreOf k is.asked) (sym numbered_as) is.of_asked) is.says

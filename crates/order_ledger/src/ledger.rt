@@ -143,7 +143,7 @@ impl<S: BuildHasher + Drop> OrderLedger<S> {
     }
 
     /// The number of the client of the order that a token of a port leads to, from 1.
-    pub fn client_of_token(&self, port: u16, token: &[u8]) -> Option<u16>
+    pub fn client_of_token(&self, port: u16, token: &[u8; 14]) -> Option<u16>
         ensures { result
             ≡ option_map (λ (o : OrderRecord). o.new.client) (record_by_token self.now.now port token.now) }
     {

@@ -1,10 +1,10 @@
--- The key of a port with the text of a token: the text's first 14 bytes, and zeros behind them.
-use Rattle.std.specs.Prelude.{ℕ, ◌-◌, Bool, ◌&&◌, List, ◌++◌, length, take, replicate, nat_eq}
+-- The key of a port with the text of a token.
+use Rattle.std.specs.Prelude.{ℕ, Bool, ◌&&◌, List, nat_eq}
 use Rattle.std.specs.Cmp.Lexicographic.{pointwise}
 use Rattle.order_table.specs.declared.token_key.TokenKey.{TokenKey}
 
 abbrev pub token_key : ℕ → List ℕ → TokenKey
-token_key port token = record { port = port; text = take 14 token ++ replicate (14 - length (take 14 token)) 0 }
+token_key port token = record { port = port; text = token }
 
 -- keys are equal
 abbrev pub same_token_key : TokenKey → TokenKey → Bool

@@ -12,7 +12,7 @@ ghost use Rattle.order_table.specs.KeyLaws.{name-alike, number-alike, token-alik
 use crate::table::GivenToken;
 use crate::token_key::TokenKey;
 use hint_index::{Keyed, Sought, TextKey};
-use undo_orders::{Boxed, Cancelling, Order, Replacing};
+use undo_orders::{Boxed, Cancelling, Order, Replacing, is_same_token};
 
 /// The number of an OrderID, as a key.
 #[derive(Clone, Copy, PartialEq, Eq, Hash)]
@@ -200,7 +200,7 @@ pub(crate) fn key_of_cancel(client: u16, cancel: &Option<Boxed<Cancelling>>) -> 
 #[derive(Clone, Copy)]
 pub(crate) struct ByToken<'a> {
     pub port: u16,
-    pub token: &'a [u8],
+    pub token: &'a [u8; 14],
 }
 
 impl<'a> Sought<GivenToken> for ByToken<'a> {
@@ -212,10 +212,10 @@ impl<'a> Sought<GivenToken> for ByToken<'a> {
 }
 
 /// Whether a port knows a token by this text.
-fn is_token(port: u16, token: &[u8], given: &GivenToken) -> bool
+fn is_token(port: u16, token: &[u8; 14], given: &GivenToken) -> bool
     ensures { result ≡ table.is_token port token.now given.now }
 {
-    given.port == port && given.token.as_slice() == token
+    given.port == port && is_same_token(&given.token, token)
 }
 
 impl Keyed<TokenKey> for GivenToken {
@@ -224,6 +224,6 @@ impl Keyed<TokenKey> for GivenToken {
     ghost respects_eq = { token-alike };
 
     fn has_key(&self, key: &TokenKey) -> bool {
-        *key == TokenKey::of(self.port, self.token.as_slice())
+        *key == TokenKey::of(self.port, &self.token)
     }
 }

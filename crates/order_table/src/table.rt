@@ -162,7 +162,7 @@ impl<S: BuildHasher + Drop> Table<S> {
     }
 
     /// The order that a token of a port leads to.
-    pub fn by_token(&self, port: u16, token: &[u8]) -> Option<&Order>
+    pub fn by_token(&self, port: u16, token: &[u8; 14]) -> Option<&Order>
         ensures { MatchOption result (found self.now port token.now ≡ None)
             (λ order. found self.now port token.now ≡ Some order.now) }
     {

@@ -1,16 +1,17 @@
 //! A port with the text of a token, as one key.
 
-ghost use Rattle.std.specs.Prelude.{◌≡◌, ◌≤◌, ◌-◌, ◌++◌, ◌∷◌, [], length, take, drop, replicate};
+ghost use Rattle.std.specs.Prelude.{◌≡◌, ◌++◌, ◌∷◌, []};
 ghost use Rattle.std.specs.Hash as fed;
-ghost use Rattle.order_table.specs.TokenKeys.{token_key};
+ghost use Rattle.std.specs.Cmp.Rules.{comparing};
+ghost use Rattle.std.proofs.Common.{rules};
+ghost use Rattle.order_table.specs.TokenKeys.{same_token_key, token_key};
 ghost use Rattle.order_table.specs.KeyLaws.{token-hash-alike};
 
 use std::hash::{Hash, Hasher};
+use undo_orders::is_same_token;
 
-/// The key of a port with the text of a token, which takes no memory.
-///
-/// Of a longer text the first 14 bytes count, and a shorter one is padded. Equal ports and texts have equal keys.
-#[derive(Clone, Copy, PartialEq, Eq)]
+/// The key of a port with the text of a token, which takes no memory. Equal ports and texts have equal keys.
+#[derive(Clone, Copy)]
 pub struct TokenKey {
     port: u16,
     text: [u8; 14],
@@ -18,32 +19,25 @@ pub struct TokenKey {
 
 impl TokenKey {
     /// The key of a port with the text of a token.
-    pub fn of(port: u16, token: &[u8]) -> TokenKey
+    pub fn of(port: u16, token: &[u8; 14]) -> TokenKey
         ensures { result ≡ token_key port token.now }
     {
-        TokenKey {
-            port,
-            text: padded(head(token)),
-        }
+        TokenKey { port, text: *token }
     }
 }
 
-/// The first 14 bytes of a text, or all of it.
-fn head(text: &[u8]) -> &[u8]
-    ensures head { result.now ≡ take 14 text.now }
-    ensures short { length result.now ≤ 14 }
-{
-    if text.len() <= 14 { text } else { &text[..14] }
+impl PartialEq for TokenKey {
+    ghost eq = { same_token_key };
+
+    ghost laws = { Prim.search (comparing, rules) };
+
+    fn eq(&self, other: &TokenKey) -> bool {
+        self.port == other.port && is_same_token(&self.text, &other.text)
+    }
 }
 
-/// The bytes of a text with zeros behind them.
-fn padded(text: &[u8]) -> [u8; 14]
-    requires { length text.now ≤ 14 }
-    ensures { result ≡ text.now ++ replicate (14 - length text.now) 0 }
-{
-    let mut bytes = [0; 14];
-    bytes[..text.len()].copy_from_slice(text);
-    bytes
+impl Eq for TokenKey {
+    ghost laws = { Prim.search (comparing, rules) };
 }
 
 impl Hash for TokenKey {

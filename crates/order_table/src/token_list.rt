@@ -102,7 +102,7 @@ impl<S: BuildHasher + Drop> TokenList<S> {
     }
 
     /// The place of the newest token that a port knows by this text.
-    pub fn token_place(&self, port: u16, token: &[u8]) -> Option<usize>
+    pub fn token_place(&self, port: u16, token: &[u8; 14]) -> Option<usize>
         ensures { MatchOption result
             (find (table.is_token port token.now) (reverse self.now.now) ≡ None)
             (λ place. IsNewest (table.is_token port token.now) self.now.now place) }
@@ -139,7 +139,7 @@ impl<S: BuildHasher + Drop> TokenList<S> {
         ensures settled { self.new.settled ≡ self.old.settled }
     {
         let place = self.tokens.as_slice().len();
-        let key = TokenKey::of(given.port, given.token.as_slice());
+        let key = TokenKey::of(given.port, &given.token);
         let (order_id, is_replacement) = (given.order_id, given.is_replacement);
         self.texts.note(&self.tokens, key, place);
         self.tokens.push(given);

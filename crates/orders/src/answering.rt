@@ -6,6 +6,7 @@ ghost use Rattle.orders.specs.Seen.{cancel_seen, other_than};
 
 use crate::boxed::Boxed;
 use crate::requests::Cancelling;
+use same_bytes::is_same_token;
 
 impl Cancelling {
     /// Whether no other Cancel Order than that of a token is left.
@@ -13,7 +14,7 @@ impl Cancelling {
         ensures { (client order_id : ℕ)
             → result ≡ last_after (bytes_eq token.now) (Some (cancel_seen client order_id self.now)) }
     {
-        *token == self.first && is_no_other(&self.second, token)
+        is_same_token(token, &self.first) && is_no_other(&self.second, token)
     }
 }
 
@@ -23,7 +24,10 @@ pub(crate) fn without(cancelling: Boxed<Cancelling>, token: [u8; 14]) -> Option<
         ≡ still_after (bytes_eq token) (Some (cancel_seen client order_id cancelling)) }
 {
     let mut held = cancelling.held;
-    match (token == held.first, second_without(held.second, token)) {
+    match (
+        is_same_token(&token, &held.first),
+        second_without(held.second, token),
+    ) {
         (true, None) => None,
         (true, Some(second)) => {
             held.first = second;
@@ -42,7 +46,7 @@ fn second_without(second: Option<[u8; 14]>, token: [u8; 14]) -> Option<[u8; 14]>
     ensures { result ≡ other_than token second }
 {
     match second {
-        Some(other) if token != other => Some(other),
+        Some(other) if !is_same_token(&token, &other) => Some(other),
         _ => None,
     }
 }
@@ -53,6 +57,6 @@ fn is_no_other(second: &Option<[u8; 14]>, token: &[u8; 14]) -> bool
 {
     match second {
         None => true,
-        Some(other) => *token == *other,
+        Some(other) => is_same_token(token, other),
     }
 }

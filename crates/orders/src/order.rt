@@ -19,6 +19,7 @@ use crate::symbol::Symbol;
 use crate::trades::{make_room, mark};
 use fix_types::{Character, ClOrdId, NewOrder};
 use order_machine::Trade;
+use same_bytes::is_same_token;
 use std::alloc::{AllocError, Global};
 use std::marker::Model;
 use std::snapshot::Snapshot;
@@ -244,7 +245,7 @@ impl Order {
     pub fn has_had(&self, token: &[u8; 14]) -> bool
         ensures { result ≡ list_any (bytes_eq token.now) self.now.tokens }
     {
-        *token == self.token || is_among(&self.earlier, token)
+        is_same_token(token, &self.token) || is_among(&self.earlier, token)
     }
 
     /// Whether a token is that of its pending replace.
@@ -253,7 +254,7 @@ impl Order {
     {
         match &self.replace {
             None => false,
-            Some(replacing) => *token == replacing.get().token,
+            Some(replacing) => is_same_token(token, &replacing.get().token),
         }
     }
 

@@ -5,6 +5,7 @@ ghost use Rattle.order_law.specs.History as law;
 ghost use Rattle.outstanding.specs.Kept.{asked_by_fields};
 
 use order_law::{Inbound, Outbound};
+use same_bytes::is_same_token;
 
 /// Whether a message from the market answers one that it was asked.
 ///
@@ -24,8 +25,8 @@ fn answers_new(heard: &Outbound, token: &[u8; 14]) -> bool
     ensures { result ≡ law.answers heard.now (law.SaysNew token.now) }
 {
     match heard {
-        Outbound::Accepted(accepted) => accepted.token == *token,
-        Outbound::Rejected(rejected) => rejected.token == *token,
+        Outbound::Accepted(accepted) => is_same_token(&accepted.token, token),
+        Outbound::Rejected(rejected) => is_same_token(&rejected.token, token),
         _ => false,
     }
 }
@@ -35,8 +36,8 @@ fn answers_replace(heard: &Outbound, token: &[u8; 14]) -> bool
     ensures { (from : List ℕ) → result ≡ law.answers heard.now (law.SaysReplace from token.now) }
 {
     match heard {
-        Outbound::Replaced(replaced) => replaced.token == *token,
-        Outbound::Rejected(rejected) => rejected.token == *token,
+        Outbound::Replaced(replaced) => is_same_token(&replaced.token, token),
+        Outbound::Rejected(rejected) => is_same_token(&rejected.token, token),
         _ => false,
     }
 }
@@ -46,9 +47,9 @@ fn answers_cancel(heard: &Outbound, token: &[u8; 14]) -> bool
     ensures { result ≡ law.answers heard.now (law.SaysCancel token.now) }
 {
     match heard {
-        Outbound::Replaced(replaced) => replaced.previous_token == *token,
-        Outbound::Rejected(rejected) => rejected.token == *token,
-        Outbound::CancelReject(reject) => reject.token == *token,
+        Outbound::Replaced(replaced) => is_same_token(&replaced.previous_token, token),
+        Outbound::Rejected(rejected) => is_same_token(&rejected.token, token),
+        Outbound::CancelReject(reject) => is_same_token(&reject.token, token),
         _ => false,
     }
 }

@@ -6,4 +6,4 @@
 mod list;
 
 pub use list::UndoOrders;
-pub use orders::{Boxed, Cancelling, Change, Order, Replacing, Stage};
+pub use orders::{Boxed, Cancelling, Change, Order, Replacing, Stage, is_same_token};

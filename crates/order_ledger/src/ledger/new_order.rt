@@ -59,9 +59,11 @@ impl<S: BuildHasher + Drop> OrderLedger<S> {
                 order_id,
                 order: waiting,
                 given,
-                body,
+                bodies,
                 asks,
-            } => self.accept_new(alloc, &sender, order, order_id, waiting, given, body, asks),
+            } => self.accept_new(
+                alloc, &sender, order, order_id, waiting, given, bodies, asks,
+            ),
         }
     }
 
@@ -108,12 +110,12 @@ impl<S: BuildHasher + Drop> OrderLedger<S> {
         order_id: u64,
         order: Order,
         given: GivenToken,
-        body: AppBody,
+        bodies: Vec<AppBody>,
         asks: Vec<Inbound>,
     ) -> Result<ClientTurn, AllocError>
         requires room { HasRoom self.old.now }
         requires is { IsEntering self.old.now sender.now
-            (new_order_fields message.now) order_id order given body asks.items }
+            (new_order_fields message.now) order_id order given bodies.items asks.items }
         ensures meets { IfOk result (λ turn. MeetsFields self.old.now sender.now.client (new_order_fields message.now)
             (port_seen sender.now.port) turn self.new.now) }
         ensures few { IfOk result (λ turn. length turn.asks.items ≤ 2) }
@@ -121,7 +123,6 @@ impl<S: BuildHasher + Drop> OrderLedger<S> {
         ensures settled { self.new.settled ≡ self.old.settled }
         ensures err { OnErr result (self.new ≡ self.old) }
     {
-        let bodies = one_body(alloc, body)?;
         let cl_ord_id = ClOrdId::copied(alloc, message.cl_ord_id.as_slice())?;
         self.keep(order, given, UsedId::new(sender.client, cl_ord_id))?;
         Ok(ClientTurn {

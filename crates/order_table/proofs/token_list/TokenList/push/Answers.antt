@@ -25,7 +25,7 @@ count_replacement-requires g c = record {
 
 pub invariant_of-self : goal.invariant_of-self
 invariant_of-self g c =
-    let own = c.of-key.ensures ∙ ap (token_key c.given.inside.port) c.as_slice.ensures ∙ ap (λ (t : GivenToken). token_key t.port t.text) c.given.view_is in (
+    let own = c.of-key.ensures ∙ ap (λ (t : GivenToken). token_key t.port t.text) c.given.view_is in (
       covered-pushed same_token_key has_token_key c.note.new.self c.self.inside.tokens c.push.new.self c.args.given (length c.as_slice-place.result.now)
           (token-leads c.note.new.self c.args.given (length c.as_slice-place.result.now) (subst (λ (k : TokenKey). LeadsTo (hint_of same_token_key c.note.new.self k) (length c.as_slice-place.result.now)) own c.note.ensures.leads))
           c.push.ensures.settled (c.note.ensures.covered c.self.invariant.0) (sym (ap (λ (xs : List GivenToken). length xs) c.as_slice-place.ensures)) c.push.ensures.now,

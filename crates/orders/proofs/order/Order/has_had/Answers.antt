@@ -5,10 +5,10 @@ use Rattle.order_machine.specs.OrderRecord.{OrderRecord}
 use Rattle.orders.proofs.Marks.{any-reverse}
 use Rattle.orders.proofs.order.Order.has_had.Goals as goal
 
-pub returns-else-eq : goal.returns-else-eq
-returns-else-eq c =
+pub returns-else-is_same_token : goal.returns-else-is_same_token
+returns-else-is_same_token c =
     c.is_among.ensures
     ∙ ap (list_any (bytes_eq c.args.token.now)) c.deref.ensures.value
     ∙ sym (any-reverse (bytes_eq c.args.token.now) c.self.inside.earlier.items)
-    ∙ ap (λ (b : Bool). b || list_any (bytes_eq c.args.token.now) (reverse c.self.inside.earlier.items)) c.if-eq.ensures
+    ∙ ap (λ (b : Bool). b || list_any (bytes_eq c.args.token.now) (reverse c.self.inside.earlier.items)) c.if-is_same_token.ensures
     ∙ ap (λ (o : OrderRecord). list_any (bytes_eq c.args.token.now) o.tokens) c.self.view_is
