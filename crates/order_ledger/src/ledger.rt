@@ -114,7 +114,7 @@ impl<S: BuildHasher + Clone + Drop> OrderLedger<S> {
         let ids = hasher.clone()?;
         Ok(OrderLedger {
             terms: Vec::from_slice(alloc, terms)?,
-            table: Table::with_hasher(alloc, hasher)?,
+            table: Table::with_hasher(alloc, hasher),
             used: UsedIds::with_hasher(alloc, ids),
             order_ids: 0,
             exec_ids: 0,

@@ -24,7 +24,7 @@ use undo_orders::{Cancelling, Change, Order, Replacing, UndoOrders};
 /// list, now and as it was settled, and for how many orders more there is room.
 pub(crate) struct OrderList<S: BuildHasher + Drop = BuildHasherDefault<FoldHasher>> {
     orders: UndoOrders,
-    numbers: HintIndex<NumberKey, S>,
+    numbers: HintIndex<NumberKey>,
     names: HintIndex<NameKey, S>,
 }
 
@@ -74,14 +74,14 @@ impl OrderList {
 }
 
 impl<S: BuildHasher + Drop> OrderList<S> {
-    /// No orders, with a hasher for each index. Takes no memory.
-    pub fn with_hashers(alloc: Global, numbers: S, names: S) -> OrderList<S>
+    /// No orders, with a hasher of the ids that clients choose. Takes no memory.
+    pub fn with_hasher(alloc: Global, names: S) -> OrderList<S>
         ensures now { result.now ≡ [] }
         ensures settled { result.settled ≡ [] }
     {
         OrderList {
             orders: UndoOrders::new(alloc),
-            numbers: HintIndex::with_hasher(alloc, numbers),
+            numbers: HintIndex::new(alloc),
             names: HintIndex::with_hasher(alloc, names),
         }
     }

@@ -43,10 +43,11 @@ impl Model for GivenToken {
 /// The accepted orders and the tokens that were given. Contracts see the newest first, now and as they were settled:
 /// `undo` puts back what was there at the last `settle`, and no orders where there was none.
 ///
-/// Orders and tokens are found by indexes over any hasher, which changes nothing but how fast they are found.
+/// ClOrdIDs are found by an index over any hasher, which changes nothing but how fast they are found. OrderIDs and
+/// tokens, which the gateway gives itself, are found by the fixed one: nobody else can choose them.
 pub struct Table<S: BuildHasher + Drop = BuildHasherDefault<FoldHasher>> {
     orders: OrderList<S>,
-    tokens: TokenList<S>,
+    tokens: TokenList,
     /// How many orders of each client aren't closed.
     open_counts: OpenCounts,
     ghost counted: { IsCounted tokens.now open_counts.now orders.now },
@@ -94,26 +95,6 @@ impl Table {
     }
 }
 
-impl<S: BuildHasher + Clone + Drop> Table<S> {
-    ghost use Rattle.std.specs.Prelude.{[], IfOk};
-
-    /// No orders and no tokens, with a hasher.
-    pub fn with_hasher(alloc: Global, hasher: S) -> Result<Table<S>, AllocError>
-        ensures orders { IfOk result (λ table. table.orders ≡ []) }
-        ensures tokens { IfOk result (λ table. table.tokens ≡ []) }
-        ensures settled { IfOk result (λ table. table.settled ≡ record { orders = []; tokens = [] }) }
-    {
-        let names = hasher.clone()?;
-        let texts = hasher.clone()?;
-        let replaces = hasher.clone()?;
-        Ok(Table {
-            orders: OrderList::with_hashers(alloc, hasher, names),
-            tokens: TokenList::with_hashers(alloc, texts, replaces),
-            open_counts: OpenCounts::new(alloc),
-        })
-    }
-}
-
 impl<S: BuildHasher + Drop> Table<S> {
     ghost use Rattle.std.specs.Prelude.{◌≤◌, ◌+◌, [], ◌∷◌, IfOk, OnErr, MatchOption, Some, None, decimal, length};
     ghost use Rattle.std.specs.Prelude.{option_to_list};
@@ -126,6 +107,19 @@ impl<S: BuildHasher + Drop> Table<S> {
     ghost use Rattle.undo_orders.specs.Changes.{Fits, changed_by};
     ghost use Rattle.order_table.specs.Held.{changed, found, found_by_id, put_back, settled_now, with_number};
     ghost use Rattle.undo_orders.specs.Seen.{cancel_seen, replace_seen};
+
+    /// No orders and no tokens, with a hasher of ClOrdIDs. Takes no memory.
+    pub fn with_hasher(alloc: Global, hasher: S) -> Table<S>
+        ensures orders { result.orders ≡ [] }
+        ensures tokens { result.tokens ≡ [] }
+        ensures settled { result.settled ≡ record { orders = []; tokens = [] } }
+    {
+        Table {
+            orders: OrderList::with_hasher(alloc, hasher),
+            tokens: TokenList::new(alloc),
+            open_counts: OpenCounts::new(alloc),
+        }
+    }
 
     /// One order more, which has had one token and has no pending replace, and the token that it was given.
     /// `AllocError` leaves the table as it was.

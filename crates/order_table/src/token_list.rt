@@ -13,21 +13,20 @@ use crate::token_key::TokenKey;
 use hint_index::{HintIndex, UndoList};
 use number_counts::NumberCounts;
 use std::alloc::{AllocError, Global};
-use std::hash::{BuildHasher, BuildHasherDefault, FoldHasher};
 use std::marker::Model;
 
 /// The tokens that were given, the oldest first, each found by its port and its text; how many of them replaces of
 /// each order were given is counted. Contracts see the list, now and as it was settled, and for how many tokens more
 /// there is room.
-pub(crate) struct TokenList<S: BuildHasher + Drop = BuildHasherDefault<FoldHasher>> {
+pub(crate) struct TokenList {
     tokens: UndoList<GivenToken>,
-    texts: HintIndex<TokenKey, S>,
+    texts: HintIndex<TokenKey>,
     /// By OrderID.
-    replaces: NumberCounts<S>,
+    replaces: NumberCounts,
 }
 
 // Not derived: then each way out drops it in one call (docs/DECISIONS.md, "Drops").
-impl<S: BuildHasher + Drop> Drop for TokenList<S> {
+impl Drop for TokenList {
     fn drop(self) {
         let TokenList {
             tokens: _,
@@ -37,7 +36,7 @@ impl<S: BuildHasher + Drop> Drop for TokenList<S> {
     }
 }
 
-impl<S: BuildHasher + Drop> Model for TokenList<S> {
+impl Model for TokenList {
     ghost use Rattle.hint_index.specs.Hints.{Covered};
     ghost use Rattle.order_machine.specs.Table as table;
     ghost use Rattle.order_table.specs.Keys.{has_token_key};
@@ -60,7 +59,7 @@ impl<S: BuildHasher + Drop> Model for TokenList<S> {
 }
 
 impl TokenList {
-    /// No tokens, with the fixed seed. Takes no memory.
+    /// No tokens. Takes no memory.
     pub fn new(alloc: Global) -> TokenList
         ensures now { result.now ≡ [] }
         ensures settled { result.settled ≡ [] }
@@ -69,20 +68,6 @@ impl TokenList {
             tokens: UndoList::new(alloc),
             texts: HintIndex::new(alloc),
             replaces: NumberCounts::new(alloc),
-        }
-    }
-}
-
-impl<S: BuildHasher + Drop> TokenList<S> {
-    /// No tokens, with a hasher for each index. Takes no memory.
-    pub fn with_hashers(alloc: Global, texts: S, replaces: S) -> TokenList<S>
-        ensures now { result.now ≡ [] }
-        ensures settled { result.settled ≡ [] }
-    {
-        TokenList {
-            tokens: UndoList::new(alloc),
-            texts: HintIndex::with_hasher(alloc, texts),
-            replaces: NumberCounts::with_hasher(alloc, replaces),
         }
     }
 
@@ -166,11 +151,7 @@ impl<S: BuildHasher + Drop> TokenList<S> {
 }
 
 /// Counts a token of an order, if a replace was given it. Takes no memory.
-fn count_replacement<S: BuildHasher + Drop>(
-    replaces: &mut NumberCounts<S>,
-    order_id: u64,
-    is_replacement: bool,
-)
+fn count_replacement(replaces: &mut NumberCounts, order_id: u64, is_replacement: bool)
     requires room { 1 ≤ replaces.old.pushes }
     requires fits { counted order_id replaces.old.now + 1 < 2 ^ 64 }
     ensures now { (other : ℕ) → counted other replaces.new.now

@@ -12,19 +12,19 @@ use Rattle.order_table.proofs.Rooms.{room-in-token}
 use Rattle.order_table.proofs.token_list.TokenList.push.Goals as goal
 
 pub note-requires : goal.note-requires
-note-requires g c = record { room = (room-in-token c.self.inside.tokens.pushes c.self.inside.texts.room c.self.inside.replaces.pushes (subst (λ (u : Undoable GivenToken). 1 ≤ u.pushes) (sym c.self.view_is) c.requires)).1 }
+note-requires c = record { room = (room-in-token c.self.inside.tokens.pushes c.self.inside.texts.room c.self.inside.replaces.pushes (subst (λ (u : Undoable GivenToken). 1 ≤ u.pushes) (sym c.self.view_is) c.requires)).1 }
 
 pub push-requires : goal.push-requires
-push-requires g c = (room-in-token c.self.inside.tokens.pushes c.self.inside.texts.room c.self.inside.replaces.pushes (subst (λ (u : Undoable GivenToken). 1 ≤ u.pushes) (sym c.self.view_is) c.requires)).0
+push-requires c = (room-in-token c.self.inside.tokens.pushes c.self.inside.texts.room c.self.inside.replaces.pushes (subst (λ (u : Undoable GivenToken). 1 ≤ u.pushes) (sym c.self.view_is) c.requires)).0
 
 pub count_replacement-requires : goal.count_replacement-requires
-count_replacement-requires g c = record {
+count_replacement-requires c = record {
   room = (room-in-token c.self.inside.tokens.pushes c.self.inside.texts.room c.self.inside.replaces.pushes (subst (λ (u : Undoable GivenToken). 1 ≤ u.pushes) (sym c.self.view_is) c.requires)).2;
   fits = replaces-fit c.self.inside.replaces.now c.self.inside.tokens.now c.push.new.self.now c.args.given c.given.inside.order_id c.self.invariant.1 (omega arith) c.push.ensures.now c.push.ensures.few;
 }
 
 pub invariant_of-self : goal.invariant_of-self
-invariant_of-self g c =
+invariant_of-self c =
     let own = c.of-key.ensures ∙ ap (λ (t : GivenToken). token_key t.port t.text) c.given.view_is in (
       covered-pushed same_token_key has_token_key c.note.new.self c.self.inside.tokens c.push.new.self c.args.given (length c.as_slice-place.result.now)
           (token-leads c.note.new.self c.args.given (length c.as_slice-place.result.now) (subst (λ (k : TokenKey). LeadsTo (hint_of same_token_key c.note.new.self k) (length c.as_slice-place.result.now)) own c.note.ensures.leads))
