@@ -5,7 +5,7 @@ ghost use Rattle.ouch_codec.specs.Parts.{unpadded};
 ghost use Rattle.orders.specs.order_law.Lawful.{same_terms};
 ghost use Rattle.market_messages.specs.Sides.{fix_side};
 
-use orders::{Order, Symbol};
+use orders::{Order, Symbol, is_same_text};
 use ouch_codec::Side;
 use to_client::Character;
 
@@ -21,21 +21,6 @@ fn is_stock(stock: &[u8; 8], symbol: &Symbol) -> bool
     ensures { result ≡ bytes_eq (unpadded stock.now) symbol.now }
 {
     is_same_text(trimmed(stock), symbol.as_slice())
-}
-
-/// Whether two short texts are the same.
-fn is_same_text(text: &[u8], other: &[u8]) -> bool
-    ensures { result ≡ bytes_eq text.now other.now }
-{
-    if text.len() != other.len() {
-        return false;
-    }
-    for place in 0..text.len() {
-        if text[place] != other[place] {
-            return false;
-        }
-    }
-    true
 }
 
 /// A text without the spaces behind it.

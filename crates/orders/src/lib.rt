@@ -26,6 +26,6 @@ pub use order::{Order, ToldTrade};
 pub use order_machine::{Stage, Trade};
 pub use progress::Progress;
 pub use requests::{Cancelling, Replacing};
-pub use same_bytes::is_same_token;
+pub use same_bytes::{is_same_text, is_same_token};
 pub use symbol::Symbol;
 pub use trades::mark;

@@ -7,6 +7,7 @@ ghost use Rattle.session_law.specs.Messages as law;
 
 use decimal_digits::number_of;
 use fix_types::Fields;
+use same_bytes::is_same_text;
 
 /// The value of a tag, or no bytes where there is none.
 pub fn text<'a>(m: &'a Fields, tag: u32) -> &'a [u8]
@@ -23,7 +24,7 @@ pub fn text<'a>(m: &'a Fields, tag: u32) -> &'a [u8]
 pub fn is(m: &Fields, tag: u32, wanted: &[u8]) -> bool
     ensures { result ≡ tags.is tag wanted.now m.now }
 {
-    text(m, tag) == wanted
+    is_same_text(text(m, tag), wanted)
 }
 
 /// Whether the value of a tag is this one byte.
