@@ -25,13 +25,15 @@ use order_law::Text;
 use orders::{AppBody, Report};
 use std::alloc::{AllocError, Global};
 
-/// A report as one body more.
+/// A report as one body more. There is room before it is put there, so that it is moved once.
+#[inline(always)]
 pub fn push_report(bodies: &mut Vec<AppBody>, report: Report) -> Result<(), AllocError>
     ensures told { IfOk result (λ nothing. map body_fields bodies.new.items
         ≡ map body_fields bodies.old.items ++ report_fields report ∷ []) }
     ensures few { length bodies.new.items ≤ length bodies.old.items + 1 }
 {
-    bodies.push(AppBody::Report(report))?;
+    bodies.reserve(1)?;
+    bodies.push_reserved(AppBody::Report(report));
     Ok(())
 }
 
