@@ -10,8 +10,8 @@ use std::alloc::AllocError;
 /// The bytes that a field takes at most beside its value: nine digits, `=` and SOH.
 pub(crate) const ROUND_A_VALUE: usize = 11;
 
-/// So many bytes of a text are in use: there is room for so many more behind them. `AllocError` leaves those as they were.
-/// One growth at most.
+/// So many bytes of a text are in use: there is room for so many more behind them. `AllocError` leaves those as they
+/// were. One growth at most.
 pub(crate) fn reserve(text: &mut Vec<u8>, used: usize, more: usize) -> Result<(), AllocError>
     requires { used ≤ length text.old.items }
     ensures room { OnOk result (used + more ≤ length text.new.items) }
@@ -24,8 +24,8 @@ pub(crate) fn reserve(text: &mut Vec<u8>, used: usize, more: usize) -> Result<()
     grow(text, more)
 }
 
-/// Room for so many bytes more behind a text, and zeros in all of it. `AllocError` leaves the text as it was. One growth
-/// at most.
+/// Room for so many bytes more behind a text, and zeros in all of it. `AllocError` leaves the text as it was. One
+/// growth at most.
 pub(crate) fn grow(text: &mut Vec<u8>, more: usize) -> Result<(), AllocError>
     ensures room { OnOk result (length text.old.items + more ≤ length text.new.items) }
     ensures kept { take (length text.old.items) text.new.items ≡ text.old.items }
