@@ -20,8 +20,8 @@ const MOST_EVENTS: u64 = 1 << 48;
 /// It reads no clock and no link: moments come with the events, and what links are told stands in their batches.
 /// Contracts see how it stands, and how it stood before the last step.
 ///
-/// Orders, tokens and ClOrdIDs that were used are found by indexes over any hasher, which changes nothing but how fast
-/// they are found. With a seed that nobody else knows no client can choose ids that make it slow.
+/// ClOrdIDs are found by indexes over any hasher, which changes nothing but how fast they are found. With a seed that
+/// nobody else knows no client can choose ids that make it slow. What the gateway numbers itself is found by a fixed one.
 pub struct Core<S: BuildHasher + Drop = BuildHasherDefault<FoldHasher>> {
     parts: Parts<S>,
     /// How many events were stepped.

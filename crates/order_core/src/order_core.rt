@@ -25,7 +25,7 @@ use std::marker::Model;
 /// can't be finished, be it for want of memory elsewhere, the order level is as before it. What is changed is kept
 /// beside what it became until the next `settle`.
 ///
-/// Orders, tokens and used ids are found by indexes over any hasher, which changes nothing but how fast they are found.
+/// ClOrdIDs are found by indexes over any hasher, which changes nothing but how fast they are found.
 pub struct OrderCore<S: BuildHasher + Drop = BuildHasherDefault<FoldHasher>> {
     ledger: OrderLedger<S>,
     asked: AskedMessages,

@@ -23,7 +23,7 @@ use to_market::{ClientTerms, PortState};
 /// Contracts see it as it is now and as it was settled: `undo` puts back what was there at the last `settle`, and the
 /// ledger with no orders where there was none.
 ///
-/// Orders, tokens and used ids are found by indexes over any hasher, which changes nothing but how fast they are found.
+/// ClOrdIDs are found by indexes over any hasher, which changes nothing but how fast they are found.
 pub struct OrderLedger<S: BuildHasher + Drop = BuildHasherDefault<FoldHasher>> {
     terms: Vec<ClientTerms>,
     table: Table<S>,
