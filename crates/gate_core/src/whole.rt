@@ -21,7 +21,8 @@ const MOST_EVENTS: u64 = 1 << 48;
 /// Contracts see how it stands, and how it stood before the last step.
 ///
 /// ClOrdIDs are found by indexes over any hasher, which changes nothing but how fast they are found. With a seed that
-/// nobody else knows no client can choose ids that make it slow. What the gateway numbers itself is found by a fixed one.
+/// nobody else knows no client can choose ids that make it slow. What the gateway numbers itself is found by a fixed
+/// hasher.
 pub struct Core<S: BuildHasher + Drop = BuildHasherDefault<FoldHasher>> {
     parts: Parts<S>,
     /// How many events were stepped.
