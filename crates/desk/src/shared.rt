@@ -74,11 +74,12 @@ impl<K: DeskName, S: BuildHasher + Drop> Shared<K, S> {
         Ok(turned)
     }
 
-    /// Has so many rounds made, or fewer where one makes no step, eight at a time under the lock. Behind each eight, the
-    /// lock free, `writer` writes what they told: all that eight rounds told an outlet lies there then.
+    /// Has so many rounds made, or fewer where one makes no step, eight at a time under the lock. Behind each eight,
+    /// the lock free, `writer` writes what they told: all that eight rounds told an outlet lies there then.
     ///
-    /// It waits for nobody but `writer`. Where another thread has the lock, that one makes rounds until one makes no step once it is
-    /// free, and none is counted here. `AllocError` comes only where memory is refused before a round made a step.
+    /// It waits for nobody but `writer`. Where another thread has the lock, that one makes rounds until one makes no
+    /// step once it is free, and none is counted here. `AllocError` comes only where memory is refused before a round
+    /// made a step.
     pub fn turns<T: WriteTold>(
         &self,
         alloc: Global,

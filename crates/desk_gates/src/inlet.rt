@@ -97,8 +97,8 @@ impl<'p, 'a, W: Prompt + Drop, G: OutletEnd + Drop, K: DeskName, S: BuildHasher 
     }
 
     /// Has the desk turn once, and again for each further event that was put, until a turn makes no step, and has what
-    /// they told written. Where another thread turns the desk, that one does so (`Shared::turns`), and nothing is waited
-    /// for but a prompt write.
+    /// they told written. Where another thread turns the desk, that one does so (`Shared::turns`), and nothing is
+    /// waited for but a prompt write.
     fn turn<R: Wait>(&mut self, _rt: &R, alloc: Global) -> Result<u32, AllocError> {
         let turns = self.shared.turns(alloc, self.owed.max(1), &self.pens)?;
         self.owed = self.owed.saturating_sub(turns.rounds);

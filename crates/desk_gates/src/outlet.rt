@@ -16,8 +16,8 @@ const FULL: u32 = 1_024;
 pub struct OutletGate<'a, K: DeskName, S: BuildHasher + Drop = BuildHasherDefault<FoldHasher>> {
     shared: &'a Shared<K, S>,
     outlet: Outlet<K>,
-    /// The lists that were taken since none lay there, or since the last turn: a turn that is owed isn't forgotten where
-    /// none lies there.
+    /// The lists that were taken since none lay there, or since the last turn: a turn that is owed isn't forgotten
+    /// where none lies there.
     in_a_row: u32,
 }
 

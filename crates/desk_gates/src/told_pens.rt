@@ -40,8 +40,8 @@ impl<'p, 'a, W: Prompt + Drop, G: OutletEnd + Drop, K: DeskName, S: BuildHasher 
 impl<'p, 'a, W: Prompt + Drop, G: OutletEnd + Drop, K: DeskName, S: BuildHasher + Drop> WriteTold
     for ToldPens<'p, 'a, W, G, K, S> {
     /// By a prompt write each, the last one's first: ports stand behind clients, and what a port is told is what its
-    /// market waits for. Where a pen is held, or not all could be written, that outlet's bell rings, and its writer goes
-    /// on.
+    /// market waits for. Where a pen is held, or not all could be written, that outlet's bell rings, and its writer
+    /// goes on.
     fn write_told(&self, alloc: Global, told: ToldOutlets) {
         if told.is_empty() {
             return;

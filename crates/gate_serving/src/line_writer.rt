@@ -40,7 +40,8 @@ pub trait LineWriter<W> {
         requires from_one { 1 ≤ steps }
         ensures written { wrote self.old link result self.new };
 
-    /// Lets go what lies there between two links, and has the core stepped, since an event may have waited for the room.
+    /// Lets go what lies there between two links, and has the core stepped, since an event may have waited for the
+    /// room.
     fn let_go<R: Wait>(&mut self, rt: &R, alloc: Global)
         ensures gone { let_go_between self.old self.new };
 }
