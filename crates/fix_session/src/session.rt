@@ -15,8 +15,8 @@ use fix_fields::{Fields, Text};
 use session_law::{Kind, Logged, Phase};
 use session_reading::{AppBody, AppMsg, due_at};
 use session_writing::{
-    BodyReport, FrameHead, IssuedReport, SessionOut, UndoBodies, append_written, issued_frame,
-    report_of_body,
+    BodyReport, FrameHead, IssuedReport, SessionOut, Stamped, UndoBodies, append_written,
+    issued_frame, report_of_body,
 };
 use std::alloc::{AllocError, Global};
 use std::marker::Model;
@@ -36,6 +36,8 @@ pub struct Session {
     given: UndoBodies,
     /// The session's time, which all that is written or kept bears: the latest moment of all calls. It never goes back.
     latest: u64,
+    /// The moment of the last body that was to be issued, with its text. Contracts don't see it.
+    stamped: Stamped,
     /// The rest of how it was when it was settled last.
     settled: Settled,
 }
@@ -50,6 +52,7 @@ impl Drop for Session {
             expected: _,
             given: _,
             latest: _,
+            stamped: _,
             settled: _,
         } = self;
     }
@@ -140,6 +143,7 @@ impl Session {
             expected: 1,
             given: UndoBodies::new(alloc),
             latest: 0,
+            stamped: Stamped::of(0),
             settled: Settled {
                 phase: Phase::Down,
                 expected: 1,
@@ -336,7 +340,8 @@ impl Session {
     {
         let now = self.latest.max(at);
         let kind = kind_of(body);
-        let made = self.next_report(alloc, kind, body, now)?;
+        self.stamped.move_to(now);
+        let made = self.next_report(alloc, kind, body, &self.stamped)?;
         let frame = issued_frame(alloc, self.phase, made.report())?;
         self.given.keep(kind, made.body(), now)?;
         self.latest = now;
@@ -345,25 +350,25 @@ impl Session {
         Ok(IssuedTurn { frame, report })
     }
 
-    /// The report of a body under the next number, at this time.
+    /// The report of a body under the next number, at this moment.
     fn next_report(
         &self,
         alloc: Global,
         kind: Kind,
         body: &AppBody,
-        at: u64,
+        moment: &Stamped,
     ) -> Result<BodyReport, AllocError>
         ensures report { IfOk result (λ made. made.report ≡ frame_fields stamp_text self.now.session.gate
-            self.now.session.client (fresh (next_out self.now.session) kind (issued_body body.now) at)) }
+            self.now.session.client (fresh (next_out self.now.session) kind (issued_body body.now) moment.now)) }
         ensures body { IfOk result (λ made. made.body ≡ issued_body body.now) }
     {
         let head = FrameHead {
             number: self.last() + 1,
             kind,
-            at,
+            at: moment.at(),
             first: None,
         };
-        report_of_body(alloc, self.gate(), self.client(), head, body)
+        report_of_body(alloc, self.gate(), self.client(), head, moment, body)
     }
 
     /// A frame of the client. Where it is judged, nothing changes; what it brings is made, and then taken over whole.

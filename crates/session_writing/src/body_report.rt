@@ -12,8 +12,8 @@ use crate::head::FrameHead;
 use crate::issued_report::{IssuedReport, report_in_limit};
 use crate::output::{printed_front, push_issue};
 use crate::resend::part_of;
+use crate::stamped::Stamped;
 use fix_framing::PrintedFields;
-use fix_stamp::stamp;
 use session_reading::AppBody;
 use std::alloc::{AllocError, Global};
 use std::marker::Model;
@@ -65,8 +65,8 @@ impl BodyReport {
     }
 }
 
-/// The report of a body that is issued, between the gateway and a client of these names. One growth, where the names
-/// have 60 bytes at most and the body's texts aren't long.
+/// The report of a body that is issued, between the gateway and a client of these names, at the moment of its head. One
+/// growth, where the names have 60 bytes at most and the body's texts aren't long.
 ///
 /// Where it prints in more than `IssuedReport::LONGEST` bytes it is answered as want of memory. No report does, since
 /// its longest texts are those of a frame of 8,192 bytes at most; that isn't proved.
@@ -75,20 +75,22 @@ pub fn report_of_body(
     gate: &[u8],
     client: &[u8],
     head: FrameHead,
+    moment: &Stamped,
     body: &AppBody,
 ) -> Result<BodyReport, AllocError>
+    requires moment { moment.now ≡ head.at }
     requires gate { IsValue gate.now }
     requires client { IsValue client.now }
     ensures report { IfOk result (λ made. made.report
         ≡ frame_fields stamp_text gate.now client.now (frame_with head (issued_body body.now))) }
     ensures body { IfOk result (λ made. made.body ≡ issued_body body.now) }
 {
-    let now = stamp(head.at);
-    let mut printed = printed_front(alloc, MOST_BODIES, gate, client, head, &now)?;
+    let now = moment.text();
+    let mut printed = printed_front(alloc, MOST_BODIES, gate, client, head, now)?;
     let start = size_of(&printed);
     push_body(&mut printed, body)?;
     let end = size_of(&printed);
-    push_issue(&mut printed, head, &now)?;
+    push_issue(&mut printed, head, now)?;
     let report = report_in_limit(printed)?;
     Ok(BodyReport { report, start, end })
 }

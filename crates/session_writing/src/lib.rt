@@ -11,6 +11,7 @@ mod kept;
 mod output;
 mod place;
 mod resend;
+mod stamped;
 mod undo_bodies;
 
 pub use bodies::{
@@ -22,4 +23,5 @@ pub use head::FrameHead;
 pub use issued_report::{IssuedReport, issued_frame};
 pub use kept::KeptBodies;
 pub use output::{SessionOut, append_written};
+pub use stamped::Stamped;
 pub use undo_bodies::UndoBodies;

@@ -1,4 +1,4 @@
-use Rattle.std.proofs.Common.{◌++◌, ◌∷◌, [], Some, ap, ◌∙◌}
+use Rattle.std.proofs.Common.{ℕ, ◌++◌, ◌∷◌, [], Some, ap, ◌∙◌}
 use Rattle.fix_fields.specs.Field.{Message}
 use Rattle.session_law.specs.declared.kind.Kind.{Kind}
 use Rattle.session_law.specs.Frames.{frame_fields}
@@ -22,10 +22,13 @@ returns-clause-meets c =
     let keeps = c.in_ok-keep.ensures.given
     ∙ ap (λ (b : Message). inside.given.given ++ kept c.kind_of-kind.result b ∷ []) (c.body.ensures.same ∙ c.in_ok-made.ensures.body)
     ∙ ap (λ (k : Kind). inside.given.given ++ kept k body ∷ []) c.kind_of-kind.ensures in
+    let same = ap (λ (h : SessionHeld). h.session) c.self.view_is in
     let report = c.report.ensures ∙ c.in_ok-made.ensures.report
-    ∙ ap (λ (k : Kind). frame_fields stamp_text old.gate old.client (fresh (next_out old) k body now)) c.kind_of-kind.ensures in
+    ∙ ap (λ (m : ℕ). frame_fields stamp_text s.gate s.client (fresh (next_out s) c.kind_of-kind.result body m)) c.move_to.ensures
+    ∙ ap (λ (k : Kind). frame_fields stamp_text s.gate s.client (fresh (next_out s) k body now)) c.kind_of-kind.ensures
+    ∙ ap (λ (o : State). frame_fields stamp_text o.gate o.client (fresh (next_out o) kind body now)) same in
     issued s old c.args.at kind body c.in_ok-frame.frame now c.phase_issued-self-inside.result c.keep.new.self.given
-    (ap (λ (h : SessionHeld). h.session) c.self.view_is)
+    same
     c.max-now.ensures
     c.phase_issued-self-inside.ensures
     keeps
