@@ -15,7 +15,7 @@ use fix_fields::{Fields, Text};
 use session_law::{Kind, Logged, Phase};
 use session_reading::{AppBody, AppMsg, due_at};
 use session_writing::{
-    BodyReport, FrameHead, IssuedReport, SessionOut, Stamped, UndoBodies, append_written,
+    BodyReport, FrameHead, IssuedReport, Names, SessionOut, Stamped, UndoBodies, append_written,
     issued_frame, report_of_body,
 };
 use std::alloc::{AllocError, Global};
@@ -26,8 +26,8 @@ use std::marker::Model;
 /// After an error, which is always that memory ran out, the session is as it was. `settle` and `undo` put calls back
 /// that succeeded: no call but these two changes how it was when it was settled.
 pub struct Session {
-    gate: Text,
-    client: Text,
+    /// The names of the gateway and of the client, with their fields from the first body on that was to be issued.
+    names: Names,
     phase: Phase,
     /// The number that is expected next: at most one above a number of 18 digits.
     expected: u64,
@@ -46,8 +46,7 @@ pub struct Session {
 impl Drop for Session {
     fn drop(self) {
         let Session {
-            gate: _,
-            client: _,
+            names: _,
             phase: _,
             expected: _,
             given: _,
@@ -74,16 +73,16 @@ impl Model for Session {
 
     ghost view = { λ s. record {
       session = record {
-        gate = s.gate;
-        client = s.client;
+        gate = s.names.gate;
+        client = s.names.client;
         phase = s.phase;
         expected = s.expected;
         given = s.given.given;
         latest = s.latest;
       };
       settled = record {
-        gate = s.gate;
-        client = s.client;
+        gate = s.names.gate;
+        client = s.names.client;
         phase = s.settled.phase;
         expected = s.settled.expected;
         given = s.given.settled;
@@ -137,8 +136,7 @@ impl Session {
         ensures settled { result.settled ≡ result.session }
     {
         Session {
-            gate,
-            client,
+            names: Names::new(gate, client),
             phase: Phase::Down,
             expected: 1,
             given: UndoBodies::new(alloc),
@@ -305,14 +303,14 @@ impl Session {
         ensures text { result.now ≡ self.now.session.gate }
         ensures inside { IsValue result.now }
     {
-        self.gate.as_slice()
+        self.names.gate()
     }
 
     pub(crate) fn client(&self) -> &[u8]
         ensures text { result.now ≡ self.now.session.client }
         ensures inside { IsValue result.now }
     {
-        self.client.as_slice()
+        self.names.client()
     }
 
     /// The last number that was given, 0 where none was.
@@ -340,6 +338,7 @@ impl Session {
     {
         let now = self.latest.max(at);
         let kind = kind_of(body);
+        self.names.print(alloc)?;
         self.stamped.move_to(now);
         let made = self.next_report(alloc, kind, body, &self.stamped)?;
         let frame = issued_frame(alloc, self.phase, made.report())?;
@@ -368,7 +367,7 @@ impl Session {
             at: moment.at(),
             first: None,
         };
-        report_of_body(alloc, self.gate(), self.client(), head, moment, body)
+        report_of_body(alloc, &self.names, head, moment, body)
     }
 
     /// A frame of the client. Where it is judged, nothing changes; what it brings is made, and then taken over whole.

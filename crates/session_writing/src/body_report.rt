@@ -1,7 +1,7 @@
 //! The report of a body that is issued, with the place of the body in its text.
 
 ghost use Rattle.std.specs.Prelude.{◌≡◌, ◌++◌, ℕ, length, IfOk, OnOk};
-ghost use Rattle.fix_framing.specs.fix_fields.Field.{AreFields, IsValue, fields_text};
+ghost use Rattle.fix_framing.specs.fix_fields.Field.{AreFields, fields_text};
 ghost use Rattle.fix_framing.specs.fix_fields.Printed.{PrintsFields, fields_in};
 ghost use Rattle.fix_stamp.specs.Stamp.{stamp_text};
 ghost use Rattle.session_reading.specs.session_law.Frames.{frame_fields};
@@ -10,7 +10,8 @@ ghost use Rattle.session_writing.specs.Issued.{issued_body};
 
 use crate::head::FrameHead;
 use crate::issued_report::{IssuedReport, report_in_limit};
-use crate::output::{printed_front, push_issue};
+use crate::names::Names;
+use crate::output::{push_issue, report_front};
 use crate::resend::part_of;
 use crate::stamped::Stamped;
 use fix_framing::PrintedFields;
@@ -65,28 +66,25 @@ impl BodyReport {
     }
 }
 
-/// The report of a body that is issued, between the gateway and a client of these names, at the moment of its head. One
-/// growth, where the names have 60 bytes at most and the body's texts aren't long.
+/// The report of a body that is issued, under these names, at the moment of its head. One growth, where the names have
+/// 60 bytes at most and the body's texts aren't long.
 ///
 /// Where it prints in more than `IssuedReport::LONGEST` bytes it is answered as want of memory. No report does, since
 /// its longest texts are those of a frame of 8,192 bytes at most; that isn't proved.
 pub fn report_of_body(
     alloc: Global,
-    gate: &[u8],
-    client: &[u8],
+    names: &Names,
     head: FrameHead,
     moment: &Stamped,
     body: &AppBody,
 ) -> Result<BodyReport, AllocError>
     requires moment { moment.now ≡ head.at }
-    requires gate { IsValue gate.now }
-    requires client { IsValue client.now }
     ensures report { IfOk result (λ made. made.report
-        ≡ frame_fields stamp_text gate.now client.now (frame_with head (issued_body body.now))) }
+        ≡ frame_fields stamp_text names.now.gate names.now.client (frame_with head (issued_body body.now))) }
     ensures body { IfOk result (λ made. made.body ≡ issued_body body.now) }
 {
     let now = moment.text();
-    let mut printed = printed_front(alloc, MOST_BODIES, gate, client, head, now)?;
+    let mut printed = report_front(alloc, MOST_BODIES, names, head, now)?;
     let start = size_of(&printed);
     push_body(&mut printed, body)?;
     let end = size_of(&printed);

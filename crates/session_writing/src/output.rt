@@ -14,6 +14,7 @@ ghost use Rattle.session_writing.specs.Heads.{frame_with};
 ghost use Rattle.session_writing.specs.Written.{told_bytes};
 
 use crate::head::FrameHead;
+use crate::names::{Names, push_names};
 use fix_framing::{PrintedFields, frame_of_text, printed_fields};
 use fix_stamp::stamp;
 use session_reading::{Frame, Kind, Out};
@@ -151,6 +152,44 @@ pub(crate) fn printed_front(
     Ok(fields)
 }
 
+/// The same under names whose fields may have been printed before.
+pub(crate) fn report_front(
+    alloc: Global,
+    room: usize,
+    names: &Names,
+    head: FrameHead,
+    now: &[u8; 21],
+) -> Result<PrintedFields, AllocError>
+    requires room { room < 2 ^ 63 }
+    requires now { now.now ≡ stamp_text head.at }
+    requires value { IsValue now.now }
+    ensures { IfOk result (λ front. front ≡ field 35 (text_of_kind head.kind) ∷ field 49 names.now.gate
+        ∷ field 56 names.now.client ∷ number_as_field 34 head.number ∷ field 52 (stamp_text head.at)
+        ∷ again_fields stamp_text head.first) }
+{
+    let mut fields = PrintedFields::with_capacity(alloc, ROUND_A_BODY + room)?;
+    fields.push_byte(35, kind_letter(head.kind))?;
+    names.push(&mut fields)?;
+    push_numbered(&mut fields, head, now)?;
+    push_again(&mut fields, head.first)?;
+    Ok(fields)
+}
+
+/// Adds MsgSeqNum (34) and SendingTime (52), written so.
+fn push_numbered(
+    fields: &mut PrintedFields,
+    head: FrameHead,
+    now: &[u8; 21],
+) -> Result<(), AllocError>
+    requires now { now.now ≡ stamp_text head.at }
+    requires value { IsValue now.now }
+    ensures { OnOk result (fields.new
+        ≡ fields.old ++ number_as_field 34 head.number ∷ field 52 (stamp_text head.at) ∷ []) }
+{
+    fields.push_number(34, head.number)?;
+    fields.push_array(52, now)
+}
+
 /// Adds the header of every frame, whose moment is written so.
 fn push_header(
     fields: &mut PrintedFields,
@@ -167,10 +206,8 @@ fn push_header(
         ∷ field 56 client.now ∷ number_as_field 34 head.number ∷ field 52 (stamp_text head.at) ∷ []) }
 {
     fields.push_byte(35, kind_letter(head.kind))?;
-    fields.push(49, gate)?;
-    fields.push(56, client)?;
-    fields.push_number(34, head.number)?;
-    fields.push_array(52, now)
+    push_names(fields, gate, client)?;
+    push_numbered(fields, head, now)
 }
 
 /// Adds PossDupFlag (43) and OrigSendingTime (122), where a frame is sent again.
