@@ -20,6 +20,10 @@ first-put before after bytes start count s k e =
 pub field-put : (front tagged valued all digits value : List ℕ) → tagged ≡ front ++ (digits ++ 61 ∷ []) → valued ≡ tagged ++ value → all ≡ valued ++ 1 ∷ [] → all ≡ front ++ (digits ++ 61 ∷ (value ++ 1 ∷ []))
 field-put front tagged valued all digits value t v a = rw (a, v, t) (simp append_assoc)
 
+-- a tag, and its value and SOH at once
+pub number-put : (front tagged all digits value : List ℕ) → tagged ≡ front ++ (digits ++ 61 ∷ []) → all ≡ tagged ++ value → all ≡ front ++ (digits ++ 61 ∷ value)
+number-put front tagged all digits value t a = rw (a, t) (simp append_assoc)
+
 -- a list that was lent and comes back
 pub put-back : (lent items : List ℕ) (len : ℕ) → len ≡ length items → length lent ≡ length items → take len (lent ++ drop (length lent) items) ≡ lent
 put-back lent items len l m = take_at lent (drop (length lent) items) len (m ∙ sym l)

@@ -1,6 +1,6 @@
 //! Fields written into a text that has room for them.
 
-ghost use Rattle.std.specs.Prelude.{◌≡◌, ◌≤◌, ◌+◌, ◌%◌, ◌++◌, ◌∷◌, [], length, take, decimal, OnOk};
+ghost use Rattle.std.specs.Prelude.{◌≡◌, ◌≤◌, ◌<◌, ◌+◌, ◌%◌, ◌++◌, ◌∷◌, [], length, take, decimal, OnOk};
 ghost use Rattle.fix_fields.specs.Field.{IsTag};
 
 use crate::text::SOH;
@@ -75,12 +75,26 @@ pub(crate) fn put_number(text: &mut [u8], at: usize, tag: u32, number: u64) -> u
     ensures within { result ≤ length text.new }
     ensures length { length text.new ≡ length text.old }
 {
+    let start = put_tag(text, at, tag);
+    if number < 1_000 {
+        return put_short(text, start, number as u32, SOH);
+    }
+    put_digits(text, start, number, SOH)
+}
+
+/// Writes a number in decimal and a byte behind it at a place of a text, and over at most 19 bytes behind both. Gives
+/// the place behind both.
+fn put_digits(text: &mut [u8], at: usize, number: u64, last: u8) -> usize
+    requires room { at + 21 ≤ length text.old }
+    ensures written { take result text.new ≡ take at text.old ++ (decimal number ++ last ∷ []) }
+    ensures length { length text.new ≡ length text.old }
+    ensures end { result ≤ at + 21 }
+{
     let mut digits = [0; 40];
     let first = write_digits(number, &mut digits, 20);
-    let start = put_tag(text, at, tag);
-    put(text, start, &digits[first..first + 20]);
-    put(text, start + 20 - first, &[SOH]);
-    start + 21 - first
+    put(text, at, &digits[first..first + 20]);
+    put(text, at + 20 - first, &[last]);
+    at + 21 - first
 }
 
 /// Writes a field whose value has so many bytes at a place of a text. Gives the place behind it.
@@ -127,21 +141,36 @@ fn put_tag(text: &mut [u8], at: usize, tag: u32) -> usize
     if tag >= 1_000 {
         return put_long_tag(text, at, tag);
     }
-    if tag >= 100 {
+    put_short(text, at, tag, b'=')
+}
+
+/// Writes a number below 1,000 in decimal and a byte behind it at a place of a text. Gives the place behind both.
+fn put_short(text: &mut [u8], at: usize, number: u32, last: u8) -> usize
+    requires number { number < 1_000 }
+    requires room { at + 4 ≤ length text.old }
+    ensures written { take result text.new ≡ take at text.old ++ (decimal number ++ last ∷ []) }
+    ensures length { length text.new ≡ length text.old }
+    ensures end { result ≤ at + 4 }
+{
+    if number >= 100 {
         let digits = [
-            last_digit(tag / 100),
-            last_digit(tag / 10),
-            last_digit(tag),
-            b'=',
+            last_digit(number / 100),
+            last_digit(number / 10),
+            last_digit(number),
+            last,
         ];
         put(text, at, &digits);
         return at + 4;
     }
-    if tag >= 10 {
-        put(text, at, &[last_digit(tag / 10), last_digit(tag), b'=']);
+    if number >= 10 {
+        put(
+            text,
+            at,
+            &[last_digit(number / 10), last_digit(number), last],
+        );
         return at + 3;
     }
-    put(text, at, &[last_digit(tag), b'=']);
+    put(text, at, &[last_digit(number), last]);
     at + 2
 }
 
