@@ -24,6 +24,11 @@ field-put front tagged valued all digits value t v a = rw (a, v, t) (simp append
 pub number-put : (front tagged all digits value : List ℕ) → tagged ≡ front ++ (digits ++ 61 ∷ []) → all ≡ tagged ++ value → all ≡ front ++ (digits ++ 61 ∷ value)
 number-put front tagged all digits value t a = rw (a, t) (simp append_assoc)
 
+-- a tag, digits and a point, digits behind it and SOH, one after another
+pub decimal-put : (front tagged pointed valued all digits whole fraction : List ℕ) → tagged ≡ front ++ (digits ++ 61 ∷ []) → pointed ≡ tagged ++ (whole ++ 46 ∷ []) → valued ≡ pointed ++ fraction → all ≡ valued ++ 1 ∷ []
+    → all ≡ front ++ (digits ++ 61 ∷ ((whole ++ 46 ∷ fraction) ++ 1 ∷ []))
+decimal-put front tagged pointed valued all digits whole fraction t p v a = rw (a, v, p, t) (simp append_assoc)
+
 -- a list that was lent and comes back
 pub put-back : (lent items : List ℕ) (len : ℕ) → len ≡ length items → length lent ≡ length items → take len (lent ++ drop (length lent) items) ≡ lent
 put-back lent items len l m = take_at lent (drop (length lent) items) len (m ∙ sym l)

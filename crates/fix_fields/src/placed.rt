@@ -82,6 +82,31 @@ pub(crate) fn put_number(text: &mut [u8], at: usize, tag: u32, number: u64) -> u
     put_digits(text, start, number, SOH)
 }
 
+/// Writes a field at a place of a text, and over at most 19 bytes behind it: its value are a number in decimal, a point
+/// and the first of these digits, so many. Gives the place behind it.
+pub(crate) fn put_decimal(
+    text: &mut [u8],
+    at: usize,
+    tag: u32,
+    whole: u64,
+    fraction: &[u8; 4],
+    count: usize,
+) -> usize
+    requires tag { IsTag tag }
+    requires count { count ≤ 4 }
+    requires room { at + 36 ≤ length text.old }
+    ensures written { take result text.new ≡ take at text.old
+        ++ (decimal tag ++ 61 ∷ ((decimal whole ++ 46 ∷ take count fraction.now) ++ 1 ∷ [])) }
+    ensures within { result ≤ length text.new }
+    ensures length { length text.new ≡ length text.old }
+{
+    let start = put_tag(text, at, tag);
+    let end = put_digits(text, start, whole, b'.');
+    put(text, end, fraction);
+    put(text, end + count, &[SOH]);
+    end + count + 1
+}
+
 /// Writes a number in decimal and a byte behind it at a place of a text, and over at most 19 bytes behind both. Gives
 /// the place behind both.
 fn put_digits(text: &mut [u8], at: usize, number: u64, last: u8) -> usize

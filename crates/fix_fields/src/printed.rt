@@ -6,7 +6,8 @@ ghost use Rattle.fix_fields.specs.Printed.{PrintsFields, fields_in};
 
 use crate::fields::Fields;
 use crate::placed::{
-    ROUND_A_VALUE, grow, put, put_array, put_byte, put_few, put_field, put_number, reserve,
+    ROUND_A_VALUE, grow, put, put_array, put_byte, put_decimal, put_few, put_field, put_number,
+    reserve,
 };
 use crate::text::{Bytes, Text};
 use std::alloc::{AllocError, Global};
@@ -111,6 +112,34 @@ impl PrintedFields {
     {
         reserve(&mut self.text, self.size, 40)?;
         self.size = put_number(self.text.as_mut_slice(), self.size, tag, number);
+        Ok(())
+    }
+
+    /// Adds a number in decimal, a point, and the first of these digits behind it, so many. `AllocError` leaves the
+    /// fields as they were. One growth at most.
+    pub fn push_decimal(
+        &mut self,
+        tag: u32,
+        whole: u64,
+        fraction: &[u8; 4],
+        count: usize,
+    ) -> Result<(), AllocError>
+        requires tag { IsTag tag }
+        requires count { count ≤ 4 }
+        requires value { IsValue (decimal whole ++ 46 ∷ take count fraction.now) }
+        ensures ok { OnOk result (self.new
+            ≡ self.old ++ field tag (decimal whole ++ 46 ∷ take count fraction.now) ∷ []) }
+        ensures err { OnErr result (self.new ≡ self.old) }
+    {
+        reserve(&mut self.text, self.size, 40)?;
+        self.size = put_decimal(
+            self.text.as_mut_slice(),
+            self.size,
+            tag,
+            whole,
+            fraction,
+            count,
+        );
         Ok(())
     }
 

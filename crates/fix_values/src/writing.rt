@@ -13,7 +13,7 @@ use crate::cl_ord_id::ClOrdId;
 use crate::field_value::{FieldValue, Said};
 use crate::float_text::FloatText;
 use fix_fields::{PrintedFields, Text};
-use fixed_point::PriceText;
+use fixed_point::{fraction_digits, significant_digits};
 use std::alloc::AllocError;
 
 /// Adds a letter.
@@ -209,5 +209,6 @@ fn push_price(
     if fraction == 0 {
         return push_number(fields, tag, whole);
     }
-    fields.push(tag, PriceText::of(u128::from(whole), fraction).as_slice())
+    let digits = fraction_digits(fraction);
+    fields.push_decimal(tag, whole, &digits, significant_digits(fraction))
 }

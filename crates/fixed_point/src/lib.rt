@@ -23,7 +23,7 @@ pub use decimal::is_float;
 pub use laws::{printed_denotes, printed_reads_back, said_in_range};
 pub use parsing::{parse_price, parse_qty};
 pub use price4::Price4;
-pub use printing::{PriceText, print_price};
+pub use printing::{PriceText, fraction_digits, print_price, significant_digits};
 pub use refusal::DecimalRefusal;
 pub use shares::Shares;
 pub use worth::{WorthRefusal, parse_worth};

@@ -47,7 +47,7 @@ impl PriceText {
         text.push(buffer.format(whole).as_bytes());
         if fraction > 0 {
             text.push(b".");
-            text.push(&digits_of(fraction)[..significant_digits(fraction)]);
+            text.push(&fraction_digits(fraction)[..significant_digits(fraction)]);
         }
         text
     }
@@ -91,8 +91,8 @@ pub fn print_price(alloc: Global, units: u128) -> Result<Vec<u8>, AllocError>
     Vec::from_slice(alloc, text.as_slice())
 }
 
-/// The four digits of a number below 10,000.
-fn digits_of(fraction: u16) -> [u8; 4]
+/// The four digits of a fraction in 1/10,000, which is below 10,000. Takes no memory.
+pub fn fraction_digits(fraction: u16) -> [u8; 4]
     ensures { result ≡ four_digits fraction }
 {
     [
@@ -103,8 +103,8 @@ fn digits_of(fraction: u16) -> [u8; 4]
     ]
 }
 
-/// How many of the four digits stand up to the last that is no 0, or 1 where all are.
-fn significant_digits(fraction: u16) -> usize
+/// How many of the four digits of a fraction stand up to the last that is no 0, or 1 where all are. Takes no memory.
+pub fn significant_digits(fraction: u16) -> usize
     ensures value { result ≡ significant fraction }
     ensures at_most_four { result ≤ 4 }
 {
