@@ -1,13 +1,13 @@
 -- An order that goes on from an earlier one is put back to it.
 use Rattle.std.proofs.Common.{◌≡◌, ℕ, ◌≤◌, ◌-◌, Bool, true, false, List, [], ◌∷◌, ◌++◌, length, map, take, drop, reverse, refl, sym, ap, ◌∙◌, arith, true≢false, ◌⊎◌, inl, inr}
-use Rattle.std.specs.Prelude.{◌==◌, Option, Some, None, option_map, unwrap_or, if◌then◌else◌, bytes_eq}
+use Rattle.std.specs.Prelude.{◌==◌, ◌||◌, Option, Some, None, is_some, option_map, unwrap_or, if◌then◌else◌, bytes_eq}
 use Rattle.std.proofs.Math.Seq.{take-length, take-append_seam}
 use Rattle.std.proofs.lemmas.List.{length-reverse, reverse-append, reverse-reverse, take-map}
 use Rattle.order_machine.specs.History.{Entry, token_of}
 use Rattle.order_machine.specs.OrderRecord.{OrderRecord, at, filled, gone, live_token, over_if, put_in_book, reduced, renamed, still_after, unasked, with_trade}
 use Rattle.order_machine.specs.OrderRecord as record_of
 use Rattle.orders.specs.Changes.{changed_by, marks_trades, renames, replaced_as}
-use Rattle.orders.specs.PutBack.{GoesOn, can_have_had, had_before, put_back, with_earlier}
+use Rattle.orders.specs.PutBack.{GoesOn, can_have_had, had_before, needs_memory, put_back, with_earlier}
 use Rattle.orders.specs.EarlierTrades.{oldest, told_before, trades_before}
 use Rattle.orders.specs.Seen.{cancel_of, progressed, replace_of, told_seen}
 use Rattle.orders.specs.declared.change.Change.{Change}
@@ -141,3 +141,25 @@ pub with-earlier-is : (e : EarlierOrder) (o : OrderRecord) (id : List ℕ) (behi
     → record (progressed e.progress o) { id = id; tokens = e.token ∷ behind; trades = trades; replace = replace; cancel = cancel } ≡ with_earlier e o
 with-earlier-is e o id behind trades replace cancel ids tokens told replaces cancels =
     (λ j. record (progressed e.progress o) { id = ids j; tokens = e.token ∷ tokens j; trades = told j; replace = replaces j; cancel = cancels j })
+
+-- ---- what takes no memory
+
+neither : (a b : Bool) → (a || b) ≡ false → (a ≡ false) × (b ≡ false)
+neither false b e = (refl, e)
+neither true b e = never e
+
+none-there : {A : Type 0} (x : Option A) → is_some x ≡ false → x ≡ None
+none-there None e = refl
+none-there (Some a) e = never e
+
+-- of an order without pending requests as it was, which a change neither renames nor marks
+pub light-before : (change : Change) (o : OrderRecord) (earlier : EarlierOrder) → needs_memory change o ≡ false
+    → (o.replace ≡ None → o.cancel ≡ None → (now : OrderRecord) → GoesOn None (First (length o.trades)) o now → put_back earlier now ≡ o) → put_back earlier (changed_by change o) ≡ o
+light-before change o earlier light back =
+    let parts : ((marks_trades change || renames change) ≡ false) × ((is_some o.replace || is_some o.cancel) ≡ false) = neither (marks_trades change || renames change) (is_some o.replace || is_some o.cancel) light in
+    let marks : (marks_trades change ≡ false) × (renames change ≡ false) = neither (marks_trades change) (renames change) parts.0 in
+    let asked : (is_some o.replace ≡ false) × (is_some o.cancel ≡ false) = neither (is_some o.replace) (is_some o.cancel) parts.1 in
+    let left : Leaves (marks_trades change) (renames change) o (changed_by change o) = leaves change o in
+    back (none-there o.replace asked.0) (none-there o.cancel asked.1) (changed_by change o)
+    (goes-on (marks_trades change) (renames change) o (changed_by change o) None (First (length o.trades)) left (left.id marks.1)
+    (first-trades (marks_trades change) (renames change) o (changed_by change o) (First (length o.trades)) left marks.0 refl))

@@ -1,11 +1,13 @@
 -- An order that is put back to what it had before it was changed.
 use Rattle.std.specs.Prelude.{◌≡◌, ◌≤◌, ℕ, Bool, ◌&&◌, ◌||◌, ◌==◌, not, nat_le, List, ◌∷◌, length, drop, Option}
-use Rattle.std.specs.Prelude.{option_map, unwrap_or, if◌then◌else◌}
+use Rattle.std.specs.Prelude.{option_map, unwrap_or, if◌then◌else◌, is_some}
 use Rattle.order_machine.specs.order_law.Asks.{total_of}
 use Rattle.order_machine.specs.order_law.Life.{is_waiting}
 use Rattle.order_machine.specs.OrderRecord.{OrderRecord}
 use Rattle.orders.specs.declared.earlier_order.EarlierOrder.{EarlierOrder}
 use Rattle.orders.specs.declared.earlier_trades.EarlierTrades.{EarlierTrades}
+use Rattle.orders.specs.Changes.{marks_trades, renames}
+use Rattle.orders.specs.declared.change.Change.{Change}
 use Rattle.orders.specs.EarlierTrades.{oldest, told_before}
 use Rattle.orders.specs.Seen.{cancel_of, progressed, replace_of}
 
@@ -31,6 +33,10 @@ with_earlier e o = record (progressed e.progress o) {
 -- an order that can't have had this stays
 abbrev pub put_back : EarlierOrder → OrderRecord → OrderRecord
 put_back e o = if can_have_had e o then with_earlier e o else o
+
+-- What it has before a change takes memory: a request is pending, or the change breaks a trade or gives another id.
+abbrev pub needs_memory : Change → OrderRecord → Bool
+needs_memory change o = (marks_trades change || renames change) || (is_some o.replace || is_some o.cancel)
 
 -- One that goes on from an earlier order: it has had its tokens, its ClOrdID was this or is the same, and its trades
 -- were these.

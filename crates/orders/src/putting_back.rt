@@ -1,19 +1,22 @@
 //! How an order is put back to what it had before it was changed.
 
-ghost use Rattle.std.specs.Prelude.{◌≡◌, Option, IfOk, length, unwrap_or};
+ghost use Rattle.std.specs.Prelude.{◌≡◌, ℕ, Option, None, IfOk, false, is_some, length, option_map, unwrap_or};
 ghost use Rattle.order_machine.specs.order_law.declared.stage.Stage.TheVariants.{Waiting};
 ghost use Rattle.order_machine.specs.History.{Entry};
 ghost use Rattle.order_machine.specs.OrderRecord.{Cancelling as CancellingRecord, OrderRecord, at};
 ghost use Rattle.orders.specs.Changes.{changed_by};
-ghost use Rattle.orders.specs.PutBack.{GoesOn, can_have_had, put_back};
+ghost use Rattle.orders.specs.PutBack.{GoesOn, can_have_had, needs_memory, put_back};
+ghost use Rattle.orders.specs.Seen.{cancel_seen, replace_seen};
 ghost use Rattle.orders.specs.EarlierTrades.{most_trades};
 ghost use Rattle.orders.specs.declared.earlier_trades.EarlierTrades.TheVariants.{First};
 
+use crate::boxed::Boxed;
 use crate::change::{Change, marks_trades, renames};
 use crate::copying::{copied_cancel, copied_replace};
 use crate::earlier_order::EarlierOrder;
 use crate::earlier_trades::{EarlierTrades, put_trades_back};
 use crate::order::Order;
+use crate::requests::{Cancelling, Replacing};
 use fix_types::ClOrdId;
 use order_machine::Stage;
 use std::alloc::{AllocError, Global};
@@ -33,6 +36,23 @@ impl Order {
         } else {
             self.before_with(alloc, None, self.trades_so_far())
         }
+    }
+
+    /// Whether what it has before a change takes memory: a request is pending, or the change breaks a trade or gives
+    /// another ClOrdID.
+    pub fn needs_memory(&self, change: Change) -> bool
+        ensures { result ≡ needs_memory change self.now }
+    {
+        (marks_trades(change) || renames(change))
+            || (is_replace_pending(&self.replace) || is_cancel_pending(&self.cancel))
+    }
+
+    /// What it has before a change, where that takes no memory.
+    pub fn before_lightly(&self) -> EarlierOrder
+        ensures { (change : Change) → needs_memory change self.now ≡ false
+            → put_back result (changed_by change self.now) ≡ self.now }
+    {
+        self.before_alone()
     }
 
     /// What it has before a request is pending on it. It takes the memory of the requests that are pending.
@@ -81,6 +101,23 @@ impl Order {
         })
     }
 
+    /// What it has, with its ClOrdID, as many trades as it has, and no pending request.
+    fn before_alone(&self) -> EarlierOrder
+        ensures { self.now.replace ≡ None → self.now.cancel ≡ None → (now : OrderRecord)
+            → GoesOn None (First (length self.now.trades)) self.now now → put_back result now ≡ self.now }
+    {
+        let token = self.token;
+        EarlierOrder {
+            token,
+            earlier_count: self.earlier.len(),
+            cl_ord_id: None,
+            progress: self.progress,
+            trades: self.trades_so_far(),
+            replace: None,
+            cancel: None,
+        }
+    }
+
     /// As many trades as it has.
     fn trades_so_far(&self) -> EarlierTrades
         ensures trades { result ≡ First (length self.now.trades) }
@@ -96,6 +133,26 @@ impl Order {
         earlier.earlier_count <= self.earlier.len()
             && (earlier.progress.stage != Stage::Waiting
                 || earlier.progress.total == self.first_total)
+    }
+}
+
+/// Whether a replace is pending.
+fn is_replace_pending(replace: &Option<Boxed<Replacing>>) -> bool
+    ensures { (client order_id : ℕ) → result ≡ is_some (option_map (replace_seen client order_id) replace.now) }
+{
+    match replace {
+        None => false,
+        Some(_) => true,
+    }
+}
+
+/// Whether a cancel is pending.
+fn is_cancel_pending(cancel: &Option<Boxed<Cancelling>>) -> bool
+    ensures { (client order_id : ℕ) → result ≡ is_some (option_map (cancel_seen client order_id) cancel.now) }
+{
+    match cancel {
+        None => false,
+        Some(_) => true,
     }
 }
 

@@ -1,11 +1,11 @@
 //! The list.
 
 ghost use Rattle.std.specs.Prelude.{◌≡◌, ◌≤◌, ◌<◌, ◌^◌, ◌++◌, ◌∷◌, [], length, slice_get, slice_set};
-ghost use Rattle.std.specs.Prelude.{Some, IfOk, OnErr, OnOk, true, vec_len, vec_capacity};
+ghost use Rattle.std.specs.Prelude.{Some, IfOk, OnErr, OnOk, false, true, vec_len, vec_capacity};
 ghost use Rattle.orders.specs.order_machine.OrderRecord.{OrderRecord, at};
 ghost use Rattle.orders.specs.Changes.{Fits, changed_by};
 ghost use Rattle.orders.specs.Seen.{cancel_of, replace_of};
-ghost use Rattle.orders.specs.PutBack.{put_back};
+ghost use Rattle.orders.specs.PutBack.{needs_memory, put_back};
 ghost use Rattle.hint_index.specs.undo_list.Undoing.{IsWithin};
 ghost use Rattle.undo_orders.specs.PuttingBack.{changed_at};
 
@@ -118,11 +118,11 @@ impl UndoOrders {
         ensures settled { self.new.settled ≡ self.old.settled }
         ensures err { OnErr result (self.new.now ≡ self.old.now) }
     {
-        let earlier = self.orders[place].before(alloc, change)?;
-        self.changed.reserve(1)?;
-        self.orders[place].apply(change)?;
-        self.changed.push_reserved(Was { place, earlier });
-        Ok(())
+        if self.item_at(place).needs_memory(change) {
+            self.apply_with_memory(alloc, place, change)
+        } else {
+            self.apply_lightly(place, change)
+        }
     }
 
     /// A replace of the order at a place is pending, which has had fewer than 65,536 tokens. `AllocError` leaves the
@@ -165,6 +165,45 @@ impl UndoOrders {
         self.changed.reserve(1)?;
         let boxed = Boxed::new(alloc, cancelling)?;
         self.orders[place].accept_cancel(boxed);
+        self.changed.push_reserved(Was { place, earlier });
+        Ok(())
+    }
+
+    /// As `apply`, where what the order has before takes no memory: it goes into the list of what was changed alone.
+    fn apply_lightly(&mut self, place: usize, change: Change) -> Result<(), AllocError>
+        requires inside { place < length self.old.now }
+        requires fits { (was : OrderRecord) → slice_get self.old.now place ≡ Some was → Fits change was }
+        requires light { (was : OrderRecord) → slice_get self.old.now place ≡ Some was
+            → needs_memory change was ≡ false }
+        ensures now { IfOk result (λ nothing. (was : OrderRecord) → slice_get self.old.now place ≡ Some was
+            → self.new.now ≡ slice_set self.old.now place (changed_by change was)) }
+        ensures settled { self.new.settled ≡ self.old.settled }
+        ensures err { OnErr result (self.new.now ≡ self.old.now) }
+    {
+        self.changed.reserve(1)?;
+        let earlier = self.orders[place].before_lightly();
+        self.orders[place].apply(change)?;
+        self.changed.push_reserved(Was { place, earlier });
+        Ok(())
+    }
+
+    /// As `apply`, where what the order has before takes memory.
+    fn apply_with_memory(
+        &mut self,
+        alloc: Global,
+        place: usize,
+        change: Change,
+    ) -> Result<(), AllocError>
+        requires inside { place < length self.old.now }
+        requires fits { (was : OrderRecord) → slice_get self.old.now place ≡ Some was → Fits change was }
+        ensures now { IfOk result (λ nothing. (was : OrderRecord) → slice_get self.old.now place ≡ Some was
+            → self.new.now ≡ slice_set self.old.now place (changed_by change was)) }
+        ensures settled { self.new.settled ≡ self.old.settled }
+        ensures err { OnErr result (self.new.now ≡ self.old.now) }
+    {
+        let earlier = self.orders[place].before(alloc, change)?;
+        self.changed.reserve(1)?;
+        self.orders[place].apply(change)?;
         self.changed.push_reserved(Was { place, earlier });
         Ok(())
     }

@@ -5,7 +5,7 @@ use Rattle.orders.specs.PutBack.{put_back}
 use Rattle.hint_index.specs.undo_list.Undoing.{Undoable}
 use Rattle.undo_orders.specs.declared.list.Was.{Was}
 use Rattle.undo_orders.proofs.Putting.{kept}
-use Rattle.undo_orders.proofs.list.UndoOrders.apply.Goals as goal
+use Rattle.undo_orders.proofs.list.UndoOrders.apply_with_memory.Goals as goal
 
 pub returns-clause-settled : goal.returns-clause-settled
 returns-clause-settled c =
