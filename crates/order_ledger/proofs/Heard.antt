@@ -3,7 +3,7 @@ use Rattle.std.proofs.Common.{◌≡◌, ℕ, ◌+◌, Bool, List, [], ◌∷◌
 use Rattle.std.proofs.Common.{Result, decimal}
 use Rattle.std.specs.Prelude.{if◌then◌else◌}
 use Rattle.fix_types.specs.declared.application.AppBody.{AppBody}
-use Rattle.std.specs.List.{count_by, find}
+use Rattle.std.specs.List.{count_by}
 use Rattle.fix_types.specs.Application.{body_fields}
 use Rattle.to_market.specs.ouch_codec.declared.outbound.Outbound.{Outbound}
 use Rattle.to_market.specs.ouch_codec.declared.refusal.DecodeRefusal.{DecodeRefusal}
@@ -16,10 +16,9 @@ use Rattle.order_machine.specs.Table.{GivenToken, TableState, by_number, has_num
 use Rattle.order_machine.specs.Machine.{GivenByEvent, market_step, silent}
 use Rattle.order_machine.proofs.Executed.{count-more}
 use Rattle.order_machine.proofs.Lists.{found-passes}
-use Rattle.order_machine.proofs.Placed.{number-put_own}
 use Rattle.order_machine.proofs.Texts.{eq-is}
 use Rattle.new_orders.specs.client_requests.orders.Changes.{changed_by}
-use Rattle.new_orders.specs.order_table.Held.{Held, with_number}
+use Rattle.new_orders.specs.order_table.Held.{Held}
 use Rattle.new_orders.proofs.order_table.Counted.{change-new}
 use Rattle.market_messages.specs.declared.heard.Heard.{Heard}
 use Rattle.market_messages.specs.Turns.{OrderIsTold}
@@ -58,27 +57,20 @@ module _ (old : TableState) (port : ℕ) (m : Result Outbound DecodeRefusal) (or
 
   -- and it is the one that is changed
   pub told-changes : (closed : Bool)
-      → ((o : OrderRecord) → by_number old (decimal order_id) ≡ Some o → held ≡ record was { orders = put (changed_by h.change o) was.orders })
-      → ((o : OrderRecord) → with_number held order_id ≡ Some o → closed ≡ is_closed o.stage)
+      → ((o : OrderRecord) → by_number old (decimal order_id) ≡ Some o → closed ≡ is_closed (changed_by h.change o).stage)
       → ChangesOrder old port m (record { order_id = order_id; is_closed = closed })
-  told-changes closed changed closes =
+  told-changes closed closes =
       let now = changed_by h.change told.order in
       let same : now.new ≡ told.order.new = change-new h.change told.order in
       let of_order : told.order.new.order ≡ decimal order_id = eq-is told.order.new.order (decimal order_id) (found-passes (has_number (decimal order_id)) old.orders told.order told.found) in
       let number : now.new.order ≡ decimal order_id = ap (λ (e : Entry). e.order) same ∙ of_order in
-      let was : find (has_number now.new.order) old.orders ≡ Some told.order = ap (λ (k : List ℕ). find (has_number k) old.orders) number ∙ told.found in
-      let here : with_number held order_id ≡ Some now =
-      ap (λ (x : Held). with_number x order_id) (changed told.order told.found)
-      ∙ ap (λ (os : List OrderRecord). find (has_number (decimal order_id)) (put now os)) same_orders
-      ∙ ap (λ (k : List ℕ). find (has_number k) (put now old.orders)) (sym number)
-      ∙ number-put_own now old.orders told.order was in
       record {
         order = told.order;
         now = now;
         found = told.of_token;
         same = same;
         of_order = number;
-        closed = sym (closes now here);
+        closed = sym (closes told.order told.found);
         orders = ap (λ (g : GivenByEvent). g.state.orders) told.gives;
       }
 

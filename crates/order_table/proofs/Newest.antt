@@ -89,7 +89,7 @@ put-newest order xs place p newest same =
 
 -- ---- what is written
 
-same_some : {A : Type 0} (a b : A) → ◌≡◌ {A = Option A} (Some a) (Some b) → a ≡ b
+pub same_some : {A : Type 0} (a b : A) → ◌≡◌ {A = Option A} (Some a) (Some b) → a ≡ b
 same_some a b e = cc
 
 -- the newest order with a number, made another that keeps its message

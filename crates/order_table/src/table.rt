@@ -196,37 +196,36 @@ impl<S: BuildHasher + Drop> Table<S> {
         self.tokens.replace_count(order_id)
     }
 
-    /// The order with an OrderID, as a message of the market changes it, which fits it. Where no order has it, nothing
-    /// changes. `AllocError` leaves the table as it was.
-    pub fn apply(&mut self, alloc: Global, order_id: u64, change: Change) -> Result<(), AllocError>
+    /// The order with an OrderID, as a message of the market changes it, which fits it: whether it is closed then.
+    /// Where no order has it, nothing changes, and it is `false`. `AllocError` leaves the table as it was.
+    pub fn apply(
+        &mut self,
+        alloc: Global,
+        order_id: u64,
+        change: Change,
+    ) -> Result<bool, AllocError>
         requires { (o : record_of.OrderRecord) → with_number self.old order_id ≡ Some o → Fits change o }
-        ensures changed { IfOk result (λ nothing. (o : record_of.OrderRecord) → with_number self.old order_id ≡ Some o
+        ensures changed { IfOk result (λ closed. (o : record_of.OrderRecord) → with_number self.old order_id ≡ Some o
             → self.new ≡ changed (changed_by change o) self.old) }
+        ensures closed { IfOk result (λ closed. (o : record_of.OrderRecord) → with_number self.old order_id ≡ Some o
+            → closed ≡ is_closed (changed_by change o).stage) }
         ensures unknown { with_number self.old order_id ≡ None → self.new ≡ self.old }
+        ensures none { IfOk result (λ closed. with_number self.old order_id ≡ None → closed ≡ false) }
         ensures settled { self.new.settled ≡ self.old.settled }
         ensures err { OnErr result (self.new ≡ self.old) }
     {
-        if let Some(place) = self.orders.place_of(order_id) {
-            let was = self.orders.item_at(place);
-            let client = client_of(was);
-            let was_open = is_open(was);
-            self.open_counts.reserve()?;
-            self.orders.apply(alloc, place, change)?;
-            let still_open = is_open(self.orders.item_at(place));
-            self.open_counts.count_off(client, was_open && !still_open);
-        }
-        Ok(())
-    }
-
-    /// Whether the order with an OrderID is closed; `false` where no order has it.
-    pub fn is_closed(&self, order_id: u64) -> bool
-        ensures known { (o : record_of.OrderRecord) → with_number self.now order_id ≡ Some o
-            → result ≡ is_closed o.stage }
-        ensures unknown { with_number self.now order_id ≡ None → result ≡ false }
-    {
-        match self.by_number(order_id) {
-            None => false,
-            Some(order) => order.progress.stage == Stage::Closed,
+        match self.orders.place_of(order_id) {
+            None => Ok(false),
+            Some(place) => {
+                let was = self.orders.item_at(place);
+                let client = client_of(was);
+                let was_open = is_open(was);
+                self.open_counts.reserve()?;
+                self.orders.apply(alloc, place, change)?;
+                let closed = is_closed(self.orders.item_at(place));
+                self.open_counts.count_off(client, was_open && closed);
+                Ok(closed)
+            }
         }
     }
 
@@ -298,6 +297,13 @@ impl<S: BuildHasher + Drop> Table<S> {
         self.tokens.undo();
         self.open_counts.undo();
     }
+}
+
+/// Whether an order is closed.
+fn is_closed(order: &Order) -> bool
+    ensures { result ≡ is_closed order.now.stage }
+{
+    order.progress.stage == Stage::Closed
 }
 
 /// Whether an order isn't closed.

@@ -53,9 +53,8 @@ impl<S: BuildHasher + Drop> OrderLedger<S> {
             } => {
                 let reports = report_count(&heard.bodies);
                 let client = told_client(client, &heard.bodies);
-                self.table.apply(alloc, order_id, heard.change)?;
+                let is_closed = self.table.apply(alloc, order_id, heard.change)?;
                 self.exec_ids += reports as u64;
-                let is_closed = self.table.is_closed(order_id);
                 Ok(MarketTurn {
                     client,
                     bodies: heard.bodies,
