@@ -8,15 +8,17 @@ use Rattle.order_law.specs.ouch_codec.declared.inbound.Inbound.{Inbound}
 use Rattle.order_law.specs.History.{Asked, Entry}
 use Rattle.order_machine.specs.fix_fields.Field.{Message, text}
 use Rattle.order_law.specs.Verdicts.{Accepted}
-use Rattle.order_machine.specs.Machine.{client_step, tells, verdict_in, with_used}
+use Rattle.order_machine.specs.Machine.{client_step, tells, with_used}
 use Rattle.order_machine.specs.OrderRecord.{OrderRecord}
 use Rattle.order_machine.specs.Table.{GivenToken, TableState, UsedId, used_by}
 use Rattle.order_table.specs.Held.{Held}
 use Rattle.to_market.specs.PortsSeen.{port_seen}
 use Rattle.client_requests.specs.Turns.{AreOf, SaysAll, Stands}
 use Rattle.client_requests.specs.declared.sender.Sender.{Sender}
-use Rattle.new_orders.specs.declared.turn.NewOrderTurn.{NewOrderTurn}
-use Rattle.new_orders.specs.declared.turn.NewOrderTurn.TheVariants as turns
+use Rattle.to_market.specs.Refusals.{refused_by}
+use Rattle.to_market.specs.declared.refusal.Refusal.{Refusal}
+use Rattle.new_orders.specs.declared.turn.AcceptedOrder.{AcceptedOrder}
+use Rattle.new_orders.specs.Verdict.{verdict_of}
 
 -- as what it is accepted: under this OrderID and the next token
 abbrev pub entry_after : ℕ → Sender → Held → NewOrder → Entry
@@ -53,29 +55,26 @@ pub record IsEntering (s : TableState) (sender : Sender) (m : Message) (order_id
   pub few : length asks ≤ 2
   pub fresh : length o.tokens + length (option_to_list o.replace) ≤ 1
 
-abbrev pub IsNewOrderTurn : TableState → Sender → Message → NewOrderTurn → Type 0
-IsNewOrderTurn s sender m (turns.Refused body) =
-    client_step s sender.client m (port_seen sender.port)
-    ≡ tells (numbered_on sender.client m s) sender.client (body_fields body ∷ []) []
-IsNewOrderTurn s sender m
-    (turns.Accepted order_id o given bodies asks) = IsEntering s sender m order_id o given bodies.items asks.items
-
 -- a state with this table, after so many OrderIDs and reports
 pub record StandsAfter (s : TableState) (order_ids exec_ids : ℕ) (sender : Sender) (held : Held) (id : List ℕ)
     (is_used : Bool) : Type 0 where
   pub numbered : s.order_ids ≡ order_ids
   pub stands : Stands s exec_ids sender held id is_used
 
--- of every state that stands so
-abbrev pub StepsNew : ℕ → ℕ → Sender → Held → Bool → NewOrder → NewOrderTurn → Type 0
-StepsNew order_ids exec_ids sender held is_used d turn =
-    (s : TableState) → StandsAfter s order_ids exec_ids sender held (text 11 (new_order_fields d)) is_used
-    → IsNewOrderTurn s sender (new_order_fields d) turn
+-- of every state that stands so: refused by this row
+abbrev pub StepsRefused : ℕ → ℕ → NewOrder → Refusal → AppBody → Type 0
+StepsRefused order_ids exec_ids d row body =
+    (s : TableState) (sender : Sender) (held : Held) (is_used : Bool) → StandsAfter s order_ids exec_ids sender held
+    (text 11 (new_order_fields d)) is_used
+    → verdict_of sender held is_used d ≡ refused_by row
+    → client_step s sender.client (new_order_fields d) (port_seen sender.port)
+    ≡ tells (numbered_on sender.client (new_order_fields d) s) sender.client (body_fields body ∷ []) []
 
--- and in which it is accepted
-abbrev pub StepsAccepted : ℕ → ℕ → Sender → Held → NewOrder → NewOrderTurn → Type 0
-StepsAccepted order_ids exec_ids sender held d turn =
+-- and accepted
+abbrev pub StepsAccepted : ℕ → ℕ → Sender → Held → NewOrder → AcceptedOrder → Type 0
+StepsAccepted order_ids exec_ids sender held d accepted =
     (s : TableState) (is_used : Bool) → StandsAfter s order_ids exec_ids sender held
     (text 11 (new_order_fields d)) is_used
-    → verdict_in s sender.client (port_seen sender.port) (new_order_fields d) ≡ Accepted
-    → IsNewOrderTurn s sender (new_order_fields d) turn
+    → verdict_of sender held is_used d ≡ Accepted
+    → IsEntering s sender (new_order_fields d) accepted.order_id accepted.order accepted.given accepted.bodies.items
+    accepted.asks.items

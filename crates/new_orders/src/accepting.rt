@@ -14,7 +14,7 @@ ghost use Rattle.to_market.specs.NewAsks.{enter_bytes};
 ghost use Rattle.new_orders.specs.Turns.{StepsAccepted, entry_after};
 ghost use Rattle.new_orders.specs.Verdict.{AsksNext};
 
-use crate::turn::NewOrderTurn;
+use crate::turn::AcceptedOrder;
 use client_requests::{AppBody, NewOrder, Order, Progress, Sender, shown_now};
 use order_law::{EnterOrder, Inbound};
 use order_table::{GivenToken, Table};
@@ -22,7 +22,10 @@ use std::alloc::{AllocError, Global};
 use std::hash::BuildHasher;
 use to_client::{Occasion, push_report, report_of};
 
-/// What an accepted new order comes to, where this message asks it.
+/// What a new order comes to whose verdict is this message, where so many OrderIDs and ExecIDs were given, of all
+/// clients: it takes the next OrderID and the next token, waits for the market, and one Enter Order asks it.
+///
+/// It changes nothing. The one error is that memory ran out.
 pub fn accept<S: BuildHasher + Drop>(
     alloc: Global,
     order_ids: u64,
@@ -31,7 +34,7 @@ pub fn accept<S: BuildHasher + Drop>(
     sender: &Sender,
     order: &NewOrder,
     enter: EnterOrder,
-) -> Result<NewOrderTurn, AllocError>
+) -> Result<AcceptedOrder, AllocError>
     requires order_ids { order_ids < 2 ^ 60 }
     requires exec_ids { exec_ids < 2 ^ 60 }
     requires tokens { length table.now.tokens < 2 ^ 60 }
@@ -48,7 +51,7 @@ pub fn accept<S: BuildHasher + Drop>(
         is_replacement: false,
     };
     let asks = asks_of(alloc, enter)?;
-    Ok(NewOrderTurn::Accepted {
+    Ok(AcceptedOrder {
         order_id,
         order: waiting,
         given,

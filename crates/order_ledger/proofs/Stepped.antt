@@ -1,6 +1,7 @@
 -- What comes of a client's message, put into the table, is what the table's step gives.
 use Rattle.std.proofs.Common.{◌≡◌, ℕ, ◌+◌, ◌≤◌, List, [], ◌∷◌, length, map, refl, sym, ap, ◌∙◌, subst, arith, Option}
 use Rattle.std.proofs.Common.{Some, None, decimal}
+use Rattle.std.specs.Prelude.{Result, Ok, Err, IfOk}
 use Rattle.fix_types.specs.declared.application.AppBody.{AppBody}
 use Rattle.fix_types.specs.Application.{body_fields}
 use Rattle.to_market.specs.ouch_codec.Inbound.{inbound_bytes}
@@ -84,6 +85,14 @@ pub refused_new-meets : (old : TableState) (client : ℕ) (m : Message) (port : 
     → client_step old client m port ≡ tells (numbered_on client m old) client (body_fields body ∷ []) [] → turn.bodies.items ≡ body ∷ [] → turn.asks.items ≡ [] → new ≡ numbered_on client m old
     → MeetsFields old client m port turn new
 refused_new-meets old client m port turn new body is told nothing state = ended-meets old client m port turn new (numbered_on client m old) body is told nothing state
+
+-- where there is memory for it
+pub refused_new-ok : {E : Type 0} (old : TableState) (client : ℕ) (m : Message) (port : Port) (body : AppBody) (new : TableState) (r : Result ClientTurn E)
+    → client_step old client m port ≡ tells (numbered_on client m old) client (body_fields body ∷ []) [] → IfOk r (λ turn. turn.bodies.items ≡ body ∷ []) → IfOk r (λ turn. turn.asks.items ≡ [])
+    → IfOk r (λ turn. new ≡ numbered_on client m old)
+    → IfOk r (λ turn. MeetsFields old client m port turn new)
+refused_new-ok old client m port body new (Ok turn) is told nothing state = refused_new-meets old client m port turn new body is told nothing state
+refused_new-ok old client m port body new (Err e) is told nothing state = tt
 
 -- a table with the id used, and one report more
 abbrev with_table : TableState → ℕ → Message → Held → TableState

@@ -9,10 +9,10 @@ use super::{OrderLedger, terms_at};
 use crate::turns::ClientTurn;
 use crate::used_ids::UsedId;
 use fix_types::{AppBody, NewOrder};
-use new_orders::{GivenToken, NewOrderTurn, Order, Sender, on_new_order};
+use new_orders::{AcceptedOrder, GivenToken, Order, Sender, accept, refuse, verdict};
 use std::alloc::{AllocError, Global};
 use std::hash::BuildHasher;
-use to_market::{ClOrdId, Inbound, PortState};
+use to_market::{ClOrdId, PortState};
 
 impl<S: BuildHasher + Drop> OrderLedger<S> {
     ghost use Rattle.order_ledger.specs.Meets.{MeetsFields};
@@ -45,25 +45,16 @@ impl<S: BuildHasher + Drop> OrderLedger<S> {
         let id = &order.cl_ord_id;
         let is_duplicate = self.used.is_used(client, id);
         let (order_ids, exec_ids) = (self.order_ids, self.exec_ids);
-        match on_new_order(
-            alloc,
-            order_ids,
-            exec_ids,
-            &self.table,
-            &sender,
-            is_duplicate,
-            order,
-        )? {
-            NewOrderTurn::Refused(body) => self.refuse_new(alloc, client, id, body),
-            NewOrderTurn::Accepted {
-                order_id,
-                order: waiting,
-                given,
-                bodies,
-                asks,
-            } => self.accept_new(
-                alloc, &sender, order, order_id, waiting, given, bodies, asks,
-            ),
+        match verdict(&self.table, &sender, is_duplicate, order) {
+            Err(row) => {
+                let body = refuse(alloc, order_ids, exec_ids, order, row)?;
+                self.refuse_new(alloc, client, id, body)
+            }
+            Ok(enter) => {
+                let table = &self.table;
+                let accepted = accept(alloc, order_ids, exec_ids, table, &sender, order, enter)?;
+                self.accept_new(alloc, &sender, order, accepted)
+            }
         }
     }
 
@@ -107,15 +98,11 @@ impl<S: BuildHasher + Drop> OrderLedger<S> {
         alloc: Global,
         sender: &Sender,
         message: &NewOrder,
-        order_id: u64,
-        order: Order,
-        given: GivenToken,
-        bodies: Vec<AppBody>,
-        asks: Vec<Inbound>,
+        accepted: AcceptedOrder,
     ) -> Result<ClientTurn, AllocError>
         requires room { HasRoom self.old.now }
-        requires is { IsEntering self.old.now sender.now
-            (new_order_fields message.now) order_id order given bodies.items asks.items }
+        requires is { IsEntering self.old.now sender.now (new_order_fields message.now) accepted.order_id accepted.order
+            accepted.given accepted.bodies.items accepted.asks.items }
         ensures meets { IfOk result (λ turn. MeetsFields self.old.now sender.now.client (new_order_fields message.now)
             (port_seen sender.now.port) turn self.new.now) }
         ensures few { IfOk result (λ turn. length turn.asks.items ≤ 2) }
@@ -124,6 +111,13 @@ impl<S: BuildHasher + Drop> OrderLedger<S> {
         ensures err { OnErr result (self.new ≡ self.old) }
     {
         let cl_ord_id = ClOrdId::copied(alloc, message.cl_ord_id.as_slice())?;
+        let AcceptedOrder {
+            order_id,
+            order,
+            given,
+            bodies,
+            asks,
+        } = accepted;
         self.keep(order, given, UsedId::new(sender.client, cl_ord_id))?;
         Ok(ClientTurn {
             bodies,
