@@ -1,5 +1,5 @@
 -- A call on a client's session, in the words of the core: the calls with it leave the session, and it gives what the table has.
-use Rattle.std.proofs.Common.{◌≡◌, ℕ, List, [], ◌∷◌, refl, sym, ap, ◌∙◌, subst, map}
+use Rattle.std.proofs.Common.{◌≡◌, ℕ, ◌+◌, ◌<◌, Bool, true, cond, List, [], ◌∷◌, length, get_or, slice_set, refl, sym, ap, ◌∙◌, subst, map}
 use Rattle.gate_law.specs.fix_fields.Field.{Field}
 use Rattle.gate_law.specs.fix_stamp.Stamp.{stamp_text}
 use Rattle.gate_law.specs.session_law.declared.kind.Kind.{Kind}
@@ -13,7 +13,10 @@ use Rattle.fix_session.specs.declared.session.SessionTurn.{SessionTurn}
 use Rattle.fix_session.specs.Meets.{Tells}
 use Rattle.gate_law.specs.Settings.{Settings, client_name}
 use Rattle.gate_law.specs.Sessions.{client_answer, report_issued}
+use Rattle.gate_sessions.specs.declared.client_line.ClientLine.{ClientLine}
 use Rattle.gate_sessions.specs.Leaving.{ClientLeaves, IsClientAnswer}
+use Rattle.gate_sessions.specs.Lines.{ClientsLeave, ClientStands, called, client_now, client_settled}
+use Rattle.gate_sessions.proofs.Places.{at-place, called-set}
 
 seen-turns : (gate client : List ℕ) (calls : List Timed) → calls_seen (turns_after gate client calls) ≡ calls
 seen-turns gate client [] = refl
@@ -85,3 +88,32 @@ client-reports s c calls old at kind body fields are is =
     ap (λ (fs : List Field). fs ∷ []) (sym (told
     ∙ ap (λ (g : List ℕ). frame_fields stamp_text g now.client (issued_frame now at kind body)) named.0
     ∙ ap (λ (n : List ℕ). frame_fields stamp_text gate n (issued_frame now at kind body)) named.1))
+
+-- ---- of all lines
+
+-- what the calls left of the session at a place
+pub client-there : (s : Settings) (calls : ℕ → List Timed) (lines : List ClientLine) (place : ℕ) (old : ClientLine)
+    → old ≡ get_or lines place old → place < length lines → ClientsLeave s calls lines → ClientLeaves s (place + 1) (calls (place + 1)) old.session.session
+client-there s calls lines place old is inside all = at-place (λ i (x : ClientLine). ClientLeaves s (i + 1) (calls (i + 1)) x.session.session) lines place old is inside all
+
+-- one call more on the session at a place
+pub clients-called : (s : Settings) (calls : ℕ → List Timed) (lines : List ClientLine) (place : ℕ) (old line : ClientLine) (at : ℕ) (call : Call)
+    → old ≡ get_or lines place old → place < length lines
+    → ((gate client : List ℕ) (h : SessionHistory) → Leaves gate client h old.session.session → Leaves gate client (turn_after old.session.session at call ∷ h) line.session.session)
+    → ClientsLeave s calls lines → ClientsLeave s (called (place + 1) (at, call) calls) (slice_set lines place line)
+clients-called s calls lines place old line at call is inside leaves =
+    called-set (λ n k (x : ClientLine). ClientLeaves s n k x.session.session) calls (at, call) lines place line old is inside
+    (client-more s (place + 1) (calls (place + 1)) old.session.session at call line.session.session leaves)
+
+abbrev stood_settled : ClientLine → ClientStands
+stood_settled line = record { link = line.settled_link; session = line.session.settled }
+
+settled-touched : (line : ClientLine) → line.is_touched ≡ true → client_settled line ≡ stood_settled line
+settled-touched line touched = ap (λ (is : Bool). cond is (stood_settled line) (client_now line)) touched
+
+-- how a line was settled stays, whatever comes of its session
+pub settled-stays : (old line : ClientLine) → old.is_touched ≡ true → line.is_touched ≡ true → line.settled_link ≡ old.settled_link → line.session.settled ≡ old.session.settled
+    → client_settled line ≡ client_settled old
+settled-stays old line old_touched touched same_link same_session =
+    let same : stood_settled line ≡ stood_settled old = (λ j. record { link = same_link j; session = same_session j }) in
+    settled-touched line touched ∙ same ∙ sym (settled-touched old old_touched)

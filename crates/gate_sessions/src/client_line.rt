@@ -52,14 +52,6 @@ impl ClientLine {
         }
     }
 
-    /// It can be put back to how it is now.
-    pub fn settle(&mut self)
-        ensures now { client_now self.new ≡ client_now self.old }
-        ensures settled { client_settled self.new ≡ client_now self.old }
-    {
-        self.is_touched = false;
-    }
-
     /// It is as it was when it was settled last.
     pub fn undo(&mut self)
         ensures now { client_now self.new ≡ client_settled self.old }
@@ -72,7 +64,7 @@ impl ClientLine {
     }
 
     /// Something comes: what it was before is kept, unless something came since it was settled.
-    fn touch(&mut self)
+    pub(crate) fn touch(&mut self)
         ensures session { self.new.session.session ≡ self.old.session.session }
         ensures link { self.new.link ≡ self.old.link }
         ensures settled { client_settled self.new ≡ client_settled self.old }
@@ -83,102 +75,6 @@ impl ClientLine {
             self.session.settle();
             self.is_touched = true;
         }
-    }
-
-    /// A link is current from now on.
-    pub fn up(&mut self, alloc: Global, link: u64, at: u64)
-        ensures leaves { (s : Settings) (c : ℕ) (calls : List Timed) → ClientLeaves s c calls self.old.session.session
-            → ClientLeaves s c ((at, OnLink true) ∷ calls) self.new.session.session }
-        ensures link { self.new.link ≡ Some link }
-        ensures settled { client_settled self.new ≡ client_settled self.old }
-    {
-        self.touch();
-        self.link = Some(link);
-        let _turn = self.session.on_link(alloc, true, at);
-    }
-
-    /// The current link is gone.
-    pub fn gone(&mut self, alloc: Global, at: u64)
-        ensures leaves { (s : Settings) (c : ℕ) (calls : List Timed) → ClientLeaves s c calls self.old.session.session
-            → ClientLeaves s c ((at, OnLink false) ∷ calls) self.new.session.session }
-        ensures link { self.new.link ≡ None }
-        ensures settled { client_settled self.new ≡ client_settled self.old }
-    {
-        self.touch();
-        self.link = None;
-        let _turn = self.session.on_link(alloc, false, at);
-    }
-
-    /// The core closed the current link.
-    pub fn close(&mut self)
-        ensures session { self.new.session.session ≡ self.old.session.session }
-        ensures link { self.new.link ≡ None }
-        ensures settled { client_settled self.new ≡ client_settled self.old }
-    {
-        self.touch();
-        self.link = None;
-    }
-
-    /// A frame on the current link.
-    pub fn frame(
-        &mut self,
-        alloc: Global,
-        frame: &Fields,
-        at: u64,
-    ) -> Result<SessionTurn, AllocError>
-        ensures leaves { OnOk result ((s : Settings) (c : ℕ) (calls : List Timed)
-            → ClientLeaves s c calls self.old.session.session
-            → ClientLeaves s c ((at, OnMessage frame.now) ∷ calls) self.new.session.session) }
-        ensures answers { IfOk result (λ turn. (s : Settings) (c : ℕ) (calls : List Timed)
-            → ClientLeaves s c calls self.old.session.session
-            → IsClientAnswer s c (client_answer s c calls (at, OnMessage frame.now)) turn) }
-        ensures link { self.new.link ≡ self.old.link }
-        ensures settled { client_settled self.new ≡ client_settled self.old }
-        ensures err { OnErr result (client_now self.new ≡ client_now self.old) }
-    {
-        self.touch();
-        self.session.on_message(alloc, frame, at)
-    }
-
-    /// Time passes.
-    pub fn tick(&mut self, alloc: Global, at: u64) -> Result<SessionTurn, AllocError>
-        ensures leaves { OnOk result ((s : Settings) (c : ℕ) (calls : List Timed)
-            → ClientLeaves s c calls self.old.session.session
-            → ClientLeaves s c ((at, OnTick) ∷ calls) self.new.session.session) }
-        ensures answers { IfOk result (λ turn. (s : Settings) (c : ℕ) (calls : List Timed)
-            → ClientLeaves s c calls self.old.session.session
-            → IsClientAnswer s c (client_answer s c calls (at, OnTick)) turn) }
-        ensures link { self.new.link ≡ self.old.link }
-        ensures settled { client_settled self.new ≡ client_settled self.old }
-        ensures err { OnErr result (client_now self.new ≡ client_now self.old) }
-    {
-        self.touch();
-        self.session.on_tick(alloc, at)
-    }
-
-    /// A body is issued, written or not.
-    pub fn issue(
-        &mut self,
-        alloc: Global,
-        body: &AppBody,
-        at: u64,
-    ) -> Result<IssuedTurn, AllocError>
-        ensures leaves { OnOk result ((s : Settings) (c : ℕ) (calls : List Timed)
-            → ClientLeaves s c calls self.old.session.session
-            → ClientLeaves s c (issue_call at body.now ∷ calls) self.new.session.session) }
-        ensures answers { IfOk result (λ issued. (s : Settings) (c : ℕ) (calls : List Timed)
-            → ClientLeaves s c calls self.old.session.session
-            → told_frame issued.frame ≡ map (told_of_out s.comp (client_name s c))
-            (client_answer s c calls (issue_call at body.now)).outs) }
-        ensures report { IfOk result (λ issued. (s : Settings) (c : ℕ) (calls : List Timed)
-            → ClientLeaves s c calls self.old.session.session
-            → report_issued s c calls (issue_call at body.now) ≡ issued.report ∷ []) }
-        ensures link { self.new.link ≡ self.old.link }
-        ensures settled { client_settled self.new ≡ client_settled self.old }
-        ensures err { OnErr result (client_now self.new ≡ client_now self.old) }
-    {
-        self.touch();
-        self.session.issue(alloc, body, at)
     }
 
     /// The number that is expected of the client's next frame (MsgSeqNum, 34), from 1.

@@ -28,7 +28,10 @@ pub fn client_up(lines: &mut Vec<ClientLine>, alloc: Global, place: usize, link:
         → ClientsSettledAs was lines.new.items }
     ensures length { length lines.new.items ≡ length lines.old.items }
 {
-    lines[place].up(alloc, link, at);
+    let line = &mut lines[place];
+    line.touch();
+    line.link = Some(link);
+    let _turn = line.session.on_link(alloc, true, at);
 }
 
 /// The current link is gone.
@@ -42,7 +45,10 @@ pub fn client_gone(lines: &mut Vec<ClientLine>, alloc: Global, place: usize, at:
         → ClientsSettledAs was lines.new.items }
     ensures length { length lines.new.items ≡ length lines.old.items }
 {
-    lines[place].gone(alloc, at);
+    let line = &mut lines[place];
+    line.touch();
+    line.link = None;
+    let _turn = line.session.on_link(alloc, false, at);
 }
 
 /// The core closed the current link.
@@ -56,7 +62,9 @@ pub fn client_close(lines: &mut Vec<ClientLine>, place: usize)
         → ClientsSettledAs was lines.new.items }
     ensures length { length lines.new.items ≡ length lines.old.items }
 {
-    lines[place].close();
+    let line = &mut lines[place];
+    line.touch();
+    line.link = None;
 }
 
 /// A frame on the current link.
@@ -79,7 +87,9 @@ pub fn client_frame(
         → ClientsSettledAs was lines.new.items }
     ensures length { length lines.new.items ≡ length lines.old.items }
 {
-    lines[place].frame(alloc, frame, at)
+    let line = &mut lines[place];
+    line.touch();
+    line.session.on_message(alloc, frame, at)
 }
 
 /// Time passes.
@@ -100,7 +110,9 @@ pub fn client_tick(
         → ClientsSettledAs was lines.new.items }
     ensures length { length lines.new.items ≡ length lines.old.items }
 {
-    lines[place].tick(alloc, at)
+    let line = &mut lines[place];
+    line.touch();
+    line.session.on_tick(alloc, at)
 }
 
 /// A body is issued, written or not.
@@ -126,7 +138,9 @@ pub fn client_issue(
         → ClientsSettledAs was lines.new.items }
     ensures length { length lines.new.items ≡ length lines.old.items }
 {
-    lines[place].issue(alloc, body, at)
+    let line = &mut lines[place];
+    line.touch();
+    line.session.issue(alloc, body, at)
 }
 
 /// Each line can be put back to how it is now. Takes no memory.
@@ -135,7 +149,7 @@ pub fn clients_settle(lines: &mut [ClientLine])
     ensures settled { map client_settled lines.new ≡ map client_now lines.old }
 {
     for line in lines.iter_mut() {
-        line.settle();
+        line.is_touched = false;
     }
 }
 

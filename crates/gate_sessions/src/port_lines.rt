@@ -36,7 +36,10 @@ pub fn port_up(
         → PortsSettledAs was lines.new.items }
     ensures length { length lines.new.items ≡ length lines.old.items }
 {
-    lines[place].up(alloc, link, at)
+    let line = &mut lines[place];
+    let turn = line.session.on_up(alloc, at)?;
+    line.link = Some(link);
+    Ok(turn)
 }
 
 /// The current link is gone.
@@ -51,7 +54,9 @@ pub fn port_gone(lines: &mut Vec<PortLine>, place: usize)
         → PortsSettledAs was lines.new.items }
     ensures length { length lines.new.items ≡ length lines.old.items }
 {
-    lines[place].gone();
+    let line = &mut lines[place];
+    line.link = None;
+    line.session.on_gone();
 }
 
 /// The core closed the current link.
@@ -66,7 +71,7 @@ pub fn port_close(lines: &mut Vec<PortLine>, place: usize)
         → PortsSettledAs was lines.new.items }
     ensures length { length lines.new.items ≡ length lines.old.items }
 {
-    lines[place].close();
+    lines[place].link = None;
 }
 
 /// A packet on the current link.
@@ -83,7 +88,7 @@ pub fn port_packet(lines: &mut Vec<PortLine>, place: usize, packet: &Packet, at:
         → PortsSettledAs was lines.new.items }
     ensures length { length lines.new.items ≡ length lines.old.items }
 {
-    lines[place].packet(packet, at)
+    lines[place].session.on_packet(packet, at)
 }
 
 /// Time passes.
@@ -99,7 +104,7 @@ pub fn port_tick(lines: &mut Vec<PortLine>, alloc: Global, place: usize, at: u64
         → PortsSettledAs was lines.new.items }
     ensures length { length lines.new.items ≡ length lines.old.items }
 {
-    lines[place].tick(alloc, at)
+    lines[place].session.on_tick(alloc, at)
 }
 
 /// A message goes out while the port is up. One growth.
@@ -124,25 +129,7 @@ pub fn port_send(
     ensures length { length lines.new.items ≡ length lines.old.items }
 {
     let payload = payload_of(alloc, message)?;
-    Ok(send_payload(lines, place, payload, at))
-}
-
-/// What goes out is the payload of its packet.
-fn send_payload(lines: &mut Vec<PortLine>, place: usize, payload: Payload, at: u64) -> PortTurn
-    requires place { place < length lines.old.items }
-    requires up { IsUpAt place lines.old.items }
-    ensures leave { (s : Settings) (calls : ℕ → List PortCall) → PortsLeave s calls lines.old.items
-        → PortsLeave s (called (place + 1) (Send payload at) calls) lines.new.items }
-    ensures answers { (s : Settings) (calls : ℕ → List PortCall) → PortsLeave s calls lines.old.items
-        → IsAnswer (port_answer s (place + 1) (calls (place + 1)) (Send payload at)) result }
-    ensures links { (links : ℕ → Option ℕ) → PortLinks links lines.old.items → PortLinks links lines.new.items }
-    ensures next { (n : ℕ) → NextWithin n lines.old.items → NextWithin n lines.new.items }
-    ensures up { IsUpAt place lines.new.items }
-    ensures settled { (was : ℕ → PortStands) → PortsSettledAs was lines.old.items
-        → PortsSettledAs was lines.new.items }
-    ensures length { length lines.new.items ≡ length lines.old.items }
-{
-    lines[place].send(payload, at)
+    Ok(lines[place].session.send(payload, at))
 }
 
 /// The payload of a message's packet. One growth.
@@ -168,7 +155,7 @@ pub fn port_fail(lines: &mut Vec<PortLine>, place: usize, fault: PortFault) -> P
         → PortsSettledAs was lines.new.items }
     ensures length { length lines.new.items ≡ length lines.old.items }
 {
-    lines[place].fail(fault)
+    lines[place].session.fail(fault)
 }
 
 /// Each line can be put back to how it is now.
@@ -177,7 +164,8 @@ pub fn ports_settle(lines: &mut [PortLine])
     ensures settled { map port_settled lines.new ≡ map port_now lines.old }
 {
     for line in lines.iter_mut() {
-        line.settle();
+        line.settled_link = line.link;
+        line.session.settle();
     }
 }
 
@@ -187,6 +175,7 @@ pub fn ports_undo(lines: &mut [PortLine])
     ensures settled { map port_settled lines.new ≡ map port_settled lines.old }
 {
     for line in lines.iter_mut() {
-        line.undo();
+        line.link = line.settled_link;
+        line.session.undo();
     }
 }
