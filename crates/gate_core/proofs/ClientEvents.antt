@@ -76,9 +76,9 @@ pub client-event : {S H : Type 0} (s : Settings) (e : Event) (v : Lists) (g new 
     → comes_up s e v ≡ false
     → client_named e (batch_of c [] outs 0 [] None) ≡ c
     → (calls_were : ℕ → List Timed) (links_were : ℕ → Option ℕ) → ArePartsOf s (record v { client_link = links_were; client_calls = calls_were }) g
-    → ClientsLeave s (called_all c calls v.client_calls) new.clients.items
-    → ClientLinks (unlinked c outs (moved_link c move v.client_link)) new.clients.items
-    → length new.clients.items ≡ length g.clients.items
+    → ClientsLeave s (called_all c calls v.client_calls) new.clients.lines.items
+    → ClientLinks (unlinked c outs (moved_link c move v.client_link)) new.clients.lines.items
+    → length new.clients.lines.items ≡ length g.clients.lines.items
     → new.ports ≡ g.ports → new.client_ports ≡ g.client_ports → new.orders ≡ g.orders
     → Stepped s e (batch_of c [] outs 0 [] None) v new
 client-event s e v g new c move calls outs is lines reports quiet named calls_were links_were parts leave links count same_ports same_client_ports same_orders =

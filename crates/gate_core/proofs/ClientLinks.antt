@@ -62,9 +62,9 @@ not-equal m n other = by_test (m == n) refl
 -- ---- a client's link is gone
 
 pub client-gone : {S H : Type 0} (s : Settings) (v : Lists) (g new : Parts S H) (c link at : ℕ) → (has_client s c && is_the_number link (v.client_link c)) ≡ true → Ready s v g
-    → ClientsLeave s (called c (at, OnLink false) v.client_calls) new.clients.items
-    → ClientLinks (link_set c None v.client_link) new.clients.items
-    → length new.clients.items ≡ length g.clients.items
+    → ClientsLeave s (called c (at, OnLink false) v.client_calls) new.clients.lines.items
+    → ClientLinks (link_set c None v.client_link) new.clients.lines.items
+    → length new.clients.lines.items ≡ length g.clients.lines.items
     → new.ports ≡ g.ports → new.client_ports ≡ g.client_ports → new.orders ≡ g.orders
     → Stepped s (ClientGone c link at) empty v new
 client-gone s v g new c link at on ready leave links count same_ports same_client_ports same_orders =
@@ -73,14 +73,14 @@ client-gone s v g new c link at on ready leave links count same_ports same_clien
     (no-lines s c (link_set c None v.client_link c)
     ∙ ap (λ (outs : List Out). to_client s c (link_set c None v.client_link c) (outs ++ [])) (sym (quiet-call s c at false (v.client_calls c))))
     (append-none (report_issued s c (v.client_calls c) (at, OnLink false)) (no-report s c at false (v.client_calls c)))
-    refl refl v.client_calls v.client_link ready.parts leave (untold c (link_set c None v.client_link) new.clients.items links) count same_ports same_client_ports same_orders
+    refl refl v.client_calls v.client_link ready.parts leave (untold c (link_set c None v.client_link) new.clients.lines.items links) count same_ports same_client_ports same_orders
 
 -- ---- a client's link is up
 
 pub client-comes : {S H : Type 0} (s : Settings) (v : Lists) (g new : Parts S H) (c link at : ℕ) → has_client s c ≡ true → v.client_link c ≡ None → Ready s v g
-    → ClientsLeave s (called c (at, OnLink true) v.client_calls) new.clients.items
-    → ClientLinks (link_set c (Some link) v.client_link) new.clients.items
-    → length new.clients.items ≡ length g.clients.items
+    → ClientsLeave s (called c (at, OnLink true) v.client_calls) new.clients.lines.items
+    → ClientLinks (link_set c (Some link) v.client_link) new.clients.lines.items
+    → length new.clients.lines.items ≡ length g.clients.lines.items
     → new.ports ≡ g.ports → new.client_ports ≡ g.client_ports → new.orders ≡ g.orders
     → Stepped s (ClientUp c link at) empty v new
 client-comes s v g new c link at has none ready leave links count same_ports same_client_ports same_orders =
@@ -89,7 +89,7 @@ client-comes s v g new c link at has none ready leave links count same_ports sam
     (no-lines s c (link_set c (Some link) v.client_link c)
     ∙ ap (λ (outs : List Out). to_client s c (link_set c (Some link) v.client_link c) (outs ++ [])) (sym (quiet-call s c at true (v.client_calls c))))
     (append-none (report_issued s c (v.client_calls c) (at, OnLink true)) (no-report s c at true (v.client_calls c)))
-    refl refl v.client_calls v.client_link ready.parts leave (untold c (link_set c (Some link) v.client_link) new.clients.items links) count same_ports same_client_ports same_orders
+    refl refl v.client_calls v.client_link ready.parts leave (untold c (link_set c (Some link) v.client_link) new.clients.lines.items links) count same_ports same_client_ports same_orders
 
 -- the current link's own number again
 pub client-again : {S H : Type 0} (s : Settings) (v : Lists) (g : Parts S H) (c link at current : ℕ) → has_client s c ≡ true → v.client_link c ≡ Some current → current ≡ link → Ready s v g
@@ -116,9 +116,9 @@ client-refused s v g c link at current has is other ready =
 
 pub client-tick : {S H : Type 0} (s : Settings) (v : Lists) (g new : Parts S H) (c at : ℕ) (outs : List LinkOut) → has_client s c ≡ true → Ready s v g
     → outs ≡ to_client s c (v.client_link c) ((client_answer s c (v.client_calls c) (at, OnTick)).outs ++ [])
-    → ClientsLeave s (called c (at, OnTick) v.client_calls) new.clients.items
-    → ClientLinks (unlinked c outs v.client_link) new.clients.items
-    → length new.clients.items ≡ length g.clients.items
+    → ClientsLeave s (called c (at, OnTick) v.client_calls) new.clients.lines.items
+    → ClientLinks (unlinked c outs v.client_link) new.clients.lines.items
+    → length new.clients.lines.items ≡ length g.clients.lines.items
     → new.ports ≡ g.ports → new.client_ports ≡ g.client_ports → new.orders ≡ g.orders
     → Stepped s (ClientTick c at) (batch_of c [] outs 0 [] None) v new
 client-tick s v g new c at outs has ready lines leave links count same_ports same_client_ports same_orders =
@@ -135,9 +135,9 @@ no-frame-report s c at frame before = refl
 pub client-frame : {S H : Type 0} (s : Settings) (v : Lists) (g new : Parts S H) (c link at : ℕ) (frame : Message) (said : List SessionOut) (outs : List LinkOut)
     → AfterFrame s c link at frame None said v g
     → outs ≡ to_client s c (v.client_link c) ((client_answer s c (v.client_calls c) (at, OnMessage frame)).outs ++ [])
-    → ClientsLeave s (called c (at, OnMessage frame) v.client_calls) new.clients.items
-    → ClientLinks (unlinked c outs v.client_link) new.clients.items
-    → length new.clients.items ≡ length g.clients.items
+    → ClientsLeave s (called c (at, OnMessage frame) v.client_calls) new.clients.lines.items
+    → ClientLinks (unlinked c outs v.client_link) new.clients.lines.items
+    → length new.clients.lines.items ≡ length g.clients.lines.items
     → Stepped {S = S} {H = H} s (ClientMessage c link at frame) (batch_of c [] outs 0 [] None) v (record { clients = new.clients; ports = g.ports; client_ports = g.client_ports; orders = g.orders })
 client-frame s v g new c link at frame said outs heard lines leave links count =
     client-event s (ClientMessage c link at frame) v g _ c Stays ((at, OnMessage frame) ∷ []) outs (rw (heard.on, heard.app_is) refl) lines

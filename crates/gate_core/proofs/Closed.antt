@@ -16,8 +16,8 @@ use Rattle.gate_core.proofs.Told.{named-client, named-port}
 
 pub closed-parts : {S H : Type 0} (s : Settings) (n p : ℕ) (reports : List Message) (client_out port_out : List LinkOut) (fault : Option PortFault) (x : Lists) (mid new : Parts S H)
     → ArePartsOf s x mid
-    → ClientsLeave s x.client_calls new.clients.items → ClientLinks (unlinked n client_out x.client_link) new.clients.items → length new.clients.items ≡ length mid.clients.items
-    → PortsLeave s x.port_calls new.ports.items → PortLinks (unlinked p port_out x.port_link) new.ports.items → length new.ports.items ≡ length mid.ports.items
+    → ClientsLeave s x.client_calls new.clients.lines.items → ClientLinks (unlinked n client_out x.client_link) new.clients.lines.items → length new.clients.lines.items ≡ length mid.clients.lines.items
+    → PortsLeave s x.port_calls new.ports.lines.items → PortLinks (unlinked p port_out x.port_link) new.ports.lines.items → length new.ports.lines.items ≡ length mid.ports.lines.items
     → new.client_ports ≡ mid.client_ports → new.orders ≡ mid.orders
     → ArePartsOf s (links_closed (batch_of n reports client_out p port_out fault) x) new
 closed-parts s n p reports client_out port_out fault x mid new parts clients client_links client_count ports port_links port_count same_client_ports same_orders = record {

@@ -1,11 +1,11 @@
 -- A step that changes the lines of ports alone, and leaves the next numbers.
 use Rattle.std.proofs.Common.{◌≡◌, ◌+◌, ◌≤◌, ℕ, length, refl, sym, ◌∙◌, subst, arith}
-use Rattle.gate_sessions.specs.Lines.{NextWithin}
+use Rattle.gate_sessions.specs.Lines.{ClientsStaySettled, NextWithin, PortsStaySettled}
 use Rattle.gate_core.specs.declared.parts.Parts.{Parts}
-use Rattle.gate_core.specs.Steps.{ClientsStaySettled, Grows, PortsStaySettled}
+use Rattle.gate_core.specs.Steps.{Grows}
 
-pub ports-grow : {S H : Type 0} (old new : Parts S H) → length new.ports.items ≡ length old.ports.items → ((n : ℕ) → NextWithin n old.ports.items → NextWithin n new.ports.items)
-    → PortsStaySettled old new
+pub ports-grow : {S H : Type 0} (old new : Parts S H) → length new.ports.lines.items ≡ length old.ports.lines.items → ((n : ℕ) → NextWithin n old.ports.lines.items → NextWithin n new.ports.lines.items)
+    → PortsStaySettled old.ports new.ports
     → new.clients ≡ old.clients → new.client_ports ≡ old.client_ports → new.orders ≡ old.orders → Grows 0 0 old new
 ports-grow old new count next settled same_clients same_client_ports same_orders = record {
   clients = rw same_clients refl;
@@ -13,7 +13,7 @@ ports-grow old new count next settled same_clients same_client_ports same_orders
   client_ports = rw same_client_ports refl;
   served = rw same_orders refl;
   issued = rw same_orders (omega arith);
-  next = λ n within. (let same : n + 0 ≡ n = omega arith in subst (λ (k : ℕ). NextWithin k new.ports.items) (sym same) (next n within));
+  next = λ n within. (let same : n + 0 ≡ n = omega arith in subst (λ (k : ℕ). NextWithin k new.ports.lines.items) (sym same) (next n within));
   clients_settled = rw same_clients (λ was kept. kept);
   ports_settled = settled;
   orders_settled = rw same_orders refl;
@@ -27,16 +27,16 @@ grows-then a b c d x y z first second = record {
   client_ports = second.client_ports ∙ first.client_ports;
   served = second.served ∙ first.served;
   issued = omega (arith, first.issued, second.issued);
-  next = λ n within. (let same : (n + b) + d ≡ n + (b + d) = omega arith in subst (λ (k : ℕ). NextWithin k z.ports.items) same (second.next (n + b) (first.next n within)));
+  next = λ n within. (let same : (n + b) + d ≡ n + (b + d) = omega arith in subst (λ (k : ℕ). NextWithin k z.ports.lines.items) same (second.next (n + b) (first.next n within)));
   clients_settled = λ was kept. second.clients_settled was (first.clients_settled was kept);
   ports_settled = λ was kept. second.ports_settled was (first.ports_settled was kept);
   orders_settled = second.orders_settled ∙ first.orders_settled;
 }
 
 -- lines of both sides that keep the next numbers
-pub lines-grow : {S H : Type 0} (old new : Parts S H) → length new.clients.items ≡ length old.clients.items → length new.ports.items ≡ length old.ports.items
-    → ((n : ℕ) → NextWithin n old.ports.items → NextWithin n new.ports.items)
-    → ClientsStaySettled old new → PortsStaySettled old new
+pub lines-grow : {S H : Type 0} (old new : Parts S H) → length new.clients.lines.items ≡ length old.clients.lines.items → length new.ports.lines.items ≡ length old.ports.lines.items
+    → ((n : ℕ) → NextWithin n old.ports.lines.items → NextWithin n new.ports.lines.items)
+    → ClientsStaySettled old.clients new.clients → PortsStaySettled old.ports new.ports
     → new.client_ports ≡ old.client_ports → new.orders ≡ old.orders → Grows 0 0 old new
 lines-grow old new clients ports next clients_settled ports_settled same_client_ports same_orders = record {
   clients = clients;
@@ -44,7 +44,7 @@ lines-grow old new clients ports next clients_settled ports_settled same_client_
   client_ports = rw same_client_ports refl;
   served = rw same_orders refl;
   issued = rw same_orders (omega arith);
-  next = λ n within. (let same : n + 0 ≡ n = omega arith in subst (λ (k : ℕ). NextWithin k new.ports.items) (sym same) (next n within));
+  next = λ n within. (let same : n + 0 ≡ n = omega arith in subst (λ (k : ℕ). NextWithin k new.ports.lines.items) (sym same) (next n within));
   clients_settled = clients_settled;
   ports_settled = ports_settled;
   orders_settled = rw same_orders refl;
@@ -79,7 +79,7 @@ grows-most numbers packets old new few one grows = record {
 }
 
 -- a step that changes the lines of clients alone
-pub clients-grow : {S H : Type 0} (old new : Parts S H) → length new.clients.items ≡ length old.clients.items → ClientsStaySettled old new
+pub clients-grow : {S H : Type 0} (old new : Parts S H) → length new.clients.lines.items ≡ length old.clients.lines.items → ClientsStaySettled old.clients new.clients
     → new.ports ≡ old.ports → new.client_ports ≡ old.client_ports → new.orders ≡ old.orders → Grows 0 0 old new
 clients-grow old new count settled same_ports same_client_ports same_orders =
     lines-grow old new count (rw same_ports refl) (rw same_ports (λ n within. within)) settled (rw same_ports (λ was kept. kept)) same_client_ports same_orders

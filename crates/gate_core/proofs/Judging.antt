@@ -42,7 +42,7 @@ module _ {S H : Type 0} (s : Settings) (p n : ℕ) (payload : List ℕ) (bodies 
   has-client is = some (terms s) (has_client s) v.turns p (decoded payload) t parts.known headline.0.tells is
 
   -- where nobody has the number there are no bodies
-  none-told : (nat_le 1 n && nat_le n (length g.clients.items)) ≡ false → bodies ≡ []
+  none-told : (nat_le 1 n && nat_le n (length g.clients.lines.items)) ≡ false → bodies ≡ []
   none-told unknown = by_bodies bodies refl
     where
       by_bodies : (xs : List Message) → bodies ≡ xs → xs ≡ []
@@ -65,7 +65,7 @@ module _ {S H : Type 0} (s : Settings) (p n : ℕ) (payload : List ℕ) (bodies 
     known = (tt, parts.known);
   }
 
-  pub judged : (place : Option ℕ) → is_some place ≡ (nat_le 1 n && nat_le n (length g.clients.items)) → IfSome place (λ (q : ℕ). (n ≡ q + 1) × (q < length g.clients.items)) → PayloadIsTold s p payload place bodies v new
+  pub judged : (place : Option ℕ) → is_some place ≡ (nat_le 1 n && nat_le n (length g.clients.lines.items)) → IfSome place (λ (q : ℕ). (n ≡ q + 1) × (q < length g.clients.lines.items)) → PayloadIsTold s p payload place bodies v new
   judged None known at_place =
       let is : bodies ≡ [] = none-told (sym known) in
       record {

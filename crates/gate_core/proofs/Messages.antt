@@ -115,8 +115,8 @@ pub asked-step : {S H : Type 0} (s : Settings) (v : Lists) (mid new : Parts S H)
     → (let x = after_turn s n at (orders_turn_of s n message asked.core v) (client_called n (at, OnMessage frame) v) in
     client_out ≡ outs_told_on (x.client_link n) first ++ map link_out_seen out.issues.outs.items
     → port_out ≡ to_port (x.port_link (port_of s n)) [] ++ map link_out_seen out.port_outs.items
-    → ClientsLeave s x.client_calls new.clients.items → ClientLinks (unlinked n client_out x.client_link) new.clients.items → length new.clients.items ≡ length mid.clients.items
-    → PortsLeave s x.port_calls new.ports.items → PortLinks (unlinked (port_of s n) port_out x.port_link) new.ports.items → length new.ports.items ≡ length mid.ports.items
+    → ClientsLeave s x.client_calls new.clients.lines.items → ClientLinks (unlinked n client_out x.client_link) new.clients.lines.items → length new.clients.lines.items ≡ length mid.clients.lines.items
+    → PortsLeave s x.port_calls new.ports.lines.items → PortLinks (unlinked (port_of s n) port_out x.port_link) new.ports.lines.items → length new.ports.lines.items ≡ length mid.ports.lines.items
     → new.client_ports ≡ mid.client_ports → new.orders ≡ mid.orders
     → Stepped s (ClientMessage n link at frame) (batch_of n out.issues.reports.items client_out (port_of s n) port_out None) v new)
 asked-step s v mid new n link at frame message out first client_out port_out have on app said linked asked told_lines told_packets leave links count ports_leave port_links port_count same_client_ports same_orders =

@@ -16,7 +16,7 @@ use Rattle.gate_core.proofs.ClientEvents.{client-called-is}
 use Rattle.gate_core.proofs.Told.{nothing-on-port}
 
 pub clients-parts : {S H : Type 0} (s : Settings) (c : ℕ) (calls : List Timed) (v : Lists) (g new : Parts S H) → ArePartsOf s v g
-    → ClientsLeave s (called_all c calls v.client_calls) new.clients.items → ClientLinks v.client_link new.clients.items → length new.clients.items ≡ length g.clients.items
+    → ClientsLeave s (called_all c calls v.client_calls) new.clients.lines.items → ClientLinks v.client_link new.clients.lines.items → length new.clients.lines.items ≡ length g.clients.lines.items
     → new.ports ≡ g.ports → new.client_ports ≡ g.client_ports → new.orders ≡ g.orders
     → ArePartsOf s (client_called_all c calls v) new
 clients-parts s c calls v g new parts leave links count same_ports same_client_ports same_orders =
@@ -37,7 +37,7 @@ port-called-is p [] v = refl
 port-called-is p (call ∷ calls) v = port-called-is p calls (port_called p call v)
 
 pub ports-parts : {S H : Type 0} (s : Settings) (p : ℕ) (calls : List PortCall) (v : Lists) (g new : Parts S H) → ArePartsOf s v g
-    → PortsLeave s (called_all p calls v.port_calls) new.ports.items → PortLinks v.port_link new.ports.items → length new.ports.items ≡ length g.ports.items
+    → PortsLeave s (called_all p calls v.port_calls) new.ports.lines.items → PortLinks v.port_link new.ports.lines.items → length new.ports.lines.items ≡ length g.ports.lines.items
     → new.clients ≡ g.clients → new.client_ports ≡ g.client_ports → new.orders ≡ g.orders
     → ArePartsOf s (port_called_all p calls v) new
 ports-parts s p calls v g new parts leave links count same_clients same_client_ports same_orders =

@@ -108,7 +108,7 @@ module _ {S H : Type 0} (s : Settings) (p link at : ℕ) (packet : Packet) (payl
 
   pub nobody-step : (mid new : Parts S H) (port_out : List LinkOut) → HaveNoOther → PayloadIsTold s p payload None [] (port_called p hears v) mid
       → port_out ≡ to_port (v.port_link p) said ++ to_port (v.port_link p) []
-      → PortsLeave s (port_called p hears v).port_calls new.ports.items → PortLinks (unlinked p port_out v.port_link) new.ports.items → length new.ports.items ≡ length mid.ports.items
+      → PortsLeave s (port_called p hears v).port_calls new.ports.lines.items → PortLinks (unlinked p port_out v.port_link) new.ports.lines.items → length new.ports.lines.items ≡ length mid.ports.lines.items
       → new.clients ≡ mid.clients → new.client_ports ≡ mid.client_ports → new.orders ≡ mid.orders
       → Stepped s (PortPacket p link at packet) (batch_of 0 [] [] p port_out None) v new
   nobody-step mid new port_out have is_told packets leave links count same_clients same_client_ports same_orders =
@@ -130,7 +130,7 @@ module _ {S H : Type 0} (s : Settings) (p link at : ℕ) (packet : Packet) (payl
         asks = asks b (no-message have port_out lines);
         orders = λ holds. subst (λ (y : Lists). Headline (terms s) y.turns) (sym left) is_told.headline;
         parts = subst (λ (y : Lists). ArePartsOf s y new) (sym left)
-            (closed-parts s 0 p [] [] port_out None x mid new is_told.parts (rw same_clients is_told.parts.clients) (rw same_clients (untold 0 v.client_link mid.clients.items is_told.parts.client_links)) (rw same_clients refl)
+            (closed-parts s 0 p [] [] port_out None x mid new is_told.parts (rw same_clients is_told.parts.clients) (rw same_clients (untold 0 v.client_link mid.clients.lines.items is_told.parts.client_links)) (rw same_clients refl)
             leave links count same_client_ports same_orders);
       }
 
@@ -142,8 +142,8 @@ module _ {S H : Type 0} (s : Settings) (p link at : ℕ) (packet : Packet) (payl
       → (let x : Lists = client_called_all n (issues at bs) (turned (Some (heard_turn p payload n bs None)) (port_called p hears v)) in
       client_out ≡ outs_told_on (x.client_link n) [] ++ map link_out_seen out.outs.items
       → port_out ≡ to_port (x.port_link p) said ++ to_port (x.port_link p) []
-      → ClientsLeave s x.client_calls new.clients.items → ClientLinks (unlinked n client_out x.client_link) new.clients.items → length new.clients.items ≡ length mid.clients.items
-      → PortsLeave s x.port_calls new.ports.items → PortLinks (unlinked p port_out x.port_link) new.ports.items → length new.ports.items ≡ length mid.ports.items
+      → ClientsLeave s x.client_calls new.clients.lines.items → ClientLinks (unlinked n client_out x.client_link) new.clients.lines.items → length new.clients.lines.items ≡ length mid.clients.lines.items
+      → PortsLeave s x.port_calls new.ports.lines.items → PortLinks (unlinked p port_out x.port_link) new.ports.lines.items → length new.ports.lines.items ≡ length mid.ports.lines.items
       → new.client_ports ≡ mid.client_ports → new.orders ≡ mid.orders
       → Stepped s (PortPacket p link at packet) (batch_of n out.reports.items client_out p port_out None) v new)
   told-step q n bs out first mid new client_out port_out have is_number_of is_told issued lines packets clients client_links client_count ports port_links port_count same_client_ports same_orders =
@@ -188,7 +188,7 @@ module _ {S H : Type 0} (s : Settings) (p link at : ℕ) (packet : Packet) (payl
       → (let x : Lists = port_called p (table.Fail k) (turned (Some (heard_turn p payload 0 [] (Some (fault_number k)))) (port_called p hears v)) in
       ArePartsOf s x mid
       → port_out ≡ to_port (v.port_link p) said ++ to_port (v.port_link p) fail_outs
-      → PortsLeave s x.port_calls new.ports.items → PortLinks (unlinked p port_out v.port_link) new.ports.items → length new.ports.items ≡ length mid.ports.items
+      → PortsLeave s x.port_calls new.ports.lines.items → PortLinks (unlinked p port_out v.port_link) new.ports.lines.items → length new.ports.lines.items ≡ length mid.ports.lines.items
       → new.clients ≡ mid.clients → new.client_ports ≡ mid.client_ports → new.orders ≡ mid.orders
       → Stepped s (PortPacket p link at packet) (batch_of 0 [] [] p port_out (Some k)) v new)
   faulty-step k fail_outs mid new port_out have headline failed parts packets ports port_links port_count same_clients same_client_ports same_orders =
@@ -220,6 +220,6 @@ module _ {S H : Type 0} (s : Settings) (p link at : ℕ) (packet : Packet) (payl
         asks = asks b none;
         orders = λ holds. subst (λ (y : Lists). Headline (terms s) y.turns) (sym left) headline;
         parts = subst (λ (y : Lists). ArePartsOf s y new) (sym left)
-            (closed-parts s 0 p [] [] port_out (Some k) x mid new parts (rw same_clients parts.clients) (rw same_clients (untold 0 v.client_link mid.clients.items parts.client_links)) (rw same_clients refl)
+            (closed-parts s 0 p [] [] port_out (Some k) x mid new parts (rw same_clients parts.clients) (rw same_clients (untold 0 v.client_link mid.clients.lines.items parts.client_links)) (rw same_clients refl)
             ports port_links port_count same_client_ports same_orders);
       }

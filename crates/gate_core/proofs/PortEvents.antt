@@ -11,11 +11,11 @@ use Rattle.gate_law.specs.Outcome.{LinkMove, Stays, Comes, Goes, Refused, Outcom
 use Rattle.gate_law.specs.After.{lists_after, links_closed, with_outcome, port_moved}
 use Rattle.gate_law.specs.Due.{to_client_of, to_port_of, reports_of, port_named}
 use Rattle.gate_law.specs.Promises.{Asks}
-use Rattle.gate_sessions.specs.Lines.{PortsLeave, PortLinks, NextWithin, called_all}
+use Rattle.gate_sessions.specs.Lines.{PortsLeave, PortLinks, PortsStaySettled, NextWithin, called_all}
 use Rattle.gate_core.specs.declared.parts.Parts.{Parts}
 use Rattle.gate_events.specs.Links.{unlinked}
 use Rattle.gate_core.specs.State.{ArePartsOf}
-use Rattle.gate_core.specs.Steps.{PortsStaySettled, Grows, Stepped}
+use Rattle.gate_core.specs.Steps.{Grows, Stepped}
 use Rattle.gate_events.specs.Batches.{batch_of}
 use Rattle.gate_core.proofs.Told.{named-port}
 use Rattle.gate_core.proofs.Parted.{port-called-is}
@@ -55,9 +55,9 @@ pub port-event : {S H : Type 0} (s : Settings) (e : Event) (v : Lists) (g new : 
     → Asks s e (batch_of 0 [] [] p outs fault) v
     → port_named s e ≡ p
     → (earlier : List PortCall) → ArePartsOf s (port_called_all p earlier v) g
-    → PortsLeave s (called_all p calls v.port_calls) new.ports.items
-    → PortLinks (unlinked p outs (moved_link p move v.port_link)) new.ports.items
-    → length new.ports.items ≡ length g.ports.items
+    → PortsLeave s (called_all p calls v.port_calls) new.ports.lines.items
+    → PortLinks (unlinked p outs (moved_link p move v.port_link)) new.ports.lines.items
+    → length new.ports.lines.items ≡ length g.ports.lines.items
     → new.clients ≡ g.clients → new.client_ports ≡ g.client_ports → new.orders ≡ g.orders
     → Stepped s e (batch_of 0 [] [] p outs fault) v new
 port-event s e v g new p move calls fault outs is lines asks named earlier parts leave links count same_clients same_client_ports same_orders =
@@ -90,9 +90,9 @@ port-event s e v g new p move calls fault outs is lines asks named earlier parts
     }
 
 -- lines of ports that are as many, and want so many packets more
-pub packets-grow : {S H : Type 0} (packets : ℕ) (old new : Parts S H) → length new.ports.items ≡ length old.ports.items
-    → ((n : ℕ) → NextWithin n old.ports.items → NextWithin (n + packets) new.ports.items)
-    → PortsStaySettled old new
+pub packets-grow : {S H : Type 0} (packets : ℕ) (old new : Parts S H) → length new.ports.lines.items ≡ length old.ports.lines.items
+    → ((n : ℕ) → NextWithin n old.ports.lines.items → NextWithin (n + packets) new.ports.lines.items)
+    → PortsStaySettled old.ports new.ports
     → new.clients ≡ old.clients → new.client_ports ≡ old.client_ports → new.orders ≡ old.orders → Grows 0 packets old new
 packets-grow packets old new count next settled same_clients same_client_ports same_orders = record {
   clients = rw same_clients refl;

@@ -44,9 +44,9 @@ quiet-going s p before = refl
 -- ---- a port's link is gone
 
 pub port-gone : {S H : Type 0} (s : Settings) (v : Lists) (g new : Parts S H) (p link at : ℕ) → (has_port s p && is_the_number link (v.port_link p)) ≡ true → Ready s v g
-    → PortsLeave s (called p calls.OnGone v.port_calls) new.ports.items
-    → PortLinks (link_set p None v.port_link) new.ports.items
-    → length new.ports.items ≡ length g.ports.items
+    → PortsLeave s (called p calls.OnGone v.port_calls) new.ports.lines.items
+    → PortLinks (link_set p None v.port_link) new.ports.lines.items
+    → length new.ports.lines.items ≡ length g.ports.lines.items
     → new.clients ≡ g.clients → new.client_ports ≡ g.client_ports → new.orders ≡ g.orders
     → Stepped s (PortGone p link at) empty v new
 port-gone s v g new p link at on ready leave links count same_clients same_client_ports same_orders =
@@ -54,15 +54,15 @@ port-gone s v g new p link at on ready leave links count same_clients same_clien
     (no-port-lines (link_set p None v.port_link p)
     ∙ ap (λ (outs : List PortOut). to_port (link_set p None v.port_link p) (outs ++ [])) (sym (quiet-going s p (v.port_calls p))))
     (asks-nothing s (PortGone p link at) empty v refl refl)
-    refl [] ready.parts leave (port-untold p (link_set p None v.port_link) new.ports.items links) count same_clients same_client_ports same_orders
+    refl [] ready.parts leave (port-untold p (link_set p None v.port_link) new.ports.lines.items links) count same_clients same_client_ports same_orders
 
 -- ---- a port's link is up
 
 pub port-comes : {S H : Type 0} (s : Settings) (v : Lists) (g new : Parts S H) (p link at : ℕ) (outs : List LinkOut) → has_port s p ≡ true → v.port_link p ≡ None → Ready s v g → ReadsSent
     → outs ≡ to_port (link_set p (Some link) v.port_link p) ((port_answer s p (v.port_calls p) (calls.OnUp at)).outs ++ [])
-    → PortsLeave s (called p (calls.OnUp at) v.port_calls) new.ports.items
-    → PortLinks (unlinked p outs (link_set p (Some link) v.port_link)) new.ports.items
-    → length new.ports.items ≡ length g.ports.items
+    → PortsLeave s (called p (calls.OnUp at) v.port_calls) new.ports.lines.items
+    → PortLinks (unlinked p outs (link_set p (Some link) v.port_link)) new.ports.lines.items
+    → length new.ports.lines.items ≡ length g.ports.lines.items
     → new.clients ≡ g.clients → new.client_ports ≡ g.client_ports → new.orders ≡ g.orders
     → Stepped s (PortUp p link at) (batch_of 0 [] [] p outs None) v new
 port-comes s v g new p link at outs has none ready reads lines leave links count same_clients same_client_ports same_orders =
@@ -98,9 +98,9 @@ port-refused s v g p link at current has is other ready =
 
 pub port-tick : {S H : Type 0} (s : Settings) (v : Lists) (g new : Parts S H) (p at : ℕ) (outs : List LinkOut) → has_port s p ≡ true → Ready s v g → ReadsSent
     → outs ≡ to_port (v.port_link p) ((port_answer s p (v.port_calls p) (calls.OnTick at)).outs ++ [])
-    → PortsLeave s (called p (calls.OnTick at) v.port_calls) new.ports.items
-    → PortLinks (unlinked p outs v.port_link) new.ports.items
-    → length new.ports.items ≡ length g.ports.items
+    → PortsLeave s (called p (calls.OnTick at) v.port_calls) new.ports.lines.items
+    → PortLinks (unlinked p outs v.port_link) new.ports.lines.items
+    → length new.ports.lines.items ≡ length g.ports.lines.items
     → new.clients ≡ g.clients → new.client_ports ≡ g.client_ports → new.orders ≡ g.orders
     → Stepped s (PortTick p at) (batch_of 0 [] [] p outs None) v new
 port-tick s v g new p at outs has ready reads lines leave links count same_clients same_client_ports same_orders =

@@ -62,9 +62,9 @@ pub port-heard : {S H : Type 0} → ReadsSent → (s : Settings) (v : Lists) (p 
     → (again : IsSentAgain s p at stood more (port_called p (OnPacket packet at) v) g)
     → fault ≡ fault_in (port_state s p ((port_called p (OnPacket packet at) v).port_calls p))
     → outs ≡ to_port (v.port_link p) said ++ more
-    → PortsLeave s (called_all p (OnPacket packet at ∷ sends at again.messages) v.port_calls) new.ports.items
-    → PortLinks (unlinked p outs v.port_link) new.ports.items
-    → length new.ports.items ≡ length g.ports.items
+    → PortsLeave s (called_all p (OnPacket packet at ∷ sends at again.messages) v.port_calls) new.ports.lines.items
+    → PortLinks (unlinked p outs v.port_link) new.ports.lines.items
+    → length new.ports.lines.items ≡ length g.ports.lines.items
     → new.clients ≡ g.clients → new.client_ports ≡ g.client_ports → new.orders ≡ g.orders
     → Stepped s (PortPacket p link at packet) (batch_of 0 [] [] p outs fault) v new
 port-heard reads s v p link at packet stood said more fault outs heard g new given before again fault_is told leave links count same_clients same_client_ports same_orders =
@@ -99,9 +99,9 @@ pub after-packet : {S H : Type 0} (s : Settings) (v : Lists) (p link at : ℕ) (
     → (has_port s p && is_the_number link (v.port_link p)) ≡ true
     → IsAnswer (port_answer s p (v.port_calls p) (OnPacket packet at)) turn
     → Ready s v g
-    → PortsLeave s (called p (OnPacket packet at) v.port_calls) new.ports.items
-    → PortLinks v.port_link new.ports.items
-    → length new.ports.items ≡ length g.ports.items
+    → PortsLeave s (called p (OnPacket packet at) v.port_calls) new.ports.lines.items
+    → PortLinks v.port_link new.ports.lines.items
+    → length new.ports.lines.items ≡ length g.ports.lines.items
     → new.clients ≡ g.clients → new.client_ports ≡ g.client_ports → new.orders ≡ g.orders
     → AfterPacket s p link at packet (if turn.is_delivered then Some packet.payload else None) (option_to_list turn.out) v new
 unfolding port_answer

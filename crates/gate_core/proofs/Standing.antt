@@ -59,36 +59,36 @@ module _ {X Y : Type 0} (f : X → Y) where
 module _ {S H : Type 0} (s : Settings) (v : Lists) (g : Parts S H) where
   pub parts-stand : ArePartsOf s v g → StandAfter s v (parts_now g)
   parts-stand are = record {
-    clients = each-seen client_now (λ i c. ClientLeaves s (i + 1) (v.client_calls (i + 1)) c.session) g.clients.items are.clients;
-    client_links = each-seen client_now (λ i c. c.link ≡ v.client_link (i + 1)) g.clients.items are.client_links;
-    ports = each-seen port_now (λ i c. PortLeaves s (i + 1) (v.port_calls (i + 1)) c.port) g.ports.items are.ports;
-    port_links = each-seen port_now (λ i c. c.link ≡ v.port_link (i + 1)) g.ports.items are.port_links;
+    clients = each-seen client_now (λ i c. ClientLeaves s (i + 1) (v.client_calls (i + 1)) c.session) g.clients.lines.items are.clients;
+    client_links = each-seen client_now (λ i c. c.link ≡ v.client_link (i + 1)) g.clients.lines.items are.client_links;
+    ports = each-seen port_now (λ i c. PortLeaves s (i + 1) (v.port_calls (i + 1)) c.port) g.ports.lines.items are.ports;
+    port_links = each-seen port_now (λ i c. c.link ≡ v.port_link (i + 1)) g.ports.lines.items are.port_links;
     orders = after-by_parts (terms s) v.turns g.orders (core_of (core_now g.orders)) refl refl are.orders;
     client_ports = are.client_ports;
-    client_count = length-map g.clients.items client_now ∙ are.client_count;
-    port_count = length-map g.ports.items port_now ∙ are.port_count;
+    client_count = length-map g.clients.lines.items client_now ∙ are.client_count;
+    port_count = length-map g.ports.lines.items port_now ∙ are.port_count;
     known = are.known;
   }
 
   pub stand-parts : StandAfter s v (parts_now g) → ArePartsOf s v g
   stand-parts stand = record {
-    clients = each-element client_now (λ i c. ClientLeaves s (i + 1) (v.client_calls (i + 1)) c.session) g.clients.items stand.clients;
-    client_links = each-element client_now (λ i c. c.link ≡ v.client_link (i + 1)) g.clients.items stand.client_links;
-    ports = each-element port_now (λ i c. PortLeaves s (i + 1) (v.port_calls (i + 1)) c.port) g.ports.items stand.ports;
-    port_links = each-element port_now (λ i c. c.link ≡ v.port_link (i + 1)) g.ports.items stand.port_links;
+    clients = each-element client_now (λ i c. ClientLeaves s (i + 1) (v.client_calls (i + 1)) c.session) g.clients.lines.items stand.clients;
+    client_links = each-element client_now (λ i c. c.link ≡ v.client_link (i + 1)) g.clients.lines.items stand.client_links;
+    ports = each-element port_now (λ i c. PortLeaves s (i + 1) (v.port_calls (i + 1)) c.port) g.ports.lines.items stand.ports;
+    port_links = each-element port_now (λ i c. c.link ≡ v.port_link (i + 1)) g.ports.lines.items stand.port_links;
     orders = after-by_parts (terms s) v.turns (core_of (core_now g.orders)) g.orders refl refl stand.orders;
     client_ports = stand.client_ports;
-    client_count = sym (length-map g.clients.items client_now) ∙ stand.client_count;
-    port_count = sym (length-map g.ports.items port_now) ∙ stand.port_count;
+    client_count = sym (length-map g.clients.lines.items client_now) ∙ stand.client_count;
+    port_count = sym (length-map g.ports.lines.items port_now) ∙ stand.port_count;
     known = stand.known;
   }
 
 module _ {S H : Type 0} (events : ℕ) (g : Parts S H) where
-  clients-count : length (map client_now g.clients.items) ≡ length g.clients.items
-  clients-count = length-map g.clients.items client_now
+  clients-count : length (map client_now g.clients.lines.items) ≡ length g.clients.lines.items
+  clients-count = length-map g.clients.lines.items client_now
 
-  ports-count : length (map port_now g.ports.items) ≡ length g.ports.items
-  ports-count = length-map g.ports.items port_now
+  ports-count : length (map port_now g.ports.lines.items) ≡ length g.ports.lines.items
+  ports-count = length-map g.ports.lines.items port_now
 
   pub sound-shaped : AreSound events (parts_now g) → IsShaped g
   sound-shaped sound = record {
@@ -102,7 +102,7 @@ module _ {S H : Type 0} (events : ℕ) (g : Parts S H) where
   pub sound-numbers : AreSound events (parts_now g) → HasNumbers events g
   sound-numbers sound = record {
     issued = sound.issued;
-    next = each-element port_now (λ i c. next_of c.port ≤ events + 1) g.ports.items sound.next;
+    next = each-element port_now (λ i c. next_of c.port ≤ events + 1) g.ports.lines.items sound.next;
   }
 
   pub parts-sound : IsShaped g → HasNumbers events g → AreSound events (parts_now g)
@@ -113,13 +113,13 @@ module _ {S H : Type 0} (events : ℕ) (g : Parts S H) where
     few_clients = omega (arith, clients-count, shaped.few_clients);
     few_ports = omega (arith, ports-count, shaped.few_ports);
     issued = numbers.issued;
-    next = each-seen port_now (λ i c. next_of c.port ≤ events + 1) g.ports.items numbers.next;
+    next = each-seen port_now (λ i c. next_of c.port ≤ events + 1) g.ports.lines.items numbers.next;
   }
 
 -- ---- what they are put back to
 
 pub stays-settled : {S H : Type 0} (numbers packets : ℕ) (old new : Parts S H) → Grows numbers packets old new → parts_settled new ≡ parts_settled old
 stays-settled numbers packets old new grows =
-    let clients = kept-seen client_settled old.clients.items new.clients.items grows.clients_settled grows.clients in
-    let ports = kept-seen port_settled old.ports.items new.ports.items grows.ports_settled grows.ports in
+    let clients = kept-seen client_settled old.clients.lines.items new.clients.lines.items grows.clients_settled grows.clients in
+    let ports = kept-seen port_settled old.ports.lines.items new.ports.lines.items grows.ports_settled grows.ports in
     rw (clients, ports, grows.client_ports, grows.orders_settled) refl

@@ -25,7 +25,7 @@ use Rattle.gate_core.specs.Steps.{Grows, Ready, Stepped}
 pub shaped-still : {S H : Type 0} (numbers packets : ℕ) (old new : Parts S H) → Grows numbers packets old new → IsShaped old → IsShaped new
 shaped-still numbers packets old new grows shaped = record {
   client_ports = ap (λ (ports : List ℕ). length ports) same ∙ shaped.client_ports ∙ sym grows.clients;
-  among = subst (λ (count : ℕ). AreAmong count new.client_ports.items) (sym grows.ports) (subst (λ (ports : List ℕ). AreAmong (length old.ports.items) ports) (sym same) shaped.among);
+  among = subst (λ (count : ℕ). AreAmong count new.client_ports.items) (sym grows.ports) (subst (λ (ports : List ℕ). AreAmong (length old.ports.lines.items) ports) (sym same) shaped.among);
   served = grows.served ∙ shaped.served ∙ sym grows.clients;
   few_clients = omega (arith, grows.clients, shaped.few_clients);
   few_ports = omega (arith, grows.ports, shaped.few_ports);

@@ -25,14 +25,14 @@ AreFromClients s h = AreFrom (λ (client : ℕ). has_client s client ≡ true) h
 
 -- the parts are what these lists leave
 pub record ArePartsOf {S H : Type 0} (s : Settings) (v : Lists) (g : Parts S H) : Type 0 where
-  pub clients : ClientsLeave s v.client_calls g.clients.items
-  pub client_links : ClientLinks v.client_link g.clients.items
-  pub ports : PortsLeave s v.port_calls g.ports.items
-  pub port_links : PortLinks v.port_link g.ports.items
+  pub clients : ClientsLeave s v.client_calls g.clients.lines.items
+  pub client_links : ClientLinks v.client_link g.clients.lines.items
+  pub ports : PortsLeave s v.port_calls g.ports.lines.items
+  pub port_links : PortLinks v.port_link g.ports.lines.items
   pub orders : IsAfterTurns (terms s) v.turns g.orders
   pub client_ports : ArePortsOf s g.client_ports.items
-  pub client_count : length g.clients.items ≡ length s.clients
-  pub port_count : length g.ports.items ≡ length s.ports
+  pub client_count : length g.clients.lines.items ≡ length s.clients
+  pub port_count : length g.ports.lines.items ≡ length s.ports
   pub known : AreFromClients s v.turns
 
 -- each client's port is one of so many
@@ -41,17 +41,17 @@ AreAmong count ports = (i : ℕ) (p : ℕ) → slice_get ports i ≡ Some p → 
 
 -- Whatever the lists are: each client has its port and its terms.
 pub record IsShaped {S H : Type 0} (g : Parts S H) : Type 0 where
-  pub client_ports : length g.client_ports.items ≡ length g.clients.items
-  pub among : AreAmong (length g.ports.items) g.client_ports.items
-  pub served : core.core_clients g.orders ≡ length g.clients.items
-  pub few_clients : length g.clients.items ≤ 64
-  pub few_ports : length g.ports.items ≤ 16
+  pub client_ports : length g.client_ports.items ≡ length g.clients.lines.items
+  pub among : AreAmong (length g.ports.lines.items) g.client_ports.items
+  pub served : core.core_clients g.orders ≡ length g.clients.lines.items
+  pub few_clients : length g.clients.lines.items ≤ 64
+  pub few_ports : length g.ports.lines.items ≤ 16
 
 -- There are numbers for far more events than are ever stepped: after so many of them, so many numbers were given at
 -- most.
 pub record HasNumbers {S H : Type 0} (events : ℕ) (g : Parts S H) : Type 0 where
   pub issued : core.core_numbers g.orders ≤ 3 * events
-  pub next : NextWithin (events + 1) g.ports.items
+  pub next : NextWithin (events + 1) g.ports.lines.items
 
 -- a port's session is open just while a link of the port is current
 abbrev pub AreOpenOnLinks : Settings → Lists → Type 0
@@ -69,8 +69,8 @@ pub record PartsStand : Type 0 where
 -- now
 abbrev pub parts_now : {S H : Type 0} → Parts S H → PartsStand
 parts_now g = record {
-  clients = map client_now g.clients.items;
-  ports = map port_now g.ports.items;
+  clients = map client_now g.clients.lines.items;
+  ports = map port_now g.ports.lines.items;
   client_ports = g.client_ports.items;
   orders = core.core_now g.orders;
 }
@@ -78,8 +78,8 @@ parts_now g = record {
 -- and when they were settled last: no client ever gets another port
 abbrev pub parts_settled : {S H : Type 0} → Parts S H → PartsStand
 parts_settled g = record {
-  clients = map client_settled g.clients.items;
-  ports = map port_settled g.ports.items;
+  clients = map client_settled g.clients.lines.items;
+  ports = map port_settled g.ports.lines.items;
   client_ports = g.client_ports.items;
   orders = g.orders.settled;
 }

@@ -33,8 +33,7 @@ use Rattle.gate_law.specs.Promises.{Asks}
 use Rattle.gate_events.specs.declared.issuing.Issues.{Issues}
 use Rattle.gate_events.specs.Links.{outs_told_on}
 use Rattle.gate_events.specs.Seen.{link_out_seen}
-use Rattle.gate_sessions.specs.Lines.{NextWithin}
-use Rattle.gate_sessions.specs.Lines.{ClientStands, ClientsSettledAs, PortStands, PortsSettledAs}
+use Rattle.gate_sessions.specs.Lines.{NextWithin, ClientsStaySettled, PortsStaySettled}
 use Rattle.gate_core.specs.declared.parts.Parts.{Parts}
 use Rattle.gate_core.specs.declared.parts.client_messages.Asked.{Asked}
 use Rattle.gate_core.specs.declared.parts.port_payloads.Judged.{Judged}
@@ -56,26 +55,17 @@ pub record Stepped {S H : Type 0} (s : Settings) (e : Event) (b : Batch) (v : Li
   pub orders : Headline (terms s) v.turns → Headline (terms s) (lists_after s e b v).turns
   pub parts : ArePartsOf s (lists_after s e b v) g
 
--- each line is put back to what it was put back to before
-abbrev pub ClientsStaySettled : {S H : Type 0} → Parts S H → Parts S H → Type 0
-ClientsStaySettled old new =
-    (was : ℕ → ClientStands) → ClientsSettledAs was old.clients.items → ClientsSettledAs was new.clients.items
-
-abbrev pub PortsStaySettled : {S H : Type 0} → Parts S H → Parts S H → Type 0
-PortsStaySettled old new =
-    (was : ℕ → PortStands) → PortsSettledAs was old.ports.items → PortsSettledAs was new.ports.items
-
 -- A step gives at most so many numbers, and a port wants one packet more at most; what the parts are put back to stays.
 -- All of it whatever the result is.
 pub record Grows {S H : Type 0} (numbers packets : ℕ) (old new : Parts S H) : Type 0 where
-  pub clients : length new.clients.items ≡ length old.clients.items
-  pub ports : length new.ports.items ≡ length old.ports.items
+  pub clients : length new.clients.lines.items ≡ length old.clients.lines.items
+  pub ports : length new.ports.lines.items ≡ length old.ports.lines.items
   pub client_ports : new.client_ports.items ≡ old.client_ports.items
   pub served : core.core_clients new.orders ≡ core.core_clients old.orders
   pub issued : core.core_numbers new.orders ≤ core.core_numbers old.orders + numbers
-  pub next : (n : ℕ) → NextWithin n old.ports.items → NextWithin (n + packets) new.ports.items
-  pub clients_settled : ClientsStaySettled old new
-  pub ports_settled : PortsStaySettled old new
+  pub next : (n : ℕ) → NextWithin n old.ports.lines.items → NextWithin (n + packets) new.ports.lines.items
+  pub clients_settled : ClientsStaySettled old.clients new.clients
+  pub ports_settled : PortsStaySettled old.ports new.ports
   pub orders_settled : new.orders.settled ≡ old.orders.settled
 
 -- ---- a message that a client's session delivered

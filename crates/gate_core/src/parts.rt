@@ -13,14 +13,14 @@ mod settling;
 
 ghost use Rattle.std.specs.Prelude.{◌≡◌, ◌<◌, ◌+◌, ◌&&◌, nat_le, is_some, IfSome};
 
-use gate_sessions::{ClientLine, PortLine};
+use gate_sessions::{Clients, Ports};
 use order_core::OrderCore;
 use std::hash::{BuildHasher, BuildHasherDefault, FoldHasher};
 
 /// The lines of all clients and ports, and the order level.
 pub(crate) struct Parts<S: BuildHasher + Drop = BuildHasherDefault<FoldHasher>> {
-    pub(crate) clients: Vec<ClientLine>,
-    pub(crate) ports: Vec<PortLine>,
+    pub(crate) clients: Clients,
+    pub(crate) ports: Ports,
     /// The port of each client, by the client's place.
     pub(crate) client_ports: Vec<u16>,
     pub(crate) orders: OrderCore<S>,

@@ -1,6 +1,6 @@
 //! Several bodies issued on the client's line at a place, one after another, as its link is told them.
 
-ghost use Rattle.std.specs.Prelude.{◌≡◌, ◌<◌, ◌+◌, ℕ, List, ◌∷◌, [], ◌++◌, Option, IfOk, OnOk, length, map};
+ghost use Rattle.std.specs.Prelude.{◌≡◌, ◌<◌, ◌+◌, ℕ, List, ◌++◌, Option, IfOk, OnOk, length, map};
 ghost use Rattle.gate_sessions.specs.Application.{body_fields};
 ghost use Rattle.gate_sessions.specs.session_law.Runs.{Timed};
 ghost use Rattle.gate_sessions.specs.session_law.Frames.{told_of_out};
@@ -10,13 +10,13 @@ ghost use Rattle.gate_sessions.specs.Settings.{Settings, client_name};
 ghost use Rattle.gate_sessions.specs.Sessions.{client_answer, client_outs, client_reports, issues, report_issued};
 ghost use Rattle.gate_sessions.specs.Sessions.{to_link};
 ghost use Rattle.gate_sessions.specs.Leaving.{issue_call};
-ghost use Rattle.gate_sessions.specs.Lines.{ClientsLeave, ClientLinks, called, called_all};
-ghost use Rattle.gate_sessions.specs.Lines.{ClientStands, ClientsSettledAs};
+ghost use Rattle.gate_sessions.specs.Lines.{ClientsCalled, ClientsStayLinked, ClientsStaySettled, ClientsLeave};
+ghost use Rattle.gate_sessions.specs.Lines.{ClientLinks, called_all};
 ghost use Rattle.gate_events.specs.Seen.{link_out_seen};
 ghost use Rattle.gate_events.specs.Links.{outs_told_on};
 
 use crate::batch::LinkOut;
-use gate_sessions::{AppBody, ClientLine, IssuedReport, IssuedTurn, client_issue};
+use gate_sessions::{AppBody, Clients, IssuedReport, IssuedTurn};
 use std::alloc::{AllocError, Global};
 
 /// What comes of bodies that are issued to one client.
@@ -32,44 +32,46 @@ pub struct Issues {
 ///
 /// `AllocError` leaves every link and the number of lines as they were; how many of the bodies were issued isn't said.
 pub fn client_issue_all(
-    lines: &mut Vec<ClientLine>,
+    clients: &mut Clients,
     alloc: Global,
     place: usize,
     bodies: &[AppBody],
     at: u64,
 ) -> Result<Issues, AllocError>
-    requires place { place < length lines.old.items }
-    ensures leave { OnOk result ((s : Settings) (calls : ℕ → List Timed) → ClientsLeave s calls lines.old.items
-        → ClientsLeave s (called_all (place + 1) (issues at (map body_fields bodies.now)) calls) lines.new.items) }
+    requires place { place < length clients.old.lines.items }
+    ensures leave { OnOk result ((s : Settings) (calls : ℕ → List Timed) → ClientsLeave s calls clients.old.lines.items
+        → ClientsLeave s (called_all (place + 1) (issues at (map body_fields bodies.now)) calls)
+        clients.new.lines.items) }
     ensures outs { IfOk result (λ all. (s : Settings) (calls : ℕ → List Timed) (links : ℕ → Option ℕ)
-        → ClientsLeave s calls lines.old.items → ClientLinks links lines.old.items
+        → ClientsLeave s calls clients.old.lines.items → ClientLinks links clients.old.lines.items
         → map link_out_seen all.outs.items ≡ outs_told_on (links (place + 1))
         (map (told_of_out s.comp (client_name s (place + 1)))
         (client_outs s (place + 1) (calls (place + 1)) (issues at (map body_fields bodies.now))))) }
-    ensures reports { IfOk result (λ all. (s : Settings) (calls : ℕ → List Timed) → ClientsLeave s calls lines.old.items
+    ensures reports { IfOk result (λ all. (s : Settings) (calls : ℕ → List Timed)
+        → ClientsLeave s calls clients.old.lines.items
         → all.reports.items ≡ client_reports s (place + 1) (calls (place + 1))
         (issues at (map body_fields bodies.now))) }
-    ensures bodies { IfOk result (λ all. (s : Settings) (calls : ℕ → List Timed) → ClientsLeave s calls lines.old.items
+    ensures bodies { IfOk result (λ all. (s : Settings) (calls : ℕ → List Timed)
+        → ClientsLeave s calls clients.old.lines.items
         → map body_of all.reports.items ≡ map body_fields bodies.now) }
-    ensures links { (links : ℕ → Option ℕ) → ClientLinks links lines.old.items → ClientLinks links lines.new.items }
-    ensures settled { (was : ℕ → ClientStands) → ClientsSettledAs was lines.old.items
-        → ClientsSettledAs was lines.new.items }
-    ensures length { length lines.new.items ≡ length lines.old.items }
+    ensures links { ClientsStayLinked clients.old clients.new }
+    ensures settled { ClientsStaySettled clients.old clients.new }
+    ensures length { length clients.new.lines.items ≡ length clients.old.lines.items }
 {
-    let link = lines[place].link;
+    let link = clients.lines[place].link;
     let mut all = Issues {
         reports: Vec::with_capacity(alloc, bodies.len())?,
         outs: Vec::with_capacity(alloc, bodies.len())?,
     };
     for body in bodies {
-        issue_one(lines, alloc, place, link, body, at, &mut all)?;
+        issue_one(clients, alloc, place, link, body, at, &mut all)?;
     }
     Ok(all)
 }
 
 /// Issues a body, and takes over what is reported of it and what this link is told.
 fn issue_one(
-    lines: &mut Vec<ClientLine>,
+    clients: &mut Clients,
     alloc: Global,
     place: usize,
     link: Option<u64>,
@@ -77,22 +79,21 @@ fn issue_one(
     at: u64,
     all: &mut Issues,
 ) -> Result<(), AllocError>
-    requires place { place < length lines.old.items }
-    ensures leave { OnOk result ((s : Settings) (calls : ℕ → List Timed) → ClientsLeave s calls lines.old.items
-        → ClientsLeave s (called (place + 1) (issue_call at body.now) calls) lines.new.items) }
-    ensures outs { OnOk result ((s : Settings) (calls : ℕ → List Timed) → ClientsLeave s calls lines.old.items
+    requires place { place < length clients.old.lines.items }
+    ensures leave { OnOk result (ClientsCalled place (issue_call at body.now) clients.old clients.new) }
+    ensures outs { OnOk result ((s : Settings) (calls : ℕ → List Timed) → ClientsLeave s calls clients.old.lines.items
         → map link_out_seen all.new.outs.items ≡ map link_out_seen all.old.outs.items
         ++ outs_told_on link (map (told_of_out s.comp (client_name s (place + 1)))
         (client_answer s (place + 1) (calls (place + 1)) (issue_call at body.now)).outs)) }
-    ensures reports { OnOk result ((s : Settings) (calls : ℕ → List Timed) → ClientsLeave s calls lines.old.items
+    ensures reports { OnOk result ((s : Settings) (calls : ℕ → List Timed)
+        → ClientsLeave s calls clients.old.lines.items
         → all.new.reports.items ≡ all.old.reports.items
         ++ report_issued s (place + 1) (calls (place + 1)) (issue_call at body.now)) }
-    ensures links { (links : ℕ → Option ℕ) → ClientLinks links lines.old.items → ClientLinks links lines.new.items }
-    ensures settled { (was : ℕ → ClientStands) → ClientsSettledAs was lines.old.items
-        → ClientsSettledAs was lines.new.items }
-    ensures length { length lines.new.items ≡ length lines.old.items }
+    ensures links { ClientsStayLinked clients.old clients.new }
+    ensures settled { ClientsStaySettled clients.old clients.new }
+    ensures length { length clients.new.lines.items ≡ length clients.old.lines.items }
 {
-    let IssuedTurn { frame, report } = client_issue(lines, alloc, place, body, at)?;
+    let IssuedTurn { frame, report } = clients.issue(alloc, place, body, at)?;
     all.reports.push(report)?;
     tell_frame(link, frame, &mut all.outs)
 }

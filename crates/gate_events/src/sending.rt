@@ -1,55 +1,56 @@
 //! Several messages sent on the port's line at a place, one after another, as its link is told them.
 
-ghost use Rattle.std.specs.Prelude.{◌≡◌, ◌<◌, ◌+◌, ℕ, List, ◌++◌, Option, IfOk, length, map, option_to_list};
+ghost use Rattle.std.specs.Prelude.{◌≡◌, ◌<◌, ◌+◌, ℕ, List, ◌++◌, Option, IfOk, length, map};
 ghost use Rattle.gate_sessions.specs.Inbound.{inbound_bytes};
 ghost use Rattle.gate_sessions.specs.Settings.{Settings};
 ghost use Rattle.gate_sessions.specs.Sessions.{port_answer, port_outs, sends, to_port};
-ghost use Rattle.gate_sessions.specs.Lines.{PortsLeave, PortLinks, NextWithin, IsUpAt, called, called_all};
-ghost use Rattle.gate_sessions.specs.Lines.{PortStands, PortsSettledAs};
+ghost use Rattle.gate_sessions.specs.Lines.{PortsCalled, PortsStayLinked, PortsStaySettled, PortsStayWithin};
+ghost use Rattle.gate_sessions.specs.Lines.{PortsLeave, PortLinks, IsUpAt, called_all};
 ghost use Rattle.soup_session.specs.Table.{PortCall, Send};
 ghost use Rattle.gate_events.specs.Seen.{link_out_seen};
 
 use crate::batch::LinkOut;
 use crate::link_outs::tell_port;
-use gate_sessions::{Inbound, PortLine, port_send};
+use gate_sessions::{Inbound, Ports};
 use std::alloc::{AllocError, Global};
 
 /// Sends messages, in their order, each once, while the port is up, and gives what the current link is told.
 ///
 /// `AllocError` leaves every link and the number of lines as they were; how many of the messages were sent isn't said.
 pub fn port_send_all(
-    lines: &mut Vec<PortLine>,
+    ports: &mut Ports,
     alloc: Global,
     place: usize,
     messages: &[Inbound],
     at: u64,
 ) -> Result<Vec<LinkOut>, AllocError>
-    requires place { place < length lines.old.items }
-    requires up { IsUpAt place lines.old.items }
-    ensures leave { IfOk result (λ outs. (s : Settings) (calls : ℕ → List PortCall) → PortsLeave s calls lines.old.items
-        → PortsLeave s (called_all (place + 1) (sends at (map inbound_bytes messages.now)) calls) lines.new.items) }
+    requires place { place < length ports.old.lines.items }
+    requires up { IsUpAt place ports.old.lines.items }
+    ensures leave { IfOk result (λ outs. (s : Settings) (calls : ℕ → List PortCall)
+        → PortsLeave s calls ports.old.lines.items
+        → PortsLeave s (called_all (place + 1) (sends at (map inbound_bytes messages.now)) calls)
+        ports.new.lines.items) }
     ensures outs { IfOk result (λ outs. (s : Settings) (calls : ℕ → List PortCall) (links : ℕ → Option ℕ)
-        → PortsLeave s calls lines.old.items → PortLinks links lines.old.items
+        → PortsLeave s calls ports.old.lines.items → PortLinks links ports.old.lines.items
         → map link_out_seen outs.items ≡ to_port (links (place + 1))
         (port_outs s (place + 1) (calls (place + 1)) (sends at (map inbound_bytes messages.now)))) }
-    ensures links { (links : ℕ → Option ℕ) → PortLinks links lines.old.items → PortLinks links lines.new.items }
-    ensures next { (n : ℕ) → NextWithin n lines.old.items → NextWithin n lines.new.items }
-    ensures up { IfOk result (λ outs. IsUpAt place lines.new.items) }
-    ensures settled { (was : ℕ → PortStands) → PortsSettledAs was lines.old.items
-        → PortsSettledAs was lines.new.items }
-    ensures length { length lines.new.items ≡ length lines.old.items }
+    ensures links { PortsStayLinked ports.old ports.new }
+    ensures next { PortsStayWithin ports.old ports.new }
+    ensures up { IfOk result (λ outs. IsUpAt place ports.new.lines.items) }
+    ensures settled { PortsStaySettled ports.old ports.new }
+    ensures length { length ports.new.lines.items ≡ length ports.old.lines.items }
 {
-    let link = lines[place].link;
+    let link = ports.lines[place].link;
     let mut outs = Vec::with_capacity(alloc, messages.len())?;
     for message in messages {
-        send_one(lines, alloc, place, link, message, at, &mut outs)?;
+        send_one(ports, alloc, place, link, message, at, &mut outs)?;
     }
     Ok(outs)
 }
 
 /// Sends a message, and takes over what this link is told.
 fn send_one(
-    lines: &mut Vec<PortLine>,
+    ports: &mut Ports,
     alloc: Global,
     place: usize,
     link: Option<u64>,
@@ -57,20 +58,19 @@ fn send_one(
     at: u64,
     outs: &mut Vec<LinkOut>,
 ) -> Result<(), AllocError>
-    requires place { place < length lines.old.items }
-    requires up { IsUpAt place lines.old.items }
-    ensures leave { IfOk result (λ u. (s : Settings) (calls : ℕ → List PortCall) → PortsLeave s calls lines.old.items
-        → PortsLeave s (called (place + 1) (Send (inbound_bytes message.now) at) calls) lines.new.items) }
-    ensures outs { IfOk result (λ u. (s : Settings) (calls : ℕ → List PortCall) → PortsLeave s calls lines.old.items
+    requires place { place < length ports.old.lines.items }
+    requires up { IsUpAt place ports.old.lines.items }
+    ensures leave { IfOk result (λ u. PortsCalled place (Send (inbound_bytes message.now) at) ports.old ports.new) }
+    ensures outs { IfOk result (λ u. (s : Settings) (calls : ℕ → List PortCall)
+        → PortsLeave s calls ports.old.lines.items
         → map link_out_seen outs.new.items ≡ map link_out_seen outs.old.items ++ to_port link
         (port_answer s (place + 1) (calls (place + 1)) (Send (inbound_bytes message.now) at)).outs) }
-    ensures links { (links : ℕ → Option ℕ) → PortLinks links lines.old.items → PortLinks links lines.new.items }
-    ensures next { (n : ℕ) → NextWithin n lines.old.items → NextWithin n lines.new.items }
-    ensures up { IfOk result (λ u. IsUpAt place lines.new.items) }
-    ensures settled { (was : ℕ → PortStands) → PortsSettledAs was lines.old.items
-        → PortsSettledAs was lines.new.items }
-    ensures length { length lines.new.items ≡ length lines.old.items }
+    ensures links { PortsStayLinked ports.old ports.new }
+    ensures next { PortsStayWithin ports.old ports.new }
+    ensures up { IfOk result (λ u. IsUpAt place ports.new.lines.items) }
+    ensures settled { PortsStaySettled ports.old ports.new }
+    ensures length { length ports.new.lines.items ≡ length ports.old.lines.items }
 {
-    let turn = port_send(lines, alloc, place, message, at)?;
+    let turn = ports.send(alloc, place, message, at)?;
     tell_port(alloc, link, turn.out, outs)
 }

@@ -1,7 +1,7 @@
 mod Bodies
-mod Clients
+mod ClientCalls
 mod Places
-mod Ports
+mod PortCalls
 mod Sending
 mod Settling
 pub mod Several

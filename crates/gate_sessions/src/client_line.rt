@@ -1,12 +1,9 @@
 //! A client's line: its current link, and its session.
 
-ghost use Rattle.std.specs.Prelude.{◌≡◌, ℕ, List, [], ◌∷◌, Some, None, IfOk, OnOk, OnErr, map, true, false};
-ghost use Rattle.gate_law.specs.session_law.Runs.{Timed, OnLink, OnMessage, OnTick};
-ghost use Rattle.gate_law.specs.session_law.Frames.{told_of_out};
-ghost use Rattle.fix_session.specs.session_writing.Written.{told_frame};
+ghost use Rattle.std.specs.Prelude.{◌≡◌, ℕ, List, [], None, true, false};
+ghost use Rattle.gate_law.specs.session_law.Runs.{Timed};
 ghost use Rattle.gate_law.specs.Settings.{Settings, client_name};
-ghost use Rattle.gate_law.specs.Sessions.{client_answer, report_issued};
-ghost use Rattle.gate_sessions.specs.Leaving.{ClientLeaves, IsClientAnswer, expected_in, issue_call};
+ghost use Rattle.gate_sessions.specs.Leaving.{ClientLeaves, expected_in};
 ghost use Rattle.gate_sessions.specs.Lines.{client_now, client_settled};
 
 use fix_session::{IssuedTurn, Session, SessionTurn};

@@ -11,17 +11,11 @@ mod port_line;
 mod port_lines;
 
 pub use client_line::ClientLine;
-pub use client_lines::{
-    client_close, client_frame, client_gone, client_issue, client_tick, client_up, clients_settle,
-    clients_undo,
-};
+pub use client_lines::Clients;
 pub use fix_session::{IssuedReport, IssuedTurn, SessionOut, SessionTurn, push_number};
 pub use fix_types::AppBody;
 pub use gate_law::{Fields, Inbound};
 pub use laws::issues_are_what_is_reported;
 pub use port_line::PortLine;
-pub use port_lines::{
-    port_close, port_fail, port_gone, port_packet, port_send, port_tick, port_up, ports_settle,
-    ports_undo,
-};
+pub use port_lines::Ports;
 pub use soup_packets::Packet;

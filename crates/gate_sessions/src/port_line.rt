@@ -1,10 +1,10 @@
 //! A port's line: its current link, and its session.
 
-ghost use Rattle.std.specs.Prelude.{◌≡◌, ◌≤◌, ◌+◌, ℕ, List, [], ◌∷◌, length, Some, None, IfOk, OnErr};
-ghost use Rattle.gate_law.specs.soup_session.Table.{PortCall, OnUp, OnPacket, OnGone, OnTick, Send, Fail};
-ghost use Rattle.gate_law.specs.soup_session.Calls.{IsAnswer, PortHasRoom, IsUp, next_of};
+ghost use Rattle.std.specs.Prelude.{◌≡◌, ◌≤◌, ℕ, List, [], length, None};
+ghost use Rattle.gate_law.specs.soup_session.Table.{PortCall};
+ghost use Rattle.gate_law.specs.soup_session.Calls.{next_of};
 ghost use Rattle.gate_law.specs.Settings.{Settings, port_terms};
-ghost use Rattle.gate_law.specs.Sessions.{port_answer, port_state};
+ghost use Rattle.gate_law.specs.Sessions.{port_state};
 ghost use Rattle.gate_sessions.specs.Leaving.{PortLeaves};
 ghost use Rattle.gate_sessions.specs.Lines.{port_now, port_settled};
 

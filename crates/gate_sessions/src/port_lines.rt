@@ -1,135 +1,156 @@
-//! Calls on the port's line at a place.
+//! The lines of all ports, and the calls on the one at a place.
 
-ghost use Rattle.std.specs.Prelude.{◌≡◌, ◌<◌, ◌≤◌, ◌+◌, ◌-◌, ◌^◌, ℕ, List, ◌∷◌, Option, Some, None, IfOk, OnErr};
-ghost use Rattle.std.specs.Prelude.{length, map, slice_get, slice_set};
+ghost use Rattle.std.specs.Prelude.{◌≡◌, ◌<◌, ◌+◌, ◌^◌, ℕ, Some, None, IfOk, length, map};
 ghost use Rattle.gate_law.specs.order_law.ouch_codec.Inbound.{inbound_bytes};
-ghost use Rattle.gate_law.specs.soup_session.Table.{PortCall, OnUp, OnPacket, OnGone, OnTick, Send, Fail};
-ghost use Rattle.gate_law.specs.soup_session.Calls.{IsAnswer, PortHasRoom, IsUp};
-ghost use Rattle.gate_law.specs.Settings.{Settings};
-ghost use Rattle.gate_law.specs.Sessions.{port_answer};
-ghost use Rattle.gate_sessions.specs.Leaving.{PortLeaves};
-ghost use Rattle.gate_sessions.specs.Lines.{PortsLeave, PortLinks, NextWithin, IsUpAt, called, link_set};
-ghost use Rattle.gate_sessions.specs.Lines.{PortStands, PortsSettledAs, port_now, port_settled};
+ghost use Rattle.gate_law.specs.soup_session.Table.{OnUp, OnPacket, OnGone, OnTick, Send, Fail};
+ghost use Rattle.gate_sessions.specs.Lines.{PortsCalled, PortsUncalled, PortAnswers, PortsLinked, PortsStayLinked};
+ghost use Rattle.gate_sessions.specs.Lines.{PortsStaySettled, PortsStayWithin, NextWithin, IsUpAt, port_now};
+ghost use Rattle.gate_sessions.specs.Lines.{port_settled};
 
 use crate::port_line::PortLine;
 use gate_law::{Inbound, PortFault, PortTurn};
 use soup_packets::{Packet, Payload};
 use std::alloc::{AllocError, Global};
 
-/// A link is current from now on.
-pub fn port_up(
-    lines: &mut Vec<PortLine>,
-    alloc: Global,
-    place: usize,
-    link: u64,
-    at: u64,
-) -> Result<PortTurn, AllocError>
-    requires place { place < length lines.old.items }
-    ensures leave { IfOk result (λ t. (s : Settings) (calls : ℕ → List PortCall) → PortsLeave s calls lines.old.items
-        → PortsLeave s (called (place + 1) (OnUp at) calls) lines.new.items) }
-    ensures answers { IfOk result (λ t. (s : Settings) (calls : ℕ → List PortCall) → PortsLeave s calls lines.old.items
-        → IsAnswer (port_answer s (place + 1) (calls (place + 1)) (OnUp at)) t) }
-    ensures links { IfOk result (λ t. (links : ℕ → Option ℕ) → PortLinks links lines.old.items
-        → PortLinks (link_set (place + 1) (Some link) links) lines.new.items) }
-    ensures next { (n : ℕ) → NextWithin n lines.old.items → NextWithin n lines.new.items }
-    ensures settled { (was : ℕ → PortStands) → PortsSettledAs was lines.old.items
-        → PortsSettledAs was lines.new.items }
-    ensures length { length lines.new.items ≡ length lines.old.items }
-{
-    let line = &mut lines[place];
-    let turn = line.session.on_up(alloc, at)?;
-    line.link = Some(link);
-    Ok(turn)
+/// The line of each port, by its place: number i + 1 stands at place i.
+#[derive(Drop)]
+pub struct Ports {
+    pub lines: Vec<PortLine>,
 }
 
-/// The current link is gone.
-pub fn port_gone(lines: &mut Vec<PortLine>, place: usize)
-    requires place { place < length lines.old.items }
-    ensures leave { (s : Settings) (calls : ℕ → List PortCall) → PortsLeave s calls lines.old.items
-        → PortsLeave s (called (place + 1) OnGone calls) lines.new.items }
-    ensures links { (links : ℕ → Option ℕ) → PortLinks links lines.old.items
-        → PortLinks (link_set (place + 1) None links) lines.new.items }
-    ensures next { (n : ℕ) → NextWithin n lines.old.items → NextWithin n lines.new.items }
-    ensures settled { (was : ℕ → PortStands) → PortsSettledAs was lines.old.items
-        → PortsSettledAs was lines.new.items }
-    ensures length { length lines.new.items ≡ length lines.old.items }
-{
-    let line = &mut lines[place];
-    line.link = None;
-    line.session.on_gone();
-}
+impl Ports {
+    /// A link is current from now on.
+    pub fn up(
+        &mut self,
+        alloc: Global,
+        place: usize,
+        link: u64,
+        at: u64,
+    ) -> Result<PortTurn, AllocError>
+        requires place { place < length self.old.lines.items }
+        ensures leave { IfOk result (λ t. PortsCalled place (OnUp at) self.old self.new) }
+        ensures answers { IfOk result (λ t. PortAnswers place (OnUp at) self.old t) }
+        ensures links { IfOk result (λ t. PortsLinked place (Some link) self.old self.new) }
+        ensures next { PortsStayWithin self.old self.new }
+        ensures settled { PortsStaySettled self.old self.new }
+        ensures length { length self.new.lines.items ≡ length self.old.lines.items }
+    {
+        let line = &mut self.lines[place];
+        let turn = line.session.on_up(alloc, at)?;
+        line.link = Some(link);
+        Ok(turn)
+    }
 
-/// The core closed the current link.
-pub fn port_close(lines: &mut Vec<PortLine>, place: usize)
-    requires place { place < length lines.old.items }
-    ensures leave { (s : Settings) (calls : ℕ → List PortCall) → PortsLeave s calls lines.old.items
-        → PortsLeave s calls lines.new.items }
-    ensures links { (links : ℕ → Option ℕ) → PortLinks links lines.old.items
-        → PortLinks (link_set (place + 1) None links) lines.new.items }
-    ensures next { (n : ℕ) → NextWithin n lines.old.items → NextWithin n lines.new.items }
-    ensures settled { (was : ℕ → PortStands) → PortsSettledAs was lines.old.items
-        → PortsSettledAs was lines.new.items }
-    ensures length { length lines.new.items ≡ length lines.old.items }
-{
-    lines[place].link = None;
-}
+    /// The current link is gone.
+    pub fn gone(&mut self, place: usize)
+        requires place { place < length self.old.lines.items }
+        ensures leave { PortsCalled place OnGone self.old self.new }
+        ensures links { PortsLinked place None self.old self.new }
+        ensures next { PortsStayWithin self.old self.new }
+        ensures settled { PortsStaySettled self.old self.new }
+        ensures length { length self.new.lines.items ≡ length self.old.lines.items }
+    {
+        let line = &mut self.lines[place];
+        line.link = None;
+        line.session.on_gone();
+    }
 
-/// A packet on the current link.
-pub fn port_packet(lines: &mut Vec<PortLine>, place: usize, packet: &Packet, at: u64) -> PortTurn
-    requires place { place < length lines.old.items }
-    requires room { NextWithin (2 ^ 59) lines.old.items }
-    ensures leave { (s : Settings) (calls : ℕ → List PortCall) → PortsLeave s calls lines.old.items
-        → PortsLeave s (called (place + 1) (OnPacket packet.now at) calls) lines.new.items }
-    ensures answers { (s : Settings) (calls : ℕ → List PortCall) → PortsLeave s calls lines.old.items
-        → IsAnswer (port_answer s (place + 1) (calls (place + 1)) (OnPacket packet.now at)) result }
-    ensures links { (links : ℕ → Option ℕ) → PortLinks links lines.old.items → PortLinks links lines.new.items }
-    ensures next { (n : ℕ) → NextWithin n lines.old.items → NextWithin (n + 1) lines.new.items }
-    ensures settled { (was : ℕ → PortStands) → PortsSettledAs was lines.old.items
-        → PortsSettledAs was lines.new.items }
-    ensures length { length lines.new.items ≡ length lines.old.items }
-{
-    lines[place].session.on_packet(packet, at)
-}
+    /// The core closed the current link.
+    pub fn close(&mut self, place: usize)
+        requires place { place < length self.old.lines.items }
+        ensures leave { PortsUncalled self.old self.new }
+        ensures links { PortsLinked place None self.old self.new }
+        ensures next { PortsStayWithin self.old self.new }
+        ensures settled { PortsStaySettled self.old self.new }
+        ensures length { length self.new.lines.items ≡ length self.old.lines.items }
+    {
+        self.lines[place].link = None;
+    }
 
-/// Time passes.
-pub fn port_tick(lines: &mut Vec<PortLine>, alloc: Global, place: usize, at: u64) -> PortTurn
-    requires place { place < length lines.old.items }
-    ensures leave { (s : Settings) (calls : ℕ → List PortCall) → PortsLeave s calls lines.old.items
-        → PortsLeave s (called (place + 1) (OnTick at) calls) lines.new.items }
-    ensures answers { (s : Settings) (calls : ℕ → List PortCall) → PortsLeave s calls lines.old.items
-        → IsAnswer (port_answer s (place + 1) (calls (place + 1)) (OnTick at)) result }
-    ensures links { (links : ℕ → Option ℕ) → PortLinks links lines.old.items → PortLinks links lines.new.items }
-    ensures next { (n : ℕ) → NextWithin n lines.old.items → NextWithin n lines.new.items }
-    ensures settled { (was : ℕ → PortStands) → PortsSettledAs was lines.old.items
-        → PortsSettledAs was lines.new.items }
-    ensures length { length lines.new.items ≡ length lines.old.items }
-{
-    lines[place].session.on_tick(alloc, at)
-}
+    /// A packet on the current link.
+    pub fn packet(&mut self, place: usize, packet: &Packet, at: u64) -> PortTurn
+        requires place { place < length self.old.lines.items }
+        requires room { NextWithin (2 ^ 59) self.old.lines.items }
+        ensures leave { PortsCalled place (OnPacket packet.now at) self.old self.new }
+        ensures answers { PortAnswers place (OnPacket packet.now at) self.old result }
+        ensures links { PortsStayLinked self.old self.new }
+        ensures next { (n : ℕ) → NextWithin n self.old.lines.items → NextWithin (n + 1) self.new.lines.items }
+        ensures settled { PortsStaySettled self.old self.new }
+        ensures length { length self.new.lines.items ≡ length self.old.lines.items }
+    {
+        self.lines[place].session.on_packet(packet, at)
+    }
 
-/// A message goes out while the port is up. One growth.
-pub fn port_send(
-    lines: &mut Vec<PortLine>,
-    alloc: Global,
-    place: usize,
-    message: &Inbound,
-    at: u64,
-) -> Result<PortTurn, AllocError>
-    requires place { place < length lines.old.items }
-    requires up { IsUpAt place lines.old.items }
-    ensures leave { IfOk result (λ t. (s : Settings) (calls : ℕ → List PortCall) → PortsLeave s calls lines.old.items
-        → PortsLeave s (called (place + 1) (Send (inbound_bytes message.now) at) calls) lines.new.items) }
-    ensures answers { IfOk result (λ t. (s : Settings) (calls : ℕ → List PortCall) → PortsLeave s calls lines.old.items
-        → IsAnswer (port_answer s (place + 1) (calls (place + 1)) (Send (inbound_bytes message.now) at)) t) }
-    ensures links { (links : ℕ → Option ℕ) → PortLinks links lines.old.items → PortLinks links lines.new.items }
-    ensures next { (n : ℕ) → NextWithin n lines.old.items → NextWithin n lines.new.items }
-    ensures up { IfOk result (λ t. IsUpAt place lines.new.items) }
-    ensures settled { (was : ℕ → PortStands) → PortsSettledAs was lines.old.items
-        → PortsSettledAs was lines.new.items }
-    ensures length { length lines.new.items ≡ length lines.old.items }
-{
-    let payload = payload_of(alloc, message)?;
-    Ok(lines[place].session.send(payload, at))
+    /// Time passes.
+    pub fn tick(&mut self, alloc: Global, place: usize, at: u64) -> PortTurn
+        requires place { place < length self.old.lines.items }
+        ensures leave { PortsCalled place (OnTick at) self.old self.new }
+        ensures answers { PortAnswers place (OnTick at) self.old result }
+        ensures links { PortsStayLinked self.old self.new }
+        ensures next { PortsStayWithin self.old self.new }
+        ensures settled { PortsStaySettled self.old self.new }
+        ensures length { length self.new.lines.items ≡ length self.old.lines.items }
+    {
+        self.lines[place].session.on_tick(alloc, at)
+    }
+
+    /// A message goes out while the port is up. One growth.
+    pub fn send(
+        &mut self,
+        alloc: Global,
+        place: usize,
+        message: &Inbound,
+        at: u64,
+    ) -> Result<PortTurn, AllocError>
+        requires place { place < length self.old.lines.items }
+        requires up { IsUpAt place self.old.lines.items }
+        ensures leave { IfOk result (λ t. PortsCalled place (Send (inbound_bytes message.now) at) self.old self.new) }
+        ensures answers { IfOk result (λ t. PortAnswers place (Send (inbound_bytes message.now) at) self.old t) }
+        ensures links { PortsStayLinked self.old self.new }
+        ensures next { PortsStayWithin self.old self.new }
+        ensures up { IfOk result (λ t. IsUpAt place self.new.lines.items) }
+        ensures settled { PortsStaySettled self.old self.new }
+        ensures length { length self.new.lines.items ≡ length self.old.lines.items }
+    {
+        let payload = payload_of(alloc, message)?;
+        Ok(self.lines[place].session.send(payload, at))
+    }
+
+    /// The payload that was delivered last is at fault at the order level.
+    pub fn fail(&mut self, place: usize, fault: PortFault) -> PortTurn
+        requires place { place < length self.old.lines.items }
+        requires up { IsUpAt place self.old.lines.items }
+        ensures leave { PortsCalled place (Fail fault) self.old self.new }
+        ensures answers { PortAnswers place (Fail fault) self.old result }
+        ensures links { PortsStayLinked self.old self.new }
+        ensures next { PortsStayWithin self.old self.new }
+        ensures settled { PortsStaySettled self.old self.new }
+        ensures length { length self.new.lines.items ≡ length self.old.lines.items }
+    {
+        self.lines[place].session.fail(fault)
+    }
+
+    /// Each line can be put back to how it is now.
+    pub fn settle(&mut self)
+        ensures now { map port_now self.new.lines.items ≡ map port_now self.old.lines.items }
+        ensures settled { map port_settled self.new.lines.items ≡ map port_now self.old.lines.items }
+    {
+        for line in self.lines.iter_mut() {
+            line.settled_link = line.link;
+            line.session.settle();
+        }
+    }
+
+    /// Each line is as it was when it was settled last.
+    pub fn undo(&mut self)
+        ensures now { map port_now self.new.lines.items ≡ map port_settled self.old.lines.items }
+        ensures settled { map port_settled self.new.lines.items ≡ map port_settled self.old.lines.items }
+    {
+        for line in self.lines.iter_mut() {
+            line.link = line.settled_link;
+            line.session.undo();
+        }
+    }
 }
 
 /// The payload of a message's packet. One growth.
@@ -139,43 +160,4 @@ fn payload_of(alloc: Global, message: &Inbound) -> Result<Payload, AllocError>
     let mut bytes = vec![in alloc; 0; message.len()]?;
     message.put(bytes.as_mut_slice());
     Ok(Payload::from_vec(bytes))
-}
-
-/// The payload that was delivered last is at fault at the order level.
-pub fn port_fail(lines: &mut Vec<PortLine>, place: usize, fault: PortFault) -> PortTurn
-    requires place { place < length lines.old.items }
-    requires up { IsUpAt place lines.old.items }
-    ensures leave { (s : Settings) (calls : ℕ → List PortCall) → PortsLeave s calls lines.old.items
-        → PortsLeave s (called (place + 1) (Fail fault) calls) lines.new.items }
-    ensures answers { (s : Settings) (calls : ℕ → List PortCall) → PortsLeave s calls lines.old.items
-        → IsAnswer (port_answer s (place + 1) (calls (place + 1)) (Fail fault)) result }
-    ensures links { (links : ℕ → Option ℕ) → PortLinks links lines.old.items → PortLinks links lines.new.items }
-    ensures next { (n : ℕ) → NextWithin n lines.old.items → NextWithin n lines.new.items }
-    ensures settled { (was : ℕ → PortStands) → PortsSettledAs was lines.old.items
-        → PortsSettledAs was lines.new.items }
-    ensures length { length lines.new.items ≡ length lines.old.items }
-{
-    lines[place].session.fail(fault)
-}
-
-/// Each line can be put back to how it is now.
-pub fn ports_settle(lines: &mut [PortLine])
-    ensures now { map port_now lines.new ≡ map port_now lines.old }
-    ensures settled { map port_settled lines.new ≡ map port_now lines.old }
-{
-    for line in lines.iter_mut() {
-        line.settled_link = line.link;
-        line.session.settle();
-    }
-}
-
-/// Each line is as it was when it was settled last.
-pub fn ports_undo(lines: &mut [PortLine])
-    ensures now { map port_now lines.new ≡ map port_settled lines.old }
-    ensures settled { map port_settled lines.new ≡ map port_settled lines.old }
-{
-    for line in lines.iter_mut() {
-        line.link = line.settled_link;
-        line.session.undo();
-    }
 }

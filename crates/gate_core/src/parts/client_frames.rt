@@ -17,7 +17,6 @@ use gate_events::{
     Batch, ClientFrame, ClientNumber, Issues, PortNumber, SessionOut, SessionTurn, told_client,
     told_port,
 };
-use gate_sessions::client_frame;
 use std::alloc::{AllocError, Global};
 use std::hash::BuildHasher;
 
@@ -40,13 +39,7 @@ impl<S: BuildHasher + Drop> Parts<S> {
         let Some(place) = self.client_on(client, link) else {
             return Ok(Batch::empty(alloc));
         };
-        let SessionTurn { outs, app } = client_frame(
-            &mut self.clients,
-            alloc,
-            place,
-            frame.fields(),
-            at,
-        )?;
+        let SessionTurn { outs, app } = self.clients.frame(alloc, place, frame.fields(), at)?;
         match app {
             Some(message) => self.message_delivered(alloc, place, &message, at, outs),
             None => self.no_message_delivered(alloc, place, outs),
@@ -62,7 +55,7 @@ impl<S: BuildHasher + Drop> Parts<S> {
         at: u64,
         said: Vec<SessionOut>,
     ) -> Result<Batch, AllocError>
-        requires place { place < length self.old.clients.items }
+        requires place { place < length self.old.clients.lines.items }
         requires shaped { IsShaped self.old }
         requires room { CoreHasRoom self.old.orders }
         ensures step { IfOk result (λ b. (s : Settings) (v : Lists) (link : ℕ) (frame : Message)
@@ -88,8 +81,8 @@ impl<S: BuildHasher + Drop> Parts<S> {
         place: usize,
         said: Vec<SessionOut>,
     ) -> Result<Batch, AllocError>
-        requires place { place < length self.old.clients.items }
-        requires few { length self.old.clients.items ≤ 64 }
+        requires place { place < length self.old.clients.lines.items }
+        requires few { length self.old.clients.lines.items ≤ 64 }
         ensures step { IfOk result (λ b. (s : Settings) (v : Lists) (link at : ℕ) (frame : Message)
             → AfterFrame s (place + 1) link at frame None said.items v self.old
             → Stepped s (ClientMessage (place + 1) link at frame) (batch_seen b) v self.new) }

@@ -11,7 +11,6 @@ ghost use Rattle.gate_core.specs.Expected.{next_expected};
 
 use super::{Parts, place_of};
 use gate_events::{Batch, ClientNumber, only_outs, told_client};
-use gate_sessions::{client_gone, client_tick, client_up};
 use std::alloc::{AllocError, Global};
 use std::hash::BuildHasher;
 
@@ -33,7 +32,7 @@ impl<S: BuildHasher + Drop> Parts<S> {
         };
         match self.client_link(place) {
             None => {
-                client_up(&mut self.clients, alloc, place, link, at);
+                self.clients.up(alloc, place, link, at);
                 Ok(Batch::empty(alloc))
             }
             Some(current) if current == link => Ok(Batch::empty(alloc)),
@@ -56,7 +55,7 @@ impl<S: BuildHasher + Drop> Parts<S> {
         let Some(place) = self.client_on(client, link) else {
             return Batch::empty(alloc);
         };
-        client_gone(&mut self.clients, alloc, place, at);
+        self.clients.gone(alloc, place, at);
         Batch::empty(alloc)
     }
 
@@ -74,7 +73,7 @@ impl<S: BuildHasher + Drop> Parts<S> {
         let Some(place) = self.client_place(client) else {
             return Ok(Batch::empty(alloc));
         };
-        let said = only_outs(client_tick(&mut self.clients, alloc, place, at)?);
+        let said = only_outs(self.clients.tick(alloc, place, at)?);
         let outs = told_client(&mut self.clients, alloc, place, said, Vec::new(alloc))?;
         Ok(Batch::for_client(alloc, client, Vec::new(alloc), outs))
     }
@@ -82,24 +81,24 @@ impl<S: BuildHasher + Drop> Parts<S> {
     /// The place of a client, where the settings have it.
     pub(crate) fn client_place(&self, client: ClientNumber) -> Option<usize>
         ensures known { (s : Settings) (v : Lists) → ArePartsOf s v self.now → is_some result ≡ has_client s client }
-        ensures place { IfSome result (λ place. (client ≡ place + 1) × (place < length self.now.clients.items)) }
+        ensures place { IfSome result (λ place. (client ≡ place + 1) × (place < length self.now.clients.lines.items)) }
     {
-        place_of(client.number(), self.clients.len())
+        place_of(client.number(), self.clients.lines.len())
     }
 
     /// The current link of the client at a place.
     pub(crate) fn client_link(&self, place: usize) -> Option<u64>
-        requires place { place < length self.now.clients.items }
+        requires place { place < length self.now.clients.lines.items }
         ensures link { (s : Settings) (v : Lists) → ArePartsOf s v self.now → result ≡ v.client_link (place + 1) }
     {
-        self.clients[place].link
+        self.clients.lines[place].link
     }
 
     /// The place of a client of which this link is the current one.
     pub(crate) fn client_on(&self, client: ClientNumber, link: u64) -> Option<usize>
         ensures on { (s : Settings) (v : Lists) → ArePartsOf s v self.now
             → is_some result ≡ (has_client s client && is_the_number link (v.client_link client)) }
-        ensures place { IfSome result (λ place. (client ≡ place + 1) × (place < length self.now.clients.items)) }
+        ensures place { IfSome result (λ place. (client ≡ place + 1) × (place < length self.now.clients.lines.items)) }
     {
         let place = self.client_place(client)?;
         if self.client_link(place) == Some(link) {
@@ -115,6 +114,6 @@ impl<S: BuildHasher + Drop> Parts<S> {
             → result ≡ next_expected s client (v.client_calls client) }
     {
         let place = self.client_place(ClientNumber::of(client)?)?;
-        Some(self.clients[place].next_in())
+        Some(self.clients.lines[place].next_in())
     }
 }

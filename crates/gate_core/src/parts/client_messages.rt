@@ -40,8 +40,8 @@ impl<S: BuildHasher + Drop> Parts<S> {
         message: &AppMsg,
         at: u64,
     ) -> Result<Asked, AllocError>
-        requires place { place < length self.old.clients.items }
-        requires port { port < length self.old.ports.items }
+        requires place { place < length self.old.clients.lines.items }
+        requires port { port < length self.old.ports.lines.items }
         requires shaped { IsShaped self.old }
         requires room { CoreHasRoom self.old.orders }
         ensures asked { IfOk result (λ out. (s : Settings) (v : Lists) → Ready s v self.old
@@ -61,7 +61,7 @@ impl<S: BuildHasher + Drop> Parts<S> {
         place: usize,
         message: &AppMsg,
     ) -> Result<CoreOut, AllocError>
-        requires place { place < length self.old.clients.items }
+        requires place { place < length self.old.clients.lines.items }
         requires shaped { IsShaped self.old }
         requires room { CoreHasRoom self.old.orders }
         ensures turn { IfOk result (λ out. (s : Settings) (v : Lists) → Ready s v self.old
@@ -69,7 +69,7 @@ impl<S: BuildHasher + Drop> Parts<S> {
         ensures grows { Grows 3 0 self.old self.new }
     {
         let port = self.port_at(place);
-        let state = stands(self.ports[port].state());
+        let state = stands(self.ports.lines[port].state());
         let out = self
             .orders
             .client(alloc, (place + 1) as u16, message, state)?;
@@ -78,9 +78,9 @@ impl<S: BuildHasher + Drop> Parts<S> {
 
     /// The place of the port of the client at a place.
     pub(crate) fn port_at(&self, place: usize) -> usize
-        requires place { place < length self.now.clients.items }
+        requires place { place < length self.now.clients.lines.items }
         requires shaped { IsShaped self.now }
-        ensures inside { result < length self.now.ports.items }
+        ensures inside { result < length self.now.ports.lines.items }
         ensures port { (s : Settings) (v : Lists) → ArePartsOf s v self.now → result + 1 ≡ port_of s (place + 1) }
     {
         usize::from(self.client_ports[place]) - 1
@@ -94,7 +94,7 @@ impl<S: BuildHasher + Drop> Parts<S> {
         bodies: &[AppBody],
         at: u64,
     ) -> Result<Issues, AllocError>
-        requires place { place < length self.old.clients.items }
+        requires place { place < length self.old.clients.lines.items }
         ensures issued { IfOk result (λ out. (s : Settings) (v : Lists) → ArePartsOf s v self.old
             → IsIssued s (place + 1) at (map body_fields bodies.now) out v self.new) }
         ensures grows { Grows 0 0 self.old self.new }
@@ -111,13 +111,13 @@ impl<S: BuildHasher + Drop> Parts<S> {
         messages: &[Inbound],
         at: u64,
     ) -> Result<Vec<LinkOut>, AllocError>
-        requires place { place < length self.old.ports.items }
+        requires place { place < length self.old.ports.lines.items }
         ensures sent { IfOk result (λ outs. (s : Settings) (v : Lists) → ArePartsOf s v self.old
             → OnlyWhileUp s (place + 1) v (map inbound_bytes messages.now)
             → IsSent s (place + 1) at (map inbound_bytes messages.now) (map link_out_seen outs.items) v self.new) }
         ensures grows { Grows 0 0 self.old self.new }
     {
-        match self.ports[place].state() {
+        match self.ports.lines[place].state() {
             soup_session::PortState::Up => {
                 let outs = port_send_all(&mut self.ports, alloc, place, messages, at)?;
                 Ok(outs)

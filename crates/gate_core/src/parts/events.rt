@@ -19,7 +19,7 @@ impl<S: BuildHasher + Drop> Parts<S> {
     pub(crate) fn event(&mut self, alloc: Global, event: &Event) -> Result<Batch, AllocError>
         requires shaped { IsShaped self.old }
         requires room { CoreHasRoom self.old.orders }
-        requires next { NextWithin (2 ^ 59) self.old.ports.items }
+        requires next { NextWithin (2 ^ 59) self.old.ports.lines.items }
         ensures step { IfOk result (λ b. (s : Settings) (v : Lists) → Ready s v self.old
             → Stepped s (event_seen event.now) (batch_seen b) v self.new) }
         ensures grows { Grows 3 1 self.old self.new }

@@ -12,7 +12,7 @@ ghost use Rattle.gate_core.specs.State.{ArePortsOf, AreAmong, HasNumbers, IsShap
 
 use super::Parts;
 use fix_fields::Text;
-use gate_sessions::{ClientLine, PortLine};
+use gate_sessions::{ClientLine, Clients, PortLine, Ports};
 use gate_settings::{ClientSettings, Settings};
 use order_core::{ClientTerms, OrderCore};
 use std::alloc::{AllocError, Global};
@@ -33,8 +33,12 @@ impl<S: BuildHasher + Drop> Parts<S> {
         ensures numbers { IfOk result (λ parts. HasNumbers 0 parts) }
     {
         Ok(Parts {
-            clients: client_lines(alloc, settings)?,
-            ports: port_lines(alloc, settings)?,
+            clients: Clients {
+                lines: client_lines(alloc, settings)?,
+            },
+            ports: Ports {
+                lines: port_lines(alloc, settings)?,
+            },
             client_ports: client_ports(alloc, settings)?,
             orders,
         })

@@ -15,7 +15,6 @@ ghost use Rattle.gate_core.specs.Expected.{fault_now};
 use super::port_packets::fault_of;
 use super::{Parts, place_of};
 use gate_events::{Batch, PortNumber, told_port};
-use gate_sessions::{port_gone, port_tick, port_up};
 use soup_session::{PortFault, PortState};
 use std::alloc::{AllocError, Global};
 use std::hash::BuildHasher;
@@ -39,7 +38,7 @@ impl<S: BuildHasher + Drop> Parts<S> {
         };
         match self.port_link(place) {
             None => {
-                let turn = port_up(&mut self.ports, alloc, place, link, at)?;
+                let turn = self.ports.up(alloc, place, link, at)?;
                 let outs = told_port(&mut self.ports, alloc, place, turn.out, Vec::new(alloc))?;
                 Ok(Batch::for_port(alloc, port, outs, None))
             }
@@ -57,7 +56,7 @@ impl<S: BuildHasher + Drop> Parts<S> {
         let Some(place) = self.port_on(port, link) else {
             return Batch::empty(alloc);
         };
-        port_gone(&mut self.ports, place);
+        self.ports.gone(place);
         Batch::empty(alloc)
     }
 
@@ -75,7 +74,7 @@ impl<S: BuildHasher + Drop> Parts<S> {
         let Some(place) = self.port_place(port) else {
             return Ok(Batch::empty(alloc));
         };
-        let turn = port_tick(&mut self.ports, alloc, place, at);
+        let turn = self.ports.tick(alloc, place, at);
         let outs = told_port(&mut self.ports, alloc, place, turn.out, Vec::new(alloc))?;
         Ok(Batch::for_port(alloc, port, outs, None))
     }
@@ -83,27 +82,27 @@ impl<S: BuildHasher + Drop> Parts<S> {
     /// The place of a port, where the settings have it.
     pub(crate) fn port_place(&self, port: PortNumber) -> Option<usize>
         ensures known { (s : Settings) (v : Lists) → ArePartsOf s v self.now → is_some result ≡ has_port s port }
-        ensures place { IfSome result (λ place. (port ≡ place + 1) × (place < length self.now.ports.items)) }
+        ensures place { IfSome result (λ place. (port ≡ place + 1) × (place < length self.now.ports.lines.items)) }
     {
-        place_of(port.number(), self.ports.len())
+        place_of(port.number(), self.ports.lines.len())
     }
 
     /// The current link of the port at a place.
     pub(crate) fn port_link(&self, place: usize) -> Option<u64>
-        requires place { place < length self.now.ports.items }
+        requires place { place < length self.now.ports.lines.items }
         ensures link { (s : Settings) (v : Lists) → ArePartsOf s v self.now → result ≡ v.port_link (place + 1) }
     {
-        self.ports[place].link
+        self.ports.lines[place].link
     }
 
     /// How the port at a place stands.
     pub(crate) fn port_state(&self, place: usize) -> PortState
-        requires place { place < length self.now.ports.items }
+        requires place { place < length self.now.ports.lines.items }
         ensures state { (s : Settings) (v : Lists) → ArePartsOf s v self.now
             → result ≡ port_state s (place + 1) (v.port_calls (place + 1)) }
-        ensures up { is_up result ≡ true → IsUpAt place self.now.ports.items }
+        ensures up { is_up result ≡ true → IsUpAt place self.now.ports.lines.items }
     {
-        self.ports[place].state()
+        self.ports.lines[place].state()
     }
 
     /// The fault of a port, where the settings have the port and it is faulted.
@@ -119,7 +118,7 @@ impl<S: BuildHasher + Drop> Parts<S> {
     pub(crate) fn port_on(&self, port: PortNumber, link: u64) -> Option<usize>
         ensures on { (s : Settings) (v : Lists) → ArePartsOf s v self.now
             → is_some result ≡ (has_port s port && is_the_number link (v.port_link port)) }
-        ensures place { IfSome result (λ place. (port ≡ place + 1) × (place < length self.now.ports.items)) }
+        ensures place { IfSome result (λ place. (port ≡ place + 1) × (place < length self.now.ports.lines.items)) }
     {
         let place = self.port_place(port)?;
         if self.port_link(place) == Some(link) {

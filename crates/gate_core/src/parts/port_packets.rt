@@ -17,7 +17,6 @@ ghost use Rattle.gate_core.specs.Hearing.{IsSentAgain};
 use super::Parts;
 use gate_events::{Batch, LinkOut, PortNumber, told_port};
 use gate_law::Packet;
-use gate_sessions::port_packet;
 use soup_session::{PortFault, PortOut, PortState, PortTurn};
 use std::alloc::{AllocError, Global};
 use std::hash::BuildHasher;
@@ -35,7 +34,7 @@ impl<S: BuildHasher + Drop> Parts<S> {
     ) -> Result<Batch, AllocError>
         requires shaped { IsShaped self.old }
         requires room { CoreHasRoom self.old.orders }
-        requires next { NextWithin (2 ^ 59) self.old.ports.items }
+        requires next { NextWithin (2 ^ 59) self.old.ports.lines.items }
         ensures step { IfOk result (λ b. (s : Settings) (v : Lists) → Ready s v self.old
             → Stepped s (PortPacket port link at packet.now) (batch_seen b) v self.new) }
         ensures grows { Grows 3 1 self.old self.new }
@@ -44,7 +43,7 @@ impl<S: BuildHasher + Drop> Parts<S> {
             return Ok(Batch::empty(alloc));
         };
         let stood = self.port_state(place);
-        let PortTurn { out, is_delivered } = port_packet(&mut self.ports, place, packet, at);
+        let PortTurn { out, is_delivered } = self.ports.packet(place, packet, at);
         if is_delivered {
             self.payload_delivered(alloc, place, packet.payload.as_slice(), at, out)
         } else {
@@ -64,7 +63,7 @@ impl<S: BuildHasher + Drop> Parts<S> {
         said: Option<PortOut>,
         at: u64,
     ) -> Result<Batch, AllocError>
-        requires place { place < length self.old.ports.items }
+        requires place { place < length self.old.ports.lines.items }
         requires few { place < 16 }
         ensures step { IfOk result (λ b. (s : Settings) (v : Lists) (link : ℕ) (packet : packet.Packet)
             → AfterPacket s (place + 1) link at packet None (option_to_list said) v self.old
@@ -87,7 +86,7 @@ impl<S: BuildHasher + Drop> Parts<S> {
         stood: PortState,
         at: u64,
     ) -> Result<Vec<LinkOut>, AllocError>
-        requires place { place < length self.old.ports.items }
+        requires place { place < length self.old.ports.lines.items }
         requires few { place < 16 }
         ensures sent { IfOk result (λ outs. (s : Settings) (v : Lists) → ArePartsOf s v self.old
             → NumbersLeft v.turns → IsSentAgain s (place + 1) at stood (map link_out_seen outs.items) v self.new) }

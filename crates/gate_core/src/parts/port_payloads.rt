@@ -22,7 +22,6 @@ ghost use Rattle.gate_core.specs.Steps.{Stepped};
 use super::{Parts, place_of};
 use fix_types::AppBody;
 use gate_events::{Batch, ClientNumber, Issues, PortNumber, told_client, told_out, told_port};
-use gate_sessions::port_fail;
 use order_core::{MarketError, MarketFault};
 use soup_session::{PortFault, PortOut, PortState};
 use std::alloc::{AllocError, Global};
@@ -52,7 +51,7 @@ impl<S: BuildHasher + Drop> Parts<S> {
         requires room { CoreHasRoom self.old.orders }
         ensures turn { IfOk result (λ judged. (s : Settings) (v : Lists) → NumbersLeft v.turns
             → ArePartsOf s v self.old → PayloadIsJudged s (place + 1) payload.now judged v self.new) }
-        ensures within { IfOk result (λ judged. IsWithin (length self.old.clients.items) judged) }
+        ensures within { IfOk result (λ judged. IsWithin (length self.old.clients.lines.items) judged) }
         ensures grows { Grows 3 0 self.old self.new }
     {
         match self.orders.market(alloc, (place + 1) as u16, payload) {
@@ -68,11 +67,11 @@ impl<S: BuildHasher + Drop> Parts<S> {
     /// The place of the client that bodies are for.
     fn addressee(&self, client: Option<u16>) -> Option<usize>
         ensures known { is_some result ≡ (nat_le 1 (client_seen client)
-            && nat_le (client_seen client) (length self.now.clients.items)) }
+            && nat_le (client_seen client) (length self.now.clients.lines.items)) }
         ensures place { IfSome result (λ place. (client_seen client ≡ place + 1)
-            × (place < length self.now.clients.items)) }
+            × (place < length self.now.clients.lines.items)) }
     {
-        place_of(client?, self.clients.len())
+        place_of(client?, self.clients.lines.len())
     }
 
     /// A payload that the session of the port at a place delivered, and what it said to its packet.
@@ -84,7 +83,7 @@ impl<S: BuildHasher + Drop> Parts<S> {
         at: u64,
         said: Option<PortOut>,
     ) -> Result<Batch, AllocError>
-        requires place { place < length self.old.ports.items }
+        requires place { place < length self.old.ports.lines.items }
         requires shaped { IsShaped self.old }
         requires room { CoreHasRoom self.old.orders }
         ensures step { IfOk result (λ b. (s : Settings) (v : Lists) (link : ℕ) (packet : Packet)
@@ -112,8 +111,8 @@ impl<S: BuildHasher + Drop> Parts<S> {
         at: u64,
         said: Option<PortOut>,
     ) -> Result<Batch, AllocError>
-        requires place { place < length self.old.ports.items }
-        requires client { client < length self.old.clients.items }
+        requires place { place < length self.old.ports.lines.items }
+        requires client { client < length self.old.clients.lines.items }
         requires shaped { IsShaped self.old }
         ensures step { IfOk result (λ b. (s : Settings) (v : Lists) (link : ℕ) (packet : Packet) (payload : List ℕ)
             (g : Parts S S.Hasher)
@@ -137,7 +136,7 @@ impl<S: BuildHasher + Drop> Parts<S> {
         place: usize,
         said: Option<PortOut>,
     ) -> Result<Batch, AllocError>
-        requires place { place < length self.old.ports.items }
+        requires place { place < length self.old.ports.lines.items }
         requires shaped { IsShaped self.old }
         ensures step { IfOk result (λ b. (s : Settings) (v : Lists) (link at : ℕ) (packet : Packet) (payload : List ℕ)
             (g : Parts S S.Hasher)
@@ -158,7 +157,7 @@ impl<S: BuildHasher + Drop> Parts<S> {
         fault: PortFault,
         said: Option<PortOut>,
     ) -> Result<Batch, AllocError>
-        requires place { place < length self.old.ports.items }
+        requires place { place < length self.old.ports.lines.items }
         requires shaped { IsShaped self.old }
         ensures step { IfOk result (λ b. (s : Settings) (v : Lists) (link at : ℕ) (packet : Packet) (payload : List ℕ)
             (g : Parts S S.Hasher)
@@ -167,10 +166,10 @@ impl<S: BuildHasher + Drop> Parts<S> {
             → Stepped s (PortPacket (place + 1) link at packet) (batch_seen b) v self.new) }
         ensures grows { Grows 0 0 self.old self.new }
     {
-        match self.ports[place].state() {
+        match self.ports.lines[place].state() {
             PortState::Up => {
                 let link = self.port_link(place);
-                let turn = port_fail(&mut self.ports, place, fault);
+                let turn = self.ports.fail(place, fault);
                 let rest = told_out(alloc, link, turn.out)?;
                 let port_out = told_port(&mut self.ports, alloc, place, said, rest)?;
                 Ok(Batch::for_port(alloc, PortNumber::at_place(place), port_out, Some(fault)))

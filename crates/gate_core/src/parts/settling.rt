@@ -4,7 +4,6 @@ ghost use Rattle.std.specs.Prelude.{◌≡◌};
 ghost use Rattle.gate_core.specs.State.{parts_now, parts_settled};
 
 use super::Parts;
-use gate_sessions::{clients_settle, clients_undo, ports_settle, ports_undo};
 use std::hash::BuildHasher;
 
 impl<S: BuildHasher + Drop> Parts<S> {
@@ -13,8 +12,8 @@ impl<S: BuildHasher + Drop> Parts<S> {
         ensures now { parts_now self.new ≡ parts_now self.old }
         ensures settled { parts_settled self.new ≡ parts_now self.old }
     {
-        clients_settle(&mut self.clients);
-        ports_settle(&mut self.ports);
+        self.clients.settle();
+        self.ports.settle();
         self.orders.settle();
     }
 
@@ -24,8 +23,8 @@ impl<S: BuildHasher + Drop> Parts<S> {
         ensures now { parts_now self.new ≡ parts_settled self.old }
         ensures settled { parts_settled self.new ≡ parts_settled self.old }
     {
-        clients_undo(&mut self.clients);
-        ports_undo(&mut self.ports);
+        self.clients.undo();
+        self.ports.undo();
         self.orders.undo();
     }
 }

@@ -27,7 +27,7 @@ loop-body-preserved c =
     let so_far = c.loop-body.invariant in
     let this = c.in_ok-issue_one.ensures in
     record {
-      leave = λ s calls k. subst (λ (made : ℕ → List Timed). ClientsLeave s made c.issue_one.new.lines.items)
+      leave = λ s calls k. subst (λ (made : ℕ → List Timed). ClientsLeave s made c.issue_one.new.clients.lines.items)
           (sym (ap (λ (cs : List Timed). called_all n cs calls) more ∙ called-all-more n before call calls))
           (this.leave s (called_all n before calls) (so_far.leave s calls k));
       outs = λ s calls k. told-more-on s n c.index.result.now.link calls before call (map link_out_seen c.loop-body.all.outs.items) (map link_out_seen c.issue_one.new.all.outs.items) (so_far.outs s calls k) (this.outs s (called_all n before calls) (so_far.leave s calls k))
@@ -53,7 +53,7 @@ returns-clause-outs c =
     λ s calls links k are. c.loop-body.invariant.outs s calls k
     ∙ ap (λ (bs : List _). outs_told_on c.index.result.now.link (map (told_of_out s.comp (client_name s n)) (client_outs s n (calls n) (issues c.args.at (map body_fields bs))))) (take_all i bodies c.loop-body-test.false)
     ∙ ap (λ (link : Option ℕ). outs_told_on link (map (told_of_out s.comp (client_name s n)) (client_outs s n (calls n) (issues c.args.at (map body_fields bodies)))))
-    (are c.args.place c.index.result.now (slice_get_read c.args.lines.now.items _ c.args.place c.index.result.now refl c.requires.place c.index.ensures))
+    (are c.args.place c.index.result.now (slice_get_read c.args.clients.now.lines.items _ c.args.place c.index.result.now refl c.requires.place c.index.ensures))
 
 pub returns-clause-bodies : goal.returns-clause-bodies
 returns-clause-bodies c =

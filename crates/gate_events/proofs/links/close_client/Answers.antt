@@ -8,13 +8,13 @@ use Rattle.gate_events.proofs.links.close_client.Goals as goal
 pub returns-then-closes_link-clause-links : goal.returns-then-closes_link-clause-links
 returns-then-closes_link-clause-links c links are =
     let outs = map link_out_seen c.args.outs.now in
-    client-closed (c.args.place + 1) outs links c.client_close.new.lines.items
-    (ap (λ link. is_link_closed link outs) (sym (are c.args.place c.index.result.now (slice_get_read c.args.lines.now.items _ c.args.place c.index.result.now refl c.requires.place c.index.ensures))) ∙ sym c.closes_link.ensures ∙ c.if-closes_link.true)
-    (c.client_close.ensures.links links are)
+    client-closed (c.args.place + 1) outs links c.close.new.self.lines.items
+    (ap (λ link. is_link_closed link outs) (sym (are c.args.place c.index.result.now (slice_get_read c.args.clients.now.lines.items _ c.args.place c.index.result.now refl c.requires.place c.index.ensures))) ∙ sym c.closes_link.ensures ∙ c.if-closes_link.true)
+    (c.close.ensures.links links are)
 
 pub returns-else-closes_link-clause-links : goal.returns-else-closes_link-clause-links
 returns-else-closes_link-clause-links c links are =
     let outs = map link_out_seen c.args.outs.now in
-    client-kept (c.args.place + 1) outs links c.args.lines.now.items
-    (ap (λ link. is_link_closed link outs) (sym (are c.args.place c.index.result.now (slice_get_read c.args.lines.now.items _ c.args.place c.index.result.now refl c.requires.place c.index.ensures))) ∙ sym c.closes_link.ensures ∙ c.if-closes_link.false)
+    client-kept (c.args.place + 1) outs links c.args.clients.now.lines.items
+    (ap (λ link. is_link_closed link outs) (sym (are c.args.place c.index.result.now (slice_get_read c.args.clients.now.lines.items _ c.args.place c.index.result.now refl c.requires.place c.index.ensures))) ∙ sym c.closes_link.ensures ∙ c.if-closes_link.false)
     are

@@ -22,7 +22,7 @@ loop-message-preserved c =
     let so_far = c.loop-message.invariant in
     let this = c.in_ok-send_one.ensures in
     record {
-      leave = λ s calls k. subst (λ (made : ℕ → List PortCall). PortsLeave s made c.send_one.new.lines.items)
+      leave = λ s calls k. subst (λ (made : ℕ → List PortCall). PortsLeave s made c.send_one.new.ports.lines.items)
           (sym (ap (λ (cs : List PortCall). called_all n cs calls) more ∙ called-all-more n before call calls))
           (this.leave s (called_all n before calls) (so_far.leave s calls k));
       outs = λ s calls k. outs-more s n c.index.result.now.link calls before call (map link_out_seen c.loop-message.outs.items) (map link_out_seen c.send_one.new.outs.items) (so_far.outs s calls k) (this.outs s (called_all n before calls) (so_far.leave s calls k))
@@ -51,4 +51,4 @@ returns-clause-outs c =
     λ s calls links k are. c.loop-message.invariant.outs s calls k
     ∙ ap (λ (ms : List _). to_port c.index.result.now.link (port_outs s n (calls n) (sends c.args.at (map inbound_bytes ms)))) (take_all i messages c.loop-message-test.false)
     ∙ ap (λ (link : Option ℕ). to_port link (port_outs s n (calls n) (sends c.args.at (map inbound_bytes messages))))
-    (are c.args.place c.index.result.now (slice_get_read c.args.lines.now.items _ c.args.place c.index.result.now refl c.requires.place c.index.ensures))
+    (are c.args.place c.index.result.now (slice_get_read c.args.ports.now.lines.items _ c.args.place c.index.result.now refl c.requires.place c.index.ensures))

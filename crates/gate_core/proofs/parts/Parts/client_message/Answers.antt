@@ -19,7 +19,7 @@ returns-in-Some-app-clause-step g c =
     let n = c.in-Some.place + 1 in
     let is = c.in-Some.ensures.place.0 in
     let answer = c.in_ok-outs.ensures.answers s v.client_calls ready.parts.clients in
-    let mid : Parts _ _ = record { clients = c.client_frame.new.lines; ports = c.args.self.now.ports; client_ports = c.args.self.now.client_ports; orders = c.args.self.now.orders } in
+    let mid : Parts _ _ = record { clients = c.frame.new.self; ports = c.args.self.now.ports; client_ports = c.args.self.now.client_ports; orders = c.args.self.now.orders } in
     let heard : AfterFrame s n c.args.link c.args.at c.fields.result.now (Some c.in-Some-app.message) c.in_ok-outs.field-0.outs.items v mid = record {
       on = subst (λ (k : ℕ). (has_client s k && is_the_number c.args.link (v.client_link k)) ≡ true) is (sym (c.in-Some.ensures.on s v ready.parts));
       app_is = sym answer.app ∙ c.in-Some-app.is;
@@ -27,7 +27,7 @@ returns-in-Some-app-clause-step g c =
       linked = ready.linked;
       few = ready.few;
       parts = clients-parts s n ((c.args.at, OnMessage c.fields.result.now) ∷ []) v c.args.self.now mid ready.parts
-          (c.in_ok-outs.ensures.leave s v.client_calls ready.parts.clients) (c.client_frame.ensures.links v.client_link ready.parts.client_links) c.client_frame.ensures.length refl refl refl;
+          (c.in_ok-outs.ensures.leave s v.client_calls ready.parts.clients) (c.frame.ensures.links v.client_link ready.parts.client_links) c.frame.ensures.length refl refl refl;
     } in
     subst (λ (k : ℕ). Stepped s (ClientMessage k c.args.link c.args.at c.args.frame.now) (batch_seen b) v c.message_delivered.new.self) (sym is)
     (subst (λ (m : Message). Stepped s (ClientMessage n c.args.link c.args.at m) (batch_seen b) v c.message_delivered.new.self) c.fields.ensures.fields
@@ -41,7 +41,7 @@ returns-in-None-clause-step g c =
     let n = c.in-Some.place + 1 in
     let is = c.in-Some.ensures.place.0 in
     let answer = c.in_ok-outs.ensures.answers s v.client_calls ready.parts.clients in
-    let mid : Parts _ _ = record { clients = c.client_frame.new.lines; ports = c.args.self.now.ports; client_ports = c.args.self.now.client_ports; orders = c.args.self.now.orders } in
+    let mid : Parts _ _ = record { clients = c.frame.new.self; ports = c.args.self.now.ports; client_ports = c.args.self.now.client_ports; orders = c.args.self.now.orders } in
     let heard : AfterFrame s n c.args.link c.args.at c.fields.result.now None c.in_ok-outs.field-0.outs.items v mid = record {
       on = subst (λ (k : ℕ). (has_client s k && is_the_number c.args.link (v.client_link k)) ≡ true) is (sym (c.in-Some.ensures.on s v ready.parts));
       app_is = sym answer.app ∙ c.in-None.is;
@@ -49,7 +49,7 @@ returns-in-None-clause-step g c =
       linked = ready.linked;
       few = ready.few;
       parts = clients-parts s n ((c.args.at, OnMessage c.fields.result.now) ∷ []) v c.args.self.now mid ready.parts
-          (c.in_ok-outs.ensures.leave s v.client_calls ready.parts.clients) (c.client_frame.ensures.links v.client_link ready.parts.client_links) c.client_frame.ensures.length refl refl refl;
+          (c.in_ok-outs.ensures.leave s v.client_calls ready.parts.clients) (c.frame.ensures.links v.client_link ready.parts.client_links) c.frame.ensures.length refl refl refl;
     } in
     subst (λ (k : ℕ). Stepped s (ClientMessage k c.args.link c.args.at c.args.frame.now) (batch_seen b) v c.no_message_delivered.new.self) (sym is)
     (subst (λ (m : Message). Stepped s (ClientMessage n c.args.link c.args.at m) (batch_seen b) v c.no_message_delivered.new.self) c.fields.ensures.fields
@@ -58,11 +58,11 @@ returns-in-None-clause-step g c =
 
 pub returns-in-Some-app-clause-grows : goal.returns-in-Some-app-clause-grows
 returns-in-Some-app-clause-grows g c =
-    let mid : Parts _ _ = record { clients = c.client_frame.new.lines; ports = c.args.self.now.ports; client_ports = c.args.self.now.client_ports; orders = c.args.self.now.orders } in
-    grows-then 0 0 3 0 c.args.self.now mid _ (clients-grow c.args.self.now mid c.client_frame.ensures.length c.client_frame.ensures.settled refl refl refl) c.message_delivered.ensures.grows
+    let mid : Parts _ _ = record { clients = c.frame.new.self; ports = c.args.self.now.ports; client_ports = c.args.self.now.client_ports; orders = c.args.self.now.orders } in
+    grows-then 0 0 3 0 c.args.self.now mid _ (clients-grow c.args.self.now mid c.frame.ensures.length c.frame.ensures.settled refl refl refl) c.message_delivered.ensures.grows
 
 pub returns-in-None-clause-grows : goal.returns-in-None-clause-grows
 returns-in-None-clause-grows g c =
-    let mid : Parts _ _ = record { clients = c.client_frame.new.lines; ports = c.args.self.now.ports; client_ports = c.args.self.now.client_ports; orders = c.args.self.now.orders } in
+    let mid : Parts _ _ = record { clients = c.frame.new.self; ports = c.args.self.now.ports; client_ports = c.args.self.now.client_ports; orders = c.args.self.now.orders } in
     grows-within 0 3 0 c.args.self.now _ (omega arith)
-    (grows-then 0 0 0 0 c.args.self.now mid _ (clients-grow c.args.self.now mid c.client_frame.ensures.length c.client_frame.ensures.settled refl refl refl) c.no_message_delivered.ensures.grows)
+    (grows-then 0 0 0 0 c.args.self.now mid _ (clients-grow c.args.self.now mid c.frame.ensures.length c.frame.ensures.settled refl refl refl) c.no_message_delivered.ensures.grows)

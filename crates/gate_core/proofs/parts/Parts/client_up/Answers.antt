@@ -11,15 +11,15 @@ use Rattle.gate_core.proofs.parts.Parts.client_up.Goals as goal
 pub returns-in-None-clause-step : goal.returns-in-None-clause-step
 returns-in-None-clause-step g c s v ready =
     let place = c.in-Some.place in
-    let new : Parts _ _ = record { clients = c.client_up.new.lines; ports = c.args.self.now.ports; client_ports = c.args.self.now.client_ports; orders = c.args.self.now.orders } in
+    let new : Parts _ _ = record { clients = c.up.new.self; ports = c.args.self.now.ports; client_ports = c.args.self.now.client_ports; orders = c.args.self.now.orders } in
     let is = c.in-Some.ensures.place.0 in
     subst (λ (b : Batch). Stepped s (ClientUp c.args.client c.args.link c.args.at) b v new) (sym c.empty-in-None.ensures)
     (subst (λ (n : ℕ). Stepped s (ClientUp n c.args.link c.args.at) empty v new) (sym is)
     (client-comes s v c.args.self.now new (place + 1) c.args.link c.args.at
     (subst (λ (n : ℕ). has_client s n ≡ true) is (sym (c.in-Some.ensures.known s v ready.parts)))
     (sym (c.client_link.ensures.link s v ready.parts) ∙ c.in-None.is)
-    ready (c.client_up.ensures.leave s v.client_calls ready.parts.clients) (c.client_up.ensures.links v.client_link ready.parts.client_links)
-    c.client_up.ensures.length refl refl refl))
+    ready (c.up.ensures.leave s v.client_calls ready.parts.clients) (c.up.ensures.links v.client_link ready.parts.client_links)
+    c.up.ensures.length refl refl refl))
 
 pub returns-in-Some-client_link-clause-step : goal.returns-in-Some-client_link-clause-step
 returns-in-Some-client_link-clause-step g c s v ready =

@@ -18,17 +18,17 @@ use Rattle.gate_law.proofs.Messages.{reads-after}
 use Rattle.gate_core.proofs.parts.Parts.fault.Goals as goal
 
 pub returns-in_err-rest-in-Up-clause-grows : goal.returns-in_err-rest-in-Up-clause-grows
-returns-in_err-rest-in-Up-clause-grows g c = ports-grow c.args.self.now _ c.port_fail-turn.ensures.length c.port_fail-turn.ensures.next c.port_fail-turn.ensures.settled refl refl refl
+returns-in_err-rest-in-Up-clause-grows g c = ports-grow c.args.self.now _ c.fail-turn.ensures.length c.fail-turn.ensures.next c.fail-turn.ensures.settled refl refl refl
 
 pub returns-in_err-port_out-in-Up-clause-grows : goal.returns-in_err-port_out-in-Up-clause-grows
 returns-in_err-port_out-in-Up-clause-grows g c =
-    ports-grow c.args.self.now _ (c.told_port.ensures.length ∙ c.port_fail-turn.ensures.length)
-    (λ n within. c.told_port.ensures.next n (c.port_fail-turn.ensures.next n within)) (λ was kept. c.told_port.ensures.settled was (c.port_fail-turn.ensures.settled was kept)) refl refl refl
+    ports-grow c.args.self.now _ (c.told_port.ensures.length ∙ c.fail-turn.ensures.length)
+    (λ n within. c.told_port.ensures.next n (c.fail-turn.ensures.next n within)) (λ was kept. c.told_port.ensures.settled was (c.fail-turn.ensures.settled was kept)) refl refl refl
 
 pub returns-in_ok-port_out-in-Up-clause-grows : goal.returns-in_ok-port_out-in-Up-clause-grows
 returns-in_ok-port_out-in-Up-clause-grows g c =
-    ports-grow c.args.self.now _ (c.told_port.ensures.length ∙ c.port_fail-turn.ensures.length)
-    (λ n within. c.told_port.ensures.next n (c.port_fail-turn.ensures.next n within)) (λ was kept. c.told_port.ensures.settled was (c.port_fail-turn.ensures.settled was kept)) refl refl refl
+    ports-grow c.args.self.now _ (c.told_port.ensures.length ∙ c.fail-turn.ensures.length)
+    (λ n within. c.told_port.ensures.next n (c.fail-turn.ensures.next n within)) (λ was kept. c.told_port.ensures.settled was (c.fail-turn.ensures.settled was kept)) refl refl refl
 
 pub returns-in_ok-port_out-in-Up-clause-step : goal.returns-in_ok-port_out-in-Up-clause-step
 returns-in_ok-port_out-in-Up-clause-step it c s v link at packet payload g given faulty =
@@ -36,12 +36,12 @@ returns-in_ok-port_out-in-Up-clause-step it c s v link at packet payload g given
     let k = c.args.fault in
     let t = heard_turn p payload 0 [] (Some (fault_number k)) in
     let w : Lists = turned (Some t) (port_called p (OnPacket packet at) v) in
-    let mid : Parts _ _ = record { clients = c.args.self.now.clients; ports = c.port_fail-turn.new.lines; client_ports = c.args.self.now.client_ports; orders = c.args.self.now.orders } in
-    let new : Parts _ _ = record { clients = c.args.self.now.clients; ports = c.told_port.new.lines; client_ports = c.args.self.now.client_ports; orders = c.args.self.now.orders } in
-    let answer = c.port_fail-turn.ensures.answers s w.port_calls faulty.parts.ports in
-    let parts = ports-parts s p (Fail k ∷ []) w c.args.self.now mid faulty.parts (c.port_fail-turn.ensures.leave s w.port_calls faulty.parts.ports)
-    (c.port_fail-turn.ensures.links w.port_link faulty.parts.port_links) c.port_fail-turn.ensures.length refl refl refl in
-    let failed = option_to_list c.port_fail-turn.result.out in
+    let mid : Parts _ _ = record { clients = c.args.self.now.clients; ports = c.fail-turn.new.self; client_ports = c.args.self.now.client_ports; orders = c.args.self.now.orders } in
+    let new : Parts _ _ = record { clients = c.args.self.now.clients; ports = c.told_port.new.ports; client_ports = c.args.self.now.client_ports; orders = c.args.self.now.orders } in
+    let answer = c.fail-turn.ensures.answers s w.port_calls faulty.parts.ports in
+    let parts = ports-parts s p (Fail k ∷ []) w c.args.self.now mid faulty.parts (c.fail-turn.ensures.leave s w.port_calls faulty.parts.ports)
+    (c.fail-turn.ensures.links w.port_link faulty.parts.port_links) c.fail-turn.ensures.length refl refl refl in
+    let failed = option_to_list c.fail-turn.result.out in
     let link_is = c.port_link-link.ensures.link s w faulty.parts in
     let packets = c.in_ok-port_out-in-Up.ensures.outs v.port_link parts.port_links
     ∙ ap (λ (xs : List LinkOut). to_port (v.port_link p) (option_to_list c.args.said) ++ xs)
@@ -59,7 +59,7 @@ returns-in_default g c = record {
   step = λ s v link at packet payload g given faulty.
       let p = c.args.place + 1 in
       let calls = (port_called p (OnPacket packet at) v).port_calls p in
-      let leaves = faulty.parts.ports c.args.place c.index.result.now (slice_get_read c.args.self.now.ports.items _ c.args.place c.index.result.now refl c.requires.place c.index.ensures) in
+      let leaves = faulty.parts.ports c.args.place c.index.result.now (slice_get_read c.args.self.now.ports.lines.items _ c.args.place c.index.result.now refl c.requires.place c.index.ensures) in
       let down : is_up (port_state s p calls) ≡ false = ap is_up (sym (c.state.ensures.state s p calls leaves)) ∙ not-up c.state.result c.in_default.not-Up in
       let up : is_up (port_state s p calls) ≡ true = up-after s p link at packet payload (option_to_list c.args.said) v g given in
       absurd (let clash : true ≡ false = sym up ∙ down in cc);

@@ -40,7 +40,7 @@ returns-clause-step g c s v link frame heard =
     let asked : IsAsked s n c.args.at c.args.message.now out w c.ask.new.self = c.in_ok-reports.ensures.asked s w ready is in
     let t = orders_turn_of s n c.args.message.now asked.core v in
     let x : Lists = after_turn s n c.args.at t w in
-    let new : Parts _ _ = record { clients = c.told_client.new.lines; ports = c.told_port.new.lines; client_ports = c.ask.new.self.client_ports; orders = c.ask.new.self.orders } in
+    let new : Parts _ _ = record { clients = c.told_client.new.clients; ports = c.told_port.new.ports; client_ports = c.ask.new.self.client_ports; orders = c.ask.new.self.orders } in
     let client_out = map link_out_seen c.in_ok-client_out.client_out.items in
     let port_out = map link_out_seen c.in_ok-port_out.port_out.items in
     let lines = c.in_ok-client_out.ensures.outs x.client_link asked.parts.client_links in
@@ -54,5 +54,5 @@ returns-clause-step g c s v link frame heard =
     reads-sends heard.on heard.app_is heard.said_is heard.linked asked lines packets
     (c.told_client.ensures.leave s x.client_calls asked.parts.clients) (c.in_ok-client_out.ensures.links x.client_link asked.parts.client_links) c.told_client.ensures.length
     (c.told_port.ensures.leave s x.port_calls asked.parts.ports)
-    (subst (λ (k : ℕ). PortLinks (unlinked k port_out x.port_link) new.ports.items) is (c.in_ok-port_out.ensures.links x.port_link asked.parts.port_links))
+    (subst (λ (k : ℕ). PortLinks (unlinked k port_out x.port_link) new.ports.lines.items) is (c.in_ok-port_out.ensures.links x.port_link asked.parts.port_links))
     c.told_port.ensures.length refl refl)

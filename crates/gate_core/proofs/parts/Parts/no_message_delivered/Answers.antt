@@ -17,7 +17,7 @@ pub returns-clause-step : goal.returns-clause-step
 returns-clause-step g c s v link at frame heard =
     let n = c.args.place + 1 in
     let w : Lists = client_called n (at, OnMessage frame) v in
-    let new : Parts _ _ = record { clients = c.told_client.new.lines; ports = c.args.self.now.ports; client_ports = c.args.self.now.client_ports; orders = c.args.self.now.orders } in
+    let new : Parts _ _ = record { clients = c.told_client.new.clients; ports = c.args.self.now.ports; client_ports = c.args.self.now.client_ports; orders = c.args.self.now.orders } in
     let outs = map link_out_seen c.in_ok-outs.outs.items in
     subst (λ (b : Batch). Stepped s (ClientMessage n link at frame) b v new)
     (sym (c.for_client.ensures ∙ ap (λ (k : ℕ). batch_of k c.new-2.result.items outs 0 [] None) c.at_place.ensures ∙ ap (λ reports. batch_of n reports outs 0 [] None) c.new-2.ensures.items))

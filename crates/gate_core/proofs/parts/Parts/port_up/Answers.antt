@@ -20,7 +20,7 @@ pub returns-in_ok-outs-in-None-clause-step : goal.returns-in_ok-outs-in-None-cla
 returns-in_ok-outs-in-None-clause-step g c s v ready =
     let place = c.in-Some.place in
     let n = place + 1 in
-    let new : Parts _ _ = record { clients = c.args.self.now.clients; ports = c.told_port.new.lines; client_ports = c.args.self.now.client_ports; orders = c.args.self.now.orders } in
+    let new : Parts _ _ = record { clients = c.args.self.now.clients; ports = c.told_port.new.ports; client_ports = c.args.self.now.client_ports; orders = c.args.self.now.orders } in
     let is = c.in-Some.ensures.place.0 in
     let outs = map link_out_seen c.in_ok-outs-in-None.outs.items in
     let after = link_set n (Some c.args.link) v.port_link in
@@ -36,7 +36,7 @@ returns-in_ok-outs-in-None-clause-step g c s v ready =
     (port-told (after n) outs (option_to_list c.in_ok-turn-in-None.turn.out) [] (port_answer s n (v.port_calls n) (OnUp c.args.at)).outs [] said answer.outs refl)
     (c.told_port.ensures.leave s (called n (OnUp c.args.at) v.port_calls) (c.in_ok-turn-in-None.ensures.leave s v.port_calls ready.parts.ports))
     (c.in_ok-outs-in-None.ensures.links after links)
-    (c.told_port.ensures.length ∙ c.port_up.ensures.length) refl refl refl))
+    (c.told_port.ensures.length ∙ c.up.ensures.length) refl refl refl))
 
 pub returns-in-Some-port_link-clause-step : goal.returns-in-Some-port_link-clause-step
 returns-in-Some-port_link-clause-step g c s v ready =
@@ -63,15 +63,15 @@ returns-in-Some-2-clause-step g c =
 
 pub returns-in_err-turn-in-None-clause-grows : goal.returns-in_err-turn-in-None-clause-grows
 returns-in_err-turn-in-None-clause-grows g c =
-    let new : Parts _ _ = record { clients = c.args.self.now.clients; ports = c.port_up.new.lines; client_ports = c.args.self.now.client_ports; orders = c.args.self.now.orders } in
-    ports-grow c.args.self.now new c.port_up.ensures.length c.port_up.ensures.next c.port_up.ensures.settled refl refl refl
+    let new : Parts _ _ = record { clients = c.args.self.now.clients; ports = c.up.new.self; client_ports = c.args.self.now.client_ports; orders = c.args.self.now.orders } in
+    ports-grow c.args.self.now new c.up.ensures.length c.up.ensures.next c.up.ensures.settled refl refl refl
 
 pub returns-in_err-outs-in-None-clause-grows : goal.returns-in_err-outs-in-None-clause-grows
 returns-in_err-outs-in-None-clause-grows g c =
-    let new : Parts _ _ = record { clients = c.args.self.now.clients; ports = c.told_port.new.lines; client_ports = c.args.self.now.client_ports; orders = c.args.self.now.orders } in
-    ports-grow c.args.self.now new (c.told_port.ensures.length ∙ c.port_up.ensures.length) (λ n within. c.told_port.ensures.next n (c.port_up.ensures.next n within)) (λ was kept. c.told_port.ensures.settled was (c.port_up.ensures.settled was kept)) refl refl refl
+    let new : Parts _ _ = record { clients = c.args.self.now.clients; ports = c.told_port.new.ports; client_ports = c.args.self.now.client_ports; orders = c.args.self.now.orders } in
+    ports-grow c.args.self.now new (c.told_port.ensures.length ∙ c.up.ensures.length) (λ n within. c.told_port.ensures.next n (c.up.ensures.next n within)) (λ was kept. c.told_port.ensures.settled was (c.up.ensures.settled was kept)) refl refl refl
 
 pub returns-in_ok-outs-in-None-clause-grows : goal.returns-in_ok-outs-in-None-clause-grows
 returns-in_ok-outs-in-None-clause-grows g c =
-    let new : Parts _ _ = record { clients = c.args.self.now.clients; ports = c.told_port.new.lines; client_ports = c.args.self.now.client_ports; orders = c.args.self.now.orders } in
-    ports-grow c.args.self.now new (c.told_port.ensures.length ∙ c.port_up.ensures.length) (λ n within. c.told_port.ensures.next n (c.port_up.ensures.next n within)) (λ was kept. c.told_port.ensures.settled was (c.port_up.ensures.settled was kept)) refl refl refl
+    let new : Parts _ _ = record { clients = c.args.self.now.clients; ports = c.told_port.new.ports; client_ports = c.args.self.now.client_ports; orders = c.args.self.now.orders } in
+    ports-grow c.args.self.now new (c.told_port.ensures.length ∙ c.up.ensures.length) (λ n within. c.told_port.ensures.next n (c.up.ensures.next n within)) (λ was kept. c.told_port.ensures.settled was (c.up.ensures.settled was kept)) refl refl refl

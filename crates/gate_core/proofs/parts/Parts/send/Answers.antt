@@ -28,7 +28,7 @@ returns-in_ok-outs-in-Up-clause-grows g c =
 pub returns-in_default : goal.returns-in_default
 returns-in_default g c = record {
   sent = λ s v parts only.
-      let leaves = parts.ports c.args.place c.index.result.now (slice_get_read c.args.self.now.ports.items _ c.args.place c.index.result.now refl c.requires.place c.index.ensures) in
+      let leaves = parts.ports c.args.place c.index.result.now (slice_get_read c.args.self.now.ports.lines.items _ c.args.place c.index.result.now refl c.requires.place c.index.ensures) in
       let stands = c.state.ensures.state s (c.args.place + 1) (v.port_calls (c.args.place + 1)) leaves in
       unsent s (c.args.place + 1) c.args.at (map inbound_bytes c.args.messages.now) (map link_out_seen c.new.result.items) v c.args.self.now parts
       (only (ap is_up (sym stands) ∙ not-up c.state.result c.in_default.not-Up)) (ap (map link_out_seen) c.new.ensures.items);

@@ -40,7 +40,7 @@ returns-clause-step it c s v link packet payload g given told =
     let w : Lists = port_called p (OnPacket packet c.args.at) v in
     let x : Lists = client_called_all n (issues c.args.at bs) (turned (Some t) w) in
     let issued = c.in_ok-reports.ensures.issued s (turned (Some t) w) told.parts in
-    let new : Parts _ _ = record { clients = c.told_client.new.lines; ports = c.told_port.new.lines; client_ports = c.issue.new.self.client_ports; orders = c.issue.new.self.orders } in
+    let new : Parts _ _ = record { clients = c.told_client.new.clients; ports = c.told_port.new.ports; client_ports = c.issue.new.self.client_ports; orders = c.issue.new.self.orders } in
     let out = c.in_ok-reports.field-0 in
     let client_out = map link_out_seen c.in_ok-client_out.client_out.items in
     let port_out = map link_out_seen c.in_ok-port_out.port_out.items in

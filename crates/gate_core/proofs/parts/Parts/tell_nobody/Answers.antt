@@ -22,7 +22,7 @@ returns-clause-grows g c = ports-grow c.args.self.now _ c.told_port.ensures.leng
 pub returns-clause-step : goal.returns-clause-step
 returns-clause-step it c s v link at packet payload g given told =
     let p = c.args.place + 1 in
-    let new : Parts _ _ = record { clients = c.args.self.now.clients; ports = c.told_port.new.lines; client_ports = c.args.self.now.client_ports; orders = c.args.self.now.orders } in
+    let new : Parts _ _ = record { clients = c.args.self.now.clients; ports = c.told_port.new.ports; client_ports = c.args.self.now.client_ports; orders = c.args.self.now.orders } in
     subst (λ (b : Batch). Stepped s (PortPacket p link at packet) b v new)
     (sym (c.for_port.ensures ∙ ap (λ (n : ℕ). batch_of 0 [] [] n (map link_out_seen c.in_ok-port_out.port_out.items) None) c.at_place.ensures))
     (nobody-step s p link at packet payload (option_to_list c.args.said) v g given c.args.self.now new (map link_out_seen c.in_ok-port_out.port_out.items)

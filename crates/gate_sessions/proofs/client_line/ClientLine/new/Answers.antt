@@ -1,4 +1,4 @@
-use Rattle.gate_sessions.proofs.Clients.{client-first}
+use Rattle.gate_sessions.proofs.ClientCalls.{client-first}
 use Rattle.gate_sessions.proofs.client_line.ClientLine.new.Goals as goal
 
 pub returns-clause-leaves : goal.returns-clause-leaves

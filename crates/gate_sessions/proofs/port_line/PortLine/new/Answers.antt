@@ -1,4 +1,4 @@
-use Rattle.gate_sessions.proofs.Ports.{port-first}
+use Rattle.gate_sessions.proofs.PortCalls.{port-first}
 use Rattle.gate_sessions.proofs.port_line.PortLine.new.Goals as goal
 
 pub returns-clause-leaves : goal.returns-clause-leaves

@@ -1,4 +1,4 @@
-use Rattle.gate_sessions.proofs.Ports.{port-stands}
+use Rattle.gate_sessions.proofs.PortCalls.{port-stands}
 use Rattle.gate_sessions.proofs.port_line.PortLine.state.Goals as goal
 
 pub returns-clause-state : goal.returns-clause-state

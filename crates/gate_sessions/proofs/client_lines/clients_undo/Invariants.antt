@@ -1,6 +1,0 @@
-use Rattle.std.proofs.Common.{◌≡◌, map, take}
-use Rattle.gate_sessions.specs.Lines.{client_now, client_settled}
-use Rattle.gate_sessions.proofs.client_lines.clients_undo.Given as goal
-
-abbrev pub invariant-loop-line : goal.invariant-loop-line
-invariant-loop-line l = (map client_settled l.lines ≡ map client_settled l.fn.lines) × (take l.line-index (map client_now l.lines) ≡ take l.line-index (map client_settled l.fn.lines))
