@@ -17,6 +17,7 @@ use Rattle.gate_sessions.specs.declared.client_line.ClientLine.{ClientLine}
 use Rattle.gate_sessions.specs.Leaving.{ClientLeaves, IsClientAnswer}
 use Rattle.gate_sessions.specs.Lines.{ClientsLeave, ClientStands, called, client_now, client_settled}
 use Rattle.gate_sessions.proofs.Places.{at-place, called-set}
+use Rattle.gate_sessions.proofs.Settling.{kept-of}
 
 seen-turns : (gate client : List ℕ) (calls : List Timed) → calls_seen (turns_after gate client calls) ≡ calls
 seen-turns gate client [] = refl
@@ -117,3 +118,10 @@ pub settled-stays : (old line : ClientLine) → old.is_touched ≡ true → line
 settled-stays old line old_touched touched same_link same_session =
     let same : stood_settled line ≡ stood_settled old = (λ j. record { link = same_link j; session = same_session j }) in
     settled-touched line touched ∙ same ∙ sym (settled-touched old old_touched)
+
+-- where the line at a place stands as it stood, all do
+pub clients-stand : (lines : List ClientLine) (place : ℕ) (old line : ClientLine) → old ≡ get_or lines place old → line.link ≡ old.link → line.session.session ≡ old.session.session
+    → map client_now (slice_set lines place line) ≡ map client_now lines
+clients-stand lines place old line is same_link same_session =
+    let same : client_now line ≡ client_now old = (λ j. record { link = same_link j; session = same_session j }) in
+    kept-of client_now lines place line old (same ∙ ap client_now is)

@@ -1,7 +1,7 @@
 -- Every item of a list is settled or put back, one after another: what f is of each becomes what g was of it, which stays.
 use Rattle.std.proofs.Common.{◌≡◌, ℕ, zero, suc, ◌+◌, ◌<◌, List, [], ◌∷◌, length, map, take, get_or, slice_set, refl, sym, ap, ◌∙◌, arith}
 
-kept-of : {A B : Type 0} (f : A → B) (xs : List A) (p : ℕ) (y d : A) → f y ≡ f (get_or xs p d) → map f (slice_set xs p y) ≡ map f xs
+pub kept-of : {A B : Type 0} (f : A → B) (xs : List A) (p : ℕ) (y d : A) → f y ≡ f (get_or xs p d) → map f (slice_set xs p y) ≡ map f xs
 kept-of f [] p y d same = refl
 kept-of f (z ∷ zs) zero y d same = ap (λ b. b ∷ map f zs) same
 kept-of f (z ∷ zs) (suc p) y d same = ap (λ bs. f z ∷ bs) (kept-of f zs p y d same)

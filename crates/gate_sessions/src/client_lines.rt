@@ -1,6 +1,6 @@
 //! The lines of all clients, and the calls on the one at a place.
 
-ghost use Rattle.std.specs.Prelude.{◌≡◌, ◌<◌, ◌+◌, ℕ, List, [], ◌∷◌, Some, None, IfOk, OnOk, length, map, true, false};
+ghost use Rattle.std.specs.Prelude.{◌≡◌, ◌<◌, ◌+◌, ℕ, List, [], ◌∷◌, Some, None, IfOk, OnOk, OnErr, length, map, true, false};
 ghost use Rattle.gate_law.specs.session_law.Runs.{Timed, OnLink, OnMessage, OnTick};
 ghost use Rattle.gate_law.specs.session_law.Frames.{told_of_out};
 ghost use Rattle.fix_session.specs.session_writing.Written.{told_frame};
@@ -79,6 +79,7 @@ impl Clients {
         ensures links { ClientsStayLinked self.old self.new }
         ensures settled { ClientsStaySettled self.old self.new }
         ensures length { length self.new.lines.items ≡ length self.old.lines.items }
+        ensures err { OnErr result (map client_now self.new.lines.items ≡ map client_now self.old.lines.items) }
     {
         let line = &mut self.lines[place];
         line.touch();
@@ -93,6 +94,7 @@ impl Clients {
         ensures links { ClientsStayLinked self.old self.new }
         ensures settled { ClientsStaySettled self.old self.new }
         ensures length { length self.new.lines.items ≡ length self.old.lines.items }
+        ensures err { OnErr result (map client_now self.new.lines.items ≡ map client_now self.old.lines.items) }
     {
         let line = &mut self.lines[place];
         line.touch();
@@ -119,6 +121,7 @@ impl Clients {
         ensures links { ClientsStayLinked self.old self.new }
         ensures settled { ClientsStaySettled self.old self.new }
         ensures length { length self.new.lines.items ≡ length self.old.lines.items }
+        ensures err { OnErr result (map client_now self.new.lines.items ≡ map client_now self.old.lines.items) }
     {
         let line = &mut self.lines[place];
         line.touch();

@@ -1,6 +1,6 @@
 //! The lines of all ports, and the calls on the one at a place.
 
-ghost use Rattle.std.specs.Prelude.{◌≡◌, ◌<◌, ◌+◌, ◌^◌, ℕ, Some, None, IfOk, length, map};
+ghost use Rattle.std.specs.Prelude.{◌≡◌, ◌<◌, ◌+◌, ◌^◌, ℕ, Some, None, IfOk, OnErr, length, map};
 ghost use Rattle.gate_law.specs.order_law.ouch_codec.Inbound.{inbound_bytes};
 ghost use Rattle.gate_law.specs.soup_session.Table.{OnUp, OnPacket, OnGone, OnTick, Send, Fail};
 ghost use Rattle.gate_sessions.specs.Lines.{PortsCalled, PortsUncalled, PortAnswers, PortsLinked, PortsStayLinked};
@@ -34,6 +34,7 @@ impl Ports {
         ensures next { PortsStayWithin self.old self.new }
         ensures settled { PortsStaySettled self.old self.new }
         ensures length { length self.new.lines.items ≡ length self.old.lines.items }
+        ensures err { OnErr result (map port_now self.new.lines.items ≡ map port_now self.old.lines.items) }
     {
         let line = &mut self.lines[place];
         let turn = line.session.on_up(alloc, at)?;
@@ -111,6 +112,7 @@ impl Ports {
         ensures up { IfOk result (λ t. IsUpAt place self.new.lines.items) }
         ensures settled { PortsStaySettled self.old self.new }
         ensures length { length self.new.lines.items ≡ length self.old.lines.items }
+        ensures err { OnErr result (map port_now self.new.lines.items ≡ map port_now self.old.lines.items) }
     {
         let payload = payload_of(alloc, message)?;
         Ok(self.lines[place].session.send(payload, at))

@@ -1,9 +1,10 @@
-use Rattle.std.proofs.Common.{◌+◌, refl, ◌∙◌}
-use Rattle.std.proofs.lemmas.Result.{IfOk-weaker}
+use Rattle.std.proofs.Common.{◌+◌, refl, ap, ◌∙◌}
+use Rattle.std.proofs.lemmas.Result.{IfOk-weaker, on_err_weaker}
 use Rattle.gate_law.specs.session_law.Runs.{OnTick}
+use Rattle.fix_session.specs.Held.{SessionHeld}
 use Rattle.gate_sessions.specs.declared.client_line.ClientLine.{ClientLine}
 use Rattle.gate_sessions.specs.Lines.{client_settled}
-use Rattle.gate_sessions.proofs.ClientCalls.{client-answers, client-there, clients-called, settled-stays}
+use Rattle.gate_sessions.proofs.ClientCalls.{client-answers, client-there, clients-called, clients-stand, settled-stays}
 use Rattle.gate_sessions.proofs.Places.{kept-set}
 use Rattle.gate_sessions.proofs.client_lines.Clients.tick.Goals as goal
 
@@ -18,3 +19,6 @@ returns-clause-links c = λ links. kept-set (λ (x : ClientLine). x.link) links 
 
 pub returns-clause-settled : goal.returns-clause-settled
 returns-clause-settled c = λ was. kept-set client_settled was c.args.self.now.lines.items c.args.place _ c.index_mut-line.result.now c.index_mut-line.ensures.value c.requires.place (settled-stays c.touch.new.self _ c.touch.ensures.touched c.touch.ensures.touched refl c.on_tick.ensures.settled ∙ c.touch.ensures.settled)
+
+pub returns-clause-err : goal.returns-clause-err
+returns-clause-err c = on_err_weaker c.on_tick.result (λ same. clients-stand c.args.self.now.lines.items c.args.place c.index_mut-line.result.now _ c.index_mut-line.ensures.value c.touch.ensures.link (ap (λ (held : SessionHeld). held.session) same ∙ c.touch.ensures.session)) c.on_tick.ensures.err
