@@ -3,7 +3,7 @@
 use crate::outlet_pen::{OutletEnd, OutletPen};
 use crate::told_pens::ToldPens;
 use desk::{DeskName, Finished, Inlet, Shared};
-use gate_workers::{Event, Gate, LinkOut};
+use gate_workers::{Event, Gate, LinkOut, ShortList};
 use link_pens::Prompt;
 use std::alloc::{AllocError, Global};
 use std::hash::{BuildHasher, BuildHasherDefault, FoldHasher};
@@ -92,7 +92,7 @@ impl<'p, 'a, W: Prompt + Drop, G: OutletEnd + Drop, K: DeskName, S: BuildHasher 
     }
 
     /// Nothing lies at an inlet.
-    fn take(&mut self) -> Option<Vec<LinkOut>> {
+    fn take(&mut self) -> Option<ShortList<LinkOut>> {
         None
     }
 

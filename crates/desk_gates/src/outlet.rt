@@ -2,7 +2,7 @@
 
 use crate::outlet_pen::OutletEnd;
 use desk::{DeskName, Finished, Outlet, Recipient, Shared};
-use gate_workers::{Event, Gate, LinkOut};
+use gate_workers::{Event, Gate, LinkOut, ShortList};
 use std::alloc::{AllocError, Global};
 use std::hash::{BuildHasher, BuildHasherDefault, FoldHasher};
 use std::sync::Wait;
@@ -61,7 +61,7 @@ impl<'a, K: DeskName, S: BuildHasher + Drop> Gate for OutletGate<'a, K, S> {
         Err(event)
     }
 
-    fn take(&mut self) -> Option<Vec<LinkOut>> {
+    fn take(&mut self) -> Option<ShortList<LinkOut>> {
         let Some(told) = self.outlet.take() else {
             if self.in_a_row < FULL {
                 self.in_a_row = 0;

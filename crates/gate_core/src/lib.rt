@@ -12,6 +12,7 @@ mod whole;
 pub use fix_fields::Text;
 pub use gate_events::{
     Batch, ClientFrame, ClientNumber, Event, IssuedReport, LinkOut, PortFault, PortNumber,
+    ShortList,
 };
 pub use gate_settings::{ClientSettings, ClientTerms, PortSettings, Settings};
 pub use ouch_codec::EnterOrder;

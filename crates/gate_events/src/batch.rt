@@ -5,6 +5,7 @@ ghost use Rattle.std.specs.Prelude.{◌≡◌, ◌==◌, ◌&&◌, not, is_some,
 use crate::number::{ClientNumber, PortNumber};
 use crate::told::Told;
 use gate_sessions::IssuedReport;
+use short_list::ShortList;
 use soup_session::PortFault;
 
 /// What a link is told.
@@ -23,13 +24,13 @@ pub struct Batch {
     pub client: Option<ClientNumber>,
     /// Each report and reject as it was issued, with its number, be its frame written or not: the fields from MsgType
     /// (35) on.
-    pub reports: Vec<IssuedReport>,
+    pub reports: ShortList<IssuedReport>,
     /// What the client's link is told, in order.
-    pub client_out: Vec<LinkOut>,
+    pub client_out: ShortList<LinkOut>,
     /// The port that something is for, where there is one.
     pub port: Option<PortNumber>,
     /// What the port's link is told, in order.
-    pub port_out: Vec<LinkOut>,
+    pub port_out: ShortList<LinkOut>,
     /// The fault of the port's packet or payload: the port stays closed.
     pub fault: Option<PortFault>,
     ghost for_client: { is_some client ≡ not ((length reports.items == 0) && (length client_out.items == 0)) },

@@ -17,15 +17,16 @@ ghost use Rattle.gate_events.specs.Links.{outs_told_on};
 
 use crate::batch::LinkOut;
 use gate_sessions::{AppBody, Clients, IssuedReport, IssuedTurn};
+use short_list::ShortList;
 use std::alloc::{AllocError, Global};
 
 /// What comes of bodies that are issued to one client.
 #[derive(Drop)]
 pub struct Issues {
     /// Each body, in order, as it was issued, be its frame written or not: the fields from MsgType (35) on.
-    pub reports: Vec<IssuedReport>,
+    pub reports: ShortList<IssuedReport>,
     /// What the client's link is told, in order.
-    pub outs: Vec<LinkOut>,
+    pub outs: ShortList<LinkOut>,
 }
 
 /// Issues bodies, in their order, each once, and gives what is reported of each and what the current link is told.
@@ -60,8 +61,8 @@ pub fn client_issue_all(
 {
     let link = clients.lines[place].link;
     let mut all = Issues {
-        reports: Vec::with_capacity(alloc, bodies.len())?,
-        outs: Vec::with_capacity(alloc, bodies.len())?,
+        reports: ShortList::new(),
+        outs: ShortList::new(),
     };
     for body in bodies {
         issue_one(clients, alloc, place, link, body, at, &mut all)?;
@@ -94,32 +95,38 @@ fn issue_one(
     ensures length { length clients.new.lines.items ≡ length clients.old.lines.items }
 {
     let IssuedTurn { frame, report } = clients.issue(alloc, place, body, at)?;
-    all.reports.push(report)?;
-    tell_frame(link, frame, &mut all.outs)
+    all.reports.push(alloc, report)?;
+    tell_frame(alloc, link, frame, &mut all.outs)
 }
 
 /// A frame goes onto this link, where there are both.
 fn tell_frame(
+    alloc: Global,
     link: Option<u64>,
     frame: Option<Vec<u8>>,
-    outs: &mut Vec<LinkOut>,
+    outs: &mut ShortList<LinkOut>,
 ) -> Result<(), AllocError>
     ensures { OnOk result (map link_out_seen outs.new.items
         ≡ map link_out_seen outs.old.items ++ outs_told_on link (told_frame frame)) }
 {
     match link {
         None => Ok(()),
-        Some(link) => write_frame(link, frame, outs),
+        Some(link) => write_frame(alloc, link, frame, outs),
     }
 }
 
 /// A frame goes onto a link, where there is one.
-fn write_frame(link: u64, frame: Option<Vec<u8>>, outs: &mut Vec<LinkOut>) -> Result<(), AllocError>
+fn write_frame(
+    alloc: Global,
+    link: u64,
+    frame: Option<Vec<u8>>,
+    outs: &mut ShortList<LinkOut>,
+) -> Result<(), AllocError>
     ensures { OnOk result (map link_out_seen outs.new.items
         ≡ map link_out_seen outs.old.items ++ map (to_link link) (told_frame frame)) }
 {
     if let Some(bytes) = frame {
-        outs.push(LinkOut::Write { link, bytes })?;
+        outs.push(alloc, LinkOut::Write { link, bytes })?;
     }
     Ok(())
 }

@@ -26,6 +26,7 @@ pub use link_outs::{closes_link, told_out};
 pub use links::{only_outs, told_client, told_port};
 pub use number::{ClientNumber, PortNumber};
 pub use sending::port_send_all;
+pub use short_list::ShortList;
 pub use soup_session::PortFault;
 pub use source::{Recipient, Source};
 pub use telling::told_lists;

@@ -9,6 +9,7 @@ ghost use Rattle.gate_events.specs.Links.{outs_told_on, is_link_closed};
 
 use crate::batch::LinkOut;
 use gate_sessions::SessionOut;
+use short_list::ShortList;
 use soup_session::{PortOut, WholeWire};
 use std::alloc::{AllocError, Global};
 
@@ -18,26 +19,26 @@ pub(crate) fn told_first(
     alloc: Global,
     link: Option<u64>,
     first: Vec<SessionOut>,
-    rest: Vec<LinkOut>,
-) -> Result<Vec<LinkOut>, AllocError>
+    rest: ShortList<LinkOut>,
+) -> Result<ShortList<LinkOut>, AllocError>
     ensures { IfOk result (λ outs. map link_out_seen outs.items
         ≡ outs_told_on link (map told_bytes first.items) ++ map link_out_seen rest.items) }
 {
     if first.is_empty() {
         return Ok(rest);
     }
-    let mut outs = Vec::new(alloc);
-    tell_client(link, first, &mut outs)?;
-    let mut rest = rest;
-    outs.append(&mut rest)?;
-    Ok(outs)
+    let mut outs = ShortList::new();
+    tell_client(alloc, link, first, &mut outs)?;
+    let all = outs.followed_by(alloc, rest)?;
+    Ok(all)
 }
 
 /// What a client's session said goes onto its link, where there is one.
 fn tell_client(
+    alloc: Global,
     link: Option<u64>,
     outs: Vec<SessionOut>,
-    to: &mut Vec<LinkOut>,
+    to: &mut ShortList<LinkOut>,
 ) -> Result<(), AllocError>
     ensures { IfOk result (λ u. map link_out_seen to.new.items
         ≡ map link_out_seen to.old.items ++ outs_told_on link (map told_bytes outs.items)) }
@@ -46,7 +47,7 @@ fn tell_client(
         return Ok(());
     };
     for out in outs {
-        to.push(client_line(link, out))?;
+        to.push(alloc, client_line(link, out))?;
     }
     Ok(())
 }
@@ -67,18 +68,17 @@ pub(crate) fn port_told_first(
     alloc: Global,
     link: Option<u64>,
     first: Option<PortOut>,
-    rest: Vec<LinkOut>,
-) -> Result<Vec<LinkOut>, AllocError>
+    rest: ShortList<LinkOut>,
+) -> Result<ShortList<LinkOut>, AllocError>
     ensures { IfOk result (λ outs. map link_out_seen outs.items
         ≡ to_port link (option_to_list first) ++ map link_out_seen rest.items) }
 {
     if first.is_none() {
         return Ok(rest);
     }
-    let mut outs = told_out(alloc, link, first)?;
-    let mut rest = rest;
-    outs.append(&mut rest)?;
-    Ok(outs)
+    let outs = told_out(alloc, link, first)?;
+    let all = outs.followed_by(alloc, rest)?;
+    Ok(all)
 }
 
 /// What a port's session said in one call, as its link is told it, where there is one.
@@ -86,10 +86,10 @@ pub fn told_out(
     alloc: Global,
     link: Option<u64>,
     out: Option<PortOut>,
-) -> Result<Vec<LinkOut>, AllocError>
+) -> Result<ShortList<LinkOut>, AllocError>
     ensures { IfOk result (λ outs. map link_out_seen outs.items ≡ to_port link (option_to_list out)) }
 {
-    let mut outs = Vec::new(alloc);
+    let mut outs = ShortList::new();
     tell_port(alloc, link, out, &mut outs)?;
     Ok(outs)
 }
@@ -99,7 +99,7 @@ pub(crate) fn tell_port(
     alloc: Global,
     link: Option<u64>,
     out: Option<PortOut>,
-    to: &mut Vec<LinkOut>,
+    to: &mut ShortList<LinkOut>,
 ) -> Result<(), AllocError>
     ensures { IfOk result (λ u. map link_out_seen to.new.items
         ≡ map link_out_seen to.old.items ++ to_port link (option_to_list out)) }
@@ -115,13 +115,13 @@ fn write_port(
     alloc: Global,
     link: u64,
     out: Option<PortOut>,
-    to: &mut Vec<LinkOut>,
+    to: &mut ShortList<LinkOut>,
 ) -> Result<(), AllocError>
     ensures { IfOk result (λ u. map link_out_seen to.new.items
         ≡ map link_out_seen to.old.items ++ map (port_line link) (option_to_list out)) }
 {
     if let Some(out) = out {
-        to.push(port_line_of(alloc, link, out)?)?;
+        to.push(alloc, port_line_of(alloc, link, out)?)?;
     }
     Ok(())
 }

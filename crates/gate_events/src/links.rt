@@ -11,6 +11,7 @@ ghost use Rattle.gate_events.specs.Links.{outs_told_on, unlinked};
 use crate::batch::LinkOut;
 use crate::link_outs::{closes_link, port_told_first, told_first};
 use gate_sessions::{Clients, Ports, SessionOut, SessionTurn};
+use short_list::ShortList;
 use soup_session::PortOut;
 use std::alloc::{AllocError, Global};
 
@@ -20,8 +21,8 @@ pub fn told_client(
     alloc: Global,
     place: usize,
     first: Vec<SessionOut>,
-    rest: Vec<LinkOut>,
-) -> Result<Vec<LinkOut>, AllocError>
+    rest: ShortList<LinkOut>,
+) -> Result<ShortList<LinkOut>, AllocError>
     requires place { place < length clients.old.lines.items }
     ensures outs { IfOk result (λ outs. (links : ℕ → Option ℕ) → ClientLinks links clients.old.lines.items
         → map link_out_seen outs.items ≡ outs_told_on (links (place + 1)) (map told_bytes first.items)
@@ -44,8 +45,8 @@ pub fn told_port(
     alloc: Global,
     place: usize,
     first: Option<PortOut>,
-    rest: Vec<LinkOut>,
-) -> Result<Vec<LinkOut>, AllocError>
+    rest: ShortList<LinkOut>,
+) -> Result<ShortList<LinkOut>, AllocError>
     requires place { place < length ports.old.lines.items }
     ensures outs { IfOk result (λ outs. (links : ℕ → Option ℕ) → PortLinks links ports.old.lines.items
         → map link_out_seen outs.items ≡ to_port (links (place + 1)) (option_to_list first)

@@ -8,20 +8,21 @@ ghost use Rattle.gate_events.specs.Batches.{batch_of};
 use crate::batch::{Batch, LinkOut};
 use crate::number::{ClientNumber, PortNumber};
 use gate_sessions::IssuedReport;
+use short_list::ShortList;
 use soup_session::PortFault;
 use std::alloc::{AllocError, Global};
 
 impl Batch {
     /// A batch with nothing in it.
-    pub fn empty(alloc: Global) -> Batch
+    pub fn empty(_alloc: Global) -> Batch
         ensures { batch_seen result ≡ empty }
     {
         Batch {
             client: None,
-            reports: Vec::new(alloc),
-            client_out: Vec::new(alloc),
+            reports: ShortList::new(),
+            client_out: ShortList::new(),
             port: None,
-            port_out: Vec::new(alloc),
+            port_out: ShortList::new(),
             fault: None,
         }
     }
@@ -43,10 +44,10 @@ impl Batch {
     /// A batch of these parts: it names the client and the port where there is something for them.
     pub fn of_parts(
         client: ClientNumber,
-        reports: Vec<IssuedReport>,
-        client_out: Vec<LinkOut>,
+        reports: ShortList<IssuedReport>,
+        client_out: ShortList<LinkOut>,
         port: PortNumber,
-        port_out: Vec<LinkOut>,
+        port_out: ShortList<LinkOut>,
         fault: Option<PortFault>,
     ) -> Batch
         ensures { batch_seen result ≡ batch_of client reports.items (map link_out_seen client_out.items) port
@@ -66,10 +67,10 @@ impl Batch {
 
     /// A batch with something for a client at most.
     pub fn for_client(
-        alloc: Global,
+        _alloc: Global,
         client: ClientNumber,
-        reports: Vec<IssuedReport>,
-        client_out: Vec<LinkOut>,
+        reports: ShortList<IssuedReport>,
+        client_out: ShortList<LinkOut>,
     ) -> Batch
         ensures { batch_seen result ≡ batch_of client reports.items (map link_out_seen client_out.items) 0 [] None }
     {
@@ -79,7 +80,7 @@ impl Batch {
             reports,
             client_out,
             port: None,
-            port_out: Vec::new(alloc),
+            port_out: ShortList::new(),
             fault: None,
         }
     }
@@ -92,15 +93,15 @@ impl Batch {
     ) -> Result<Batch, AllocError>
         ensures { IfOk result (λ b. batch_seen b ≡ batch_of client [] (Close link ∷ []) 0 [] None) }
     {
-        let outs = vec![in alloc; LinkOut::Close { link }]?;
-        Ok(Batch::for_client(alloc, client, Vec::new(alloc), outs))
+        let outs = ShortList::of(LinkOut::Close { link });
+        Ok(Batch::for_client(alloc, client, ShortList::new(), outs))
     }
 
     /// A batch with something for a port at most.
     pub fn for_port(
-        alloc: Global,
+        _alloc: Global,
         port: PortNumber,
-        port_out: Vec<LinkOut>,
+        port_out: ShortList<LinkOut>,
         fault: Option<PortFault>,
     ) -> Batch
         ensures { batch_seen result ≡ batch_of 0 [] [] port (map link_out_seen port_out.items) fault }
@@ -108,8 +109,8 @@ impl Batch {
         let is_for_port = !(port_out.is_empty() && fault.is_none());
         Batch {
             client: None,
-            reports: Vec::new(alloc),
-            client_out: Vec::new(alloc),
+            reports: ShortList::new(),
+            client_out: ShortList::new(),
             port: is_for_port.then_some(port),
             port_out,
             fault,
@@ -120,7 +121,7 @@ impl Batch {
     pub fn refused_port(alloc: Global, port: PortNumber, link: u64) -> Result<Batch, AllocError>
         ensures { IfOk result (λ b. batch_seen b ≡ batch_of 0 [] [] port (Close link ∷ []) None) }
     {
-        let outs = vec![in alloc; LinkOut::Close { link }]?;
+        let outs = ShortList::of(LinkOut::Close { link });
         Ok(Batch::for_port(alloc, port, outs, None))
     }
 }

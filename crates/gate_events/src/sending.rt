@@ -12,6 +12,7 @@ ghost use Rattle.gate_events.specs.Seen.{link_out_seen};
 use crate::batch::LinkOut;
 use crate::link_outs::tell_port;
 use gate_sessions::{Inbound, Ports};
+use short_list::ShortList;
 use std::alloc::{AllocError, Global};
 
 /// Sends messages, in their order, each once, while the port is up, and gives what the current link is told.
@@ -23,7 +24,7 @@ pub fn port_send_all(
     place: usize,
     messages: &[Inbound],
     at: u64,
-) -> Result<Vec<LinkOut>, AllocError>
+) -> Result<ShortList<LinkOut>, AllocError>
     requires place { place < length ports.old.lines.items }
     requires up { IsUpAt place ports.old.lines.items }
     ensures leave { IfOk result (λ outs. (s : Settings) (calls : ℕ → List PortCall)
@@ -41,7 +42,7 @@ pub fn port_send_all(
     ensures length { length ports.new.lines.items ≡ length ports.old.lines.items }
 {
     let link = ports.lines[place].link;
-    let mut outs = Vec::with_capacity(alloc, messages.len())?;
+    let mut outs = ShortList::new();
     for message in messages {
         send_one(ports, alloc, place, link, message, at, &mut outs)?;
     }
@@ -56,7 +57,7 @@ fn send_one(
     link: Option<u64>,
     message: &Inbound,
     at: u64,
-    outs: &mut Vec<LinkOut>,
+    outs: &mut ShortList<LinkOut>,
 ) -> Result<(), AllocError>
     requires place { place < length ports.old.lines.items }
     requires up { IsUpAt place ports.old.lines.items }

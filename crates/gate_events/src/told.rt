@@ -4,13 +4,14 @@ ghost use Rattle.std.specs.Prelude.{◌≡◌, IfOk, map};
 ghost use Rattle.gate_events.specs.Seen.{link_out_seen};
 
 use crate::batch::LinkOut;
+use short_list::ShortList;
 use std::alloc::{AllocError, Global};
 use std::marker::Model;
 
 /// What a link is told, in order. Contracts see the list.
 #[derive(Debug, Drop)]
 pub struct Told {
-    outs: Vec<LinkOut>,
+    outs: ShortList<LinkOut>,
 }
 
 impl Model for Told {
@@ -25,7 +26,7 @@ impl Model for Told {
 
 impl Told {
     /// This list. Takes no memory.
-    pub fn of(outs: Vec<LinkOut>) -> Told
+    pub fn of(outs: ShortList<LinkOut>) -> Told
         ensures { result ≡ map link_out_seen outs.items }
     {
         Told { outs }
@@ -35,9 +36,9 @@ impl Told {
     pub fn copied(alloc: Global, outs: &[LinkOut]) -> Result<Told, AllocError>
         ensures { IfOk result (λ told. told ≡ map link_out_seen outs.now) }
     {
-        let mut told = Vec::with_capacity(alloc, outs.len())?;
+        let mut told = ShortList::new();
         for out in outs {
-            told.push(out.copied(alloc)?)?;
+            told.push(alloc, out.copied(alloc)?)?;
         }
         Ok(Told { outs: told })
     }
@@ -50,7 +51,7 @@ impl Told {
     }
 
     /// The list, moved out. Takes no memory.
-    pub fn into_outs(self) -> Vec<LinkOut>
+    pub fn into_outs(self) -> ShortList<LinkOut>
         ensures { map link_out_seen result.items ≡ self }
     {
         self.outs

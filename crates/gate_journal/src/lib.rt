@@ -7,7 +7,7 @@
 mod history;
 
 pub use gate_events::{
-    Batch, ClientNumber, Event, LinkOut, PortFault, PortNumber, Recipient, Source, Told,
+    Batch, ClientNumber, Event, LinkOut, PortFault, PortNumber, Recipient, ShortList, Source, Told,
 };
 pub use history::History;
 pub use journal_pages::PageFault;

@@ -5,7 +5,7 @@ use crate::served::settings;
 use audit_lines::audit_text;
 use fix_fields::{Fields, PrintedFields, printed_fields, split};
 use gate_audit::{History, audit};
-use gate_core::{Batch, ClientNumber, Event, IssuedReport, PortNumber};
+use gate_core::{Batch, ClientNumber, Event, IssuedReport, PortNumber, ShortList};
 use std::alloc::Global;
 use std::test::Fail;
 
@@ -92,11 +92,11 @@ fn tick() -> Event {
 
 /// A client is told these reports.
 fn told(alloc: Global, client: ClientNumber, reports: &[&[u8]]) -> Result<Batch, Fail> {
-    let mut told = Vec::new(alloc);
+    let mut told = ShortList::new();
     for report in reports {
-        told.push(issued(alloc, report)?)?;
+        told.push(alloc, issued(alloc, report)?)?;
     }
-    let (outs, port_outs) = (Vec::new(alloc), Vec::new(alloc));
+    let (outs, port_outs) = (ShortList::new(), ShortList::new());
     let port = PortNumber::at_place(0);
     Ok(Batch::of_parts(client, told, outs, port, port_outs, None))
 }

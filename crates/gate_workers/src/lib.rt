@@ -13,7 +13,7 @@ mod writer;
 
 pub use clock::Clock;
 pub use ending::ends_link;
-pub use link_io::{Event, Gate, LinkFault, LinkOut, Prompt};
+pub use link_io::{Event, Gate, LinkFault, LinkOut, Prompt, ShortList};
 pub use reader::{client_reader, port_reader};
 pub use ticks::ticker;
 pub use writer::{WriterEnd, client_writer, port_writer};

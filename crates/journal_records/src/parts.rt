@@ -11,7 +11,7 @@ ghost use Rattle.journal_records.specs.Reading.{batch_said, nothing_said, fault_
 ghost use Rattle.journal_records.specs.Reading.{saying_client_out, saying_port_out, saying_report};
 ghost use Rattle.journal_records.specs.PartsSeen.{parts_seen};
 
-use gate_events::{Batch, ClientNumber, IssuedReport, LinkOut, PortFault, PortNumber};
+use gate_events::{Batch, ClientNumber, IssuedReport, LinkOut, PortFault, PortNumber, ShortList};
 use journal_pages::{PrintedFields, RecordKind, RecordView};
 use std::alloc::{AllocError, Global};
 
@@ -19,24 +19,24 @@ use std::alloc::{AllocError, Global};
 #[derive(Drop)]
 pub struct BatchParts {
     pub client: u16,
-    pub reports: Vec<IssuedReport>,
-    pub client_out: Vec<LinkOut>,
+    pub reports: ShortList<IssuedReport>,
+    pub client_out: ShortList<LinkOut>,
     pub port: u16,
-    pub port_out: Vec<LinkOut>,
+    pub port_out: ShortList<LinkOut>,
     pub fault: Option<PortFault>,
 }
 
 impl BatchParts {
     /// Nothing. Takes no memory.
-    pub fn new(alloc: Global) -> BatchParts
+    pub fn new(_alloc: Global) -> BatchParts
         ensures { parts_seen result ≡ nothing_said }
     {
         BatchParts {
             client: 0,
-            reports: Vec::new(alloc),
-            client_out: Vec::new(alloc),
+            reports: ShortList::new(),
+            client_out: ShortList::new(),
             port: 0,
-            port_out: Vec::new(alloc),
+            port_out: ShortList::new(),
             fault: None,
         }
     }
@@ -47,14 +47,20 @@ impl BatchParts {
             ≡ said_more record.now.kind (record_seen record.now) (parts_seen self.old)) }
     {
         match record.kind {
-            RecordKind::Report => self.add_report(record.source, report_of(alloc, record)?),
-            RecordKind::ClientWrite => self.add_client_out(record.source, write_of(alloc, record)?),
-            RecordKind::ClientClose => {
-                self.add_client_out(record.source, LinkOut::Close { link: record.link })
+            RecordKind::Report => {
+                self.add_report(alloc, record.source, report_of(alloc, record)?)
             }
-            RecordKind::PortWrite => self.add_port_out(record.source, write_of(alloc, record)?),
+            RecordKind::ClientWrite => {
+                self.add_client_out(alloc, record.source, write_of(alloc, record)?)
+            }
+            RecordKind::ClientClose => {
+                self.add_client_out(alloc, record.source, LinkOut::Close { link: record.link })
+            }
+            RecordKind::PortWrite => {
+                self.add_port_out(alloc, record.source, write_of(alloc, record)?)
+            }
             RecordKind::PortClose => {
-                self.add_port_out(record.source, LinkOut::Close { link: record.link })
+                self.add_port_out(alloc, record.source, LinkOut::Close { link: record.link })
             }
             RecordKind::Fault => {
                 self.port = record.source;
@@ -89,28 +95,33 @@ impl BatchParts {
         )
     }
 
-    fn add_report(&mut self, client: u16, report: IssuedReport) -> Result<(), AllocError>
+    fn add_report(
+        &mut self,
+        alloc: Global,
+        client: u16,
+        report: IssuedReport,
+    ) -> Result<(), AllocError>
         ensures { OnOk result (parts_seen self.new ≡ saying_report client report (parts_seen self.old)) }
     {
-        self.reports.push(report)?;
+        self.reports.push(alloc, report)?;
         self.client = client;
         Ok(())
     }
 
-    fn add_client_out(&mut self, client: u16, out: LinkOut) -> Result<(), AllocError>
+    fn add_client_out(&mut self, alloc: Global, client: u16, out: LinkOut) -> Result<(), AllocError>
         ensures { OnOk result (parts_seen self.new
             ≡ saying_client_out client (link_out_seen out) (parts_seen self.old)) }
     {
-        push_out(&mut self.client_out, out)?;
+        push_out(alloc, &mut self.client_out, out)?;
         self.client = client;
         Ok(())
     }
 
-    fn add_port_out(&mut self, port: u16, out: LinkOut) -> Result<(), AllocError>
+    fn add_port_out(&mut self, alloc: Global, port: u16, out: LinkOut) -> Result<(), AllocError>
         ensures { OnOk result (parts_seen self.new
             ≡ saying_port_out port (link_out_seen out) (parts_seen self.old)) }
     {
-        push_out(&mut self.port_out, out)?;
+        push_out(alloc, &mut self.port_out, out)?;
         self.port = port;
         Ok(())
     }
@@ -148,11 +159,11 @@ fn or_one(number: u16) -> u16
 }
 
 /// Adds one thing that a link is told.
-fn push_out(outs: &mut Vec<LinkOut>, out: LinkOut) -> Result<(), AllocError>
+fn push_out(alloc: Global, outs: &mut ShortList<LinkOut>, out: LinkOut) -> Result<(), AllocError>
     ensures { OnOk result (map link_out_seen outs.new.items
         ≡ map link_out_seen outs.old.items ++ link_out_seen out ∷ []) }
 {
-    outs.push(out)?;
+    outs.push(alloc, out)?;
     Ok(())
 }
 

@@ -2,7 +2,8 @@
 
 use crate::records::{first_page, history_of, page};
 use gate_journal::{
-    Batch, ClientNumber, Event, History, LinkOut, PortFault, PortNumber, Recipient, Source, Told,
+    Batch, ClientNumber, Event, History, LinkOut, PortFault, PortNumber, Recipient, ShortList,
+    Source, Told,
 };
 use std::alloc::Global;
 use std::process::Abort;
@@ -11,20 +12,16 @@ use std::test::Fail;
 /// What client 3's link 258 is told: two bytes, and that it is closed; port 2's link 5 is told a byte, and the port is
 /// faulted.
 fn told(alloc: Global) -> Result<Batch, Fail> {
-    let client_out = vec![in alloc;
-        LinkOut::Write {
-            link: 258,
-            bytes: Vec::from_slice(alloc, b"ab")?
-        },
-        LinkOut::Close { link: 258 },
-    ]?;
-    let port_out = vec![in alloc;
-        LinkOut::Write {
-            link: 5,
-            bytes: Vec::from_slice(alloc, b"c")?
-        },
-    ]?;
-    let reports = Vec::new(alloc);
+    let mut client_out = ShortList::of(LinkOut::Write {
+        link: 258,
+        bytes: Vec::from_slice(alloc, b"ab")?,
+    });
+    client_out.push(alloc, LinkOut::Close { link: 258 })?;
+    let port_out = ShortList::of(LinkOut::Write {
+        link: 5,
+        bytes: Vec::from_slice(alloc, b"c")?,
+    });
+    let reports = ShortList::new();
     let fault = Some(PortFault::SequenceGap);
     let client = ClientNumber::new(3);
     Ok(Batch::of_parts(

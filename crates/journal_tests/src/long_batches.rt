@@ -1,26 +1,24 @@
 //! A batch that is longer than a page.
 
 use crate::records::first_page;
-use gate_journal::{Batch, ClientNumber, Event, History, LinkOut, PortNumber};
+use gate_journal::{Batch, ClientNumber, Event, History, LinkOut, PortNumber, ShortList};
 use std::alloc::Global;
 use std::process::Abort;
 use std::test::Fail;
 
 /// What a resend of 1,000 reports tells a client: so many frames of 260 bytes.
 fn resend(alloc: Global) -> Result<Batch, Fail> {
-    let mut outs = Vec::new(alloc);
+    let mut outs = ShortList::new();
     for _ in 0..1_000 {
-        outs.push(LinkOut::Write {
-            link: 1,
-            bytes: vec![in alloc; b'8'; 260]?,
-        })?;
+        let bytes = vec![in alloc; b'8'; 260]?;
+        outs.push(alloc, LinkOut::Write { link: 1, bytes })?;
     }
     Ok(Batch::of_parts(
         ClientNumber::new(1),
-        Vec::new(alloc),
+        ShortList::new(),
         outs,
         PortNumber::new(1),
-        Vec::new(alloc),
+        ShortList::new(),
         None,
     ))
 }

@@ -4,7 +4,7 @@ ghost use Rattle.std.specs.Prelude.{◌≡◌, map, IfOk};
 ghost use Rattle.link_io.specs.gate_events.Seen.{link_out_seen};
 
 use crate::chance::Chance;
-use link_io::{Event, Gate, LinkOut};
+use link_io::{Event, Gate, LinkOut, ShortList};
 use std::alloc::{AllocError, Global};
 use std::sync::Wait;
 
@@ -17,8 +17,8 @@ pub struct Kept {
     back_once_in: usize,
     pub events: Vec<Event>,
     /// The lists that lie there, the last one first.
-    pub lists: Vec<Vec<LinkOut>>,
-    pub given: Vec<Vec<LinkOut>>,
+    pub lists: Vec<ShortList<LinkOut>>,
+    pub given: Vec<ShortList<LinkOut>>,
 }
 
 impl Kept {
@@ -35,7 +35,7 @@ impl Kept {
     }
 
     /// The list lies there again, where memory ran out for a copy of it: its place is still there.
-    fn put_back(&mut self, list: Vec<LinkOut>)
+    fn put_back(&mut self, list: ShortList<LinkOut>)
         ensures events { self.new.events ≡ self.old.events }
         ensures given { self.new.given ≡ self.old.given }
     {
@@ -61,7 +61,7 @@ impl Gate for Kept {
         }
     }
 
-    fn take(&mut self) -> Option<Vec<LinkOut>> {
+    fn take(&mut self) -> Option<ShortList<LinkOut>> {
         let list = self.lists.pop()?;
         let Ok(copy) = copy_of(self.alloc, list.as_slice()) else {
             self.put_back(list);
@@ -82,12 +82,12 @@ impl Gate for Kept {
 }
 
 /// A copy of a list.
-fn copy_of(alloc: Global, list: &[LinkOut]) -> Result<Vec<LinkOut>, AllocError>
+fn copy_of(alloc: Global, list: &[LinkOut]) -> Result<ShortList<LinkOut>, AllocError>
     ensures { IfOk result (λ copy. map link_out_seen copy.items ≡ map link_out_seen list.now) }
 {
-    let mut copy = Vec::new(alloc);
+    let mut copy = ShortList::new();
     for out in list {
-        copy.push(copy_of_out(alloc, out)?)?;
+        copy.push(alloc, copy_of_out(alloc, out)?)?;
     }
     Ok(copy)
 }

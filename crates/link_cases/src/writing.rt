@@ -5,7 +5,7 @@ use crate::gate::Kept;
 use crate::recorded::one_of;
 use crate::streams::Torn;
 use crate::tally::Tally;
-use link_io::{BatchWriter, LinkFault, LinkOut};
+use link_io::{BatchWriter, LinkFault, LinkOut, ShortList};
 use std::alloc::{AllocError, Global};
 
 /// The number of the client or port, and its link.
@@ -42,7 +42,7 @@ struct Told {
 }
 
 /// What the lists tell the link, the last list first, up to one that closes it.
-fn told_by(alloc: Global, lists: &[Vec<LinkOut>]) -> Result<Told, AllocError> {
+fn told_by(alloc: Global, lists: &[ShortList<LinkOut>]) -> Result<Told, AllocError> {
     let mut bytes = Vec::new(alloc);
     let is_closing = tell_all(lists, &mut bytes)?;
     Ok(Told { bytes, is_closing })
@@ -52,7 +52,7 @@ fn told_by(alloc: Global, lists: &[Vec<LinkOut>]) -> Result<Told, AllocError> {
 fn write_told(
     alloc: Global,
     chance: &mut Chance,
-    lists: Vec<Vec<LinkOut>>,
+    lists: Vec<ShortList<LinkOut>>,
     told: &Told,
     tally: &mut Tally,
 ) -> Result<(), AllocError> {
@@ -105,7 +105,7 @@ fn lists_of(
     alloc: Global,
     chance: &mut Chance,
     units: &[Vec<u8>],
-) -> Result<Vec<Vec<LinkOut>>, AllocError> {
+) -> Result<Vec<ShortList<LinkOut>>, AllocError> {
     let mut lists = Vec::new(alloc);
     for _ in 0..chance.below(MOST_LISTS) {
         lists.push(list_of(alloc, chance, units)?)?;
@@ -118,10 +118,10 @@ fn list_of(
     alloc: Global,
     chance: &mut Chance,
     units: &[Vec<u8>],
-) -> Result<Vec<LinkOut>, AllocError> {
-    let mut list = Vec::new(alloc);
+) -> Result<ShortList<LinkOut>, AllocError> {
+    let mut list = ShortList::new();
     for _ in 0..chance.below(MOST_OUTS) {
-        list.push(out_of(alloc, chance, units)?)?;
+        list.push(alloc, out_of(alloc, chance, units)?)?;
     }
     Ok(list)
 }
@@ -137,7 +137,7 @@ fn out_of(alloc: Global, chance: &mut Chance, units: &[Vec<u8>]) -> Result<LinkO
 }
 
 /// What the lists tell the link, the last list first, up to one that closes it; whether one does.
-fn tell_all(lists: &[Vec<LinkOut>], told: &mut Vec<u8>) -> Result<bool, AllocError> {
+fn tell_all(lists: &[ShortList<LinkOut>], told: &mut Vec<u8>) -> Result<bool, AllocError> {
     for list in lists.iter().rev() {
         if tell(list.as_slice(), told)? {
             return Ok(true);

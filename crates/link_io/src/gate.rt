@@ -1,6 +1,6 @@
 //! Where an engine's events go, and where what a link is told comes from.
 
-use gate_events::{Event, LinkOut};
+use gate_events::{Event, LinkOut, ShortList};
 use std::alloc::{AllocError, Global};
 use std::sync::Wait;
 
@@ -23,7 +23,7 @@ pub trait Gate {
         ensures none_taken { was_taken self.new ≡ was_taken self.old };
 
     /// Takes the next list of what a link is told, where there is one. Waits for nobody, takes no memory.
-    fn take(&mut self) -> Option<Vec<LinkOut>>
+    fn take(&mut self) -> Option<ShortList<LinkOut>>
         ensures taken { IfSome result (λ outs. was_taken self.new
             ≡ was_taken self.old ++ map link_out_seen outs.items ∷ []) }
         ensures none { IfNone result (was_taken self.new ≡ was_taken self.old) }

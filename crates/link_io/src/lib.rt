@@ -19,7 +19,7 @@ mod writer;
 pub use client_frames::ClientFrames;
 pub use decoder::Decoder;
 pub use gate::Gate;
-pub use gate_events::{ClientNumber, Event, LinkOut, PortNumber};
+pub use gate_events::{ClientNumber, Event, LinkOut, PortNumber, ShortList};
 pub use link_fault::LinkFault;
 pub use port_packets::PortPackets;
 pub use progress::Progress;

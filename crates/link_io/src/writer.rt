@@ -13,7 +13,7 @@ use crate::gate::Gate;
 use crate::limit::Limit;
 use crate::link_fault::LinkFault;
 use crate::streams::{Prompt, Sink};
-use gate_events::{LinkOut, closes_link};
+use gate_events::{LinkOut, ShortList, closes_link};
 use std::alloc::{AllocError, Global};
 use std::marker::Model;
 
@@ -41,7 +41,7 @@ pub struct BatchWriter {
     number: u16,
     link: u64,
     /// A list that was taken, and how much of it is joined.
-    held: Vec<LinkOut>,
+    held: ShortList<LinkOut>,
     joined: usize,
     /// What is to be written, but for the rest of the list.
     pending: Vec<u8>,
@@ -104,7 +104,7 @@ impl BatchWriter {
         BatchWriter {
             number,
             link,
-            held: Vec::new(alloc),
+            held: ShortList::new(),
             joined: 0,
             pending: Vec::new(alloc),
             is_taken: false,

@@ -3,7 +3,7 @@
 ghost use Rattle.std.specs.Prelude.{◌≡◌, [], map, IfOk};
 ghost use Rattle.link_io.specs.gate_events.Seen.{link_out_seen};
 
-use link_io::{Event, Gate, LinkOut};
+use link_io::{Event, Gate, LinkOut, ShortList};
 use std::alloc::{AllocError, Global};
 use std::sync::Wait;
 
@@ -13,8 +13,8 @@ pub struct Kept {
     pub events: Vec<Event>,
     pub is_full: bool,
     /// The lists that lie there, the last one first.
-    pub lists: Vec<Vec<LinkOut>>,
-    pub given: Vec<Vec<LinkOut>>,
+    pub lists: Vec<ShortList<LinkOut>>,
+    pub given: Vec<ShortList<LinkOut>>,
 }
 
 /// Written by hand, so that one call drops all.
@@ -56,15 +56,15 @@ impl Kept {
         ensures given { self.new.given ≡ self.old.given }
     {
         let mut list = list_of(self.alloc, link, bytes)?;
-        list.push(LinkOut::Close { link })?;
+        list.push(self.alloc, LinkOut::Close { link })?;
         Ok(self.lists.push(list)?)
     }
 }
 
 /// A list of these bytes for a link.
-pub fn list_of(alloc: Global, link: u64, bytes: &[u8]) -> Result<Vec<LinkOut>, AllocError> {
+pub fn list_of(alloc: Global, link: u64, bytes: &[u8]) -> Result<ShortList<LinkOut>, AllocError> {
     let bytes = Vec::from_slice(alloc, bytes)?;
-    Ok(vec![in alloc; LinkOut::Write { link, bytes }]?)
+    Ok(ShortList::of(LinkOut::Write { link, bytes }))
 }
 
 impl Gate for Kept {
@@ -85,7 +85,7 @@ impl Gate for Kept {
         }
     }
 
-    fn take(&mut self) -> Option<Vec<LinkOut>> {
+    fn take(&mut self) -> Option<ShortList<LinkOut>> {
         let list = self.lists.pop()?;
         let Ok(copy) = copy_of(self.alloc, list.as_slice()) else {
             return None;
@@ -102,12 +102,12 @@ impl Gate for Kept {
 }
 
 /// A copy of a list.
-fn copy_of(alloc: Global, list: &[LinkOut]) -> Result<Vec<LinkOut>, AllocError>
+fn copy_of(alloc: Global, list: &[LinkOut]) -> Result<ShortList<LinkOut>, AllocError>
     ensures { IfOk result (λ copy. map link_out_seen copy.items ≡ map link_out_seen list.now) }
 {
-    let mut copy = Vec::new(alloc);
+    let mut copy = ShortList::new();
     for out in list {
-        copy.push(copy_of_out(alloc, out)?)?;
+        copy.push(alloc, copy_of_out(alloc, out)?)?;
     }
     Ok(copy)
 }

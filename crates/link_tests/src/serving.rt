@@ -6,7 +6,7 @@ use super::gates::Kept;
 use super::streams::Pieces;
 use gate_serving::{Closer, Line, LinkEnd, Opened, Opener, Worker, WriterEnd, serve};
 use gate_workers::Clock;
-use link_io::{ClientNumber, Event, Gate, LinkFault, LinkOut, PortNumber};
+use link_io::{ClientNumber, Event, Gate, LinkFault, LinkOut, PortNumber, ShortList};
 use std::alloc::{AllocError, Global};
 use std::io::Write;
 use std::process::Abort;
@@ -81,7 +81,7 @@ impl<'a, R: time::Clock> Gate for Waiting<'a, R> {
         self.kept.put(event)
     }
 
-    fn take(&mut self) -> Option<Vec<LinkOut>> {
+    fn take(&mut self) -> Option<ShortList<LinkOut>> {
         let list = self.kept.take()?;
         if self.kept.lists.is_empty() {
             self.is_taken.store(true, Ordering::SeqCst);
@@ -224,7 +224,7 @@ type TestLine<'a, P, R> = Line<
 
 /// A gate with a list of this alone, which lies there.
 fn kept_with(alloc: Global, out: LinkOut) -> Result<Kept, AllocError> {
-    let list = vec![in alloc; out]?;
+    let list = ShortList::of(out);
     let mut kept = Kept::new(alloc);
     kept.lists.push(list)?;
     Ok(kept)
@@ -572,7 +572,7 @@ fn gate_of_late_lists<'a, R>(
 
 fn lay_heartbeat_and_close(alloc: Global, kept: &mut Kept) -> Result<(), AllocError> {
     kept.lay(1, HEARTBEAT.as_slice())?;
-    let closing = vec![in alloc; LinkOut::Close { link: 1 }]?;
+    let closing = ShortList::of(LinkOut::Close { link: 1 });
     Ok(kept.lists.push(closing)?)
 }
 

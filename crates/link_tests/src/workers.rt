@@ -7,7 +7,7 @@ use super::streams::{Pieces, Torn};
 use gate_workers::{
     Clock, WriterEnd, client_reader, client_writer, port_reader, port_writer, ticker,
 };
-use link_io::{ClientNumber, Event, Gate, LinkFault, LinkOut, PortNumber};
+use link_io::{ClientNumber, Event, Gate, LinkFault, LinkOut, PortNumber, ShortList};
 use std::alloc::{AllocError, Global};
 use std::process::Abort;
 use std::sync::Wait;
@@ -79,7 +79,7 @@ impl Gate for Slow {
         self.kept.put(event)
     }
 
-    fn take(&mut self) -> Option<Vec<LinkOut>> {
+    fn take(&mut self) -> Option<ShortList<LinkOut>> {
         self.kept.take()
     }
 
@@ -226,7 +226,7 @@ fn lay_up_to_close(alloc: Global, gate: &mut Kept) -> Result<(), AllocError> {
     gate.lay_last(7, b"cd")?;
     let mut list = list_of(alloc, 7, b"ab")?;
     let bytes = Vec::from_slice(alloc, b"x")?;
-    list.push(LinkOut::Write { link: 6, bytes })?;
+    list.push(alloc, LinkOut::Write { link: 6, bytes })?;
     Ok(gate.lists.push(list)?)
 }
 

@@ -26,8 +26,8 @@ fn lay_lists(alloc: Global, gate: &mut Kept) -> Result<(), AllocError> {
     gate.lay_last(7, SECOND)?;
     let mut list = list_of(alloc, 7, FIRST)?;
     let bytes = Vec::from_slice(alloc, SECOND)?;
-    list.push(LinkOut::Write { link: 6, bytes })?;
-    list.push(LinkOut::Close { link: 6 })?;
+    list.push(alloc, LinkOut::Write { link: 6, bytes })?;
+    list.push(alloc, LinkOut::Close { link: 6 })?;
     Ok(gate.lists.push(list)?)
 }
 

@@ -14,8 +14,8 @@ use super::Parts;
 use super::client_messages::Asked;
 use fix_types::AppMsg;
 use gate_events::{
-    Batch, ClientFrame, ClientNumber, Issues, PortNumber, SessionOut, SessionTurn, told_client,
-    told_port,
+    Batch, ClientFrame, ClientNumber, Issues, PortNumber, SessionOut, SessionTurn, ShortList,
+    told_client, told_port,
 };
 use std::alloc::{AllocError, Global};
 use std::hash::BuildHasher;
@@ -88,7 +88,7 @@ impl<S: BuildHasher + Drop> Parts<S> {
             → Stepped s (ClientMessage (place + 1) link at frame) (batch_seen b) v self.new) }
         ensures grows { Grows 0 0 self.old self.new }
     {
-        let outs = told_client(&mut self.clients, alloc, place, said, Vec::new(alloc))?;
-        Ok(Batch::for_client(alloc, ClientNumber::at_place(place), Vec::new(alloc), outs))
+        let outs = told_client(&mut self.clients, alloc, place, said, ShortList::new())?;
+        Ok(Batch::for_client(alloc, ClientNumber::at_place(place), ShortList::new(), outs))
     }
 }

@@ -10,7 +10,7 @@ ghost use Rattle.gate_core.specs.Steps.{Grows, Ready, Stepped};
 ghost use Rattle.gate_core.specs.Expected.{next_expected};
 
 use super::{Parts, place_of};
-use gate_events::{Batch, ClientNumber, only_outs, told_client};
+use gate_events::{Batch, ClientNumber, ShortList, only_outs, told_client};
 use std::alloc::{AllocError, Global};
 use std::hash::BuildHasher;
 
@@ -74,8 +74,8 @@ impl<S: BuildHasher + Drop> Parts<S> {
             return Ok(Batch::empty(alloc));
         };
         let said = only_outs(self.clients.tick(alloc, place, at)?);
-        let outs = told_client(&mut self.clients, alloc, place, said, Vec::new(alloc))?;
-        Ok(Batch::for_client(alloc, client, Vec::new(alloc), outs))
+        let outs = told_client(&mut self.clients, alloc, place, said, ShortList::new())?;
+        Ok(Batch::for_client(alloc, client, ShortList::new(), outs))
     }
 
     /// The place of a client, where the settings have it.

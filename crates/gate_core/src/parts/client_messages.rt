@@ -14,7 +14,7 @@ ghost use Rattle.gate_core.specs.Steps.{Grows, IsAsked, IsIssued, IsSent, IsTurn
 
 use super::Parts;
 use fix_types::{AppBody, AppMsg};
-use gate_events::{Issues, LinkOut, client_issue_all, port_send_all};
+use gate_events::{Issues, LinkOut, ShortList, client_issue_all, port_send_all};
 use order_core::{CoreOut, PortState};
 use ouch_codec::Inbound;
 use std::alloc::{AllocError, Global};
@@ -26,7 +26,7 @@ pub(crate) struct Asked {
     /// What was reported, and what the client's link is told of it.
     pub issues: Issues,
     /// What the link of the client's port is told.
-    pub port_outs: Vec<LinkOut>,
+    pub port_outs: ShortList<LinkOut>,
 }
 
 impl<S: BuildHasher + Drop> Parts<S> {
@@ -110,7 +110,7 @@ impl<S: BuildHasher + Drop> Parts<S> {
         place: usize,
         messages: &[Inbound],
         at: u64,
-    ) -> Result<Vec<LinkOut>, AllocError>
+    ) -> Result<ShortList<LinkOut>, AllocError>
         requires place { place < length self.old.ports.lines.items }
         ensures sent { IfOk result (λ outs. (s : Settings) (v : Lists) → ArePartsOf s v self.old
             → OnlyWhileUp s (place + 1) v (map inbound_bytes messages.now)
@@ -122,7 +122,7 @@ impl<S: BuildHasher + Drop> Parts<S> {
                 let outs = port_send_all(&mut self.ports, alloc, place, messages, at)?;
                 Ok(outs)
             }
-            _ => Ok(Vec::new(alloc)),
+            _ => Ok(ShortList::new()),
         }
     }
 }

@@ -14,7 +14,7 @@ ghost use Rattle.gate_core.specs.Expected.{fault_now};
 
 use super::port_packets::fault_of;
 use super::{Parts, place_of};
-use gate_events::{Batch, PortNumber, told_port};
+use gate_events::{Batch, PortNumber, ShortList, told_port};
 use soup_session::{PortFault, PortState};
 use std::alloc::{AllocError, Global};
 use std::hash::BuildHasher;
@@ -39,7 +39,7 @@ impl<S: BuildHasher + Drop> Parts<S> {
         match self.port_link(place) {
             None => {
                 let turn = self.ports.up(alloc, place, link, at)?;
-                let outs = told_port(&mut self.ports, alloc, place, turn.out, Vec::new(alloc))?;
+                let outs = told_port(&mut self.ports, alloc, place, turn.out, ShortList::new())?;
                 Ok(Batch::for_port(alloc, port, outs, None))
             }
             Some(current) if current == link => Ok(Batch::empty(alloc)),
@@ -75,7 +75,7 @@ impl<S: BuildHasher + Drop> Parts<S> {
             return Ok(Batch::empty(alloc));
         };
         let turn = self.ports.tick(alloc, place, at);
-        let outs = told_port(&mut self.ports, alloc, place, turn.out, Vec::new(alloc))?;
+        let outs = told_port(&mut self.ports, alloc, place, turn.out, ShortList::new())?;
         Ok(Batch::for_port(alloc, port, outs, None))
     }
 

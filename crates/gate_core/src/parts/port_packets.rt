@@ -15,7 +15,7 @@ ghost use Rattle.gate_core.specs.Steps.{Grows, AfterPacket, Ready, Stepped};
 ghost use Rattle.gate_core.specs.Hearing.{IsSentAgain};
 
 use super::Parts;
-use gate_events::{Batch, LinkOut, PortNumber, told_port};
+use gate_events::{Batch, LinkOut, PortNumber, ShortList, told_port};
 use gate_law::Packet;
 use soup_session::{PortFault, PortOut, PortState, PortTurn};
 use std::alloc::{AllocError, Global};
@@ -85,7 +85,7 @@ impl<S: BuildHasher + Drop> Parts<S> {
         place: usize,
         stood: PortState,
         at: u64,
-    ) -> Result<Vec<LinkOut>, AllocError>
+    ) -> Result<ShortList<LinkOut>, AllocError>
         requires place { place < length self.old.ports.lines.items }
         requires few { place < 16 }
         ensures sent { IfOk result (λ outs. (s : Settings) (v : Lists) → ArePartsOf s v self.old
@@ -93,7 +93,7 @@ impl<S: BuildHasher + Drop> Parts<S> {
         ensures grows { Grows 0 0 self.old self.new }
     {
         if stood.is_up() || !self.port_state(place).is_up() {
-            return Ok(Vec::new(alloc));
+            return Ok(ShortList::new());
         }
         let messages = self.orders.outstanding(alloc, (place + 1) as u16)?;
         self.send(alloc, place, &messages, at)

@@ -21,7 +21,9 @@ ghost use Rattle.gate_core.specs.Steps.{Stepped};
 
 use super::{Parts, place_of};
 use fix_types::AppBody;
-use gate_events::{Batch, ClientNumber, Issues, PortNumber, told_client, told_out, told_port};
+use gate_events::{
+    Batch, ClientNumber, Issues, PortNumber, ShortList, told_client, told_out, told_port,
+};
 use order_core::{MarketError, MarketFault};
 use soup_session::{PortFault, PortOut, PortState};
 use std::alloc::{AllocError, Global};
@@ -124,7 +126,7 @@ impl<S: BuildHasher + Drop> Parts<S> {
     {
         let Issues { reports, outs } = self.issue(alloc, client, bodies, at)?;
         let client_out = told_client(&mut self.clients, alloc, client, Vec::new(alloc), outs)?;
-        let port_out = told_port(&mut self.ports, alloc, place, said, Vec::new(alloc))?;
+        let port_out = told_port(&mut self.ports, alloc, place, said, ShortList::new())?;
         let (client, port) = (ClientNumber::at_place(client), PortNumber::at_place(place));
         Ok(Batch::of_parts(client, reports, client_out, port, port_out, None))
     }
@@ -145,7 +147,7 @@ impl<S: BuildHasher + Drop> Parts<S> {
             → Stepped s (PortPacket (place + 1) link at packet) (batch_seen b) v self.new) }
         ensures grows { Grows 0 0 self.old self.new }
     {
-        let port_out = told_port(&mut self.ports, alloc, place, said, Vec::new(alloc))?;
+        let port_out = told_port(&mut self.ports, alloc, place, said, ShortList::new())?;
         Ok(Batch::for_port(alloc, PortNumber::at_place(place), port_out, None))
     }
 
