@@ -15,7 +15,7 @@ use fix_fields::{Fields, Text};
 use session_law::{Kind, Logged, Phase};
 use session_reading::{AppBody, AppMsg, due_at};
 use session_writing::{
-    BodyReport, FrameHead, IssuedReport, Names, SessionOut, Stamped, UndoBodies, append_written,
+    BodyReport, IssuedReport, Names, SessionOut, Stamped, UndoBodies, append_written,
     issued_frame, report_of_body,
 };
 use std::alloc::{AllocError, Global};
@@ -361,13 +361,7 @@ impl Session {
             self.now.session.client (fresh (next_out self.now.session) kind (issued_body body.now) moment.now)) }
         ensures body { IfOk result (λ made. made.body ≡ issued_body body.now) }
     {
-        let head = FrameHead {
-            number: self.last() + 1,
-            kind,
-            at: moment.at(),
-            first: None,
-        };
-        report_of_body(alloc, &self.names, head, moment, body)
+        report_of_body(alloc, &self.names, self.last() + 1, kind, moment, body)
     }
 
     /// A frame of the client. Where it is judged, nothing changes; what it brings is made, and then taken over whole.
@@ -463,13 +457,7 @@ impl Session {
     {
         let mut outs = Vec::new(alloc);
         self.append_again(alloc, &mut outs, draft.resends, draft.latest)?;
-        append_written(
-            alloc,
-            &mut outs,
-            self.gate(),
-            self.client(),
-            draft.outs.as_slice(),
-        )?;
+        append_written(alloc, &mut outs, &self.names, draft.outs.as_slice())?;
         Ok(outs)
     }
 
@@ -489,7 +477,7 @@ impl Session {
             None => Ok(()),
             Some(Resend { from, to }) => {
                 let given = self.given.given();
-                given.append_resend(alloc, outs, self.gate(), self.client(), from, to, at)
+                given.append_resend(alloc, outs, &self.names, from, to, at)
             }
         }
     }

@@ -5,17 +5,17 @@ ghost use Rattle.fix_framing.specs.fix_fields.Field.{AreFields, fields_text};
 ghost use Rattle.fix_framing.specs.fix_fields.Printed.{PrintsFields, fields_in};
 ghost use Rattle.fix_stamp.specs.Stamp.{stamp_text};
 ghost use Rattle.session_reading.specs.session_law.Frames.{frame_fields};
-ghost use Rattle.session_writing.specs.Heads.{frame_with};
+ghost use Rattle.session_reading.specs.session_law.Session.{fresh};
 ghost use Rattle.session_writing.specs.Issued.{issued_body};
 
 use crate::head::FrameHead;
 use crate::issued_report::{IssuedReport, report_in_limit};
 use crate::names::Names;
-use crate::output::{push_issue, report_front};
+use crate::output::{printed_front, push_issue};
 use crate::resend::part_of;
 use crate::stamped::Stamped;
 use fix_framing::PrintedFields;
-use session_reading::AppBody;
+use session_reading::{AppBody, Kind};
 use std::alloc::{AllocError, Global};
 use std::marker::Model;
 
@@ -66,29 +66,34 @@ impl BodyReport {
     }
 }
 
-/// The report of a body that is issued, under these names, at the moment of its head. One growth, where the names have
-/// 60 bytes at most and the body's texts aren't long.
+/// The report of a body that is issued, under these names and with this number, at a moment. One growth, where the
+/// names have 60 bytes at most and the body's texts aren't long.
 ///
 /// Where it prints in more than `IssuedReport::LONGEST` bytes it is answered as want of memory. No report does, since
 /// its longest texts are those of a frame of 8,192 bytes at most; that isn't proved.
 pub fn report_of_body(
     alloc: Global,
     names: &Names,
-    head: FrameHead,
+    number: u64,
+    kind: Kind,
     moment: &Stamped,
     body: &AppBody,
 ) -> Result<BodyReport, AllocError>
-    requires moment { moment.now ≡ head.at }
-    ensures report { IfOk result (λ made. made.report
-        ≡ frame_fields stamp_text names.now.gate names.now.client (frame_with head (issued_body body.now))) }
+    ensures report { IfOk result (λ made. made.report ≡ frame_fields stamp_text names.now.gate names.now.client
+        (fresh number kind (issued_body body.now) moment.now)) }
     ensures body { IfOk result (λ made. made.body ≡ issued_body body.now) }
 {
-    let now = moment.text();
-    let mut printed = report_front(alloc, MOST_BODIES, names, head, now)?;
+    let head = FrameHead {
+        number,
+        kind,
+        at: moment.at(),
+        first: None,
+    };
+    let mut printed = printed_front(alloc, MOST_BODIES, names, head, moment, moment)?;
     let start = size_of(&printed);
     push_body(&mut printed, body)?;
     let end = size_of(&printed);
-    push_issue(&mut printed, head, now)?;
+    push_issue(&mut printed, head, moment, moment)?;
     let report = report_in_limit(printed)?;
     Ok(BodyReport { report, start, end })
 }

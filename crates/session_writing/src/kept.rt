@@ -2,13 +2,13 @@
 
 ghost use Rattle.std.specs.Prelude.{◌≡◌, ◌<◌, ◌≤◌, ◌+◌, ◌-◌, ◌^◌, ◌++◌, ◌∷◌, [], length, map, min, take, drop};
 ghost use Rattle.std.specs.Prelude.{ℕ, Some, None, true, IfOk, OnOk, OnErr, vec_len, vec_capacity};
-ghost use Rattle.fix_framing.specs.fix_fields.Field.{IsValue};
 ghost use Rattle.fix_framing.specs.fix_fields.Printed.{PrintsFields, fields_in};
 ghost use Rattle.session_reading.specs.session_law.Session as law;
 ghost use Rattle.session_writing.specs.Written.{told_bytes, told_frames};
 ghost use Rattle.session_writing.specs.Keeping.{is_within, place_further};
 ghost use Rattle.std.specs.List.{list_all};
 
+use crate::names::Names;
 use crate::output::SessionOut;
 use crate::place::KeptPlace;
 use crate::resend::append_resent;
@@ -131,28 +131,16 @@ impl KeptBodies {
         &self,
         alloc: Global,
         outs: &mut Vec<SessionOut>,
-        gate: &[u8],
-        client: &[u8],
+        names: &Names,
         from: u64,
         to: u64,
         at: u64,
     ) -> Result<(), AllocError>
-        requires gate { IsValue gate.now }
-        requires client { IsValue client.now }
         ensures { OnOk result (map told_bytes outs.new.items ≡ map told_bytes outs.old.items
-            ++ told_frames gate.now client.now (law.resend at self.now from to)) }
+            ++ told_frames names.now.gate names.now.client (law.resend at self.now from to)) }
     {
         let places = between(self.places.as_slice(), from, to);
-        append_resent(
-            alloc,
-            outs,
-            gate,
-            client,
-            self.text.as_slice(),
-            places,
-            from,
-            at,
-        )
+        append_resent(alloc, outs, names, self.text.as_slice(), places, from, at)
     }
 }
 

@@ -20,7 +20,6 @@ pub use bodies::{
     unsupported_body,
 };
 pub use body_report::{BodyReport, report_of_body};
-pub use head::FrameHead;
 pub use issued_report::{IssuedReport, issued_frame};
 pub use kept::KeptBodies;
 pub use names::Names;

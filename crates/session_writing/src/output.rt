@@ -2,7 +2,7 @@
 //!
 //! Source: FIX 4.4 Volume 2, "Standard Message Header".
 
-ghost use Rattle.std.specs.Prelude.{◌≡◌, ◌<◌, ◌^◌, ◌++◌, ◌∷◌, [], IfOk, OnOk, map, codes, take};
+ghost use Rattle.std.specs.Prelude.{◌≡◌, ◌<◌, ◌^◌, ◌++◌, ◌∷◌, [], IfOk, OnOk, IfSome, map, codes, take};
 ghost use Rattle.fix_framing.specs.fix_fields.Field.{IsValue, Message, field};
 ghost use Rattle.fix_framing.specs.fix_fields.Printed.{PrintsFields, fields_in};
 ghost use Rattle.fix_stamp.specs.Stamp.{stamp_text};
@@ -14,9 +14,9 @@ ghost use Rattle.session_writing.specs.Heads.{frame_with};
 ghost use Rattle.session_writing.specs.Written.{told_bytes};
 
 use crate::head::FrameHead;
-use crate::names::{Names, push_names};
+use crate::names::Names;
+use crate::stamped::Stamped;
 use fix_framing::{PrintedFields, frame_of_text, printed_fields};
-use fix_stamp::stamp;
 use session_reading::{Frame, Kind, Out};
 use std::alloc::{AllocError, Global};
 
@@ -36,48 +36,31 @@ pub enum SessionOut {
 pub fn append_written(
     alloc: Global,
     all: &mut Vec<SessionOut>,
-    gate: &[u8],
-    client: &[u8],
+    names: &Names,
     outs: &[Out],
 ) -> Result<(), AllocError>
-    requires gate { IsValue gate.now }
-    requires client { IsValue client.now }
     ensures { OnOk result (map told_bytes all.new.items
-        ≡ map told_bytes all.old.items ++ map (told_of_out gate.now client.now) outs.now) }
+        ≡ map told_bytes all.old.items ++ map (told_of_out names.now.gate names.now.client) outs.now) }
 {
     for out in outs {
-        all.push(written_out(alloc, gate, client, out)?)?;
+        all.push(written_out(alloc, names, out)?)?;
     }
     Ok(())
 }
 
 /// One output as bytes.
-fn written_out(
-    alloc: Global,
-    gate: &[u8],
-    client: &[u8],
-    out: &Out,
-) -> Result<SessionOut, AllocError>
-    requires gate { IsValue gate.now }
-    requires client { IsValue client.now }
-    ensures { IfOk result (λ one. told_bytes one ≡ told_of_out gate.now client.now out.now) }
+fn written_out(alloc: Global, names: &Names, out: &Out) -> Result<SessionOut, AllocError>
+    ensures { IfOk result (λ one. told_bytes one ≡ told_of_out names.now.gate names.now.client out.now) }
 {
     match out {
         Out::Close => Ok(SessionOut::Close),
-        Out::Write(frame) => Ok(SessionOut::Frame(written_frame(alloc, gate, client, frame)?)),
+        Out::Write(frame) => Ok(SessionOut::Frame(written_frame(alloc, names, frame)?)),
     }
 }
 
 /// The bytes of a frame.
-fn written_frame(
-    alloc: Global,
-    gate: &[u8],
-    client: &[u8],
-    told: &Frame,
-) -> Result<Vec<u8>, AllocError>
-    requires gate { IsValue gate.now }
-    requires client { IsValue client.now }
-    ensures { IfOk result (λ bytes. bytes.items ≡ frame_bytes gate.now client.now told.now) }
+fn written_frame(alloc: Global, names: &Names, told: &Frame) -> Result<Vec<u8>, AllocError>
+    ensures { IfOk result (λ bytes. bytes.items ≡ frame_bytes names.now.gate names.now.client told.now) }
 {
     let head = FrameHead {
         number: told.number,
@@ -85,84 +68,68 @@ fn written_frame(
         at: told.at,
         first: told.first,
     };
-    frame_of_body(alloc, gate, client, head, printed_fields(&told.body))
+    let (now, first) = (
+        Stamped::of(told.at),
+        Stamped::of(told.first.unwrap_or(told.at)),
+    );
+    frame_of_body(alloc, names, head, &now, &first, printed_fields(&told.body))
 }
 
-/// The bytes of a frame whose body is the fields of this text. Two growths.
+/// The bytes of a frame whose body is the fields of this text, sent at a moment, and first at another where it is sent
+/// again. Two growths.
 pub(crate) fn frame_of_body(
     alloc: Global,
-    gate: &[u8],
-    client: &[u8],
+    names: &Names,
     head: FrameHead,
+    now: &Stamped,
+    first: &Stamped,
     body: &[u8],
 ) -> Result<Vec<u8>, AllocError>
-    requires gate { IsValue gate.now }
-    requires client { IsValue client.now }
+    requires now { now.now ≡ head.at }
+    requires first { IfSome head.first (λ at. first.now ≡ at) }
     requires body { PrintsFields body.now }
     ensures { IfOk result (λ bytes. bytes.items
-        ≡ frame_bytes gate.now client.now (frame_with head (fields_in body.now))) }
+        ≡ frame_bytes names.now.gate names.now.client (frame_with head (fields_in body.now))) }
 {
-    let printed = printed_frame(alloc, gate, client, head, body)?;
+    let printed = printed_frame(alloc, names, head, now, first, body)?;
     frame_of_text(alloc, printed.text())
 }
 
 /// The fields of a frame from MsgType (35) on, as they are printed: the header, the fields of this text, and the moment
 /// of its issue behind a report. One growth, where the names have 60 bytes at most.
-pub(crate) fn printed_frame(
+fn printed_frame(
     alloc: Global,
-    gate: &[u8],
-    client: &[u8],
+    names: &Names,
     head: FrameHead,
+    now: &Stamped,
+    first: &Stamped,
     body: &[u8],
 ) -> Result<PrintedFields, AllocError>
-    requires gate { IsValue gate.now }
-    requires client { IsValue client.now }
+    requires now { now.now ≡ head.at }
+    requires first { IfSome head.first (λ at. first.now ≡ at) }
     requires body { PrintsFields body.now }
-    ensures { IfOk result (λ printed. printed
-        ≡ frame_fields stamp_text gate.now client.now (frame_with head (fields_in body.now))) }
+    ensures { IfOk result (λ printed. printed ≡ frame_fields stamp_text names.now.gate names.now.client
+        (frame_with head (fields_in body.now))) }
 {
-    let now = stamp(head.at);
-    let mut fields = printed_front(alloc, body.len(), gate, client, head, &now)?;
+    let mut fields = printed_front(alloc, body.len(), names, head, now, first)?;
     fields.append_text(body)?;
-    push_issue(&mut fields, head, &now)?;
+    push_issue(&mut fields, head, now, first)?;
     Ok(fields)
 }
 
-/// The fields of a frame before its body, whose moment is written so, in a text with room for a body of so many bytes.
-/// One growth, where the names have 60 bytes at most.
+/// The fields of a frame before its body, in a text with room for a body of so many bytes. One growth, where the names
+/// have 60 bytes at most.
 pub(crate) fn printed_front(
-    alloc: Global,
-    room: usize,
-    gate: &[u8],
-    client: &[u8],
-    head: FrameHead,
-    now: &[u8; 21],
-) -> Result<PrintedFields, AllocError>
-    requires room { room < 2 ^ 63 }
-    requires gate { IsValue gate.now }
-    requires client { IsValue client.now }
-    requires now { now.now ≡ stamp_text head.at }
-    requires value { IsValue now.now }
-    ensures { IfOk result (λ front. front ≡ field 35 (text_of_kind head.kind) ∷ field 49 gate.now ∷ field 56 client.now
-        ∷ number_as_field 34 head.number ∷ field 52 (stamp_text head.at) ∷ again_fields stamp_text head.first) }
-{
-    let mut fields = PrintedFields::with_capacity(alloc, ROUND_A_BODY + room)?;
-    push_header(&mut fields, gate, client, head, now)?;
-    push_again(&mut fields, head.first)?;
-    Ok(fields)
-}
-
-/// The same under names whose fields may have been printed before.
-pub(crate) fn report_front(
     alloc: Global,
     room: usize,
     names: &Names,
     head: FrameHead,
-    now: &[u8; 21],
+    now: &Stamped,
+    first: &Stamped,
 ) -> Result<PrintedFields, AllocError>
     requires room { room < 2 ^ 63 }
-    requires now { now.now ≡ stamp_text head.at }
-    requires value { IsValue now.now }
+    requires now { now.now ≡ head.at }
+    requires first { IfSome head.first (λ at. first.now ≡ at) }
     ensures { IfOk result (λ front. front ≡ field 35 (text_of_kind head.kind) ∷ field 49 names.now.gate
         ∷ field 56 names.now.client ∷ number_as_field 34 head.number ∷ field 52 (stamp_text head.at)
         ∷ again_fields stamp_text head.first) }
@@ -170,68 +137,40 @@ pub(crate) fn report_front(
     let mut fields = PrintedFields::with_capacity(alloc, ROUND_A_BODY + room)?;
     fields.push_byte(35, kind_letter(head.kind))?;
     names.push(&mut fields)?;
-    push_numbered(&mut fields, head, now)?;
-    push_again(&mut fields, head.first)?;
+    fields.push_number(34, head.number)?;
+    fields.push_array(52, now.text())?;
+    push_again(&mut fields, head.first, first)?;
     Ok(fields)
 }
 
-/// Adds MsgSeqNum (34) and SendingTime (52), written so.
-fn push_numbered(
+/// Adds PossDupFlag (43) and OrigSendingTime (122), where a frame is sent again that was first sent at this moment.
+fn push_again(
     fields: &mut PrintedFields,
-    head: FrameHead,
-    now: &[u8; 21],
+    again: Option<u64>,
+    first: &Stamped,
 ) -> Result<(), AllocError>
-    requires now { now.now ≡ stamp_text head.at }
-    requires value { IsValue now.now }
-    ensures { OnOk result (fields.new
-        ≡ fields.old ++ number_as_field 34 head.number ∷ field 52 (stamp_text head.at) ∷ []) }
+    requires first { IfSome again (λ at. first.now ≡ at) }
+    ensures { OnOk result (fields.new ≡ fields.old ++ again_fields stamp_text again) }
 {
-    fields.push_number(34, head.number)?;
-    fields.push_array(52, now)
-}
-
-/// Adds the header of every frame, whose moment is written so.
-fn push_header(
-    fields: &mut PrintedFields,
-    gate: &[u8],
-    client: &[u8],
-    head: FrameHead,
-    now: &[u8; 21],
-) -> Result<(), AllocError>
-    requires gate { IsValue gate.now }
-    requires client { IsValue client.now }
-    requires now { now.now ≡ stamp_text head.at }
-    requires value { IsValue now.now }
-    ensures { OnOk result (fields.new ≡ fields.old ++ field 35 (text_of_kind head.kind) ∷ field 49 gate.now
-        ∷ field 56 client.now ∷ number_as_field 34 head.number ∷ field 52 (stamp_text head.at) ∷ []) }
-{
-    fields.push_byte(35, kind_letter(head.kind))?;
-    push_names(fields, gate, client)?;
-    push_numbered(fields, head, now)
-}
-
-/// Adds PossDupFlag (43) and OrigSendingTime (122), where a frame is sent again.
-fn push_again(fields: &mut PrintedFields, first: Option<u64>) -> Result<(), AllocError>
-    ensures { OnOk result (fields.new ≡ fields.old ++ again_fields stamp_text first) }
-{
-    match first {
+    match again {
         None => Ok(()),
-        Some(first) => {
+        Some(_) => {
             fields.push_byte(43, b'Y')?;
-            fields.push_array(122, &stamp(first))
+            fields.push_array(122, first.text())
         }
     }
 }
 
-/// Adds TransactTime (60) to what was issued: the moment of its issue, which is that of the frame, written so, or the
-/// first one where it is sent again.
+/// Adds TransactTime (60) to what was issued: the moment of its issue, which is that of the frame, or the first one
+/// where it is sent again.
 pub(crate) fn push_issue(
     fields: &mut PrintedFields,
     head: FrameHead,
-    now: &[u8; 21],
+    now: &Stamped,
+    first: &Stamped,
 ) -> Result<(), AllocError>
-    requires now { now.now ≡ stamp_text head.at }
-    requires value { IsValue now.now }
+    requires now { now.now ≡ head.at }
+    requires first { IfSome head.first (λ at. first.now ≡ at) }
     ensures { (body : Message) → OnOk result (fields.new
         ≡ fields.old ++ issue_fields stamp_text (frame_with head body)) }
 {
@@ -239,8 +178,8 @@ pub(crate) fn push_issue(
         return Ok(());
     }
     match head.first {
-        None => fields.push_array(60, now),
-        Some(first) => fields.push_array(60, &stamp(first)),
+        None => fields.push_array(60, now.text()),
+        Some(_) => fields.push_array(60, first.text()),
     }
 }
 

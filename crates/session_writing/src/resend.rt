@@ -1,8 +1,8 @@
 //! Numbers sent again: bodies with their numbers, and one gap fill for each run of others.
 
-ghost use Rattle.std.specs.Prelude.{◌≡◌, ◌<◌, ◌≤◌, ◌+◌, ◌^◌, ◌∷◌, ◌++◌, [], length, map, OnOk, IfOk, codes};
+ghost use Rattle.std.specs.Prelude.{◌≡◌, ◌<◌, ◌≤◌, ◌+◌, ◌^◌, ◌∷◌, ◌++◌, [], length, map, OnOk, IfOk, IfSome, codes};
 ghost use Rattle.std.specs.Prelude.{slice_range};
-ghost use Rattle.fix_framing.specs.fix_fields.Field.{IsValue, field};
+ghost use Rattle.fix_framing.specs.fix_fields.Field.{field};
 ghost use Rattle.fix_framing.specs.fix_fields.Printed.{PrintsFields, fields_in};
 ghost use Rattle.session_reading.specs.session_law.Messages.{number_as_field};
 ghost use Rattle.session_reading.specs.session_law.Frames.{frame_bytes};
@@ -12,8 +12,10 @@ ghost use Rattle.session_writing.specs.Heads.{frame_with};
 ghost use Rattle.session_writing.specs.Written.{told_bytes, told_frames};
 
 use crate::head::FrameHead;
+use crate::names::Names;
 use crate::output::{SessionOut, frame_of_body};
 use crate::place::KeptPlace;
+use crate::stamped::Stamped;
 use fix_framing::PrintedFields;
 use session_reading::Kind;
 use std::alloc::{AllocError, Global};
@@ -22,20 +24,19 @@ use std::alloc::{AllocError, Global};
 pub(crate) fn append_resent(
     alloc: Global,
     outs: &mut Vec<SessionOut>,
-    gate: &[u8],
-    client: &[u8],
+    names: &Names,
     text: &[u8],
     places: &[KeptPlace],
     first: u64,
     at: u64,
 ) -> Result<(), AllocError>
-    requires gate { IsValue gate.now }
-    requires client { IsValue client.now }
     requires places { ArePlaces text.now places.now }
     requires room { first + length places.now < 2 ^ 64 }
     ensures { OnOk result (map told_bytes outs.new.items ≡ map told_bytes outs.old.items
-        ++ told_frames gate.now client.now (law.resent at first first (slots_at text.now places.now))) }
+        ++ told_frames names.now.gate names.now.client (law.resent at first first (slots_at text.now places.now))) }
 {
+    let now = Stamped::of(at);
+    let mut sent = Stamped::of(at);
     let mut start = first;
     let mut number = first;
     for place in places {
@@ -46,45 +47,51 @@ pub(crate) fn append_resent(
             at: issued,
         } = *place
         {
-            append_gap(alloc, outs, gate, client, start, number, at)?;
+            append_gap(alloc, outs, names, start, number, &now)?;
             let head = FrameHead {
                 number,
                 kind,
                 at,
                 first: Some(issued),
             };
-            append_frame(alloc, outs, gate, client, head, part_of(text, from, end))?;
+            sent.move_to(issued);
+            append_frame(
+                alloc,
+                outs,
+                names,
+                head,
+                &now,
+                &sent,
+                part_of(text, from, end),
+            )?;
             start = number + 1;
         }
         number += 1;
     }
-    append_gap(alloc, outs, gate, client, start, number, at)
+    append_gap(alloc, outs, names, start, number, &now)
 }
 
-/// Appends a gap fill from a number to before another, where there are numbers between.
+/// Appends a gap fill from a number to before another, where there are numbers between, sent at this moment.
 fn append_gap(
     alloc: Global,
     outs: &mut Vec<SessionOut>,
-    gate: &[u8],
-    client: &[u8],
+    names: &Names,
     start: u64,
     next: u64,
-    at: u64,
+    now: &Stamped,
 ) -> Result<(), AllocError>
-    requires gate { IsValue gate.now }
-    requires client { IsValue client.now }
     ensures { OnOk result (map told_bytes outs.new.items ≡ map told_bytes outs.old.items
-        ++ told_frames gate.now client.now (law.gap at start next)) }
+        ++ told_frames names.now.gate names.now.client (law.gap now.now start next)) }
 {
     if start < next {
         let body = gap_body(alloc, next)?;
         let head = FrameHead {
             number: start,
             kind: Kind::SequenceReset,
-            at,
-            first: Some(at),
+            at: now.at(),
+            first: Some(now.at()),
         };
-        append_frame(alloc, outs, gate, client, head, body.text())
+        append_frame(alloc, outs, names, head, now, now, body.text())
     } else {
         Ok(())
     }
@@ -109,22 +116,24 @@ fn gap_body(alloc: Global, next: u64) -> Result<PrintedFields, AllocError>
     Ok(body)
 }
 
-/// Appends a frame whose body is the fields of this text.
+/// Appends a frame whose body is the fields of this text, sent at a moment, and first at another where it is sent
+/// again.
 fn append_frame(
     alloc: Global,
     outs: &mut Vec<SessionOut>,
-    gate: &[u8],
-    client: &[u8],
+    names: &Names,
     head: FrameHead,
+    now: &Stamped,
+    first: &Stamped,
     body: &[u8],
 ) -> Result<(), AllocError>
-    requires gate { IsValue gate.now }
-    requires client { IsValue client.now }
+    requires now { now.now ≡ head.at }
+    requires first { IfSome head.first (λ at. first.now ≡ at) }
     requires body { PrintsFields body.now }
     ensures { OnOk result (map told_bytes outs.new.items ≡ map told_bytes outs.old.items
-        ++ told_frames gate.now client.now (frame_with head (fields_in body.now) ∷ [])) }
+        ++ told_frames names.now.gate names.now.client (frame_with head (fields_in body.now) ∷ [])) }
 {
-    let bytes = frame_of_body(alloc, gate, client, head, body)?;
+    let bytes = frame_of_body(alloc, names, head, now, first, body)?;
     outs.push(SessionOut::Frame(bytes))?;
     Ok(())
 }

@@ -8,5 +8,5 @@ use Rattle.session_writing.proofs.resend.append_resent.Given as goal
 abbrev pub invariant-loop-place : goal.invariant-loop-place
 invariant-loop-place l = record {
   number : l.number ≡ l.fn.first + l.place-index;
-  told : map told_bytes l.outs.items ++ told_frames l.gate l.client (law.resent l.at l.start l.number (slots_at l.text (drop l.place-index l.places))) ≡ map told_bytes l.fn.outs.items ++ told_frames l.gate l.client (law.resent l.at l.fn.first l.fn.first (slots_at l.text l.places));
+  told : map told_bytes l.outs.items ++ told_frames l.names.gate l.names.client (law.resent l.at l.start l.number (slots_at l.text (drop l.place-index l.places))) ≡ map told_bytes l.fn.outs.items ++ told_frames l.names.gate l.names.client (law.resent l.at l.fn.first l.fn.first (slots_at l.text l.places));
 }

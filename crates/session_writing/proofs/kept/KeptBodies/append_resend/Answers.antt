@@ -25,5 +25,5 @@ asked c =
 
 pub returns : goal.returns
 returns c =
-    let told_of : List Slot → List ToldLink = λ ss. map told_bytes c.args.outs.now.items ++ told_frames c.args.gate.now c.args.client.now (resent c.args.at c.args.from c.args.from ss) in
+    let told_of : List Slot → List ToldLink = λ ss. map told_bytes c.args.outs.now.items ++ told_frames c.args.names.now.gate c.args.names.now.client (resent c.args.at c.args.from c.args.from ss) in
     IfOk-weaker c.append_resent.result _ _ (λ u told. told ∙ ap told_of (asked c)) c.append_resent.ensures
