@@ -206,9 +206,13 @@ impl BatchWriter {
             return true;
         }
         match stream.write_promptly(self.pending.as_slice()) {
+            Ok(count) if count == self.pending.len() => {
+                self.pending.clear();
+                true
+            }
             Ok(count) => {
                 self.pending.drain(..count);
-                self.pending.is_empty()
+                false
             }
             Err(_) => false,
         }
