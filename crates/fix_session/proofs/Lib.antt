@@ -1,3 +1,4 @@
+mod Deliveries
 mod Issuing
 mod Logons
 mod Resends

@@ -55,7 +55,7 @@ pub sent : (s : State) (d : Draft) (phase : Phase) (from to : ℕ) → (made s d
 sent s d phase from to given alone silent one most is =
     let there = (made s d).state.given in
     let frames = resend d.latest there from to in
-    let with : Phase → List Out → Given = λ p outs. record { state = record s { phase = p; expected = d.expected; given = there; latest = d.latest }; outs = outs; app = d.app } in
+    let with : Phase → List Out → Given = λ p outs. record { state = record s { phase = p; expected = d.expected; given = there; latest = d.latest }; outs = outs; app = None } in
     let many : to ≤ length there = omega (arith, ap (λ (g : List Slot). length g) given, most) in
     let now : phase ≡ on_resent d.latest frames d.phase = is ∙ phase-resent d.latest d.latest there from to d.phase one many in
     let none : resent_outs d.latest s.given d.resends ++ d.outs.items ≡ [] = ap (λ (r : Option Resend). resent_outs d.latest s.given r ++ d.outs.items) alone ∙ silent in

@@ -1,6 +1,7 @@
 -- A call that meets the table is a turn more, and has the headline.
 use Rattle.std.proofs.Common.{◌≡◌, ℕ, List, ◌∷◌, map, Option, Vec, Global, sym, subst}
 use Rattle.session_law.specs.Session.{State}
+use Rattle.session_reading.specs.fix_types.declared.application.AppMsg.{AppMsg}
 use Rattle.session_law.specs.Frames.{told_of_out}
 use Rattle.session_writing.specs.Written.{told_frame}
 use Rattle.session_law.specs.Runs.{Call, SessionHistory, Leaves, call_turn, turn_after, step}
@@ -14,6 +15,10 @@ use Rattle.fix_session.specs.Meets.{IsIssuedSo, Meets, Tells}
 pub tells : (old : State) (at : ℕ) (call : Call) (turn : SessionTurn) (new : State) → Meets old (step old at call) turn new → Tells old.gate old.client turn (turn_after old at call)
 unfolding turn_after
 tells old at call turn new m = record { outs = m.outs; app = m.app }
+
+pub delivers : (old : State) (at : ℕ) (call : Call) (app : Option AppMsg) → (step old at call).app ≡ app → (turn_after old at call).app ≡ app
+unfolding turn_after
+delivers old at call app is = is
 
 pub tells-frame : (old : State) (at : ℕ) (call : Call) (frame : Option (Vec ℕ Global)) (new : State) → IsIssuedSo old (step old at call) frame new
     → told_frame frame ≡ map (told_of_out old.gate old.client) (turn_after old at call).outs

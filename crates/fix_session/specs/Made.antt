@@ -21,5 +21,5 @@ made s d = record {
     latest = d.latest;
   };
   outs = resent_outs d.latest s.given d.resends ++ d.outs.items;
-  app = d.app;
+  app = None;
 }

@@ -8,7 +8,7 @@ ghost use Rattle.session_law.specs.Session.{Say, Heartbeat};
 ghost use Rattle.session_law.specs.Table as table;
 ghost use Rattle.fix_fields.specs.Field as tags;
 ghost use Rattle.fix_session.specs.Made.{made};
-ghost use Rattle.session_reading.specs.Judged.{taken_answer, row_answer, RowFits, TakenFits};
+ghost use Rattle.session_reading.specs.Judged.{taken_answer, row_answer, RowFits, TakenFits, is_delivered, is_delivery};
 
 use crate::draft::Draft;
 use crate::session::Session;
@@ -18,7 +18,7 @@ use session_reading::{Row, Taken, numbered, text};
 use session_writing::{echo_body, too_low_body, unsupported_body};
 use std::alloc::{AllocError, Global};
 
-/// Does what the line of the table says, from nothing on.
+/// Does what the line of the table says, from nothing on. A message that is delivered needs no draft.
 pub fn answer(
     alloc: Global,
     draft: &mut Draft,
@@ -31,6 +31,7 @@ pub fn answer(
     requires silent { (draft.old.resends ≡ None) × (draft.old.outs.items ≡ []) }
     requires expected { draft.old.expected < 2 ^ 61 }
     requires row { RowFits m.now (length session.now.session.given) row }
+    requires undelivered { is_delivery row ≡ false }
     ensures { OnOk result (made session.now.session draft.new
         ≡ answered (made session.now.session draft.old).state
         (row_answer session.now.session m.now (table.message_number m.now) session.now.session.expected row)) }
@@ -108,7 +109,7 @@ fn ask_unless_waiting(
     }
 }
 
-/// What the message with the expected number brings, apart from a resend.
+/// What the message with the expected number brings, apart from a resend. None is delivered here.
 fn act(
     alloc: Global,
     draft: &mut Draft,
@@ -116,7 +117,8 @@ fn act(
     m: &Fields,
     taken: Taken,
 ) -> Result<(), AllocError>
-    requires { TakenFits m.now (length session.now.session.given) taken }
+    requires fits { TakenFits m.now (length session.now.session.given) taken }
+    requires undelivered { is_delivered taken ≡ false }
     ensures { OnOk result (made session.now.session draft.new
         ≡ fold perform (made session.now.session draft.old) (taken_answer m.now taken).acts) }
 {
@@ -124,14 +126,13 @@ fn act(
         Taken::Nothing => Ok(()),
         Taken::Rejected { tag, reason } => draft.reject(alloc, session, m, tag, reason),
         Taken::Echoed => echo(alloc, draft, session, m),
-        Taken::SentAgain { .. } => Ok(()),
+        Taken::SentAgain { .. } | Taken::Delivered => Ok(()),
         Taken::Expects(number) => {
             draft.expect(session, number);
             Ok(())
         }
         Taken::LoggedOut => draft.log_out_silently(alloc, session),
         Taken::AlreadyLoggedOn => draft.log_out(alloc, session, b"already logged on"),
-        Taken::Delivered => draft.deliver(alloc, session, m),
         Taken::Unsupported => unsupported(alloc, draft, session, m),
     }
 }

@@ -4,11 +4,11 @@ ghost use Rattle.session_law.specs.Table as table;
 ghost use Rattle.std.specs.Prelude.{max, fold, ◌≤◌, ◌≡◌, ◌+◌, ◌<◌, ◌^◌, ◌∷◌, ◌++◌, [], length, IfOk, OnErr, OnOk, Some};
 ghost use Rattle.std.specs.Prelude.{None, nat_le, true, false, if◌then◌else◌};
 ghost use Rattle.session_law.specs.Session.{on_written};
+ghost use Rattle.session_law.specs.Runs.{on_heard};
 
 use crate::session::Session;
 use fix_fields::{Fields, printed_fields};
 use session_law::{Frame, Kind, Logged, Out, Phase};
-use session_reading::{AppMsg, application_of};
 use session_writing::{KeptBodies, ask_body, echo_body, reject_body, text_body};
 use std::alloc::{AllocError, Global};
 
@@ -32,8 +32,6 @@ pub struct Draft {
     /// The numbers that are sent again before all else, where some are asked for.
     pub resends: Option<Resend>,
     pub outs: Vec<Out>,
-    /// The message, where it is delivered to the application.
-    pub app: Option<AppMsg>,
 }
 
 // Not derived: then each way out drops it in one call (docs/DECISIONS.md, "Drops").
@@ -47,7 +45,6 @@ impl Drop for Draft {
             slots: _,
             resends: _,
             outs: _,
-            app: _,
         } = self;
     }
 }
@@ -57,16 +54,14 @@ impl Draft {
     ghost use Rattle.session_law.specs.Table.{is_logged_on};
     ghost use Rattle.session_law.specs.Session.{quiet, logged, reset, Logon, perform, numbered, said, kept, next_out};
     ghost use Rattle.session_law.specs.Session.{Given, Say, Shut, Grow, Expect, Slot, AskAgain, Test};
-    ghost use Rattle.session_law.specs.Session.{Deliver, sent_again};
-    ghost use Rattle.session_law.specs.Formats.{application_refusal};
+    ghost use Rattle.session_law.specs.Session.{sent_again};
     ghost use Rattle.session_law.specs.Table.{reject_act, log_out, log_out_silently};
     ghost use Rattle.fix_fields.specs.Field.{IsValue};
     ghost use Rattle.fix_session.specs.Made.{made};
 
-    /// What the numbers that it takes are given to, and the message that is delivered.
-    pub fn into_parts(self) -> (KeptBodies, Option<AppMsg>)
-        ensures slots { result.0 ≡ self.slots }
-        ensures app { result.1 ≡ self.app }
+    /// What the numbers that it takes are given to.
+    pub fn into_slots(self) -> KeptBodies
+        ensures { result ≡ self.slots }
     {
         let Draft {
             phase: _,
@@ -76,9 +71,8 @@ impl Draft {
             slots,
             resends: _,
             outs: _,
-            app,
         } = self;
-        (slots, app)
+        slots
     }
 
     /// Nothing yet, at this moment.
@@ -97,7 +91,6 @@ impl Draft {
             slots: KeptBodies::new(alloc),
             resends: None,
             outs: Vec::new(alloc),
-            app: None,
         }
     }
 
@@ -110,13 +103,7 @@ impl Draft {
         ensures expected { result.expected ≤ 10 ^ 18 }
     {
         let mut draft = Draft::at(alloc, session, at);
-        if let Phase::LoggedOn(on) = draft.phase {
-            draft.phase = Phase::LoggedOn(Logged {
-                heard: draft.latest,
-                tested: false,
-                ..on
-            });
-        }
+        draft.phase = phase_heard(draft.phase, draft.latest);
         draft
     }
 
@@ -148,7 +135,6 @@ impl Draft {
             slots: KeptBodies::new(alloc),
             resends: None,
             outs: Vec::new(alloc),
-            app: None,
         }
     }
 
@@ -301,21 +287,6 @@ impl Draft {
         Ok(())
     }
 
-    /// The message is delivered to the application.
-    pub fn deliver(
-        &mut self,
-        alloc: Global,
-        session: &Session,
-        m: &Fields,
-    ) -> Result<(), AllocError>
-        requires { application_refusal m.now ≡ None }
-        ensures { OnOk result (made session.now.session self.new
-            ≡ perform (made session.now.session self.old) (Deliver m.now)) }
-    {
-        self.app = Some(application_of(alloc, m)?);
-        Ok(())
-    }
-
     /// Numbers sent again, where nothing else is written yet. Takes no memory.
     pub fn send_again(&mut self, session: &Session, from: u64, to: u64)
         requires given { (made session.now.session self.old).state.given ≡ session.now.session.given }
@@ -340,6 +311,20 @@ impl Draft {
                 ..on
             });
         }
+    }
+}
+
+/// How a client stands where a frame of it was received now.
+pub fn phase_heard(phase: Phase, now: u64) -> Phase
+    ensures { result ≡ on_heard now phase }
+{
+    match phase {
+        Phase::LoggedOn(on) => Phase::LoggedOn(Logged {
+            heard: now,
+            tested: false,
+            ..on
+        }),
+        other => other,
     }
 }
 

@@ -16,4 +16,5 @@ mod session;
 mod ticks;
 
 pub use session::{IssuedTurn, Session, SessionTurn};
+pub use session_reading::application_of;
 pub use session_writing::{IssuedReport, SessionOut, push_number};

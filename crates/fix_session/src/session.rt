@@ -1,22 +1,22 @@
 //! The session and its calls.
 
 ghost use Rattle.std.specs.Prelude.{◌≡◌, ◌≤◌, ◌<◌, ◌+◌, ◌^◌, ◌∷◌, ◌++◌, [], List, map, ℕ, length, nat_le};
-ghost use Rattle.std.specs.Prelude.{if◌then◌else◌, IfOk, OnErr, OnOk, Some, None};
+ghost use Rattle.std.specs.Prelude.{if◌then◌else◌, IfOk, OnErr, OnOk, Some, None, true, false};
 ghost use Rattle.session_law.specs.Session.{on_written};
 ghost use Rattle.session_law.specs.Table.{is_logged_on};
 
 use crate::answer::answer;
-use crate::draft::{Draft, Resend};
+use crate::draft::{Draft, Resend, phase_heard};
 use crate::issues::kind_of;
 use crate::judge::{judge, judge_logon};
 use crate::logon::answer_logon;
 use crate::ticks::do_due;
 use fix_fields::{Fields, Text};
 use session_law::{Kind, Logged, Phase};
-use session_reading::{AppBody, AppMsg, due_at};
+use session_reading::{AppBody, due_at};
 use session_writing::{
-    BodyReport, IssuedReport, Names, SessionOut, Stamped, UndoBodies, append_written,
-    issued_frame, report_of_body,
+    BodyReport, IssuedReport, Names, SessionOut, Stamped, UndoBodies, append_written, issued_frame,
+    report_of_body,
 };
 use std::alloc::{AllocError, Global};
 use std::marker::Model;
@@ -98,8 +98,8 @@ impl Model for Session {
 pub struct SessionTurn {
     /// What goes to the link, in order.
     pub outs: Vec<SessionOut>,
-    /// The message, where it is delivered to the application.
-    pub app: Option<AppMsg>,
+    /// Whether the message is delivered to the application, which reads it by `application_of`.
+    pub is_delivered: bool,
 }
 
 /// What issuing a body gives.
@@ -112,13 +112,15 @@ pub struct IssuedTurn {
 }
 
 impl Session {
-    ghost use Rattle.session_law.specs.Session.{next_out, new_session, quiet, Given, fresh};
+    ghost use Rattle.session_law.specs.Session.{next_out, new_session, quiet, Given, fresh, answered, Grow, Deliver};
+    ghost use Rattle.fix_fields.specs.Field.{Message};
     ghost use Rattle.session_law.specs.Runs.{SessionHistory, Leaves, turn_after, step, Call, OnLink, OnMessage, OnTick};
     ghost use Rattle.session_law.specs.Runs.{Issue, at_moment, heard, by_rows, issued_frame};
     ghost use Rattle.session_law.specs.Expected.{expected};
     ghost use Rattle.session_law.specs.Numbers.{SessionHeadline, given};
-    ghost use Rattle.session_law.specs.Table.{asked_number, logon_rows, logged_on_rows, message_number, resets};
+    ghost use Rattle.session_law.specs.Table.{acts, asked_number, logon_rows, logged_on_rows, message_number, resets};
     ghost use Rattle.fix_session.specs.Meets.{IsIssuedSo, Meets, Tells};
+    ghost use Rattle.session_law.specs.Formats.{application_of, application_refusal};
     ghost use Rattle.fix_session.specs.Issues.{call_of_body, issued_kind};
     ghost use Rattle.session_writing.specs.Issued.{issued_body};
     ghost use Rattle.session_law.specs.Frames.{frame_fields};
@@ -231,6 +233,9 @@ impl Session {
     ) -> Result<SessionTurn, AllocError>
         ensures turn { IfOk result (λ turn. Tells self.old.session.gate self.old.session.client turn
             (turn_after self.old.session at (OnMessage m.now))) }
+        ensures fits { IfOk result (λ turn. turn.is_delivered ≡ true → application_refusal m.now ≡ None) }
+        ensures delivered { IfOk result (λ turn. turn.is_delivered ≡ true
+            → (turn_after self.old.session at (OnMessage m.now)).app ≡ Some (application_of m.now)) }
         ensures leaves { OnOk result ((gate client : List ℕ) (h : SessionHistory)
             → Leaves gate client h self.old.session
             → Leaves gate client (turn_after self.old.session at (OnMessage m.now) ∷ h) self.new.session) }
@@ -373,6 +378,9 @@ impl Session {
     ) -> Result<SessionTurn, AllocError>
         ensures meets { IfOk result (λ turn. Meets self.old.session
             (step self.old.session at (OnMessage m.now)) turn self.new.session) }
+        ensures fits { IfOk result (λ turn. turn.is_delivered ≡ true → application_refusal m.now ≡ None) }
+        ensures delivered { IfOk result (λ turn. turn.is_delivered ≡ true
+            → (step self.old.session at (OnMessage m.now)).app ≡ Some (application_of m.now)) }
         ensures settled { self.new.settled ≡ self.old.settled }
         ensures err { OnErr result (self.new ≡ self.old) }
     {
@@ -392,6 +400,7 @@ impl Session {
         ensures meets { IfOk result (λ turn. Meets self.old.session (by_rows (heard (at_moment at self.old.session))
             (logon_rows self.old.session m.now (message_number m.now)
             (if resets m.now then 1 else self.old.session.expected))) turn self.new.session) }
+        ensures undelivered { IfOk result (λ turn. turn.is_delivered ≡ false) }
         ensures settled { self.new.settled ≡ self.old.settled }
         ensures err { OnErr result (self.new ≡ self.old) }
     {
@@ -406,13 +415,37 @@ impl Session {
         ensures meets { IfOk result (λ turn. Meets self.old.session (by_rows (heard (at_moment at self.old.session))
             (logged_on_rows self.old.session m.now (message_number m.now) self.old.session.expected))
             turn self.new.session) }
+        ensures fits { IfOk result (λ turn. turn.is_delivered ≡ true → application_refusal m.now ≡ None) }
+        ensures delivered { IfOk result (λ turn. turn.is_delivered ≡ true
+            → (by_rows (heard (at_moment at self.old.session)) (logged_on_rows self.old.session m.now
+            (message_number m.now) self.old.session.expected)).app ≡ Some (application_of m.now)) }
         ensures settled { self.new.settled ≡ self.old.settled }
         ensures err { OnErr result (self.new ≡ self.old) }
     {
         let row = judge(self, m);
+        if row.is_delivery() {
+            return Ok(self.deliver(alloc, at));
+        }
         let mut draft = Draft::heard_at(alloc, self, at);
         answer(alloc, &mut draft, self, m, row)?;
         self.take(alloc, draft)
+    }
+
+    /// A message with the expected number is delivered: it is heard, and the next number is expected. Takes no memory.
+    fn deliver(&mut self, alloc: Global, at: u64) -> SessionTurn
+        requires expected { self.old.session.expected < 10 ^ 18 }
+        ensures meets { (m : Message) → Meets self.old.session (answered (heard (at_moment at self.old.session))
+            (acts (Grow ∷ Deliver m ∷ []))) result self.new.session }
+        ensures delivered { result.is_delivered ≡ true }
+        ensures settled { self.new.settled ≡ self.old.settled }
+    {
+        self.latest = self.latest.max(at);
+        self.phase = phase_heard(self.phase, self.latest);
+        self.expected += 1;
+        SessionTurn {
+            outs: Vec::new(alloc),
+            is_delivered: true,
+        }
     }
 
     /// The link came up, or went.
@@ -428,7 +461,7 @@ impl Session {
         };
         SessionTurn {
             outs: Vec::new(alloc),
-            app: None,
+            is_delivered: false,
         }
     }
 
@@ -436,18 +469,21 @@ impl Session {
     fn take(&mut self, alloc: Global, draft: Draft) -> Result<SessionTurn, AllocError>
         requires expected { draft.expected ≤ 10 ^ 18 }
         ensures ok { IfOk result (λ turn. Meets self.old.session (made self.old.session draft) turn self.new.session) }
+        ensures undelivered { IfOk result (λ turn. turn.is_delivered ≡ false) }
         ensures settled { self.new.settled ≡ self.old.settled }
         ensures err { OnErr result (self.new ≡ self.old) }
     {
         let outs = self.drafted_outs(alloc, &draft)?;
         let (resets, phase) = (draft.resets, draft.phase);
         let (expected, latest) = (draft.expected, draft.latest);
-        let (slots, app) = draft.into_parts();
-        self.given.give(alloc, resets, slots)?;
+        self.given.give(alloc, resets, draft.into_slots())?;
         self.phase = phase;
         self.expected = expected;
         self.latest = latest;
-        Ok(SessionTurn { outs, app })
+        Ok(SessionTurn {
+            outs,
+            is_delivered: false,
+        })
     }
 
     /// What a draft has made for the link, in bytes.

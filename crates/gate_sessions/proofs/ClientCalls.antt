@@ -1,5 +1,5 @@
 -- A call on a client's session, in the words of the core: the calls with it leave the session, and it gives what the table has.
-use Rattle.std.proofs.Common.{◌≡◌, ℕ, ◌+◌, ◌<◌, Bool, true, cond, List, [], ◌∷◌, length, get_or, slice_set, refl, sym, ap, ◌∙◌, subst, map}
+use Rattle.std.proofs.Common.{◌≡◌, ℕ, ◌+◌, ◌<◌, Bool, true, cond, List, [], ◌∷◌, length, get_or, slice_set, refl, sym, ap, ◌∙◌, subst, map, Option}
 use Rattle.gate_law.specs.fix_fields.Field.{Field}
 use Rattle.gate_law.specs.fix_stamp.Stamp.{stamp_text}
 use Rattle.gate_law.specs.session_law.declared.kind.Kind.{Kind}
@@ -10,6 +10,7 @@ use Rattle.gate_law.specs.session_law.Frames.{ToldLink, frame_fields, told_of_ou
 use Rattle.gate_law.proofs.session_law.Runs.{after-Leaves, Leaves-after}
 use Rattle.gate_law.proofs.session_law.Expects.{Leaves-named}
 use Rattle.fix_session.specs.declared.session.SessionTurn.{SessionTurn}
+use Rattle.fix_types.specs.declared.application.AppMsg.{AppMsg}
 use Rattle.fix_session.specs.Meets.{Tells}
 use Rattle.gate_law.specs.Settings.{Settings, client_name}
 use Rattle.gate_law.specs.Sessions.{client_answer, report_issued}
@@ -60,6 +61,12 @@ client-answers s c calls old at call turn tells is =
           ∙ ap (λ (n : List ℕ). map (told_of_out gate n) (step now at call).outs) named.1;
       app = told.app;
     }
+
+-- and so is what it delivers
+pub client-delivered : (s : Settings) (c : ℕ) (calls : List Timed) (old : State) (at : ℕ) (call : Call) (app : Option AppMsg)
+    → (turn_after old at call).app ≡ app → ClientLeaves s c calls old → (client_answer s c calls (at, call)).app ≡ app
+unfolding ClientLeaves client_answer turn_after
+client-delivered s c calls old at call app delivered is = subst (λ (x : State). (step x at call).app ≡ app) is delivered
 
 -- and of a body that is issued
 pub client-frame : (s : Settings) (c : ℕ) (calls : List Timed) (old : State) (at : ℕ) (call : Call) (told : List ToldLink)

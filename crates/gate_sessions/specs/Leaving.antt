@@ -1,5 +1,5 @@
 -- What calls leave of the two sessions, by the numbers of clients and ports.
-use Rattle.std.specs.Prelude.{◌≡◌, ℕ, List, map}
+use Rattle.std.specs.Prelude.{◌≡◌, ℕ, List, map, is_some}
 use Rattle.gate_law.specs.soup_session.declared.machine.Port.{Port}
 use Rattle.gate_law.specs.soup_session.Table as port
 use Rattle.gate_law.specs.soup_session.Calls as ports
@@ -24,7 +24,7 @@ expected_in s client calls = expected s.comp (client_name s client) (turns_after
 -- a turn of the session is what the table gives, in bytes
 pub record IsClientAnswer (s : Settings) (client : ℕ) (g : Given) (turn : SessionTurn) : Type 0 where
   pub outs : map told_bytes turn.outs.items ≡ map (told_of_out s.comp (client_name s client)) g.outs
-  pub app : turn.app ≡ g.app
+  pub app : turn.is_delivered ≡ is_some g.app
 
 -- the calls, the newest first, leave the session of this port so
 unfoldable pub PortLeaves : Settings → ℕ → List port.PortCall → Port → Type 0

@@ -1,11 +1,13 @@
 -- Sessions and links by their places: number i + 1 stands at place i.
-use Rattle.std.specs.Prelude.{◌≡◌, ℕ, ◌+◌, ◌≤◌, ◌==◌, List, [], ◌∷◌, Option, Some, slice_get, if◌then◌else◌}
+use Rattle.std.specs.Prelude.{◌≡◌, ℕ, ◌+◌, ◌≤◌, ◌==◌, List, [], ◌∷◌, Option, Some, true, slice_get, if◌then◌else◌}
 use Rattle.gate_law.specs.soup_session.Table as port
 use Rattle.gate_law.specs.soup_session.declared.machine.Port.{Port}
 use Rattle.gate_law.specs.soup_session.declared.port_turn.PortTurn.{PortTurn}
 use Rattle.gate_law.specs.soup_session.Calls.{IsAnswer, IsUp, next_of}
 use Rattle.gate_law.specs.session_law.Session.{State}
-use Rattle.gate_law.specs.session_law.Runs.{Timed}
+use Rattle.gate_law.specs.session_law.Runs.{Timed, OnMessage}
+use Rattle.gate_law.specs.session_law.Formats.{application_of}
+use Rattle.gate_law.specs.fix_fields.Field.{Message}
 use Rattle.gate_law.specs.Settings.{Settings}
 use Rattle.gate_law.specs.Sessions.{client_answer, port_answer}
 use Rattle.fix_session.specs.declared.session.SessionTurn.{SessionTurn}
@@ -102,6 +104,12 @@ ClientsUncalled old new = (s : Settings) (calls : ℕ → List Timed) → Client
 abbrev pub ClientAnswers : ℕ → Timed → Clients → SessionTurn → Type 0
 ClientAnswers place call old turn = (s : Settings) (calls : ℕ → List Timed) → ClientsLeave s calls old.lines.items
     → IsClientAnswer s (place + 1) (client_answer s (place + 1) (calls (place + 1)) call) turn
+
+-- where it delivers a message, that is what the frame is read as
+abbrev pub ClientDelivers : ℕ → ℕ → Message → Clients → SessionTurn → Type 0
+ClientDelivers place at frame old turn =
+    (s : Settings) (calls : ℕ → List Timed) → ClientsLeave s calls old.lines.items → turn.is_delivered ≡ true
+    → (client_answer s (place + 1) (calls (place + 1)) (at, OnMessage frame)).app ≡ Some (application_of frame)
 
 -- this client has this link, and every other the link that it had
 abbrev pub ClientsLinked : ℕ → Option ℕ → Clients → Clients → Type 0

@@ -1,13 +1,16 @@
 //! The lines of all clients, and the calls on the one at a place.
 
-ghost use Rattle.std.specs.Prelude.{◌≡◌, ◌<◌, ◌+◌, ℕ, List, [], ◌∷◌, Some, None, IfOk, OnOk, OnErr, length, map, true, false};
+ghost use Rattle.std.specs.Prelude.{◌≡◌, ◌<◌, ◌+◌, ℕ, List, [], ◌∷◌, Some, None, IfOk, OnOk, OnErr, length, map, true};
+ghost use Rattle.std.specs.Prelude.{false};
 ghost use Rattle.gate_law.specs.session_law.Runs.{Timed, OnLink, OnMessage, OnTick};
 ghost use Rattle.gate_law.specs.session_law.Frames.{told_of_out};
 ghost use Rattle.fix_session.specs.session_writing.Written.{told_frame};
+ghost use Rattle.gate_law.specs.session_law.Formats.{application_refusal};
 ghost use Rattle.gate_law.specs.Settings.{Settings, client_name};
 ghost use Rattle.gate_law.specs.Sessions.{client_answer, report_issued};
 ghost use Rattle.gate_sessions.specs.Leaving.{issue_call};
-ghost use Rattle.gate_sessions.specs.Lines.{ClientsCalled, ClientsUncalled, ClientAnswers, ClientsLinked};
+ghost use Rattle.gate_sessions.specs.Lines.{ClientsCalled, ClientsUncalled, ClientAnswers, ClientDelivers};
+ghost use Rattle.gate_sessions.specs.Lines.{ClientsLinked};
 ghost use Rattle.gate_sessions.specs.Lines.{ClientsStayLinked, ClientsStaySettled, ClientsLeave, client_now};
 ghost use Rattle.gate_sessions.specs.Lines.{client_settled};
 
@@ -76,6 +79,8 @@ impl Clients {
         requires place { place < length self.old.lines.items }
         ensures leave { OnOk result (ClientsCalled place (at, OnMessage frame.now) self.old self.new) }
         ensures answers { IfOk result (λ turn. ClientAnswers place (at, OnMessage frame.now) self.old turn) }
+        ensures fits { IfOk result (λ turn. turn.is_delivered ≡ true → application_refusal frame.now ≡ None) }
+        ensures delivered { IfOk result (λ turn. ClientDelivers place at frame.now self.old turn) }
         ensures links { ClientsStayLinked self.old self.new }
         ensures settled { ClientsStaySettled self.old self.new }
         ensures length { length self.new.lines.items ≡ length self.old.lines.items }

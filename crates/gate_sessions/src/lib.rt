@@ -12,7 +12,9 @@ mod port_lines;
 
 pub use client_line::ClientLine;
 pub use client_lines::Clients;
-pub use fix_session::{IssuedReport, IssuedTurn, SessionOut, SessionTurn, push_number};
+pub use fix_session::{
+    IssuedReport, IssuedTurn, SessionOut, SessionTurn, application_of, push_number,
+};
 pub use fix_types::AppBody;
 pub use gate_law::{Fields, Inbound};
 pub use laws::issues_are_what_is_reported;

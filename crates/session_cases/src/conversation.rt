@@ -1,9 +1,9 @@
 //! A conversation with one session.
 
 use crate::line::Line;
-use crate::shown::{fields_of, from_client, show_issued, show_turn, with_soh};
+use crate::shown::{fields_of, from_client, show_issued, show_message, show_turn, with_soh};
 use fix_framing::{FrameFault, Framer};
-use fix_session::{IssuedTurn, Session, SessionTurn};
+use fix_session::{IssuedTurn, Session, SessionTurn, application_of};
 use fix_types::{AppBody, CancelReject, Fields, Report, Text, TextFault, TextWire};
 use std::alloc::{AllocError, Global};
 
@@ -136,7 +136,11 @@ impl Conversation {
     fn message(&mut self, alloc: Global, message: &Fields) -> Result<(), AllocError> {
         self.message_in_vain(alloc, message);
         let turn = self.message_again(alloc, message)?;
-        show_turn(alloc, &mut self.shown, &turn, self.is_whole)
+        show_turn(alloc, &mut self.shown, &turn, self.is_whole)?;
+        if turn.is_delivered {
+            show_message(alloc, &mut self.shown, &application_of(alloc, message)?)?;
+        }
+        Ok(())
     }
 
     /// A message comes, and that is put back.
@@ -147,11 +151,9 @@ impl Conversation {
     }
 
     /// A message comes, and again where memory is wanting.
-    fn message_again(
-        &mut self,
-        alloc: Global,
-        message: &Fields,
-    ) -> Result<SessionTurn, AllocError> {
+    fn message_again(&mut self, alloc: Global, message: &Fields) -> Result<SessionTurn, AllocError>
+        ensures { IfOk result (λ turn. turn.is_delivered ≡ true → application_refusal message.now ≡ None) }
+    {
         match self.session.on_message(alloc, message, self.at) {
             Ok(turn) => Ok(turn),
             Err(_) => self.session.on_message(alloc, message, self.at),

@@ -66,7 +66,11 @@ fn show_frame(
 }
 
 /// Adds a message that is delivered, by the fields that its type keeps.
-fn show_message(alloc: Global, shown: &mut Vec<u8>, message: &AppMsg) -> Result<(), AllocError> {
+pub fn show_message(
+    alloc: Global,
+    shown: &mut Vec<u8>,
+    message: &AppMsg,
+) -> Result<(), AllocError> {
     let fields = match message {
         AppMsg::New(order) => order.put(alloc)?,
         AppMsg::Cancel(request) => request.put(alloc)?,
@@ -76,7 +80,7 @@ fn show_message(alloc: Global, shown: &mut Vec<u8>, message: &AppMsg) -> Result<
     show_fields(shown, &fields, true)
 }
 
-/// Adds a turn as it is shown: a line for each output, and one for a message that is delivered.
+/// Adds what goes to the link of a turn as it is shown: a line for each output.
 pub fn show_turn(
     alloc: Global,
     shown: &mut Vec<u8>,
@@ -89,10 +93,7 @@ pub fn show_turn(
             SessionOut::Frame(bytes) => show_frame(alloc, shown, bytes.as_slice(), is_whole)?,
         }
     }
-    match &turn.app {
-        Some(message) => show_message(alloc, shown, message),
-        None => Ok(()),
-    }
+    Ok(())
 }
 
 /// What goes to the link of a body that was issued.

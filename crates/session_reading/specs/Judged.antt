@@ -1,5 +1,5 @@
 -- The answer of each line of the table, as the code names them.
-use Rattle.std.specs.Prelude.{◌≡◌, ◌≤◌, ℕ, None, [], ◌∷◌, ◌++◌, if◌then◌else◌, codes}
+use Rattle.std.specs.Prelude.{◌≡◌, ◌≤◌, ℕ, Bool, true, false, None, [], ◌∷◌, ◌++◌, if◌then◌else◌, codes}
 use Rattle.fix_types.specs.fix_fields.Field.{Message, field, text}
 use Rattle.session_law.specs.Formats.{application_refusal}
 use Rattle.session_law.specs.Session.{State, Answer, Grow, Expect, Say, Heartbeat, SayUnsupported, Deliver}
@@ -35,6 +35,30 @@ row_answer s m n e (rows.GapWithResend t) = with_acts (taken_answer m t) (ask_ag
 row_answer s m n e rows.Gap = acts (ask_again s n)
 row_answer s m n e (rows.Taken t) = after_acts (Grow ∷ []) (taken_answer m t)
 
+-- whether a message is delivered to the application
+abbrev pub is_delivered : Taken → Bool
+is_delivered taken.Nothing = false
+is_delivered (taken.Rejected tag reason) = false
+is_delivered taken.Echoed = false
+is_delivered (taken.SentAgain from to) = false
+is_delivered (taken.Expects n) = false
+is_delivered taken.LoggedOut = false
+is_delivered taken.AlreadyLoggedOn = false
+is_delivered taken.Delivered = true
+is_delivered taken.Unsupported = false
+
+abbrev pub is_delivery : Row → Bool
+is_delivery rows.NumberMissing = false
+is_delivery (rows.NamesWrong is_expected tag) = false
+is_delivery (rows.Expects number) = false
+is_delivery (rows.Rejected reason) = false
+is_delivery rows.Passed = false
+is_delivery rows.TooLow = false
+is_delivery rows.LoggedOut = false
+is_delivery (rows.GapWithResend t) = false
+is_delivery rows.Gap = false
+is_delivery (rows.Taken t) = is_delivered t
+
 -- what is named can be done: numbers sent again are numbers that were given, and nothing refuses a message that is
 -- delivered
 abbrev pub TakenFits : Message → ℕ → Taken → Type 0
@@ -56,6 +80,6 @@ RowFits m last (rows.Rejected reason) = Unit {0}
 RowFits m last rows.Passed = Unit {0}
 RowFits m last rows.TooLow = Unit {0}
 RowFits m last rows.LoggedOut = Unit {0}
-RowFits m last (rows.GapWithResend t) = TakenFits m last t
+RowFits m last (rows.GapWithResend t) = TakenFits m last t × (is_delivered t ≡ false)
 RowFits m last rows.Gap = Unit {0}
 RowFits m last (rows.Taken t) = TakenFits m last t

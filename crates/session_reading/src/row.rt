@@ -38,6 +38,17 @@ pub enum Row {
     Taken(Taken),
 }
 
+impl Row {
+    ghost use Rattle.session_reading.specs.Judged as judged;
+
+    /// Whether the message is delivered to the application.
+    pub fn is_delivery(self) -> bool
+        ensures { result ≡ judged.is_delivery self }
+    {
+        matches!(self, Row::Taken(Taken::Delivered))
+    }
+}
+
 /// A SequenceReset without GapFill, judged before its number is.
 pub fn judge_plain_reset(m: &Fields, expected: u64) -> Row
     ensures fits { (last : ℕ) → RowFits m.now last result }

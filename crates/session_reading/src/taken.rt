@@ -9,7 +9,7 @@ ghost use Rattle.session_law.specs.Table as table;
 ghost use Rattle.session_law.specs.Table.{answer_by};
 ghost use Rattle.session_law.specs.Formats.{application_refusal};
 ghost use Rattle.session_reading.specs.declared.taken.Taken.TheVariants as taken;
-ghost use Rattle.session_reading.specs.Judged.{taken_answer, TakenFits};
+ghost use Rattle.session_reading.specs.Judged.{taken_answer, TakenFits, is_delivered};
 
 use crate::message::{is_other_type, is_silent, new_number, new_number_reason, numbered};
 use crate::requests::{is_app_type, refusal_of};
@@ -53,6 +53,7 @@ fn rejected(tag: u32, reason: SessionRejectReason) -> Taken
 pub fn judge_resend(m: &Fields, last: u64) -> Taken
     ensures answer { table.resend_answer last m.now ≡ taken_answer m.now result }
     ensures fits { TakenFits m.now last result }
+    ensures undelivered { is_delivered result ≡ false }
 {
     if !has(m, 7) {
         return rejected(7, SessionRejectReason::RequiredTagMissing);

@@ -17,6 +17,7 @@ use gate_events::{
     Batch, ClientFrame, ClientNumber, Issues, PortNumber, SessionOut, SessionTurn, ShortList,
     told_client, told_port,
 };
+use gate_sessions::application_of;
 use std::alloc::{AllocError, Global};
 use std::hash::BuildHasher;
 
@@ -39,10 +40,13 @@ impl<S: BuildHasher + Drop> Parts<S> {
         let Some(place) = self.client_on(client, link) else {
             return Ok(Batch::empty(alloc));
         };
-        let SessionTurn { outs, app } = self.clients.frame(alloc, place, frame.fields(), at)?;
-        match app {
-            Some(message) => self.message_delivered(alloc, place, &message, at, outs),
-            None => self.no_message_delivered(alloc, place, outs),
+        let fields = frame.fields();
+        let SessionTurn { outs, is_delivered } = self.clients.frame(alloc, place, fields, at)?;
+        if is_delivered {
+            let message = application_of(alloc, fields)?;
+            self.message_delivered(alloc, place, &message, at, outs)
+        } else {
+            self.no_message_delivered(alloc, place, outs)
         }
     }
 

@@ -1,10 +1,11 @@
-use Rattle.std.proofs.Common.{◌+◌, refl, ap, ◌∙◌}
+use Rattle.std.proofs.Common.{◌+◌, Some, refl, ap, ◌∙◌}
 use Rattle.std.proofs.lemmas.Result.{IfOk-weaker, on_err_weaker}
+use Rattle.gate_law.specs.session_law.Formats.{application_of}
 use Rattle.gate_law.specs.session_law.Runs.{OnMessage}
 use Rattle.fix_session.specs.Held.{SessionHeld}
 use Rattle.gate_sessions.specs.declared.client_line.ClientLine.{ClientLine}
 use Rattle.gate_sessions.specs.Lines.{client_settled}
-use Rattle.gate_sessions.proofs.ClientCalls.{client-answers, client-there, clients-called, clients-stand, settled-stays}
+use Rattle.gate_sessions.proofs.ClientCalls.{client-answers, client-delivered, client-there, clients-called, clients-stand, settled-stays}
 use Rattle.gate_sessions.proofs.Places.{kept-set}
 use Rattle.gate_sessions.proofs.client_lines.Clients.frame.Goals as goal
 
@@ -13,6 +14,9 @@ returns-clause-leave c = IfOk-weaker c.on_message.result _ _ (λ turn l s calls.
 
 pub returns-clause-answers : goal.returns-clause-answers
 returns-clause-answers c = IfOk-weaker c.on_message.result _ _ (λ turn t s calls all. client-answers s (c.args.place + 1) (calls (c.args.place + 1)) c.index_mut-line.result.now.session.session c.args.at (OnMessage c.args.frame.now) turn t (client-there s calls c.args.self.now.lines.items c.args.place c.index_mut-line.result.now c.index_mut-line.ensures.value c.requires.place all)) (rw c.touch.ensures.session at c.on_message.ensures.turn)
+
+pub returns-clause-delivered : goal.returns-clause-delivered
+returns-clause-delivered c = IfOk-weaker c.on_message.result _ _ (λ turn app s calls all is. client-delivered s (c.args.place + 1) (calls (c.args.place + 1)) c.index_mut-line.result.now.session.session c.args.at (OnMessage c.args.frame.now) (Some (application_of c.args.frame.now)) (app is) (client-there s calls c.args.self.now.lines.items c.args.place c.index_mut-line.result.now c.index_mut-line.ensures.value c.requires.place all)) (rw c.touch.ensures.session at c.on_message.ensures.delivered)
 
 pub returns-clause-links : goal.returns-clause-links
 returns-clause-links c = λ links. kept-set (λ (x : ClientLine). x.link) links c.args.self.now.lines.items c.args.place _ c.index_mut-line.result.now c.index_mut-line.ensures.value c.requires.place c.touch.ensures.link
