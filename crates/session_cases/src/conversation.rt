@@ -1,5 +1,8 @@
 //! A conversation with one session.
 
+ghost use Rattle.std.specs.Prelude.{◌≡◌, IfOk, None, true};
+ghost use Rattle.session_law.specs.Formats.{application_refusal};
+
 use crate::line::Line;
 use crate::shown::{fields_of, from_client, show_issued, show_message, show_turn, with_soh};
 use fix_framing::{FrameFault, Framer};
