@@ -1,7 +1,7 @@
 //! A conversation with one session.
 
 ghost use Rattle.std.specs.Prelude.{◌≡◌, IfOk, None, true};
-ghost use Rattle.session_law.specs.Formats.{application_refusal};
+ghost use Rattle.fix_session.specs.Formats.{application_refusal};
 
 use crate::line::Line;
 use crate::shown::{fields_of, from_client, show_issued, show_message, show_turn, with_soh};
