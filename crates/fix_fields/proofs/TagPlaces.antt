@@ -13,17 +13,11 @@ use Rattle.decimal_digits.proofs.Numbers.{own, all_digits_more, digit_range, num
 use Rattle.fix_fields.specs.Field.{Field, is_field, is_inside, field_text}
 use Rattle.fix_fields.specs.declared.span.TagPlace.{TagPlace}
 use Rattle.fix_fields.specs.Front.{IsFront, HasField, AreDigits, IsTagAt, digits_from}
-use Rattle.fix_fields.proofs.Tags.{front, found, inside_false, no_end, tag_text, tag-number_of, list_all-prefix_len}
+use Rattle.fix_fields.proofs.Tags.{front, found, inside_false, tag_text, tag-number_of, list_all-prefix_len}
 
 -- no field is written from there on
 abbrev pub NoField : List ℕ → ℕ → Type 0
 NoField text at = (f : Field) (after : List ℕ) → is_field f ≡ true → drop at text ≢ field_text f ++ after
-
--- digits up to the end of the text are no field
-pub all_digits : (text : List ℕ) (at end : ℕ) → at ≤ length text → length text ≤ end → at + digits_from text at ≡ end + digits_from text end → NoField text at
-all_digits text at end within all ahead f after good e =
-    let has = front (drop at text) f after good e in
-    omega (arith, has.shorter, length-drop at text)
 
 digits_of_tag : (n : ℕ) → 1 ≤ n → n ≤ 999_999_999 → (0 < length (decimal n)) × (length (decimal n) ≤ 9)
 digits_of_tag n low high = (decimal_nonempty n (omega arith), length-decimal-le 9 n (omega arith) (omega arith) (omega arith))
@@ -75,7 +69,7 @@ tag_there text at end tag are equals other nonzero =
     }
 
 -- what a place further on has, from there
-there : (text : List ℕ) (at end : ℕ) → at ≤ end → get_or (drop at text) (end - at) 0 ≡ get_or text end 0
+pub there : (text : List ℕ) (at end : ℕ) → at ≤ end → get_or (drop at text) (end - at) 0 ≡ get_or text end 0
 there text at end le = get_or-drop at text (end - at) 0 ∙ ap (λ n. get_or text n 0) (omega arith)
 
 -- one digit more
@@ -227,16 +221,6 @@ front_there text at end tag is ends place =
     let first : get_or behind 0 0 ≡ 61 = get_or-drop n rest 0 0 ∙ get_or-drop at text (n + 0) 0 ∙ ap (λ k. get_or text k 0) (omega (arith, is.place_is)) ∙ is.equals in
     let within : prefix_len is_inside value < length value = omega (arith, end-is, ap (λ (l : List ℕ). length l) value-is, length-drop (equals + 1) text) in
     rw (start-is, end-is) (found text rest (take n rest) behind value at n tag.tag (prefix_len is_inside value) refl refl refl is.low is.high is.spelled some first refl refl within)
-
--- a tag without an SOH behind it is none
-pub no_soh : (text : List ℕ) (at : ℕ) (tag : TagPlace) → IsTagAt text at tag → prefix_len is_inside (drop (tag.end + 1) text) ≡ length (drop (tag.end + 1) text) → NoField text at
-no_soh text at tag is all f after good e =
-    let equals : ℕ = tag.end in
-    let n : ℕ = digits_from text at in
-    let rest : List ℕ = drop at text in
-    let value : List ℕ = drop 1 (drop n rest) in
-    let value-is : drop (equals + 1) text ≡ value = ap (λ k. drop k text) (omega (arith, is.place_is)) ∙ sym (behind_tag text at) in
-    no_end rest (drop n rest) value n (prefix_len is_inside value) refl refl refl refl (ap (λ (l : List ℕ). prefix_len is_inside l) (sym value-is) ∙ all ∙ ap (λ (l : List ℕ). length l) value-is) f after good e
 
 -- a field that is known to be there has an SOH behind its tag
 pub soh_there : (text : List ℕ) (at : ℕ) (tag : TagPlace) → IsTagAt text at tag → HasField text at → tag.end + 1 + prefix_len is_inside (drop (tag.end + 1) text) < length text

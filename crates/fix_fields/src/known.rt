@@ -5,6 +5,7 @@ ghost use Rattle.fix_fields.specs.Front.{HasField, IsFront, IsTagAt};
 ghost use Rattle.fix_fields.specs.Reading.{fields_of};
 ghost use Rattle.fix_fields.specs.Spans.{AreSpans};
 
+use crate::soh::next_soh;
 use crate::span::{Span, TagPlace};
 use crate::text::SOH;
 use std::alloc::{AllocError, Global};
@@ -53,10 +54,7 @@ pub(crate) fn known_front(text: &[u8], at: usize) -> Span
 {
     let place = known_tag(text, at);
     let start = place.end + 1;
-    let mut end = start;
-    while text[end] != SOH {
-        end += 1;
-    }
+    let end = next_soh(text, start);
     Span {
         tag: place.tag,
         start,

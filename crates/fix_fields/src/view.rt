@@ -8,6 +8,7 @@ ghost use Rattle.fix_fields.specs.Reading.{fields_of};
 use crate::fields::Fields;
 use crate::front::front_of;
 use crate::known::known_front;
+use crate::soh::is_ended;
 use std::alloc::{AllocError, Global};
 
 /// The fields that a text is, lent: the text stays where it lies, and a value is found by looking through it. It takes
@@ -68,6 +69,9 @@ impl<'a> FieldsView<'a> {
 fn are_fields(text: &[u8]) -> bool
     ensures { result ≡ is_some (fields_of text.now) }
 {
+    if !is_ended(text) {
+        return false;
+    }
     let mut at = 0;
     while at < text.len() {
         let Some(span) = front_of(text, at) else {

@@ -1,0 +1,90 @@
+-- Where the next SOH stands.
+use Rattle.std.proofs.Common.{◌≡◌, ◌≢◌, ℕ, ◌+◌, ◌-◌, ◌<◌, ◌≤◌, Bool, true, false, List, [], ◌∷◌, ◌++◌, length, get_or, take, drop, refl, sym, ap, ◌∙◌, arith, append_assoc, decimal, eqb, cond}
+use Rattle.std.specs.Prelude.{bytes_eq, None}
+use Rattle.std.specs.Char.{is_ascii_digit}
+use Rattle.std.specs.List.{prefix_len}
+use Rattle.std.proofs.lemmas.Bool.{false≢true}
+use Rattle.std.proofs.lemmas.Bool.Decides.{nat_tests}
+use Rattle.std.proofs.lemmas.List.{append-nil, drop_at, get_or-drop, length-append, length-drop, length-take}
+use Rattle.std.proofs.lemmas.List.Folds.{prefix_len-append}
+use Rattle.std.proofs.lemmas.List.Sums.{prefix_len_passes, prefix_len-le-length, prefix_len-drop_yes}
+use Rattle.std.proofs.lemmas.Simd.{chunk-drop}
+use Rattle.std.proofs.lemmas.Slice.Eq.{bytes_eq-Decides}
+use Rattle.fix_fields.specs.Field.{Field, is_inside, field_text, fields_text}
+use Rattle.fix_fields.specs.Front.{soh_behind, AreEnded}
+use Rattle.fix_fields.specs.Reading.{fields_of}
+use Rattle.fix_fields.proofs.TagPlaces.{there}
+use Rattle.fix_fields.proofs.Reading.{fields_of-none}
+
+-- ---- the end of a text
+
+-- from each place of a text that ends with SOH on, one stands
+pub ended_by : (text : List ℕ) → get_or text (length text - 1) 0 ≡ 1 → AreEnded text
+ended_by text last at lt = omega (arith, prefix_len-le-length is_inside (drop at text), length-drop at text, some)
+  where
+    some : at + prefix_len is_inside (drop at text) ≢ length text
+    some all = false≢true (sym (ap is_inside (there text at (length text - 1) (omega arith) ∙ last)) ∙ prefix_len_passes is_inside (drop at text) (length text - 1 - at) 0 (omega arith))
+
+pub ended_by_back : (text : List ℕ) → bytes_eq (1 ∷ []) (drop (length text - 1) text) ≡ true → AreEnded text
+ended_by_back text h =
+    let e : 1 ∷ [] ≡ drop (length text - 1) text = (bytes_eq-Decides (1 ∷ []) (drop (length text - 1) text)).0 h in
+    ended_by text (ap (λ n. get_or text n 0) (omega arith) ∙ sym (get_or-drop (length text - 1) text 0 0) ∙ ap (λ (l : List ℕ). get_or l 0 0) (sym e))
+
+-- what isn't SOH isn't its end
+pub goes_on : (text : List ℕ) (at : ℕ) → AreEnded text → at < length text → is_inside (get_or text at 0) ≡ true → at + 1 < length text
+goes_on text at ended lt inside = omega (arith, ended at lt, prefix_len-drop_yes is_inside text at 0 lt inside)
+
+digit_inside : (byte : ℕ) → is_ascii_digit byte ≡ true → is_inside byte ≡ true
+digit_inside byte digit = grind (arith, nat_tests)
+
+pub digit_goes_on : (text : List ℕ) (at : ℕ) → AreEnded text → at < length text → is_ascii_digit (get_or text at 0) ≡ true → at + 1 < length text
+digit_goes_on text at ended lt digit = goes_on text at ended lt (digit_inside (get_or text at 0) digit)
+
+pub equals_goes_on : (text : List ℕ) (at : ℕ) → AreEnded text → at < length text → get_or text at 0 ≡ 61 → at + 1 < length text
+equals_goes_on text at ended lt equals = goes_on text at ended lt (ap is_inside equals)
+
+-- fields end with SOH
+soh_last : (f : Field) (fs : List Field) → (front : List ℕ) × (fields_text (f ∷ fs) ≡ front ++ 1 ∷ [])
+soh_last f [] = (decimal f.tag ++ 61 ∷ f.value, append-nil (field_text f) ∙ sym (append_assoc (decimal f.tag) (61 ∷ f.value) (1 ∷ [])))
+soh_last f (g ∷ fs) =
+    let rest = soh_last g fs in
+    (field_text f ++ rest.0, ap (λ (l : List ℕ). field_text f ++ l) rest.1 ∙ sym (append_assoc (field_text f) rest.0 (1 ∷ [])))
+
+back_is : (text front : List ℕ) → text ≡ front ++ 1 ∷ [] → drop (length text - 1) text ≡ 1 ∷ []
+back_is text front e =
+    let size : length text ≡ length front + 1 = ap (λ (l : List ℕ). length l) e ∙ length-append front (1 ∷ []) in
+    ap (λ (l : List ℕ). drop (length text - 1) l) e ∙ drop_at front (1 ∷ []) (length text - 1) (omega (arith, size))
+
+pub fields_end : (text : List ℕ) (fs : List Field) → fields_text fs ≡ text → length text ≢ 0 → bytes_eq (1 ∷ []) (drop (length text - 1) text) ≡ true
+fields_end text [] e some = absurd (some (ap (λ (l : List ℕ). length l) (sym e)))
+fields_end text (f ∷ fs) e some =
+    let last = soh_last f fs in
+    (bytes_eq-Decides (1 ∷ []) (drop (length text - 1) text)).1 (sym (back_is text last.0 (sym e ∙ last.1)))
+
+-- so a text that doesn't isn't fields
+pub not_ended : (text : List ℕ) (ended : Bool) → ended ≡ false → ((fs : List Field) → fields_text fs ≡ text → ended ≡ true) → fields_of text ≡ None
+not_ended text ended isnt fields = fields_of-none text (λ fs good e. false≢true (sym isnt ∙ fields fs e))
+
+-- ---- sixteen bytes at once
+
+cut_at : (text : List ℕ) (at : ℕ) → at + 16 ≤ length text → prefix_len is_inside (drop at text)
+    ≡ cond (eqb (prefix_len is_inside (take 16 (drop at text))) 16) (16 + prefix_len is_inside (drop (at + 16) text)) (prefix_len is_inside (take 16 (drop at text)))
+cut_at text at room =
+    let size : length (take 16 (drop at text)) ≡ 16 = omega (arith, length-take 16 (drop at text), length-drop at text) in
+    ap (λ (l : List ℕ). prefix_len is_inside l) (chunk-drop at 16 text) ∙ prefix_len-append is_inside (take 16 (drop at text)) (drop (at + 16) text)
+    ∙ ap (λ n. cond (eqb (prefix_len is_inside (take 16 (drop at text))) n) (n + prefix_len is_inside (drop (at + 16) text)) (prefix_len is_inside (take 16 (drop at text)))) size
+
+-- one stands among them
+pub soh_among : (text : List ℕ) (at size : ℕ) → at + 16 ≤ length text → size ≡ prefix_len is_inside (take 16 (drop at text)) → size < 16 → at + size ≡ soh_behind text at
+soh_among text at size room is few =
+    let other : eqb (prefix_len is_inside (take 16 (drop at text))) 16 ≡ false = grind (arith, nat_tests) in
+    let cut : prefix_len is_inside (drop at text) ≡ prefix_len is_inside (take 16 (drop at text)) = cut_at text at room ∙ rw other refl in
+    omega (arith, cut, is)
+
+-- or none does
+pub soh_after : (text : List ℕ) (at size : ℕ) → at + 16 ≤ length text → size ≡ prefix_len is_inside (take 16 (drop at text)) → 16 ≤ size → soh_behind text at ≡ soh_behind text (at + 16)
+soh_after text at size room is many =
+    let most : prefix_len is_inside (take 16 (drop at text)) ≤ 16 = omega (arith, prefix_len-le-length is_inside (take 16 (drop at text)), length-take 16 (drop at text)) in
+    let all : eqb (prefix_len is_inside (take 16 (drop at text))) 16 ≡ true = grind (arith, nat_tests, is, most) in
+    let cut : prefix_len is_inside (drop at text) ≡ 16 + prefix_len is_inside (drop (at + 16) text) = cut_at text at room ∙ rw all refl in
+    omega (arith, cut)

@@ -1,0 +1,65 @@
+//! Where the next SOH stands in a text.
+
+ghost use Rattle.std.specs.Prelude.{◌≡◌, ◌≤◌, ◌<◌, ◌+◌, List, length, drop, take, IsTrue};
+ghost use Rattle.std.specs.List.{prefix_len};
+ghost use Rattle.fix_fields.specs.Field.{Field, fields_text, is_inside};
+ghost use Rattle.fix_fields.specs.Front.{soh_behind, AreEnded};
+
+use crate::text::SOH;
+use std::simd::prelude::*;
+
+/// So many bytes are looked at at once.
+const LANES: usize = 16;
+
+/// Whether an SOH stands at the end of a text, so that one stands from each place of it on; none needs to stand in an
+/// empty one. Fields end so.
+pub(crate) fn is_ended(text: &[u8]) -> bool
+    ensures ended { IsTrue result → AreEnded text.now }
+    ensures fields { (fields : List Field) → fields_text fields ≡ text.now → IsTrue result }
+{
+    text.is_empty() || text.ends_with(&[SOH])
+}
+
+/// Where the first SOH stands from `start` on, where one stands there: sixteen bytes are looked at at once, as long as
+/// there are so many.
+pub(crate) fn next_soh(text: &[u8], start: usize) -> usize
+    requires { soh_behind text.now start < length text.now }
+    ensures { result ≡ soh_behind text.now start }
+{
+    let mut end = start;
+    while LANES <= text.len() - end {
+        let size = size_inside(text, end);
+        if size < LANES {
+            return end + size;
+        }
+        end += LANES;
+    }
+    next_soh_by_one(text, end)
+}
+
+/// The same, byte by byte.
+fn next_soh_by_one(text: &[u8], start: usize) -> usize
+    requires { soh_behind text.now start < length text.now }
+    ensures { result ≡ soh_behind text.now start }
+{
+    let mut end = start;
+    while text[end] != SOH {
+        end += 1;
+    }
+    end
+}
+
+/// How many bytes stand before the first SOH among sixteen, sixteen where there is none.
+fn size_inside(text: &[u8], at: usize) -> usize
+    requires { at + 16 ≤ length text.now }
+    ensures { result ≡ prefix_len is_inside (take 16 (drop at text.now)) }
+{
+    let marks = u8x16::from_slice(&text[at..])
+        .simd_eq(u8x16::splat(SOH))
+        .to_bitmask();
+    if marks == 0 {
+        LANES
+    } else {
+        marks.trailing_zeros() as usize
+    }
+}
