@@ -9,7 +9,7 @@ use Rattle.fix_fields.specs.Skips.{is_elsewhere, IsSkip, AreSkips}
 use Rattle.fix_fields.proofs.Tags.{and_parts}
 
 -- a field elsewhere has another tag
-other_tag : (tag : ℕ) (span : Span) → is_elsewhere (tag % 64) span ≡ true → (span.tag == tag) ≡ false
+pub other_tag : (tag : ℕ) (span : Span) → is_elsewhere (tag % 64) span ≡ true → (span.tag == tag) ≡ false
 other_tag tag span h = by_test (span.tag == tag) refl
   where
     same : (n m : ℕ) → n ≡ m → (n % 64 == m % 64) ≡ true

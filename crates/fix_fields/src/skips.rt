@@ -1,6 +1,6 @@
 //! Where a search for a tag begins: behind fields in front that are known to have other tags.
 
-ghost use Rattle.std.specs.Prelude.{◌≡◌, ◌≢◌, ◌≤◌, ◌<◌, ◌%◌, ◌==◌, ℕ, List, length, find, slice_index};
+ghost use Rattle.std.specs.Prelude.{◌≡◌, ◌≢◌, ◌≤◌, ◌<◌, ◌%◌, ◌==◌, ℕ, List, length, find, slice_index, IsTrue};
 ghost use Rattle.fix_fields.specs.declared.span.Span.{Span};
 ghost use Rattle.fix_fields.specs.Skips.{AreSkips};
 
@@ -53,6 +53,13 @@ fn remainder_of(tag: u32) -> usize
     ensures within { result < 64 }
 {
     (tag % 64) as usize
+}
+
+/// Whether so many fields in front are known to have other tags.
+pub(crate) fn is_new_behind(skips: &[u8; REMAINDERS], tag: u32, count: usize) -> bool
+    ensures { IsTrue result → count ≤ slice_index skips.now (tag % 64) }
+{
+    count <= usize::from(skips[remainder_of(tag)])
 }
 
 /// The place of the first field with this tag.
