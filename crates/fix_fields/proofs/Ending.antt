@@ -2,17 +2,21 @@
 use Rattle.std.proofs.Common.{◌≡◌, ◌≢◌, ℕ, ◌+◌, ◌-◌, ◌<◌, ◌≤◌, Bool, true, false, List, [], ◌∷◌, ◌++◌, length, get_or, take, drop, refl, sym, ap, ◌∙◌, arith, append_assoc, decimal, eqb, cond}
 use Rattle.std.specs.Prelude.{bytes_eq, None}
 use Rattle.std.specs.Char.{is_ascii_digit}
-use Rattle.std.specs.List.{prefix_len}
+use Rattle.std.specs.List.{count_by, prefix_len}
 use Rattle.std.proofs.lemmas.Bool.{false≢true}
 use Rattle.std.proofs.lemmas.Bool.Decides.{nat_tests}
-use Rattle.std.proofs.lemmas.List.{append-nil, drop_at, get_or-drop, length-append, length-drop, length-take}
+use Rattle.std.proofs.lemmas.List.{append-nil, take-append-drop, take-take, drop_at, get_or-drop, length-append, length-drop, length-take}
 use Rattle.std.proofs.lemmas.List.Folds.{prefix_len-append}
-use Rattle.std.proofs.lemmas.List.Sums.{prefix_len_passes, prefix_len-le-length, prefix_len-drop_yes}
+use Rattle.std.proofs.lemmas.List.Sums.{prefix_len_passes, prefix_len-le-length, prefix_len-drop_yes, sum_by-append, sum_by-take-le, count_by-le-length, count_by_more_yes}
 use Rattle.std.proofs.lemmas.Simd.{chunk-drop}
+use Rattle.std.proofs.Math.Seq.{take-add}
 use Rattle.std.proofs.lemmas.Slice.Eq.{bytes_eq-Decides}
 use Rattle.fix_fields.specs.Field.{Field, is_inside, field_text, fields_text}
-use Rattle.fix_fields.specs.Front.{soh_behind, AreEnded}
+use Rattle.fix_fields.specs.Front.{soh_behind, is_soh, sohs, AreEnded, IsFront}
+use Rattle.fix_fields.specs.declared.span.Span.{Span}
 use Rattle.fix_fields.specs.Reading.{fields_of}
+use Rattle.fix_fields.specs.Spans.{field_at, fields_at}
+use Rattle.fix_fields.proofs.Tags.{cut}
 use Rattle.fix_fields.proofs.TagPlaces.{there}
 use Rattle.fix_fields.proofs.Reading.{fields_of-none}
 
@@ -88,3 +92,55 @@ soh_after text at size room is many =
     let all : eqb (prefix_len is_inside (take 16 (drop at text))) 16 ≡ true = grind (arith, nat_tests, is, most) in
     let cut : prefix_len is_inside (drop at text) ≡ 16 + prefix_len is_inside (drop (at + 16) text) = cut_at text at room ∙ rw all refl in
     omega (arith, cut)
+
+-- ---- how many there are
+
+sohs-append : (front behind : List ℕ) → sohs (front ++ behind) ≡ sohs front + sohs behind
+sohs-append front behind = sum_by-append _ front behind
+
+-- those of a part more
+pub sohs_more : (text : List ℕ) (at more : ℕ) → sohs (take (at + more) text) ≡ sohs (take at text) + sohs (take more (drop at text))
+sohs_more text at more = ap (λ (l : List ℕ). sohs l) (take-add at more text) ∙ sohs-append (take at text) (take more (drop at text))
+
+pub sohs_all : (text : List ℕ) (at : ℕ) → sohs text ≡ sohs (take at text) + sohs (drop at text)
+sohs_all text at = ap (λ (l : List ℕ). sohs l) (sym (take-append-drop at text)) ∙ sohs-append (take at text) (drop at text)
+
+-- no more than bytes
+pub few_sohs : (text : List ℕ) (at : ℕ) → sohs (take at text) ≤ at
+few_sohs text at = omega (arith, count_by-le-length is_soh (take at text), length-take at text)
+
+-- a field has one, so that there is room for its place
+pub one_soh_more : (text : List ℕ) (at end : ℕ) → at ≤ end → end < length text → get_or text end 0 ≡ 1
+    → (sohs (take at text) + 1 ≤ sohs (take (end + 1) text)) × (sohs (take (end + 1) text) ≤ sohs text)
+one_soh_more text at end le lt soh =
+    let here : sohs (take (end + 1) text) ≡ sohs (take end text) + 1 = count_by_more_yes is_soh text end 0 lt (ap is_soh soh) in
+    let before : sohs (take at (take end text)) ≤ sohs (take end text) = sum_by-take-le _ (take end text) at in
+    let same : sohs (take at (take end text)) ≡ sohs (take at text) = ap (λ (l : List ℕ). sohs l) (take-take at end text le) in
+    let all : sohs (take (end + 1) text) ≤ sohs text = sum_by-take-le _ text (end + 1) in
+    (omega (arith, here, before, same), all)
+
+soh_of_front : (text : List ℕ) (at : ℕ) (span : Span) → at ≤ length text → IsFront text at span → get_or text span.end 0 ≡ 1
+soh_of_front text at span le found =
+    let f = field_at text span in
+    let front : List ℕ = decimal f.tag ++ 61 ∷ f.value in
+    let behind : List ℕ = drop (span.end + 1) text in
+    let e : drop at text ≡ front ++ 1 ∷ behind = found.spelled ∙ simp append_assoc in
+    let is = cut (drop at text) front 1 behind e in
+    let size : at + length front ≡ span.end =
+    omega (arith, ap (λ (l : List ℕ). length l) e, length-append front (1 ∷ behind), length-drop at text, length-drop (span.end + 1) text, found.ends) in
+    ap (λ n. get_or text n 0) (sym size) ∙ sym (get_or-drop at text (length front) 0) ∙ is.element
+
+-- there is room for the places of the fields that are read, and for all that come
+pub record HasRoom (text : List ℕ) (at : ℕ) (spans : List Span) (room : ℕ) : Type 0 where
+  pub used : length spans ≤ sohs (take at text)
+  pub all : room ≡ sohs text
+
+pub room_for_one : (text : List ℕ) (at room : ℕ) (spans : List Span) (span : Span) → at ≤ length text → IsFront text at span → HasRoom text at spans room → length spans < room
+room_for_one text at room spans span le found has =
+    let more = one_soh_more text at span.end (omega (arith, found.starts, found.ordered)) found.ends (soh_of_front text at span le found) in
+    omega (arith, has.used, has.all, more.0, more.1)
+
+pub room_behind : (text : List ℕ) (at room : ℕ) (spans : List Span) (span : Span) → at ≤ length text → IsFront text at span → HasRoom text at spans room → HasRoom text (span.end + 1) (spans ++ span ∷ []) room
+room_behind text at room spans span le found has =
+    let more = one_soh_more text at span.end (omega (arith, found.starts, found.ordered)) found.ends (soh_of_front text at span le found) in
+    record { used = omega (arith, has.used, more.0, length-append spans (span ∷ [])); all = has.all }

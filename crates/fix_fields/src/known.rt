@@ -5,9 +5,8 @@ ghost use Rattle.fix_fields.specs.Front.{HasField, IsFront, IsTagAt};
 ghost use Rattle.fix_fields.specs.Reading.{fields_of};
 ghost use Rattle.fix_fields.specs.Spans.{AreSpans};
 
-use crate::soh::next_soh;
+use crate::soh::{next_soh, soh_count};
 use crate::span::{Span, TagPlace};
-use crate::text::SOH;
 use std::alloc::{AllocError, Global};
 
 /// The places of all fields of a text that is fields. One growth.
@@ -19,32 +18,10 @@ pub(crate) fn places_of(alloc: Global, text: &[u8]) -> Result<Vec<Span>, AllocEr
     let mut at = 0;
     while at < text.len() {
         let span = known_front(text, at);
-        spans.push(span)?;
+        spans.push_reserved(span);
         at = span.end + 1;
     }
     Ok(spans)
-}
-
-/// How many fields end in a text. One byte counts those of 255 bytes, so that sixteen are counted at once.
-pub(crate) fn soh_count(text: &[u8]) -> usize {
-    let mut count = 0usize;
-    for part in text.chunks(255) {
-        count = count.saturating_add(usize::from(soh_count_of_part(part)));
-    }
-    count
-}
-
-/// How many fields end in 255 bytes at most.
-fn soh_count_of_part(part: &[u8]) -> u8
-    requires { length part.now ≤ 255 }
-{
-    let mut count = 0u8;
-    for byte in part {
-        if *byte == SOH {
-            count += 1;
-        }
-    }
-    count
 }
 
 /// The field that is known to be written from `at` on, and where its value stands.

@@ -3,13 +3,16 @@
 ghost use Rattle.std.specs.Prelude.{◌≡◌, ◌≤◌, ◌<◌, ◌+◌, List, length, drop, take, IsTrue};
 ghost use Rattle.std.specs.List.{prefix_len};
 ghost use Rattle.fix_fields.specs.Field.{Field, fields_text, is_inside};
-ghost use Rattle.fix_fields.specs.Front.{soh_behind, AreEnded};
+ghost use Rattle.fix_fields.specs.Front.{soh_behind, sohs, AreEnded};
 
 use crate::text::SOH;
 use std::simd::prelude::*;
 
-/// So many bytes are looked at at once.
+/// So many bytes are looked at at once for the next SOH.
 const LANES: usize = 16;
+
+/// So many are looked at at once where SOHs are counted.
+const WIDE: usize = 32;
 
 /// Whether an SOH stands at the end of a text, so that one stands from each place of it on; none needs to stand in an
 /// empty one. Fields end so.
@@ -18,6 +21,44 @@ pub(crate) fn is_ended(text: &[u8]) -> bool
     ensures fields { (fields : List Field) → fields_text fields ≡ text.now → IsTrue result }
 {
     text.is_empty() || text.ends_with(&[SOH])
+}
+
+/// How many SOHs stand in a text.
+pub(crate) fn soh_count(text: &[u8]) -> usize
+    ensures { result ≡ sohs text.now }
+{
+    let mut count = 0usize;
+    let mut at = 0usize;
+    while WIDE <= text.len() - at {
+        count += soh_count_of_wide(text, at);
+        at += WIDE;
+    }
+    let (_, rest) = text.split_at(at);
+    count + soh_count_by_one(rest)
+}
+
+/// The same, byte by byte.
+fn soh_count_by_one(text: &[u8]) -> usize
+    ensures { result ≡ sohs text.now }
+{
+    let mut count = 0usize;
+    for byte in text {
+        if *byte == SOH {
+            count += 1;
+        }
+    }
+    count
+}
+
+/// How many SOHs stand among thirty-two bytes.
+fn soh_count_of_wide(text: &[u8], at: usize) -> usize
+    requires { at + 32 ≤ length text.now }
+    ensures { result ≡ sohs (take 32 (drop at text.now)) }
+{
+    u8x32::from_slice(&text[at..])
+        .simd_eq(u8x32::splat(SOH))
+        .to_bitmask()
+        .count_ones() as usize
 }
 
 /// Where the first SOH stands from `start` on, where one stands there: sixteen bytes are looked at at once, as long as

@@ -1,0 +1,20 @@
+use Rattle.std.proofs.Common.{◌+◌, ℕ, List, ap, arith}
+use Rattle.fix_fields.specs.Front.{sohs}
+use Rattle.fix_fields.proofs.Ending.{sohs_more, sohs_all, few_sohs}
+use Rattle.fix_fields.proofs.soh.soh_count.Goals as goal
+
+pub overflow_add-count : goal.overflow_add-count
+overflow_add-count c =
+    let text = c.args.text.now in
+    let more = sohs_more text c.loop-at.at 32 in
+    omega (arith, c.loop-at.invariant.counted, c.soh_count_of_wide-count.ensures, more, few_sohs text (c.loop-at.at + 32))
+
+pub loop-at-preserved : goal.loop-at-preserved
+loop-at-preserved c =
+    let more = sohs_more c.args.text.now c.loop-at.at 32 in
+    record { within = omega arith; counted = omega (arith, c.loop-at.invariant.counted, c.soh_count_of_wide-count.ensures, more) }
+
+pub returns : goal.returns
+returns c =
+    let rest = ap (λ (l : List ℕ). sohs l) c.split_at.ensures.back in
+    omega (arith, c.loop-at.invariant.counted, c.soh_count_by_one.ensures, rest, sohs_all c.args.text.now c.loop-at.at)
