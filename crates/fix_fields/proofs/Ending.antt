@@ -2,7 +2,7 @@
 use Rattle.std.proofs.Common.{◌≡◌, ◌≢◌, ℕ, ◌+◌, ◌-◌, ◌<◌, ◌≤◌, Bool, true, false, List, [], ◌∷◌, ◌++◌, length, get_or, take, drop, refl, sym, ap, ◌∙◌, arith, append_assoc, decimal, eqb, cond}
 use Rattle.std.specs.Prelude.{bytes_eq, None}
 use Rattle.std.specs.Char.{is_ascii_digit}
-use Rattle.std.specs.List.{count_by, prefix_len}
+use Rattle.std.specs.List.{prefix_len}
 use Rattle.std.proofs.lemmas.Bool.{false≢true}
 use Rattle.std.proofs.lemmas.Bool.Decides.{nat_tests}
 use Rattle.std.proofs.lemmas.List.{append-nil, take-append-drop, take-take, drop_at, get_or-drop, length-append, length-drop, length-take}
@@ -15,7 +15,7 @@ use Rattle.fix_fields.specs.Field.{Field, is_inside, field_text, fields_text}
 use Rattle.fix_fields.specs.Front.{soh_behind, is_soh, sohs, AreEnded, IsFront}
 use Rattle.fix_fields.specs.declared.span.Span.{Span}
 use Rattle.fix_fields.specs.Reading.{fields_of}
-use Rattle.fix_fields.specs.Spans.{field_at, fields_at}
+use Rattle.fix_fields.specs.Spans.{field_at}
 use Rattle.fix_fields.proofs.Tags.{cut}
 use Rattle.fix_fields.proofs.TagPlaces.{there}
 use Rattle.fix_fields.proofs.Reading.{fields_of-none}

@@ -1,7 +1,10 @@
 use Rattle.std.proofs.Common.{arith, refl, sym, ◌+◌, ◌-◌, ◌*◌, ◌∙◌, get_or}
 use Rattle.fix_fields.proofs.Ending.{digit_goes_on}
-use Rattle.fix_fields.proofs.TagPlaces.{tenth, one_more_digit}
+use Rattle.fix_fields.proofs.TagPlaces.{tenth, one_more_digit, zero_first}
 use Rattle.fix_fields.proofs.front.tag_at.Goals as goal
+
+pub returns-then-text-at-eq48 : goal.returns-then-text-at-eq48
+returns-then-text-at-eq48 c = zero_first c.args.text.now c.args.at c.if-text-at-eq48.true
 
 pub returns-then-end-at-eq-MOST_DIGITS : goal.returns-then-end-at-eq-MOST_DIGITS
 returns-then-end-at-eq-MOST_DIGITS c =
