@@ -1,6 +1,7 @@
 -- Where the next SOH stands.
-use Rattle.std.proofs.Common.{◌≡◌, ◌≢◌, ℕ, ◌+◌, ◌-◌, ◌<◌, ◌≤◌, Bool, true, false, List, [], ◌∷◌, ◌++◌, length, get_or, take, drop, refl, sym, ap, ◌∙◌, arith, append_assoc, decimal, eqb, cond}
+use Rattle.std.proofs.Common.{◌≡◌, ◌≢◌, ℕ, ◌+◌, ◌-◌, ◌<◌, ◌≤◌, Bool, true, false, List, [], ◌∷◌, ◌++◌, length, get_or, take, drop, refl, sym, ap, ◌∙◌, arith, append_assoc, decimal, eqb, cond, map, ◌==◌}
 use Rattle.std.specs.Prelude.{bytes_eq, None}
+use Rattle.std.specs.Simd.Lanes.{mask_l}
 use Rattle.std.specs.Char.{is_ascii_digit}
 use Rattle.std.specs.List.{prefix_len}
 use Rattle.std.proofs.lemmas.Bool.{false≢true}
@@ -78,18 +79,35 @@ cut_at text at room =
     ap (λ (l : List ℕ). prefix_len is_inside l) (chunk-drop at 16 text) ∙ prefix_len-append is_inside (take 16 (drop at text)) (drop (at + 16) text)
     ∙ ap (λ n. cond (eqb (prefix_len is_inside (take 16 (drop at text))) n) (n + prefix_len is_inside (drop (at + 16) text)) (prefix_len is_inside (take 16 (drop at text)))) size
 
+-- where none stands among some bytes, none is marked
+unmarked : (bytes : List ℕ) → prefix_len is_inside bytes ≡ length bytes → mask_l (map is_soh bytes) ≡ 0
+unmarked [] all = refl
+unmarked (byte ∷ bytes) all = by_test (byte == 1) (unmarked bytes) refl
+  where
+    by_test : (b : Bool) → (prefix_len is_inside bytes ≡ length bytes → mask_l (map is_soh bytes) ≡ 0) → (byte == 1) ≡ b → mask_l (map is_soh (byte ∷ bytes)) ≡ 0
+    by_test true later e = absurd (none (rw e at all))
+      where
+        none : 0 ≡ length (byte ∷ bytes) → ⊥
+        none h = omega arith
+    by_test false later e =
+        let rest : 1 + prefix_len is_inside bytes ≡ length (byte ∷ bytes) = rw e at all in
+        rw (e, later (omega (arith, rest))) refl
+
 -- one stands among them
-pub soh_among : (text : List ℕ) (at size : ℕ) → at + 16 ≤ length text → size ≡ prefix_len is_inside (take 16 (drop at text)) → size < 16 → at + size ≡ soh_behind text at
-soh_among text at size room is few =
-    let other : eqb (prefix_len is_inside (take 16 (drop at text))) 16 ≡ false = grind (arith, nat_tests) in
+pub soh_among : (text : List ℕ) (at size : ℕ) → at + 16 ≤ length text → mask_l (map is_soh (take 16 (drop at text))) ≢ 0 → size ≡ prefix_len is_inside (take 16 (drop at text)) → at + size ≡ soh_behind text at
+soh_among text at size room marked is =
+    let long : length (take 16 (drop at text)) ≡ 16 = omega (arith, length-take 16 (drop at text), length-drop at text) in
+    let other : eqb (prefix_len is_inside (take 16 (drop at text))) 16 ≡ false = grind (arith, nat_tests, few long) in
     let cut : prefix_len is_inside (drop at text) ≡ prefix_len is_inside (take 16 (drop at text)) = cut_at text at room ∙ rw other refl in
     omega (arith, cut, is)
+  where
+    few : length (take 16 (drop at text)) ≡ 16 → prefix_len is_inside (take 16 (drop at text)) ≢ 16
+    few long all = marked (unmarked (take 16 (drop at text)) (all ∙ sym long))
 
 -- or none does
-pub soh_after : (text : List ℕ) (at size : ℕ) → at + 16 ≤ length text → size ≡ prefix_len is_inside (take 16 (drop at text)) → 16 ≤ size → soh_behind text at ≡ soh_behind text (at + 16)
-soh_after text at size room is many =
-    let most : prefix_len is_inside (take 16 (drop at text)) ≤ 16 = omega (arith, prefix_len-le-length is_inside (take 16 (drop at text)), length-take 16 (drop at text)) in
-    let all : eqb (prefix_len is_inside (take 16 (drop at text))) 16 ≡ true = grind (arith, nat_tests, is, most) in
+pub soh_after : (text : List ℕ) (at : ℕ) → at + 16 ≤ length text → prefix_len is_inside (take 16 (drop at text)) ≡ 16 → soh_behind text at ≡ soh_behind text (at + 16)
+soh_after text at room is =
+    let all : eqb (prefix_len is_inside (take 16 (drop at text))) 16 ≡ true = grind (arith, nat_tests, is) in
     let cut : prefix_len is_inside (drop at text) ≡ 16 + prefix_len is_inside (drop (at + 16) text) = cut_at text at room ∙ rw all refl in
     omega (arith, cut)
 

@@ -43,13 +43,15 @@ no_digits text at end tag are none f after good e =
 first_digit : (text : List ℕ) (at n : ℕ) → 0 < n → get_or (take n (drop at text)) 0 0 ≡ get_or text at 0
 first_digit text at n some = get_or-take n (drop at text) 0 0 some ∙ get_or-drop at text 0 0 ∙ ap (λ k. get_or text k 0) (omega arith)
 
--- nor digits with a 0 in front
-pub zero_first : (text : List ℕ) (at : ℕ) → get_or text at 0 ≡ 48 → NoField text at
-zero_first text at zero f after good e =
+-- nor what doesn't begin with a digit from 1 to 9
+pub first_byte : (text : List ℕ) (at : ℕ) (f : Field) (after : List ℕ) → is_field f ≡ true → drop at text ≡ field_text f ++ after → (49 ≤ get_or text at 0) × (get_or text at 0 ≤ 57)
+first_byte text at f after good e =
     let has = front (drop at text) f after good e in
     let first = (tag_text f.tag (take (digits_from text at) (drop at text)) has.low has.high has.tag).first in
     let some : 0 < digits_from text at = omega (arith, has.digits, (digits_of_tag f.tag has.low has.high).0) in
-    omega (arith, first, first_digit text at (digits_from text at) some)
+    let digit = digit_range (get_or (drop at text) 0 0) (prefix_len_passes is_ascii_digit (drop at text) 0 0 some) in
+    let same : get_or (drop at text) 0 0 ≡ get_or text at 0 = get_or-drop at text 0 0 ∙ ap (λ k. get_or text k 0) (omega arith) in
+    (omega (arith, first, first_digit text at (digits_from text at) some), omega (arith, digit.1, same))
 
 -- the digits are a tag
 pub tag_there : (text : List ℕ) (at end tag : ℕ) → AreDigits text at end tag → get_or text end 0 ≡ 61 → end ≢ at → get_or text at 0 ≢ 48 → IsTagAt text at (record { tag = tag; end = end })

@@ -1,8 +1,7 @@
 //! Where the next SOH stands in a text.
 
-ghost use Rattle.std.specs.Prelude.{◌≡◌, ◌≤◌, ◌<◌, ◌+◌, List, length, drop, take, IsTrue};
-ghost use Rattle.std.specs.List.{prefix_len};
-ghost use Rattle.fix_fields.specs.Field.{Field, fields_text, is_inside};
+ghost use Rattle.std.specs.Prelude.{◌≡◌, ◌≤◌, ◌<◌, ◌+◌, List, length, drop, take, IsTrue, MatchOption};
+ghost use Rattle.fix_fields.specs.Field.{Field, fields_text};
 ghost use Rattle.fix_fields.specs.Front.{soh_behind, sohs, AreEnded};
 
 use crate::text::SOH;
@@ -62,15 +61,28 @@ fn soh_count_of_wide(text: &[u8], at: usize) -> usize
 }
 
 /// Where the first SOH stands from `start` on, where one stands there: sixteen bytes are looked at at once, as long as
-/// there are so many.
+/// there are so many. Mostly it stands among the first sixteen.
 pub(crate) fn next_soh(text: &[u8], start: usize) -> usize
+    requires { soh_behind text.now start < length text.now }
+    ensures { result ≡ soh_behind text.now start }
+{
+    if text.len() - start < LANES {
+        return next_soh_by_one(text, start);
+    }
+    match soh_among(text, start) {
+        Some(size) => start + size,
+        None => next_soh_further(text, start + LANES),
+    }
+}
+
+/// The same, wherever it stands.
+fn next_soh_further(text: &[u8], start: usize) -> usize
     requires { soh_behind text.now start < length text.now }
     ensures { result ≡ soh_behind text.now start }
 {
     let mut end = start;
     while LANES <= text.len() - end {
-        let size = size_inside(text, end);
-        if size < LANES {
+        if let Some(size) = soh_among(text, end) {
             return end + size;
         }
         end += LANES;
@@ -90,17 +102,18 @@ fn next_soh_by_one(text: &[u8], start: usize) -> usize
     end
 }
 
-/// How many bytes stand before the first SOH among sixteen, sixteen where there is none.
-fn size_inside(text: &[u8], at: usize) -> usize
+/// How many bytes stand before the first SOH among sixteen; `None` where there is none.
+fn soh_among(text: &[u8], at: usize) -> Option<usize>
     requires { at + 16 ≤ length text.now }
-    ensures { result ≡ prefix_len is_inside (take 16 (drop at text.now)) }
+    ensures { MatchOption result (soh_behind text.now at ≡ soh_behind text.now (at + 16))
+        (λ size. at + size ≡ soh_behind text.now at) }
 {
     let marks = u8x16::from_slice(&text[at..])
         .simd_eq(u8x16::splat(SOH))
         .to_bitmask();
     if marks == 0 {
-        LANES
+        None
     } else {
-        marks.trailing_zeros() as usize
+        Some(marks.trailing_zeros() as usize)
     }
 }

@@ -1,10 +1,17 @@
 use Rattle.std.proofs.Common.{arith, refl, sym, ◌+◌, ◌-◌, ◌*◌, ◌∙◌, get_or}
 use Rattle.fix_fields.proofs.Ending.{digit_goes_on}
-use Rattle.fix_fields.proofs.TagPlaces.{tenth, one_more_digit, zero_first}
+use Rattle.fix_fields.proofs.TagPlaces.{tenth, one_more_digit, first_byte}
 use Rattle.fix_fields.proofs.front.tag_at.Goals as goal
 
-pub returns-then-text-at-eq48 : goal.returns-then-text-at-eq48
-returns-then-text-at-eq48 c = zero_first c.args.text.now c.args.at c.if-text-at-eq48.true
+pub returns-then-first-lt49 : goal.returns-then-first-lt49
+returns-then-first-lt49 c f after good e =
+    let first = first_byte c.args.text.now c.args.at f after good e in
+    omega (arith, first.0)
+
+pub returns-then-first-gt57 : goal.returns-then-first-gt57
+returns-then-first-gt57 c f after good e =
+    let first = first_byte c.args.text.now c.args.at f after good e in
+    omega (arith, first.1)
 
 pub returns-then-end-at-eq-MOST_DIGITS : goal.returns-then-end-at-eq-MOST_DIGITS
 returns-then-end-at-eq-MOST_DIGITS c =

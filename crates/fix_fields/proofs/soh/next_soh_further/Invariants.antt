@@ -1,6 +1,6 @@
 use Rattle.std.proofs.Common.{◌≡◌, ◌<◌, ◌-◌, length}
 use Rattle.fix_fields.specs.Front.{soh_behind}
-use Rattle.fix_fields.proofs.soh.next_soh.Given as goal
+use Rattle.fix_fields.proofs.soh.next_soh_further.Given as goal
 
 abbrev pub invariant-loop-end : goal.invariant-loop-end
 invariant-loop-end l = record {
