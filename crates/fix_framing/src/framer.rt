@@ -4,7 +4,7 @@ ghost use Rattle.std.specs.Prelude.{◌≡◌, ◌≢◌, ◌<◌, ◌≤◌, �
 ghost use Rattle.std.specs.Prelude.{IfOk, IfNone, IsOk, OnOk, OnErr, Err, None, IsTrue, ◌↔◌, ⊤};
 ghost use Rattle.std.specs.Borrow.{sem, follows_so};
 ghost use mathlib.Core.Option.{none};
-ghost use Rattle.stream_buffer.specs.Buffer.{Takes, Counts};
+ghost use Rattle.stream_buffer.specs.Buffer.{Takes, Counts, LetsGo};
 ghost use Rattle.fix_fields.specs.Field.{Field};
 ghost use Rattle.fix_framing.specs.Stream.{ReaderStanding, Rest, Over, BytesLeave, Feeds, parts, counted_skips};
 ghost use Rattle.fix_framing.specs.Stream.{Passed, PassesFrame, Sought, IsSeen, IsTaken, left, longer};
@@ -141,7 +141,7 @@ impl Framer {
         }
         let next = next_frame_of(alloc, self.buffer.held())?;
         self.seen = None;
-        self.buffer.pass(next.skipped);
+        let_go(&mut self.buffer, next.skipped);
         self.skipped = self.skipped.saturating_add(next.skipped as u64);
         self.is_over = next.is_over;
         Ok(next.frame)
@@ -267,5 +267,17 @@ impl Framer {
         ensures counted { (fed : List ℕ) → BytesLeave fed self.now → result ≡ counted_skips (parts fed).skipped }
     {
         self.skipped
+    }
+}
+
+/// Lets go so many bytes in front: mostly none, where nothing is to be done.
+fn let_go(buffer: &mut StreamBuffer, count: usize)
+    requires none { buffer.old.offered ≡ [] }
+    requires held { count ≤ length buffer.old.kept.held }
+    ensures passes { LetsGo count buffer.old.kept buffer.new.kept }
+    ensures none { buffer.new.offered ≡ [] }
+{
+    if count > 0 {
+        buffer.pass(count);
     }
 }
