@@ -34,12 +34,6 @@ no_equals_there text at end tag are other f after good e =
     let has = front (drop at text) f after good e in
     other (ap (λ n. get_or text n 0) are.place ∙ sym (get_or-drop at text (digits_from text at) 0) ∙ has.equals)
 
--- nor no digits
-pub no_digits : (text : List ℕ) (at end tag : ℕ) → AreDigits text at end tag → end ≡ at → NoField text at
-no_digits text at end tag are none f after good e =
-    let has = front (drop at text) f after good e in
-    omega (arith, are.place, has.digits, (digits_of_tag f.tag has.low has.high).0)
-
 first_digit : (text : List ℕ) (at n : ℕ) → 0 < n → get_or (take n (drop at text)) 0 0 ≡ get_or text at 0
 first_digit text at n some = get_or-take n (drop at text) 0 0 some ∙ get_or-drop at text 0 0 ∙ ap (λ k. get_or text k 0) (omega arith)
 

@@ -1,7 +1,7 @@
 use Rattle.std.proofs.Common.{arith, refl, sym, ◌+◌, ◌-◌, ◌*◌, ◌∙◌, get_or}
 use Rattle.fix_fields.proofs.Ending.{digit_goes_on}
 use Rattle.fix_fields.proofs.TagPlaces.{tenth, one_more_digit, first_byte}
-use Rattle.fix_fields.proofs.front.tag_at.Goals as goal
+use Rattle.fix_fields.proofs.front.digits_at.Goals as goal
 
 pub returns-then-first-lt49 : goal.returns-then-first-lt49
 returns-then-first-lt49 c f after good e =

@@ -3,7 +3,7 @@ use Rattle.std.specs.Char.{is_ascii_digit}
 use Rattle.std.specs.List.{list_all}
 use Rattle.decimal_digits.specs.Digits.{number_of}
 use Rattle.fix_fields.specs.Front.{digits_from}
-use Rattle.fix_fields.proofs.front.tag_at.Given as goal
+use Rattle.fix_fields.proofs.front.digits_at.Given as goal
 
 abbrev pub invariant-loop-at : goal.invariant-loop-at
 invariant-loop-at l = record {
