@@ -7,11 +7,8 @@ ghost use Rattle.fix_fields.specs.Front.{soh_behind, sohs, AreEnded};
 use crate::text::SOH;
 use std::simd::prelude::*;
 
-/// So many bytes are looked at at once for the next SOH.
+/// So many bytes are looked at at once.
 const LANES: usize = 16;
-
-/// So many are looked at at once where SOHs are counted.
-const WIDE: usize = 32;
 
 /// Whether an SOH stands at the end of a text, so that one stands from each place of it on; none needs to stand in an
 /// empty one. Fields end so.
@@ -28,9 +25,9 @@ pub(crate) fn soh_count(text: &[u8]) -> usize
 {
     let mut count = 0usize;
     let mut at = 0usize;
-    while WIDE <= text.len() - at {
-        count += soh_count_of_wide(text, at);
-        at += WIDE;
+    while LANES <= text.len() - at {
+        count += soh_count_of_lanes(text, at);
+        at += LANES;
     }
     let (_, rest) = text.split_at(at);
     count + soh_count_by_one(rest)
@@ -49,13 +46,13 @@ fn soh_count_by_one(text: &[u8]) -> usize
     count
 }
 
-/// How many SOHs stand among thirty-two bytes.
-fn soh_count_of_wide(text: &[u8], at: usize) -> usize
-    requires { at + 32 ≤ length text.now }
-    ensures { result ≡ sohs (take 32 (drop at text.now)) }
+/// How many SOHs stand among sixteen bytes.
+fn soh_count_of_lanes(text: &[u8], at: usize) -> usize
+    requires { at + 16 ≤ length text.now }
+    ensures { result ≡ sohs (take 16 (drop at text.now)) }
 {
-    u8x32::from_slice(&text[at..])
-        .simd_eq(u8x32::splat(SOH))
+    u8x16::from_slice(&text[at..])
+        .simd_eq(u8x16::splat(SOH))
         .to_bitmask()
         .count_ones() as usize
 }
