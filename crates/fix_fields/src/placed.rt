@@ -76,9 +76,6 @@ pub(crate) fn put_number(text: &mut [u8], at: usize, tag: u32, number: u64) -> u
     ensures length { length text.new ≡ length text.old }
 {
     let start = put_tag(text, at, tag);
-    if number < 1_000 {
-        return put_short(text, start, number as u32, SOH);
-    }
     put_digits(text, start, number, SOH)
 }
 
@@ -110,6 +107,52 @@ pub(crate) fn put_decimal(
 /// Writes a number in decimal and a byte behind it at a place of a text, and over at most 19 bytes behind both. Gives
 /// the place behind both.
 fn put_digits(text: &mut [u8], at: usize, number: u64, last: u8) -> usize
+    requires room { at + 21 ≤ length text.old }
+    ensures written { take result text.new ≡ take at text.old ++ (decimal number ++ last ∷ []) }
+    ensures length { length text.new ≡ length text.old }
+    ensures end { result ≤ at + 21 }
+{
+    if number < 1_000 {
+        return put_short(text, at, number as u32, last);
+    }
+    if number < 1_000_000 {
+        return put_thousands(text, at, number as u32, last);
+    }
+    put_long(text, at, number, last)
+}
+
+/// Writes a number from 1,000 to 999,999 in decimal and a byte behind it at a place of a text. Gives the place behind
+/// both.
+fn put_thousands(text: &mut [u8], at: usize, number: u32, last: u8) -> usize
+    requires number { (1_000 ≤ number) × (number < 1_000_000) }
+    requires room { at + 7 ≤ length text.old }
+    ensures written { take result text.new ≡ take at text.old ++ (decimal number ++ last ∷ []) }
+    ensures length { length text.new ≡ length text.old }
+    ensures end { result ≤ at + 7 }
+{
+    let (tens, ones) = (last_digit(number / 10), last_digit(number));
+    let (thousands, hundreds) = (last_digit(number / 1_000), last_digit(number / 100));
+    if number < 10_000 {
+        put(text, at, &[thousands, hundreds, tens, ones, last]);
+        return at + 5;
+    }
+    let front = last_digit(number / 10_000);
+    if number < 100_000 {
+        put(text, at, &[front, thousands, hundreds, tens, ones, last]);
+        return at + 6;
+    }
+    let first = last_digit(number / 100_000);
+    put(
+        text,
+        at,
+        &[first, front, thousands, hundreds, tens, ones, last],
+    );
+    at + 7
+}
+
+/// Writes any number in decimal and a byte behind it at a place of a text, and over at most 19 bytes behind both. Gives
+/// the place behind both.
+fn put_long(text: &mut [u8], at: usize, number: u64, last: u8) -> usize
     requires room { at + 21 ≤ length text.old }
     ensures written { take result text.new ≡ take at text.old ++ (decimal number ++ last ∷ []) }
     ensures length { length text.new ≡ length text.old }

@@ -45,6 +45,13 @@ impl PrintedFields {
         Ok(PrintedFields { text, size: 0 })
     }
 
+    /// No fields are left; the room stays. Takes no memory.
+    pub fn clear(&mut self)
+        ensures { self.new ≡ [] }
+    {
+        self.size = 0;
+    }
+
     /// Adds a field at the end: a tag from 1 to 999,999,999, and a value without SOH. `AllocError` leaves the fields
     /// as they were. One growth at most.
     pub fn push(&mut self, tag: u32, value: &[u8]) -> Result<(), AllocError>

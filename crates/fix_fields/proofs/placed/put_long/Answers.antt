@@ -2,7 +2,7 @@ use Rattle.std.proofs.Common.{◌≡◌, ◌≤◌, ◌+◌, ◌-◌, ◌++◌, 
 use Rattle.std.proofs.lemmas.Fmt.{length-decimal-le}
 use Rattle.std.proofs.lemmas.List.{take-take, take_at, length-take-le}
 use Rattle.fix_fields.proofs.Placing.{first-put}
-use Rattle.fix_fields.proofs.placed.put_digits.Goals as goal
+use Rattle.fix_fields.proofs.placed.put_long.Goals as goal
 
 pub write_digits-first-requires : goal.write_digits-first-requires
 write_digits-first-requires c = search (rules, length-decimal-le 20)
