@@ -76,7 +76,10 @@ pub(crate) fn put_number(text: &mut [u8], at: usize, tag: u32, number: u64) -> u
     ensures length { length text.new ≡ length text.old }
 {
     let start = put_tag(text, at, tag);
-    put_digits(text, start, number, SOH)
+    if number < 1_000 {
+        return put_short(text, start, number as u32, SOH);
+    }
+    put_large(text, start, number, SOH)
 }
 
 /// Writes a field at a place of a text, and over at most 19 bytes behind it: its value are a number in decimal, a point
@@ -115,6 +118,17 @@ fn put_digits(text: &mut [u8], at: usize, number: u64, last: u8) -> usize
     if number < 1_000 {
         return put_short(text, at, number as u32, last);
     }
+    put_large(text, at, number, last)
+}
+
+/// The same of a number from 1,000 on.
+fn put_large(text: &mut [u8], at: usize, number: u64, last: u8) -> usize
+    requires number { 1_000 ≤ number }
+    requires room { at + 21 ≤ length text.old }
+    ensures written { take result text.new ≡ take at text.old ++ (decimal number ++ last ∷ []) }
+    ensures length { length text.new ≡ length text.old }
+    ensures end { result ≤ at + 21 }
+{
     if number < 1_000_000 {
         return put_thousands(text, at, number as u32, last);
     }
