@@ -1,10 +1,10 @@
-use Rattle.std.proofs.Common.{◌≡◌, ◌-◌, ℕ, List, ◌++◌, [], length, take, drop, sym, ap, ◌∙◌, decimal}
+use Rattle.std.proofs.Common.{◌≡◌, ℕ, List, ◌++◌, length, sym, ap, ◌∙◌, decimal}
 use Rattle.fix_fields.specs.Field.{Field, fields_text}
 use Rattle.fix_framing.specs.Frame.{frame_text, counted_text, trailer, head}
 use Rattle.fix_framing.proofs.writing.frame_of_text.Goals as goal
 
 -- the buffer after all writes
-written : (front body made all : List ℕ) (fields : List Field) → front ≡ head (decimal (length body)) → body ≡ fields_text fields → made ≡ ([] ++ front) ++ body → all ≡ made ++ trailer made → all ≡ frame_text fields
+written : (front body made all : List ℕ) (fields : List Field) → front ≡ head (decimal (length body)) → body ≡ fields_text fields → made ≡ front ++ body → all ≡ made ++ trailer made → all ≡ frame_text fields
 unfolding frame_text counted_text
 written front body made all fields f b m a =
     let whole : made ≡ head (decimal (length (fields_text fields))) ++ fields_text fields =
@@ -13,11 +13,8 @@ written front body made all fields f b m a =
 
 pub returns : goal.returns
 returns c fields printed =
-    let front = take (40 - c.front_of-start.result.1) (drop c.front_of-start.result.1 c.front_of-start.result.0) in
     let body = c.args.body.now in
-    let made = c.in_ok-extend_from_slice-2.ensures.items
-    ∙ ap (λ (l : List ℕ). l ++ body) (c.in_ok-extend_from_slice.ensures.items
-    ∙ ap (λ (l : List ℕ). l ++ front) c.in_ok-text.ensures.items) in
+    let made = c.in_ok-extend_from_slice.ensures.items in
     let trailer-is = c.trailer-trailer.ensures ∙ ap (λ (l : List ℕ). trailer l) c.as_slice.ensures.value in
-    written front body c.extend_from_slice-2.new.self.items c.extend_from_slice-3.new.self.items fields c.front_of-start.ensures.front (sym printed) made
-    (c.in_ok-extend_from_slice-3.ensures.items ∙ ap (λ (l : List ℕ). c.extend_from_slice-2.new.self.items ++ l) trailer-is)
+    written c.in_ok-text.text.items body c.extend_from_slice.new.self.items c.extend_from_slice-2.new.self.items fields c.in_ok-text.ensures (sym printed) made
+    (c.in_ok-extend_from_slice-2.ensures.items ∙ ap (λ (l : List ℕ). c.extend_from_slice.new.self.items ++ l) trailer-is)
