@@ -2,6 +2,7 @@ pub mod Heads
 pub mod Issued
 pub mod Keeping
 pub mod Longest
+pub mod Resent
 pub mod Undoing
 pub mod Written
 pub use Rattle.fix_framing.specs.fix_fields.Field

@@ -12,6 +12,7 @@ mod names;
 mod output;
 mod place;
 mod resend;
+mod resent_text;
 mod stamped;
 mod undo_bodies;
 

@@ -184,14 +184,14 @@ pub(crate) fn push_issue(
 }
 
 /// Whether frames of this kind are issued by the application.
-fn is_issued(kind: Kind) -> bool
+pub(crate) fn is_issued(kind: Kind) -> bool
     ensures { result ≡ is_issued_kind kind }
 {
     matches!(kind, Kind::Report | Kind::CancelReject)
 }
 
 /// MsgType (35).
-fn kind_letter(kind: Kind) -> u8
+pub(crate) fn kind_letter(kind: Kind) -> u8
     ensures text { text_of_kind kind ≡ result ∷ [] }
     ensures value { IsValue (result ∷ []) }
 {

@@ -1,22 +1,24 @@
 //! Numbers sent again: bodies with their numbers, and one gap fill for each run of others.
 
 ghost use Rattle.std.specs.Prelude.{◌≡◌, ◌<◌, ◌≤◌, ◌+◌, ◌^◌, ◌∷◌, ◌++◌, [], length, map, OnOk, IfOk, IfSome, codes};
+ghost use Rattle.std.specs.Prelude.{Some};
 ghost use Rattle.std.specs.Prelude.{slice_range};
 ghost use Rattle.fix_framing.specs.fix_fields.Field.{field};
 ghost use Rattle.fix_framing.specs.fix_fields.Printed.{PrintsFields, fields_in};
 ghost use Rattle.session_reading.specs.session_law.Messages.{number_as_field};
-ghost use Rattle.session_reading.specs.session_law.Frames.{frame_bytes};
 ghost use Rattle.session_reading.specs.session_law.Session as law;
 ghost use Rattle.session_writing.specs.Keeping.{ArePlaces, slots_at};
 ghost use Rattle.session_writing.specs.Heads.{frame_with};
+ghost use Rattle.session_writing.specs.Resent.{HeadsFit};
 ghost use Rattle.session_writing.specs.Written.{told_bytes, told_frames};
 
 use crate::head::FrameHead;
 use crate::names::Names;
 use crate::output::{SessionOut, frame_of_body};
 use crate::place::KeptPlace;
+use crate::resent_text::ResentText;
 use crate::stamped::Stamped;
-use fix_framing::PrintedFields;
+use fix_framing::{PrintedFields, frame_of_text};
 use session_reading::Kind;
 use std::alloc::{AllocError, Global};
 
@@ -36,39 +38,62 @@ pub(crate) fn append_resent(
         ++ told_frames names.now.gate names.now.client (law.resent at first first (slots_at text.now places.now))) }
 {
     let now = Stamped::of(at);
-    let mut sent = Stamped::of(at);
+    let mut resent = ResentText::new(alloc, names, &now)?;
     let mut start = first;
     let mut number = first;
     for place in places {
-        if let KeptPlace::Body {
-            kind,
-            start: from,
-            end,
-            at: issued,
-        } = *place
-        {
-            append_gap(alloc, outs, names, start, number, &now)?;
-            let head = FrameHead {
-                number,
+        match *place {
+            KeptPlace::Filled => {}
+            KeptPlace::Body {
                 kind,
-                at,
-                first: Some(issued),
-            };
-            sent.move_to(issued);
-            append_frame(
-                alloc,
-                outs,
-                names,
-                head,
-                &now,
-                &sent,
-                part_of(text, from, end),
-            )?;
-            start = number + 1;
+                start: from,
+                end,
+                at: issued,
+            } => {
+                append_gap(alloc, outs, names, start, number, &now)?;
+                let body = part_of(text, from, end);
+                append_again(
+                    alloc,
+                    outs,
+                    names,
+                    &mut resent,
+                    number,
+                    kind,
+                    &now,
+                    issued,
+                    body,
+                )?;
+                start = number + 1;
+            }
         }
         number += 1;
     }
     append_gap(alloc, outs, names, start, number, &now)
+}
+
+/// Appends a body that is sent again at a moment, and was first sent at another.
+fn append_again(
+    alloc: Global,
+    outs: &mut Vec<SessionOut>,
+    names: &Names,
+    resent: &mut ResentText,
+    number: u64,
+    kind: Kind,
+    now: &Stamped,
+    issued: u64,
+    body: &[u8],
+) -> Result<(), AllocError>
+    requires heads { HeadsFit resent.old names.now.gate names.now.client now.now }
+    requires body { PrintsFields body.now }
+    ensures told { OnOk result (map told_bytes outs.new.items ≡ map told_bytes outs.old.items
+        ++ told_frames names.now.gate names.now.client (frame_with
+        (record { number = number; kind = kind; at = now.now; first = Some issued }) (fields_in body.now) ∷ [])) }
+    ensures heads { OnOk result (HeadsFit resent.new names.now.gate names.now.client now.now) }
+{
+    resent.print(names, number, kind, now, issued, body)?;
+    let bytes = frame_of_text(alloc, resent.frame().text())?;
+    outs.push(SessionOut::Frame(bytes))?;
+    Ok(())
 }
 
 /// Appends a gap fill from a number to before another, where there are numbers between, sent at this moment.
