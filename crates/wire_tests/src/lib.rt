@@ -1,5 +1,5 @@
 //! Tests of the public calls of `ouch_codec`, of `wire_law`'s tests on bytes, of `soup_packets`, `fix_framing` and
-//! `fix_stamp`, and of `Fields::first_fault`. Nothing else stands here.
+//! `fix_stamp`, of `Fields::first_fault`, and of numbers in `PrintedFields`. Nothing else stands here.
 //!
 //! Expected bytes are typed in from the layouts of OUCH 4.2, from SoupBinTCP 3.00, "Logical Packets", and from FIX 4.4,
 //! never taken from a run.
@@ -17,6 +17,8 @@ mod inbound;
 mod outbound;
 #[cfg(test)]
 mod packets;
+#[cfg(test)]
+mod printed;
 #[cfg(test)]
 mod sets;
 #[cfg(test)]
