@@ -15,7 +15,7 @@ start_fields kind gate client = field 35 (kind_text kind) ∷ name_fields gate c
 abbrev pub moment_fields : ℕ → ℕ → Message
 moment_fields now first = field 52 (stamp_text now) ∷ again_fields stamp_text (Some first)
 
--- what is printed is of the type and the first moment that stand beside it, between these two, sent again at this moment
+-- what is printed is of the type and the first moment that stand beside it, between these two, sent again now
 pub record HeadsFit (text : ResentText) (gate client : List ℕ) (now : ℕ) : Type 0 where
   pub front : text.front ≡ start_fields text.kind gate client
   pub moments : text.moments ≡ moment_fields now text.first
