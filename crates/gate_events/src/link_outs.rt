@@ -10,7 +10,7 @@ ghost use Rattle.gate_events.specs.Links.{outs_told_on, is_link_closed};
 use crate::batch::LinkOut;
 use gate_sessions::SessionOut;
 use short_list::ShortList;
-use soup_session::{PortOut, WholeWire};
+use soup_session::PortOut;
 use std::alloc::{AllocError, Global};
 
 /// What a client's session said, onto its link where there is one, and then these. Takes no memory where it said
@@ -121,19 +121,18 @@ fn write_port(
         ≡ map link_out_seen to.old.items ++ map (port_line link) (option_to_list out)) }
 {
     if let Some(out) = out {
-        to.push(alloc, port_line_of(alloc, link, out)?)?;
+        to.push(alloc, port_line_of(link, out)?)?;
     }
     Ok(())
 }
 
 /// One output of a port's session.
-fn port_line_of(alloc: Global, link: u64, out: PortOut) -> Result<LinkOut, AllocError>
+fn port_line_of(link: u64, out: PortOut) -> Result<LinkOut, AllocError>
     ensures { IfOk result (λ line. link_out_seen line ≡ port_line link out) }
 {
     match out {
         PortOut::Packet(packet) => {
-            let mut bytes = Vec::new(alloc);
-            packet.put(&mut bytes)?;
+            let bytes = packet.into_bytes()?;
             Ok(LinkOut::Write { link, bytes })
         }
         PortOut::Close => Ok(LinkOut::Close { link }),

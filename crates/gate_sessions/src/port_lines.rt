@@ -155,11 +155,13 @@ impl Ports {
     }
 }
 
-/// The payload of a message's packet. One growth.
+/// The payload of a message's packet, with room for what stands in front of it there. One growth.
 fn payload_of(alloc: Global, message: &Inbound) -> Result<Payload, AllocError>
     ensures { IfOk result (λ payload. payload ≡ inbound_bytes message.now) }
 {
-    let mut bytes = vec![in alloc; 0; message.len()]?;
+    let size = message.len();
+    let mut bytes = Vec::with_capacity(alloc, size + Packet::HEAD)?;
+    bytes.resize(size, 0)?;
     message.put(bytes.as_mut_slice());
     Ok(Payload::from_vec(bytes))
 }

@@ -1,6 +1,6 @@
 ghost use Rattle.std.specs.Prelude.{◌≤◌};
 
-use soup_packets::{Packet, PacketFault, Packets, WholeWire};
+use soup_packets::{Packet, PacketFault, Packets, Payload, WholeWire};
 use std::alloc::{AllocError, Global};
 use std::process::Abort;
 use std::test::Fail;
@@ -247,4 +247,23 @@ fn is_empty(packets: &mut Packets) -> bool {
 
 fn is_none_fed(fed: Result<Vec<Packet>, PacketFault>) -> bool {
     matches!(fed, Err(PacketFault::Empty))
+}
+
+/// A packet becomes its bytes, be there room for them in its payload's memory or not.
+#[test]
+fn a_packet_becomes_its_bytes(rt: HostRuntime) -> Result<(), Fail> {
+    let alloc = rt.alloc();
+    let full = Packet {
+        kind: b'S',
+        payload: Payload::of(alloc, b"abc")?,
+    };
+    assert_eq!(rt; full.into_bytes()?.as_slice(), b"\x00\x04Sabc".as_slice());
+    let mut roomy = Vec::with_capacity(alloc, 16)?;
+    roomy.extend_from_slice(b"hi")?;
+    let roomy = Packet {
+        kind: b'+',
+        payload: Payload::from_vec(roomy),
+    };
+    assert_eq!(rt; roomy.into_bytes()?.as_slice(), b"\x00\x03+hi".as_slice());
+    Ok(())
 }
