@@ -45,7 +45,24 @@ impl<'a, K: DeskName, R: Wait + time::Clock, S: BuildHasher + Drop> Clock
         self.last
     }
 
+    /// Until the bell rings, at the latest until the system's time is next a multiple of `longest`: writers that wake
+    /// at one moment take less of a processor than writers that wake one after another.
     fn pause(&mut self) {
-        self.shared.nap(self.rt, self.outlet, self.longest);
+        let most = match self.rt.since_1970() {
+            Ok(since) => until_multiple(since, self.longest),
+            Err(_) => self.longest,
+        };
+        self.shared.nap(self.rt, self.outlet, most);
     }
+}
+
+/// How long it is from this moment until the next multiple of so long within its second: never longer than that, and
+/// just that where it is a second or more.
+fn until_multiple(moment: Duration, of: Duration) -> Duration {
+    let nanos = of.subsec_nanos();
+    if of.as_secs() != 0 || nanos == 0 {
+        return of;
+    }
+    let left = nanos - moment.subsec_nanos() % nanos;
+    Duration::from_nanos(u64::from(left))
 }
