@@ -16,7 +16,7 @@ pub struct Side {
     ports: usize,
     seats: Vec<Seat>,
     ways: Vec<Way>,
-    /// A bit for each way into whose ring a list went since they were taken, by position.
+    /// A bit for each way that isn't to wait for a list that went into its ring since they were taken, by position.
     rung: u128,
 }
 
@@ -152,12 +152,13 @@ impl Side {
         } = said;
         let client = place_of_client(self.clients, client_number(client));
         let port = place_of_port(self.clients, self.ports, port_number(port));
-        self.rung |= bit(client, &client_told) | bit(port, &port_told);
+        self.rung |= prompt_bit(bit(client, &client_told), bit(port, &port_told));
         send_at(&mut self.ways, client, client_told);
         send_at(&mut self.ways, port, port_told);
     }
 
-    /// The ways to which something was told since the last call: a bit for each, by position.
+    /// The ways to which something was told since the last call that isn't to wait: a bit for each, by position. A
+    /// client that is told something beside a port may wait: for what it is told next, or until its writer looks.
     pub fn take_rung(&mut self) -> u128
         ensures { self.new ≡ self.old }
     {
@@ -188,4 +189,9 @@ fn bit(place: Option<usize>, told: &Told) -> u128 {
         Some(place) if place < 128 && !told.as_slice().is_empty() => 1u128 << place,
         _ => 0,
     }
+}
+
+/// The bit of the port where one is told something, else that of the client.
+fn prompt_bit(client: u128, port: u128) -> u128 {
+    if port == 0 { client } else { port }
 }

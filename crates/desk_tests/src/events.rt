@@ -37,7 +37,7 @@ pub fn test_request(alloc: Global, number: u32) -> Result<Event, Fail> {
 }
 
 /// A message of it, of this type and number.
-fn message(alloc: Global, kind: &[u8], number: u32, rest: &[u8]) -> Result<Event, Fail> {
+pub fn message(alloc: Global, kind: &[u8], number: u32, rest: &[u8]) -> Result<Event, Fail> {
     let frame = frame_of(alloc, kind, number, rest)?;
     Ok(Event::ClientMessage {
         client: ClientNumber::new(1),

@@ -2,6 +2,8 @@
 #![tactic(auto)]
 
 #[cfg(test)]
+mod bell_of_port;
+#[cfg(test)]
 mod bells;
 #[cfg(test)]
 mod ends;
