@@ -1,6 +1,7 @@
 //! Records written.
 
-ghost use Rattle.std.specs.Prelude.{◌≡◌, ◌+◌, ◌<◌, ◌^◌, ◌++◌, List, ℕ, length, OnOk, OnErr};
+ghost use Rattle.std.specs.Prelude.{◌≡◌, ◌+◌, ◌<◌, ◌≤◌, ◌^◌, ◌++◌, List, ℕ, length, vec_len, vec_capacity};
+ghost use Rattle.std.specs.Prelude.{OnOk, OnErr};
 ghost use Rattle.journal_pages.specs.Record.{payload_limit, record_bytes};
 
 use crate::kind::RecordKind;
@@ -63,7 +64,21 @@ fn append_pieces(
     ensures err { OnErr result (out.new.items ≡ out.old.items) }
 {
     out.reserve(head.len() + front.len() + back.len())?;
-    out.extend_from_slice(head)?;
-    out.extend_from_slice(front)?;
-    out.extend_from_slice(back)
+    put_piece(out, head);
+    put_piece(out, front);
+    put_piece(out, back);
+    Ok(())
+}
+
+/// Appends a piece for which there is room. Most records have one piece or none behind their head: what is empty isn't
+/// copied.
+fn put_piece(out: &mut Vec<u8>, piece: &[u8])
+    requires room { vec_len out.old + length piece.now ≤ vec_capacity out.old }
+    ensures items { out.new.items ≡ out.old.items ++ piece.now }
+    ensures len { vec_len out.new ≡ vec_len out.old + length piece.now }
+    ensures capacity { vec_capacity out.old ≤ vec_capacity out.new }
+{
+    if !piece.is_empty() {
+        let _ = out.extend_from_slice(piece);
+    }
 }
