@@ -1,10 +1,10 @@
 -- Records behind pages, and pages cut back to what they were.
 use Rattle.std.proofs.Common.{◌≡◌, ◌≤◌, ℕ, zero, suc, ◌+◌, true, false, Bool, Some, List, [], ◌∷◌, ◌++◌, length, take, refl, sym, ap, ◌∙◌, arith, append-nil}
-use Rattle.std.specs.Prelude.{if◌then◌else◌, slice_get, Vec}
+use Rattle.std.specs.Prelude.{if◌then◌else◌, get_or, slice_get, slice_set, Vec}
 use Rattle.std.specs.declared.alloc.Global.{Global}
 use Rattle.std.proofs.lemmas.List.{length-take, map-append, take-append-le, take_at}
 use Rattle.journal_pages.specs.Record.{Record, record_bytes}
-use Rattle.journal_days.specs.Cut.{cut_back, has_room, last_cut, last_size, last_with, page_with, record_text, texts, with_records, with_text}
+use Rattle.journal_days.specs.Cut.{cut_back, has_room, last_cut, last_has_room, last_size, last_with, page_with, record_text, texts, with_records, with_text}
 
 pub text-is : (r : Record) → record_bytes r ≡ record_text r
 unfolding record_text
@@ -45,6 +45,40 @@ with-room last text e = ap (λ b. if b then (last ++ text) ∷ [] else last ∷ 
 
 pub without-room : (last text : List ℕ) → has_room last (length text) ≡ false → last_with last text ≡ last ∷ page_with text ∷ []
 without-room last text e = ap (λ b. if b then (last ++ text) ∷ [] else last ∷ page_with text ∷ []) e
+
+-- ---- one record more
+
+pub no-room : (pages : List (List ℕ)) (text : List ℕ) → last_has_room pages (length text) ≡ false → with_text pages text ≡ pages ++ page_with text ∷ []
+no-room [] text e = refl
+no-room (p ∷ []) text e = without-room p text e
+no-room (p ∷ q ∷ pages) text e = ap (λ (ps : List (List ℕ)). p ∷ ps) (no-room (q ∷ pages) text e)
+
+pub room-some : (pages : List (Vec ℕ Global)) (size : ℕ) → last_has_room (texts pages) size ≡ true → 1 ≤ length pages
+room-some [] size e = let no : ⊥ = cc in absurd no
+room-some (p ∷ pages) size e = omega arith
+
+pub last-room : (pages : List (Vec ℕ Global)) (last : Vec ℕ Global) (size i : ℕ) → i + 1 ≡ length pages → Some last ≡ slice_get pages i → last_has_room (texts pages) size ≡ has_room last.items size
+last-room [] last size i few e = absurd (omega (arith, few))
+last-room (p ∷ []) last size zero few e = let same : p ≡ last = cc in ap (λ (v : Vec ℕ Global). has_room v.items size) same
+last-room (p ∷ []) last size (suc i) few e = absurd (omega (arith, few))
+last-room (p ∷ q ∷ pages) last size zero few e = absurd (omega (arith, few))
+last-room (p ∷ q ∷ pages) last size (suc i) few e = last-room (q ∷ pages) last size i (omega (arith, few)) e
+
+-- the last page with a text behind it
+pub last-set : (pages : List (Vec ℕ Global)) (i : ℕ) (old new : Vec ℕ Global) (text : List ℕ) → i + 1 ≡ length pages → old ≡ get_or pages i old → new.items ≡ old.items ++ text
+    → last_has_room (texts pages) (length text) ≡ true → texts (slice_set pages i new) ≡ with_text (texts pages) text
+last-set [] i old new text few at more room = absurd (omega (arith, few))
+last-set (p ∷ []) zero old new text few at more room =
+    ap (λ (l : List ℕ). l ∷ []) (more ∙ ap (λ (v : Vec ℕ Global). v.items ++ text) at) ∙ sym (with-room p.items text room)
+last-set (p ∷ []) (suc i) old new text few at more room = absurd (omega (arith, few))
+last-set (p ∷ q ∷ pages) zero old new text few at more room = absurd (omega (arith, few))
+last-set (p ∷ q ∷ pages) (suc i) old new text few at more room =
+    ap (λ (ps : List (List ℕ)). p.items ∷ ps) (last-set (q ∷ pages) i old new text (omega (arith, few)) at more room)
+
+pub set-same : (pages : List (Vec ℕ Global)) (i : ℕ) (old new : Vec ℕ Global) → old ≡ get_or pages i old → new.items ≡ old.items → texts (slice_set pages i new) ≡ texts pages
+set-same [] i old new at same = refl
+set-same (p ∷ pages) zero old new at same = ap (λ (l : List ℕ). l ∷ texts pages) (same ∙ ap (λ (v : Vec ℕ Global). v.items) at)
+set-same (p ∷ pages) (suc i) old new at same = ap (λ (ps : List (List ℕ)). p.items ∷ ps) (set-same pages i old new at same)
 
 -- ---- what was marked comes back
 

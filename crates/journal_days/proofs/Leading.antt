@@ -1,6 +1,6 @@
 -- Pages that lead from a place to a place: each is a page, and its records stand behind those before. Records that may
 -- stand behind them lead further.
-use Rattle.std.proofs.Common.{◌≡◌, ◌≤◌, ℕ, true, false, Bool, Option, Some, None, List, [], ◌∷◌, ◌++◌, length, drop, refl, sym, ap, subst, ◌∙◌, arith, append_assoc, append-nil, length-append}
+use Rattle.std.proofs.Common.{◌≡◌, ◌≤◌, ◌+◌, ℕ, true, false, Bool, Option, Some, None, List, [], ◌∷◌, ◌++◌, length, drop, refl, sym, ap, subst, ◌∙◌, arith, append_assoc, append-nil, length-append}
 use Rattle.std.proofs.lemmas.List.{drop-append-le, take-append-le}
 use Rattle.std.specs.Prelude.{is_none, if◌then◌else◌}
 use Rattle.journal_pages.specs.declared.fault.PageFault.{PageFault}
@@ -32,6 +32,14 @@ sized r = ap length (sym (text-is r)) ∙ counted r
   where
     counted : (r : Record) → length (record_bytes r) ≡ size_of r
     counted r = omega arith
+
+-- as many bytes as were counted
+pub counted : (r : Record) (front back : List ℕ) → r.payload ≡ front ++ back → length (record_text r) ≡ 23 + length front + length back
+counted r front back is =
+    let all = sized r in
+    let size = ap length is in
+    let both = length-append front back in
+    omega (arith, all, size, both)
 
 text-stands : (r : Record) → IsWritable r → front (record_text r) ≡ Stands r
 text-stands r good = ap front (sym (text-is r)) ∙ written-front r good.source good.link good.at good.sound

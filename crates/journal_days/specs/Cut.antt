@@ -1,5 +1,5 @@
 -- How records are cut into pages, and pages cut back. The format is the gateway's own, version 1.
-use Rattle.std.specs.Prelude.{◌≡◌, ℕ, ◌+◌, Bool, List, [], ◌∷◌, ◌++◌, length, take, map, nat_le, if◌then◌else◌, Vec}
+use Rattle.std.specs.Prelude.{◌≡◌, ℕ, ◌+◌, Bool, false, List, [], ◌∷◌, ◌++◌, length, take, map, nat_le, if◌then◌else◌, Vec}
 use Rattle.std.specs.declared.alloc.Global.{Global}
 use Rattle.journal_pages.specs.Page.{page_head}
 use Rattle.journal_pages.specs.Record.{Record, record_bytes}
@@ -21,6 +21,12 @@ page_limit = 65_536
 -- a page has room for a record of so many bytes
 abbrev pub has_room : List ℕ → ℕ → Bool
 has_room page size = nat_le (length page + size) page_limit
+
+-- the last page has room for one
+abbrev pub last_has_room : List (List ℕ) → ℕ → Bool
+last_has_room [] size = false
+last_has_room (page ∷ []) size = has_room page size
+last_has_room (page ∷ next ∷ pages) size = last_has_room (next ∷ pages) size
 
 -- a page with one record
 abbrev pub page_with : List ℕ → List ℕ

@@ -1,7 +1,6 @@
 //! Pages that records are written into.
 
-ghost use Rattle.std.specs.Prelude.{◌≡◌, ◌+◌, ◌<◌, ◌++◌, ◌∷◌, [], List, length, vec_len, vec_capacity};
-ghost use Rattle.std.specs.Prelude.{IfOk, OnOk, OnErr};
+ghost use Rattle.std.specs.Prelude.{◌≡◌, ◌+◌, ◌<◌, ◌≤◌, ◌++◌, ◌∷◌, [], List, length, true, IfOk, OnOk, OnErr};
 ghost use Rattle.journal_pages.specs.Record.{Record, payload_limit};
 ghost use Rattle.journal_pages.specs.Seen.{record_of};
 ghost use Rattle.journal_days.specs.Cut as spec;
@@ -134,13 +133,19 @@ fn append_record(
     ensures err { OnErr result (texts pages.new.items ≡ texts pages.old.items) }
 {
     let size = HEAD + front.len() + back.len();
-    match pages.pop() {
-        None => begin_page(pages, head, front, back),
-        Some(last) if has_room(&last, size) => append_behind(pages, last, head, front, back),
-        Some(last) => {
-            pages.push_reserved(last);
-            begin_page(pages, head, front, back)
-        }
+    if !last_has_room(pages.as_slice(), size) {
+        return begin_page(pages, head, front, back);
+    }
+    append_last(pages, head, front, back)
+}
+
+/// Whether a record of this size goes into the last page.
+fn last_has_room(pages: &[Vec<u8>], size: usize) -> bool
+    ensures { result ≡ spec.last_has_room (texts pages.now) size }
+{
+    match pages.last() {
+        Some(last) => has_room(last.as_slice(), size),
+        None => false,
     }
 }
 
@@ -151,23 +156,22 @@ fn has_room(page: &[u8], size: usize) -> bool
     size <= PAGE_LIMIT && page.len() <= PAGE_LIMIT - size
 }
 
-/// One record more in a page that was taken from behind these, and is put back there.
-fn append_behind(
+/// One record more in the last page.
+fn append_last(
     pages: &mut Vec<Vec<u8>>,
-    mut last: Vec<u8>,
     head: &RecordHead,
     front: &[u8],
     back: &[u8],
 ) -> Result<(), AllocError>
-    requires room { vec_len pages.old < vec_capacity pages.old }
+    requires some { 1 ≤ length pages.old.items }
     requires limit { length front.now + length back.now < payload_limit }
-    ensures ok { OnOk result (texts pages.new.items ≡ texts pages.old.items
-        ++ (last.items ++ record_text (record_of head.now (front.now ++ back.now))) ∷ []) }
-    ensures err { OnErr result (texts pages.new.items ≡ texts pages.old.items ++ last.items ∷ []) }
+    requires room { spec.last_has_room (texts pages.old.items) (23 + length front.now + length back.now) ≡ true }
+    ensures ok { OnOk result (texts pages.new.items
+        ≡ with_text (texts pages.old.items) (record_text (record_of head.now (front.now ++ back.now)))) }
+    ensures err { OnErr result (texts pages.new.items ≡ texts pages.old.items) }
 {
-    let appended = append_text(&mut last, head, front, back);
-    pages.push_reserved(last);
-    appended
+    let last = pages.len() - 1;
+    append_text(&mut pages[last], head, front, back)
 }
 
 /// A new page with one record.
