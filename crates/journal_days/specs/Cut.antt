@@ -1,5 +1,6 @@
 -- How records are cut into pages, and pages cut back. The format is the gateway's own, version 1.
-use Rattle.std.specs.Prelude.{◌≡◌, ℕ, ◌+◌, Bool, false, List, [], ◌∷◌, ◌++◌, length, take, map, nat_le, if◌then◌else◌, Vec}
+use Rattle.std.specs.Prelude.{◌≡◌, ℕ, ◌+◌, Bool, false, List, [], ◌∷◌, ◌++◌, length, take, map, nat_le, if◌then◌else◌}
+use Rattle.std.specs.Prelude.{Vec}
 use Rattle.std.specs.declared.alloc.Global.{Global}
 use Rattle.journal_pages.specs.Page.{page_head}
 use Rattle.journal_pages.specs.Record.{Record, record_bytes}
