@@ -1,7 +1,7 @@
 -- What contracts see of the ends that the desk keeps: a seat gives the events of an inlet's ring, by a way lists go
 -- into an outlet's ring. (Own.)
-use Rattle.std.specs.Prelude.{◌≡◌, ◌≢◌, ℕ, ◌<◌, ◌≤◌, ◌⊎◌, Bool, true, false, Option, Some, slice_get, length, List, []}
-use Rattle.std.specs.Prelude.{◌∷◌, ◌++◌}
+use Rattle.std.specs.Prelude.{◌≡◌, ◌≢◌, ℕ, ◌+◌, ◌<◌, ◌≤◌, ◌⊎◌, Bool, true, false, Option, Some, slice_get, length, List}
+use Rattle.std.specs.Prelude.{[], ◌∷◌, ◌++◌}
 use mathlib.Core.List.{IsPrefix}
 use Rattle.gate_events.specs.gate_law.Events.{LinkOut}
 use Rattle.gate_events.specs.declared.event.Event.{Event}
@@ -41,12 +41,17 @@ abbrev pub WayLooked : WayState → WayState → Type 0
 WayLooked w v = (v.name ≡ w.name) × (v.sent ≡ w.sent) × (v.cut ≡ w.cut) × (w.free ≤ v.free)
 
 -- Lists were for a way. It took them, or it is cut and took none; it isn't cut by them where it knew of room, nor where
--- there were none.
+-- there were none. It knows of room for one list less at the worst.
 pub record WaySent (lists : List (List LinkOut)) (w v : WayState) : Type 0 where
   pub name : v.name ≡ w.name
   pub whole : v.cut ≡ false → (w.cut ≡ false) × (v.sent ≡ w.sent ++ lists)
   pub lost : v.cut ≡ true → v.sent ≡ w.sent
   pub stays : ((0 < w.free) ⊎ (lists ≡ [])) → v.cut ≡ w.cut
+  pub takes : w.free ≤ v.free + 1
+
+-- a way has room for so many lists, or is cut: then it needs none
+abbrev pub KnowsRoom : ℕ → WayState → Type 0
+KnowsRoom count w = (w.cut ≡ true) ⊎ (count ≤ w.free)
 
 -- each seat looked or stayed as it is
 pub record SeatsLooked (old new : List SeatState) : Type 0 where

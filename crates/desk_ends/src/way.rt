@@ -32,7 +32,7 @@ impl Model for Way {
 }
 
 impl Way {
-    ghost use Rattle.std.specs.Prelude.{◌≡◌, ◌≤◌, ◌↔◌, IsTrue, false};
+    ghost use Rattle.std.specs.Prelude.{◌≡◌, ◌≤◌, ◌↔◌, IsTrue, false, if◌then◌else◌};
     ghost use mathlib.Core.List.{IsPrefix};
     ghost use Rattle.rtrb.specs.Ring.{sent, known_free, received};
     ghost use Rattle.gate_events.specs.Sources.{unless_empty};
@@ -66,6 +66,19 @@ impl Way {
         ensures value { IsTrue result ↔ ((self.new.cut ≡ false) × (self.new.free ≤ kept_free)) }
     {
         !self.cut && self.producer.cached_slots() <= kept_free && self.producer.slots() <= kept_free
+    }
+
+    /// For how many lists more there is room, after a look into the ring: as many as can be counted where the way is
+    /// cut.
+    pub fn room(&mut self) -> usize
+        ensures looked { WayLooked self.old self.new }
+        ensures value { result ≡ (if self.new.cut then 18446744073709551615 else self.new.free) }
+    {
+        if self.cut {
+            usize::MAX
+        } else {
+            self.producer.slots()
+        }
     }
 
     /// A list goes into the ring, unless nothing is in it or the way is cut. Where there is no room for it, the way is

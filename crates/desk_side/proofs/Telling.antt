@@ -33,6 +33,7 @@ way-stays w = record {
   whole = λ isnt. (isnt, sym (append-nil w.sent));
   lost = λ so. refl;
   stays = λ either. refl;
+  takes = omega arith;
 }
 
 -- a way that isn't full has room, or is cut

@@ -1,7 +1,7 @@
 -- What contracts see of the desk's side of its rings, and what its calls make of it. (Own.)
 use Rattle.std.specs.Prelude.{◌≡◌, ◌≢◌, ℕ, ◌+◌, ◌<◌, ◌≤◌, ◌⊎◌, true, false, Option, Some, slice_get, length, List}
 use Rattle.gate_events.specs.Sources.{unless_empty}
-use Rattle.desk_ends.specs.Seats.{SeatState, WayState, WaySent}
+use Rattle.desk_ends.specs.Seats.{KnowsRoom, SeatState, WayState, WaySent}
 use Rattle.desk_side.specs.declared.said.Said.{Said}
 use Rattle.desk_side.specs.Said.{list_for}
 use Rattle.desk_side.specs.Places.{is_aimed, recipient_at, source_at}
@@ -36,6 +36,10 @@ pub record Tells (said : Said) (old new : List WayState) : Type 0 where
 abbrev pub HaveRoom : ℕ → Option ℕ → Option ℕ → List WayState → Type 0
 HaveRoom kept_free client port ways = (d : ℕ) (w : WayState) → slice_get ways d ≡ Some w
     → is_aimed client port w.name.to ≡ true → (w.cut ≡ true) ⊎ (kept_free < w.free)
+
+-- each way has room for so many lists, or is cut
+abbrev pub AllKnowRoom : ℕ → List WayState → Type 0
+AllKnowRoom count ways = (d : ℕ) (w : WayState) → slice_get ways d ≡ Some w → KnowsRoom count w
 
 -- one of them isn't cut and knows of none
 abbrev pub LacksRoom : ℕ → Option ℕ → Option ℕ → List WayState → Type 0

@@ -4,7 +4,7 @@ ghost use Rattle.std.specs.Prelude.{◌≡◌};
 
 use crate::places::{client_number, place_of_client, place_of_port, port_number};
 use crate::said::Said;
-use crate::slots::{is_empty_at, is_full_at, pop_at, send_at};
+use crate::slots::{is_empty_at, is_full_at, least_room, pop_at, send_at};
 use desk_ends::{DeskName, Finished, Seat, Way};
 use gate_events::{Event, Source, Told};
 use std::marker::Model;
@@ -16,6 +16,8 @@ pub struct Side {
     ports: usize,
     seats: Vec<Seat>,
     ways: Vec<Way>,
+    /// For so many lists at least each way that isn't cut knows room.
+    roomy: usize,
     /// A bit for each way that isn't to wait for a list that went into its ring since they were taken, by position.
     rung: u128,
 }
@@ -28,28 +30,30 @@ impl Drop for Side {
             ports: _,
             seats: _,
             ways: _,
+            roomy: _,
             rung: _,
         } = self;
     }
 }
 
 impl Model for Side {
-    ghost use Rattle.desk_side.specs.Side.{SideState, IsArranged};
+    ghost use Rattle.desk_side.specs.Side.{AllKnowRoom, SideState, IsArranged};
 
     ghost Value = { SideState };
 
     ghost view = { λ s. record { clients = s.clients; ports = s.ports; seats = s.seats.items; ways = s.ways.items } };
 
     ghost invariant = { λ s. IsArranged
-        (record { clients = s.clients; ports = s.ports; seats = s.seats.items; ways = s.ways.items }) };
+        (record { clients = s.clients; ports = s.ports; seats = s.seats.items; ways = s.ways.items })
+        × AllKnowRoom s.roomy s.ways.items };
 }
 
 impl Side {
-    ghost use Rattle.std.specs.Prelude.{◌≡◌, ◌<◌, ℕ, true, false, Some, length, map, slice_get};
+    ghost use Rattle.std.specs.Prelude.{◌≡◌, ◌<◌, ◌+◌, ℕ, true, false, Some, length, map, slice_get};
     ghost use Rattle.desk_ends.specs.Seats.{SeatState, SeatGave, SeatLooked, SeatsLooked, SeatsStayBut, WaysLooked};
     ghost use Rattle.desk_ends.specs.Seats.{IsBorneOut, seat_name, way_name};
     ghost use Rattle.desk_ends.specs.Ends.{inlet_of};
-    ghost use Rattle.desk_side.specs.Side.{ChangesAt, HaveRoom, IsArranged, LacksRoom, Tells};
+    ghost use Rattle.desk_side.specs.Side.{AllKnowRoom, ChangesAt, HaveRoom, IsArranged, LacksRoom, Tells};
 
     /// These seats and ways, for so many clients and ports.
     pub fn new(clients: usize, ports: usize, seats: Vec<Seat>, ways: Vec<Way>) -> Side
@@ -62,6 +66,7 @@ impl Side {
             ports,
             seats,
             ways,
+            roomy: 0,
             rung: 0,
         }
     }
@@ -138,6 +143,22 @@ impl Side {
         !is_full_at(&mut self.ways, port, kept_free)
     }
 
+    /// Whether lists for anybody would find room beside so many places that are kept free. It looks into the rings only
+    /// where it doesn't know: then it knows for as many lists more as the fullest ring has room for. Where one has no
+    /// room, `has_room` tells of those that a list is for.
+    pub fn has_room_everywhere(&mut self, kept_free: usize) -> bool
+        ensures seats { self.new.seats ≡ self.old.seats }
+        ensures ways { WaysLooked self.old.ways self.new.ways }
+        ensures counts { (self.new.clients ≡ self.old.clients) × (self.new.ports ≡ self.old.ports) }
+        ensures room { result ≡ true → AllKnowRoom (kept_free + 1) self.new.ways }
+    {
+        if self.roomy > kept_free {
+            return true;
+        }
+        self.roomy = least_room(&mut self.ways);
+        self.roomy > kept_free
+    }
+
     /// What was said goes into the rings of those whom it is for. Where there is no room for it, the way is cut.
     pub fn tell(&mut self, said: Said)
         ensures seats { self.new.seats ≡ self.old.seats }
@@ -152,6 +173,7 @@ impl Side {
         } = said;
         let client = place_of_client(self.clients, client_number(client));
         let port = place_of_port(self.clients, self.ports, port_number(port));
+        self.roomy = self.roomy.saturating_sub(1);
         self.rung |= prompt_bit(bit(client, &client_told), bit(port, &port_told));
         send_at(&mut self.ways, client, client_told);
         send_at(&mut self.ways, port, port_told);

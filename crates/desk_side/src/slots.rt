@@ -3,7 +3,7 @@
 ghost use Rattle.std.specs.Prelude.{◌≡◌, ◌<◌, ◌≤◌, ◌⊎◌, ℕ, true, false, Some, None, length, slice_get, IfSome};
 ghost use Rattle.gate_events.specs.Sources.{unless_empty};
 ghost use Rattle.desk_ends.specs.Seats.{SeatState, SeatGave, SeatLooked, WayState, WaySent, WaysLooked};
-ghost use Rattle.desk_side.specs.Side.{ChangesAt};
+ghost use Rattle.desk_side.specs.Side.{AllKnowRoom, ChangesAt};
 
 use desk_ends::{Seat, Way};
 use gate_events::{Event, Told};
@@ -41,6 +41,18 @@ pub(crate) fn is_full_at(ways: &mut Vec<Way>, place: Option<usize>, kept_free: u
         return false;
     };
     ways[place].is_full(kept_free)
+}
+
+/// For how many lists each way that isn't cut has room at least, after a look into each ring.
+pub(crate) fn least_room(ways: &mut Vec<Way>) -> usize
+    ensures looked { WaysLooked ways.old.items ways.new.items }
+    ensures room { AllKnowRoom result ways.new.items }
+{
+    let mut least = usize::MAX;
+    for place in 0..ways.len() {
+        least = least.min(ways[place].room());
+    }
+    least
 }
 
 /// A list goes into the ring of the way at this place, if there is one.

@@ -1,5 +1,5 @@
 -- A step that is made where there is room cuts no way.
-use Rattle.std.proofs.Common.{◌≡◌, ℕ, ◌<◌, Bool, true, false, [], ◌∷◌, Option, Some, None, slice_get, refl, ap, sym}
+use Rattle.std.proofs.Common.{◌≡◌, ℕ, ◌<◌, ◌+◌, Bool, true, false, [], ◌∷◌, Option, Some, None, slice_get, refl, ap, sym}
 use Rattle.std.proofs.Common.{◌∙◌, subst, inl, inr, ◌⊎◌, arith}
 use Rattle.gate_journal.specs.gate_law.Events as law
 use Rattle.gate_journal.specs.gate_law.Events.{is_the_number}
@@ -16,7 +16,7 @@ use Rattle.desk_side.proofs.desk_ends.Places.{get-same}
 use Rattle.desk_side.specs.declared.said.Said.{Said}
 use Rattle.desk_side.specs.Said.{IsSaid, list_for}
 use Rattle.desk_side.specs.Places.{is_aimed}
-use Rattle.desk_side.specs.Side.{HaveRoom}
+use Rattle.desk_side.specs.Side.{AllKnowRoom, HaveRoom}
 use Rattle.desk_steps.specs.Agreeing.{DeskState}
 use Rattle.desk_steps.specs.Turning.{SameCuts, StepsFirst}
 
@@ -48,6 +48,17 @@ way-stays kept said client port b w v is one two room sent true aim =
       | inr free ↦ sent.stays (inl (omega (arith, free)))
     ]
 way-stays kept said client port b w v is one two room sent false aim = sent.stays (inr (ap unless_empty (not-aimed w.name.to client port b said is one two aim)))
+
+-- nor where there is room everywhere
+pub cuts-nowhere : (kept k : ℕ) (s t : DeskState) (x : StepsFirst k s t) → AllKnowRoom (kept + 1) s.side.ways → SameCuts s.side.ways t.side.ways
+cuts-nowhere kept k s t x room d w v was now =
+    let r = x.ways.each d w was in
+    let lists = unless_empty (list_for w.name.to x.said) in
+    let sent = subst (WaySent lists w) (get-same t.side.ways d r.0 v r.1 now) r.2 in
+    elim (room d w was) [
+      | inl cut ↦ stays-cut lists w v sent cut v.cut refl
+      | inr free ↦ sent.stays (inl (omega (arith, free)))
+    ]
 
 first-is : (a b : SeatState) (e f : Event) → SeatGave e a b → slice_get a.known 0 ≡ Some f → e ≡ f
 first-is a b e f g first = cc (rw (g.2) at first)

@@ -1,6 +1,6 @@
 -- What a turn comes to, put together of what its calls did.
 use Rattle.std.proofs.Common.{◌≡◌, ℕ, zero, suc, ◌<◌, ◌+◌, true, false, List, [], ◌∷◌, Some, slice_get, length, refl}
-use Rattle.std.proofs.Common.{ap, sym, ◌∙◌, subst, arith}
+use Rattle.std.proofs.Common.{ap, sym, ◌∙◌, subst, arith, inl, inr}
 use Rattle.gate_journal.specs.gate_law.After.{lists}
 use Rattle.gate_events.specs.declared.event.Event.{Event}
 use Rattle.gate_events.specs.declared.source.Source.{Source}
@@ -13,7 +13,7 @@ use Rattle.desk_side.proofs.desk_ends.Naming.{ways-stay}
 use Rattle.desk_side.proofs.desk_ends.Places.{get-inside, get-same}
 use Rattle.desk_side.specs.declared.said.Said.{Said}
 use Rattle.desk_steps.specs.KeptFree.{kept_free}
-use Rattle.desk_side.specs.Side.{ChangesAt, HaveRoom, LacksRoom, SideState, Tells}
+use Rattle.desk_side.specs.Side.{AllKnowRoom, ChangesAt, HaveRoom, LacksRoom, SideState, Tells}
 use Rattle.desk_side.proofs.Moves.{ways-twice}
 use Rattle.desk_steps.specs.Recorded.{IsKeptStep, Recorded}
 use Rattle.desk_steps.specs.Agreeing.{DeskState}
@@ -34,6 +34,20 @@ first-some e a is = known-some e a.known is
     known-some : (e : Event) (xs : List Event) → slice_get xs 0 ≡ Some e → 0 < length xs
     known-some e [] is = absurd (cc is)
     known-some e (x ∷ xs) is = omega arith
+
+-- the first event at this place is of the inlet's source
+abbrev pub Owns : ℕ → List SeatState → Type 0
+Owns k seats = (a : SeatState) → slice_get seats k ≡ Some a → (f : Event) × (slice_get a.known 0 ≡ Some f) × (is_from a.name.source f ≡ true)
+
+pub owns-same : (k : ℕ) (old new : List SeatState) → new ≡ old → Owns k old → Owns k new
+owns-same k old new same all = subst (λ (z : List SeatState). Owns k z) (sym same) all
+
+same-first : (f e : Event) (a : SeatState) → IsFirst f a → IsFirst e a → f ≡ e
+same-first f e a p q = cc (p, q)
+
+-- two that are the first there are the same
+pub firsts-same : (k : ℕ) (seats : List SeatState) (e f : Event) → k < length seats → At k seats (IsFirst e) → At k seats (IsFirst f) → e ≡ f
+firsts-same k seats e f inside one two = let a = get-inside seats k inside in same-first e f a.0 (one a.0 a.1) (two a.0 a.1)
 
 -- seats that are the same
 pub at-same : (k : ℕ) (P : SeatState → Type 0) (old new : List SeatState) → new ≡ old → At k old P → At k new P
@@ -78,9 +92,6 @@ stepped k recorded after one two three e popped said inside own first step pops 
       ways = subst (λ (z : List WayState). Tells said z three.ways) ways tells;
       counts = (more.0 ∙ counts.0, more.1 ∙ counts.1);
     }
-  where
-    same-first : (f e : Event) (a : SeatState) → IsFirst f a → IsFirst e a → f ≡ e
-    same-first f e a p q = cc (p, q)
 
 -- the first event of a ring is dropped
 pub dropped : (k : ℕ) (recorded : Recorded) (one two : SideState) (e popped : Event) (source : Source) → k < length one.seats
@@ -101,21 +112,31 @@ dropped k recorded one two e popped source inside first is isnt pops ways counts
     }
 
 -- the first event of a ring waits
-pub waits : (k : ℕ) (recorded : Recorded) (side : SideState) (e : Event) (source : Source) (client port : _) (kept : ℕ) → k < length side.seats
-    → At k side.seats (IsFirst e) → At k side.seats (λ a. a.name.source ≡ source) → is_from source e ≡ true
+pub waits : (k : ℕ) (recorded : Recorded) (side : SideState) (e : Event) (client port : _) (kept : ℕ) → k < length side.seats
+    → At k side.seats (IsFirst e) → Owns k side.seats
     → client ≡ client_for recorded.settings (event_seen e) (lists recorded.settings (turns recorded.kept))
     → port ≡ port_for recorded.settings (event_seen e) → kept ≡ kept_free (event_seen e) → LacksRoom kept client port side.ways
     → Waits k (record { recorded = recorded; side = side })
-waits k recorded side e source client port kept inside first is mine clients ports frees held =
+waits k recorded side e client port kept inside first own clients ports frees held =
     let a = get-inside side.seats k inside in
+    let f = own a.0 a.1 in
+    let mine : f.0 ≡ e = same-first f.0 e a.0 f.1 (first a.0 a.1) in
     record {
       event = e;
       seat = a.0;
       there = a.1;
       first = first a.0 a.1;
-      own = subst (λ (z : Source). is_from z e ≡ true) (sym (is a.0 a.1)) mine;
+      own = subst (λ (z : Event). is_from a.0.name.source z ≡ true) mine f.2;
       held = rw (← clients, ← ports, ← frees) held;
     }
+
+-- where there is room everywhere there is for these
+pub everywhere : (kept : ℕ) (client port : _) (ways : List WayState) → AllKnowRoom (kept + 1) ways → HaveRoom kept client port ways
+everywhere kept client port ways all d w at aim =
+    elim (all d w at) [
+      | inl cut ↦ inl cut
+      | inr free ↦ inr (omega (arith, free))
+    ]
 
 -- it has room
 pub has-room : (k : ℕ) (recorded : Recorded) (side : SideState) (e : Event) (client port : _) (kept : ℕ) → k < length side.seats

@@ -1,10 +1,12 @@
 //! Turns of inlets, one event each.
 
-ghost use Rattle.std.specs.Prelude.{◌≡◌, ◌<◌, ◌^◌, true, Some, length, slice_get, IfOk, OnOk, OnErr};
+ghost use Rattle.std.specs.Prelude.{◌≡◌, ◌<◌, ◌^◌, true, false, Some, length, slice_get, IfOk, OnOk, OnErr};
 ghost use Rattle.gate_events.specs.Sources.{is_from};
 ghost use Rattle.gate_events.specs.declared.event.Event.{Event};
-ghost use Rattle.desk_side.specs.desk_ends.Seats.{SeatState};
-ghost use Rattle.desk_steps.specs.Turning.{Does, RoundIsRefused, Looks, Rounds, StepsFirst};
+ghost use Rattle.desk_side.specs.desk_ends.Seats.{SeatState, WaysLooked};
+ghost use Rattle.desk_steps.specs.Agreeing.{DeskState};
+ghost use Rattle.desk_steps.specs.Turning.{Does, HasRoom, RoundIsRefused, Looks, Rounds, SameCounts, SameCuts};
+ghost use Rattle.desk_steps.specs.Turning.{StepsFirst, Waits};
 
 use crate::keeping_free::places_kept_free;
 use crate::recorded::RecordedCore;
@@ -34,6 +36,33 @@ pub(crate) fn step_front<S: BuildHasher + Drop>(
     Ok(())
 }
 
+/// Whether the first event of an inlet's ring has room: more places than it leaves free in the ring of each to whom its
+/// batch may tell something. Whom that is is asked only where some ring has no room: a market's packet is read for it.
+fn first_has_room<S: BuildHasher + Drop>(
+    recorded: &RecordedCore<S>,
+    side: &mut Side,
+    place: usize,
+) -> bool
+    requires inside { place < length side.old.seats }
+    requires own { (a : SeatState) → slice_get side.old.seats place ≡ Some a
+        → (e : Event) × (slice_get a.known 0 ≡ Some e) × (is_from a.name.source e ≡ true) }
+    ensures seats { side.new.seats ≡ side.old.seats }
+    ensures ways { WaysLooked side.old.ways side.new.ways }
+    ensures counts { SameCounts side.old side.new }
+    ensures room { result ≡ true → HasRoom place (record { recorded = recorded.now; side = side.new }) }
+    ensures cuts { result ≡ true → (t : DeskState)
+        → StepsFirst place (record { recorded = recorded.now; side = side.new }) t
+        → SameCuts side.new.ways t.side.ways }
+    ensures held { result ≡ false → Waits place (record { recorded = recorded.now; side = side.new }) }
+{
+    let kept_free = places_kept_free(side.front(place));
+    if side.has_room_everywhere(kept_free) {
+        return true;
+    }
+    let targets = recorded.targets(side.front(place));
+    side.has_room(targets.client, targets.port, kept_free)
+}
+
 /// The turn of an inlet: its first event is stepped, unless it has to wait. `AllocError` leaves it where it was.
 pub(crate) fn turn_at<S: BuildHasher + Drop>(
     recorded: &mut RecordedCore<S>,
@@ -56,9 +85,7 @@ pub(crate) fn turn_at<S: BuildHasher + Drop>(
         let _ = side.pop(place);
         return Ok(Did::Dropped);
     }
-    let targets = recorded.targets(event);
-    let kept_free = places_kept_free(event);
-    if !side.has_room(targets.client, targets.port, kept_free) {
+    if !first_has_room(recorded, side, place) {
         return Ok(Did::Held);
     }
     step_front(recorded, side, alloc, place)?;

@@ -3,6 +3,7 @@ use Rattle.std.specs.Prelude.{not}
 use Rattle.desk_side.specs.Places.{client_place, port_place}
 use Rattle.desk_side.proofs.Arranging.{ways-arranged}
 use Rattle.desk_side.proofs.Moves.{ways-twice}
+use Rattle.desk_side.proofs.Roomy.{ways-looked-room}
 use Rattle.desk_side.proofs.Telling.{client-held, have-room, port-held}
 use Rattle.desk_side.proofs.side.Side.has_room.Goals as goal
 
@@ -15,13 +16,15 @@ not-false true h = refl
 not-false false h = absurd (cc h)
 
 pub invariant_of-self : goal.invariant_of-self
-invariant_of-self c =
-    ways-arranged c.self.inside.clients c.self.inside.ports c.self.inside.seats.items c.self.inside.ways.items c.is_full_at.new.ways.items c.self.invariant
-    c.is_full_at.ensures.looked.count (λ d w at. let r = c.is_full_at.ensures.looked.each d w at in (r.0, r.1, r.2.0))
+invariant_of-self c = (
+  ways-arranged c.self.inside.clients c.self.inside.ports c.self.inside.seats.items c.self.inside.ways.items c.is_full_at.new.ways.items c.self.invariant.0
+      c.is_full_at.ensures.looked.count (λ d w at. let r = c.is_full_at.ensures.looked.each d w at in (r.0, r.1, r.2.0)),
+  ways-looked-room c.self.inside.roomy c.self.inside.ways.items c.is_full_at.new.ways.items c.is_full_at.ensures.looked c.self.invariant.1,
+)
 
 pub returns-then-is_full_at-clause-full : goal.returns-then-is_full_at-clause-full
 returns-then-is_full_at-clause-full c isnt =
-    let new = ways-arranged c.self.inside.clients c.self.inside.ports c.self.inside.seats.items c.self.inside.ways.items c.is_full_at.new.ways.items c.self.invariant
+    let new = ways-arranged c.self.inside.clients c.self.inside.ports c.self.inside.seats.items c.self.inside.ways.items c.is_full_at.new.ways.items c.self.invariant.0
     c.is_full_at.ensures.looked.count (λ d w at. let r = c.is_full_at.ensures.looked.each d w at in (r.0, r.1, r.2.0)) in
     let full = c.is_full_at.ensures.full c.if-is_full_at.true in
     let place : client_place c.self.inside.clients c.args.client ≡ Some full.0 = sym c.place_of_client-client.ensures ∙ full.2 in
@@ -29,14 +32,16 @@ returns-then-is_full_at-clause-full c isnt =
 
 pub invariant_of-self-2 : goal.invariant_of-self-2
 invariant_of-self-2 c =
-    let looked = ways-twice c.self.inside.ways.items c.is_full_at.new.ways.items c.is_full_at-2.new.ways.items c.is_full_at.ensures.looked c.is_full_at-2.ensures.looked in
-    ways-arranged c.self.inside.clients c.self.inside.ports c.self.inside.seats.items c.self.inside.ways.items c.is_full_at-2.new.ways.items c.self.invariant
-    looked.count (λ d w at. let r = looked.each d w at in (r.0, r.1, r.2.0))
+    let looked = ways-twice c.self.inside.ways.items c.is_full_at.new.ways.items c.is_full_at-2.new.ways.items c.is_full_at.ensures.looked c.is_full_at-2.ensures.looked in (
+      ways-arranged c.self.inside.clients c.self.inside.ports c.self.inside.seats.items c.self.inside.ways.items c.is_full_at-2.new.ways.items c.self.invariant.0
+          looked.count (λ d w at. let r = looked.each d w at in (r.0, r.1, r.2.0)),
+      ways-looked-room c.self.inside.roomy c.self.inside.ways.items c.is_full_at-2.new.ways.items looked c.self.invariant.1,
+    )
 
 pub returns-clause-room : goal.returns-clause-room
 returns-clause-room c is =
     let looked = ways-twice c.self.inside.ways.items c.is_full_at.new.ways.items c.is_full_at-2.new.ways.items c.is_full_at.ensures.looked c.is_full_at-2.ensures.looked in
-    let new = ways-arranged c.self.inside.clients c.self.inside.ports c.self.inside.seats.items c.self.inside.ways.items c.is_full_at-2.new.ways.items c.self.invariant
+    let new = ways-arranged c.self.inside.clients c.self.inside.ports c.self.inside.seats.items c.self.inside.ways.items c.is_full_at-2.new.ways.items c.self.invariant.0
     looked.count (λ d w at. let r = looked.each d w at in (r.0, r.1, r.2.0)) in
     have-room c.args.kept_free c.self.inside.clients c.self.inside.ports c.args.client c.args.port c.is_full_at-2.new.ways.items new.recipients new.way_count
     c.is_full_at.new.ways.items c.is_full_at-2.ensures.looked
@@ -46,7 +51,7 @@ returns-clause-room c is =
 pub returns-clause-full : goal.returns-clause-full
 returns-clause-full c is =
     let looked = ways-twice c.self.inside.ways.items c.is_full_at.new.ways.items c.is_full_at-2.new.ways.items c.is_full_at.ensures.looked c.is_full_at-2.ensures.looked in
-    let new = ways-arranged c.self.inside.clients c.self.inside.ports c.self.inside.seats.items c.self.inside.ways.items c.is_full_at-2.new.ways.items c.self.invariant
+    let new = ways-arranged c.self.inside.clients c.self.inside.ports c.self.inside.seats.items c.self.inside.ways.items c.is_full_at-2.new.ways.items c.self.invariant.0
     looked.count (λ d w at. let r = looked.each d w at in (r.0, r.1, r.2.0)) in
     let full = c.is_full_at-2.ensures.full (not-false c.is_full_at-2.result is) in
     let place : port_place c.self.inside.clients c.self.inside.ports c.args.port ≡ Some full.0 = sym c.place_of_port-port.ensures ∙ full.2 in

@@ -1,0 +1,37 @@
+-- What ways know of room, after looks and lists.
+use Rattle.std.proofs.Common.{◌≡◌, ◌≤◌, ◌-◌, ℕ, Bool, true, false, List, refl, ◌∙◌, arith, inl, inr}
+use Rattle.desk_ends.specs.Seats.{KnowsRoom, WayState, WayLooked, WaySent, WaysLooked}
+use Rattle.gate_events.specs.Sources.{unless_empty}
+use Rattle.desk_side.specs.declared.said.Said.{Said}
+use Rattle.desk_side.specs.Said.{list_for}
+use Rattle.desk_side.specs.Side.{AllKnowRoom, Tells}
+use Rattle.desk_side.proofs.Moves.{come-to}
+
+pub less-room : (m n : ℕ) (w : WayState) → m ≤ n → KnowsRoom n w → KnowsRoom m w
+less-room m n w less (inl cut) = inl cut
+less-room m n w less (inr free) = inr (omega (arith, less, free))
+
+pub ways-less-room : (m n : ℕ) (ways : List WayState) → m ≤ n → AllKnowRoom n ways → AllKnowRoom m ways
+ways-less-room m n ways less all d w at = less-room m n w less (all d w at)
+
+pub looked-room : (n : ℕ) (w v : WayState) → WayLooked w v → KnowsRoom n w → KnowsRoom n v
+looked-room n w v l (inl cut) = inl (l.2 ∙ cut)
+looked-room n w v l (inr free) = inr (omega (arith, l.3, free))
+
+pub ways-looked-room : (n : ℕ) (old new : List WayState) → WaysLooked old new → AllKnowRoom n old → AllKnowRoom n new
+ways-looked-room n old new looked all d v at =
+    let w = come-to WayLooked old new looked.count looked.each d v at in
+    looked-room n w.0 v w.2 (all d w.0 w.1)
+
+sent-cut : (lists : _) (w v : WayState) → WaySent lists w v → w.cut ≡ true → (b : Bool) → v.cut ≡ b → v.cut ≡ true
+sent-cut lists w v sent cut true is = is
+sent-cut lists w v sent cut false is = absurd (cc (cut, (sent.whole is).0))
+
+sent-room : (n : ℕ) (lists : _) (w v : WayState) → WaySent lists w v → KnowsRoom n w → KnowsRoom (n - 1) v
+sent-room n lists w v sent (inl cut) = inl (sent-cut lists w v sent cut v.cut refl)
+sent-room n lists w v sent (inr free) = inr (omega (arith, sent.takes, free))
+
+pub told-room : (n : ℕ) (said : Said) (old new : List WayState) → Tells said old new → AllKnowRoom n old → AllKnowRoom (n - 1) new
+told-room n said old new tells all d v at =
+    let w = come-to (λ (a b : WayState). WaySent (unless_empty (list_for a.name.to said)) a b) old new tells.count tells.each d v at in
+    sent-room n (unless_empty (list_for w.0.name.to said)) w.0 v w.2 (all d w.0 w.1)
