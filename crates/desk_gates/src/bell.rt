@@ -45,24 +45,29 @@ impl<'a, K: DeskName, R: Wait + time::Clock, S: BuildHasher + Drop> Clock
         self.last
     }
 
-    /// Until the bell rings, at the latest until the system's time is next a multiple of `longest`: writers that wake
-    /// at one moment take less of a processor than writers that wake one after another.
+    /// Until the bell rings, at the latest until the outlet's own moment of the span that runs: a span is `longest`, and
+    /// outlets' moments follow one another in it.
     fn pause(&mut self) {
         let most = match self.rt.since_1970() {
-            Ok(since) => until_multiple(since, self.longest),
+            Ok(since) => until_own_moment(since, self.longest, self.outlet),
             Err(_) => self.longest,
         };
         self.shared.nap(self.rt, self.outlet, most);
     }
 }
 
-/// How long it is from this moment until the next multiple of so long within its second: never longer than that, and
-/// just that where it is a second or more.
-fn until_multiple(moment: Duration, of: Duration) -> Duration {
-    let nanos = of.subsec_nanos();
-    if of.as_secs() != 0 || nanos == 0 {
-        return of;
+/// As many outlets have moments of their own in a span: those of the most clients and ports.
+const MOMENTS: u32 = 80;
+
+/// How long it is until an outlet's next own moment, where spans are so long: never longer than that, and just that
+/// where it is a second or more.
+fn until_own_moment(now: Duration, span: Duration, outlet: usize) -> Duration {
+    let nanos = span.subsec_nanos();
+    if span.as_secs() != 0 || nanos == 0 {
+        return span;
     }
-    let left = nanos - moment.subsec_nanos() % nanos;
+    let place = (outlet % MOMENTS as usize) as u32;
+    let own = nanos / MOMENTS * place;
+    let left = nanos - (now.subsec_nanos() + own) % nanos;
     Duration::from_nanos(u64::from(left))
 }
