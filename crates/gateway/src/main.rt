@@ -18,6 +18,9 @@ use std::thread::Threads;
 use std::time::{Clock, Duration};
 use std::{env, fs};
 
+#[cfg(test)]
+mod missing_files;
+
 fn main(rt: HostRuntime) -> ExitCode {
     let words = match words_of(&rt) {
         Ok(words) => words,
