@@ -1,7 +1,8 @@
 -- Trades of an order that are marked.
-use Rattle.std.proofs.Common.{◌≡◌, ℕ, ◌+◌, ◌<◌, Bool, true, false, List, [], ◌∷◌, ◌++◌, length, map, take, drop, get_or, set, reverse, refl, sym, ap, ◌∙◌}
-use Rattle.std.proofs.lemmas.List.{get_or_default, map-append, reverse-append}
-use Rattle.std.specs.Prelude.{◌||◌}
+use Rattle.std.proofs.Common.{◌≡◌, ℕ, zero, suc, ◌+◌, ◌<◌, Bool, true, false, List, [], ◌∷◌, ◌++◌, length, map, take, drop, get_or, set, slice_get, reverse, refl, sym, ap, ◌∙◌}
+use Rattle.std.proofs.lemmas.List.{map-append, reverse-append}
+use Rattle.std.proofs.lemmas.Option.{slice_get-get_or}
+use Rattle.std.specs.Prelude.{◌||◌, Some}
 use Rattle.std.specs.List.{list_any}
 use Rattle.std.proofs.lemmas.List.Edits.{map_over_more}
 use Rattle.order_machine.specs.OrderRecord.{mark}
@@ -9,8 +10,17 @@ use Rattle.orders.specs.declared.order.ToldTrade.{ToldTrade}
 use Rattle.orders.specs.Seen.{told_marked, told_seen}
 
 -- a loop that changes each element
-pub changed-more : {X : Type 0} (f : X → X) (xs ys : List X) (i : ℕ) (d : X) → i < length xs → i < length ys → ys ≡ map f (take i xs) ++ drop i xs → set ys i (f (get_or ys i d)) ≡ map f (take (i + 1) xs) ++ drop (i + 1) xs
-changed-more f xs ys i d inside there so_far = map_over_more f xs ys i (get_or ys i d) inside so_far (get_or_default ys i d (get_or ys i d) there)
+pub changed-more : {X : Type 0} (f : X → X) (xs ys : List X) (i : ℕ) (y : X) → i < length xs → i < length ys → slice_get ys i ≡ Some y → ys ≡ map f (take i xs) ++ drop i xs
+    → set ys i (f y) ≡ map f (take (i + 1) xs) ++ drop (i + 1) xs
+changed-more f xs ys i y inside there at so_far =
+    let found : Some y ≡ Some (get_or ys i y) = sym at ∙ slice_get-get_or ys i y there in
+    map_over_more f xs ys i y inside so_far (cc)
+
+-- it has as many as there were
+pub as-many : {X : Type 0} (f : X → X) (xs : List X) (i : ℕ) → length (map f (take i xs) ++ drop i xs) ≡ length xs
+as-many f xs zero = refl
+as-many f [] (suc i) = refl
+as-many f (x ∷ xs) (suc i) = ap suc (as-many f xs i)
 
 pub map-reverse : {A B : Type 0} (f : A → B) (xs : List A) → map f (reverse xs) ≡ reverse (map f xs)
 map-reverse f [] = refl

@@ -16,10 +16,11 @@ use crate::earlier::{is_among, push_earlier};
 use crate::progress::Progress;
 use crate::requests::{Cancelling, Replacing};
 use crate::symbol::Symbol;
-use crate::trades::{make_room, mark};
+use crate::trades::mark;
 use fix_types::{Character, ClOrdId, NewOrder};
 use order_machine::Trade;
 use same_bytes::is_same_token;
+use short_list::ShortList;
 use std::alloc::{AllocError, Global};
 use std::marker::Model;
 use std::snapshot::Snapshot;
@@ -55,7 +56,7 @@ pub struct Order {
     /// ClOrdID (11) that it goes by: its own, or that of the last replace of it that was done.
     pub cl_ord_id: ClOrdId,
     /// Its trades, the oldest first: none while it waits.
-    pub trades: Vec<ToldTrade>,
+    pub trades: ShortList<ToldTrade>,
     /// The pending replace of it, and the pending cancel, which was accepted after it.
     pub replace: Option<Boxed<Replacing>>,
     pub cancel: Option<Boxed<Cancelling>>,
@@ -176,14 +177,14 @@ impl Order {
             order_capacity: message.order_capacity,
             first_total: progress.total,
             cl_ord_id: ClOrdId::copied(alloc, message.cl_ord_id.as_slice())?,
-            trades: Vec::new(alloc),
+            trades: ShortList::new(),
             replace: None,
             cancel: None,
         })
     }
 
     /// The order as a message of the market changes it, which fits it. `AllocError` leaves it as it was.
-    pub fn apply(&mut self, change: Change) -> Result<(), AllocError>
+    pub fn apply(&mut self, alloc: Global, change: Change) -> Result<(), AllocError>
         requires { Fits change self.old }
         ensures changed { IfOk result (λ nothing. self.new ≡ changed_by change self.old) }
         ensures err { OnErr result (self.new ≡ self.old) }
@@ -200,7 +201,7 @@ impl Order {
                 is_dead,
             } => self.replace_by(shares, price, is_dead)?,
             Change::Canceled(shares) => self.reduce(shares),
-            Change::Traded(told) => self.add_trade(told)?,
+            Change::Traded(told) => self.add_trade(alloc, told)?,
             Change::Broken(told) => self.break_trade(told),
             Change::Refused => self.refuse(),
             Change::NotReplaced(token) => self.end_replace(token),
@@ -337,13 +338,12 @@ impl Order {
     }
 
     /// One trade more; it is over where nothing is left. `AllocError` leaves it as it was.
-    fn add_trade(&mut self, told: ToldTrade) -> Result<(), AllocError>
+    fn add_trade(&mut self, alloc: Global, told: ToldTrade) -> Result<(), AllocError>
         requires { Fits (changes.Traded told) self.old }
         ensures changed { IfOk result (λ nothing. self.new ≡ changed_by (changes.Traded told) self.old) }
         ensures err { OnErr result (self.new ≡ self.old) }
     {
-        make_room(&mut self.trades)?;
-        self.trades.push(told)?;
+        self.trades.push(alloc, told)?;
         let (shares, price) = (told.trade.shares, told.trade.price);
         if shares == self.progress.unfilled {
             self.progress = self.progress.filled(shares, price);

@@ -1,30 +1,28 @@
 //! The trades of an order.
 
-ghost use Rattle.std.specs.Prelude.{◌≡◌, map};
+ghost use Rattle.std.specs.Prelude.{◌≡◌, ◌<◌, length, map, slice_get, Some};
 ghost use Rattle.orders.specs.Seen.{told_marked};
 
 use crate::order::ToldTrade;
 use order_machine::Trade;
-use std::alloc::AllocError;
+use short_list::ShortList;
 
-/// Makes room for one trade more: of the first for that alone, since most orders have one. The trades stay.
-pub(crate) fn make_room(trades: &mut Vec<ToldTrade>) -> Result<(), AllocError>
-    ensures { trades.new.items ≡ trades.old.items }
+/// Marks the trades with this match number as broken.
+pub fn mark(trades: &mut ShortList<ToldTrade>, match_number: u64)
+    ensures { trades.new.items ≡ map (told_marked match_number) trades.old.items }
 {
-    if trades.is_empty() {
-        trades.reserve_exact(1)
-    } else {
-        trades.reserve(1)
+    for place in 0..trades.len() {
+        let told = trade_at(trades, place);
+        trades.set(place, marked(match_number, told));
     }
 }
 
-/// Marks the trades with this match number as broken.
-pub fn mark(trades: &mut Vec<ToldTrade>, match_number: u64)
-    ensures { trades.new.items ≡ map (told_marked match_number) trades.old.items }
+/// The trade at a place.
+fn trade_at(trades: &[ToldTrade], place: usize) -> ToldTrade
+    requires { place < length trades.now }
+    ensures { slice_get trades.now place ≡ Some result }
 {
-    for told in trades.iter_mut() {
-        *told = marked(match_number, *told);
-    }
+    trades[place]
 }
 
 /// A trade, marked as broken where it has this match number.

@@ -1,6 +1,6 @@
 //! The list.
 
-ghost use Rattle.std.specs.Prelude.{◌≡◌, ◌++◌, ◌∷◌, [], ◌==◌, ◌<◌, ◌+◌, length, vec_len, vec_capacity};
+ghost use Rattle.std.specs.Prelude.{◌≡◌, ◌++◌, ◌∷◌, [], ◌==◌, ◌<◌, ◌+◌, length, slice_set, take, vec_len, vec_capacity};
 ghost use Rattle.std.specs.Prelude.{IfOk, OnOk, OnErr};
 ghost use Rattle.short_list.specs.Held.{held_items, IsOne};
 
@@ -54,6 +54,15 @@ impl<T> ShortList<T> {
     {
         ShortList {
             held: Held::One([item]),
+        }
+    }
+
+    /// These items, in their own memory. Takes none.
+    pub fn of_items(items: Vec<T>) -> ShortList<T>
+        ensures { result.items ≡ items.items }
+    {
+        ShortList {
+            held: Held::Many(items),
         }
     }
 
@@ -126,6 +135,33 @@ impl<T: Drop> ShortList<T> {
                 items.push(item)?;
                 Ok(())
             }
+        }
+    }
+
+    /// Another item at a place. Takes no memory.
+    pub fn set(&mut self, place: usize, item: T)
+        requires { place < length self.old.items }
+        ensures { self.new.items ≡ slice_set self.old.items place item }
+    {
+        match &mut self.held {
+            Held::None => {}
+            Held::One(only) => *only = [item],
+            Held::Many(items) => items[place] = item,
+        }
+    }
+
+    /// The first so many items; all of them, where there are no more. Takes no memory.
+    pub fn truncate(&mut self, count: usize)
+        ensures { self.new.items ≡ take count self.old.items }
+    {
+        match &mut self.held {
+            Held::None => {}
+            Held::One(_) => {
+                if count == 0 {
+                    self.held = Held::None;
+                }
+            }
+            Held::Many(items) => items.truncate(count),
         }
     }
 

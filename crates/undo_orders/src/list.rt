@@ -121,7 +121,7 @@ impl UndoOrders {
         if self.item_at(place).needs_memory(change) {
             self.apply_with_memory(alloc, place, change)
         } else {
-            self.apply_lightly(place, change)
+            self.apply_lightly(alloc, place, change)
         }
     }
 
@@ -170,7 +170,12 @@ impl UndoOrders {
     }
 
     /// As `apply`, where what the order has before takes no memory: it goes into the list of what was changed alone.
-    fn apply_lightly(&mut self, place: usize, change: Change) -> Result<(), AllocError>
+    fn apply_lightly(
+        &mut self,
+        alloc: Global,
+        place: usize,
+        change: Change,
+    ) -> Result<(), AllocError>
         requires inside { place < length self.old.now }
         requires fits { (was : OrderRecord) → slice_get self.old.now place ≡ Some was → Fits change was }
         requires light { (was : OrderRecord) → slice_get self.old.now place ≡ Some was
@@ -182,7 +187,7 @@ impl UndoOrders {
     {
         self.changed.reserve(1)?;
         let earlier = self.orders[place].before_lightly();
-        self.orders[place].apply(change)?;
+        self.orders[place].apply(alloc, change)?;
         self.changed.push_reserved(Was { place, earlier });
         Ok(())
     }
@@ -203,7 +208,7 @@ impl UndoOrders {
     {
         let earlier = self.orders[place].before(alloc, change)?;
         self.changed.reserve(1)?;
-        self.orders[place].apply(change)?;
+        self.orders[place].apply(alloc, change)?;
         self.changed.push_reserved(Was { place, earlier });
         Ok(())
     }
