@@ -58,6 +58,9 @@ pub fn told_port(
     ensures settled { PortsStaySettled ports.old ports.new }
     ensures length { length ports.new.lines.items ≡ length ports.old.lines.items }
 {
+    if first.is_none() && rest.is_empty() {
+        return Ok(rest);
+    }
     let link = ports.lines[place].link;
     let outs = port_told_first(alloc, link, first, rest)?;
     close_port(ports, place, &outs);
