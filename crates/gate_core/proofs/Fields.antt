@@ -1,5 +1,5 @@
 -- The core by its fields, for the proofs: its parts themselves, and how many events were stepped.
-use Rattle.std.proofs.Common.{◌≡◌, ℕ, subst, sym}
+use Rattle.std.proofs.Common.{◌≡◌, ℕ, Result, Ok, Err, IfOk, subst, sym}
 use Rattle.gate_law.specs.Settings.{Settings}
 use Rattle.gate_law.specs.Events.{History}
 use Rattle.gate_law.specs.After.{lists}
@@ -41,6 +41,13 @@ now-after s h c after = after
 -- so it is the same of another that stands as it does
 pub after-same : (s : Settings) (h : History) (c d : CoreState) → d.now ≡ c.now → IsAfter s h c → IsAfter s h d
 after-same s h c d same after = now-after s h d (subst (After s h) (sym same) (after-now s h c after))
+
+-- what an answer says of all turns that a core is after, it says of those that a core is after which stands the same
+pub answered-same : {B E : Type 0} (r : Result B E) (Q : B → Settings → History → Type 0) (c d : CoreState) → d.now ≡ c.now
+    → IfOk r (λ b. (s : Settings) (h : History) → IsAfter s h d → Q b s h)
+    → IfOk r (λ b. (s : Settings) (h : History) → IsAfter s h c → Q b s h)
+answered-same (Ok b) Q c d same says = λ s h is. says s h (after-same s h c d same is)
+answered-same (Err e) Q c d same says = tt
 
 -- the fields of a core that is seen so
 pub fields-of : {S H : Type 0} (s : Settings) (h : History) (f : CoreFields S H) (settled : CoreStands) (c : CoreState) → record { now = stands f; settled = settled } ≡ c → IsAfter s h c → FieldsAfter s h f

@@ -133,13 +133,11 @@ impl<S: BuildHasher + Drop> Core<S> {
         ensures settled { self.new.settled ≡ self.old.now }
     {
         self.settle();
-        match self.advance(alloc, event) {
-            Ok(batch) => Ok(batch),
-            Err(error) => {
-                self.undo();
-                Err(error)
-            }
+        let stepped = self.advance(alloc, event);
+        if stepped.is_err() {
+            self.undo();
         }
+        stepped
     }
 
     /// Puts the core back to how it stood before the last step, be it that the step was made or refused: every session
