@@ -1,5 +1,7 @@
 //! What is told of bytes that a client sends and that are part of no frame.
 
+ghost use Rattle.std.specs.Prelude.{◌≡◌};
+
 use crate::telling::Teller;
 use fix_framing::{Framer, front_body};
 use std::alloc::Global;
@@ -41,7 +43,9 @@ impl<'a, S, R> SkipReader<'a, S, R> {
 
 impl<'a, S, R: Clock + Eprint> SkipReader<'a, S, R> {
     /// Counts on with these bytes: at once, unless they look like whole frames.
-    fn count(&mut self, piece: &[u8]) {
+    fn count(&mut self, piece: &[u8])
+        ensures { self.new.reader ≡ self.old.reader }
+    {
         if !self.is_counting {
             return;
         }
@@ -55,7 +59,9 @@ impl<'a, S, R: Clock + Eprint> SkipReader<'a, S, R> {
     }
 
     /// Counts on with what was read last, if it isn't counted yet.
-    fn count_last(&mut self) {
+    fn count_last(&mut self)
+        ensures { self.new.reader ≡ self.old.reader }
+    {
         if self.last.is_empty() {
             return;
         }
@@ -75,7 +81,9 @@ impl<'a, S, R: Clock + Eprint> SkipReader<'a, S, R> {
     }
 
     /// Tells how many were skipped, if it didn't.
-    fn tell(&mut self) {
+    fn tell(&mut self)
+        ensures { self.new.reader ≡ self.old.reader }
+    {
         let skipped = self.frames.skipped();
         if skipped > self.told {
             self.teller.tell_skipped(skipped);
@@ -85,6 +93,8 @@ impl<'a, S, R: Clock + Eprint> SkipReader<'a, S, R> {
 }
 
 impl<'a, S: Read, R: Clock + Eprint> Read for SkipReader<'a, S, R> {
+    ghost remaining = { λ r. S.remaining r.reader };
+
     fn read(&mut self, buf: &mut [u8]) -> io::Result<usize> {
         self.count_last();
         let read = self.reader.read(buf)?;

@@ -1,4 +1,5 @@
 pub mod Openers
 pub mod Peers
+pub mod Streams
 pub use Rattle.link_io.specs as link_io
 pub use Rattle.link_pens.specs as link_pens

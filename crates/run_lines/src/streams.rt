@@ -1,5 +1,7 @@
 //! A link's stream, by what is done with it. That of the clock is at its end, and takes what it is given.
 
+ghost use Rattle.run_lines.specs.Streams.{run_contents, run_remaining, run_tried};
+
 use gate_serving::{Closer, Prompt};
 use std::io;
 use std::io::{Read, Write};
@@ -14,6 +16,8 @@ pub enum RunReader<A, C> {
 }
 
 impl<A: Read, C: Read> Read for RunReader<A, C> {
+    ghost remaining = { λ s. run_remaining A.remaining C.remaining s };
+
     fn read(&mut self, buf: &mut [u8]) -> io::Result<usize> {
         match self {
             RunReader::Client(stream) => stream.read(buf),
@@ -32,6 +36,8 @@ pub enum RunWriter<A, C> {
 }
 
 impl<A: Write, C: Write> Write for RunWriter<A, C> {
+    ghost contents = { λ s. run_contents A.contents C.contents s };
+
     fn write(&mut self, buf: &[u8]) -> io::Result<usize> {
         match self {
             RunWriter::Client(stream) => stream.write(buf),
@@ -50,7 +56,7 @@ impl<A: Write, C: Write> Write for RunWriter<A, C> {
 }
 
 impl<A: Prompt, C: Prompt> Prompt for RunWriter<A, C> {
-    ghost did_try = { λ _ _ _ _. Unit {0} };
+    ghost did_try = { λ old bytes took new. run_tried A.did_try C.did_try old bytes took new };
 
     fn write_promptly(&mut self, buf: &[u8]) -> io::Result<usize> {
         match self {
