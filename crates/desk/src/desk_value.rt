@@ -79,11 +79,19 @@ impl<K: DeskName, S: BuildHasher + Drop> Desk<K, S> {
         round(&mut self.recorded, &mut self.side, alloc)
     }
 
-    /// The outlets to which something was told since the last call: a bit for each, by position.
+    /// The outlets to which something was told since the last call that isn't to wait: a bit for each, by position.
     pub(crate) fn take_rung(&mut self) -> u128
         ensures { self.new ≡ self.old }
     {
         self.side.take_rung()
+    }
+
+    /// The outlets to which something was told since the last call that may wait, and nothing since that isn't to: a
+    /// bit for each, by position.
+    pub(crate) fn take_waiting(&mut self) -> u128
+        ensures { self.new ≡ self.old }
+    {
+        self.side.take_waiting()
     }
 
     /// Why a port is faulted; `None` of one that isn't, and of one that the settings don't have. Takes no memory.

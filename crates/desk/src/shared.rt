@@ -149,6 +149,20 @@ impl<K: DeskName, S: BuildHasher + Drop> Shared<K, S> {
         Ok((turned, ToldOutlets::of_bits(desk.take_rung())))
     }
 
+    /// Rings the bells of the outlets that were told something that may wait, and nothing since that isn't to
+    /// (`Side::tell`), once the lock could be had: their writers write it.
+    pub fn ring_waiting(&self, rt: &impl Wait) {
+        let waiting = self.take_waiting(rt);
+        self.ring_each(waiting);
+    }
+
+    /// The outlets that were told something that may wait, once the lock could be had.
+    fn take_waiting(&self, rt: &impl Wait) -> ToldOutlets {
+        let mut guard = self.desk.lock(rt);
+        let desk = &mut *guard;
+        ToldOutlets::of_bits(desk.take_waiting())
+    }
+
     /// Waits until an outlet's bell rings, at most so long; it may wait less. A bell that rang since the last wait ends
     /// this one at once. One thread at a time waits for a bell.
     pub fn nap(&self, rt: &impl Wait, outlet: usize, most: Duration) {
@@ -161,6 +175,19 @@ impl<K: DeskName, S: BuildHasher + Drop> Shared<K, S> {
     pub fn ring(&self, outlet: usize) {
         if let Some(bell) = self.bells.get(outlet) {
             bell.unpark();
+        }
+    }
+
+    /// Rings the bells of these outlets, the last one's first: ports stand behind clients, and what a port is told is
+    /// what its market waits for.
+    fn ring_each(&self, told: ToldOutlets) {
+        if told.is_empty() {
+            return;
+        }
+        for at in (0..self.bells.len()).rev() {
+            if told.contains(at) {
+                self.ring(at);
+            }
         }
     }
 
@@ -201,17 +228,9 @@ impl<K: DeskName, S: BuildHasher + Drop> Shared<K, S> {
 }
 
 impl<K: DeskName, S: BuildHasher + Drop> WriteTold for Shared<K, S> {
-    /// Rings the bells of these outlets, the last one's first: ports stand behind clients, and what a port is told is
-    /// what its market waits for. Their writers write it.
+    /// Rings their bells: their writers write it.
     fn write_told(&self, _alloc: Global, told: ToldOutlets) {
-        if told.is_empty() {
-            return;
-        }
-        for at in (0..self.bells.len()).rev() {
-            if told.contains(at) {
-                self.ring(at);
-            }
-        }
+        self.ring_each(told);
     }
 }
 

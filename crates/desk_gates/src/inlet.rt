@@ -104,4 +104,9 @@ impl<'p, 'a, W: Prompt + Drop, G: OutletEnd + Drop, K: DeskName, S: BuildHasher 
         self.owed = self.owed.saturating_sub(turns.rounds);
         Ok(turns.steps)
     }
+
+    /// Rings the bell of its client's or port's outlet.
+    fn wake_writer(&self) {
+        self.shared.ring(self.inlet.position());
+    }
 }

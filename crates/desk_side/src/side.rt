@@ -20,6 +20,8 @@ pub struct Side {
     roomy: usize,
     /// A bit for each way that isn't to wait for a list that went into its ring since they were taken, by position.
     rung: u128,
+    /// A bit for each way that may wait, and was told nothing since that may not, by position.
+    waiting: u128,
 }
 
 // Not derived: then each way out drops it in one call (docs/DECISIONS.md, "Drops").
@@ -32,6 +34,7 @@ impl Drop for Side {
             ways: _,
             roomy: _,
             rung: _,
+            waiting: _,
         } = self;
     }
 }
@@ -68,6 +71,7 @@ impl Side {
             ways,
             roomy: 0,
             rung: 0,
+            waiting: 0,
         }
     }
 
@@ -174,19 +178,35 @@ impl Side {
         let client = place_of_client(self.clients, client_number(client));
         let port = place_of_port(self.clients, self.ports, port_number(port));
         self.roomy = self.roomy.saturating_sub(1);
-        self.rung |= prompt_bit(bit(client, &client_told), bit(port, &port_told));
+        let (prompt, waiting) = prompt_and_waiting(
+            bit(client, &client_told),
+            bit(port, &port_told),
+        );
+        self.rung |= prompt;
+        self.waiting |= waiting;
         send_at(&mut self.ways, client, client_told);
         send_at(&mut self.ways, port, port_told);
     }
 
     /// The ways to which something was told since the last call that isn't to wait: a bit for each, by position. A
-    /// client that is told something beside a port may wait: for what it is told next, or until its writer looks.
+    /// client that is told something beside a port may wait: for what it is told next, or until `take_waiting`.
     pub fn take_rung(&mut self) -> u128
         ensures { self.new ≡ self.old }
     {
         let rung = self.rung;
         self.rung = 0;
+        self.waiting &= !rung;
         rung
+    }
+
+    /// The ways to which something was told since the last call that may wait, and nothing since that isn't to: a bit
+    /// for each, by position.
+    pub fn take_waiting(&mut self) -> u128
+        ensures { self.new ≡ self.old }
+    {
+        let waiting = self.waiting;
+        self.waiting = 0;
+        waiting
     }
 
     /// Compares an end that has finished with the desk's own end of its ring: of an inlet's, all that is left is known
@@ -213,7 +233,12 @@ fn bit(place: Option<usize>, told: &Told) -> u128 {
     }
 }
 
-/// The bit of the port where one is told something, else that of the client.
-fn prompt_bit(client: u128, port: u128) -> u128 {
-    if port == 0 { client } else { port }
+/// Of the bits of a client and a port that one batch tells something the one that isn't to wait, and the one that may:
+/// the client's, where the port is told something.
+fn prompt_and_waiting(client: u128, port: u128) -> (u128, u128) {
+    if port == 0 {
+        (client, 0)
+    } else {
+        (port, client)
+    }
 }

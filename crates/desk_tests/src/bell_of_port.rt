@@ -3,7 +3,7 @@
 ghost use Rattle.std.specs.Prelude.{◌≡◌};
 
 use super::ends::turns_to;
-use super::events::{logon, message, put, up};
+use super::events::{logon, message, put, test_request, up};
 use desk::{DeskName, Inlet, Parts, Shared, open_desk};
 use gate_events::PortNumber;
 use script_steps::{Event, fixed_settings};
@@ -23,13 +23,16 @@ const PORT: usize = 3;
 /// A new order of 300 shares at 23.45.
 const ORDER: &[u8] = b"11=A1\x0154=1\x0155=INTC\x0138=300\x0140=2\x0144=23.45\x01";
 
+/// The same under the next ClOrdID.
+const NEXT_ORDER: &[u8] = b"11=A2\x0154=1\x0155=INTC\x0138=300\x0140=2\x0144=23.45\x01";
+
 /// Login Accepted: a session of ten bytes, and the number of its next packet in twenty.
 ///
 /// Source: SoupBinTCP 3.00, "Login Accepted Packet".
 const ACCEPTED: &[u8; 30] = b"SESSION001                   1";
 
 /// An order that its port is asked rings the port's bell and not its client's: the report that it waits goes out with
-/// what the client is told next, or when its writer wakes.
+/// what the client is told next, or once what waits is rung for.
 #[test]
 fn an_order_rings_its_port(rt: HostRuntime) -> Result<(), Fail> {
     let alloc = rt.alloc();
@@ -62,6 +65,32 @@ fn rings_port<K: DeskName, R: Wait + Abort + Clock>(
     )?;
     assert!(rt; nap(rt, &shared, PORT, 10_000)? < Duration::from_secs(5));
     assert!(rt; nap(rt, &shared, CLIENT, 50)? >= Duration::from_millis(40));
+    shared.ring_waiting(rt);
+    assert!(rt; nap(rt, &shared, CLIENT, 10_000)? < Duration::from_secs(5));
+    rings_once::<K, R>(rt, alloc, &shared, inlets)
+}
+
+/// What waits is rung for once; and not where the client was told something since that rang its bell.
+fn rings_once<K: DeskName, R: Wait + Abort + Clock>(
+    rt: &R,
+    alloc: Global,
+    shared: &Shared<K>,
+    inlets: &mut [Inlet<K>],
+) -> Result<(), Fail> {
+    shared.ring_waiting(rt);
+    assert!(rt; nap(rt, shared, CLIENT, 50)? >= Duration::from_millis(40));
+    step(
+        rt,
+        alloc,
+        shared,
+        inlets,
+        CLIENT,
+        message(alloc, b"D", 3, NEXT_ORDER)?,
+    )?;
+    step(rt, alloc, shared, inlets, CLIENT, test_request(alloc, 4)?)?;
+    assert!(rt; nap(rt, shared, CLIENT, 10_000)? < Duration::from_secs(5));
+    shared.ring_waiting(rt);
+    assert!(rt; nap(rt, shared, CLIENT, 50)? >= Duration::from_millis(40));
     Ok(())
 }
 
@@ -80,7 +109,7 @@ fn step<K: DeskName, R: Wait + Abort>(
 }
 
 /// How long a nap at an outlet's bell takes, of so many milliseconds at most.
-fn nap<K: DeskName, R: Wait + Clock>(
+pub fn nap<K: DeskName, R: Wait + Clock>(
     rt: &R,
     shared: &Shared<K>,
     outlet: usize,

@@ -3,6 +3,7 @@
 ghost use Rattle.std.specs.Prelude.{◌≡◌, [], ℕ, Some, slice_get, IfOk};
 ghost use Rattle.desk.specs.desk_ends.Rings.{Taking};
 
+use super::bell_of_port::nap;
 use super::events::{logon, up};
 use desk::{DeskName, Inlet, Outlet, Parts, Shared, open_desk};
 use desk_gates::{InletGate, OutletGate, OutletPen, Prompt};
@@ -16,6 +17,7 @@ use std::marker::Brand;
 use std::process::Abort;
 use std::sync::{Mutex, Wait};
 use std::test::Fail;
+use std::time::{Clock, Duration};
 
 /// A Logon to the first client at moment 0, as the answer to its own.
 ///
@@ -65,7 +67,11 @@ fn a_turn_writes_what_it_told(rt: HostRuntime) -> Result<(), Fail> {
     writes::<Brand, _>(&rt, alloc, parts)
 }
 
-fn writes<K: DeskName, R: Wait + Abort>(rt: &R, alloc: Global, parts: Parts) -> Result<(), Fail>
+fn writes<K: DeskName, R: Wait + Abort + Clock>(
+    rt: &R,
+    alloc: Global,
+    parts: Parts,
+) -> Result<(), Fail>
     requires named { (parts.inlets ≡ K.inlets) × (parts.outlets ≡ K.outlets) }
 {
     let (shared, inlets, outlets) = open_desk::<K, _>(alloc, parts)?;
@@ -77,7 +83,7 @@ fn writes<K: DeskName, R: Wait + Abort>(rt: &R, alloc: Global, parts: Parts) -> 
 }
 
 /// The first client logs on over its inlet, with a link of its outlet's pen open.
-fn log_on<'w, 'a, K: DeskName, R: Wait + Abort>(
+fn log_on<'w, 'a, K: DeskName, R: Wait + Abort + Clock>(
     rt: &R,
     alloc: Global,
     shared: &'a Shared<K>,
@@ -119,8 +125,8 @@ fn first_pen<'w, 'a, K: DeskName>(
     Ok(OutletPen::new(OutletGate::new(shared, outlet)))
 }
 
-/// The first client's link comes up, and it logs on.
-fn turn_with<'p, 'w, 'a, K: DeskName, R: Wait + Abort>(
+/// The first client's link comes up, and it logs on. Its writer's bell rings only once the gate is to wake it.
+fn turn_with<'p, 'w, 'a, K: DeskName, R: Wait + Abort + Clock>(
     rt: &R,
     alloc: Global,
     shared: &'a Shared<K>,
@@ -136,5 +142,8 @@ fn turn_with<'p, 'w, 'a, K: DeskName, R: Wait + Abort>(
     assert!(rt; gate.put(up()).is_ok());
     assert!(rt; gate.put(logon(alloc)?).is_ok());
     assert_eq!(rt; gate.turn(rt, alloc)?, 2);
+    assert!(rt; nap(rt, shared, 0, 50)? >= Duration::from_millis(40));
+    gate.wake_writer();
+    assert!(rt; nap(rt, shared, 0, 10_000)? < Duration::from_secs(5));
     Ok(())
 }

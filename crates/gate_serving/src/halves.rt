@@ -177,6 +177,7 @@ fn read_link<R: Wait, P: Peer + Drop, S: Read + Drop, G: Gate, C: Clock, W: Drop
     }
     let reader = peer.read(rt, alloc, link, steps.max(1), &mut stream, gate, clock);
     slot.stop().store(true, Ordering::SeqCst);
+    gate.wake_writer();
     let writer = slot.ended(rt);
     Some(LinkEnd {
         link,

@@ -18,6 +18,8 @@ use Rattle.run_lines.specs.contracts.line_pen.RunPen as RunPen
 use Rattle.run_lines.specs.contracts.streams.RunWriter as RunWriter
 use Rattle.run_lines.specs.contracts.counted.CountedLinks as CountedLinks
 use Rattle.run_lines.specs.contracts.opener.RunOpener as RunOpener
+use Rattle.gateway_run.specs.contracts.clock.RunClock as RunClock
+use Rattle.gateway_run.specs.contracts.clock.Watch as Watch
 use Rattle.gateway_run.specs.contracts.port_faults.PortLinks as PortLinks
 
 module _ (a : NamedLft) (K R : RattleType) (k : DeskName.Ghosts K.Denot) (r : IsSync R) where
@@ -45,6 +47,22 @@ module _ (a : NamedLft) (K R : RattleType) (k : DeskName.Ghosts K.Denot) (r : Is
       ),
     ),
   )
+
+  pub watch_send : IsSend (Watch.the_row a K R k)
+  watch_send = declared_send (Watch.the_type a K R k) (
+    search (r, sendable),
+    (
+      search (shared_sync, sendable) depth 40,
+      (
+        search (sendable, crosses) depth 40,
+        (search (sendable, crosses) depth 40, (search sendable, tt)),
+      ),
+    ),
+  )
+
+  pub run_clock_send : IsSend (RunClock.the_row a K R k)
+  run_clock_send = declared_send (RunClock.the_type a K R k)
+      (search (r, sendable) depth 40, (search (watch_send, sendable) depth 40, tt))
 
 pub counted_send : (a : NamedLft) (A : RattleType) → IsSend A → IsSend (CountedLinks.the_row a A)
 counted_send a A s = declared_send (CountedLinks.the_type a A)

@@ -1,7 +1,10 @@
 //! The clocks of readers, and of the worker that has time pass.
 
+use desk_gates::{DeskName, Shared};
 use link_sockets::SystemClock;
 use run_lines::{ClientCounts, Clock};
+use std::hash::RandomState;
+use std::sync::Wait;
 use std::sync::atomic::{AtomicBool, Ordering};
 use std::time;
 use std::time::Duration;
@@ -9,34 +12,45 @@ use std::time::Duration;
 /// How often it pauses, in a row, while no client waits for a link or has one, before the day is over.
 const PATIENCE: u32 = 100;
 
-/// The system's time, which never goes back, and pauses of so long. One that watches the clients ends the day where
-/// they are left alone: where a thread could not be had, say.
-#[derive(Drop)]
-pub(crate) struct RunClock<'a, R> {
-    clock: SystemClock<'a, R>,
-    watch: Option<Watch<'a>>,
+/// So many milliseconds, and as many looks at most, lie between two rounds of ticks.
+const BETWEEN_TICKS: u32 = 100;
+
+/// How long a worker pauses where nothing moves, and how long what may wait is left to wait.
+fn pause() -> Duration {
+    Duration::from_millis(1)
 }
 
-impl<'a, R: time::Clock> RunClock<'a, R> {
+/// The system's time, which never goes back, and pauses of a millisecond. That of the worker that has time pass pauses
+/// between two rounds of ticks, and meanwhile has what may wait written, each millisecond. It also watches the clients,
+/// and ends the day where they are left alone: where a thread could not be had, say.
+#[derive(Drop)]
+pub(crate) struct RunClock<'a, K: DeskName, R> {
+    clock: SystemClock<'a, R>,
+    watch: Option<Watch<'a, K, R>>,
+}
+
+impl<'a, K: DeskName, R: Wait + time::Clock> RunClock<'a, K, R> {
     /// Of a reader. Takes no memory.
-    pub(crate) fn new(rt: &'a R, pause: Duration) -> RunClock<'a, R> {
+    pub(crate) fn new(rt: &'a R) -> RunClock<'a, K, R> {
         RunClock {
-            clock: SystemClock::new(rt, pause),
+            clock: SystemClock::new(rt, pause()),
             watch: None,
         }
     }
 
-    /// Of the worker that has time pass: once these clients have been left alone for a hundred pauses `is_over` is set.
-    /// Takes no memory.
+    /// Of the worker that has time pass for this desk: once these clients have been left alone for a hundred pauses
+    /// `is_over` is set. Takes no memory.
     pub(crate) fn watching(
         rt: &'a R,
-        pause: Duration,
+        shared: &'a Shared<K, RandomState>,
         counts: &'a ClientCounts,
         is_over: &'a AtomicBool,
-    ) -> RunClock<'a, R> {
+    ) -> RunClock<'a, K, R> {
         RunClock {
-            clock: SystemClock::new(rt, pause),
+            clock: SystemClock::new(rt, pause()),
             watch: Some(Watch {
+                rt,
+                shared,
                 counts,
                 is_over,
                 idle: 0,
@@ -45,29 +59,45 @@ impl<'a, R: time::Clock> RunClock<'a, R> {
     }
 }
 
-impl<'a, R: time::Clock> Clock for RunClock<'a, R> {
+impl<'a, K: DeskName, R: Wait + time::Clock> Clock for RunClock<'a, K, R> {
     fn now_ms(&mut self) -> u64 {
         self.clock.now_ms()
     }
 
     fn pause(&mut self) {
-        self.clock.pause();
-        if let Some(watch) = &mut self.watch {
-            watch.look();
+        match &mut self.watch {
+            Some(watch) => watch.pause(&mut self.clock),
+            None => self.clock.pause(),
         }
     }
 }
 
-/// Who looks whether clients are left alone.
+/// Who looks for what waits to be written, and whether clients are left alone.
 #[derive(Drop)]
-struct Watch<'a> {
+struct Watch<'a, K: DeskName, R> {
+    rt: &'a R,
+    shared: &'a Shared<K, RandomState>,
     counts: &'a ClientCounts,
     is_over: &'a AtomicBool,
-    /// The looks since one of them waited for a link or had one.
+    /// The pauses since one of the clients waited for a link or had one.
     idle: u32,
 }
 
-impl<'a> Watch<'a> {
+impl<'a, K: DeskName, R: Wait + time::Clock> Watch<'a, K, R> {
+    /// Pauses until the next round of ticks, and rings the bells of writers for whom something waits.
+    fn pause(&mut self, clock: &mut SystemClock<'a, R>) {
+        let end = clock.now_ms().saturating_add(u64::from(BETWEEN_TICKS));
+        for _ in 0..BETWEEN_TICKS {
+            clock.pause();
+            self.shared.ring_waiting(self.rt);
+            if clock.now_ms() >= end {
+                break;
+            }
+        }
+        self.look();
+    }
+
+    /// Ends the day where the clients have been left alone for so long.
     fn look(&mut self) {
         if !self.counts.are_idle() {
             self.idle = 0;

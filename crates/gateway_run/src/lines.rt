@@ -24,20 +24,15 @@ use std::time::{Clock, Duration};
 /// How many steps a worker makes of one link at most.
 const STEPS: u64 = 1_000_000_000_000;
 
-/// How long a worker pauses where nothing moves.
-fn pause() -> Duration {
-    Duration::from_millis(1)
-}
-
-/// How long lies between two rounds of ticks.
-fn between_ticks() -> Duration {
-    Duration::from_millis(100)
+/// How long a writer sleeps at most where nobody rings its outlet's bell: then it looks whether there is memory again.
+fn longest_sleep() -> Duration {
+    Duration::from_millis(10)
 }
 
 /// A reader's worker over an inlet.
 pub(crate) type Reading<'p, 'a, W, G, K, R> = Worker<
     InletGate<'p, 'a, W, G, K, RandomState>,
-    RunClock<'a, R>,
+    RunClock<'a, K, R>,
 >;
 
 /// A writer by the pen of an outlet; that of the clock has none.
@@ -91,9 +86,12 @@ pub(crate) fn client_line<
         opener: RunOpener::Client(opener),
         reader: Worker {
             gate: InletGate::new(shared, pens, inlet),
-            clock: RunClock::new(rt, pause()),
+            clock: RunClock::new(rt),
         },
-        writer: RunPen::Pen(PenWorker::new(pen.pen(), BellClock::new(rt, shared, at, pause()))),
+        writer: RunPen::Pen(PenWorker::new(
+            pen.pen(),
+            BellClock::new(rt, shared, at, longest_sleep()),
+        )),
     }
 }
 
@@ -130,9 +128,12 @@ pub(crate) fn port_line<
         opener: RunOpener::Port(opener),
         reader: Worker {
             gate: InletGate::new(shared, pens, inlet),
-            clock: RunClock::new(rt, pause()),
+            clock: RunClock::new(rt),
         },
-        writer: RunPen::Pen(PenWorker::new(pen.pen(), BellClock::new(rt, shared, at, pause()))),
+        writer: RunPen::Pen(PenWorker::new(
+            pen.pen(),
+            BellClock::new(rt, shared, at, longest_sleep()),
+        )),
     }
 }
 
@@ -173,7 +174,7 @@ pub(crate) fn clock_line<
         opener: RunOpener::Clock(true),
         reader: Worker {
             gate: InletGate::new(shared, pens, inlet),
-            clock: RunClock::watching(rt, between_ticks(), counts, is_over),
+            clock: RunClock::watching(rt, shared, counts, is_over),
         },
         writer: RunPen::Nothing,
     }

@@ -34,4 +34,8 @@ pub trait Gate {
     fn turn<R: Wait>(&mut self, rt: &R, alloc: Global) -> Result<u32, AllocError>
         ensures none_put { was_put self.new ≡ was_put self.old }
         ensures none_taken { was_taken self.new ≡ was_taken self.old };
+
+    /// Wakes who writes the link of which this end puts events, where that sleeps. Waits for nobody, takes no memory.
+    /// It wakes nobody unless an end does so.
+    fn wake_writer(&self) {}
 }

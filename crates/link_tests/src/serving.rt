@@ -36,6 +36,8 @@ struct Waiting<'a, R> {
     /// What the last pause sets.
     is_failed: &'a AtomicBool,
     puts: u32,
+    /// How often a writer was woken.
+    woken: &'a AtomicU32,
 }
 
 /// Written by hand, so that one call drops all.
@@ -49,6 +51,7 @@ impl<'a, R> Drop for Waiting<'a, R> {
             is_taken: _,
             is_failed: _,
             puts: _,
+            woken: _,
         } = self;
     }
 }
@@ -91,6 +94,10 @@ impl<'a, R: time::Clock> Gate for Waiting<'a, R> {
 
     fn turn<W: Wait>(&mut self, _rt: &W, _alloc: Global) -> Result<u32, AllocError> {
         Ok(0)
+    }
+
+    fn wake_writer(&self) {
+        self.woken.fetch_add(1, Ordering::SeqCst);
     }
 }
 
@@ -200,6 +207,7 @@ struct Seen {
     is_failed: AtomicBool,
     bytes: AtomicU32,
     often: AtomicU32,
+    woken: AtomicU32,
 }
 
 impl Seen {
@@ -211,6 +219,7 @@ impl Seen {
             is_failed: AtomicBool::new(false),
             bytes: AtomicU32::new(0),
             often: AtomicU32::new(0),
+            woken: AtomicU32::new(0),
         }
     }
 }
@@ -246,6 +255,7 @@ fn writing_gate<'a, R>(
         is_taken,
         is_failed: &seen.is_failed,
         puts: 0,
+        woken: &seen.woken,
     })
 }
 
@@ -265,6 +275,7 @@ fn reading_gate<'a, R>(
         is_taken: &seen.never,
         is_failed: &seen.is_failed,
         puts: 0,
+        woken: &seen.woken,
     }
 }
 
@@ -505,9 +516,11 @@ fn three_links<'a, R: Threads + Wait + time::Clock + Abort + Sync>(
     let links = links_of(alloc, b"\x00\x01H\x00\x01H".as_slice(), 3, 2, seen);
     let line = line_of(rt, PortNumber::new(1), links, reader, writer);
     match serve(rt, alloc, vec![in alloc; line]?) {
-        Ok(lines) => look_at_three(rt, alloc, lines.as_slice()),
-        Err(_) => Err(Fail::new("not served")),
+        Ok(lines) => look_at_three(rt, alloc, lines.as_slice())?,
+        Err(_) => return Err(Fail::new("not served")),
     }
+    assert!(rt; seen.woken.load(Ordering::SeqCst) == 3);
+    Ok(())
 }
 
 /// Three links were up, and came to their end; opening one failed.

@@ -18,7 +18,7 @@ use Rattle.run_lines.specs.contracts.streams.RunWriter as RunWriter
 use Rattle.run_lines.specs.contracts.counted.CountedLinks as CountedLinks
 use Rattle.run_lines.specs.contracts.opener.RunOpener as RunOpener
 use Rattle.gateway_run.specs.contracts.port_faults.PortLinks as PortLinks
-use Rattle.gateway_run.proofs.Sent.{bell_send, opener_send, run_pen_send, writer_send}
+use Rattle.gateway_run.proofs.Sent.{bell_send, opener_send, run_clock_send, run_pen_send, writer_send}
 use Rattle.gateway_run.proofs.running.serve_desk.Goals as goal
 
 pub serve-requires-send-O : goal.serve-requires-send-O
@@ -50,3 +50,6 @@ serve-requires-send-B g c κs l =
     (t : Gate.Ghosts G.Denot) → IsSend D → IsSend (RunPen.the_row a W G D p w t)
     = λ a D p w t d. run_pen_send a W G D p w t sent bounds.send-G d in
     search (pens, bell_send, bounds.sync-R, sendable) depth 40
+
+pub serve-requires-send-C : goal.serve-requires-send-C
+serve-requires-send-C g c κs l = search (run_clock_send, c.type_bounds.sync-R, sendable) depth 40
