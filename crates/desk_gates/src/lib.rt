@@ -9,7 +9,7 @@ mod outlet_pen;
 mod told_pens;
 
 pub use bell::BellClock;
-pub use desk::{DeskName, Finished, Inlet, Outlet, Parts, Shared, open_desk};
+pub use desk::{Closed, DeskName, Finished, Inlet, Outlet, Parts, Shared, open_desk};
 pub use gate_workers::{Clock, Gate};
 pub use inlet::InletGate;
 pub use link_pens::{PenWorker, Prompt};

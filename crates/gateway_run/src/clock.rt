@@ -15,7 +15,7 @@ const PATIENCE: u32 = 100;
 /// So many milliseconds, and as many looks at most, lie between two rounds of ticks.
 const BETWEEN_TICKS: u32 = 100;
 
-/// How long a worker pauses where nothing moves, and how long what may wait is left to wait.
+/// How long a worker pauses where nothing moves, and for how long what may wait is left.
 fn pause() -> Duration {
     Duration::from_millis(1)
 }

@@ -6,7 +6,7 @@ use std::alloc::AllocError;
 /// Why a gateway could not run to its end.
 #[derive(Clone, Copy, Debug, PartialEq, Eq)]
 pub enum RunFault {
-    /// Memory ran out where nothing can be served without it.
+    /// Memory ran out where nothing can be served without it, or for ten seconds as the day was closed.
     NoMemory,
     /// A thread could not be had.
     NoThread,

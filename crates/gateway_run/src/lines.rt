@@ -190,12 +190,30 @@ pub(crate) struct Left<K: DeskName> {
 }
 
 impl<K: DeskName> Left<K> {
-    /// Nothing yet.
-    fn new(alloc: Global) -> Left<K> {
-        Left {
-            finished: Vec::new(alloc),
+    /// Nothing yet, with room for what is left of so many inlets and outlets: so that no memory is wanted once all was
+    /// served.
+    pub(crate) fn with_room(
+        alloc: Global,
+        inlets: usize,
+        outlets: usize,
+    ) -> Result<Left<K>, AllocError> {
+        Ok(Left {
+            finished: Vec::with_capacity(alloc, inlets.saturating_add(outlets))?,
             fault: None,
+        })
+    }
+
+    /// Ends the inlets of lines, and keeps what was put, and the first fault.
+    pub(crate) fn end_lines<'p, 'a, W: Prompt + Drop, G: OutletEnd + Drop, A: Drop, C: Drop, R>(
+        &mut self,
+        lines: Vec<RunLine<'p, 'a, W, G, A, C, K, R>>,
+    ) -> Result<(), AllocError> {
+        for line in lines {
+            let Line { fault, reader, .. } = line;
+            self.end_inlet(reader.gate)?;
+            self.fault = self.fault.or(fault);
         }
+        Ok(())
     }
 
     /// Ends the inlet of a gate, and keeps what was put.
@@ -221,26 +239,6 @@ impl<K: DeskName> Left<K> {
         }
         Ok(())
     }
-}
-
-/// What is left of lines: ends their inlets, and keeps what was put, and the first fault.
-pub(crate) fn left_of<
-    'p,
-    'a,
-    W: Prompt + Drop,
-    G: OutletEnd + Drop,
-    A: Drop,
-    C: Drop,
-    K: DeskName,
-    R,
->(alloc: Global, lines: Vec<RunLine<'p, 'a, W, G, A, C, K, R>>) -> Result<Left<K>, AllocError> {
-    let mut left = Left::new(alloc);
-    for line in lines {
-        let Line { fault, reader, .. } = line;
-        left.end_inlet(reader.gate)?;
-        left.fault = left.fault.or(fault);
-    }
-    Ok(left)
 }
 
 /// The pens of a desk's outlets, by position.

@@ -1,13 +1,17 @@
 //! A desk, served by threads.
 
-ghost use Rattle.std.specs.Prelude.{◌≡◌, ◌<◌, length};
+ghost use Rattle.std.specs.Prelude.{◌≡◌, ◌<◌, length, IfOk};
+ghost use Rattle.gate_law.specs.Holds.{Holds};
+ghost use Rattle.audit_lines.specs.gate_audit.gate_journal.Kept.{turns};
 
 use crate::day::Day;
 use crate::ends::{Ends, RunPlan, ends_of};
 use crate::fault::RunFault;
-use crate::lines::{Count, Left, left_of, pens_of};
+use crate::lines::{Count, Left, pens_of};
 use audit_lines::Settings;
-use desk_gates::{DeskName, Inlet, OutletEnd, OutletPen, Parts, Prompt, Shared, open_desk};
+use desk_gates::{
+    Closed, DeskName, Finished, Inlet, OutletEnd, OutletPen, Parts, Prompt, Shared, open_desk,
+};
 use gate_serving::{Closer, Opener, serve};
 use run_lines::{ClientCounts, CountedLinks, RunWriter};
 use std::alloc::{AllocError, Global};
@@ -16,14 +20,24 @@ use std::io::Read;
 use std::marker::Brand;
 use std::sync::Wait;
 use std::sync::atomic::AtomicBool;
+use std::thread;
 use std::thread::Threads;
-use std::time::Clock;
+use std::time::{Clock, Duration};
+
+/// How often a desk whose day is over is closed at most, where memory is refused: for ten seconds.
+const CLOSES: u32 = 100;
+
+/// How long lies between two tries of it.
+fn between_closes() -> Duration {
+    Duration::from_millis(100)
+}
 
 /// Serves a gateway of these settings, with its core's indexes over a hasher, until each client's links have been
 /// served, then sets `is_over`, has the ports' links end, and gives the day. Where `is_over` is set before, by somebody
 /// else, it ends the same way.
 ///
-/// `NoMemory` and `NoThread` come once all that was begun has ended; the day is lost with them.
+/// `NoMemory` and `NoThread` come once all that was begun has ended; the day is lost with them. Where memory is refused
+/// as the day is closed, that is tried again for ten seconds.
 pub fn run<R, A, C>(
     rt: &R,
     alloc: Global,
@@ -89,10 +103,33 @@ where
         is_over,
     )?;
     left.end_outlets(pens)?;
-    let Ok(closed) = shared.close(alloc, left.finished) else {
-        return Err(RunFault::NoMemory);
-    };
+    let closed = close_desk(rt, alloc, shared, left.finished)?;
     Ok(Day::new(closed.history, closed.settings, left.fault))
+}
+
+/// Closes a desk whose ends have finished. Where memory is refused it is tried again, and `NoMemory` comes once it was
+/// for ten seconds.
+fn close_desk<K: DeskName, R: Clock>(
+    rt: &R,
+    alloc: Global,
+    shared: Shared<K, RandomState>,
+    finished: Vec<Finished<K>>,
+) -> Result<Closed, RunFault>
+    ensures holds { IfOk result (λ closed. Holds closed.settings (turns closed.history)) }
+{
+    let mut shared = shared;
+    let mut finished = finished;
+    for _ in 0..CLOSES {
+        match shared.close(alloc, finished) {
+            Ok(closed) => return Ok(closed),
+            Err((_, same, ends)) => {
+                shared = same;
+                finished = ends;
+            }
+        }
+        thread::sleep(rt, between_closes());
+    }
+    Err(RunFault::NoMemory)
 }
 
 /// Serves the ends of a desk, the last inlet being the clock's, until the clients' links have been served, and ends
@@ -122,6 +159,7 @@ where
     G: OutletEnd + Send + Drop,
     requires clock { 0 < length inlets.items }
 {
+    let mut left = Left::with_room(alloc, inlets.len(), pens.len())?;
     let mut inlets = inlets;
     let Some(clock) = inlets.pop() else {
         unreachable!()
@@ -132,9 +170,10 @@ where
     ends.add_clock(rt, shared, count, counts, is_over, clock, pens)?;
     let Ends { lines, .. } = ends;
     match serve(rt, alloc, lines) {
-        Ok(lines) => Ok(left_of(alloc, lines)?),
-        Err((fault, _)) => Err(RunFault::from(fault)),
+        Ok(lines) => left.end_lines(lines)?,
+        Err((fault, _)) => return Err(RunFault::from(fault)),
     }
+    Ok(left)
 }
 
 /// The links of clients, counted.
