@@ -9,6 +9,8 @@ mod clocks;
 #[cfg(test)]
 mod gates;
 #[cfg(test)]
+mod lines;
+#[cfg(test)]
 mod pens;
 #[cfg(test)]
 mod readers;
