@@ -3,6 +3,7 @@
 ghost use Rattle.std.specs.Prelude.{◌≡◌, ◌<◌, length, IfOk};
 ghost use Rattle.gate_law.specs.Holds.{Holds};
 ghost use Rattle.audit_lines.specs.gate_audit.gate_journal.Kept.{turns};
+ghost use Rattle.desk_gates.specs.desk.Settling.{AreSettled};
 
 use crate::day::Day;
 use crate::ends::{Ends, RunPlan, ends_of};
@@ -107,8 +108,8 @@ where
     Ok(Day::new(closed.history, closed.settings, left.fault))
 }
 
-/// Closes a desk whose ends have finished. Where memory is refused it is tried again, and `NoMemory` comes once it was
-/// for ten seconds.
+/// Closes a desk whose ends have finished: of each inlet that is handed in the history has just what was put. Where
+/// memory is refused it is tried again, and `NoMemory` comes once it was for ten seconds.
 fn close_desk<K: DeskName, R: Clock>(
     rt: &R,
     alloc: Global,
@@ -116,6 +117,7 @@ fn close_desk<K: DeskName, R: Clock>(
     finished: Vec<Finished<K>>,
 ) -> Result<Closed, RunFault>
     ensures holds { IfOk result (λ closed. Holds closed.settings (turns closed.history)) }
+    ensures settled { IfOk result (λ closed. AreSettled finished.items closed.history) }
 {
     let mut shared = shared;
     let mut finished = finished;
