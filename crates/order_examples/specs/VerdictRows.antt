@@ -36,6 +36,10 @@ of_new_orders :
     × (of_new (codes "35=D|11=B1|54=1|55=IN TC|38=300|40=2|44=23.45") ≡ Refused 1 (codes "symbol"))  -- a space
     × (of_new (codes "35=D|11=B1|54=1|55=INTC|38=300|40=1|44=23.45") ≡ Refused 11 (codes "order type"))
     × (of_new (codes "35=D|11=B1|54=1|55=INTC|38=300|40=2|44=23.45|59=1") ≡ Refused 11 (codes "time in force"))
+    × (of_new (codes "35=D|11=B1|54=1|55=INTC|38=300|40=2|44=23.45|59=2") ≡ Refused 11 (codes "time in force"))
+    × (of_new (codes "35=D|11=B1|54=1|55=INTC|38=300|40=2|44=23.45|59=3") ≡ Accepted)
+    × (of_new (codes "35=D|11=B1|54=1|55=INTC|38=300|40=2|44=23.45|59=4") ≡ Accepted)
+    × (of_new (codes "35=D|11=B1|54=1|55=INTC|38=300|40=2|44=23.45|59=5") ≡ Refused 11 (codes "time in force"))
     × (of_new (codes "35=D|11=B1|54=1|55=INTC|38=300|40=2|44=23.45|18=5") ≡ Refused 11 (codes "execution instruction"))
     × (of_new (codes "35=D|11=B1|54=1|55=INTC|38=300|40=2|44=23.45|528=B") ≡ Refused 11 (codes "capacity"))
     × (of_new (codes "35=D|11=B1|54=1|55=INTC|38=300.5|40=2|44=23.45") ≡ Refused 13 (codes "quantity"))  -- not exact
@@ -51,7 +55,8 @@ of_new_orders :
     × (of_new (codes "35=D|11=B1|54=1|55=INTC|38=300|40=2|44=0") ≡ Refused 99 (codes "price out of range"))
     × (verdict_of_new [] Up 9999999999999 (message usual) ≡ Refused 99 (codes "no token left"))
 unfolding digits price quantity amount amount_of within scaled fraction worth worth_of last_digits
-of_new_orders = (refl, refl, refl, refl, refl, refl, refl, refl, refl, refl, refl, refl, refl, refl, refl, refl, refl, refl, refl, refl, refl, refl, refl)
+of_new_orders =
+    (refl, refl, refl, refl, refl, refl, refl, refl, refl, refl, refl, refl, refl, refl, refl, refl, refl, refl, refl, refl, refl, refl, refl, refl, refl, refl, refl)
 
 -- new orders on which one row holds and the next one too: the earlier refuses
 first_of_two_on_new_orders :
@@ -153,6 +158,9 @@ of_requests :
     ≡ Refused 99 (codes "order type"))
     × (of_request entered_and_accepted (codes "35=G|41=A1|11=B2|38=400|40=2|44=23.45|59=1")
     ≡ Refused 99 (codes "time in force"))
+    × (of_request entered_and_accepted (codes "35=G|41=A1|11=B2|38=400|40=2|44=23.45|59=3") ≡ Accepted)
+    × (of_request entered_and_accepted (codes "35=G|41=A1|11=B2|38=400|40=2|44=23.45|59=4")
+    ≡ Refused 99 (codes "time in force"))
     × (of_request entered_and_accepted (codes "35=G|41=A1|11=B2|38=400|40=2|44=23.45|18=5")
     ≡ Refused 99 (codes "execution instruction"))
     × (of_request entered_and_accepted (codes "35=G|41=A1|11=B2|38=0|40=2|44=23.45") ≡ Refused 99 (codes "quantity"))
@@ -170,7 +178,7 @@ of_requests :
     × (of_named 0 0 9999999999999 (codes "35=G|41=A1|11=B2|38=400|40=2|44=23.45") ≡ Refused 2 (codes "no token left"))
     × (of_named 0 0 9999999999999 (codes "35=F|41=A1|11=B2") ≡ Accepted)  -- a cancel needs none
 unfolding digits price quantity amount amount_of within scaled fraction worth worth_of last_digits
-of_requests = (refl, refl, refl, refl, refl, refl, refl, refl, refl, refl, refl, refl, refl, refl, refl, refl, refl, refl, refl, refl, refl, refl, refl, refl, refl, refl)
+of_requests = (refl, refl, refl, refl, refl, refl, refl, refl, refl, refl, refl, refl, refl, refl, refl, refl, refl, refl, refl, refl, refl, refl, refl, refl, refl, refl, refl, refl)
 
 -- requests on which one row holds and the next one too: the earlier refuses
 first_of_two_on_requests :

@@ -1,14 +1,14 @@
 -- What a FIX message asks, and what an OUCH message asks. The first never looks at bytes, the second never at tags.
 use Rattle.std.specs.Result.{result_unwrap_or}
-use Rattle.std.specs.Prelude.{ℕ, Bool, List, Option, Some, None, option_map, if◌then◌else◌, ◌==◌, ◌&&◌, bytes_eq, codes}
-use Rattle.std.specs.Prelude.{slice_index}
+use Rattle.std.specs.Prelude.{ℕ, Bool, List, [], ◌∷◌, Option, Some, None, option_map, if◌then◌else◌, ◌==◌, ◌&&◌}
+use Rattle.std.specs.Prelude.{bytes_eq, codes, slice_index}
 use Rattle.fixed_point.specs.Decimal.{price, quantity}
 use Rattle.ouch_codec.specs.Layout.{is_message}
 use Rattle.ouch_codec.specs.Layouts.{enter_order_layout, replace_layout, cancel_layout}
 use Rattle.ouch_codec.specs.ToMarket as said
-use Rattle.fix_fields.specs.Field.{Message, has, text, is, character}
+use Rattle.fix_fields.specs.Field.{Message, has, text, is, is_one_of, character}
 
--- FIX 4.4 Volume 6, TimeInForce (59): 0 for the day, 3 immediate or cancel
+-- FIX 4.4 Volume 6, TimeInForce (59): 0 for the day, 3 immediate or cancel; 4, fill or kill, is immediate too
 pub data LifeTime : Type 0 where
   Day Immediate : LifeTime
 
@@ -38,11 +38,14 @@ total_of message = result_unwrap_or (quantity 1 (text 38 message)) 0
 abbrev pub limit_of : Message → ℕ
 limit_of message = result_unwrap_or (price (text 44 message)) 0
 
+-- the least number of shares of the first trade: of a fill or kill order all of them, else what 110 says
 abbrev pub minimum_of : Message → ℕ
-minimum_of message = if has 110 message then result_unwrap_or (quantity 0 (text 110 message)) 0 else 0
+minimum_of message =
+    if is 59 (codes "4") message then total_of message
+    else if has 110 message then result_unwrap_or (quantity 0 (text 110 message)) 0 else 0
 
 abbrev pub life_time_of : Message → LifeTime
-life_time_of message = if is 59 (codes "3") message then Immediate else Day
+life_time_of message = if is_one_of 59 (codes "3" ∷ codes "4" ∷ []) message then Immediate else Day
 
 -- 18=6, participate don't initiate, isn't displayed
 abbrev pub display_of : Message → ℕ

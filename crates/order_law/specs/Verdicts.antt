@@ -41,9 +41,12 @@ row holds code why = record { holds = holds; code = code; why = why }
 abbrev pub sides : List (List ℕ)
 sides = codes "1" ∷ codes "2" ∷ codes "5" ∷ codes "6" ∷ []
 
--- 59: for the day, immediate or cancel
+-- 59: for the day, immediate or cancel; of a new order also fill or kill
 abbrev pub life_times : List (List ℕ)
 life_times = codes "0" ∷ codes "3" ∷ []
+
+abbrev pub life_times_of_new : List (List ℕ)
+life_times_of_new = codes "0" ∷ codes "3" ∷ codes "4" ∷ []
 
 -- 528: agency, principal, riskless principal
 abbrev pub capacities : List (List ℕ)
@@ -116,9 +119,9 @@ port_rows port =
     ∷ row (is_faulted port) 2 (codes "port fault " ++ decimal (fault_of port))
     ∷ []
 
--- the rows on 40, 59 and 18, all with one code
-abbrev type_rows : ℕ → Message → List Row
-type_rows code m =
+-- the rows on 40, on 59, which may be one of these, and on 18, all with one code
+abbrev type_rows : ℕ → List (List ℕ) → Message → List Row
+type_rows code life_times m =
     row (not (is 40 (codes "2") m)) code (codes "order type")
     ∷ row (is_other 59 life_times m) code (codes "time in force")
     ∷ row (is_other 18 (codes "6" ∷ []) m) code (codes "execution instruction")
@@ -149,7 +152,7 @@ abbrev pub field_rows : Message → List Row
 field_rows m =
     row (not (is_one_of 54 sides m)) 11 (codes "side")
     ∷ row (not (is_symbol (text 55 m))) 1 (codes "symbol")
-    ∷ type_rows 11 m
+    ∷ type_rows 11 life_times_of_new m
     ++ row (is_other 528 capacities m) 11 (codes "capacity")
     ∷ quantity_rows 13 m
     ++ price_rows m
@@ -195,7 +198,7 @@ changes_terms n m =
 abbrev replace_rows : Named → ℕ → Message → List Row
 replace_rows n given m =
     row (changes_terms n m) 99 (codes "side, symbol or capacity")
-    ∷ type_rows 99 m
+    ∷ type_rows 99 life_times m
     ++ quantity_rows 99 m
     ++ price_rows m
     ++ row (nat_le (total_of m) n.reading.executed) 99 (codes "total not above executed")
