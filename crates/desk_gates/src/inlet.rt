@@ -75,7 +75,7 @@ impl<'p, 'a, W: Prompt + Drop, G: OutletEnd + Drop, K: DeskName, S: BuildHasher 
 impl<'p, 'a, W: Prompt + Drop, G: OutletEnd + Drop, K: DeskName, S: BuildHasher + Drop> Gate
     for InletGate<'p, 'a, W, G, K, S> {
     ghost use Rattle.std.specs.Prelude.{[], map};
-    ghost use Rattle.gate_workers.specs.gate_events.Seen.{event_seen};
+    ghost use Rattle.gate_events.specs.Seen.{event_seen};
 
     ghost was_put = { λ g. map event_seen g.inlet.put };
 

@@ -9,7 +9,7 @@ use std::alloc::Global;
 
 /// A gate from which what one client or port is told is taken.
 pub trait OutletEnd: Gate {
-    ghost use Rattle.desk.specs.desk_ends.gate_events.declared.source.Recipient.{Recipient as ToldOne};
+    ghost use Rattle.gate_events.specs.declared.source.Recipient.{Recipient as ToldOne};
 
     ghost told: { Self → ToldOne };
 

@@ -1,6 +1,6 @@
 -- Lines and their halves: how one is made of the other, and what a half has done.
 use Rattle.std.specs.Prelude.{◌≡◌, ℕ, false, List, Option, Result}
-use Rattle.gate_events.specs.gate_law.Events.{Event, LinkOut}
+use Rattle.gate_law.specs.Events.{Event, LinkOut}
 use Rattle.gate_workers.specs.link_io.declared.link_fault.LinkFault.{LinkFault}
 use Rattle.gate_workers.specs.declared.writer.WriterEnd.{WriterEnd}
 use Rattle.gate_serving.specs.declared.halves.Reads.{Reads}

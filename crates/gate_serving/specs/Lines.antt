@@ -1,7 +1,7 @@
 -- What the two workers of a line's links have put and taken when the links are over.
 use Rattle.std.specs.Prelude.{◌≡◌, ◌⊎◌, ℕ, ◌≤◌, ◌+◌, Bool, true, List, [], ◌∷◌, length, Option, Result}
 use mathlib.Core.List.{IsPrefix}
-use Rattle.gate_events.specs.gate_law.Events.{Event, LinkOut}
+use Rattle.gate_law.specs.Events.{Event, LinkOut}
 use Rattle.gate_workers.specs.link_io.declared.link_fault.LinkFault.{LinkFault}
 use Rattle.gate_workers.specs.declared.writer.WriterEnd.{WriterEnd}
 use Rattle.gate_workers.specs.WritersWork.{WritesLink}

@@ -1,7 +1,7 @@
 //! Whose links a line has.
 
 ghost use Rattle.std.specs.Prelude.{◌≡◌, ◌≤◌, ℕ};
-ghost use Rattle.gate_events.specs.gate_law.Events as law;
+ghost use Rattle.gate_law.specs.Events as law;
 ghost use Rattle.gate_workers.specs.link_io.Decoding.{AreAllOfFrames, AreAllOfPackets, FramesOfLink, MadeOfFrames};
 ghost use Rattle.gate_workers.specs.link_io.Decoding.{MadeOfPackets};
 ghost use Rattle.gate_workers.specs.link_io.Decoding.{PacketsOfLink};

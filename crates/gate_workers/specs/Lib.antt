@@ -4,5 +4,4 @@ pub mod TickersWork
 pub use Rattle.link_io.specs.Reading
 pub use Rattle.link_io.specs.Decoding
 pub use Rattle.link_io.specs.Writing
-pub use Rattle.link_io.specs.gate_events as gate_events
 pub use Rattle.link_io.specs as link_io

@@ -18,6 +18,7 @@ pub use by_settings::run_settings;
 pub use day::{Day, audit_day, end_day, keep_day, tell};
 pub use ends::RunPlan;
 pub use fault::RunFault;
-pub use gate_events::{PortFault, PortNumber};
+pub use gate_events::PortNumber;
 pub use running::run;
 pub use settings_file::{SettingsFault, SettingsFile, read};
+pub use soup_session::PortFault;

@@ -9,7 +9,7 @@ use std::alloc::{AllocError, Global};
 /// Contracts see whose they are, and what was made of which bytes.
 pub trait Decoder: Drop {
     ghost use Rattle.std.specs.Prelude.{◌≡◌, ◌++◌, ℕ, List, Bool, OnOk, OnErr, IfOk, IfSome};
-    ghost use Rattle.gate_events.specs.gate_law.Events as law;
+    ghost use Rattle.gate_law.specs.Events as law;
     ghost use Rattle.link_io.specs.Reading.{Feeds, Makes, event_moment};
     ghost use Rattle.gate_events.specs.Seen.{event_seen};
 

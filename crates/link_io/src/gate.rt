@@ -1,6 +1,7 @@
 //! Where an engine's events go, and where what a link is told comes from.
 
-use gate_events::{Event, LinkOut, ShortList};
+use gate_events::{Event, LinkOut};
+use short_list::ShortList;
 use std::alloc::{AllocError, Global};
 use std::sync::Wait;
 
@@ -8,7 +9,7 @@ use std::sync::Wait;
 /// Contracts see the events that were put, and the lists that were taken, each in order.
 pub trait Gate {
     ghost use Rattle.std.specs.Prelude.{◌≡◌, ◌++◌, List, [], ◌∷◌, map, OnOk, IfErr, IfSome, IfNone};
-    ghost use Rattle.gate_events.specs.gate_law.Events as law;
+    ghost use Rattle.gate_law.specs.Events as law;
     ghost use Rattle.gate_events.specs.Seen.{event_seen, link_out_seen};
 
     ghost was_put: { Self → List law.Event };

@@ -13,7 +13,8 @@ use crate::gate::Gate;
 use crate::limit::Limit;
 use crate::link_fault::LinkFault;
 use crate::streams::{Prompt, Sink};
-use gate_events::{LinkOut, ShortList, closes_link};
+use gate_events::{LinkOut, closes_link};
+use short_list::ShortList;
 use std::alloc::{AllocError, Global};
 use std::marker::Model;
 

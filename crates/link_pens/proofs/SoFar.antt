@@ -5,7 +5,7 @@ use Rattle.std.proofs.KnownBytes.{Appends-nil, Appends-trans}
 use Rattle.std.proofs.lemmas.Grind.{flat_map-append}
 use Rattle.std.proofs.lemmas.List.Folds.{list_any-append}
 use Rattle.link_io.specs.Events.{LinkOut}
-use Rattle.link_io.specs.Links.{is_link_closed}
+use Rattle.gate_events.specs.Closing.{is_link_closed}
 use Rattle.link_io.specs.declared.limit.Limit.{Limit}
 use Rattle.link_io.specs.declared.link_fault.LinkFault.{LinkFault}
 use Rattle.link_io.specs.declared.link_fault.LinkFault.TheVariants.{ReadFailed, WriteFailed, Malformed, StepLimit, NoMemory}

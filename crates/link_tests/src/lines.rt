@@ -62,7 +62,7 @@ impl<'a, R: time::Clock> Waiting<'a, R> {
 
 impl<'a, R: time::Clock> Gate for Waiting<'a, R> {
     ghost use Rattle.std.specs.Prelude.{map};
-    ghost use Rattle.link_io.specs.gate_events.Seen.{event_seen, link_out_seen};
+    ghost use Rattle.gate_events.specs.Seen.{event_seen, link_out_seen};
 
     ghost was_put = { λ g. map event_seen g.kept.events.items };
 
