@@ -3,8 +3,7 @@
 use crate::outlet_pen::{OutletEnd, OutletPen};
 use crate::told_pens::ToldPens;
 use desk::{DeskName, Finished, Inlet, Shared};
-use gate_workers::{Event, Gate, LinkOut, ShortList};
-use link_pens::Prompt;
+use gate_workers::{Event, Gate, LinkOut, Prompt, ShortList};
 use std::alloc::{AllocError, Global};
 use std::hash::{BuildHasher, BuildHasherDefault, FoldHasher};
 use std::sync::Wait;

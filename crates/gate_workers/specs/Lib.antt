@@ -1,6 +1,8 @@
 pub mod ReadersWork
 pub mod WritersWork
 pub mod TickersWork
+pub mod Pens
+pub mod Steps
 pub use Rattle.link_io.specs.Reading
 pub use Rattle.link_io.specs.Decoding
 pub use Rattle.link_io.specs.Writing

@@ -10,7 +10,7 @@ use Rattle.std.specs.declared.hash.Hasher as Hasher
 use Rattle.desk_gates.proofs.desk.Sent.{shared_sync}
 use Rattle.desk_gates.specs.desk.declared.DeskName as DeskName
 use Rattle.std.specs.declared.io.Write as Write
-use Rattle.desk_gates.proofs.Sent.{pen_worker_send}
+use Rattle.gate_serving.proofs.Sent.{pen_worker_send}
 use Rattle.desk_gates.specs.contracts.bell.BellClock as BellClock
 use Rattle.run_lines.specs.link_io.declared.gate.Gate as Gate
 use Rattle.run_lines.specs.link_io.declared.streams.Prompt as Prompt

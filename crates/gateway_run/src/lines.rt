@@ -10,10 +10,10 @@ use crate::clock::RunClock;
 use crate::port_faults::PortLinks;
 use desk_gates::{
     BellClock, DeskName, Finished, Inlet, InletGate, Outlet, OutletEnd, OutletGate, OutletPen,
-    PenWorker, Prompt, Shared,
+    Prompt, Shared,
 };
 use gate_events::{ClientNumber, PortNumber};
-use gate_serving::{Line, LinkFault, Worker};
+use gate_serving::{Line, LinkFault, PenWorker, Worker};
 use run_lines::{ClientCounts, CountedLinks, RunOpener, RunPeer, RunPen, Ticks};
 use std::alloc::{AllocError, Global};
 use std::hash::RandomState;
@@ -89,6 +89,7 @@ pub(crate) fn client_line<
             clock: RunClock::new(rt),
         },
         writer: RunPen::Pen(PenWorker::new(
+            pen.recipient(),
             pen.pen(),
             BellClock::new(rt, shared, at, longest_sleep()),
         )),
@@ -131,6 +132,7 @@ pub(crate) fn port_line<
             clock: RunClock::new(rt),
         },
         writer: RunPen::Pen(PenWorker::new(
+            pen.recipient(),
             pen.pen(),
             BellClock::new(rt, shared, at, longest_sleep()),
         )),

@@ -4,7 +4,7 @@ use super::gates::Kept;
 use super::streams::Pieces;
 use gate_serving::{Closer, LinkEnd, Opened, Opener};
 use gate_workers::Clock;
-use link_io::{Event, Gate, LinkFault, LinkOut, ShortList};
+use link_io::{Event, Gate, LinkFault, LinkOut, Prompt, ShortList};
 use std::alloc::{AllocError, Global};
 use std::io::Write;
 use std::sync::Wait;
@@ -126,6 +126,14 @@ impl<'a> Write for Counted<'a> {
 
     fn flush(&mut self) -> io::Result<()> {
         Ok(())
+    }
+}
+
+impl<'a> Prompt for Counted<'a> {
+    ghost did_try = { λ _ _ _ _. Unit {0} };
+
+    fn write_promptly(&mut self, buf: &[u8]) -> io::Result<usize> {
+        self.write(buf)
     }
 }
 
