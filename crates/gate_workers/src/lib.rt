@@ -11,6 +11,7 @@ mod ending;
 mod link;
 mod pen;
 mod reader;
+mod skips;
 mod stepped;
 mod ticks;
 mod work;

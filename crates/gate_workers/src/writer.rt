@@ -41,7 +41,17 @@ pub fn client_writer<R: Wait, W: Prompt + Drop, G: Gate + Drop, C: Clock>(
     requires from_one { 1 ≤ steps }
     ensures written { IfSome result (λ e. ∥ WasWritten W.contents e.0 e.1 ∥₁) }
 {
-    write_link(rt, alloc, client.number(), link, steps, stream, pen, clock, stop)
+    write_link(
+        rt,
+        alloc,
+        client.number(),
+        link,
+        steps,
+        stream,
+        pen,
+        clock,
+        stop,
+    )
 }
 
 /// Opens the link of this number of a port at its pen, and writes what it is told, as `client_writer` does.
@@ -59,7 +69,17 @@ pub fn port_writer<R: Wait, W: Prompt + Drop, G: Gate + Drop, C: Clock>(
     requires from_one { 1 ≤ steps }
     ensures written { IfSome result (λ e. ∥ WasWritten W.contents e.0 e.1 ∥₁) }
 {
-    write_link(rt, alloc, port.number(), link, steps, stream, pen, clock, stop)
+    write_link(
+        rt,
+        alloc,
+        port.number(),
+        link,
+        steps,
+        stream,
+        pen,
+        clock,
+        stop,
+    )
 }
 
 /// The same, of the client or port of this number.

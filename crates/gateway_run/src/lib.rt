@@ -7,12 +7,11 @@ mod clock;
 mod day;
 mod ends;
 mod fault;
-mod frames;
 mod lines;
 mod port_faults;
 mod running;
-mod skipped;
 mod telling;
+mod telling_gate;
 
 pub use by_settings::run_settings;
 pub use day::{Day, audit_day, end_day, keep_day, tell};

@@ -39,4 +39,12 @@ pub trait Gate {
     /// Wakes who writes the link of which this end puts events, where that sleeps. Waits for nobody, takes no memory.
     /// It wakes nobody unless an end does so.
     fn wake_writer(&self) {}
+
+    /// Is told how many bytes of a link were part of no message: at the first, whenever they are twice as many, and at
+    /// the end of its stream. It does nothing unless an end does so.
+    fn tell_skipped(&self, _count: u64) {}
+
+    /// Is told what was written onto a link, frames one behind another, where a Reject, a ResendRequest or a Logout is
+    /// among them. It does nothing unless an end does so.
+    fn tell_sent(&self, _frames: &[u8]) {}
 }

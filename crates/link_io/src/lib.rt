@@ -13,6 +13,7 @@ mod piece;
 mod port_packets;
 mod progress;
 mod reader;
+mod sent_notes;
 mod streams;
 mod writer;
 

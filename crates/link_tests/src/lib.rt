@@ -20,6 +20,8 @@ mod sockets;
 #[cfg(test)]
 mod streams;
 #[cfg(test)]
+mod telling;
+#[cfg(test)]
 mod workers;
 #[cfg(test)]
 mod writers;
