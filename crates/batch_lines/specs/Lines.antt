@@ -1,9 +1,9 @@
 -- The lines that a batch prints.
 use Rattle.std.specs.Prelude.{ℕ, List, [], ◌∷◌, ◌++◌, codes, decimal, Option, Some, None}
 use Rattle.std.specs.List.{flat_map}
-use Rattle.gate_events.specs.soup_session.declared.port_fault.PortFault.{PortFault}
-use Rattle.gate_events.specs.soup_session.Faults.{fault_number}
-use Rattle.gate_events.specs.gate_law.Events.{LinkOut, Write, Close, Batch}
+use Rattle.soup_session.specs.declared.port_fault.PortFault.{PortFault}
+use Rattle.soup_session.specs.Faults.{fault_number}
+use Rattle.gate_law.specs.Events.{LinkOut, Write, Close, Batch}
 use Rattle.batch_lines.specs.declared.flags.Flags.{Flags}
 use Rattle.batch_lines.specs.Words.{shown_number}
 use Rattle.batch_lines.specs.Frames.{shown_frame}

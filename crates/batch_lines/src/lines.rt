@@ -9,7 +9,8 @@ use crate::flags::Flags;
 use crate::frames::push_frame;
 use crate::packets::push_packet;
 use crate::words::{push_name, push_number};
-use gate_events::{Batch, LinkOut, PortFault};
+use gate_events::{Batch, LinkOut};
+use soup_session::PortFault;
 use std::alloc::{AllocError, Global};
 
 /// The lines of a batch: what the client's link is told, then the port's fault, then what the port's link is told.

@@ -8,10 +8,10 @@ use Rattle.std.proofs.lemmas.List.{length-map}
 use Rattle.std.proofs.lemmas.Option.{slice_get_within, get_or_from_slice_get}
 use mathlib.Core.List.{IsPrefix}
 use Rattle.gate_law.specs.Events.{LinkOut}
-use Rattle.desk_steps.specs.gate_events.declared.source.Source.{Source}
-use Rattle.desk_steps.specs.gate_events.declared.source.Source.TheVariants as sources
-use Rattle.desk_steps.specs.gate_events.declared.event.Event.{Event}
-use Rattle.desk_steps.specs.gate_events.Sources.{events_from, is_same_source}
+use Rattle.gate_events.specs.declared.source.Source.{Source}
+use Rattle.gate_events.specs.declared.source.Source.TheVariants as sources
+use Rattle.gate_events.specs.declared.event.Event.{Event}
+use Rattle.gate_events.specs.Sources.{events_from, is_same_source}
 use Rattle.desk_steps.specs.gate_journal.Kept.{Kept, lists_kept, nothing_kept}
 use Rattle.desk_steps.specs.Recorded.{Recorded}
 use Rattle.desk_ends.specs.Rings.{NamedInlet, NamedOutlet}

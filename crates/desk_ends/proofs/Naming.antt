@@ -10,7 +10,7 @@ use Rattle.rtrb.specs.Ring.{all_sent, received}
 use Rattle.rtrb.specs.declared.consumer.Consumer.{Consumer}
 use Rattle.rtrb.specs.declared.finished.Finished.{Finished}
 use Rattle.rtrb.specs.declared.AnyItems.{AnyItems}
-use Rattle.gate_events.specs.gate_law.Events.{LinkOut}
+use Rattle.gate_law.specs.Events.{LinkOut}
 use Rattle.gate_events.specs.declared.event.Event.{Event}
 use Rattle.gate_events.specs.declared.source.Source.{Source}
 use Rattle.gate_events.specs.declared.source.Recipient.{Recipient}

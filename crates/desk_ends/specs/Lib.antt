@@ -2,4 +2,3 @@ pub mod Rings
 pub mod Seats
 pub mod Ends
 pub use Rattle.gate_events.specs.Sources
-pub use Rattle.gate_events.specs as gate_events

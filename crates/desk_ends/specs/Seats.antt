@@ -3,7 +3,7 @@
 use Rattle.std.specs.Prelude.{◌≡◌, ◌≢◌, ℕ, ◌+◌, ◌<◌, ◌≤◌, ◌⊎◌, Bool, true, false, Option, Some, slice_get, length, List}
 use Rattle.std.specs.Prelude.{[], ◌∷◌, ◌++◌}
 use mathlib.Core.List.{IsPrefix}
-use Rattle.gate_events.specs.gate_law.Events.{LinkOut}
+use Rattle.gate_law.specs.Events.{LinkOut}
 use Rattle.gate_events.specs.declared.event.Event.{Event}
 use Rattle.gate_events.specs.Sources.{events_from}
 use Rattle.desk_ends.specs.Rings.{NamedInlet, NamedOutlet, Done, put_at, took_at}

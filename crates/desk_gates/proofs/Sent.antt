@@ -11,10 +11,9 @@ use Rattle.std.proofs.Crossing.{crosses}
 use Rattle.gate_workers.specs.link_io.declared.streams.Prompt as Prompt
 use Rattle.gate_workers.specs.link_io.declared.gate.Gate as Gate
 use Rattle.desk_gates.specs.declared.outlet_pen.OutletEnd as OutletEnd
-use Rattle.link_pens.proofs.Sent.{pen_sync}
+use Rattle.gate_workers.proofs.Sent.{pen_sync}
 use Rattle.desk.proofs.Sent.{inlet_send, outlet_send, shared_sync}
 use Rattle.desk.specs.desk_ends.declared.name.DeskName as DeskName
-use Rattle.link_pens.specs.contracts.pen_worker.PenWorker as PenWorker
 use Rattle.desk_gates.specs.contracts.inlet.InletGate as InletGate
 use Rattle.desk_gates.specs.contracts.outlet.OutletGate as OutletGate
 use Rattle.desk_gates.specs.contracts.outlet_pen.OutletPen as OutletPen
@@ -27,12 +26,6 @@ module _ (K S T : RattleType) (k : DeskName.Ghosts K.Denot) (g : BuildHasher.Gho
     search (shared, sendable) depth 40,
     (search (outlet_send, sendable) depth 40, (search sendable depth 40, tt)),
   )
-
-module _ (W G : RattleType) (p : Prompt.Ghosts W.Denot) (w : Write.Ghosts W.Denot) (t : Gate.Ghosts G.Denot)
-    (sw : IsSend W) (sg : IsSend G) where
-  pub pen_worker_send : (a : NamedLft) (C : RattleType) → IsSend C → IsSend (PenWorker.the_row a W G C p w t)
-  pen_worker_send a C c = let pen = pen_sync W G sw sg p w t in declared_send (PenWorker.the_type a W G C p w t)
-      (search (pen, sendable) depth 40, (search (c, sendable) depth 40, tt))
 
 module _ (W G : RattleType) (p : Prompt.Ghosts W.Denot) (w : Write.Ghosts W.Denot) (e : OutletEnd.Ghosts G.Denot)
     (t : Gate.Ghosts G.Denot) (sw : IsSend W) (sg : IsSend G) where

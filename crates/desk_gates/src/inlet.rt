@@ -3,8 +3,7 @@
 use crate::outlet_pen::{OutletEnd, OutletPen};
 use crate::told_pens::ToldPens;
 use desk::{DeskName, Finished, Inlet, Shared};
-use gate_workers::{Event, Gate, LinkOut, ShortList};
-use link_pens::Prompt;
+use gate_workers::{Event, Gate, LinkOut, Prompt, ShortList};
 use std::alloc::{AllocError, Global};
 use std::hash::{BuildHasher, BuildHasherDefault, FoldHasher};
 use std::sync::Wait;
@@ -75,7 +74,7 @@ impl<'p, 'a, W: Prompt + Drop, G: OutletEnd + Drop, K: DeskName, S: BuildHasher 
 impl<'p, 'a, W: Prompt + Drop, G: OutletEnd + Drop, K: DeskName, S: BuildHasher + Drop> Gate
     for InletGate<'p, 'a, W, G, K, S> {
     ghost use Rattle.std.specs.Prelude.{[], map};
-    ghost use Rattle.gate_workers.specs.gate_events.Seen.{event_seen};
+    ghost use Rattle.gate_events.specs.Seen.{event_seen};
 
     ghost was_put = { λ g. map event_seen g.inlet.put };
 

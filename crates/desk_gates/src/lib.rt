@@ -10,8 +10,7 @@ mod told_pens;
 
 pub use bell::BellClock;
 pub use desk::{Closed, DeskName, Finished, Inlet, Outlet, Parts, Shared, open_desk};
-pub use gate_workers::{Clock, Gate};
+pub use gate_workers::{Clock, Gate, Prompt};
 pub use inlet::InletGate;
-pub use link_pens::{PenWorker, Prompt};
 pub use outlet::OutletGate;
 pub use outlet_pen::{OutletEnd, OutletPen};

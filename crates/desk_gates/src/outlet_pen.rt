@@ -3,13 +3,12 @@
 ghost use Rattle.std.specs.Prelude.{◌≡◌, []};
 
 use desk::Recipient;
-use gate_workers::Gate;
-use link_pens::{Pen, Prompt};
+use gate_workers::{Gate, Pen, Prompt};
 use std::alloc::Global;
 
 /// A gate from which what one client or port is told is taken.
 pub trait OutletEnd: Gate {
-    ghost use Rattle.desk.specs.desk_ends.gate_events.declared.source.Recipient.{Recipient as ToldOne};
+    ghost use Rattle.gate_events.specs.declared.source.Recipient.{Recipient as ToldOne};
 
     ghost told: { Self → ToldOne };
 
@@ -34,7 +33,7 @@ impl<W: Prompt + Drop, G: OutletEnd + Drop> OutletPen<W, G> {
         ensures to { result.to ≡ G.told gate }
     {
         let to = gate.recipient();
-        let pen = Pen::new(number_of(&to), gate);
+        let pen = Pen::new(gate);
         OutletPen { to, pen }
     }
 
@@ -65,13 +64,5 @@ impl<W: Prompt + Drop, G: OutletEnd + Drop> OutletPen<W, G> {
             Ok(gate) => Some(gate),
             Err(_) => None,
         }
-    }
-}
-
-/// The number of a client or port.
-fn number_of(recipient: &Recipient) -> u16 {
-    match recipient {
-        Recipient::Client(client) => client.number(),
-        Recipient::Port(port) => port.number(),
     }
 }

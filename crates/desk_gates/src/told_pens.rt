@@ -2,7 +2,7 @@
 
 use crate::outlet_pen::{OutletEnd, OutletPen};
 use desk::{DeskName, Shared, ToldOutlets, WriteTold};
-use link_pens::Prompt;
+use gate_workers::Prompt;
 use std::alloc::Global;
 use std::hash::{BuildHasher, BuildHasherDefault, FoldHasher};
 

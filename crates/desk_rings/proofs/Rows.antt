@@ -4,8 +4,8 @@ use Rattle.std.proofs.Common.{get_or, ap, sym, ◌∙◌, arith, drop, subst, ad
 use Rattle.std.specs.Prelude.{All}
 use Rattle.std.proofs.lemmas.List.{map-append, take_more}
 use Rattle.std.proofs.lemmas.List.Elements.{All-append}
-use Rattle.desk_ends.specs.gate_events.declared.source.Source.{Source}
-use Rattle.desk_ends.specs.gate_events.declared.source.Recipient.{Recipient}
+use Rattle.gate_events.specs.declared.source.Source.{Source}
+use Rattle.gate_events.specs.declared.source.Recipient.{Recipient}
 use Rattle.desk_ends.specs.Seats.{SeatState, WayState, seat_name, way_name}
 use Rattle.desk_rings.specs.declared.rings.EventRing.{EventRing}
 use Rattle.desk_rings.specs.declared.rings.ToldRing.{ToldRing}

@@ -1,8 +1,8 @@
 -- Rings that were made in a row: the desk's end of each beside the other, with nothing in them. (Own.)
 use Rattle.std.specs.Prelude.{◌≡◌, List, [], map, All, false}
 use Rattle.rtrb.specs.Ring.{sent, known_free, received, known_items}
-use Rattle.desk_ends.specs.gate_events.declared.source.Source.{Source}
-use Rattle.desk_ends.specs.gate_events.declared.source.Recipient.{Recipient}
+use Rattle.gate_events.specs.declared.source.Source.{Source}
+use Rattle.gate_events.specs.declared.source.Recipient.{Recipient}
 use Rattle.desk_ends.specs.Rings.{NamedInlet, NamedOutlet, producer_ring, consumer_ring}
 use Rattle.desk_ends.specs.Seats.{SeatState, WayState, seat_name, way_name}
 use Rattle.desk_rings.specs.declared.rings.EventRing.{EventRing}

@@ -5,7 +5,7 @@ use Rattle.std.proofs.Common.{◌⊎◌}
 use Rattle.std.proofs.lemmas.Bool.Decides.{eqb_tells, leb_tells}
 use Rattle.std.proofs.lemmas.List.{append-nil}
 use Rattle.std.proofs.lemmas.Option.{slice_get_within}
-use Rattle.gate_events.specs.gate_law.Events.{LinkOut, is_the_number}
+use Rattle.gate_law.specs.Events.{LinkOut, is_the_number}
 use Rattle.gate_events.specs.declared.source.Recipient.{Recipient}
 use Rattle.gate_events.specs.declared.source.Recipient.TheVariants as recipients
 use Rattle.gate_events.specs.Sources.{unless_empty}

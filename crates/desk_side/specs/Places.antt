@@ -1,7 +1,7 @@
 -- Whose ring stands at which place: the clients' by their numbers, then the ports' by theirs, and behind the inlets of
 -- both that of the clock. (Own.)
 use Rattle.std.specs.Prelude.{ℕ, ◌+◌, ◌-◌, Bool, nat_lt, nat_le, ◌&&◌, Option, Some, None, if◌then◌else◌}
-use Rattle.gate_events.specs.gate_law.Events.{is_the_number}
+use Rattle.gate_law.specs.Events.{is_the_number}
 use Rattle.gate_events.specs.declared.source.Source.{Source}
 use Rattle.gate_events.specs.declared.source.Source.TheVariants as sources
 use Rattle.gate_events.specs.declared.source.Recipient.{Recipient}

@@ -1,6 +1,6 @@
 -- What a batch tells, apart from the batch. (Own.)
 use Rattle.std.specs.Prelude.{◌≡◌, List, [], if◌then◌else◌}
-use Rattle.gate_events.specs.gate_law.Events.{Batch, LinkOut, is_the_number}
+use Rattle.gate_law.specs.Events.{Batch, LinkOut, is_the_number}
 use Rattle.gate_events.specs.declared.source.Recipient.{Recipient}
 use Rattle.gate_events.specs.declared.source.Recipient.TheVariants as recipients
 use Rattle.desk_side.specs.declared.said.Said.{Said}

@@ -13,7 +13,6 @@ pub use Rattle.desk_side.specs.desk_ends.Rings
 pub use Rattle.desk_side.specs.desk_ends.Seats
 pub use Rattle.desk_side.specs.Side
 pub use Rattle.desk_side.specs.Said
-pub use Rattle.gate_events.specs as gate_events
 pub use Rattle.gate_core.specs as gate_core
 pub use Rattle.gate_journal.specs as gate_journal
 pub use Rattle.desk_side.specs as desk_side

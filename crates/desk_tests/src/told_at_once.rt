@@ -105,7 +105,7 @@ fn open_pen<'w, 'a, K: DeskName, R: Wait + Abort>(
     pen: &FirstPen<'w, 'a, K>,
     stream: Kept<'w>,
 ) -> Result<(), Fail> {
-    match pen.pen().open(rt, alloc, 100, stream) {
+    match pen.pen().open(rt, alloc, 1, 1, 100, stream) {
         Ok(()) => Ok(()),
         Err(_) => Err(Fail::new("no link is open")),
     }

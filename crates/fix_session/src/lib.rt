@@ -17,4 +17,4 @@ mod ticks;
 
 pub use session::{IssuedTurn, Session, SessionTurn};
 pub use session_reading::application_of;
-pub use session_writing::{IssuedReport, SessionOut, push_number};
+pub use session_writing::{SessionOut, push_number};

@@ -12,10 +12,10 @@ use crate::judge::{judge, judge_logon};
 use crate::logon::answer_logon;
 use crate::ticks::do_due;
 use fix_fields::{Fields, Text};
-use session_law::{Kind, Logged, Phase};
+use session_law::{IssuedReport, Kind, Logged, Phase};
 use session_reading::{AppBody, due_at};
 use session_writing::{
-    BodyReport, IssuedReport, Names, SessionOut, Stamped, UndoBodies, append_written, issued_frame,
+    BodyReport, Names, SessionOut, Stamped, UndoBodies, append_written, issued_frame,
     report_of_body,
 };
 use std::alloc::{AllocError, Global};

@@ -19,7 +19,7 @@ mod reports;
 
 pub use accounts::readings;
 pub use gate_core::Settings;
-pub use gate_events::{PortFault, PortNumber};
+pub use gate_events::PortNumber;
 pub use gate_journal::History;
 pub use messages::handled_messages;
 pub use order_accounts::ReadingFault;
@@ -28,3 +28,4 @@ pub use order_pair::OrderPair;
 pub use order_reading::OrderReading;
 pub use pairs::audit;
 pub use soup_packets::{Packet, Payload};
+pub use soup_session::PortFault;

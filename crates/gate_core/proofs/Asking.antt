@@ -6,7 +6,7 @@ use Rattle.fix_types.specs.Application.{body_fields}
 use Rattle.ouch_codec.specs.declared.inbound.Inbound.{Inbound}
 use Rattle.ouch_codec.specs.Inbound.{inbound_bytes}
 use Rattle.session_law.specs.Frames.{told_of_out}
-use Rattle.gate_events.specs.Links.{outs_told_on}
+use Rattle.gate_sessions.specs.Links.{outs_told_on}
 use Rattle.gate_events.specs.Seen.{link_out_seen}
 use Rattle.soup_session.specs.States.{is_up}
 use Rattle.soup_session.specs.Table as table

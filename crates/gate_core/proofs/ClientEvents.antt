@@ -15,7 +15,7 @@ use Rattle.gate_law.specs.Due.{to_client_of, to_port_of, reports_of, client_name
 use Rattle.gate_law.specs.Promises.{Asks, AsksAgain, AsksOnlyThen, comes_up, delivers_message, port_in}
 use Rattle.gate_sessions.specs.Lines.{ClientsLeave, ClientLinks, called_all, link_set}
 use Rattle.gate_core.specs.declared.parts.Parts.{Parts}
-use Rattle.gate_events.specs.Links.{unlinked}
+use Rattle.gate_sessions.specs.Links.{unlinked}
 use Rattle.gate_core.specs.State.{ArePartsOf}
 use Rattle.gate_core.specs.Steps.{Ready, Stepped}
 use Rattle.gate_events.specs.Batches.{batch_of}

@@ -13,8 +13,8 @@ use Rattle.gate_law.specs.After.{unless_closed}
 use Rattle.gate_sessions.specs.declared.client_line.ClientLine.{ClientLine}
 use Rattle.gate_sessions.specs.Lines.{ClientsLeave, ClientLinks, called, link_set}
 use Rattle.gate_core.specs.declared.parts.Parts.{Parts}
-use Rattle.gate_events.specs.Links.{unlinked}
-use Rattle.gate_events.specs.session_writing.declared.output.SessionOut.{SessionOut}
+use Rattle.gate_sessions.specs.Links.{unlinked}
+use Rattle.gate_sessions.specs.session_writing.declared.output.SessionOut.{SessionOut}
 use Rattle.fix_fields.specs.Field.{Message}
 use Rattle.gate_core.specs.Steps.{AfterFrame, Ready, Stepped}
 use Rattle.gate_events.specs.Batches.{batch_of}

@@ -26,7 +26,7 @@ use Rattle.gate_law.specs.Due.{to_client_of, to_port_of, reports_of}
 use Rattle.gate_sessions.specs.Lines.{ClientsLeave, ClientLinks, PortsLeave, PortLinks}
 use Rattle.gate_core.specs.declared.parts.Parts.{Parts}
 use Rattle.gate_core.specs.declared.parts.client_messages.Asked.{Asked}
-use Rattle.gate_events.specs.Links.{outs_told_on, unlinked}
+use Rattle.gate_sessions.specs.Links.{outs_told_on, unlinked}
 use Rattle.gate_core.specs.State.{AreOpenOnLinks, ArePartsOf}
 use Rattle.gate_core.specs.Steps.{IsAsked, OnlyWhileUp, Stepped, after_turn, orders_turn_of}
 use Rattle.gate_events.specs.Batches.{batch_of}

@@ -25,10 +25,10 @@ use Rattle.gate_law.specs.Outcome.{outcome}
 use Rattle.gate_law.specs.After.{lists_after, links_closed, with_outcome}
 use Rattle.gate_law.specs.Due.{to_client_of, to_port_of, reports_of}
 use Rattle.gate_law.specs.Promises.{Asks, AsksAgain, comes_up}
-use Rattle.gate_events.specs.declared.issuing.Issues.{Issues}
+use Rattle.gate_sessions.specs.declared.issuing.Issues.{Issues}
 use Rattle.gate_sessions.specs.Lines.{ClientsLeave, ClientLinks, PortsLeave, PortLinks}
 use Rattle.gate_core.specs.declared.parts.Parts.{Parts}
-use Rattle.gate_events.specs.Links.{outs_told_on, unlinked}
+use Rattle.gate_sessions.specs.Links.{outs_told_on, unlinked}
 use Rattle.gate_core.specs.State.{ArePartsOf}
 use Rattle.gate_core.specs.Steps.{AfterPacket, IsIssued, PayloadIsTold, Stepped, heard_turn}
 use Rattle.gate_events.specs.Batches.{batch_of}

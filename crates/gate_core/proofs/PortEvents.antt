@@ -13,7 +13,7 @@ use Rattle.gate_law.specs.Due.{to_client_of, to_port_of, reports_of, port_named}
 use Rattle.gate_law.specs.Promises.{Asks}
 use Rattle.gate_sessions.specs.Lines.{PortsLeave, PortLinks, PortsStaySettled, NextWithin, called_all}
 use Rattle.gate_core.specs.declared.parts.Parts.{Parts}
-use Rattle.gate_events.specs.Links.{unlinked}
+use Rattle.gate_sessions.specs.Links.{unlinked}
 use Rattle.gate_core.specs.State.{ArePartsOf}
 use Rattle.gate_core.specs.Steps.{Grows, Stepped}
 use Rattle.gate_events.specs.Batches.{batch_of}

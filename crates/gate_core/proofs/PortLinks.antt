@@ -14,7 +14,7 @@ use Rattle.gate_law.specs.After.{unless_closed}
 use Rattle.gate_sessions.specs.declared.port_line.PortLine.{PortLine}
 use Rattle.gate_sessions.specs.Lines.{PortsLeave, PortLinks, called, link_set}
 use Rattle.gate_core.specs.declared.parts.Parts.{Parts}
-use Rattle.gate_events.specs.Links.{unlinked}
+use Rattle.gate_sessions.specs.Links.{unlinked}
 use Rattle.gate_core.specs.Steps.{Ready, Stepped}
 use Rattle.gate_events.specs.Batches.{batch_of}
 use Rattle.gate_core.proofs.Told.{same}

@@ -20,7 +20,7 @@ use Rattle.gate_law.specs.Outcome.{Stays, message_in, messages, by_event, by_pay
 use Rattle.gate_law.specs.Promises.{AsksAgain, comes_up, delivers_message}
 use Rattle.gate_sessions.specs.Lines.{PortsLeave, PortLinks, called, called_all}
 use Rattle.gate_core.specs.declared.parts.Parts.{Parts}
-use Rattle.gate_events.specs.Links.{unlinked}
+use Rattle.gate_sessions.specs.Links.{unlinked}
 use Rattle.gate_core.specs.Steps.{AfterPacket, Ready, Stepped}
 use Rattle.gate_events.specs.Batches.{batch_of}
 use Rattle.gate_core.specs.Hearing.{IsSentAgain, AreDue, came_up}

@@ -12,7 +12,7 @@ use Rattle.gate_law.specs.Settings.{Settings, client_name}
 use Rattle.gate_law.specs.Events.{LinkOut, is_the_number}
 use Rattle.gate_law.specs.Sessions.{to_client, to_port, to_link, port_line}
 use Rattle.gate_law.specs.After.{unless_closed}
-use Rattle.gate_events.specs.Links.{outs_told_on, unlinked}
+use Rattle.gate_sessions.specs.Links.{outs_told_on, unlinked}
 use Rattle.gate_events.specs.declared.batch.LinkOut as batch
 use Rattle.gate_events.specs.Seen.{link_out_seen}
 

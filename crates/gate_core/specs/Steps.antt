@@ -5,8 +5,8 @@ use Rattle.fix_types.specs.declared.application.AppMsg.{AppMsg}
 use Rattle.ouch_codec.specs.Inbound.{inbound_bytes}
 use Rattle.ouch_codec.specs.Values.{decoded}
 use Rattle.session_law.specs.Frames.{told_of_out}
-use Rattle.gate_events.specs.session_writing.declared.output.SessionOut.{SessionOut}
-use Rattle.gate_events.specs.session_writing.Written.{told_bytes}
+use Rattle.gate_sessions.specs.session_writing.declared.output.SessionOut.{SessionOut}
+use Rattle.gate_sessions.specs.session_writing.Written.{told_bytes}
 use Rattle.session_law.specs.Runs.{OnMessage}
 use Rattle.soup_session.specs.declared.port_turn.PortOut.{PortOut}
 use Rattle.gate_law.specs.soup_packets.declared.packet.Packet.{Packet}
@@ -30,8 +30,8 @@ use Rattle.gate_law.specs.Sessions.{client_reports, port_outs, to_port}
 use Rattle.gate_law.specs.After.{lists_after}
 use Rattle.gate_law.specs.Due.{Gives}
 use Rattle.gate_law.specs.Promises.{Asks}
-use Rattle.gate_events.specs.declared.issuing.Issues.{Issues}
-use Rattle.gate_events.specs.Links.{outs_told_on}
+use Rattle.gate_sessions.specs.declared.issuing.Issues.{Issues}
+use Rattle.gate_sessions.specs.Links.{outs_told_on}
 use Rattle.gate_events.specs.Seen.{link_out_seen}
 use Rattle.gate_sessions.specs.Lines.{NextWithin, ClientsStaySettled, PortsStaySettled}
 use Rattle.gate_core.specs.declared.parts.Parts.{Parts}

@@ -10,13 +10,12 @@ mod targets;
 mod whole;
 
 pub use fix_fields::Text;
-pub use gate_events::{
-    Batch, ClientFrame, ClientNumber, Event, IssuedReport, LinkOut, PortFault, PortNumber,
-    ShortList,
-};
+pub use gate_events::{Batch, ClientFrame, ClientNumber, Event, LinkOut, PortNumber};
 pub use gate_settings::{ClientSettings, ClientTerms, PortSettings, Settings};
 pub use ouch_codec::EnterOrder;
 pub use runs::run_all;
-pub use soup_session::PortSession;
+pub use session_law::IssuedReport;
+pub use short_list::ShortList;
+pub use soup_session::{PortFault, PortSession};
 pub use targets::Targets;
 pub use whole::Core;

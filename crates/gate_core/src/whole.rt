@@ -5,9 +5,10 @@ ghost use Rattle.std.specs.Prelude.{[], ◌∷◌, ◌≡◌, length, IfOk, OnEr
 use crate::parts::Parts;
 use crate::parts::new::{orders, orders_with_hasher};
 use crate::targets::Targets;
-use gate_events::{Batch, Event, PortFault};
+use gate_events::{Batch, Event};
 use gate_settings::Settings;
 use order_core::OrderCore;
+use soup_session::PortFault;
 use std::alloc::{AllocError, Global};
 use std::hash::{BuildHasher, BuildHasherDefault, FoldHasher};
 use std::marker::Model;

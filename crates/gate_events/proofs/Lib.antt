@@ -1,4 +1,2 @@
-mod Closing
-mod OnLinks
-mod PortSends
+mod AnyOf
 mod Sources

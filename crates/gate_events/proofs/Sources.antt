@@ -1,7 +1,7 @@
 -- What events and batches give, with one more of them.
 use Rattle.std.proofs.Common.{◌≡◌, ℕ, ◌+◌, ◌<◌, List, [], ◌∷◌, ◌++◌, length, take, get_or, map, sym, ap, ◌∙◌, append-nil, append_assoc, refl, ◌≤◌, arith}
 use Rattle.std.proofs.lemmas.List.{map-append, take_more}
-use Rattle.gate_sessions.specs.gate_law.Events as law
+use Rattle.gate_law.specs.Events as law
 use Rattle.gate_events.specs.declared.batch.Batch.{Batch}
 use Rattle.gate_events.specs.declared.source.Recipient.{Recipient}
 use Rattle.gate_events.specs.declared.batch.LinkOut.{LinkOut}

@@ -1,8 +1,8 @@
 -- A batch of these parts.
 use Rattle.std.specs.Prelude.{ℕ, ◌==◌, not, ◌&&◌, List, length, Option, Some, None, is_some, if◌then◌else◌}
 use Rattle.soup_session.specs.declared.port_fault.PortFault.{PortFault}
-use Rattle.gate_sessions.specs.Field.{Message}
-use Rattle.gate_sessions.specs.gate_law.Events.{LinkOut, Batch}
+use Rattle.fix_fields.specs.Field.{Message}
+use Rattle.gate_law.specs.Events.{LinkOut, Batch}
 
 -- a batch by its parts, that names this client and this port where there is something for them
 abbrev pub batch_of : ℕ → List Message → List LinkOut → ℕ → List LinkOut → Option PortFault → Batch

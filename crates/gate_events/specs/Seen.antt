@@ -1,6 +1,6 @@
 -- Events and batches as the law sees them.
 use Rattle.std.specs.Prelude.{map}
-use Rattle.gate_sessions.specs.gate_law.Events as law
+use Rattle.gate_law.specs.Events as law
 use Rattle.gate_events.specs.declared.event.Event.{Event}
 use Rattle.gate_events.specs.declared.event.Event.TheVariants as events
 use Rattle.gate_events.specs.declared.batch.LinkOut.{LinkOut}

@@ -1,6 +1,6 @@
 -- Whom events come from, and whom batches are for. (Own: one party for each link, and the clock.)
 use Rattle.std.specs.Prelude.{◌==◌, Bool, true, false, List, [], ◌∷◌, ◌++◌, filter, if◌then◌else◌}
-use Rattle.gate_sessions.specs.gate_law.Events.{Batch, LinkOut, is_the_number}
+use Rattle.gate_law.specs.Events.{Batch, LinkOut, is_the_number}
 use Rattle.gate_events.specs.declared.event.Event.{Event}
 use Rattle.gate_events.specs.declared.event.Event.TheVariants as events
 use Rattle.gate_events.specs.declared.source.Source.{Source}

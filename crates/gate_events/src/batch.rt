@@ -4,7 +4,7 @@ ghost use Rattle.std.specs.Prelude.{◌≡◌, ◌==◌, ◌&&◌, not, is_some,
 
 use crate::number::{ClientNumber, PortNumber};
 use crate::told::Told;
-use gate_sessions::IssuedReport;
+use session_law::IssuedReport;
 use short_list::ShortList;
 use soup_session::PortFault;
 

@@ -1,10 +1,10 @@
 //! A whole frame of a client.
 
 ghost use Rattle.std.specs.Prelude.{◌≡◌, ◌≤◌, ◌↔◌, length, IsSome, IfSome};
-ghost use Rattle.gate_sessions.specs.Field.{fields_text};
-ghost use Rattle.gate_sessions.specs.session_writing.fix_framing.Stream.{longest};
+ghost use Rattle.fix_fields.specs.Field.{fields_text};
+ghost use Rattle.fix_framing.specs.Stream.{longest};
 
-use gate_sessions::Fields;
+use fix_fields::Fields;
 use std::marker::Model;
 
 /// A whole frame of a client: all its fields, which print in at most `ClientFrame::LONGEST` bytes. Contracts see the
@@ -18,8 +18,8 @@ pub struct ClientFrame {
 
 impl Model for ClientFrame {
     ghost use Rattle.std.specs.Prelude.{List, length, ◌≤◌};
-    ghost use Rattle.gate_sessions.specs.Field.{Field, fields_text};
-    ghost use Rattle.gate_sessions.specs.session_writing.fix_framing.Stream.{longest};
+    ghost use Rattle.fix_fields.specs.Field.{Field, fields_text};
+    ghost use Rattle.fix_framing.specs.Stream.{longest};
 
     ghost Value = { List Field };
 

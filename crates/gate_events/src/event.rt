@@ -2,7 +2,7 @@
 
 use crate::client_frame::ClientFrame;
 use crate::number::{ClientNumber, PortNumber};
-use gate_sessions::Packet;
+use soup_packets::Packet;
 
 /// What comes: a link is up, brings a whole frame or packet, or is gone; or time passes.
 ///

@@ -1,13 +1,13 @@
 //! Batches of their parts.
 
 ghost use Rattle.std.specs.Prelude.{◌≡◌, [], ◌∷◌, None, IfOk, map};
-ghost use Rattle.gate_sessions.specs.gate_law.Events.{empty, is_the_number, Close};
+ghost use Rattle.gate_law.specs.Events.{empty, is_the_number, Close};
 ghost use Rattle.gate_events.specs.Seen.{batch_seen, link_out_seen};
 ghost use Rattle.gate_events.specs.Batches.{batch_of};
 
 use crate::batch::{Batch, LinkOut};
 use crate::number::{ClientNumber, PortNumber};
-use gate_sessions::IssuedReport;
+use session_law::IssuedReport;
 use short_list::ShortList;
 use soup_session::PortFault;
 use std::alloc::{AllocError, Global};

@@ -16,7 +16,7 @@ pub struct Told {
 
 impl Model for Told {
     ghost use Rattle.std.specs.Prelude.{List, map};
-    ghost use Rattle.gate_sessions.specs.gate_law.Events.{LinkOut};
+    ghost use Rattle.gate_law.specs.Events.{LinkOut};
     ghost use Rattle.gate_events.specs.Seen.{link_out_seen};
 
     ghost Value = { List LinkOut };

@@ -4,7 +4,7 @@ ghost use Rattle.std.specs.Prelude.{◌≡◌, ◌≤◌, ◌⊎◌, ℕ, IfOk, 
 ghost use Rattle.std.specs.List.{flat_map, FoldsTo};
 ghost use Rattle.std.specs.Io.KnownBytes.{Keeps};
 ghost use Rattle.batch_lines.specs.Lines.{shown_batch};
-ghost use Rattle.script_steps.specs.gate_events.Seen.{batch_seen};
+ghost use Rattle.gate_events.specs.Seen.{batch_seen};
 ghost use Rattle.gate_law.specs.Holds.{Holds};
 ghost use Rattle.audit_lines.specs.gate_audit.gate_journal.Kept.{nothing_kept, turns};
 ghost use Rattle.audit_lines.specs.text_lines.Unread.{lines_of};

@@ -1,1 +1,2 @@
 mod Served
+pub mod Sent

@@ -1,12 +1,10 @@
 -- Links that are read and written one after another, and lines from what their halves have done.
-use Rattle.std.proofs.Common.{◌≡◌, ⊎_elim, ℕ, ◌+◌, ◌≤◌, Bool, true, false, List, [], ◌∷◌, ◌++◌, append_assoc, length}
+use Rattle.std.proofs.Common.{◌≡◌, ⊎_elim, ℕ, ◌+◌, ◌≤◌, Bool, true, false, List, [], ◌∷◌, length}
 use Rattle.std.proofs.Common.{Option, Result, refl, sym, ap, ◌∙◌, subst, arith}
 use Rattle.std.specs.List.{All, AllZip}
-use Rattle.std.proofs.lemmas.List.{append-nil}
-use mathlib.Core.List.{IsPrefix}
 use Rattle.std.proofs.lemmas.Bool.{false≢true}
 use Rattle.std.proofs.lemmas.List.Elements.{All-head, All-tail}
-use Rattle.gate_events.specs.gate_law.Events.{Event, LinkOut}
+use Rattle.gate_law.specs.Events.{Event, LinkOut}
 use Rattle.gate_workers.specs.link_io.declared.link_fault.LinkFault.{LinkFault}
 use Rattle.gate_workers.specs.declared.writer.WriterEnd.{WriterEnd}
 use Rattle.gate_serving.specs.declared.halves.Reads.{Reads}
@@ -14,7 +12,8 @@ use Rattle.gate_serving.specs.declared.halves.Writes.{Writes}
 use Rattle.gate_serving.specs.declared.line.Line.{Line}
 use Rattle.gate_serving.specs.declared.line.Worker.{Worker}
 use Rattle.gate_serving.specs.Halves.{IsJoined, IsSplit, ReadsDid, WritesDid}
-use Rattle.gate_serving.specs.Lines.{HasLetGo, LetGoAt, LineRead, LineServed, LineWrittenBy, LinksRead, LinksWrittenBy, MayBeDone, OfAStream}
+use Rattle.gate_serving.specs.Lines.{HasLetGo, LetGoAt, LineRead, LineServed, LineWrittenBy, LinksRead, LinksWrittenBy, MayBeDone}
+use Rattle.gate_workers.specs.WritersWork.{OfAStream}
 
 -- ---- links that are read
 
@@ -67,12 +66,6 @@ module _ (reads : ℕ → Result Unit LinkFault → List Event → List Event �
 
 -- ---- links that are written
 
-pub prefix-same : {A : Type 0} (xs : List A) → IsPrefix xs xs
-prefix-same xs = ([], append-nil xs)
-
-pub prefix-trans : {A : Type 0} (xs ys zs : List A) → IsPrefix xs ys → IsPrefix ys zs → IsPrefix xs zs
-prefix-trans xs ys zs p q = (p.0 ++ q.0, sym (append_assoc xs p.0 q.0) ∙ (ap (λ w. w ++ q.0) p.1 ∙ q.1))
-
 module _ {B : Type 0} (let_go : B → B → Type 0) where
   pub gone_none : (x : B) → HasLetGo let_go x x
   gone_none x = ([], refl)
@@ -122,10 +115,10 @@ module _ {P O G C W K : Type 0} (reads : P → ℕ → Result Unit LinkFault →
       (λ (did : ReadsDid reads has_ended opened was_put was_taken old new). did)
       may
 
-module _ {P B W K : Type 0} (wrote : B → ℕ → Result WriterEnd LinkFault → B → Type 0) (let_go : B → B → Type 0) where
-  pub writes_did : (old new : Writes P B W K) → MayBeDone (WritesDid wrote let_go) old new → WritesDid wrote let_go old new
+module _ {B W K : Type 0} (wrote : B → ℕ → Result WriterEnd LinkFault → B → Type 0) (let_go : B → B → Type 0) where
+  pub writes_did : (old new : Writes B W K) → MayBeDone (WritesDid wrote let_go) old new → WritesDid wrote let_go old new
   writes_did old new may = ⊎_elim
-      (λ (same : new ≡ old). subst (λ (n : Writes P B W K). WritesDid wrote let_go old n) (sym same) ([], refl))
+      (λ (same : new ≡ old). subst (λ (n : Writes B W K). WritesDid wrote let_go old n) (sym same) ([], refl))
       (λ (did : WritesDid wrote let_go old new). did)
       may
 
@@ -152,10 +145,10 @@ in_part reads over HasEnded o p x y h = record { ends = h.ends; puts = h.puts; o
 
 module _ {P O G C B W K : Type 0} (reads : P → ℕ → Result Unit LinkFault → List Event → List Event → Option (List ℕ) → Option (List ℕ) → Type 0) (has_ended : O → Type 0) (opened : O → ℕ) (g_put : G → List Event) (g_taken : G → List (List LinkOut)) (wrote : B → ℕ → Result WriterEnd LinkFault → B → Type 0) (let_go : B → B → Type 0) where
   -- what both halves of a line may have done
-  abbrev pub HalvesDid : (b c : Reads P O (Worker G C) W K × Writes P B W K) → Type 0
+  abbrev pub HalvesDid : (b c : Reads P O (Worker G C) W K × Writes B W K) → Type 0
   HalvesDid b c = MayBeDone (ReadsDid reads has_ended opened g_put g_taken) b.0 c.0 × MayBeDone (WritesDid wrote let_go) b.1 c.1
 
-  served_as : (over : Bool) (a : Line P O (Worker G C) B) (b c : Reads P O (Worker G C) W K × Writes P B W K) (d : Line P O (Worker G C) B) → IsSplit a b → HalvesDid b c → IsJoined c d
+  served_as : (over : Bool) (a : Line P O (Worker G C) B) (b c : Reads P O (Worker G C) W K × Writes B W K) (d : Line P O (Worker G C) B) → IsSplit a b → HalvesDid b c → IsJoined c d
       → (LineRead (reads a.peer) c.0.all_over (has_ended d.opener) (opened a.opener) (opened d.opener) (g_put a.reader.gate) (g_put d.reader.gate) → LineRead (reads a.peer) over (has_ended d.opener) (opened a.opener) (opened d.opener) (g_put a.reader.gate) (g_put d.reader.gate))
       → LineServed reads has_ended opened g_put g_taken wrote let_go over a d
   served_as over a b c d split did joined so =
@@ -169,11 +162,11 @@ module _ {P O G C B W K : Type 0} (reads : P → ℕ → Result Unit LinkFault �
         none_taken = ap (λ (z : Worker G C). g_taken z.gate) joined.3 ∙ (read.3 ∙ ap (λ (z : Worker G C). g_taken z.gate) split.3);
       }
 
-  pub served_whole : (a : Line P O (Worker G C) B) (b c : Reads P O (Worker G C) W K × Writes P B W K) (d : Line P O (Worker G C) B) → IsSplit a b → HalvesDid b c → c.0.all_over ≡ true → IsJoined c d → LineServed reads has_ended opened g_put g_taken wrote let_go true a d
+  pub served_whole : (a : Line P O (Worker G C) B) (b c : Reads P O (Worker G C) W K × Writes B W K) (d : Line P O (Worker G C) B) → IsSplit a b → HalvesDid b c → c.0.all_over ≡ true → IsJoined c d → LineServed reads has_ended opened g_put g_taken wrote let_go true a d
   served_whole a b c d split did over joined = served_as true a b c d split did joined
       (λ h. subst (λ (z : Bool). LineRead (reads a.peer) z (has_ended d.opener) (opened a.opener) (opened d.opener) (g_put a.reader.gate) (g_put d.reader.gate)) over h)
 
-  pub served_in_part : (a : Line P O (Worker G C) B) (b c : Reads P O (Worker G C) W K × Writes P B W K) (d : Line P O (Worker G C) B) → IsSplit a b → HalvesDid b c → Unit {0} → IsJoined c d → LineServed reads has_ended opened g_put g_taken wrote let_go false a d
+  pub served_in_part : (a : Line P O (Worker G C) B) (b c : Reads P O (Worker G C) W K × Writes B W K) (d : Line P O (Worker G C) B) → IsSplit a b → HalvesDid b c → Unit {0} → IsJoined c d → LineServed reads has_ended opened g_put g_taken wrote let_go false a d
   served_in_part a b c d split did none joined = served_as false a b c d split did joined
       (λ h. in_part (reads a.peer) c.0.all_over (has_ended d.opener) (opened a.opener) (opened d.opener) (g_put a.reader.gate) (g_put d.reader.gate) h)
 

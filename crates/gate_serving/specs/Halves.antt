@@ -1,6 +1,6 @@
 -- Lines and their halves: how one is made of the other, and what a half has done.
 use Rattle.std.specs.Prelude.{◌≡◌, ℕ, false, List, Option, Result}
-use Rattle.gate_events.specs.gate_law.Events.{Event, LinkOut}
+use Rattle.gate_law.specs.Events.{Event, LinkOut}
 use Rattle.gate_workers.specs.link_io.declared.link_fault.LinkFault.{LinkFault}
 use Rattle.gate_workers.specs.declared.writer.WriterEnd.{WriterEnd}
 use Rattle.gate_serving.specs.declared.halves.Reads.{Reads}
@@ -10,13 +10,13 @@ use Rattle.gate_serving.specs.declared.line.Worker.{Worker}
 use Rattle.gate_serving.specs.Lines.{LineRead, LineWrittenBy}
 
 -- the halves of a line, before anything was done
-abbrev pub IsSplit : {P O A B W K : Type 0} → Line P O A B → Reads P O A W K × Writes P B W K → Type 0
+abbrev pub IsSplit : {P O A B W K : Type 0} → Line P O A B → Reads P O A W K × Writes B W K → Type 0
 IsSplit line half =
     (half.0.peer ≡ line.peer) × (half.0.steps ≡ line.steps) × (half.0.opener ≡ line.opener)
     × (half.0.worker ≡ line.reader) × (half.0.all_over ≡ false) × (half.1.worker ≡ line.writer)
 
 -- the line that two halves are
-abbrev pub IsJoined : {P O A B W K : Type 0} → Reads P O A W K × Writes P B W K → Line P O A B → Type 0
+abbrev pub IsJoined : {P O A B W K : Type 0} → Reads P O A W K × Writes B W K → Line P O A B → Type 0
 IsJoined half line =
     (line.peer ≡ half.0.peer) × (line.steps ≡ half.0.steps) × (line.opener ≡ half.0.opener)
     × (line.reader ≡ half.0.worker) × (line.writer ≡ half.1.worker)
@@ -33,6 +33,6 @@ ReadsDid reads has_ended opened was_put was_taken old new =
     × (was_taken new.worker.gate ≡ was_taken old.worker.gate)
 
 -- what was done by its writer
-abbrev pub WritesDid : {P B W K : Type 0} → (wrote : B → ℕ → Result WriterEnd LinkFault → B → Type 0)
-    → (let_go : B → B → Type 0) → (old new : Writes P B W K) → Type 0
+abbrev pub WritesDid : {B W K : Type 0} → (wrote : B → ℕ → Result WriterEnd LinkFault → B → Type 0)
+    → (let_go : B → B → Type 0) → (old new : Writes B W K) → Type 0
 WritesDid wrote let_go old new = LineWrittenBy wrote let_go old.worker new.worker

@@ -1,16 +1,11 @@
 -- What the two workers of a line's links have put and taken when the links are over.
 use Rattle.std.specs.Prelude.{◌≡◌, ◌⊎◌, ℕ, ◌≤◌, ◌+◌, Bool, true, List, [], ◌∷◌, length, Option, Result}
-use mathlib.Core.List.{IsPrefix}
-use Rattle.gate_events.specs.gate_law.Events.{Event, LinkOut}
+use Rattle.gate_law.specs.Events.{Event, LinkOut}
 use Rattle.gate_workers.specs.link_io.declared.link_fault.LinkFault.{LinkFault}
 use Rattle.gate_workers.specs.declared.writer.WriterEnd.{WriterEnd}
-use Rattle.gate_workers.specs.WritersWork.{WritesLink}
+use Rattle.gate_workers.specs.WritersWork.{OfAStream}
 use Rattle.gate_serving.specs.declared.line.Line.{Line}
 use Rattle.gate_serving.specs.declared.line.Worker.{Worker}
-
--- it holds of what some stream had before and has after
-abbrev pub OfAStream : (Option (List ℕ) → Option (List ℕ) → Type 0) → Type 0
-OfAStream holds = (before after : Option (List ℕ)) × holds before after
 
 -- Links of a line that were read one after the other, numbered from 1, by how each ended, the last one first: what was
 -- put of each, in order, and nothing else.
@@ -45,15 +40,6 @@ abbrev pub LineWrittenBy : {B : Type 0} → (wrote : B → ℕ → Result Writer
 LineWrittenBy wrote let_go old new =
     (ends : List (Result WriterEnd LinkFault)) × LinksWrittenBy wrote let_go ends old new
 
--- Of a worker over a gate: what was taken for each link, in order. What was taken between two links, and behind the
--- last, was let go.
-abbrev pub LinksWritten : (ends : List (Result WriterEnd LinkFault)) → (taken_old taken_new : List (List LinkOut))
-    → Type 0
-LinksWritten [] taken_old taken_new = taken_new ≡ taken_old
-LinksWritten (end ∷ before) taken_old taken_new =
-    (between over : List (List LinkOut)) × LinksWritten before taken_old between
-    × OfAStream (WritesLink (length before + 1) end between over) × IsPrefix over taken_new
-
 -- What a line's reader has done: links were read, none that wasn't opened. Where all are over, each that was opened was
 -- read, and no further one comes.
 pub record LineRead
@@ -63,11 +49,6 @@ pub record LineRead
   pub puts : LinksRead reads ends put_old put_new
   pub opened : opened_old + length ends ≤ opened_new
   pub whole : all_over ≡ true → (opened_new ≡ opened_old + length ends) × HasEnded
-
--- What a line's writer has done: links were written.
-abbrev pub LineWritten : (taken_old taken_new : List (List LinkOut)) → Type 0
-LineWritten taken_old taken_new =
-    (ends : List (Result WriterEnd LinkFault)) × LinksWritten ends taken_old taken_new
 
 -- done, or as it was
 abbrev pub MayBeDone : {A : Type 0} → (A → A → Type 0) → A → A → Type 0

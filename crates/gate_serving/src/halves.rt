@@ -2,7 +2,8 @@
 
 ghost use Rattle.std.specs.Prelude.{◌≡◌, ◌≤◌, ◌<◌, true, IfNone, IfSome};
 ghost use Rattle.gate_serving.specs.Halves.{ReadsDid, WritesDid};
-ghost use Rattle.gate_serving.specs.Lines.{HasLetGo, LineRead, LineWrittenBy, OfAStream};
+ghost use Rattle.gate_serving.specs.Lines.{HasLetGo, LineRead, LineWrittenBy};
+ghost use Rattle.gate_workers.specs.WritersWork.{OfAStream};
 
 use crate::job::Job;
 use crate::line::Worker;
@@ -31,8 +32,7 @@ pub(crate) struct Reads<'a, P, O, A, W, K> {
 
 /// What a line's links are written with.
 #[derive(Drop)]
-pub(crate) struct Writes<'a, P, B, W, K> {
-    pub(crate) peer: P,
+pub(crate) struct Writes<'a, B, W, K> {
     pub(crate) steps: u64,
     pub(crate) worker: B,
     pub(crate) slot: &'a Slot<W, K>,
@@ -186,9 +186,8 @@ fn read_link<R: Wait, P: Peer + Drop, S: Read + Drop, G: Gate, C: Clock, W: Drop
     })
 }
 
-impl<'a, P, B, W, K> Job for Writes<'a, P, B, W, K>
+impl<'a, B, W, K> Job for Writes<'a, B, W, K>
 where
-    P: Peer + Drop,
     B: LineWriter<W> + Drop,
     W: Drop,
     K: Closer + Drop,
@@ -198,15 +197,13 @@ where
     /// Writes each link that the line's reader hands over, until no further one comes.
     fn run<R: Wait>(self, rt: &R, alloc: Global, flag: &AtomicBool) -> Self {
         let Writes {
-            peer,
             steps,
             worker,
             slot,
         } = self;
         let mut worker = worker;
-        write_links(rt, alloc, flag, peer, steps, slot, &mut worker);
+        write_links(rt, alloc, flag, steps, slot, &mut worker);
         Writes {
-            peer,
             steps,
             worker,
             slot,
@@ -216,17 +213,15 @@ where
 
 /// Writes links, numbered from 1 as they come, until no further one does. What is told between two of them is for links
 /// that are over: it is let go.
-fn write_links<R: Wait, P, B, W, K>(
+fn write_links<R: Wait, B, W, K>(
     rt: &R,
     alloc: Global,
     flag: &AtomicBool,
-    peer: P,
     steps: u64,
     slot: &Slot<W, K>,
     worker: &mut B,
 )
 where
-    P: Peer + Drop,
     B: LineWriter<W>,
     W: Drop,
     K: Closer + Drop,
@@ -236,16 +231,7 @@ where
         let Some(given) = next_link(rt, alloc, flag, before, slot, worker) else {
             return;
         };
-        let end = write_link(
-            rt,
-            alloc,
-            peer,
-            before + 1,
-            steps,
-            given,
-            worker,
-            slot.stop(),
-        );
+        let end = write_link(rt, alloc, before + 1, steps, given, worker, slot.stop());
         slot.end(rt, end);
     }
 }
@@ -278,10 +264,9 @@ fn next_link<R: Wait, B: LineWriter<W>, W: Drop, K: Drop>(
 }
 
 /// Writes a link until it is closed, faulted or stopped. Unless it was stopped, its stream is shut down.
-fn write_link<R: Wait, P: Peer + Drop, W: Drop, K: Closer + Drop, B: LineWriter<W>>(
+fn write_link<R: Wait, W: Drop, K: Closer + Drop, B: LineWriter<W>>(
     rt: &R,
     alloc: Global,
-    peer: P,
     link: u64,
     steps: u64,
     given: Given<W, K>,
@@ -291,7 +276,7 @@ fn write_link<R: Wait, P: Peer + Drop, W: Drop, K: Closer + Drop, B: LineWriter<
     ensures written { B.wrote worker.old link result worker.new }
 {
     let Given { stream, mut closer } = given;
-    let end = worker.write(rt, alloc, peer, link, steps.max(1), stream, stop);
+    let end = worker.write(rt, alloc, link, steps.max(1), stream, stop);
     if end != Ok(WriterEnd::Stopped) {
         closer.close(stop);
     }

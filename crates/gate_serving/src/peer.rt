@@ -1,23 +1,19 @@
 //! Whose links a line has.
 
 ghost use Rattle.std.specs.Prelude.{◌≡◌, ◌≤◌, ℕ};
-ghost use Rattle.gate_events.specs.gate_law.Events as law;
+ghost use Rattle.gate_law.specs.Events as law;
 ghost use Rattle.gate_workers.specs.link_io.Decoding.{AreAllOfFrames, AreAllOfPackets, FramesOfLink, MadeOfFrames};
 ghost use Rattle.gate_workers.specs.link_io.Decoding.{MadeOfPackets};
 ghost use Rattle.gate_workers.specs.link_io.Decoding.{PacketsOfLink};
 ghost use Rattle.gate_workers.specs.ReadersWork.{ReadsLink};
-ghost use Rattle.gate_workers.specs.WritersWork.{WritesLink};
 
 use gate_events::{ClientNumber, PortNumber};
-use gate_workers::{
-    Clock, Gate, LinkFault, WriterEnd, client_reader, client_writer, port_reader, port_writer,
-};
+use gate_workers::{Clock, Gate, LinkFault, client_reader, port_reader};
 use std::alloc::Global;
-use std::io::{Read, Write};
+use std::io::Read;
 use std::sync::Wait;
-use std::sync::atomic::AtomicBool;
 
-/// A client or a port: says what the two workers of its links do.
+/// A client or a port: says what the reader of its links does.
 pub trait Peer: Copy {
     ghost use Rattle.std.specs.Prelude.{List, Option, Result};
     ghost use Rattle.gate_workers.specs.link_io.declared.link_fault.LinkFault.{LinkFault};
@@ -41,23 +37,6 @@ pub trait Peer: Copy {
         ensures has_read { reads self.now link result (G.was_put gate.old) (G.was_put gate.new)
             (S.remaining stream.old) (S.remaining stream.new) }
         ensures none_taken { G.was_taken gate.new ≡ G.was_taken gate.old };
-
-    /// Writes what the link of this number is told, until it is closed, or stopped, with so many steps at most.
-    fn write<R: Wait, W: Write, G: Gate, C: Clock>(
-        &self,
-        rt: &R,
-        alloc: Global,
-        link: u64,
-        steps: u64,
-        stream: &mut W,
-        gate: &mut G,
-        clock: &mut C,
-        stop: &AtomicBool,
-    ) -> Result<WriterEnd, LinkFault>
-        requires from_one { 1 ≤ steps }
-        ensures has_written { WritesLink link result (G.was_taken gate.old) (G.was_taken gate.new)
-            (W.contents stream.old) (W.contents stream.new) }
-        ensures none_put { G.was_put gate.new ≡ G.was_put gate.old };
 }
 
 impl Peer for ClientNumber {
@@ -77,20 +56,6 @@ impl Peer for ClientNumber {
     ) -> Result<(), LinkFault> {
         client_reader(rt, alloc, *self, link, steps, stream, gate, clock)
     }
-
-    fn write<R: Wait, W: Write, G: Gate, C: Clock>(
-        &self,
-        rt: &R,
-        alloc: Global,
-        link: u64,
-        steps: u64,
-        stream: &mut W,
-        gate: &mut G,
-        clock: &mut C,
-        stop: &AtomicBool,
-    ) -> Result<WriterEnd, LinkFault> {
-        client_writer(rt, alloc, *self, link, steps, stream, gate, clock, stop)
-    }
 }
 
 impl Peer for PortNumber {
@@ -109,19 +74,5 @@ impl Peer for PortNumber {
         clock: &mut C,
     ) -> Result<(), LinkFault> {
         port_reader(rt, alloc, *self, link, steps, stream, gate, clock)
-    }
-
-    fn write<R: Wait, W: Write, G: Gate, C: Clock>(
-        &self,
-        rt: &R,
-        alloc: Global,
-        link: u64,
-        steps: u64,
-        stream: &mut W,
-        gate: &mut G,
-        clock: &mut C,
-        stop: &AtomicBool,
-    ) -> Result<WriterEnd, LinkFault> {
-        port_writer(rt, alloc, *self, link, steps, stream, gate, clock, stop)
     }
 }

@@ -10,7 +10,7 @@ use crate::slot::Slot;
 use std::alloc::{AllocError, Global};
 
 /// The two halves of a line.
-pub(crate) type Halves<'a, P, O, A, B, W, K> = (Reads<'a, P, O, A, W, K>, Writes<'a, P, B, W, K>);
+pub(crate) type Halves<'a, P, O, A, B, W, K> = (Reads<'a, P, O, A, W, K>, Writes<'a, B, W, K>);
 
 /// So many slots, without a link each.
 pub(crate) fn slots_of<W: Drop, K: Drop>(
@@ -50,7 +50,6 @@ pub(crate) fn split<'a, P: Copy + Drop, O: Drop, A: Drop, B: Drop, W: Drop, K: D
             all_over: false,
         };
         let writes = Writes {
-            peer: line.peer,
             steps: line.steps,
             worker: line.writer,
             slot,

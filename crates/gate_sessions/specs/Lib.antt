@@ -1,5 +1,6 @@
 pub mod Leaving
 pub mod Lines
+pub mod Links
 pub use Rattle.gate_law.specs.fix_fields.Field
 pub use Rattle.fix_types.specs.Application
 pub use Rattle.gate_law.specs.Sessions
@@ -8,7 +9,6 @@ pub use Rattle.gate_law.specs.order_law.Messages
 pub use Rattle.gate_law.specs.order_law.ouch_codec.Inbound
 pub use Rattle.gate_law.specs.session_law.Frames
 pub use Rattle.gate_law.specs.session_law.Runs
-pub use Rattle.fix_session.specs.session_writing.Longest
 pub use Rattle.fix_session.specs.session_writing.Written
 pub use Rattle.gate_law.specs.soup_session.Calls
 pub use Rattle.gate_law.specs.soup_session.Table

@@ -6,18 +6,20 @@
 
 mod client_line;
 mod client_lines;
+mod issuing;
 mod laws;
+mod link_outs;
+mod links;
 mod port_line;
 mod port_lines;
+mod port_sends;
 
 pub use client_line::ClientLine;
 pub use client_lines::Clients;
-pub use fix_session::{
-    IssuedReport, IssuedTurn, SessionOut, SessionTurn, application_of, push_number,
-};
-pub use fix_types::AppBody;
-pub use gate_law::{Fields, Inbound};
+pub use issuing::{Issues, client_issue_all};
 pub use laws::issues_are_what_is_reported;
+pub use link_outs::told_out;
+pub use links::{only_outs, told_client, told_port};
 pub use port_line::PortLine;
 pub use port_lines::Ports;
-pub use soup_packets::Packet;
+pub use port_sends::port_send_all;

@@ -1,2 +1,5 @@
 mod Run
 mod Ticking
+mod SoFar
+mod Keeping
+pub mod Sent

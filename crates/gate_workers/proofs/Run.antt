@@ -1,27 +1,19 @@
--- Steps of a reader and of a writer, one after another.
+-- Steps of a reader, one after another.
 use Rattle.std.proofs.Common.{◌≡◌, ◌≢◌, ℕ, ◌++◌, Bool, true, false, List, [], ◌∷◌, Option, Some, None, Result, Ok, Err}
 use Rattle.std.proofs.Common.{refl, sym, ◌∙◌, ap, subst, append_assoc, append-nil}
-use Rattle.std.specs.Prelude.{◌||◌, ◌==◌, if◌then◌else◌, is_some}
-use Rattle.std.proofs.KnownBytes.{Consumes-nil, Consumes-trans, Appends-nil, Appends-trans}
-use Rattle.std.specs.Io.KnownBytes.{Appends}
-use Rattle.std.proofs.lemmas.Grind.{flat_map-append}
-use Rattle.std.proofs.lemmas.List.Folds.{list_any-append}
+use Rattle.std.specs.Prelude.{◌==◌, if◌then◌else◌, is_some}
+use Rattle.std.proofs.KnownBytes.{Consumes-nil, Consumes-trans}
 use Rattle.link_io.specs.Events as law
-use Rattle.link_io.specs.Links.{is_link_closed}
 use Rattle.link_io.specs.declared.link_fault.LinkFault.{LinkFault}
 use Rattle.link_io.specs.declared.link_fault.LinkFault.TheVariants.{ReadFailed, WriteFailed, Malformed, StepLimit}
 use Rattle.link_io.specs.declared.link_fault.LinkFault.TheVariants.{NoMemory}
 use Rattle.link_io.specs.declared.progress.Progress.{Progress}
 use Rattle.link_io.specs.declared.progress.Progress.TheVariants.{Ended}
-use Rattle.link_io.specs.declared.writer.Wrote.{Wrote}
 use Rattle.link_io.specs.declared.limit.Limit.{Limit}
 use Rattle.link_io.specs.Limits.{end_after, end_by, limit_after, refusal}
 use Rattle.link_io.specs.Reading.{Reading, Gave, Reads}
-use Rattle.link_io.specs.Writing.{WriterState, Writes, do_close, link_bytes, lists_bytes, unwritten}
 use Rattle.link_io.proofs.Going.{goes_none, goes_again}
 use Rattle.gate_workers.specs.ReadersWork.{EndsWith, HasRead, HasReadAll, ReadsLink}
-use Rattle.gate_workers.specs.WritersWork.{HasWritten, TellsEnd, WritesLink}
-use Rattle.gate_workers.specs.declared.writer.WriterEnd.{WriterEnd}
 
 -- a link that goes on is refused a step only where its steps are used up
 pub used_up : (limit : Limit) (f : LinkFault) → limit.over ≡ None → refusal limit ≡ Some f → f ≡ StepLimit
@@ -184,126 +176,3 @@ module _ {D : Type 0} (made : D → List ℕ → List law.Event → Type 0) (are
     gave = h.goes [] [] fresh;
     ends = h.ends [] [] fresh;
   }
-
--- ---- a writer
-
-pub written_none : (a : WriterState) (x : List (List law.LinkOut)) (l : Option (List ℕ)) → a.is_closing ≡ false → HasWritten a a x x l l
-written_none a x l still = record {
-  taken = [];
-  written = [];
-  takes = sym (append-nil x);
-  appends = Appends-nil l;
-  whole = append-nil (unwritten a);
-  link = refl;
-  is_closing = still;
-}
-
--- what both steps took and wrote
-both-whole : (old : List ℕ) (link : ℕ) (t s : List (List law.LinkOut)) (w v u r : List ℕ)
-    → old ++ lists_bytes link t ≡ w ++ u → u ++ lists_bytes link s ≡ v ++ r → old ++ lists_bytes link (t ++ s) ≡ (w ++ v) ++ r
-both-whole old link t s w v u r first second =
-    ap (λ (bs : List ℕ). old ++ bs) (flat_map-append (link_bytes link) t s)
-    ∙ (sym (append_assoc old (lists_bytes link t) (lists_bytes link s))
-    ∙ (ap (λ (bs : List ℕ). bs ++ lists_bytes link s) first
-    ∙ (append_assoc w u (lists_bytes link s) ∙ (ap (λ (bs : List ℕ). w ++ bs) second ∙ sym (append_assoc w v r)))))
-
-both-close : (link : ℕ) (t s : List (List law.LinkOut)) → do_close link (t ++ s) ≡ (do_close link t || do_close link s)
-both-close link t s = list_any-append (is_link_closed (Some link)) t s
-
-module _ (answer : Result Wrote LinkFault) (a b c : WriterState) (x y z : List (List law.LinkOut)) (l m n : Option (List ℕ)) (h : HasWritten a b x y l m) (s : Writes answer b c y z m n) where
-  abbrev taken : List (List law.LinkOut)
-  taken = h.taken ++ s.taken
-
-  abbrev written : List ℕ
-  written = h.written ++ s.written
-
-  takes : z ≡ x ++ taken
-  takes = s.takes ∙ (ap (λ (w : List (List law.LinkOut)). w ++ s.taken) h.takes ∙ append_assoc x h.taken s.taken)
-
-  appends : Appends l n written
-  appends = Appends-trans l m n h.written s.written h.appends s.appends
-
-  whole : unwritten a ++ lists_bytes a.link taken ≡ written ++ s.rest
-  whole = both-whole (unwritten a) a.link h.taken s.taken h.written s.written (unwritten b) s.rest h.whole
-      (subst (λ (k : ℕ). unwritten b ++ lists_bytes k s.taken ≡ s.written ++ s.rest) h.link s.whole)
-
-  closes : (b.is_closing || do_close b.link s.taken) ≡ do_close a.link taken
-  closes =
-      ap (λ (k : ℕ). b.is_closing || do_close k s.taken) h.link
-      ∙ (ap (λ (w : Bool). w || do_close a.link s.taken) h.is_closing ∙ sym (both-close a.link h.taken s.taken))
-
-  -- goes on: of what was to be written this is left
-  pub written_more : s.rest ≡ unwritten c → c.is_closing ≡ do_close a.link taken → HasWritten a c x z l n
-  written_more left closing = record {
-    taken = taken;
-    written = written;
-    takes = takes;
-    appends = appends;
-    whole = whole ∙ ap (λ (r : List ℕ). written ++ r) left;
-    link = s.link ∙ h.link;
-    is_closing = closing;
-  }
-
-  -- ends
-  pub written_over : (end : Result WriterEnd LinkFault) → unwritten a ≡ [] → TellsEnd end (do_close a.link taken) s.rest → WritesLink a.link end x z l n
-  written_over end fresh tells = record {
-    taken = taken;
-    written = written;
-    rest = s.rest;
-    takes = takes;
-    appends = appends;
-    whole = ap (λ (u : List ℕ). u ++ lists_bytes a.link taken) (sym fresh) ∙ whole;
-    tells = tells;
-  }
-
-module _ (a b c : WriterState) (x y z : List (List law.LinkOut)) (l m n : Option (List ℕ)) (h : HasWritten a b x y l m) where
-  -- it wrote all, and the link isn't closed
-  pub wrote_more : (w : Wrote) → Writes (Ok w) b c y z m n → w.closed ≡ false → HasWritten a c x z l n
-  wrote_more w s still = written_more (Ok w) a b c x y z l m n h s
-      (let (none, bytes, taken, closed, empty, untold, unclosed) = s.tells in none ∙ sym empty)
-      (let (none, bytes, taken, closed, empty, untold, unclosed) = s.tells in unclosed ∙ (sym still ∙ (closed ∙ closes (Ok w) a b c x y z l m n h s)))
-
-  -- memory ran out
-  pub wrote_nothing : Writes (Err NoMemory) b c y z m n → HasWritten a c x z l n
-  wrote_nothing s = written_more (Err NoMemory) a b c x y z l m n h s
-      (let (none, left, taken, closing) = s.tells in sym (left ∙ ap (λ (w : List ℕ). w ++ s.rest) none))
-      (let (none, left, taken, closing) = s.tells in closing ∙ closes (Err NoMemory) a b c x y z l m n h s)
-
-  pub wrote_last : (w : Wrote) (end : WriterEnd) → Writes (Ok w) b c y z m n → unwritten a ≡ [] → TellsEnd (Ok end) w.closed [] → WritesLink a.link (Ok end) x z l n
-  wrote_last w end s fresh tells = written_over (Ok w) a b c x y z l m n h s (Ok end) fresh
-      (let (none, bytes, taken, closed, empty, untold, unclosed) = s.tells in
-      subst (λ (r : List ℕ). TellsEnd (Ok end) (do_close a.link (h.taken ++ s.taken)) r) (sym none)
-      (subst (λ (k : Bool). TellsEnd (Ok end) k []) (closed ∙ closes (Ok w) a b c x y z l m n h s) tells))
-
-  wrote_to_fault : (fault : LinkFault) → fault ≢ NoMemory → Writes (Err fault) b c y z m n → unwritten a ≡ [] → WritesLink a.link (Err fault) x z l n
-  wrote_to_fault WriteFailed not s fresh = written_over (Err WriteFailed) a b c x y z l m n h s (Err WriteFailed) fresh s.tells
-  wrote_to_fault NoMemory not s fresh = absurd (not refl)
-  wrote_to_fault ReadFailed not s fresh = absurd s.tells
-  wrote_to_fault Malformed not s fresh = absurd s.tells
-  wrote_to_fault StepLimit not s fresh = absurd s.tells
-
-  wrote_to_limit : unwritten a ≡ [] → WritesLink a.link (Err StepLimit) x y l m
-  wrote_to_limit fresh = record {
-    taken = h.taken;
-    written = h.written;
-    rest = unwritten b;
-    takes = h.takes;
-    appends = h.appends;
-    whole = ap (λ (u : List ℕ). u ++ lists_bytes a.link h.taken) (sym fresh) ∙ h.whole;
-    tells = tt;
-  }
-
-  pub wrote_fault : (fault : LinkFault) → fault ≢ NoMemory → b.limit.over ≡ None → unwritten a ≡ []
-      → (refusal b.limit ≡ None → Writes (Err fault) b c y z m n)
-      → ((f : LinkFault) → refusal b.limit ≡ Some f → (fault ≡ f) × (n ≡ m) × (z ≡ y))
-      → WritesLink a.link (Err fault) x z l n
-  wrote_fault fault not none fresh writes refused = by_refusal (refusal b.limit) refl
-    where
-      by_refusal : (r : Option LinkFault) → refusal b.limit ≡ r → WritesLink a.link (Err fault) x z l n
-      by_refusal None e = wrote_to_fault fault not (writes e) fresh
-      by_refusal (Some f) e =
-          let same = refused f e in
-          let is_limit : fault ≡ StepLimit = same.0 ∙ used_up b.limit f none e in
-          subst (λ (f : LinkFault). WritesLink a.link (Err f) x z l n) (sym is_limit)
-          (subst (λ (n : Option (List ℕ)). WritesLink a.link (Err StepLimit) x z l n) (sym same.1)
-          (subst (λ (z : List (List law.LinkOut)). WritesLink a.link (Err StepLimit) x z l m) (sym same.2) (wrote_to_limit fresh)))

@@ -1,8 +1,9 @@
 pub mod ReadersWork
 pub mod WritersWork
 pub mod TickersWork
+pub mod Pens
+pub mod Steps
 pub use Rattle.link_io.specs.Reading
 pub use Rattle.link_io.specs.Decoding
 pub use Rattle.link_io.specs.Writing
-pub use Rattle.link_io.specs.gate_events as gate_events
 pub use Rattle.link_io.specs as link_io

@@ -9,6 +9,7 @@ ghost use Rattle.gate_workers.specs.ReadersWork.{HasReadAll, ReadsLink};
 
 use crate::clock::Clock;
 use crate::ending::ends_link;
+use crate::skips::Skips;
 use link_io::{
     ClientNumber, ClientReader, Decoder, Event, Gate, LinkFault, PortNumber, PortReader, Progress,
     Reader,
@@ -95,14 +96,19 @@ fn read_all<R: Wait, D: Decoder, S: Read, G: Gate, C: Clock>(
         (G.was_put gate.old) (G.was_put gate.new) (S.remaining stream.old) (S.remaining stream.new) }
     ensures none_taken { G.was_taken gate.new ≡ G.was_taken gate.old }
 {
+    let mut skips = Skips::new();
     for _ in rt.forever() {
         let at = clock.now_ms();
         let done = reader.step(alloc, stream, gate, at);
         let _ = gate.turn(rt, alloc);
+        skips.tell_growth(gate, reader.skipped());
         match done {
             Ok(progress) => match progress {
                 Progress::Read(_) => {}
-                Progress::Ended => return Ok(()),
+                Progress::Ended => {
+                    skips.tell_all(gate, reader.skipped());
+                    return Ok(());
+                }
                 Progress::Held => clock.pause(),
             },
             Err(fault) => {

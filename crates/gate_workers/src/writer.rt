@@ -1,15 +1,14 @@
 //! The worker that writes a link.
 
-ghost use Rattle.std.specs.Prelude.{◌≡◌, ◌≤◌, None, false, [], ℕ};
-ghost use Rattle.gate_workers.specs.WritersWork.{WritesLink};
+ghost use Rattle.std.specs.Prelude.{◌≤◌, IfSome};
+ghost use Rattle.gate_workers.specs.Pens.{WasWritten};
 
 use crate::clock::Clock;
-use crate::ending::ends_link;
-use link_io::{BatchWriter, ClientNumber, Gate, LinkFault, PortNumber};
+use crate::pen::Pen;
+use link_io::{ClientNumber, Gate, LinkFault, PortNumber, Prompt};
 use std::alloc::Global;
-use std::io::Write;
 use std::sync::Wait;
-use std::sync::atomic::{AtomicBool, Ordering};
+use std::sync::atomic::AtomicBool;
 
 /// How a writer's worker ended, but for a fault.
 #[derive(Clone, Copy, Debug, PartialEq, Eq)]
@@ -20,91 +19,86 @@ pub enum WriterEnd {
     Stopped,
 }
 
-/// Writes what a link of this client is told, until the core closes the link, or until `stop` is set and nothing lies
-/// there. It pauses where nothing lay there, or memory ran out. Where it took a list it has the core stepped: an event
-/// may have waited for the room.
+/// Opens the link of this number of a client at its pen, on this stream, and writes what the link is told, until the
+/// core closes it, or until `stop` is set and nothing lies there: how it ended, and its stream. Other threads may write
+/// promptly by the same pen meanwhile. It pauses where nothing lay there, or memory ran out; where it took a list it
+/// has the core stepped, since an event may have waited for the room.
 ///
 /// `WriteFailed` where a write failed or took no byte, `StepLimit` at the step of number `steps`, 1 or more: of what
-/// the link was told the first bytes went out.
-pub fn client_writer<R: Wait, W: Write, G: Gate, C: Clock>(
+/// the link was told the first bytes went out. `None` where the pen has another link open, or this
+/// isn't the pen's next one: then nothing is written.
+pub fn client_writer<R: Wait, W: Prompt + Drop, G: Gate + Drop, C: Clock>(
     rt: &R,
     alloc: Global,
     client: ClientNumber,
     link: u64,
     steps: u64,
-    stream: &mut W,
-    gate: &mut G,
+    stream: W,
+    pen: &Pen<W, G>,
     clock: &mut C,
     stop: &AtomicBool,
-) -> Result<WriterEnd, LinkFault>
+) -> Option<(Result<WriterEnd, LinkFault>, W)>
     requires from_one { 1 ≤ steps }
-    ensures writes { WritesLink link result (G.was_taken gate.old) (G.was_taken gate.new)
-        (W.contents stream.old) (W.contents stream.new) }
-    ensures none_put { G.was_put gate.new ≡ G.was_put gate.old }
+    ensures written { IfSome result (λ e. ∥ WasWritten W.contents e.0 e.1 ∥₁) }
 {
-    let writer = BatchWriter::new(alloc, client.number(), link, steps);
-    write_all(rt, alloc, writer, stream, gate, clock, stop)
+    write_link(
+        rt,
+        alloc,
+        client.number(),
+        link,
+        steps,
+        stream,
+        pen,
+        clock,
+        stop,
+    )
 }
 
-/// Writes what a link of this port is told, as `client_writer` does.
-pub fn port_writer<R: Wait, W: Write, G: Gate, C: Clock>(
+/// Opens the link of this number of a port at its pen, and writes what it is told, as `client_writer` does.
+pub fn port_writer<R: Wait, W: Prompt + Drop, G: Gate + Drop, C: Clock>(
     rt: &R,
     alloc: Global,
     port: PortNumber,
     link: u64,
     steps: u64,
-    stream: &mut W,
-    gate: &mut G,
+    stream: W,
+    pen: &Pen<W, G>,
     clock: &mut C,
     stop: &AtomicBool,
-) -> Result<WriterEnd, LinkFault>
+) -> Option<(Result<WriterEnd, LinkFault>, W)>
     requires from_one { 1 ≤ steps }
-    ensures writes { WritesLink link result (G.was_taken gate.old) (G.was_taken gate.new)
-        (W.contents stream.old) (W.contents stream.new) }
-    ensures none_put { G.was_put gate.new ≡ G.was_put gate.old }
+    ensures written { IfSome result (λ e. ∥ WasWritten W.contents e.0 e.1 ∥₁) }
 {
-    let writer = BatchWriter::new(alloc, port.number(), link, steps);
-    write_all(rt, alloc, writer, stream, gate, clock, stop)
+    write_link(
+        rt,
+        alloc,
+        port.number(),
+        link,
+        steps,
+        stream,
+        pen,
+        clock,
+        stop,
+    )
 }
 
-/// Steps a writer until its link is over.
-fn write_all<R: Wait, W: Write, G: Gate, C: Clock>(
+/// The same, of the client or port of this number.
+fn write_link<R: Wait, W: Prompt + Drop, G: Gate + Drop, C: Clock>(
     rt: &R,
     alloc: Global,
-    mut writer: BatchWriter,
-    stream: &mut W,
-    gate: &mut G,
+    number: u16,
+    link: u64,
+    steps: u64,
+    stream: W,
+    pen: &Pen<W, G>,
     clock: &mut C,
     stop: &AtomicBool,
-) -> Result<WriterEnd, LinkFault>
-    requires fresh { (writer.bytes ≡ []) × (writer.held ≡ []) × (writer.is_closing ≡ false)
-        × (writer.limit.over ≡ None) }
-    ensures writes { WritesLink writer.link result (G.was_taken gate.old) (G.was_taken gate.new)
-        (W.contents stream.old) (W.contents stream.new) }
-    ensures none_put { G.was_put gate.new ≡ G.was_put gate.old }
+) -> Option<(Result<WriterEnd, LinkFault>, W)>
+    requires from_one { 1 ≤ steps }
+    ensures written { IfSome result (λ e. ∥ WasWritten W.contents e.0 e.1 ∥₁) }
 {
-    for _ in rt.forever() {
-        let is_stopped = stop.load(Ordering::SeqCst);
-        match writer.step(alloc, stream, gate) {
-            Ok(wrote) => {
-                if wrote.closed {
-                    return Ok(WriterEnd::Closed);
-                }
-                if wrote.taken {
-                    let _ = gate.turn(rt, alloc);
-                } else if is_stopped {
-                    return Ok(WriterEnd::Stopped);
-                } else {
-                    clock.pause();
-                }
-            }
-            Err(fault) => {
-                if ends_link(fault) {
-                    return Err(fault);
-                }
-                clock.pause();
-            }
-        }
+    if pen.open(rt, alloc, number, link, steps, stream).is_err() {
+        return None;
     }
-    unreachable!()
+    pen.write_all(rt, alloc, clock, stop)
 }

@@ -189,6 +189,7 @@ fn plan_of<'a, R>(
             Acceptor::of_listener(rt, second, 1, is_over),
         ]?,
         ports: vec![in alloc; Connector::new(rt, market, 1, is_over)]?,
+        tells_frames: false,
     })
 }
 

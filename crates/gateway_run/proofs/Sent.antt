@@ -10,7 +10,7 @@ use Rattle.std.specs.declared.hash.Hasher as Hasher
 use Rattle.desk_gates.proofs.desk.Sent.{shared_sync}
 use Rattle.desk_gates.specs.desk.declared.DeskName as DeskName
 use Rattle.std.specs.declared.io.Write as Write
-use Rattle.desk_gates.proofs.Sent.{pen_worker_send}
+use Rattle.gate_serving.proofs.Sent.{pen_worker_send}
 use Rattle.desk_gates.specs.contracts.bell.BellClock as BellClock
 use Rattle.run_lines.specs.link_io.declared.gate.Gate as Gate
 use Rattle.run_lines.specs.link_io.declared.streams.Prompt as Prompt
@@ -21,6 +21,8 @@ use Rattle.run_lines.specs.contracts.opener.RunOpener as RunOpener
 use Rattle.gateway_run.specs.contracts.clock.RunClock as RunClock
 use Rattle.gateway_run.specs.contracts.clock.Watch as Watch
 use Rattle.gateway_run.specs.contracts.port_faults.PortLinks as PortLinks
+use Rattle.gateway_run.specs.contracts.telling.Teller as Teller
+use Rattle.gateway_run.specs.contracts.telling_gate.TellingGate as TellingGate
 
 module _ (a : NamedLft) (K R : RattleType) (k : DeskName.Ghosts K.Denot) (r : IsSync R) where
   pub bell_send : (S T : RattleType) (g : BuildHasher.Ghosts S.Denot T.Denot) (h : Hasher.Ghosts T.Denot) → IsSend S
@@ -63,6 +65,18 @@ module _ (a : NamedLft) (K R : RattleType) (k : DeskName.Ghosts K.Denot) (r : Is
   pub run_clock_send : IsSend (RunClock.the_row a K R k)
   run_clock_send = declared_send (RunClock.the_type a K R k)
       (search (r, sendable) depth 40, (search (watch_send, sendable) depth 40, tt))
+
+teller_send : (a : NamedLft) (R : RattleType) → IsSync R → IsSend (Teller.the_row a R)
+teller_send a R r = declared_send (Teller.the_type a R) (search (r, sendable) depth 40, (search (sendable, crosses) depth 40, tt))
+
+pub telling_send : (a : NamedLft) (G R : RattleType) → IsSend G → IsSync R → IsSend (TellingGate.the_row a G R)
+telling_send a G R g r = declared_send (TellingGate.the_type a G R) (
+  search (g, sendable) depth 40,
+  (
+    search (sendable, crosses) depth 40,
+    (search (teller_send a R r, sendable, crosses) depth 40, tt),
+  ),
+)
 
 pub counted_send : (a : NamedLft) (A : RattleType) → IsSend A → IsSend (CountedLinks.the_row a A)
 counted_send a A s = declared_send (CountedLinks.the_type a A)

@@ -7,7 +7,7 @@ use Rattle.gate_events.specs.declared.source.Recipient.TheVariants as recipients
 use Rattle.std.specs.declared.io.Write as Write
 use Rattle.run_lines.specs.link_io.declared.streams.Prompt as Prompt
 use Rattle.run_lines.specs.link_io.declared.gate.Gate as Gate
-use Rattle.run_lines.specs.link_pens.declared.pen_worker.PenWorker.{PenWorker}
+use Rattle.run_lines.specs.gate_serving.declared.pen_worker.PenWorker.{PenWorker}
 use Rattle.run_lines.specs.declared.line_pen.RunPen.{RunPen}
 use Rattle.run_lines.specs.declared.line_pen.RunPen.TheVariants as pens
 use Rattle.run_lines.specs.declared.peer.RunPeer.{RunPeer}

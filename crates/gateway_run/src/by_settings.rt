@@ -3,7 +3,6 @@
 use crate::day::Day;
 use crate::ends::RunPlan;
 use crate::fault::RunFault;
-use crate::frames::TellingFrames;
 use crate::running::run;
 use crate::telling::{Teller, Telling, Whose};
 use link_sockets::{Acceptor, Connector};
@@ -42,10 +41,7 @@ where
 }
 
 /// The openers of a gateway: of its clients' links, and of its ports'.
-type Openers<'a, R> = RunPlan<
-    TellingFrames<'a, Telling<'a, Acceptor<'a, R>, R>, R>,
-    Telling<'a, Connector<'a, R>, R>,
->;
+type Openers<'a, R> = RunPlan<Telling<'a, Acceptor<'a, R>, R>, Telling<'a, Connector<'a, R>, R>>;
 
 /// So many links of each client and port, by their addresses.
 fn plan_of<'a, R: Clock + Eprint>(
@@ -60,8 +56,7 @@ fn plan_of<'a, R: Clock + Eprint>(
     for address in listens {
         let opener = Acceptor::new(rt, address, links, is_over);
         let teller = Teller::new(rt, Whose::Client(clients.len().saturating_add(1)));
-        let telling = Telling::new(teller.again(), opener);
-        clients.push(TellingFrames::new(teller, alloc, telling))?;
+        clients.push(Telling::new(teller, opener))?;
     }
     let mut ports = Vec::with_capacity(alloc, addresses.len())?;
     for address in addresses {
@@ -69,5 +64,9 @@ fn plan_of<'a, R: Clock + Eprint>(
         let teller = Teller::new(rt, Whose::Port(ports.len().saturating_add(1)));
         ports.push(Telling::new(teller, opener))?;
     }
-    Ok(RunPlan { clients, ports })
+    Ok(RunPlan {
+        clients,
+        ports,
+        tells_frames: true,
+    })
 }

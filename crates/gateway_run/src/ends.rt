@@ -3,9 +3,10 @@
 ghost use Rattle.std.specs.Prelude.{◌≡◌, All, true};
 ghost use Rattle.gateway_run.specs.Own.{of_pen, recipient_of, source_of_peer};
 
-use crate::lines::{Count, RunLine, client_line, clock_line, port_line};
+use crate::lines::{Count, RunLine, client_line, clock_line, port_line, teller_of};
 use crate::port_faults::PortLinks;
-use desk_gates::{DeskName, Inlet, OutletEnd, OutletPen, Prompt, Shared};
+use crate::telling_gate::TellingGate;
+use desk_gates::{DeskName, Inlet, InletGate, OutletEnd, OutletPen, Prompt, Shared};
 use gate_events::{ClientNumber, PortNumber, Recipient, Source};
 use run_lines::{ClientCounts, CountedLinks};
 use std::alloc::{AllocError, Global};
@@ -20,14 +21,19 @@ use std::time::Clock;
 pub struct RunPlan<A, C> {
     pub clients: Vec<A>,
     pub ports: Vec<C>,
+    /// Whether standard error has how many bytes of a client's link were part of no frame, and each Reject,
+    /// ResendRequest and Logout that a client is sent.
+    pub tells_frames: bool,
 }
 
 /// The lines of a desk's clients, of its ports and of its clock, in this order. Its type keeps that each puts the
 /// events of its own client, port or clock, and takes what that is told.
 #[derive(Drop)]
 pub(crate) struct Ends<'p, 'a, W: Prompt + Drop, G: OutletEnd + Drop, A, C, K: DeskName, R> {
+    alloc: Global,
+    tells_frames: bool,
     pub(crate) lines: Vec<RunLine<'p, 'a, W, G, A, C, K, R>>,
-    ghost puts_own: { All (λ l. l.reader.gate.inlet.source ≡ source_of_peer l.peer) lines.items },
+    ghost puts_own: { All (λ l. l.reader.gate.gate.inlet.source ≡ source_of_peer l.peer) lines.items },
     ghost takes_own: { All (λ l. of_pen (λ p. G.told p.pen.now.first.value) l.writer ≡ recipient_of l.peer)
         lines.items },
 }
@@ -42,16 +48,18 @@ impl<
     K: DeskName,
     R: Wait + Clock + Eprint,
 > Ends<'p, 'a, W, G, A, C, K, R> {
-    /// No line yet.
-    fn new(alloc: Global) -> Ends<'p, 'a, W, G, A, C, K, R> {
+    /// No line yet; whether what goes over clients' links is told of.
+    fn new(alloc: Global, tells_frames: bool) -> Ends<'p, 'a, W, G, A, C, K, R> {
         Ends {
+            alloc,
+            tells_frames,
             lines: Vec::new(alloc),
         }
     }
 
     /// Adds a line that is over its own ends.
     fn add(&mut self, line: RunLine<'p, 'a, W, G, A, C, K, R>) -> Result<(), AllocError>
-        requires puts_own { line.reader.gate.inlet.source ≡ source_of_peer line.peer }
+        requires puts_own { line.reader.gate.gate.inlet.source ≡ source_of_peer line.peer }
         requires takes_own { of_pen (λ p. G.told p.pen.now.first.value) line.writer ≡ recipient_of line.peer }
     {
         self.lines.push(line)?;
@@ -70,7 +78,11 @@ impl<
         pen: &'p OutletPen<W, G>,
     ) -> Result<(), AllocError> {
         if is_of(&inlet, Source::Client(client)) && is_to(pen, Recipient::Client(client)) {
-            let line = client_line(rt, shared, client, opener, inlet, pens, pen);
+            let at = inlet.position();
+            let teller = teller_of(rt, self.tells_frames, Recipient::Client(client));
+            let own = InletGate::new(shared, pens, inlet);
+            let gate = TellingGate::new(self.alloc, own, teller);
+            let line = client_line(rt, shared, client, opener, gate, at, pen);
             return self.add(line);
         }
         Ok(())
@@ -88,8 +100,11 @@ impl<
         pen: &'p OutletPen<W, G>,
     ) -> Result<(), AllocError> {
         if is_of(&inlet, Source::Port(port)) && is_to(pen, Recipient::Port(port)) {
+            let at = inlet.position();
             let links = PortLinks::new(rt, shared, port, opener);
-            let line = port_line(rt, shared, port, links, inlet, pens, pen);
+            let own = InletGate::new(shared, pens, inlet);
+            let gate = TellingGate::new(self.alloc, own, None);
+            let line = port_line(rt, shared, port, links, gate, at, pen);
             return self.add(line);
         }
         Ok(())
@@ -107,7 +122,9 @@ impl<
         pens: &'p [OutletPen<W, G>],
     ) -> Result<(), AllocError> {
         if inlet.source() == Source::Clock {
-            let line = clock_line(rt, shared, count, counts, is_over, inlet, pens);
+            let own = InletGate::new(shared, pens, inlet);
+            let gate = TellingGate::new(self.alloc, own, None);
+            let line = clock_line(rt, shared, count, counts, is_over, gate);
             return self.add(line);
         }
         Ok(())
@@ -146,10 +163,11 @@ pub(crate) fn ends_of<
     pens: &'p [OutletPen<W, G>],
     clients: Vec<CountedLinks<'a, A>>,
     ports: Vec<C>,
+    tells_frames: bool,
 ) -> Result<Ends<'p, 'a, W, G, A, C, K, R>, AllocError> {
     let mut accepting = clients.into_iter();
     let mut connecting = ports.into_iter();
-    let mut ends = Ends::new(alloc);
+    let mut ends = Ends::new(alloc, tells_frames);
     for (inlet, pen) in inlets.into_iter().zip(pens) {
         match inlet.source() {
             Source::Client(client) => {

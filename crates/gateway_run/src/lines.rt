@@ -8,12 +8,14 @@ ghost use Rattle.run_lines.specs.declared.line_pen.RunPen.TheVariants as writers
 
 use crate::clock::RunClock;
 use crate::port_faults::PortLinks;
+use crate::telling::{Teller, Whose};
+use crate::telling_gate::TellingGate;
 use desk_gates::{
-    BellClock, DeskName, Finished, Inlet, InletGate, Outlet, OutletEnd, OutletGate, OutletPen,
-    PenWorker, Prompt, Shared,
+    BellClock, DeskName, Finished, InletGate, Outlet, OutletEnd, OutletGate, OutletPen, Prompt,
+    Shared,
 };
-use gate_events::{ClientNumber, PortNumber};
-use gate_serving::{Line, LinkFault, Worker};
+use gate_events::{ClientNumber, PortNumber, Recipient};
+use gate_serving::{Line, LinkFault, PenWorker, Worker};
 use run_lines::{ClientCounts, CountedLinks, RunOpener, RunPeer, RunPen, Ticks};
 use std::alloc::{AllocError, Global};
 use std::hash::RandomState;
@@ -29,9 +31,19 @@ fn longest_sleep() -> Duration {
     Duration::from_millis(10)
 }
 
+/// The gate of a reader, or of the ticker, over an inlet.
+pub(crate) type ReadingGate<'p, 'a, W, G, K, R> = TellingGate<
+    'a,
+    InletGate<'p, 'a, W, G, K, RandomState>,
+    R,
+>;
+
+/// The gate of a writer over an outlet.
+pub(crate) type WritingGate<'a, K, R> = TellingGate<'a, OutletGate<'a, K, RandomState>, R>;
+
 /// A reader's worker over an inlet.
 pub(crate) type Reading<'p, 'a, W, G, K, R> = Worker<
-    InletGate<'p, 'a, W, G, K, RandomState>,
+    ReadingGate<'p, 'a, W, G, K, R>,
     RunClock<'a, K, R>,
 >;
 
@@ -53,7 +65,7 @@ pub(crate) struct Count {
     pub(crate) ports: u16,
 }
 
-/// The line of a client over these ends.
+/// The line of a client over the gate of its inlet and the pen of its outlet, both at this position.
 pub(crate) fn client_line<
     'p,
     'a,
@@ -68,34 +80,34 @@ pub(crate) fn client_line<
     shared: &'a Shared<K, RandomState>,
     client: ClientNumber,
     opener: CountedLinks<'a, A>,
-    inlet: Inlet<K>,
-    pens: &'p [OutletPen<W, G>],
+    gate: ReadingGate<'p, 'a, W, G, K, R>,
+    at: usize,
     pen: &'p OutletPen<W, G>,
 ) -> RunLine<'p, 'a, W, G, A, C, K, R>
     ensures peer { source_of_peer result.peer ≡ sources.Client client }
     ensures told { recipient_of result.peer ≡ Some (recipients.Client client) }
-    ensures inlet { result.reader.gate.inlet ≡ inlet }
+    ensures gate { result.reader.gate ≡ gate }
     ensures pen { of_pen (λ p. G.told p.pen.now.first.value) result.writer ≡ Some pen.now.to }
     ensures fault { result.fault ≡ None }
 {
-    let at = inlet.position();
     Line {
         peer: RunPeer::Client(client),
         steps: STEPS,
         fault: None,
         opener: RunOpener::Client(opener),
         reader: Worker {
-            gate: InletGate::new(shared, pens, inlet),
+            gate,
             clock: RunClock::new(rt),
         },
         writer: RunPen::Pen(PenWorker::new(
+            pen.recipient(),
             pen.pen(),
             BellClock::new(rt, shared, at, longest_sleep()),
         )),
     }
 }
 
-/// The line of a port over these ends.
+/// The line of a port, likewise.
 pub(crate) fn port_line<
     'p,
     'a,
@@ -110,34 +122,34 @@ pub(crate) fn port_line<
     shared: &'a Shared<K, RandomState>,
     port: PortNumber,
     opener: PortLinks<'a, C, K, R>,
-    inlet: Inlet<K>,
-    pens: &'p [OutletPen<W, G>],
+    gate: ReadingGate<'p, 'a, W, G, K, R>,
+    at: usize,
     pen: &'p OutletPen<W, G>,
 ) -> RunLine<'p, 'a, W, G, A, C, K, R>
     ensures peer { source_of_peer result.peer ≡ sources.Port port }
     ensures told { recipient_of result.peer ≡ Some (recipients.Port port) }
-    ensures inlet { result.reader.gate.inlet ≡ inlet }
+    ensures gate { result.reader.gate ≡ gate }
     ensures pen { of_pen (λ p. G.told p.pen.now.first.value) result.writer ≡ Some pen.now.to }
     ensures fault { result.fault ≡ None }
 {
-    let at = inlet.position();
     Line {
         peer: RunPeer::Port(port),
         steps: STEPS,
         fault: None,
         opener: RunOpener::Port(opener),
         reader: Worker {
-            gate: InletGate::new(shared, pens, inlet),
+            gate,
             clock: RunClock::new(rt),
         },
         writer: RunPen::Pen(PenWorker::new(
+            pen.recipient(),
             pen.pen(),
             BellClock::new(rt, shared, at, longest_sleep()),
         )),
     }
 }
 
-/// The line of the clock over its inlet, with one link, on which time passes until `is_over` is set.
+/// The line of the clock over the gate of its inlet, with one link, on which time passes until `is_over` is set.
 pub(crate) fn clock_line<
     'p,
     'a,
@@ -153,12 +165,11 @@ pub(crate) fn clock_line<
     count: Count,
     counts: &'a ClientCounts,
     is_over: &'a AtomicBool,
-    inlet: Inlet<K>,
-    pens: &'p [OutletPen<W, G>],
+    gate: ReadingGate<'p, 'a, W, G, K, R>,
 ) -> RunLine<'p, 'a, W, G, A, C, K, R>
     ensures peer { source_of_peer result.peer ≡ sources.Clock }
     ensures told { recipient_of result.peer ≡ None }
-    ensures inlet { result.reader.gate.inlet ≡ inlet }
+    ensures gate { result.reader.gate ≡ gate }
     ensures nothing { result.writer ≡ writers.Nothing }
     ensures fault { result.fault ≡ None }
 {
@@ -173,7 +184,7 @@ pub(crate) fn clock_line<
         fault: None,
         opener: RunOpener::Clock(true),
         reader: Worker {
-            gate: InletGate::new(shared, pens, inlet),
+            gate,
             clock: RunClock::watching(rt, shared, counts, is_over),
         },
         writer: RunPen::Nothing,
@@ -210,7 +221,7 @@ impl<K: DeskName> Left<K> {
     ) -> Result<(), AllocError> {
         for line in lines {
             let Line { fault, reader, .. } = line;
-            self.end_inlet(reader.gate)?;
+            self.end_inlet(reader.gate.into_gate())?;
             self.fault = self.fault.or(fault);
         }
         Ok(())
@@ -228,13 +239,13 @@ impl<K: DeskName> Left<K> {
     }
 
     /// Ends the outlets of pens, and keeps what was taken. One whose link isn't over is let go.
-    pub(crate) fn end_outlets<W: Prompt + Drop>(
+    pub(crate) fn end_outlets<'a, W: Prompt + Drop, R: Clock + Eprint>(
         &mut self,
-        pens: Vec<OutletPen<W, OutletGate<'_, K, RandomState>>>,
+        pens: Vec<OutletPen<W, WritingGate<'a, K, R>>>,
     ) -> Result<(), AllocError> {
         for pen in pens {
             if let Some(gate) = pen.into_gate() {
-                self.finished.push(gate.finish())?;
+                self.finished.push(gate.into_gate().finish())?;
             }
         }
         Ok(())
@@ -242,16 +253,34 @@ impl<K: DeskName> Left<K> {
 }
 
 /// The pens of a desk's outlets, by position.
-pub(crate) fn pens_of<'a, W: Prompt + Drop, K: DeskName>(
+pub(crate) fn pens_of<'a, W: Prompt + Drop, K: DeskName, R: Clock + Eprint>(
+    rt: &'a R,
     alloc: Global,
     shared: &'a Shared<K, RandomState>,
     outlets: Vec<Outlet<K>>,
-) -> Result<Vec<OutletPen<W, OutletGate<'a, K, RandomState>>>, AllocError>
+    tells_frames: bool,
+) -> Result<Vec<OutletPen<W, WritingGate<'a, K, R>>>, AllocError>
     requires fresh { All (λ outlet. outlet.took ≡ []) outlets.items }
 {
     let mut pens = Vec::with_capacity(alloc, outlets.len())?;
     for outlet in outlets {
-        pens.push(OutletPen::new(OutletGate::new(shared, outlet)))?;
+        let teller = teller_of(rt, tells_frames, outlet.recipient());
+        let gate = TellingGate::new(alloc, OutletGate::new(shared, outlet), teller);
+        pens.push(OutletPen::new(gate))?;
     }
     Ok(pens)
+}
+
+/// Who tells of what goes over the links of a client, where that is told of; of a port's nobody does.
+pub(crate) fn teller_of<'a, R: Clock + Eprint>(
+    rt: &'a R,
+    tells_frames: bool,
+    whose: Recipient,
+) -> Option<Teller<'a, R>> {
+    match whose {
+        Recipient::Client(client) if tells_frames => {
+            Some(Teller::new(rt, Whose::Client(usize::from(client.number()))))
+        }
+        _ => None,
+    }
 }

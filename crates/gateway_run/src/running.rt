@@ -91,7 +91,13 @@ where
 {
     let (shared, inlets, outlets) = open_desk::<K, RandomState>(alloc, parts)?;
     let counts = ClientCounts::of(plan.clients.len().min(usize::from(count.clients)) as u32);
-    let pens = pens_of::<RunWriter<A::Writer, C::Writer>, K>(alloc, &shared, outlets)?;
+    let pens = pens_of::<RunWriter<A::Writer, C::Writer>, K, R>(
+        rt,
+        alloc,
+        &shared,
+        outlets,
+        plan.tells_frames,
+    )?;
     let mut left = serve_desk(
         rt,
         alloc,
@@ -166,9 +172,22 @@ where
     let Some(clock) = inlets.pop() else {
         unreachable!()
     };
-    let RunPlan { clients, ports } = plan;
+    let RunPlan {
+        clients,
+        ports,
+        tells_frames,
+    } = plan;
     let clients = counted(alloc, clients, counts, is_over)?;
-    let mut ends = ends_of(rt, alloc, shared, inlets, pens, clients, ports)?;
+    let mut ends = ends_of(
+        rt,
+        alloc,
+        shared,
+        inlets,
+        pens,
+        clients,
+        ports,
+        tells_frames,
+    )?;
     ends.add_clock(rt, shared, count, counts, is_over, clock, pens)?;
     let Ends { lines, .. } = ends;
     match serve(rt, alloc, lines) {

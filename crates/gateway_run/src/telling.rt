@@ -35,14 +35,6 @@ impl<'a, R: Clock + Eprint> Teller<'a, R> {
         Teller { rt, whose }
     }
 
-    /// The same once more.
-    pub(crate) fn again(&self) -> Teller<'a, R> {
-        Teller {
-            rt: self.rt,
-            whose: self.whose,
-        }
-    }
-
     /// Tells what came of a link. Where that can't be written it is lost.
     pub(crate) fn tell(&self, what: &str) {
         let at = self.now();

@@ -8,10 +8,10 @@ use Rattle.std.specs.Option.{is_some}
 use Rattle.std.specs.Prelude.{◌==◌, ◌&&◌, nat_le, not, map, if◌then◌else◌}
 use Rattle.journal_pages.specs.fix_fields.Field.{Message, fields_text}
 use Rattle.journal_pages.specs.fix_fields.Reading.{fields_of}
-use Rattle.gate_events.specs.soup_session.declared.port_fault.PortFault.{PortFault}
-use Rattle.gate_events.specs.soup_session.declared.port_fault.PortFault.TheVariants as port_faults
-use Rattle.gate_events.specs.soup_session.Faults.{fault_number}
-use Rattle.gate_events.specs.gate_law.Events.{LinkOut, Write, Close}
+use Rattle.soup_session.specs.declared.port_fault.PortFault.{PortFault}
+use Rattle.soup_session.specs.declared.port_fault.PortFault.TheVariants as port_faults
+use Rattle.soup_session.specs.Faults.{fault_number}
+use Rattle.gate_law.specs.Events.{LinkOut, Write, Close}
 use Rattle.journal_pages.specs.declared.fault.PageFault.{PageFault}
 use Rattle.journal_pages.specs.declared.fault.PageFault.TheVariants as faults
 use Rattle.journal_pages.specs.declared.kind.RecordKind.{RecordKind}

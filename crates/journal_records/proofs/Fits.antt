@@ -9,12 +9,12 @@ use Rattle.std.specs.Prelude.{◌==◌, ◌&&◌, nat_le, nat_lt, not, map}
 use Rattle.journal_pages.specs.fix_fields.Field.{AreFields, Message, fields_text}
 use Rattle.journal_pages.specs.fix_fields.Reading.{fields_of}
 use Rattle.journal_pages.proofs.fix_fields.Reading.{fields_of-fields_text}
-use Rattle.gate_events.specs.soup_session.declared.port_fault.PortFault.{PortFault}
-use Rattle.gate_events.specs.soup_session.declared.port_fault.PortFault.TheVariants as port_faults
-use Rattle.gate_events.specs.soup_session.Faults.{fault_number}
+use Rattle.soup_session.specs.declared.port_fault.PortFault.{PortFault}
+use Rattle.soup_session.specs.declared.port_fault.PortFault.TheVariants as port_faults
+use Rattle.soup_session.specs.Faults.{fault_number}
 use Rattle.soup_packets.specs.declared.packet.Packet.{Packet}
 use Rattle.soup_packets.specs.Spelling.{packet_bytes}
-use Rattle.gate_events.specs.gate_law.Events.{Batch, LinkOut, Write, Close}
+use Rattle.gate_law.specs.Events.{Batch, LinkOut, Write, Close}
 use Rattle.gate_events.specs.declared.event.Event.{Event}
 use Rattle.gate_events.specs.declared.event.Event.TheVariants as events
 use Rattle.journal_pages.specs.declared.kind.RecordKind.{RecordKind}

@@ -4,8 +4,8 @@ use Rattle.std.proofs.Common.{◌∙◌, arith}
 use Rattle.std.proofs.lemmas.Bool.Decides.{nat_tests}
 use Rattle.std.specs.Prelude.{◌==◌, not, map, if◌then◌else◌}
 use Rattle.journal_pages.specs.fix_fields.Field.{Message}
-use Rattle.gate_events.specs.soup_session.declared.port_fault.PortFault.{PortFault}
-use Rattle.gate_events.specs.gate_law.Events.{Batch, LinkOut, Write, Close}
+use Rattle.soup_session.specs.declared.port_fault.PortFault.{PortFault}
+use Rattle.gate_law.specs.Events.{Batch, LinkOut, Write, Close}
 use Rattle.gate_events.specs.declared.event.Event.{Event}
 use Rattle.gate_events.specs.declared.event.Event.TheVariants as events
 use Rattle.journal_pages.specs.declared.fault.PageFault.{PageFault}
@@ -18,7 +18,7 @@ use Rattle.journal_pages.specs.Record.{Record}
 use Rattle.journal_pages.specs.Ordered.{order_fault, place_behind}
 use Rattle.journal_pages.specs.Page.{batch_at, batch_with, fault_at, is_event, is_same, may_follow, unless}
 use Rattle.journal_days.proofs.Places.{behind-both, order-both}
-use Rattle.gate_events.specs.soup_session.Faults.{fault_number}
+use Rattle.soup_session.specs.Faults.{fault_number}
 use Rattle.journal_records.specs.Events.{event_record, record_with}
 use Rattle.journal_records.specs.Parts.{batch_records, client_records, end_record, fault_records, named_number}
 use Rattle.journal_records.specs.Parts.{out_record, port_records, report_record, turn_records}

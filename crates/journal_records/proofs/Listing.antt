@@ -2,7 +2,7 @@
 use Rattle.std.proofs.Common.{◌≡◌, ◌<◌, true, false, Bool, Option, Some, None, List, [], ◌∷◌, ◌++◌, length, refl, sym}
 use Rattle.std.proofs.Common.{ap, ◌∙◌, arith, append_assoc, append-nil}
 use Rattle.std.specs.Prelude.{if◌then◌else◌}
-use Rattle.gate_events.specs.gate_law.Events.{Batch}
+use Rattle.gate_law.specs.Events.{Batch}
 use Rattle.gate_events.specs.declared.event.Event.{Event}
 use Rattle.journal_pages.specs.Page.{is_event}
 use Rattle.journal_pages.specs.Record.{Record}

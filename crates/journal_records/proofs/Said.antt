@@ -4,8 +4,8 @@ use Rattle.std.proofs.Common.{◌∙◌, arith, append-nil}
 use Rattle.std.proofs.lemmas.Bool.Decides.{nat_tests}
 use Rattle.std.specs.Prelude.{◌==◌, not, map, if◌then◌else◌}
 use Rattle.journal_pages.specs.fix_fields.Field.{Message}
-use Rattle.gate_events.specs.soup_session.declared.port_fault.PortFault.{PortFault}
-use Rattle.gate_events.specs.gate_law.Events.{Batch, LinkOut, Write, Close}
+use Rattle.soup_session.specs.declared.port_fault.PortFault.{PortFault}
+use Rattle.gate_law.specs.Events.{Batch, LinkOut, Write, Close}
 use Rattle.gate_events.specs.declared.event.Event.{Event}
 use Rattle.gate_events.specs.declared.event.Event.TheVariants as events
 use Rattle.journal_pages.specs.declared.kind.RecordKind.TheVariants as kinds

@@ -6,10 +6,10 @@ use Rattle.std.specs.Option.{is_some}
 use Rattle.std.specs.Prelude.{◌==◌, ◌&&◌, not, map, unwrap_or, if◌then◌else◌}
 use Rattle.journal_pages.specs.fix_fields.Field.{AreFields, Message, fields_text}
 use Rattle.journal_pages.proofs.fix_fields.Reading.{fields_of-fields_text}
-use Rattle.gate_events.specs.soup_session.declared.port_fault.PortFault.{PortFault}
-use Rattle.gate_events.specs.soup_session.declared.port_fault.PortFault.TheVariants as port_faults
-use Rattle.gate_events.specs.soup_session.Faults.{fault_number}
-use Rattle.gate_events.specs.gate_law.Events.{Batch, LinkOut, Write, Close}
+use Rattle.soup_session.specs.declared.port_fault.PortFault.{PortFault}
+use Rattle.soup_session.specs.declared.port_fault.PortFault.TheVariants as port_faults
+use Rattle.soup_session.specs.Faults.{fault_number}
+use Rattle.gate_law.specs.Events.{Batch, LinkOut, Write, Close}
 use Rattle.journal_pages.specs.declared.kind.RecordKind.TheVariants as kinds
 use Rattle.journal_pages.specs.Record.{Record}
 use Rattle.journal_records.specs.Events.{payload_fields}

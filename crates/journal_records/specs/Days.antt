@@ -1,6 +1,6 @@
 -- The events and the batches that the records of a day say.
 use Rattle.std.specs.Prelude.{List, [], ◌∷◌, Option, Some, None, if◌then◌else◌}
-use Rattle.gate_events.specs.gate_law.Events.{Batch}
+use Rattle.gate_law.specs.Events.{Batch}
 use Rattle.gate_events.specs.declared.event.Event.{Event}
 use Rattle.journal_pages.specs.Page.{is_event}
 use Rattle.journal_pages.specs.Record.{Record}

@@ -1,9 +1,9 @@
 -- The records of a batch, behind those of its event.
 use Rattle.std.specs.Prelude.{ℕ, List, [], ◌∷◌, ◌++◌, map, Option, Some, None, unwrap_or}
 use Rattle.journal_pages.specs.fix_fields.Field.{Message, fields_text}
-use Rattle.gate_events.specs.soup_session.declared.port_fault.PortFault.{PortFault}
-use Rattle.gate_events.specs.soup_session.Faults.{fault_number}
-use Rattle.gate_events.specs.gate_law.Events.{Batch, LinkOut, Write, Close}
+use Rattle.soup_session.specs.declared.port_fault.PortFault.{PortFault}
+use Rattle.soup_session.specs.Faults.{fault_number}
+use Rattle.gate_law.specs.Events.{Batch, LinkOut, Write, Close}
 use Rattle.gate_events.specs.declared.event.Event.{Event}
 use Rattle.journal_pages.specs.declared.kind.RecordKind.{RecordKind}
 use Rattle.journal_pages.specs.declared.kind.RecordKind.TheVariants as kinds

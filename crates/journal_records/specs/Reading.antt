@@ -1,12 +1,12 @@
 -- The batch that records say, behind the record of its event.
 use Rattle.std.specs.Prelude.{ℕ, ◌==◌, Bool, true, false, List, [], ◌∷◌, ◌++◌, Option, Some, None, if◌then◌else◌}
 use Rattle.journal_pages.specs.fix_fields.Field.{Message}
-use Rattle.gate_events.specs.soup_session.declared.port_fault.PortFault.{PortFault}
-use Rattle.gate_events.specs.soup_session.declared.port_fault.PortFault.TheVariants.{StrangePacket, UnknownToken}
-use Rattle.gate_events.specs.soup_session.declared.port_fault.PortFault.TheVariants.{NotLawful}
-use Rattle.gate_events.specs.soup_session.declared.port_fault.PortFault.TheVariants.{OutsideProfile, SequenceGap}
-use Rattle.gate_events.specs.soup_session.declared.port_fault.PortFault.TheVariants.{OtherSession}
-use Rattle.gate_events.specs.gate_law.Events.{Batch, LinkOut, Write, Close}
+use Rattle.soup_session.specs.declared.port_fault.PortFault.{PortFault}
+use Rattle.soup_session.specs.declared.port_fault.PortFault.TheVariants.{StrangePacket, UnknownToken}
+use Rattle.soup_session.specs.declared.port_fault.PortFault.TheVariants.{NotLawful}
+use Rattle.soup_session.specs.declared.port_fault.PortFault.TheVariants.{OutsideProfile, SequenceGap}
+use Rattle.soup_session.specs.declared.port_fault.PortFault.TheVariants.{OtherSession}
+use Rattle.gate_law.specs.Events.{Batch, LinkOut, Write, Close}
 use Rattle.gate_events.specs.Batches.{batch_of}
 use Rattle.journal_pages.specs.declared.kind.RecordKind.{RecordKind}
 use Rattle.journal_pages.specs.declared.kind.RecordKind.TheVariants as kinds

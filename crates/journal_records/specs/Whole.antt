@@ -1,7 +1,7 @@
 -- What every event and every batch keeps, and what can be written of them.
 use Rattle.std.specs.Prelude.{◌≡◌, ◌≤◌, ◌<◌, ◌^◌, ℕ, List, [], ◌∷◌, length, Option, Some, None, is_some}
 use Rattle.journal_pages.specs.fix_fields.Field.{AreFields, Message, fields_text}
-use Rattle.gate_events.specs.gate_law.Events.{Batch, LinkOut, Write, Close, is_for_client, is_for_port}
+use Rattle.gate_law.specs.Events.{Batch, LinkOut, Write, Close, is_for_client, is_for_port}
 use Rattle.gate_events.specs.declared.event.Event.{Event}
 use Rattle.journal_pages.specs.Ordered.{IsWritable}
 use Rattle.journal_pages.specs.Record.{longest_frame, payload_limit}

@@ -9,9 +9,11 @@ ghost use Rattle.journal_records.specs.Parts.{batch_records, client_records, end
 ghost use Rattle.journal_records.specs.Parts.{out_record, port_records, report_record};
 
 use crate::heads::head;
-use gate_events::{Batch, IssuedReport, LinkOut, PortFault};
+use gate_events::{Batch, LinkOut};
 use journal_days::DayPages;
 use journal_pages::{RecordHead, RecordKind};
+use session_law::IssuedReport;
+use soup_session::PortFault;
 use std::alloc::AllocError;
 
 /// A payload has fewer bytes than this.

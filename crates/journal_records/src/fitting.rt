@@ -7,7 +7,8 @@ ghost use Rattle.journal_records.specs.Events.{AreItsFields, event_record};
 ghost use Rattle.journal_records.specs.Parts.{named_number};
 ghost use Rattle.journal_records.specs.Whole.{Each, IsFitBatch, IsFrame, IsFromOne, IsShortOut, IsShortReport, IsTurn};
 
-use gate_events::{Batch, ClientFrame, ClientNumber, Event, IssuedReport, LinkOut, PortNumber};
+use gate_events::{Batch, ClientFrame, ClientNumber, Event, LinkOut, PortNumber};
+use session_law::IssuedReport;
 use soup_packets::Packet;
 
 /// A payload has fewer bytes than this.

@@ -1,7 +1,7 @@
 //! Laws of these definitions.
 
 ghost use Rattle.std.specs.Prelude.{◌≡◌, ◌≤◌, ◌<◌, ◌++◌, ◌∷◌, [], List, Some, None, true, ℕ, get_or};
-ghost use Rattle.gate_events.specs.gate_law.Events.{Batch};
+ghost use Rattle.gate_law.specs.Events.{Batch};
 ghost use Rattle.gate_events.specs.declared.event.Event.{Event};
 ghost use Rattle.journal_pages.specs.Page.{batch_at};
 ghost use Rattle.journal_pages.specs.Record.{Record, is_sound};

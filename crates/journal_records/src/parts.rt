@@ -1,7 +1,7 @@
 //! A batch, read record by record.
 
 ghost use Rattle.std.specs.Prelude.{◌≡◌, ◌≤◌, ◌++◌, ◌∷◌, [], map, IfOk, OnOk};
-ghost use Rattle.gate_events.specs.gate_law.Events.{Write};
+ghost use Rattle.gate_law.specs.Events.{Write};
 ghost use Rattle.gate_events.specs.Seen.{batch_seen, link_out_seen};
 ghost use Rattle.journal_pages.specs.Seen.{record_seen};
 ghost use Rattle.journal_pages.specs.declared.kind.RecordKind.TheVariants as kinds;
@@ -11,8 +11,11 @@ ghost use Rattle.journal_records.specs.Reading.{batch_said, nothing_said, fault_
 ghost use Rattle.journal_records.specs.Reading.{saying_client_out, saying_port_out, saying_report};
 ghost use Rattle.journal_records.specs.PartsSeen.{parts_seen};
 
-use gate_events::{Batch, ClientNumber, IssuedReport, LinkOut, PortFault, PortNumber, ShortList};
+use gate_events::{Batch, ClientNumber, LinkOut, PortNumber};
 use journal_pages::{PrintedFields, RecordKind, RecordView};
+use session_law::IssuedReport;
+use short_list::ShortList;
+use soup_session::PortFault;
 use std::alloc::{AllocError, Global};
 
 /// What was read of a batch so far. The number of its client or port is 0 as long as none was named.

@@ -1,7 +1,7 @@
 //! A gate that keeps what it was given, and gives events back at times.
 
 ghost use Rattle.std.specs.Prelude.{◌≡◌, map, IfOk};
-ghost use Rattle.link_io.specs.gate_events.Seen.{link_out_seen};
+ghost use Rattle.gate_events.specs.Seen.{link_out_seen};
 
 use crate::chance::Chance;
 use link_io::{Event, Gate, LinkOut, ShortList};
@@ -45,7 +45,7 @@ impl Kept {
 
 impl Gate for Kept {
     ghost use Rattle.std.specs.Prelude.{map};
-    ghost use Rattle.link_io.specs.gate_events.Seen.{event_seen, link_out_seen};
+    ghost use Rattle.gate_events.specs.Seen.{event_seen, link_out_seen};
 
     ghost was_put = { λ g. map event_seen g.events.items };
 

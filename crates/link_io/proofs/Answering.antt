@@ -1,6 +1,6 @@
 -- What a step tells of the calls of its stream.
 use Rattle.std.proofs.Common.{◌≡◌, ℕ, Bool, List, Option, Some, Result, Ok, Err, sym, subst}
-use Rattle.gate_events.specs.gate_law.Events as law
+use Rattle.gate_law.specs.Events as law
 use Rattle.link_io.specs.declared.link_fault.LinkFault.{LinkFault}
 use Rattle.link_io.specs.declared.link_fault.LinkFault.TheVariants.{ReadFailed, WriteFailed, Malformed, StepLimit}
 use Rattle.link_io.specs.declared.link_fault.LinkFault.TheVariants.{NoMemory}

@@ -4,7 +4,7 @@ use Rattle.std.proofs.Common.{◌∷◌, length, take, Option, Some, None, Ok, E
 use Rattle.std.proofs.Common.{arith, nat_lt}
 use Rattle.std.proofs.lemmas.List.{length-take}
 use Rattle.std.proofs.lemmas.Bool.Decides.{nat_tests}
-use Rattle.gate_events.specs.gate_law.Events.{Event, ClientMessage}
+use Rattle.gate_law.specs.Events.{Event, ClientMessage}
 use Rattle.fix_framing.specs.fix_fields.Field.{Field, Message, fields_text}
 use Rattle.fix_framing.specs.fix_fields.Reading.{fields_of}
 use Rattle.fix_framing.proofs.fix_fields.Reading.{fields_of-found}

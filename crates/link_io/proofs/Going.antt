@@ -4,7 +4,7 @@ use Rattle.std.proofs.Common.{Ok, Err, refl, sym, ◌∙◌, ap, subst, append_a
 use Rattle.std.specs.Result.{IsErrAnd}
 use Rattle.std.specs.Io.KnownBytes.{Consumes}
 use Rattle.std.proofs.KnownBytes.{Consumes-nil, Consumes-kept}
-use Rattle.gate_events.specs.gate_law.Events as law
+use Rattle.gate_law.specs.Events as law
 use Rattle.link_io.specs.declared.limit.Limit.{Limit}
 use Rattle.link_io.specs.declared.link_fault.LinkFault.{LinkFault}
 use Rattle.link_io.specs.declared.link_fault.LinkFault.TheVariants.{ReadFailed, WriteFailed, Malformed, StepLimit}

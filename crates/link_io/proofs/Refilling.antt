@@ -3,8 +3,8 @@ use Rattle.std.proofs.Common.{◌≡◌, ℕ, ◌==◌, ◌++◌, Bool, true, fa
 use Rattle.std.proofs.Common.{ap, subst, append_assoc, append-nil, arith, Option, Some, Result, Ok, Err}
 use Rattle.std.proofs.lemmas.Bool.Decides.{nat_tests}
 use Rattle.std.proofs.lemmas.List.{length-append}
-use Rattle.gate_events.specs.gate_law.Events.{LinkOut}
-use Rattle.gate_events.specs.Links.{is_link_closed}
+use Rattle.gate_law.specs.Events.{LinkOut}
+use Rattle.gate_events.specs.Closing.{is_link_closed}
 use Rattle.std.specs.Result.{IsErrAnd}
 use Rattle.std.specs.Io.KnownBytes.{Appends}
 use Rattle.std.proofs.KnownBytes.{Appends-nil}

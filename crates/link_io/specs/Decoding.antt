@@ -1,7 +1,7 @@
 -- The frames of a client's link and the packets of a port's, as events.
 use Rattle.std.specs.Prelude.{◌≡◌, ℕ, ◌≤◌, ◌<◌, ◌++◌, Bool, true, false, List, []}
 use Rattle.std.specs.Prelude.{◌∷◌, length, Option, Some, None, Result, Ok, Err}
-use Rattle.gate_events.specs.gate_law.Events.{Event, ClientMessage, PortPacket}
+use Rattle.gate_law.specs.Events.{Event, ClientMessage, PortPacket}
 use Rattle.fix_framing.specs.fix_fields.Field.{Message, fields_text}
 use Rattle.fix_framing.specs.Stream.{ReaderStanding, Passed, End, Rest, Over, parts, left, longest}
 use Rattle.soup_packets.specs.stream_buffer.Buffer.{BytesHeld}

@@ -58,6 +58,8 @@ impl Decoder for ClientFrames {
 
     ghost to_make = { λ f. length (left f.framer.end).frames };
 
+    ghost skips = { λ f. f.framer.skipped };
+
     fn feed(&mut self, alloc: Global, piece: &[u8]) -> Result<(), AllocError> {
         self.framer.put(alloc, piece)
     }
@@ -73,6 +75,11 @@ impl Decoder for ClientFrames {
             at,
             frame,
         }))
+    }
+
+    /// As the reader of the stream counts them; 2^64 - 1 stands for more.
+    fn skipped(&self) -> u64 {
+        self.framer.skipped()
     }
 }
 

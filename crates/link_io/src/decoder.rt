@@ -9,7 +9,7 @@ use std::alloc::{AllocError, Global};
 /// Contracts see whose they are, and what was made of which bytes.
 pub trait Decoder: Drop {
     ghost use Rattle.std.specs.Prelude.{◌≡◌, ◌++◌, ℕ, List, Bool, OnOk, OnErr, IfOk, IfSome};
-    ghost use Rattle.gate_events.specs.gate_law.Events as law;
+    ghost use Rattle.gate_law.specs.Events as law;
     ghost use Rattle.link_io.specs.Reading.{Feeds, Makes, event_moment};
     ghost use Rattle.gate_events.specs.Seen.{event_seen};
 
@@ -25,6 +25,9 @@ pub trait Decoder: Drop {
     // How many are still to be made.
     ghost to_make: { Self → ℕ };
 
+    // How many bytes of what was taken are part of no message.
+    ghost skips: { Self → ℕ };
+
     /// Takes the next bytes of the stream. `AllocError` leaves all as it was.
     fn feed(&mut self, alloc: Global, piece: &[u8]) -> Result<(), AllocError>
         ensures ok { OnOk result (Feeds made piece.now self.old self.new) }
@@ -37,4 +40,8 @@ pub trait Decoder: Drop {
         ensures makes { Makes made are_all to_make result self.old self.new }
         ensures moment { IfOk result (λ next. IfSome next (λ event. event_moment (event_seen event) ≡ at)) }
         ensures source { source self.new ≡ source self.old };
+
+    /// How many bytes of what was taken were skipped, since they are part of no message. Takes no memory.
+    fn skipped(&self) -> u64
+        ensures { result ≡ skips self.now };
 }

@@ -1,6 +1,7 @@
 //! Where an engine's events go, and where what a link is told comes from.
 
-use gate_events::{Event, LinkOut, ShortList};
+use gate_events::{Event, LinkOut};
+use short_list::ShortList;
 use std::alloc::{AllocError, Global};
 use std::sync::Wait;
 
@@ -8,7 +9,7 @@ use std::sync::Wait;
 /// Contracts see the events that were put, and the lists that were taken, each in order.
 pub trait Gate {
     ghost use Rattle.std.specs.Prelude.{◌≡◌, ◌++◌, List, [], ◌∷◌, map, OnOk, IfErr, IfSome, IfNone};
-    ghost use Rattle.gate_events.specs.gate_law.Events as law;
+    ghost use Rattle.gate_law.specs.Events as law;
     ghost use Rattle.gate_events.specs.Seen.{event_seen, link_out_seen};
 
     ghost was_put: { Self → List law.Event };
@@ -38,4 +39,12 @@ pub trait Gate {
     /// Wakes who writes the link of which this end puts events, where that sleeps. Waits for nobody, takes no memory.
     /// It wakes nobody unless an end does so.
     fn wake_writer(&self) {}
+
+    /// Is told how many bytes of a link were part of no message: at the first, whenever they are twice as many, and at
+    /// the end of its stream. It does nothing unless an end does so.
+    fn tell_skipped(&self, _count: u64) {}
+
+    /// Is told what was written onto a link, frames one behind another, where a Reject, a ResendRequest or a Logout is
+    /// among them. It does nothing unless an end does so.
+    fn tell_sent(&self, _frames: &[u8]) {}
 }

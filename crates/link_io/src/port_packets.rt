@@ -56,6 +56,8 @@ impl Decoder for PortPackets {
 
     ghost to_make = { λ p. length p.packets.held };
 
+    ghost skips = { λ p. 0 };
+
     fn feed(&mut self, alloc: Global, piece: &[u8]) -> Result<(), AllocError> {
         self.packets.put(alloc, piece)
     }
@@ -70,6 +72,11 @@ impl Decoder for PortPackets {
             at,
             packet,
         }))
+    }
+
+    /// None: each byte is part of a packet.
+    fn skipped(&self) -> u64 {
+        0
     }
 }
 

@@ -129,6 +129,14 @@ impl<D: Decoder> Reader<D> {
         }
     }
 
+    /// How many bytes of what was read were skipped, since they are part of no message: of a port's link none. Takes no
+    /// memory.
+    pub fn skipped(&self) -> u64
+        ensures { result ≡ D.skips self.now.decoder }
+    {
+        self.decoder.skipped()
+    }
+
     /// The same, of a link that goes on.
     fn read_on<R: Source, G: Gate>(
         &mut self,

@@ -12,8 +12,10 @@ ghost use Rattle.link_io.specs.declared.link_fault.LinkFault.{LinkFault as Fault
 use crate::gate::Gate;
 use crate::limit::Limit;
 use crate::link_fault::LinkFault;
+use crate::sent_notes::SentNotes;
 use crate::streams::{Prompt, Sink};
-use gate_events::{LinkOut, ShortList, closes_link};
+use gate_events::{LinkOut, closes_link};
+use short_list::ShortList;
 use std::alloc::{AllocError, Global};
 use std::marker::Model;
 
@@ -48,6 +50,7 @@ pub struct BatchWriter {
     is_taken: bool,
     is_closing: bool,
     limit: Limit,
+    sent: SentNotes,
 }
 
 // Not derived: then each way out drops it in one call (docs/DECISIONS.md, "Drops").
@@ -62,6 +65,7 @@ impl Drop for BatchWriter {
             is_taken: _,
             is_closing: _,
             limit: _,
+            sent: _,
         } = self;
     }
 }
@@ -110,6 +114,7 @@ impl BatchWriter {
             is_taken: false,
             is_closing: false,
             limit: Limit::new(steps),
+            sent: SentNotes::new(),
         }
     }
 
@@ -190,13 +195,13 @@ impl BatchWriter {
         let Ok(is_more) = self.refill(alloc, gate) else {
             return false;
         };
-        let is_written = self.try_pending(stream);
+        let is_written = self.try_pending(stream, gate);
         is_written && !is_more && !self.is_closing
     }
 
     /// Writes what is pending by one prompt write, where there is something. What the stream took goes: whether that
-    /// was all.
-    fn try_pending<W: Prompt>(&mut self, stream: &mut W) -> bool
+    /// was all. The gate is told of what the stream began to take.
+    fn try_pending<W: Prompt, G: Gate>(&mut self, stream: &mut W, gate: &G) -> bool
         ensures sent { HasSent self.old.bytes self.new.bytes (W.contents stream.old) (W.contents stream.new) }
         ensures left { self.new ≡ record self.old { bytes = self.new.bytes } }
         ensures all { result ≡ true → self.new.bytes ≡ [] }
@@ -207,14 +212,27 @@ impl BatchWriter {
         }
         match stream.write_promptly(self.pending.as_slice()) {
             Ok(count) if count == self.pending.len() => {
+                self.sent.tell(gate, self.pending.as_slice(), 0);
                 self.pending.clear();
                 true
             }
             Ok(count) => {
+                self.tell_part(gate, count);
                 self.pending.drain(..count);
                 false
             }
             Err(_) => false,
+        }
+    }
+
+    /// Tells the gate of what the stream has begun to take, of which it took so many bytes.
+    fn tell_part<G: Gate>(&mut self, gate: &G, count: usize)
+        requires { count ≤ length self.old.bytes }
+        ensures { self.new ≡ self.old }
+    {
+        if count != 0 {
+            let left = self.pending.len() - count;
+            self.sent.tell(gate, self.pending.as_slice(), left);
         }
     }
 
@@ -233,6 +251,7 @@ impl BatchWriter {
     {
         self.refill(alloc, gate)?;
         write_out(stream, self.pending.as_slice())?;
+        self.sent.tell(gate, self.pending.as_slice(), 0);
         Ok(self.told())
     }
 
@@ -318,6 +337,7 @@ impl BatchWriter {
             return Ok(false);
         }
         append_told(&mut self.pending, self.link, &self.held[self.joined])?;
+        self.sent.look(self.link, &self.held[self.joined]);
         self.joined += 1;
         Ok(true)
     }

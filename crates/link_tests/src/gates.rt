@@ -1,7 +1,7 @@
 //! A gate that keeps what it was given.
 
 ghost use Rattle.std.specs.Prelude.{◌≡◌, [], map, IfOk};
-ghost use Rattle.link_io.specs.gate_events.Seen.{link_out_seen};
+ghost use Rattle.gate_events.specs.Seen.{link_out_seen};
 
 use link_io::{Event, Gate, LinkOut, ShortList};
 use std::alloc::{AllocError, Global};
@@ -69,7 +69,7 @@ pub fn list_of(alloc: Global, link: u64, bytes: &[u8]) -> Result<ShortList<LinkO
 
 impl Gate for Kept {
     ghost use Rattle.std.specs.Prelude.{map};
-    ghost use Rattle.link_io.specs.gate_events.Seen.{event_seen, link_out_seen};
+    ghost use Rattle.gate_events.specs.Seen.{event_seen, link_out_seen};
 
     ghost was_put = { λ g. map event_seen g.events.items };
 

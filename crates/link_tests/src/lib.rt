@@ -1,5 +1,4 @@
-//! Tests of the public calls of `link_io`, `gate_workers`, `gate_serving`, `link_pens` and, over loopback, of
-//! `link_sockets`. Nothing else stands here.
+//! Tests of the public calls of `link_io`, `gate_workers`, `gate_serving` and, over loopback, of `link_sockets`. Nothing else stands here.
 //!
 //! Expected bytes are typed in from FIX 4.4 Volume 1, "Message Format", and SoupBinTCP 3.00, "Logical Packets".
 #![tactic(auto)]
@@ -20,6 +19,8 @@ mod serving;
 mod sockets;
 #[cfg(test)]
 mod streams;
+#[cfg(test)]
+mod telling;
 #[cfg(test)]
 mod workers;
 #[cfg(test)]

@@ -4,7 +4,7 @@ use super::gates::Kept;
 use super::streams::Pieces;
 use gate_serving::{Closer, LinkEnd, Opened, Opener};
 use gate_workers::Clock;
-use link_io::{Event, Gate, LinkFault, LinkOut, ShortList};
+use link_io::{Event, Gate, LinkFault, LinkOut, Prompt, ShortList};
 use std::alloc::{AllocError, Global};
 use std::io::Write;
 use std::sync::Wait;
@@ -62,7 +62,7 @@ impl<'a, R: time::Clock> Waiting<'a, R> {
 
 impl<'a, R: time::Clock> Gate for Waiting<'a, R> {
     ghost use Rattle.std.specs.Prelude.{map};
-    ghost use Rattle.link_io.specs.gate_events.Seen.{event_seen, link_out_seen};
+    ghost use Rattle.gate_events.specs.Seen.{event_seen, link_out_seen};
 
     ghost was_put = { λ g. map event_seen g.kept.events.items };
 
@@ -126,6 +126,14 @@ impl<'a> Write for Counted<'a> {
 
     fn flush(&mut self) -> io::Result<()> {
         Ok(())
+    }
+}
+
+impl<'a> Prompt for Counted<'a> {
+    ghost did_try = { λ _ _ _ _. Unit {0} };
+
+    fn write_promptly(&mut self, buf: &[u8]) -> io::Result<usize> {
+        self.write(buf)
     }
 }
 

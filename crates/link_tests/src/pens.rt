@@ -4,8 +4,7 @@ ghost use Rattle.std.specs.Prelude.{◌≡◌, [], IfOk};
 
 use super::gates::Kept;
 use super::streams::Torn;
-use gate_workers::{Clock, WriterEnd};
-use link_pens::Pen;
+use gate_workers::{Clock, Pen, WriterEnd};
 use std::alloc::{AllocError, Global};
 use std::process::Abort;
 use std::sync::Wait;
@@ -84,10 +83,11 @@ fn written<R: Wait + Abort + time::Clock>(
 #[test]
 fn what_one_began_another_goes_on_with(rt: HostRuntime) -> Result<(), Fail> {
     let alloc = rt.alloc();
-    let pen = Pen::new(1, gate_of_two_links(alloc, true)?);
+    let pen = Pen::new(gate_of_two_links(alloc, true)?);
     assert!(rt; !pen.write(alloc));
-    assert!(rt; pen.open(&rt, alloc, 100, torn(alloc, 4)).is_ok());
-    assert!(rt; pen.open(&rt, alloc, 100, torn(alloc, 4)).is_err());
+    assert!(rt; pen.open(&rt, alloc, 1, 2, 100, torn(alloc, 4)).is_err());
+    assert!(rt; pen.open(&rt, alloc, 1, 1, 100, torn(alloc, 4)).is_ok());
+    assert!(rt; pen.open(&rt, alloc, 1, 2, 100, torn(alloc, 4)).is_err());
     assert!(rt; !pen.write(alloc));
     let stop = AtomicBool::new(false);
     written(&rt, alloc, &pen, &stop, WriterEnd::Closed, BOTH)?;
@@ -95,7 +95,7 @@ fn what_one_began_another_goes_on_with(rt: HostRuntime) -> Result<(), Fail> {
         pen.write_all(&rt, alloc, &mut Sleeping { rt: &rt }, &stop)
             .is_none()
     );
-    assert!(rt; pen.open(&rt, alloc, 100, torn(alloc, 100)).is_ok());
+    assert!(rt; pen.open(&rt, alloc, 1, 2, 100, torn(alloc, 100)).is_ok());
     assert!(rt; pen.write(alloc));
     stop.store(true, Ordering::SeqCst);
     written(&rt, alloc, &pen, &stop, WriterEnd::Stopped, OTHER)?;
@@ -110,9 +110,9 @@ fn what_one_began_another_goes_on_with(rt: HostRuntime) -> Result<(), Fail> {
 #[test]
 fn what_links_that_are_over_are_told_is_let_go(rt: HostRuntime) -> Result<(), Fail> {
     let alloc = rt.alloc();
-    let pen = Pen::new(1, gate_of_two_links(alloc, true)?);
+    let pen = Pen::new(gate_of_two_links(alloc, true)?);
     pen.let_go(&rt, alloc);
-    assert!(rt; pen.open(&rt, alloc, 100, torn(alloc, 100)).is_ok());
+    assert!(rt; pen.open(&rt, alloc, 1, 1, 100, torn(alloc, 100)).is_ok());
     pen.let_go(&rt, alloc);
     let Err(pen) = pen.into_gate() else {
         return Err(Fail::new("no link is open"));
@@ -120,7 +120,7 @@ fn what_links_that_are_over_are_told_is_let_go(rt: HostRuntime) -> Result<(), Fa
     let stop = AtomicBool::new(false);
     written(&rt, alloc, &pen, &stop, WriterEnd::Closed, BOTH)?;
     pen.let_go(&rt, alloc);
-    assert!(rt; pen.open(&rt, alloc, 100, torn(alloc, 100)).is_ok());
+    assert!(rt; pen.open(&rt, alloc, 1, 2, 100, torn(alloc, 100)).is_ok());
     stop.store(true, Ordering::SeqCst);
     written(&rt, alloc, &pen, &stop, WriterEnd::Stopped, b"")
 }
@@ -140,8 +140,8 @@ fn gate_of_many(alloc: Global) -> Result<Kept, AllocError>
 #[test]
 fn two_threads_write_a_link_together(rt: HostRuntime) -> Result<(), Fail> {
     let alloc = rt.alloc();
-    let pen = Pen::new(1, gate_of_many(alloc)?);
-    assert!(rt; pen.open(&rt, alloc, 100_000, torn(alloc, 7)).is_ok());
+    let pen = Pen::new(gate_of_many(alloc)?);
+    assert!(rt; pen.open(&rt, alloc, 1, 1, 100_000, torn(alloc, 7)).is_ok());
     let stop = AtomicBool::new(false);
     let shared = &pen;
     let flag = &stop;

@@ -1,11 +1,14 @@
 //! Lines that are served at once.
 
-ghost use Rattle.std.specs.Prelude.{◌≤◌};
+ghost use Rattle.std.specs.Prelude.{◌≡◌, ◌≤◌, [], IfOk};
 
 use super::gates::Kept;
-use super::lines::{Links, Seen, Sleeping, Waiting};
-use gate_serving::{Line, Worker, WriterEnd, serve};
-use link_io::{ClientNumber, Event, LinkFault, LinkOut, PortNumber, ShortList};
+use super::lines::{Counted, Links, Seen, Sleeping, Waiting};
+use gate_events::{ClientNumber, Event, LinkOut, PortNumber, Recipient};
+use gate_serving::{Line, Peer, PenWorker, Worker, WriterEnd, serve};
+use gate_workers::Pen;
+use link_io::LinkFault;
+use short_list::ShortList;
 use std::alloc::{AllocError, Global};
 use std::process::Abort;
 use std::sync::Wait;
@@ -17,15 +20,19 @@ use std::time;
 /// A heartbeat without a header, as a frame.
 const HEARTBEAT: &[u8; 26] = b"8=FIX.4.4\x019=5\x0135=0\x0110=163\x01";
 
-type TestLine<'a, P, R> = Line<
+type TestPen<'a, R> = Pen<Counted<'a>, Waiting<'a, R>>;
+
+type TestLine<'p, 'a, P, R> = Line<
     P,
     Links<'a>,
     Worker<Waiting<'a, R>, Sleeping<'a, R>>,
-    Worker<Waiting<'a, R>, Sleeping<'a, R>>,
+    PenWorker<'p, Counted<'a>, Waiting<'a, R>, Sleeping<'a, R>>,
 >;
 
 /// A gate with a list of this alone, which lies there.
-fn kept_with(alloc: Global, out: LinkOut) -> Result<Kept, AllocError> {
+fn kept_with(alloc: Global, out: LinkOut) -> Result<Kept, AllocError>
+    ensures { IfOk result (λ kept. kept.given.items ≡ []) }
+{
     let list = ShortList::of(out);
     let mut kept = Kept::new(alloc);
     kept.lists.push(list)?;
@@ -39,7 +46,9 @@ fn writing_gate<'a, R>(
     seen: &'a Seen,
     out: LinkOut,
     is_taken: &'a AtomicBool,
-) -> Result<Waiting<'a, R>, AllocError> {
+) -> Result<Waiting<'a, R>, AllocError>
+    ensures { IfOk result (λ gate. gate.kept.given.items ≡ []) }
+{
     Ok(Waiting {
         rt,
         kept: kept_with(alloc, out)?,
@@ -98,14 +107,15 @@ fn links_of<'a>(
     }
 }
 
-/// A line over these links and gates.
-fn line_of<'a, P: Drop, R>(
+/// A line over these links, this gate and this pen.
+fn line_of<'p, 'a, P: Drop, R: time::Clock>(
     rt: &'a R,
     peer: P,
+    to: Recipient,
     opener: Links<'a>,
     reader: Waiting<'a, R>,
-    writer: Waiting<'a, R>,
-) -> TestLine<'a, P, R> {
+    pen: &'p TestPen<'a, R>,
+) -> TestLine<'p, 'a, P, R> {
     Line {
         peer,
         steps: 1_000,
@@ -115,62 +125,59 @@ fn line_of<'a, P: Drop, R>(
             gate: reader,
             clock: Sleeping { rt, moment: 0 },
         },
-        writer: Worker {
-            gate: writer,
-            clock: Sleeping { rt, moment: 0 },
-        },
+        writer: PenWorker::new(to, pen, Sleeping { rt, moment: 0 }),
     }
 }
 
-/// Serves the lines of clients.
-fn serve_clients<'a, R: Threads + Wait + time::Clock + Sync>(
+/// Serves lines.
+fn served<'p, 'a, P: Peer + Send + Drop, R: Threads + Wait + time::Clock + Sync>(
     rt: &'a R,
     alloc: Global,
-    lines: Vec<TestLine<'a, ClientNumber, R>>,
-) -> Result<Vec<TestLine<'a, ClientNumber, R>>, Fail> {
+    lines: Vec<TestLine<'p, 'a, P, R>>,
+) -> Result<Vec<TestLine<'p, 'a, P, R>>, Fail> {
     match serve(rt, alloc, lines) {
         Ok(lines) => Ok(lines),
         Err(_) => Err(Fail::new("not served")),
     }
 }
 
-/// Serves the line of the first client, whose one link brings a heartbeat.
-fn serve_one_client<'a, R: Threads + Wait + time::Clock + Sync>(
+/// The line of a client of this number, whose one link brings these bytes.
+fn client_line<'p, 'a, R: time::Clock>(
     rt: &'a R,
     alloc: Global,
     seen: &'a Seen,
-    reader: Waiting<'a, R>,
-    writer: Waiting<'a, R>,
-) -> Result<Vec<TestLine<'a, ClientNumber, R>>, Fail> {
-    let links = links_of(alloc, HEARTBEAT.as_slice(), 1, 0, seen);
-    let line = line_of(rt, ClientNumber::new(1), links, reader, writer);
-    serve_clients(rt, alloc, vec![in alloc; line]?)
-}
-
-fn two_lines<'a, R>(
-    alloc: Global,
-    one: TestLine<'a, ClientNumber, R>,
-    two: TestLine<'a, ClientNumber, R>,
-) -> Result<Vec<TestLine<'a, ClientNumber, R>>, Fail> {
-    Ok(vec![in alloc; one, two]?)
-}
-
-/// The line of a client of this number, whose one link brings these bytes and is told a heartbeat, which sets
-/// `is_taken` as it is taken.
-fn told_line<'a, R>(
-    rt: &'a R,
-    alloc: Global,
-    client: u16,
+    number: u16,
     stream: &'a [u8],
     reader: Waiting<'a, R>,
-    seen: &'a Seen,
-    is_taken: &'a AtomicBool,
-) -> Result<TestLine<'a, ClientNumber, R>, Fail>
-    requires { 1 ≤ client }
+    pen: &'p TestPen<'a, R>,
+) -> TestLine<'p, 'a, ClientNumber, R>
+    requires { 1 ≤ number }
 {
     let links = links_of(alloc, stream, 1, 0, seen);
-    let writer = writing_gate(rt, alloc, seen, heartbeat(alloc)?, is_taken)?;
-    Ok(line_of(rt, ClientNumber::new(client), links, reader, writer))
+    let client = ClientNumber::new(number);
+    line_of(rt, client, Recipient::Client(client), links, reader, pen)
+}
+
+/// Serves the line of the first client, whose one link brings a heartbeat.
+fn serve_one_client<'p, 'a, R: Threads + Wait + time::Clock + Sync>(
+    rt: &'a R,
+    alloc: Global,
+    seen: &'a Seen,
+    reader: Waiting<'a, R>,
+    pen: &'p TestPen<'a, R>,
+) -> Result<Vec<TestLine<'p, 'a, ClientNumber, R>>, Fail> {
+    let line = client_line(rt, alloc, seen, 1, HEARTBEAT.as_slice(), reader, pen);
+    served(rt, alloc, vec![in alloc; line]?)
+}
+
+/// The pen of a client that is told a heartbeat, which sets `is_taken` as it is taken.
+fn told_pen<'a, R: time::Clock>(
+    rt: &'a R,
+    alloc: Global,
+    seen: &'a Seen,
+    is_taken: &'a AtomicBool,
+) -> Result<TestPen<'a, R>, Fail> {
+    Ok(Pen::new(writing_gate(rt, alloc, seen, heartbeat(alloc)?, is_taken)?))
 }
 
 #[test]
@@ -189,46 +196,54 @@ fn waits_for_another<'a, R: Threads + Wait + time::Clock + Abort + Sync>(
     seen: &'a Seen,
     is_first: bool,
 ) -> Result<(), Fail> {
+    let one = told_pen(rt, alloc, seen, &seen.first)?;
+    let two = told_pen(rt, alloc, seen, &seen.second)?;
+    serve_both(rt, alloc, seen, is_first, &one, &two)?;
+    gave_one_list(rt, one)?;
+    gave_one_list(rt, two)
+}
+
+fn serve_both<'p, 'a, R: Threads + Wait + time::Clock + Abort + Sync>(
+    rt: &'a R,
+    alloc: Global,
+    seen: &'a Seen,
+    is_first: bool,
+    one: &'p TestPen<'a, R>,
+    two: &'p TestPen<'a, R>,
+) -> Result<(), Fail> {
+    let stream = HEARTBEAT.as_slice();
     let reader = reading_gate(rt, alloc, seen, u32::from(is_first), &seen.second);
-    let one = told_line(
-        rt,
-        alloc,
-        1,
-        HEARTBEAT.as_slice(),
-        reader,
-        seen,
-        &seen.first,
-    )?;
+    let one = client_line(rt, alloc, seen, 1, stream, reader, one);
     let reader = reading_gate(rt, alloc, seen, u32::from(!is_first), &seen.first);
-    let two = told_line(
-        rt,
-        alloc,
-        2,
-        HEARTBEAT.as_slice(),
-        reader,
-        seen,
-        &seen.second,
-    )?;
-    let lines = serve_clients(rt, alloc, two_lines(alloc, one, two)?)?;
+    let two = client_line(rt, alloc, seen, 2, stream, reader, two);
+    let lines = served(rt, alloc, vec![in alloc; one, two]?)?;
     look_at_both(rt, lines.as_slice(), seen)
 }
 
+/// One list was taken by this pen.
+fn gave_one_list<'a, R: time::Clock + Abort>(rt: &R, pen: TestPen<'a, R>) -> Result<(), Fail> {
+    let Ok(gate) = pen.into_gate() else {
+        return Err(Fail::new("a link is open"));
+    };
+    assert!(rt; gate.kept.given.len() == 1);
+    Ok(())
+}
+
 /// So many events were put of a line.
-fn kept<'a, P, R: Abort>(rt: &'a R, line: &TestLine<'a, P, R>, events: usize) {
+fn kept<'p, 'a, P, R: Abort + time::Clock>(rt: &'a R, line: &TestLine<'p, 'a, P, R>, events: usize) {
     assert!(rt; line.reader.gate.kept.events.len() == events);
 }
 
-/// Nobody waited in vain, and each client's events and list went through.
-fn look_at_both<'a, R: Abort>(
+/// Nobody waited in vain, and each client's events and bytes went through.
+fn look_at_both<'p, 'a, R: Abort + time::Clock>(
     rt: &'a R,
-    lines: &[TestLine<'a, ClientNumber, R>],
+    lines: &[TestLine<'p, 'a, ClientNumber, R>],
     seen: &Seen,
 ) -> Result<(), Fail> {
     assert!(rt; !seen.is_failed.load(Ordering::SeqCst));
     for line in lines {
         assert!(rt; line.fault.is_none());
         kept(rt, line, 3);
-        assert!(rt; line.writer.gate.kept.given.len() == 1);
     }
     assert!(rt; seen.bytes.load(Ordering::SeqCst) == 52);
     Ok(())
@@ -249,27 +264,38 @@ fn waits_for_itself<'a, R: Threads + Wait + time::Clock + Abort + Sync>(
     alloc: Global,
     seen: &'a Seen,
 ) -> Result<(), Fail> {
+    let one = told_pen(rt, alloc, seen, &seen.first)?;
+    let two = told_pen(rt, alloc, seen, &seen.never)?;
+    serve_itself(rt, alloc, seen, &one, &two)
+}
+
+fn serve_itself<'p, 'a, R: Threads + Wait + time::Clock + Abort + Sync>(
+    rt: &'a R,
+    alloc: Global,
+    seen: &'a Seen,
+    one: &'p TestPen<'a, R>,
+    two: &'p TestPen<'a, R>,
+) -> Result<(), Fail> {
     let reader = reading_gate(rt, alloc, seen, 4, &seen.first);
-    let stream = LOGON_AND_HEARTBEAT.as_slice();
-    let one = told_line(rt, alloc, 1, stream, reader, seen, &seen.first)?;
-    let reader = reading_gate(rt, alloc, seen, 0, &seen.never);
-    let two = told_line(
+    let one = client_line(
         rt,
         alloc,
-        2,
-        HEARTBEAT.as_slice(),
-        reader,
         seen,
-        &seen.never,
-    )?;
-    let lines = serve_clients(rt, alloc, two_lines(alloc, one, two)?)?;
+        1,
+        LOGON_AND_HEARTBEAT.as_slice(),
+        reader,
+        one,
+    );
+    let reader = reading_gate(rt, alloc, seen, 0, &seen.never);
+    let two = client_line(rt, alloc, seen, 2, HEARTBEAT.as_slice(), reader, two);
+    let lines = served(rt, alloc, vec![in alloc; one, two]?)?;
     look_at_own(rt, lines.as_slice(), seen)
 }
 
 /// The first client didn't wait in vain.
-fn look_at_own<'a, R: Abort>(
+fn look_at_own<'p, 'a, R: Abort + time::Clock>(
     rt: &'a R,
-    lines: &[TestLine<'a, ClientNumber, R>],
+    lines: &[TestLine<'p, 'a, ClientNumber, R>],
     seen: &Seen,
 ) -> Result<(), Fail> {
     assert!(rt; !seen.is_failed.load(Ordering::SeqCst));
@@ -305,22 +331,31 @@ fn three_links<'a, R: Threads + Wait + time::Clock + Abort + Sync>(
     seen: &'a Seen,
 ) -> Result<(), Fail> {
     let writer = writing_gate(rt, alloc, seen, LinkOut::Close { link: 2 }, &seen.never)?;
-    let reader = reading_gate(rt, alloc, seen, 0, &seen.never);
-    let links = links_of(alloc, b"\x00\x01H\x00\x01H".as_slice(), 3, 2, seen);
-    let line = line_of(rt, PortNumber::new(1), links, reader, writer);
-    match serve(rt, alloc, vec![in alloc; line]?) {
-        Ok(lines) => look_at_three(rt, alloc, lines.as_slice())?,
-        Err(_) => return Err(Fail::new("not served")),
-    }
+    let pen = Pen::new(writer);
+    serve_three(rt, alloc, seen, &pen)?;
     assert!(rt; seen.woken.load(Ordering::SeqCst) == 3);
     Ok(())
 }
 
-/// Three links were up, and came to their end; opening one failed.
-fn look_at_three<'a, R: Abort>(
+fn serve_three<'p, 'a, R: Threads + Wait + time::Clock + Abort + Sync>(
     rt: &'a R,
     alloc: Global,
-    lines: &[TestLine<'a, PortNumber, R>],
+    seen: &'a Seen,
+    pen: &'p TestPen<'a, R>,
+) -> Result<(), Fail> {
+    let reader = reading_gate(rt, alloc, seen, 0, &seen.never);
+    let links = links_of(alloc, b"\x00\x01H\x00\x01H".as_slice(), 3, 2, seen);
+    let port = PortNumber::new(1);
+    let line = line_of(rt, port, Recipient::Port(port), links, reader, pen);
+    let lines = served(rt, alloc, vec![in alloc; line]?)?;
+    look_at_three(rt, alloc, lines.as_slice())
+}
+
+/// Three links were up, and came to their end; opening one failed.
+fn look_at_three<'p, 'a, R: Abort + time::Clock>(
+    rt: &'a R,
+    alloc: Global,
+    lines: &[TestLine<'p, 'a, PortNumber, R>],
 ) -> Result<(), Fail> {
     let [line] = lines else {
         return Err(Fail::new("not one line"));
@@ -353,9 +388,8 @@ fn closed_link<'a, R: Threads + Wait + time::Clock + Abort + Sync>(
     seen: &'a Seen,
 ) -> Result<(), Fail> {
     let writer = writing_gate(rt, alloc, seen, LinkOut::Close { link: 1 }, &seen.never)?;
-    let reader = reading_gate(rt, alloc, seen, 0, &seen.never);
-    let lines = serve_one_client(rt, alloc, seen, reader, writer)?;
-    look_at_closed(rt, lines.as_slice(), seen)
+    let pen = Pen::new(writer);
+    serve_closed(rt, alloc, seen, 0, &pen)
 }
 
 /// A client's link is closed, and it is told two heartbeats more. It isn't gone before the last one is taken.
@@ -370,13 +404,17 @@ fn gate_of_late_lists<'a, R>(
     rt: &'a R,
     alloc: Global,
     seen: &'a Seen,
-) -> Result<Waiting<'a, R>, AllocError> {
+) -> Result<Waiting<'a, R>, AllocError>
+    ensures { IfOk result (λ gate. gate.kept.given.items ≡ []) }
+{
     let mut writer = writing_gate(rt, alloc, seen, heartbeat(alloc)?, &seen.first)?;
     lay_heartbeat_and_close(alloc, &mut writer.kept)?;
     Ok(writer)
 }
 
-fn lay_heartbeat_and_close(alloc: Global, kept: &mut Kept) -> Result<(), AllocError> {
+fn lay_heartbeat_and_close(alloc: Global, kept: &mut Kept) -> Result<(), AllocError>
+    ensures { kept.new.given ≡ kept.old.given }
+{
     kept.lay(1, HEARTBEAT.as_slice())?;
     let closing = ShortList::of(LinkOut::Close { link: 1 });
     Ok(kept.lists.push(closing)?)
@@ -387,19 +425,30 @@ fn told_too_late<'a, R: Threads + Wait + time::Clock + Abort + Sync>(
     alloc: Global,
     seen: &'a Seen,
 ) -> Result<(), Fail> {
-    let writer = gate_of_late_lists(rt, alloc, seen)?;
-    let reader = reading_gate(rt, alloc, seen, 3, &seen.first);
-    let lines = serve_one_client(rt, alloc, seen, reader, writer)?;
-    look_at_closed(rt, lines.as_slice(), seen)?;
+    let pen = Pen::new(gate_of_late_lists(rt, alloc, seen)?);
+    serve_closed(rt, alloc, seen, 3, &pen)?;
     assert!(rt; !seen.is_failed.load(Ordering::SeqCst));
     assert!(rt; seen.bytes.load(Ordering::SeqCst) == 0);
     Ok(())
 }
 
-/// The one link was closed, and shut down once.
-fn look_at_closed<'a, R: Abort>(
+/// Serves a client's one link, which is closed, through a gate whose put of this number waits for the first flag.
+fn serve_closed<'p, 'a, R: Threads + Wait + time::Clock + Abort + Sync>(
     rt: &'a R,
-    lines: &[TestLine<'a, ClientNumber, R>],
+    alloc: Global,
+    seen: &'a Seen,
+    waits_at: u32,
+    pen: &'p TestPen<'a, R>,
+) -> Result<(), Fail> {
+    let reader = reading_gate(rt, alloc, seen, waits_at, &seen.first);
+    let lines = serve_one_client(rt, alloc, seen, reader, pen)?;
+    look_at_closed(rt, lines.as_slice(), seen)
+}
+
+/// The one link was closed, and shut down once.
+fn look_at_closed<'p, 'a, R: Abort + time::Clock>(
+    rt: &'a R,
+    lines: &[TestLine<'p, 'a, ClientNumber, R>],
     seen: &Seen,
 ) -> Result<(), Fail> {
     let [line] = lines else {

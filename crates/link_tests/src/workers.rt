@@ -1,11 +1,11 @@
 //! Workers of links, and the ticker.
 
-ghost use Rattle.std.specs.Prelude.{◌≤◌};
+ghost use Rattle.std.specs.Prelude.{◌≡◌, ◌≤◌, []};
 
 use super::gates::{Kept, list_of};
 use super::streams::{Pieces, Torn};
 use gate_workers::{
-    Clock, WriterEnd, client_reader, client_writer, port_reader, port_writer, ticker,
+    Clock, Pen, WriterEnd, client_reader, client_writer, port_reader, port_writer, ticker,
 };
 use link_io::{ClientNumber, Event, Gate, LinkFault, LinkOut, PortNumber, ShortList};
 use std::alloc::{AllocError, Global};
@@ -64,7 +64,7 @@ struct Slow {
 
 impl Gate for Slow {
     ghost use Rattle.std.specs.Prelude.{map};
-    ghost use Rattle.link_io.specs.gate_events.Seen.{event_seen, link_out_seen};
+    ghost use Rattle.gate_events.specs.Seen.{event_seen, link_out_seen};
 
     ghost was_put = { λ g. map event_seen g.kept.events.items };
 
@@ -220,11 +220,13 @@ fn torn(alloc: Global, size: usize, writes_left: usize) -> Torn {
     }
 }
 
-/// Two lists up to a `Close` for link 7, with bytes for another between, and one behind it.
-fn lay_up_to_close(alloc: Global, gate: &mut Kept) -> Result<(), AllocError> {
-    gate.lay(7, b"behind")?;
-    gate.lay_last(7, b"cd")?;
-    let mut list = list_of(alloc, 7, b"ab")?;
+/// Two lists up to a `Close` for link 1, with bytes for another between, and one behind it.
+fn lay_up_to_close(alloc: Global, gate: &mut Kept) -> Result<(), AllocError>
+    ensures given { gate.new.given ≡ gate.old.given }
+{
+    gate.lay(1, b"behind")?;
+    gate.lay_last(1, b"cd")?;
+    let mut list = list_of(alloc, 1, b"ab")?;
     let bytes = Vec::from_slice(alloc, b"x")?;
     list.push(alloc, LinkOut::Write { link: 6, bytes })?;
     Ok(gate.lists.push(list)?)
@@ -233,49 +235,64 @@ fn lay_up_to_close(alloc: Global, gate: &mut Kept) -> Result<(), AllocError> {
 #[test]
 fn a_writer_ends_at_the_close(rt: HostRuntime) -> Result<(), Fail> {
     let alloc = rt.alloc();
-    let flag = AtomicBool::new(false);
-    let mut clock = Counting::new(&flag, 0);
     let mut gate = Kept::new(alloc);
     lay_up_to_close(alloc, &mut gate)?;
-    let mut stream = torn(alloc, 1, 100);
-    let client = ClientNumber::new(2);
-    let end = client_writer(
-        &rt,
-        alloc,
-        client,
-        7,
-        100,
-        &mut stream,
-        &mut gate,
-        &mut clock,
-        &flag,
-    );
-    assert!(rt; end == Ok(WriterEnd::Closed));
-    assert!(rt; stream.taken.as_slice() == b"abcd".as_slice());
+    let pen = Pen::new(gate);
+    written_to_its_close(&rt, alloc, &pen)?;
+    let Ok(gate) = pen.into_gate() else {
+        return Err(Fail::new("a link is open"));
+    };
     assert!(rt; gate.lists.len() == 1);
     Ok(())
 }
 
-/// Port 1's writer over link 7, which writes what lies there, and is stopped at its third pause.
+/// Client 2's writer over link 1, which is told these bytes and then closed; it isn't the pen's second link.
+fn written_to_its_close<R: Wait + Abort>(
+    rt: &R,
+    alloc: Global,
+    pen: &Pen<Torn, Kept>,
+) -> Result<(), Fail> {
+    let flag = AtomicBool::new(false);
+    let mut clock = Counting::new(&flag, 0);
+    let client = ClientNumber::new(2);
+    let stream = torn(alloc, 1, 100);
+    assert!(rt; client_writer(rt, alloc, client, 2, 100, stream, pen, &mut clock, &flag).is_none());
+    let stream = torn(alloc, 1, 100);
+    let Some((end, stream)) = client_writer(
+        rt, alloc, client, 1, 100, stream, pen, &mut clock, &flag,
+    ) else {
+        return Err(Fail::new("not opened"));
+    };
+    assert!(rt; end == Ok(WriterEnd::Closed));
+    assert!(rt; stream.taken.as_slice() == b"abcd".as_slice());
+    Ok(())
+}
+
+/// Port 1's writer over link 1, which is told two bytes and stopped at its third pause: how it ended, what it wrote
+/// onto a stream that takes so many bytes a write and fails at the write of this number, and how often it paused.
 fn write_until_stopped<R: Wait>(
     rt: &R,
     alloc: Global,
-    gate: &mut Kept,
-    stream: &mut Torn,
-) -> (Result<WriterEnd, LinkFault>, u32) {
+    size: usize,
+    writes_left: usize,
+) -> Result<(Result<WriterEnd, LinkFault>, Torn, u32), Fail> {
     let flag = AtomicBool::new(false);
     let mut clock = Counting::new(&flag, 3);
+    let mut gate = Kept::new(alloc);
+    gate.lay(1, b"ab")?;
+    let pen = Pen::new(gate);
     let port = PortNumber::new(1);
-    let end = port_writer(rt, alloc, port, 7, 100, stream, gate, &mut clock, &flag);
-    (end, clock.pauses)
+    let stream = torn(alloc, size, writes_left);
+    let written = port_writer(rt, alloc, port, 1, 100, stream, &pen, &mut clock, &flag);
+    match written {
+        Some((end, stream)) => Ok((end, stream, clock.pauses)),
+        None => Err(Fail::new("not opened")),
+    }
 }
 
 #[test]
 fn a_writer_that_is_stopped_writes_what_lies_there(rt: HostRuntime) -> Result<(), Fail> {
-    let mut gate = Kept::new(rt.alloc());
-    gate.lay(7, b"ab")?;
-    let mut stream = torn(rt.alloc(), 100, 100);
-    let (end, pauses) = write_until_stopped(&rt, rt.alloc(), &mut gate, &mut stream);
+    let (end, stream, pauses) = write_until_stopped(&rt, rt.alloc(), 100, 100)?;
     assert!(rt; end == Ok(WriterEnd::Stopped));
     assert!(rt; stream.taken.as_slice() == b"ab".as_slice());
     assert!(rt; pauses == 3);
@@ -284,10 +301,7 @@ fn a_writer_that_is_stopped_writes_what_lies_there(rt: HostRuntime) -> Result<()
 
 #[test]
 fn a_writer_that_fails(rt: HostRuntime) -> Result<(), Fail> {
-    let mut gate = Kept::new(rt.alloc());
-    gate.lay(7, b"ab")?;
-    let mut stream = torn(rt.alloc(), 1, 1);
-    let (end, _) = write_until_stopped(&rt, rt.alloc(), &mut gate, &mut stream);
+    let (end, stream, _) = write_until_stopped(&rt, rt.alloc(), 1, 1)?;
     assert!(rt; end == Err(LinkFault::WriteFailed));
     assert!(rt; stream.taken.as_slice() == b"a".as_slice());
     Ok(())

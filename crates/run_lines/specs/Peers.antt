@@ -1,6 +1,6 @@
 -- What a line's reader has put of a link by its end, by whose line it is.
 use Rattle.std.specs.Prelude.{◌≡◌, ℕ, List, Option, Result}
-use Rattle.gate_events.specs.gate_law.Events.{Event, ClientUp, ClientGone, PortUp, PortGone}
+use Rattle.gate_law.specs.Events.{Event, ClientUp, ClientGone, PortUp, PortGone}
 use Rattle.link_io.specs.Decoding.{AreAllOfFrames, AreAllOfPackets, FramesOfLink, MadeOfFrames, MadeOfPackets}
 use Rattle.link_io.specs.Decoding.{PacketsOfLink}
 use Rattle.link_io.specs.declared.link_fault.LinkFault.{LinkFault}

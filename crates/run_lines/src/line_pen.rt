@@ -1,7 +1,8 @@
 //! What writes a line's links.
 
-use gate_serving::{Clock, Gate, LineWriter, LinkFault, Peer, Prompt, WriterEnd};
-use link_pens::PenWorker;
+ghost use Rattle.run_lines.specs.Pens.{run_wrote};
+
+use gate_serving::{Clock, Gate, LineWriter, LinkFault, PenWorker, Prompt, WriterEnd};
 use std::alloc::Global;
 use std::sync::Wait;
 use std::sync::atomic::AtomicBool;
@@ -14,23 +15,22 @@ pub enum RunPen<'p, W: Prompt + Drop, G: Gate + Drop, C> {
 }
 
 impl<'p, W: Prompt + Drop, G: Gate + Drop, C: Clock + Drop> LineWriter<W> for RunPen<'p, W, G, C> {
-    ghost wrote = { λ old link end new. Unit {0} };
+    ghost wrote = { λ old link end new. run_wrote W.contents old end };
 
     ghost let_go_between = { λ old new. Unit {0} };
 
     /// Writes a link by the pen; that of the clock is told nothing.
-    fn write<R: Wait, P: Peer + Drop>(
+    fn write<R: Wait>(
         &mut self,
         rt: &R,
         alloc: Global,
-        peer: P,
         link: u64,
         steps: u64,
         stream: W,
         stop: &AtomicBool,
     ) -> Result<WriterEnd, LinkFault> {
         match self {
-            RunPen::Pen(pen) => pen.write(rt, alloc, peer, link, steps, stream, stop),
+            RunPen::Pen(pen) => pen.write(rt, alloc, link, steps, stream, stop),
             RunPen::Nothing => Ok(WriterEnd::Stopped),
         }
     }

@@ -3,9 +3,9 @@
 ghost use Rattle.run_lines.specs.Peers.{run_reads};
 
 use gate_events::{ClientNumber, PortNumber};
-use gate_serving::{Clock, Gate, LinkFault, Peer, WriterEnd, ticker};
+use gate_serving::{Clock, Gate, LinkFault, Peer, ticker};
 use std::alloc::Global;
-use std::io::{Read, Write};
+use std::io::Read;
 use std::sync::Wait;
 use std::sync::atomic::AtomicBool;
 
@@ -17,7 +17,7 @@ pub struct Ticks<'a> {
     pub is_over: &'a AtomicBool,
 }
 
-/// Whose line it is: a client's, a port's, or the clock's. Nothing is read or written of a link of the clock.
+/// Whose line it is: a client's, a port's, or the clock's. Nothing is read of a link of the clock.
 #[derive(Clone, Copy)]
 pub enum RunPeer<'a> {
     Client(ClientNumber),
@@ -52,27 +52,6 @@ impl<'a> Peer for RunPeer<'a> {
                 ticker(rt, alloc, clients, ports, gate, clock, is_over);
                 Ok(())
             }
-        }
-    }
-
-    /// Writes a link of a client or port; nothing is told the clock.
-    fn write<R: Wait, W: Write, G: Gate, C: Clock>(
-        &self,
-        rt: &R,
-        alloc: Global,
-        link: u64,
-        steps: u64,
-        stream: &mut W,
-        gate: &mut G,
-        clock: &mut C,
-        stop: &AtomicBool,
-    ) -> Result<WriterEnd, LinkFault> {
-        match self {
-            RunPeer::Client(client) => {
-                client.write(rt, alloc, link, steps, stream, gate, clock, stop)
-            }
-            RunPeer::Port(port) => port.write(rt, alloc, link, steps, stream, gate, clock, stop),
-            RunPeer::Clock(_) => Ok(WriterEnd::Stopped),
         }
     }
 }

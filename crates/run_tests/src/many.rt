@@ -151,7 +151,11 @@ fn plan_of<'a, R>(
 ) -> Result<RunPlan<Acceptor<'a, R>, Connector<'a, R>>, AllocError> {
     let clients = acceptors(rt, alloc, listeners, is_over)?;
     let ports = connectors(rt, alloc, addresses, is_over)?;
-    Ok(RunPlan { clients, ports })
+    Ok(RunPlan {
+        clients,
+        ports,
+        tells_frames: false,
+    })
 }
 
 /// Settings of all clients, as they are read.

@@ -155,6 +155,7 @@ fn plan_of<'a, R>(
     Ok(RunPlan {
         clients: vec![in alloc; Acceptor::of_listener(rt, client, 1, is_over)]?,
         ports: vec![in alloc; Connector::new(rt, market, 1, is_over)]?,
+        tells_frames: false,
     })
 }
 

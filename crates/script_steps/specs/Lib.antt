@@ -9,5 +9,4 @@ pub use Rattle.gate_events.specs.Seen
 pub use Rattle.gate_journal.specs.Kept
 pub use Rattle.script_lines.specs.ouch_codec.Decoding
 pub use Rattle.script_lines.specs.Names
-pub use Rattle.gate_events.specs as gate_events
 pub use Rattle.script_lines.specs as script_lines

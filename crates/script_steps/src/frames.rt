@@ -7,9 +7,9 @@ ghost use Rattle.script_steps.specs.Frames.{header, headed, script_frame};
 
 use fix_fields::{Fields, split};
 use fix_framing::frame;
+use fix_session::push_number;
 use fix_stamp::stamp;
 use gate_core::ClientFrame;
-use gate_events::push_number;
 use script_lines::{Client, LineFault};
 use std::alloc::{AllocError, Global};
 

@@ -1,7 +1,6 @@
 pub mod Heads
 pub mod Issued
 pub mod Keeping
-pub mod Longest
 pub mod Resent
 pub mod Undoing
 pub mod Written

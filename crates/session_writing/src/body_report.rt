@@ -9,12 +9,13 @@ ghost use Rattle.session_reading.specs.session_law.Session.{fresh};
 ghost use Rattle.session_writing.specs.Issued.{issued_body};
 
 use crate::head::FrameHead;
-use crate::issued_report::{IssuedReport, report_in_limit};
+use crate::issued_report::report_in_limit;
 use crate::names::Names;
 use crate::output::{printed_front, push_issue};
 use crate::resend::part_of;
 use crate::stamped::Stamped;
 use fix_framing::PrintedFields;
+use session_law::IssuedReport;
 use session_reading::{AppBody, Kind};
 use std::alloc::{AllocError, Global};
 use std::marker::Model;

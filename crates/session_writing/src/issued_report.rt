@@ -1,74 +1,17 @@
-//! A report or reject as it was issued.
+//! The frame of a report or reject that is issued.
 
-ghost use Rattle.std.specs.Prelude.{◌≡◌, ◌≤◌, ◌↔◌, ◌∷◌, [], ℕ, List, length, map, IfOk, IsSome, IfSome};
-ghost use Rattle.std.specs.Prelude.{if◌then◌else◌};
-ghost use Rattle.fix_framing.specs.fix_fields.Field.{AreFields, fields_text};
+ghost use Rattle.std.specs.Prelude.{◌≡◌, ◌∷◌, [], ℕ, List, map, IfOk, if◌then◌else◌};
 ghost use Rattle.fix_stamp.specs.Stamp.{stamp_text};
 ghost use Rattle.session_reading.specs.session_law.Frames.{frame_fields, told_of_out};
 ghost use Rattle.session_reading.specs.session_law.Table.{is_logged_on};
 ghost use Rattle.session_reading.specs.session_law.declared.frame.Frame.{Frame};
 ghost use Rattle.session_reading.specs.session_law.declared.frame.Out.TheVariants.{Write};
-ghost use Rattle.session_writing.specs.Longest.{longest_report};
 ghost use Rattle.session_writing.specs.Written.{told_frame};
 
-use fix_framing::{Fields, PrintedFields, frame_of_text};
+use fix_framing::{PrintedFields, frame_of_text};
+use session_law::IssuedReport;
 use session_reading::Phase;
 use std::alloc::{AllocError, Global};
-use std::marker::Model;
-
-/// A report or reject as it was issued: its fields from MsgType (35) on, as they are printed, in at most
-/// `IssuedReport::LONGEST` bytes. Contracts see the fields.
-///
-/// Source: FIX 4.4 Volume 4, "Execution Report" and "Order Cancel Reject"; the limit is the gateway's own.
-#[derive(Debug, Drop)]
-pub struct IssuedReport {
-    printed: PrintedFields,
-}
-
-impl Model for IssuedReport {
-    ghost use Rattle.std.specs.Prelude.{List, length, ◌≤◌};
-    ghost use Rattle.fix_framing.specs.fix_fields.Field.{Field, fields_text};
-    ghost use Rattle.session_writing.specs.Longest.{longest_report};
-
-    ghost Value = { List Field };
-
-    ghost view = { λ report. report.printed };
-
-    ghost invariant = { λ report. length (fields_text report.printed) ≤ longest_report };
-}
-
-impl IssuedReport {
-    /// The most bytes in which a report prints: fewer than 2^20.
-    pub const LONGEST: usize = 1_048_575;
-
-    /// The report of these fields; `None` where they print in more than `IssuedReport::LONGEST` bytes. Takes no memory.
-    pub fn of(printed: PrintedFields) -> Option<IssuedReport>
-        ensures in_limit { IsSome result ↔ (length (fields_text printed) ≤ longest_report) }
-        ensures value { IfSome result (λ report. report ≡ printed) }
-    {
-        if printed.text().len() > IssuedReport::LONGEST {
-            return None;
-        }
-        Some(IssuedReport { printed })
-    }
-
-    /// Its text, as it was written from MsgType (35) to before CheckSum (10), or would have been. Takes no memory.
-    pub fn text(&self) -> &[u8]
-        ensures text { result.now ≡ fields_text self.now }
-        ensures fields { AreFields self.now }
-        ensures in_limit { length result.now ≤ longest_report }
-    {
-        self.printed.text()
-    }
-
-    /// Its fields, in order. Two growths.
-    pub fn to_fields(&self, alloc: Global) -> Result<Fields, AllocError>
-        ensures fields { IfOk result (λ fields. fields ≡ self.now) }
-        ensures in_limit { IfOk result (λ fields. length (fields_text fields) ≤ longest_report) }
-    {
-        self.printed.to_fields(alloc)
-    }
-}
 
 /// The report of these fields; want of memory where they print in more than `IssuedReport::LONGEST` bytes.
 pub(crate) fn report_in_limit(printed: PrintedFields) -> Result<IssuedReport, AllocError>

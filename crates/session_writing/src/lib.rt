@@ -21,7 +21,7 @@ pub use bodies::{
     unsupported_body,
 };
 pub use body_report::{BodyReport, report_of_body};
-pub use issued_report::{IssuedReport, issued_frame};
+pub use issued_report::issued_frame;
 pub use kept::KeptBodies;
 pub use names::Names;
 pub use output::{SessionOut, append_written};

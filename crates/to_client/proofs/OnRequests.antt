@@ -18,7 +18,7 @@ use Rattle.to_client.specs.declared.occasion.Details.{Details}
 use Rattle.to_client.specs.declared.shown.Request.{Request}
 use Rattle.to_client.specs.declared.shown.Shown.{Shown}
 use Rattle.to_client.specs.Occasions.{plain_details}
-use Rattle.to_client.specs.Shows.{IsOccasion, IsRequest, ShowsAny, ShowsAs, canceled_on, id_number, is_of_replace}
+use Rattle.to_client.specs.Shows.{IsOccasion, IsRequest, ShowsAny, ShowsAs, id_number, is_of_replace}
 use Rattle.to_client.specs.Shows.{pending_type, status_any}
 use Rattle.to_client.proofs.Statuses.{status-shown}
 
@@ -41,12 +41,6 @@ pub replaced-told : (number : ℕ) (d : Details) (q : Request) (x : Shown) (r : 
 replaced-told number d q x r e s plain tells is shows =
     let occasion : IsOccasion d (Some q) (law.on_request (codes "5") e) = rw plain (record { request = is; exec_type = refl; broken = refl; code = refl; restated = refl; shares = refl; at = refl; why = refl }) in
     tells (law.on_request (codes "5") e) s occasion shows
-
-pub canceled-told : (number : ℕ) (reason : Option ℕ) (d : Details) (q : Request) (x : Shown) (r : Report) (e : Entry) (s : law.Shown)
-    → d ≡ record (plain_details kinds.Canceled) { reason = reason } → Tells number d q x r → IsRequest q e.message → ShowsAs x s → report_fields r ≡ law.report number (canceled_on e (char_text reason)) s
-canceled-told number reason d q x r e s plain tells is shows =
-    let occasion : IsOccasion d (Some q) (canceled_on e (char_text reason)) = rw plain (record { request = is; exec_type = refl; broken = refl; code = refl; restated = refl; shares = refl; at = refl; why = refl }) in
-    tells (canceled_on e (char_text reason)) s occasion shows
 
 -- ---- rejects
 

@@ -127,7 +127,3 @@ id_number (Some x) = Some x.order_id
 abbrev pub pending_type : CxlRejResponseTo → ExecType
 pending_type responses.Cancel = kinds.PendingCancel
 pending_type responses.Replace = kinds.PendingReplace
-
--- all that was open is cancelled, which answers a cancel
-abbrev pub canceled_on : Entry → Option (List ℕ) → law.Occasion
-canceled_on q why = record (law.plain (codes "4")) { request = Some q; why = why }

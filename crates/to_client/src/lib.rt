@@ -20,6 +20,6 @@ pub use pending::Pending;
 pub use refusing::refusal;
 pub use rejecting::cancel_reject;
 pub use reporting::report_of;
-pub use request_reports::{report_canceled, report_pending, report_replaced};
+pub use request_reports::{report_pending, report_replaced};
 pub use shown::{Request, Shown};
 pub use status::{status_of, status_shown};

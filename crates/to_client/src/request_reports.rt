@@ -1,15 +1,12 @@
 //! Execution reports on a cancel or replace: that it is pending, and that it is done.
 
-ghost use Rattle.std.specs.Prelude.{◌≡◌, ◌∷◌, [], true, codes, IfOk, IfSome, Some};
+ghost use Rattle.std.specs.Prelude.{◌≡◌, ◌∷◌, [], codes, IfOk, Some};
 ghost use Rattle.orders.specs.fix_types.Report.{report_fields};
-ghost use Rattle.fix_values.specs.Slots.{char_text};
-ghost use Rattle.order_law.specs.wire_law.Printable.{is_printable};
 ghost use Rattle.order_law.specs.History.{Entry};
 ghost use Rattle.order_law.specs.Told as law;
-ghost use Rattle.to_client.specs.Occasions.{plain_details};
-ghost use Rattle.to_client.specs.Shows.{IsRequest, ShowsAs, canceled_on, pending_type};
+ghost use Rattle.to_client.specs.Shows.{IsRequest, ShowsAs, pending_type};
 
-use crate::occasion::{Details, plain};
+use crate::occasion::plain;
 use crate::reporting::report_on;
 use crate::shown::{Request, Shown};
 use fix_values::{CxlRejResponseTo, ExecType};
@@ -17,7 +14,7 @@ use orders::Report;
 use std::alloc::{AllocError, Global};
 
 /// The report that an accepted request is pending: 150=E of a replace, 150=6 of a cancel. `shown` is the order as it
-/// was; the report shows it with the request. The one error of these three reports is that memory ran out.
+/// was; the report shows it with the request. The one error of these reports is that memory ran out.
 ///
 /// Source: FIX 4.4 Volume 4, "Execution Report", ExecType Pending Replace and Pending Cancel.
 pub fn report_pending(
@@ -54,28 +51,6 @@ pub fn report_replaced(
         &Some(*request),
         shown,
     )
-}
-
-/// The report that all that was open is cancelled, which answers a cancel: 150=4, with the market's letter where it
-/// gave one. The order is shown as it is then.
-///
-/// Source: FIX 4.4 Volume 4, "Execution Report", ExecType Canceled.
-pub fn report_canceled(
-    alloc: Global,
-    number: u64,
-    request: &Request,
-    reason: Option<u8>,
-    shown: &Shown,
-) -> Result<Report, AllocError>
-    requires { IfSome reason (λ byte. is_printable byte ≡ true) }
-    ensures { IfOk result (λ r. (q : Entry) (s : law.Shown) → IsRequest request.now q.message → ShowsAs shown.now s
-        → report_fields r ≡ law.report number (canceled_on q (char_text reason)) s) }
-{
-    let details = Details {
-        reason,
-        ..plain(ExecType::Canceled)
-    };
-    report_on(alloc, number, &details, &Some(*request), shown)
 }
 
 /// ExecType (150) of a request that is pending.

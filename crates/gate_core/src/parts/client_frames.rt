@@ -12,12 +12,11 @@ ghost use Rattle.gate_core.specs.Steps.{Grows, AfterFrame, Ready, Stepped};
 
 use super::Parts;
 use super::client_messages::Asked;
+use fix_session::{SessionOut, SessionTurn, application_of};
 use fix_types::AppMsg;
-use gate_events::{
-    Batch, ClientFrame, ClientNumber, Issues, PortNumber, SessionOut, SessionTurn, ShortList,
-    told_client, told_port,
-};
-use gate_sessions::application_of;
+use gate_events::{Batch, ClientFrame, ClientNumber, PortNumber};
+use gate_sessions::{Issues, told_client, told_port};
+use short_list::ShortList;
 use std::alloc::{AllocError, Global};
 use std::hash::BuildHasher;
 

@@ -10,7 +10,9 @@ ghost use Rattle.gate_core.specs.Steps.{Grows, Ready, Stepped};
 ghost use Rattle.gate_core.specs.Expected.{next_expected};
 
 use super::{Parts, place_of};
-use gate_events::{Batch, ClientNumber, ShortList, only_outs, told_client};
+use gate_events::{Batch, ClientNumber};
+use gate_sessions::{only_outs, told_client};
+use short_list::ShortList;
 use std::alloc::{AllocError, Global};
 use std::hash::BuildHasher;
 

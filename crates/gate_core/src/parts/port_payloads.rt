@@ -21,10 +21,10 @@ ghost use Rattle.gate_core.specs.Steps.{Stepped};
 
 use super::{Parts, place_of};
 use fix_types::AppBody;
-use gate_events::{
-    Batch, ClientNumber, Issues, PortNumber, ShortList, told_client, told_out, told_port,
-};
+use gate_events::{Batch, ClientNumber, PortNumber};
+use gate_sessions::{Issues, told_client, told_out, told_port};
 use order_core::{MarketError, MarketFault};
+use short_list::ShortList;
 use soup_session::{PortFault, PortOut, PortState};
 use std::alloc::{AllocError, Global};
 use std::hash::BuildHasher;

@@ -1,6 +1,6 @@
 use Rattle.std.proofs.Common.{◌≤◌, ◌++◌, ◌∷◌, [], List, length, sym, ap, ◌∙◌, arith}
 use Rattle.std.proofs.lemmas.Bool.Decides.{nat_tests}
-use Rattle.gate_sessions.specs.gate_law.Events.{LinkOut}
+use Rattle.gate_law.specs.Events.{LinkOut}
 use Rattle.gate_events.proofs.Sources.{told-kept}
 use Rattle.gate_events.proofs.telling.keep_told.Goals as goal
 

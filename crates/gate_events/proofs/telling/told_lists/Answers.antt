@@ -1,5 +1,5 @@
 use Rattle.std.proofs.Common.{◌++◌, List, sym, ap, ◌∙◌}
-use Rattle.gate_sessions.specs.gate_law.Events.{LinkOut}
+use Rattle.gate_law.specs.Events.{LinkOut}
 use Rattle.gate_events.specs.Seen.{batch_seen}
 use Rattle.gate_events.specs.Sources.{told_to, unless_empty}
 use Rattle.gate_events.proofs.Sources.{lists-more}

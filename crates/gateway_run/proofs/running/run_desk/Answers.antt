@@ -11,7 +11,9 @@ use Rattle.desk_gates.proofs.Sent.{outlet_gate_send}
 use Rattle.desk_gates.specs.desk.declared.DeskName as DeskName
 use Rattle.desk_gates.specs.desk.desk_ends.Rings.{Taking}
 use Rattle.desk_gates.specs.contracts.outlet.OutletGate as OutletGate
+use Rattle.gateway_run.specs.contracts.telling_gate.TellingGate as TellingGate
 use Rattle.gateway_run.proofs.Kept.{at_each}
+use Rattle.gateway_run.proofs.Sent.{telling_send}
 use Rattle.gateway_run.proofs.running.run_desk.Goals as goal
 
 pub pens_of-requires : goal.pens_of-requires
@@ -24,4 +26,7 @@ serve_desk-requires-send-G g c κs l =
     (b : BuildHasher.Ghosts S.Denot T.Denot) (h : Hasher.Ghosts T.Denot) → IsSend S
     → IsSend (OutletGate.the_row a K S T k b h)
     = λ a K S T k b h s. outlet_gate_send K S T k b h s a in
-    search (gates, sendable, crosses) depth 100 fits 500000
+    let R = param 1 g.row.R in
+    let told : (a : NamedLft) (X : RattleType) → IsSend X → IsSend (TellingGate.the_row a X R)
+    = λ a X x. telling_send a X R x c.type_bounds.sync-R in
+    search (told, gates, sendable, crosses) depth 100 fits 500000

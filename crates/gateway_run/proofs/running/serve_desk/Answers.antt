@@ -18,7 +18,8 @@ use Rattle.run_lines.specs.contracts.streams.RunWriter as RunWriter
 use Rattle.run_lines.specs.contracts.counted.CountedLinks as CountedLinks
 use Rattle.run_lines.specs.contracts.opener.RunOpener as RunOpener
 use Rattle.gateway_run.specs.contracts.port_faults.PortLinks as PortLinks
-use Rattle.gateway_run.proofs.Sent.{bell_send, opener_send, run_clock_send, run_pen_send, writer_send}
+use Rattle.gateway_run.specs.contracts.telling_gate.TellingGate as TellingGate
+use Rattle.gateway_run.proofs.Sent.{bell_send, opener_send, run_clock_send, run_pen_send, telling_send, writer_send}
 use Rattle.gateway_run.proofs.running.serve_desk.Goals as goal
 
 pub serve-requires-send-O : goal.serve-requires-send-O
@@ -32,6 +33,7 @@ serve-requires-send-O g c κs l =
 pub serve-requires-send-G : goal.serve-requires-send-G
 serve-requires-send-G g c κs l =
     let A = param 6 g.row.A-Writer in let C = param 9 g.row.C-Writer in let G = param 4 g.row.G in
+    let R = param 1 g.row.R in
     let bounds = c.type_bounds in let W = RunWriter.the_row A C in
     let sent = writer_send A C bounds.send-A-Writer bounds.send-C-Writer in
     let gates : (q a : NamedLft) (p : Prompt.Ghosts W.Denot) (w : Write.Ghosts W.Denot) (e : OutletEnd.Ghosts G.Denot)
@@ -39,7 +41,9 @@ serve-requires-send-G g c κs l =
     (b : BuildHasher.Ghosts S.Denot T.Denot) (h : Hasher.Ghosts T.Denot) → IsSend S
     → IsSend (InletGate.the_row q a W G K S T p w e t k b h)
     = λ q a p w e t K S T k b h s. inlet_gate_send W G p w e t sent bounds.send-G K S T k b h s q a in
-    search (gates, sendable, crosses) depth 100 fits 500000
+    let told : (a : NamedLft) (X : RattleType) → IsSend X → IsSend (TellingGate.the_row a X R)
+    = λ a X x. telling_send a X R x bounds.sync-R in
+    search (told, gates, sendable, crosses) depth 100 fits 500000
 
 pub serve-requires-send-B : goal.serve-requires-send-B
 serve-requires-send-B g c κs l =

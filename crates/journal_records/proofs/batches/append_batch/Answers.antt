@@ -1,4 +1,4 @@
-use Rattle.gate_events.specs.gate_law.Events.{Batch}
+use Rattle.gate_law.specs.Events.{Batch}
 use Rattle.gate_events.specs.Seen.{batch_seen}
 use Rattle.journal_records.specs.Parts.{client_records, named_number, port_records}
 use Rattle.journal_records.proofs.More.{both-parts, more-both}

@@ -1,7 +1,7 @@
 use Rattle.std.proofs.Common.{List, ℕ, ap, ◌∙◌}
 use Rattle.std.specs.Prelude.{map}
 use Rattle.journal_pages.specs.fix_fields.Field.{Message}
-use Rattle.gate_events.specs.gate_law.Events.{Batch}
+use Rattle.gate_law.specs.Events.{Batch}
 use Rattle.gate_events.specs.declared.batch.LinkOut.{LinkOut}
 use Rattle.gate_events.specs.Seen.{batch_seen, link_out_seen}
 use Rattle.journal_pages.specs.declared.kind.RecordKind.TheVariants as kinds

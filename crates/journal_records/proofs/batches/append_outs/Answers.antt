@@ -1,7 +1,7 @@
 use Rattle.std.proofs.Common.{◌≡◌, ◌<◌, ◌+◌, List, ℕ, ◌∷◌, [], ◌++◌, length, get_or, take, sym, ap, ◌∙◌}
 use Rattle.std.specs.Prelude.{map}
 use Rattle.std.proofs.lemmas.List.{map-append, take_more}
-use Rattle.gate_events.specs.gate_law.Events as law
+use Rattle.gate_law.specs.Events as law
 use Rattle.gate_events.specs.declared.batch.LinkOut.{LinkOut}
 use Rattle.gate_events.specs.Seen.{link_out_seen}
 use Rattle.journal_pages.specs.Record.{Record}

@@ -1,6 +1,6 @@
 use Rattle.std.proofs.Common.{List, ℕ, ◌++◌, ◌∷◌, [], ap, ◌∙◌}
 use Rattle.std.specs.Prelude.{map}
-use Rattle.gate_events.specs.gate_law.Events.{Batch}
+use Rattle.gate_law.specs.Events.{Batch}
 use Rattle.gate_events.specs.declared.batch.LinkOut.{LinkOut}
 use Rattle.gate_events.specs.Seen.{batch_seen, link_out_seen}
 use Rattle.journal_pages.specs.declared.kind.RecordKind.TheVariants as kinds

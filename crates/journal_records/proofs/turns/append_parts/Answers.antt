@@ -1,5 +1,5 @@
 use Rattle.std.proofs.Common.{List, ℕ, ◌∷◌, [], ap, ◌∙◌}
-use Rattle.gate_events.specs.gate_law.Events.{Batch}
+use Rattle.gate_law.specs.Events.{Batch}
 use Rattle.gate_events.specs.Seen.{batch_seen}
 use Rattle.journal_pages.specs.Record.{Record}
 use Rattle.journal_days.specs.Cut.{with_records}

@@ -1,5 +1,5 @@
 use Rattle.std.proofs.Common.{◌≡◌, List, map, take}
-use Rattle.link_io.specs.gate_events.Seen.{link_out_seen}
+use Rattle.gate_events.specs.Seen.{link_out_seen}
 use Rattle.link_tests.proofs.gates.copy_of.Given as goal
 
 abbrev pub invariant-loop-out : goal.invariant-loop-out

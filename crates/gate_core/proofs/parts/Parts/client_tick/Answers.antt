@@ -1,8 +1,8 @@
-use Rattle.gate_events.specs.session_writing.declared.output.SessionOut.{SessionOut}
+use Rattle.gate_sessions.specs.session_writing.declared.output.SessionOut.{SessionOut}
 use Rattle.gate_events.specs.declared.batch.LinkOut.{LinkOut}
 use Rattle.std.proofs.Common.{Vec, Global, ◌≡◌, ◌+◌, ℕ, List, map, true, None, [], refl, sym, ap, ◌∙◌, subst}
 use Rattle.session_law.specs.Runs.{OnTick}
-use Rattle.gate_events.specs.session_writing.Written.{told_bytes}
+use Rattle.gate_sessions.specs.session_writing.Written.{told_bytes}
 use Rattle.gate_law.specs.Settings.{has_client}
 use Rattle.gate_law.specs.Sessions.{client_answer}
 use Rattle.gate_law.specs.Events.{ClientTick, Batch}

@@ -1,5 +1,5 @@
 use Rattle.std.proofs.Common.{◌≡◌, ◌+◌, ℕ, List, [], ◌++◌, None, map, refl, sym, ap, ◌∙◌, subst}
-use Rattle.gate_events.specs.session_writing.Written.{told_bytes}
+use Rattle.gate_sessions.specs.session_writing.Written.{told_bytes}
 use Rattle.session_law.specs.Runs.{OnMessage}
 use Rattle.gate_law.specs.Settings.{port_of}
 use Rattle.gate_law.specs.Events.{ClientMessage, Batch}
@@ -7,7 +7,7 @@ use Rattle.gate_law.specs.Lists.{Lists, client_called}
 use Rattle.gate_law.specs.Sessions.{to_port}
 use Rattle.gate_sessions.specs.Lines.{PortLinks}
 use Rattle.gate_core.specs.declared.parts.Parts.{Parts}
-use Rattle.gate_events.specs.Links.{unlinked}
+use Rattle.gate_sessions.specs.Links.{unlinked}
 use Rattle.gate_events.specs.Seen.{link_out_seen}
 use Rattle.gate_core.specs.Steps.{IsAsked, Ready, Stepped, after_turn, orders_turn_of}
 use Rattle.gate_events.specs.Batches.{batch_of}

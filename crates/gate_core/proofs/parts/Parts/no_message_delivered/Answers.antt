@@ -1,6 +1,6 @@
 use Rattle.std.proofs.Common.{◌+◌, ℕ, List, [], None, map, sym, ap, ◌∙◌, subst}
 use Rattle.gate_events.specs.declared.batch.LinkOut.{LinkOut}
-use Rattle.gate_events.specs.session_writing.Written.{told_bytes}
+use Rattle.gate_sessions.specs.session_writing.Written.{told_bytes}
 use Rattle.session_law.specs.Runs.{OnMessage}
 use Rattle.gate_law.specs.Events.{ClientMessage, Batch}
 use Rattle.gate_law.specs.Lists.{Lists, client_called}

@@ -1,13 +1,13 @@
 use Rattle.std.proofs.Common.{◌+◌, ◌++◌, ℕ, List, Some, None, map, refl, sym, ap, ◌∙◌, subst}
 use Rattle.fix_types.specs.Application.{body_fields}
-use Rattle.gate_events.specs.session_writing.declared.output.SessionOut.{SessionOut}
-use Rattle.gate_events.specs.session_writing.Written.{told_bytes as frames}
+use Rattle.gate_sessions.specs.session_writing.declared.output.SessionOut.{SessionOut}
+use Rattle.gate_sessions.specs.session_writing.Written.{told_bytes as frames}
 use Rattle.soup_session.specs.Table.{OnPacket}
 use Rattle.gate_law.specs.Events.{Batch, PortPacket}
 use Rattle.gate_law.specs.Lists.{Lists, client_called_all, port_called, turned}
 use Rattle.gate_law.specs.Sessions.{issues}
 use Rattle.gate_core.specs.declared.parts.Parts.{Parts}
-use Rattle.gate_events.specs.Links.{outs_told_on}
+use Rattle.gate_sessions.specs.Links.{outs_told_on}
 use Rattle.gate_events.specs.Seen.{link_out_seen}
 use Rattle.gate_events.specs.Batches.{batch_of}
 use Rattle.gate_core.specs.Steps.{Stepped, heard_turn}

@@ -3,7 +3,9 @@ use Rattle.gateway_run.proofs.ends.Ends.add_port.Goals as goal
 
 pub add-requires-clause-puts_own : goal.add-requires-clause-puts_own
 add-requires-clause-puts_own g c =
-    ap (λ i. i.source) c.port_line-line.ensures.inlet ∙ (c.is_of.ensures c.if-is_of.true ∙ sym c.port_line-line.ensures.peer)
+    ap (λ t. t.gate.inlet.source) c.port_line-line.ensures.gate
+    ∙ (ap (λ i. i.inlet.source) c.new-gate.ensures ∙ (ap (λ i. i.source) c.new-own.ensures
+    ∙ (c.is_of.ensures c.if-is_of.true ∙ sym c.port_line-line.ensures.peer)))
 
 pub add-requires-clause-takes_own : goal.add-requires-clause-takes_own
 add-requires-clause-takes_own g c =

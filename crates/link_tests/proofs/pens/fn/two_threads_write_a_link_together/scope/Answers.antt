@@ -1,7 +1,7 @@
 -- What two threads share of a pen may be shared.
 use denote.Param.Send.{sendable}
 use Rattle.std.proofs.Crossing.{crosses}
-use Rattle.link_pens.proofs.Sent.{pen_sync}
+use Rattle.gate_workers.proofs.Sent.{pen_sync}
 use Rattle.link_tests.proofs.pens.fn.two_threads_write_a_link_together.scope.Goals as goal
 
 pub spawn-requires-send-F : goal.spawn-requires-send-F

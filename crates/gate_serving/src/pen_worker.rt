@@ -1,0 +1,78 @@
+//! A pen as what writes a line's links.
+
+ghost use Rattle.std.specs.Prelude.{◌≡◌, IfSome};
+ghost use Rattle.gate_workers.specs.Pens.{HasEnded, WasWritten};
+
+use crate::line_writer::LineWriter;
+use gate_events::Recipient;
+use gate_workers::{Clock, Gate, LinkFault, Pen, Prompt, WriterEnd, client_writer, port_writer};
+use std::alloc::Global;
+use std::io::Write;
+use std::sync::Wait;
+use std::sync::atomic::AtomicBool;
+
+/// The writer of a client's or port's links by their pen, which other threads hold too, and its clock.
+#[derive(Drop)]
+pub struct PenWorker<'a, W: Prompt + Drop, G: Gate + Drop, C> {
+    to: Recipient,
+    pen: &'a Pen<W, G>,
+    clock: C,
+}
+
+impl<'a, W: Prompt + Drop, G: Gate + Drop, C> PenWorker<'a, W, G, C> {
+    /// Of this client or port, by its pen, with the clock of its writer. Takes no memory.
+    pub fn new(to: Recipient, pen: &'a Pen<W, G>, clock: C) -> PenWorker<'a, W, G, C>
+        ensures pen { result.pen.now ≡ pen.now }
+    {
+        PenWorker { to, pen, clock }
+    }
+}
+
+impl<'a, W: Prompt + Drop, G: Gate + Drop, C: Clock + Drop> LineWriter<W>
+    for PenWorker<'a, W, G, C> {
+    ghost wrote = { λ old link end new. HasEnded W.contents end };
+
+    ghost let_go_between = { λ old new. Unit {0} };
+
+    /// Opens the link at the pen, and writes it until it is over. `WriteFailed` where the pen has another one open, or
+    /// this isn't its next one.
+    fn write<R: Wait>(
+        &mut self,
+        rt: &R,
+        alloc: Global,
+        link: u64,
+        steps: u64,
+        stream: W,
+        stop: &AtomicBool,
+    ) -> Result<WriterEnd, LinkFault> {
+        let to = self.to;
+        let (pen, clock) = (self.pen, &mut self.clock);
+        let written = match to {
+            Recipient::Client(client) => {
+                client_writer(rt, alloc, client, link, steps, stream, pen, clock, stop)
+            }
+            Recipient::Port(port) => {
+                port_writer(rt, alloc, port, link, steps, stream, pen, clock, stop)
+            }
+        };
+        end_of(written)
+    }
+
+    fn let_go<R: Wait>(&mut self, rt: &R, alloc: Global) {
+        self.pen.let_go(rt, alloc);
+    }
+}
+
+/// How a link that was written ended; `WriteFailed` where it wasn't opened.
+fn end_of<W: Write + Drop>(
+    written: Option<(Result<WriterEnd, LinkFault>, W)>,
+) -> Result<WriterEnd, LinkFault>
+    requires written { IfSome written (λ e. ∥ WasWritten W.contents e.0 e.1 ∥₁) }
+    ensures ended { HasEnded W.contents result }
+{
+    let Some(written) = written else {
+        return Err(LinkFault::WriteFailed);
+    };
+    let (end, _) = written;
+    end
+}

@@ -1,0 +1,68 @@
+//! What the gate of a writer is told of what went out.
+
+use crate::gate::Gate;
+use fix_framing::SOH;
+use gate_events::LinkOut;
+
+/// The size of `8=FIX.4.4` and of `9=` with one digit of BodyLength (9), behind which further ones and MsgType (35)
+/// follow.
+const FRONT_SIZE: usize = 13;
+
+/// How many digits BodyLength has at most where a MsgType is looked for behind it: those of 8,192.
+const MOST_DIGITS: usize = 4;
+
+/// Whether a Reject, a ResendRequest or a Logout is among what a writer has joined since the gate was told last.
+#[derive(Drop)]
+pub(crate) struct SentNotes {
+    is_noted: bool,
+    /// How many bytes in front of what is to be written are the rest of a write that the gate was told of.
+    left: usize,
+}
+
+impl SentNotes {
+    /// Nothing was joined. Takes no memory.
+    pub(crate) fn new() -> SentNotes {
+        SentNotes {
+            is_noted: false,
+            left: 0,
+        }
+    }
+
+    /// Notes what is joined, where it is such a frame of this link.
+    pub(crate) fn look(&mut self, link: u64, out: &LinkOut) {
+        if is_noted(link, out) {
+            self.is_noted = true;
+        }
+    }
+
+    /// Tells the gate of what the stream has begun to take, if such a frame is among what it wasn't told of before. So
+    /// many bytes of it the stream hasn't taken yet.
+    pub(crate) fn tell<G: Gate>(&mut self, gate: &G, bytes: &[u8], left: usize) {
+        if self.is_noted {
+            let (_, fresh) = bytes.split_at(self.left.min(bytes.len()));
+            gate.tell_sent(fresh);
+            self.is_noted = false;
+        }
+        self.left = left;
+    }
+}
+
+/// Whether it is a Reject, a ResendRequest or a Logout for this link.
+fn is_noted(link: u64, out: &LinkOut) -> bool {
+    match out {
+        LinkOut::Write { link: to, bytes } => *to == link && is_noted_frame(bytes.as_slice()),
+        LinkOut::Close { .. } => false,
+    }
+}
+
+/// Whether a frame's MsgType (35), the third field, is 2, 3 or 5.
+///
+/// Source: FIX 4.4 Volume 2, "Standard Message Header".
+fn is_noted_frame(frame: &[u8]) -> bool {
+    for further in 0..MOST_DIGITS {
+        if let Some([SOH, b'3', b'5', b'=', kind, SOH, ..]) = frame.get(FRONT_SIZE + further..) {
+            return matches!(kind, b'2' | b'3' | b'5');
+        }
+    }
+    false
+}

@@ -1,3 +1,0 @@
-mod SoFar
-mod Keeping
-pub mod Sent
