@@ -10,4 +10,4 @@ pub use gate_events::{
     Batch, ClientNumber, Event, LinkOut, PortFault, PortNumber, Recipient, ShortList, Source, Told,
 };
 pub use history::History;
-pub use journal_pages::PageFault;
+pub use journal_pages::{PageFault, Version};
