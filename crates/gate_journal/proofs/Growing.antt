@@ -6,6 +6,7 @@ use Rattle.gate_law.specs.Events.{Batch, History}
 use Rattle.gate_events.specs.declared.event.Event.{Event}
 use Rattle.journal_pages.specs.declared.kind.RecordKind.{RecordKind}
 use Rattle.journal_pages.specs.declared.kind.RecordKind.TheVariants as kinds
+use Rattle.journal_pages.specs.declared.version.Version.TheVariants.{Two}
 use Rattle.journal_pages.specs.Ordered.{AreSound}
 use Rattle.journal_pages.specs.Page.{is_event, page_records}
 use Rattle.journal_pages.specs.Record.{Record, source_fits}
@@ -24,19 +25,19 @@ use Rattle.journal_records.proofs.Rows.{has}
 use Rattle.journal_records.proofs.Said.{more-batches, more-events}
 use Rattle.gate_journal.specs.Kept.{kept_turn, turns_onto}
 
-pub day-pushed : (pages : List (List ℕ)) (e : Event) (b : Batch) → day_fault pages ≡ None → IsTurn e b → day_fault (with_records pages (turn_records e b)) ≡ None
+pub day-pushed : (pages : List (List ℕ)) (e : Event) (b : Batch) → day_fault Two pages ≡ None → IsTurn e b → day_fault Two (with_records pages (turn_records e b)) ≡ None
 day-pushed pages e b day is = day-more pages (turn_records e b) day (turn-writable e b is) (turn-order e b) (turn-behind e b)
 
-listed : (pages : List (List ℕ)) (e : Event) (b : Batch) → day_fault pages ≡ None → IsTurn e b → day_records (with_records pages (turn_records e b)) ≡ day_records pages ++ turn_records e b
+listed : (pages : List (List ℕ)) (e : Event) (b : Batch) → day_fault Two pages ≡ None → IsTurn e b → day_records Two (with_records pages (turn_records e b)) ≡ day_records Two pages ++ turn_records e b
 listed pages e b day is = day-listed pages (turn_records e b) day (turn-writable e b is) (turn-order e b)
 
-pub events-pushed : (pages : List (List ℕ)) (e : Event) (b : Batch) → day_fault pages ≡ None → IsTurn e b
-    → events_in (day_records (with_records pages (turn_records e b))) ≡ events_in (day_records pages) ++ e ∷ []
-events-pushed pages e b day is = ap events_in (listed pages e b day is) ∙ more-events (day_records pages) e b is
+pub events-pushed : (pages : List (List ℕ)) (e : Event) (b : Batch) → day_fault Two pages ≡ None → IsTurn e b
+    → events_in (day_records Two (with_records pages (turn_records e b))) ≡ events_in (day_records Two pages) ++ e ∷ []
+events-pushed pages e b day is = ap events_in (listed pages e b day is) ∙ more-events (day_records Two pages) e b is
 
-pub batches-pushed : (pages : List (List ℕ)) (e : Event) (b : Batch) → day_fault pages ≡ None → IsTurn e b
-    → batches_in (day_records (with_records pages (turn_records e b))) ≡ batches_in (day_records pages) ++ b ∷ []
-batches-pushed pages e b day is = ap batches_in (listed pages e b day is) ∙ more-batches (day_records pages) e b is
+pub batches-pushed : (pages : List (List ℕ)) (e : Event) (b : Batch) → day_fault Two pages ≡ None → IsTurn e b
+    → batches_in (day_records Two (with_records pages (turn_records e b))) ≡ batches_in (day_records Two pages) ++ b ∷ []
+batches-pushed pages e b day is = ap batches_in (listed pages e b day is) ∙ more-batches (day_records Two pages) e b is
 
 -- ---- as many batches as events
 
@@ -73,12 +74,12 @@ both-sound : (xs ys : List Record) → AreSound xs → AreSound ys → AreSound 
 both-sound [] ys first later = later
 both-sound (x ∷ xs) ys first later = (first.0, both-sound xs ys first.1 later)
 
-all-sound : (pages : List (List ℕ)) → AreSound (day_records pages)
+all-sound : (pages : List (List ℕ)) → AreSound (day_records Two pages)
 all-sound [] = tt
-all-sound (page ∷ pages) = both-sound (page_records page) (day_records pages) (page-sound page) (all-sound pages)
+all-sound (page ∷ pages) = both-sound (page_records Two page) (day_records Two pages) (page-sound Two page) (all-sound pages)
 
-pub as-many : (pages : List (List ℕ)) → length (events_in (day_records pages)) ≡ length (batches_in (day_records pages))
-as-many pages = same-count (day_records pages) (all-sound pages)
+pub as-many : (pages : List (List ℕ)) → length (events_in (day_records Two pages)) ≡ length (batches_in (day_records Two pages))
+as-many pages = same-count (day_records Two pages) (all-sound pages)
 
 -- ---- turns
 
@@ -89,13 +90,13 @@ onto-push [] (x ∷ batches) e b before same = absurd (omega arith)
 onto-push (x ∷ events) [] e b before same = absurd (omega arith)
 onto-push (x ∷ events) (y ∷ batches) e b before same = onto-push events batches e b (kept_turn x y ∷ before) (omega arith)
 
-pub turns-pushed : (pages : List (List ℕ)) (e : Event) (b : Batch) → day_fault pages ≡ None → IsTurn e b
-    → turns_onto (events_in (day_records (with_records pages (turn_records e b)))) (batches_in (day_records (with_records pages (turn_records e b)))) []
-    ≡ kept_turn e b ∷ turns_onto (events_in (day_records pages)) (batches_in (day_records pages)) []
+pub turns-pushed : (pages : List (List ℕ)) (e : Event) (b : Batch) → day_fault Two pages ≡ None → IsTurn e b
+    → turns_onto (events_in (day_records Two (with_records pages (turn_records e b)))) (batches_in (day_records Two (with_records pages (turn_records e b)))) []
+    ≡ kept_turn e b ∷ turns_onto (events_in (day_records Two pages)) (batches_in (day_records Two pages)) []
 turns-pushed pages e b day is =
-    ap (λ (es : List Event). turns_onto es (batches_in (day_records (with_records pages (turn_records e b)))) []) (events-pushed pages e b day is)
-    ∙ ap (λ (bs : List Batch). turns_onto (events_in (day_records pages) ++ e ∷ []) bs []) (batches-pushed pages e b day is)
-    ∙ onto-push (events_in (day_records pages)) (batches_in (day_records pages)) e b [] (as-many pages)
+    ap (λ (es : List Event). turns_onto es (batches_in (day_records Two (with_records pages (turn_records e b)))) []) (events-pushed pages e b day is)
+    ∙ ap (λ (bs : List Batch). turns_onto (events_in (day_records Two pages) ++ e ∷ []) bs []) (batches-pushed pages e b day is)
+    ∙ onto-push (events_in (day_records Two pages)) (batches_in (day_records Two pages)) e b [] (as-many pages)
 
 -- ---- what holds of an error holds of a result, where it holds anyway
 

@@ -1,11 +1,12 @@
 -- What a history keeps.
-use Rattle.std.specs.Prelude.{ℕ, List, [], ◌∷◌}
+use Rattle.std.specs.Prelude.{◌≡◌, ℕ, List, [], ◌∷◌, None}
 use Rattle.gate_law.specs.Events as law
 use Rattle.gate_events.specs.declared.event.Event.{Event}
 use Rattle.gate_events.specs.declared.source.Recipient.{Recipient}
 use Rattle.gate_events.specs.Seen.{event_seen}
 use Rattle.gate_events.specs.Sources.{lists_to}
-use Rattle.journal_records.specs.journal_days.Day.{day_records}
+use Rattle.journal_pages.specs.declared.version.Version.TheVariants.{Two}
+use Rattle.journal_records.specs.journal_days.Day.{day_fault, day_records, kept_as, version_of}
 use Rattle.journal_records.specs.Days.{batches_in, events_in}
 
 -- events and the batches that they gave, the oldest first, and the bytes of the pages that say them
@@ -14,13 +15,19 @@ pub record Kept : Type 0 where
   pub batches : List law.Batch
   pub pages : List (List ℕ)
 
--- what pages say
+-- what pages of version 2 say
 abbrev pub kept_in : List (List ℕ) → Kept
 kept_in pages = record {
-  events = events_in (day_records pages);
-  batches = batches_in (day_records pages);
+  events = events_in (day_records Two pages);
+  batches = batches_in (day_records Two pages);
   pages = pages;
 }
+
+-- the history that the pages of a day are, of either version: with their events and batches, in pages of version 2
+pub record IsRead (pages : List (List ℕ)) (h : Kept) : Type 0 where
+  pub day : day_fault (version_of pages) pages ≡ None
+  pub same : h ≡ kept_in (kept_as (version_of pages) pages)
+  pub records : day_records Two (kept_as (version_of pages) pages) ≡ day_records (version_of pages) pages
 
 abbrev pub nothing_kept : Kept
 nothing_kept = record { events = []; batches = []; pages = [] }

@@ -5,12 +5,16 @@ ghost use Rattle.gate_events.specs.Seen.{batch_seen};
 ghost use Rattle.gate_events.specs.Sources.{events_from, lists_to};
 ghost use Rattle.journal_pages.specs.declared.fault.PageFault.TheVariants.{NoMemory};
 ghost use Rattle.journal_records.specs.journal_days.Cut.{texts, with_records};
-ghost use Rattle.journal_records.specs.journal_days.Day.{day_fault};
+ghost use Rattle.journal_pages.specs.declared.version.Version.TheVariants.{One, Two};
+ghost use Rattle.journal_records.specs.journal_days.Day as spec;
+ghost use Rattle.journal_records.specs.journal_days.Day.{version_of};
 ghost use Rattle.journal_records.specs.Parts.{turn_records};
 
 use gate_events::{Batch, Event, Recipient, Source, Told, told_lists};
 use journal_pages::PageFault;
-use journal_records::{DayPages, DayRecords, append_turn, batches_of, events_of, judge_day};
+use journal_records::{
+    DayPages, DayRecords, Version, append_turn, batches_of, events_of, judge_day,
+};
 use std::alloc::{AllocError, Global};
 use std::marker::Model;
 
@@ -23,6 +27,7 @@ pub struct History {
 
 impl Model for History {
     ghost use Rattle.std.specs.Prelude.{◌≡◌, None};
+    ghost use Rattle.journal_pages.specs.declared.version.Version.TheVariants.{Two};
     ghost use Rattle.journal_records.specs.journal_days.Day.{day_fault};
     ghost use Rattle.gate_journal.specs.Kept.{Kept, kept_in};
 
@@ -30,11 +35,12 @@ impl Model for History {
 
     ghost view = { λ h. kept_in h.pages };
 
-    ghost invariant = { λ h. day_fault h.pages ≡ None };
+    ghost invariant = { λ h. day_fault Two h.pages ≡ None };
 }
 
 impl History {
-    ghost use Rattle.gate_journal.specs.Kept.{kept_in, nothing_kept, kept_turn, turns};
+    ghost use Rattle.gate_journal.specs.Kept.{IsRead, kept_in, nothing_kept, kept_turn, turns};
+    ghost use Rattle.journal_records.specs.journal_days.Day.{day_fault};
 
     /// No events, and no pages. Takes no memory.
     pub fn new(alloc: Global) -> History
@@ -68,7 +74,7 @@ impl History {
         ensures events { IfOk result (λ events. events.items ≡ self.now.events) }
         ensures count { IfOk result (λ events. length events.items ≡ length self.now.batches) }
     {
-        let events = events_of(alloc, DayRecords::of(self.pages.as_slice()))?;
+        let events = events_of(alloc, DayRecords::of(Version::Two, self.pages.as_slice()))?;
         Ok(events)
     }
 
@@ -77,7 +83,7 @@ impl History {
         ensures batches { IfOk result (λ batches. map batch_seen batches.items ≡ self.now.batches) }
         ensures count { IfOk result (λ batches. length batches.items ≡ length self.now.events) }
     {
-        let batches = batches_of(alloc, DayRecords::of(self.pages.as_slice()))?;
+        let batches = batches_of(alloc, DayRecords::of(Version::Two, self.pages.as_slice()))?;
         Ok(batches)
     }
 
@@ -98,29 +104,60 @@ impl History {
         told_lists(alloc, batches.as_slice(), recipient)
     }
 
-    /// The pages, the oldest first. Read again they are this history.
+    /// The pages, the oldest first, all of version 2. Read again they are this history.
     pub fn pages(&self) -> &[Vec<u8>]
         ensures pages { texts result.now ≡ self.now.pages }
-        ensures day { day_fault (texts result.now) ≡ None }
+        ensures day { day_fault Two (texts result.now) ≡ None }
+        ensures version { version_of (texts result.now) ≡ Two }
         ensures same { self.now ≡ kept_in (texts result.now) }
     {
         self.pages.as_slice()
     }
 
-    /// The history that pages are, copied; or the number of the first page with which something is wrong, from 0, and
-    /// what: what is wrong with the page alone, then with its records behind those before (`Payload` where a batch that
-    /// goes on has another moment, client or port, `Order` where a record can't come there, or the last page ends
-    /// inside a batch). `NoMemory` has the number 0. No pages are the history without events.
+    /// The history that pages are, all of version 1 or all of version 2; or the place of the first page with which
+    /// something is wrong, from 0, and what: what is wrong with the page alone (`Head` where it is of another version
+    /// than the first), then `Number` where its number isn't that of the records before it, then what is wrong with its
+    /// records behind those before (`Payload` where a batch that goes on has another moment, client or port, `Order`
+    /// where a record can't come there, or the last page ends inside a batch). `NoMemory` has the place 0.
+    ///
+    /// Pages of version 2 are copied and keep their cut; the records of pages of version 1 are written anew. No pages
+    /// are the history without events.
     pub fn read(alloc: Global, pages: &[Vec<u8>]) -> Result<History, (u32, PageFault)>
-        ensures { MatchResult result
-            (λ history. (day_fault (texts pages.now) ≡ None) × (history ≡ kept_in (texts pages.now)))
+        ensures { MatchResult result (λ history. IsRead (texts pages.now) history)
             (λ fault. ((fault.0 ≡ 0) × (fault.1 ≡ NoMemory))
-            ⊎ (day_fault (texts pages.now) ≡ Some (fault.0, fault.1))) }
+            ⊎ (day_fault (version_of (texts pages.now)) (texts pages.now) ≡ Some (fault.0, fault.1))) }
     {
-        judge_day(pages)?;
-        match DayPages::copied(alloc, pages) {
+        let version = judge_day(pages)?;
+        match kept_as(alloc, version, pages) {
             Ok(pages) => Ok(History { pages }),
             Err(_) => Err((0, PageFault::NoMemory)),
         }
     }
+}
+
+/// The pages in which a day of a version is kept: of version 2 these, copied; of version 1 their records, written anew.
+fn kept_as(alloc: Global, version: Version, pages: &[Vec<u8>]) -> Result<DayPages, AllocError>
+    requires { spec.day_fault version (texts pages.now) ≡ None }
+    ensures pages { IfOk result (λ kept. kept ≡ spec.kept_as version (texts pages.now)) }
+    ensures day { IfOk result (λ kept. spec.day_fault Two kept ≡ None) }
+    ensures records { IfOk result (λ kept. spec.day_records Two kept ≡ spec.day_records version (texts pages.now)) }
+{
+    match version {
+        Version::One => rewritten(alloc, pages),
+        Version::Two => {
+            let kept = DayPages::copied(alloc, pages)?;
+            Ok(kept)
+        }
+    }
+}
+
+/// The records of pages of version 1, written anew: a day of version 2 with these records.
+fn rewritten(alloc: Global, pages: &[Vec<u8>]) -> Result<DayPages, AllocError>
+    requires { spec.day_fault One (texts pages.now) ≡ None }
+    ensures pages { IfOk result (λ kept. kept ≡ spec.kept_as One (texts pages.now)) }
+    ensures day { IfOk result (λ kept. spec.day_fault Two kept ≡ None) }
+    ensures records { IfOk result (λ kept. spec.day_records Two kept ≡ spec.day_records One (texts pages.now)) }
+{
+    let kept = DayPages::rewritten(alloc, pages)?;
+    Ok(kept)
 }

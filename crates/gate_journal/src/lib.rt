@@ -8,6 +8,6 @@ mod history;
 
 pub use gate_events::{Batch, ClientNumber, Event, LinkOut, PortNumber, Recipient, Source, Told};
 pub use history::History;
-pub use journal_pages::PageFault;
+pub use journal_pages::{PageFault, Version};
 pub use short_list::ShortList;
 pub use soup_session::PortFault;

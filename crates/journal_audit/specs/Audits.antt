@@ -7,23 +7,23 @@ use Rattle.gate_audit.specs.Pairs.{accepted_pairs, pairs}
 use Rattle.gate_lines.specs.audit_lines.Lines.{shown_audit}
 use Rattle.gate_lines.specs.Scripts.{ComesTo}
 use Rattle.gate_lines.specs.script_steps.Settings.{fixed}
-use Rattle.journal_file.specs.journal_pages.declared.fault.PageFault.{PageFault}
-use Rattle.gate_audit.specs.gate_journal.Kept.{Kept, kept_in, turns}
-use Rattle.journal_file.specs.File.{IsNoFile}
-use Rattle.journal_file.specs.Written.{IsFile, IsFileOfTurns}
+use Rattle.journal_file.specs.declared.fault.FileFault.{FileFault}
+use Rattle.gate_audit.specs.gate_journal.Kept.{Kept, turns}
+use Rattle.journal_file.specs.File.{IsNoFile, Says}
+use Rattle.journal_file.specs.Written.{IsFileOfTurns}
 
 -- What a writer has grew by just the audit of what the file says, and where all that is promised of a run holds of it,
 -- by the accounts of the orders that were accepted.
 pub record IsAuditOfFile (s : Settings) (file : List ℕ) (old new : Option (List ℕ)) : Type 0 where
-  pub pages : List (List ℕ)
-  pub says : IsFile pages file
-  pub written : Appends old new (shown_audit (pairs s (turns (kept_in pages))))
-  pub run : Holds s (turns (kept_in pages)) → Appends old new (shown_audit (accepted_pairs s (turns (kept_in pages))))
+  pub day : Kept
+  pub says : Says file day
+  pub written : Appends old new (shown_audit (pairs s (turns day)))
+  pub run : Holds s (turns day) → Appends old new (shown_audit (accepted_pairs s (turns day)))
 
 -- the file is none, for this page and fault
 pub record IsNoDaysFile (file : List ℕ) : Type 0 where
   pub number : ℕ
-  pub fault : PageFault
+  pub fault : FileFault
   pub why : IsNoFile file number fault
 
 -- What a writer has grew by a file that says the history that the lines of this text come to, of which all that is

@@ -5,13 +5,14 @@ ghost use Rattle.std.specs.Io.KnownBytes.{Appends, Keeps};
 ghost use Rattle.gate_lines.specs.gate_law.Holds.{Holds};
 ghost use Rattle.gate_audit.specs.Pairs.{accepted_pairs, pairs};
 ghost use Rattle.gate_lines.specs.audit_lines.Lines.{shown_audit};
+ghost use Rattle.journal_file.specs.declared.fault.FileFault.TheVariants.{Page};
 ghost use Rattle.journal_file.specs.journal_pages.declared.fault.PageFault.TheVariants.{NoMemory};
 ghost use Rattle.gate_audit.specs.gate_journal.Kept.{turns};
 ghost use Rattle.journal_audit.specs.Audits.{IsAuditOfFile, IsNoDaysFile};
 
 use gate_audit::{History, ReadingFault, Settings, audit};
 use gate_lines::write_audit;
-use journal_file::{PageFault, read_day};
+use journal_file::{FileFault, PageFault, read_day};
 use std::alloc::Global;
 use std::io::Write;
 
@@ -19,7 +20,7 @@ use std::io::Write;
 /// one for how many there are and how many agree.
 ///
 /// Answers the status that a program ends with which does so: 0 where both accounts of each order agree; 2 where the
-/// file is none, with `page N: FAULT` on `faults`, the number from 0 and the fault as `PageFault` has it, and nothing
+/// file is none, with `page N: FAULT` on `faults`, the number from 0 and the fault as `FileFault` has it, and nothing
 /// on `output`; else 1: where those of an order don't agree, where memory runs out, with `out of memory`, where a write
 /// fails, with `read or write failed`, and where a number of an account is larger than its integer holds, with `an
 /// order's account is too large`.
@@ -76,12 +77,12 @@ fn tell_unread<F: Write>(fault: ReadingFault, faults: &mut F) -> u8
 }
 
 /// Tells why a file is none, and answers 2; 1 where memory ran out.
-fn tell_refusal<F: Write>(number: u32, fault: PageFault, faults: &mut F) -> u8
+fn tell_refusal<F: Write>(number: u32, fault: FileFault, faults: &mut F) -> u8
     ensures status { result ≤ 2 }
     ensures from_one { 1 ≤ result }
-    ensures refused { result ≡ 2 → fault ≡ NoMemory → ⊥ }
+    ensures refused { result ≡ 2 → fault ≡ Page NoMemory → ⊥ }
 {
-    if fault == PageFault::NoMemory {
+    if fault == FileFault::Page(PageFault::NoMemory) {
         let _ = writeln!(faults, "{fault}");
         return 1;
     }

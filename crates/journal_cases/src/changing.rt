@@ -1,7 +1,7 @@
 //! Pages that are changed in each way of a kind.
 
 use crate::reading::outcome;
-use crate::records::{PAGE_HEAD, between, places_of, split};
+use crate::records::{between, front_size, places_of, split};
 use crate::tally::Tally;
 use std::alloc::{AllocError, Global};
 
@@ -144,10 +144,10 @@ fn cut_all(
 ) -> Result<(), AllocError> {
     let page = page_at(pages, number);
     let places = places_of(alloc, page)?;
-    for a in places.as_slice() {
-        for b in places.as_slice() {
-            if a <= b && *a > PAGE_HEAD && *b < page.len() {
-                let parts = cut_at(alloc, page, *a, *b)?;
+    for (before_a, a) in places.iter().enumerate() {
+        for (before_b, b) in places.iter().enumerate() {
+            if a <= b && *a > front_size(page) && *b < page.len() {
+                let parts = cut_at(alloc, page, (before_a, *a), (before_b, *b))?;
                 let whole = with_parts(alloc, pages, number, parts)?;
                 tally.count(outcome(alloc, whole.as_slice())?, number);
             }
@@ -156,20 +156,33 @@ fn cut_all(
     Ok(())
 }
 
+/// How many records of a page stand before a place, and the place.
+type Cut = (usize, usize);
+
 /// A page as two, where both places are the same, or as three.
-fn cut_at(alloc: Global, page: &[u8], a: usize, b: usize) -> Result<Vec<Vec<u8>>, AllocError> {
+fn cut_at(alloc: Global, page: &[u8], a: Cut, b: Cut) -> Result<Vec<Vec<u8>>, AllocError> {
     let mut parts = Vec::new(alloc);
-    parts.push(Vec::from_slice(alloc, between(page, 0, a))?)?;
-    if a < b {
-        parts.push(headed(alloc, between(page, a, b))?)?;
+    parts.push(Vec::from_slice(alloc, between(page, 0, a.1))?)?;
+    if a.1 < b.1 {
+        parts.push(headed(alloc, page, a.0, between(page, a.1, b.1))?)?;
     }
-    parts.push(headed(alloc, between(page, b, page.len()))?)?;
+    parts.push(headed(alloc, page, b.0, between(page, b.1, page.len()))?)?;
     Ok(parts)
 }
 
-/// A page of these records.
-fn headed(alloc: Global, records: &[u8]) -> Result<Vec<u8>, AllocError> {
-    let mut page = Vec::from_slice(alloc, b"GJ01")?;
+/// A page of these records, which stand behind so many of a page: of its version, and of version 2 with the number that
+/// is due there.
+fn headed(
+    alloc: Global,
+    whole: &[u8],
+    before: usize,
+    records: &[u8],
+) -> Result<Vec<u8>, AllocError> {
+    let mut page = Vec::from_slice(alloc, between(whole, 0, 4))?;
+    if let [b'G', b'J', b'0', b'2', a, b, c, d, e, f, g, h, ..] = whole {
+        let first = u64::from_be_bytes([*a, *b, *c, *d, *e, *f, *g, *h]);
+        page.extend_from_slice(&first.wrapping_add(before as u64).to_be_bytes())?;
+    }
     page.extend_from_slice(records)?;
     Ok(page)
 }

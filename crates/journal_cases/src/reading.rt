@@ -1,6 +1,6 @@
 //! Pages, read, and what they say written again.
 
-use crate::records::{PAGE_HEAD, split};
+use crate::records::{front_size, split};
 use crate::tally::Outcome;
 use gate_journal::{History, PageFault};
 use std::alloc::{AllocError, Global};
@@ -48,7 +48,7 @@ pub fn has_records(
 fn records_in(alloc: Global, pages: &[Vec<u8>]) -> Result<Vec<u8>, AllocError> {
     let mut records = Vec::new(alloc);
     for page in pages {
-        let (_, behind) = split(page.as_slice(), PAGE_HEAD);
+        let (_, behind) = split(page.as_slice(), front_size(page.as_slice()));
         records.extend_from_slice(behind)?;
     }
     Ok(records)

@@ -6,8 +6,10 @@ use std::alloc::{AllocError, Global};
 /// How many bytes stand before a record's payload.
 const HEAD: usize = 23;
 
-/// How many bytes stand before a page's records.
-pub const PAGE_HEAD: usize = 4;
+/// How many bytes stand before a page's records: its name, and of a page of version 2 its number.
+pub fn front_size(page: &[u8]) -> usize {
+    if page.starts_with(b"GJ02") { 12 } else { 4 }
+}
 
 /// What stands in front of a record's payload, but for the payload's length.
 #[derive(Clone, Copy)]
@@ -60,7 +62,7 @@ fn record_of(alloc: Global, head: Head, payload: &[u8]) -> Result<Vec<u8>, Alloc
 /// Where the records of a page begin, and where the last one ends.
 pub fn places_of(alloc: Global, page: &[u8]) -> Result<Vec<usize>, AllocError> {
     let mut places = Vec::new(alloc);
-    let mut at = PAGE_HEAD;
+    let mut at = front_size(page);
     places.push(at)?;
     for _ in 0..page.len() {
         let Some(size) = size_at(page, at) else {

@@ -22,6 +22,7 @@ pub struct Tally {
     cut_short: u64,
     payload: u64,
     order: u64,
+    number: u64,
     histories: u64,
     wrong: u64,
 }
@@ -35,6 +36,7 @@ impl Tally {
             cut_short: 0,
             payload: 0,
             order: 0,
+            number: 0,
             histories: 0,
             wrong: 0,
         }
@@ -57,6 +59,7 @@ impl Tally {
             PageFault::CutShort => self.cut_short = self.cut_short.saturating_add(1),
             PageFault::Payload => self.payload = self.payload.saturating_add(1),
             PageFault::Order => self.order = self.order.saturating_add(1),
+            PageFault::Number => self.number = self.number.saturating_add(1),
             PageFault::NoMemory => self.wrong = self.wrong.saturating_add(1),
         }
     }
@@ -65,8 +68,8 @@ impl Tally {
     pub fn print<W: Write>(self, output: &mut W) -> io::Result<()> {
         write!(
             output,
-            "refused: head {}, kind {}, cut short {}, payload {}, order {}",
-            self.head, self.kind, self.cut_short, self.payload, self.order
+            "refused: head {}, kind {}, cut short {}, payload {}, order {}, number {}",
+            self.head, self.kind, self.cut_short, self.payload, self.order, self.number
         )?;
         writeln!(output, "; read: {}; wrong: {}", self.histories, self.wrong)
     }

@@ -26,12 +26,14 @@ pub fn fault_named(word: &str) -> Option<PageFault> {
         "cut" => Some(PageFault::CutShort),
         "payload" => Some(PageFault::Payload),
         "order" => Some(PageFault::Order),
+        "number" => Some(PageFault::Number),
         _ => None,
     }
 }
 
 /// The bytes that a text says: `text TEXT`, in which `|` stands for SOH; `hex HEX`; `zeros COUNT`; `field COUNT`, a
-/// field of so many bytes; nothing for nothing. `None` for any other.
+/// field of so many bytes; `numbered COUNT`, what stands before the records of a page of version 2 with this number;
+/// nothing for nothing. `None` for any other.
 pub fn bytes_said(alloc: Global, text: &str) -> Result<Option<Vec<u8>>, AllocError> {
     let (word, rest) = first_word(text);
     match word {
@@ -40,8 +42,19 @@ pub fn bytes_said(alloc: Global, text: &str) -> Result<Option<Vec<u8>>, AllocErr
         "hex" => hex_said(alloc, rest),
         "zeros" => many_said(alloc, b"", 0, b"", rest),
         "field" => many_said(alloc, b"1=", b'0', b"\x01", rest),
+        "numbered" => numbered_said(alloc, rest),
         _ => Ok(None),
     }
+}
+
+/// What a page of version 2 with this number begins with.
+fn numbered_said(alloc: Global, text: &str) -> Result<Option<Vec<u8>>, AllocError> {
+    let Some(number) = number_of(text.as_bytes()) else {
+        return Ok(None);
+    };
+    let mut bytes = Vec::from_slice(alloc, b"GJ02")?;
+    bytes.extend_from_slice(&number.to_be_bytes())?;
+    Ok(Some(bytes))
 }
 
 /// A text in which `|` stands for SOH.

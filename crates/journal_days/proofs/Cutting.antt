@@ -4,7 +4,7 @@ use Rattle.std.specs.Prelude.{if◌then◌else◌, get_or, slice_get, slice_set,
 use Rattle.std.specs.declared.alloc.Global.{Global}
 use Rattle.std.proofs.lemmas.List.{length-take, map-append, take-append-le, take_at}
 use Rattle.journal_pages.specs.Record.{Record, record_bytes}
-use Rattle.journal_days.specs.Cut.{cut_back, has_room, last_cut, last_has_room, last_size, last_with, page_with, record_text, texts, with_records, with_text}
+use Rattle.journal_days.specs.Cut.{cut_back, has_room, last_cut, last_has_room, last_size, last_with, next_number, number_behind, page_with, record_text, texts, with_records, with_text}
 
 pub text-is : (r : Record) → record_bytes r ≡ record_text r
 unfolding record_text
@@ -36,19 +36,27 @@ last-sized (p ∷ []) last (suc i) few e = absurd (omega (arith, few))
 last-sized (p ∷ q ∷ pages) last zero few e = absurd (omega (arith, few))
 last-sized (p ∷ q ∷ pages) last (suc i) few e = last-sized (q ∷ pages) last i (omega (arith, few)) e
 
+-- the number of the page behind
+pub next-last : (pages : List (Vec ℕ Global)) (last : Vec ℕ Global) (i : ℕ) → i + 1 ≡ length pages → Some last ≡ slice_get pages i → next_number (texts pages) ≡ number_behind last.items
+next-last [] last i few e = absurd (omega (arith, few))
+next-last (p ∷ []) last zero few e = let same : p ≡ last = cc in ap (λ (v : Vec ℕ Global). number_behind v.items) same
+next-last (p ∷ []) last (suc i) few e = absurd (omega (arith, few))
+next-last (p ∷ q ∷ pages) last zero few e = absurd (omega (arith, few))
+next-last (p ∷ q ∷ pages) last (suc i) few e = next-last (q ∷ pages) last i (omega (arith, few)) e
+
 pub some-pages : (pages : List (Vec ℕ Global)) (last : Vec ℕ Global) (i : ℕ) → Some last ≡ slice_get pages i → 1 ≤ length pages
 some-pages [] last i e = let no : ⊥ = cc in absurd no
 some-pages (p ∷ pages) last i e = omega arith
 
 pub with-room : (last text : List ℕ) → has_room last (length text) ≡ true → last_with last text ≡ (last ++ text) ∷ []
-with-room last text e = ap (λ b. if b then (last ++ text) ∷ [] else last ∷ page_with text ∷ []) e
+with-room last text e = ap (λ b. if b then (last ++ text) ∷ [] else last ∷ page_with (number_behind last) text ∷ []) e
 
-pub without-room : (last text : List ℕ) → has_room last (length text) ≡ false → last_with last text ≡ last ∷ page_with text ∷ []
-without-room last text e = ap (λ b. if b then (last ++ text) ∷ [] else last ∷ page_with text ∷ []) e
+pub without-room : (last text : List ℕ) → has_room last (length text) ≡ false → last_with last text ≡ last ∷ page_with (number_behind last) text ∷ []
+without-room last text e = ap (λ b. if b then (last ++ text) ∷ [] else last ∷ page_with (number_behind last) text ∷ []) e
 
 -- ---- one record more
 
-pub no-room : (pages : List (List ℕ)) (text : List ℕ) → last_has_room pages (length text) ≡ false → with_text pages text ≡ pages ++ page_with text ∷ []
+pub no-room : (pages : List (List ℕ)) (text : List ℕ) → last_has_room pages (length text) ≡ false → with_text pages text ≡ pages ++ page_with (next_number pages) text ∷ []
 no-room [] text e = refl
 no-room (p ∷ []) text e = without-room p text e
 no-room (p ∷ q ∷ pages) text e = ap (λ (ps : List (List ℕ)). p ∷ ps) (no-room (q ∷ pages) text e)
@@ -95,7 +103,7 @@ alone p q e = cc
 one-text : (p q text : List ℕ) → take (length p) q ≡ p → last_cut (length p) (take 1 (last_with q text)) ≡ p ∷ []
 one-text p q text e = by_room (has_room q (length text))
   where
-    by_room : (b : Bool) → last_cut (length p) (take 1 (if b then (q ++ text) ∷ [] else q ∷ page_with text ∷ [])) ≡ p ∷ []
+    by_room : (b : Bool) → last_cut (length p) (take 1 (if b then (q ++ text) ∷ [] else q ∷ page_with (number_behind q) text ∷ [])) ≡ p ∷ []
     by_room true = ap (λ (x : List ℕ). x ∷ []) (take-append-le (length p) q text (begins p q e) ∙ e)
     by_room false = ap (λ (x : List ℕ). x ∷ []) e
 

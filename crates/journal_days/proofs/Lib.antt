@@ -1,3 +1,4 @@
 pub mod Cutting
 pub mod Places
 pub mod Leading
+mod Judged

@@ -1,8 +1,9 @@
--- How records are cut into pages, and pages cut back. The format is the gateway's own, version 1.
-use Rattle.std.specs.Prelude.{◌≡◌, ℕ, ◌+◌, Bool, false, List, [], ◌∷◌, ◌++◌, length, take, map, nat_le, if◌then◌else◌}
+-- How records are cut into pages of version 2, and pages cut back. The format is the gateway's own.
+use Rattle.std.specs.Prelude.{◌≡◌, ℕ, ◌+◌, ◌%◌, ◌^◌, Bool, false, List, [], ◌∷◌, ◌++◌, length, take, map, nat_le, if◌then◌else◌}
 use Rattle.std.specs.Prelude.{Vec}
 use Rattle.std.specs.declared.alloc.Global.{Global}
-use Rattle.journal_pages.specs.Page.{page_head}
+use Rattle.journal_pages.specs.declared.version.Version.TheVariants.{Two}
+use Rattle.journal_pages.specs.Page.{page_front, page_number, page_records}
 use Rattle.journal_pages.specs.Record.{Record, record_bytes}
 
 -- the bytes of each page
@@ -29,17 +30,28 @@ last_has_room [] size = false
 last_has_room (page ∷ []) size = has_room page size
 last_has_room (page ∷ next ∷ pages) size = last_has_room (next ∷ pages) size
 
--- a page with one record
-abbrev pub page_with : List ℕ → List ℕ
-page_with text = page_head ++ text
+-- the number of the page behind one: its own number, and one for each of its records, as a number of 64 bits
+abbrev pub number_behind : List ℕ → ℕ
+number_behind page = (page_number page + length (page_records Two page)) % 2 ^ 64
+
+-- the number of the page behind some: as many records as they have
+abbrev pub next_number : List (List ℕ) → ℕ
+next_number [] = 0
+next_number (page ∷ []) = number_behind page
+next_number (page ∷ next ∷ pages) = next_number (next ∷ pages)
+
+-- a page with this number and one record
+abbrev pub page_with : ℕ → List ℕ → List ℕ
+page_with number text = page_front number ++ text
 
 -- a record behind the last page, which is this one
 abbrev pub last_with : List ℕ → List ℕ → List (List ℕ)
-last_with last text = if has_room last (length text) then (last ++ text) ∷ [] else last ∷ page_with text ∷ []
+last_with last text =
+    if has_room last (length text) then (last ++ text) ∷ [] else last ∷ page_with (number_behind last) text ∷ []
 
 -- One record more: a new page begins where it would carry the last one past the limit.
 abbrev pub with_text : List (List ℕ) → List ℕ → List (List ℕ)
-with_text [] text = page_with text ∷ []
+with_text [] text = page_with 0 text ∷ []
 with_text (page ∷ []) text = last_with page text
 with_text (page ∷ next ∷ pages) text = page ∷ with_text (next ∷ pages) text
 

@@ -7,4 +7,4 @@ use Rattle.journal_days.specs.Cut.{texts}
 use Rattle.journal_days.specs.Day.{day_records}
 
 abbrev pub records_left : DayRecords → List Record
-records_left d = records_ahead d.here ++ day_records (texts d.pages.now)
+records_left d = records_ahead d.here ++ day_records d.version (texts d.pages.now)

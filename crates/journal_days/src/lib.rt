@@ -9,10 +9,12 @@
 
 mod day;
 mod laws;
+mod numbers;
 mod pages;
 mod records;
 
 pub use day::judge_day;
-pub use laws::days_go_on;
+pub use journal_pages::Version;
+pub use laws::{days_are_rewritten, days_go_on, numbers_count_records};
 pub use pages::{DayPages, PagesMark};
 pub use records::DayRecords;

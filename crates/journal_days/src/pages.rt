@@ -2,16 +2,22 @@
 
 ghost use Rattle.std.specs.Prelude.{◌≡◌, ◌+◌, ◌<◌, ◌≤◌, ◌++◌, ◌∷◌, [], List, length, true, IfOk, OnOk, OnErr};
 ghost use Rattle.journal_pages.specs.Record.{Record, payload_limit};
-ghost use Rattle.journal_pages.specs.Seen.{record_of};
+ghost use Rattle.journal_pages.specs.Seen.{record_of, record_seen};
+ghost use Rattle.journal_pages.specs.declared.version.Version.TheVariants.{One};
+ghost use Rattle.journal_days.specs.Day.{day_records};
+ghost use Rattle.journal_pages.specs.Ordered.{AreWritable};
 ghost use Rattle.journal_days.specs.Cut as spec;
-ghost use Rattle.journal_days.specs.Cut.{cut_back, last_cut, page_with, record_text, texts, with_records, with_text};
+ghost use Rattle.journal_days.specs.Cut.{cut_back, last_cut, next_number, page_with, record_text, texts};
+ghost use Rattle.journal_days.specs.Cut.{with_records, with_text};
 
-use journal_pages::RecordHead;
+use crate::numbers::next_number;
+use crate::records::DayRecords;
+use journal_pages::{RecordHead, RecordView, Version};
 use std::alloc::{AllocError, Global};
 use std::marker::Model;
 
 /// What a page begins with: the journal's name and version.
-const PAGE_HEAD: &[u8; 4] = b"GJ01";
+const PAGE_NAME: &[u8; 4] = b"GJ02";
 
 /// How many bytes stand before a record's payload.
 const HEAD: usize = 23;
@@ -60,6 +66,33 @@ impl DayPages {
             push_page(&mut copies, Vec::from_slice(alloc, page.as_slice())?)?;
         }
         Ok(DayPages { pages: copies })
+    }
+
+    /// The records of pages of version 1, written anew in version 2. Two growths at most for each record.
+    pub fn rewritten(alloc: Global, pages: &[Vec<u8>]) -> Result<DayPages, AllocError>
+        ensures written { IfOk result (λ written. written ≡ with_records [] (day_records One (texts pages.now))) }
+        ensures writable { IfOk result (λ written. AreWritable (day_records One (texts pages.now))) }
+    {
+        let mut written = DayPages::new(alloc);
+        let mut ahead = DayRecords::of(Version::One, pages);
+        while let Some((record, behind)) = ahead.split_first() {
+            written.append_view(&record)?;
+            ahead = behind;
+        }
+        Ok(written)
+    }
+
+    /// One record more, as it was read.
+    fn append_view(&mut self, record: &RecordView<'_>) -> Result<(), AllocError>
+        ensures { OnOk result (self.new ≡ with_text self.old (record_text (record_seen record.now))) }
+    {
+        let head = RecordHead {
+            kind: record.kind,
+            source: record.source,
+            link: record.link,
+            at: record.at,
+        };
+        self.append(&head, record.payload, &[])
     }
 
     /// One record more, of this head and a payload in two pieces, one behind the other: in the last page where it has
@@ -183,10 +216,12 @@ fn begin_page(
 ) -> Result<(), AllocError>
     requires { length front.now + length back.now < payload_limit }
     ensures ok { OnOk result (texts pages.new.items ≡ texts pages.old.items
-        ++ page_with (record_text (record_of head.now (front.now ++ back.now))) ∷ []) }
+        ++ page_with (next_number (texts pages.old.items))
+        (record_text (record_of head.now (front.now ++ back.now))) ∷ []) }
     ensures err { OnErr result (texts pages.new.items ≡ texts pages.old.items) }
 {
-    let page = page_of(*pages.allocator(), head, front, back)?;
+    let number = next_number(pages.as_slice());
+    let page = page_of(*pages.allocator(), number, head, front, back)?;
     push_page(pages, page)
 }
 
@@ -199,19 +234,21 @@ fn push_page(pages: &mut Vec<Vec<u8>>, page: Vec<u8>) -> Result<(), AllocError>
     Ok(())
 }
 
-/// A page of one record, with room for more.
+/// A page with this number and one record, with room for more.
 fn page_of(
     alloc: Global,
+    number: u64,
     head: &RecordHead,
     front: &[u8],
     back: &[u8],
 ) -> Result<Vec<u8>, AllocError>
     requires { length front.now + length back.now < payload_limit }
     ensures { IfOk result (λ page. page.items
-        ≡ page_with (record_text (record_of head.now (front.now ++ back.now)))) }
+        ≡ page_with number (record_text (record_of head.now (front.now ++ back.now)))) }
 {
     let mut page = Vec::with_capacity(alloc, PAGE_LIMIT)?;
-    page.extend_from_slice(PAGE_HEAD)?;
+    page.extend_from_slice(PAGE_NAME)?;
+    page.extend_from_slice(&number.to_be_bytes())?;
     append_text(&mut page, head, front, back)?;
     Ok(page)
 }

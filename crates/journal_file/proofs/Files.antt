@@ -1,42 +1,51 @@
 -- Pages that stand one behind another in a file.
-use Rattle.std.proofs.Common.{◌≡◌, ◌≤◌, ◌<◌, ℕ, true, false, List, [], ◌∷◌, ◌++◌, Vec, length, inr, refl, sym, ap, ◌∙◌, arith, append_assoc, length-append}
+use Rattle.std.proofs.Common.{◌≡◌, ◌≤◌, ◌<◌, ℕ, true, false, List, [], ◌∷◌, ◌++◌, Vec, Some, length, inl, inr, refl, sym, ap, ◌∙◌, arith, append_assoc, length-append}
 use Rattle.std.proofs.lemmas.Bool.Decides.{nat_tests}
 use Rattle.std.proofs.lemmas.List.{append-nil, length-map}
 use Rattle.std.proofs.lemmas.Bool.{true≢false}
 use Rattle.std.specs.Prelude.{◌⊎◌, ◌==◌, min, Result, Ok, Err, MatchResult, OnOk, is_err}
 use Rattle.std.specs.declared.alloc.Global.{Global}
-use Rattle.journal_pages.specs.declared.fault.PageFault.{PageFault}
 use Rattle.journal_pages.specs.declared.fault.PageFault.TheVariants as faults
 use Rattle.journal_days.specs.Cut.{texts}
-use Rattle.journal_file.specs.File.{AreNotEmpty, IsNoForm, IsNoMemory, file_of, sized_page, sized_pages}
+use Rattle.journal_pages.specs.declared.version.Version.{Version}
+use Rattle.journal_pages.specs.declared.version.Version.TheVariants.{One, Two}
+use Rattle.journal_file.specs.declared.fault.FileFault.{FileFault}
+use Rattle.journal_file.specs.declared.fault.FileFault.TheVariants as whys
+use Rattle.journal_file.specs.File.{AreNotEmpty, IsNoForm, IsNoMemory, before_page, file_of, form_of, front_fault, sized_page, sized_pages}
 
 pub full-more : (pages : List (List ℕ)) (page : List ℕ) → AreNotEmpty pages → 1 ≤ length page → AreNotEmpty (pages ++ page ∷ [])
 full-more [] page full one = (one, tt)
 full-more (p ∷ pages) page full one = (full.0, full-more pages page full.1 one)
 
 -- one page more
-pub sized-more : (pages : List (List ℕ)) (page : List ℕ) → sized_pages (pages ++ page ∷ []) ≡ sized_pages pages ++ sized_page page
-sized-more [] page = append-nil (sized_page page)
-sized-more (p ∷ pages) page = ap (λ (t : List ℕ). sized_page p ++ t) (sized-more pages page) ∙ sym (append_assoc (sized_page p) (sized_pages pages) (sized_page page))
+pub sized-more : (form : Version) (pages : List (List ℕ)) (page : List ℕ) → sized_pages form (pages ++ page ∷ []) ≡ sized_pages form pages ++ sized_page form page
+sized-more form [] page = append-nil (sized_page form page)
+sized-more form (p ∷ pages) page =
+    ap (λ (t : List ℕ). sized_page form p ++ t) (sized-more form pages page) ∙ sym (append_assoc (sized_page form p) (sized_pages form pages) (sized_page form page))
 
 -- the bytes of a file, with one page more of them read
-pub read-more : (file rest behind : List ℕ) (before after : List (List ℕ)) (page : List ℕ)
-    → file ≡ sized_pages before ++ rest → rest ≡ sized_page page ++ behind → after ≡ before ++ page ∷ [] → file ≡ sized_pages after ++ behind
-read-more file rest behind before after page same first more =
-    same ∙ ap (λ (t : List ℕ). sized_pages before ++ t) first ∙ sym (append_assoc (sized_pages before) (sized_page page) behind)
-    ∙ ap (λ (t : List ℕ). t ++ behind) (sym (sized-more before page) ∙ ap sized_pages (sym more))
+pub read-more : (form : Version) (file rest behind : List ℕ) (before after : List (List ℕ)) (page : List ℕ)
+    → file ≡ sized_pages form before ++ rest → rest ≡ sized_page form page ++ behind → after ≡ before ++ page ∷ [] → file ≡ sized_pages form after ++ behind
+read-more form file rest behind before after page same first more =
+    same ∙ ap (λ (t : List ℕ). sized_pages form before ++ t) first ∙ sym (append_assoc (sized_pages form before) (sized_page form page) behind)
+    ∙ ap (λ (t : List ℕ). t ++ behind) (sym (sized-more form before page) ∙ ap (sized_pages form) (sym more))
 
 -- a page takes bytes
-pub fewer : (rest behind page : List ℕ) → rest ≡ sized_page page ++ behind → length behind < length rest
-fewer rest behind page e =
-    let all : length rest ≡ length (sized_page page ++ behind) = ap length e in
+pub fewer : (form : Version) (rest behind page : List ℕ) → rest ≡ sized_page form page ++ behind → length behind < length rest
+fewer One rest behind page e =
+    let all : length rest ≡ length (sized_page One page ++ behind) = ap length e in
+    let parts = length-append page behind in
+    omega (arith, all, parts)
+fewer Two rest behind page e =
+    let all : length rest ≡ length (sized_page Two page ++ behind) = ap length e in
     let parts = length-append page behind in
     omega (arith, all, parts)
 
 -- an end stands behind these pages
-pub ended : (file rest behind : List ℕ) (pages : List (List ℕ)) → file ≡ sized_pages pages ++ rest → rest ≡ sized_page [] ++ behind → file ≡ file_of pages ++ behind
-ended file rest behind pages same first =
-    same ∙ ap (λ (t : List ℕ). sized_pages pages ++ t) first ∙ sym (append_assoc (sized_pages pages) (sized_page []) behind)
+pub ended : (form : Version) (file rest behind : List ℕ) (pages : List (List ℕ)) → file ≡ sized_pages form pages ++ rest → rest ≡ sized_page form [] ++ behind
+    → file ≡ file_of form pages ++ behind
+ended form file rest behind pages same first =
+    same ∙ ap (λ (t : List ℕ). sized_pages form pages ++ t) first ∙ sym (append_assoc (sized_pages form pages) (sized_page form []) behind)
 
 is-zero : (n : ℕ) → (n == 0) ≡ true → n ≡ 0
 is-zero n e = grind (arith, nat_tests)
@@ -49,25 +58,42 @@ pub some-bytes : (n : ℕ) → (n == 0) ≡ false → 1 ≤ n
 some-bytes n e = grind (arith, nat_tests)
 
 -- what is answered behind an end
-pub whole-file : (r : Result (Vec (Vec ℕ Global) Global) (ℕ × PageFault)) (pages : Vec (Vec ℕ Global) Global) (file rest behind page : List ℕ)
-    → file ≡ sized_pages (texts pages.items) ++ rest → AreNotEmpty (texts pages.items) → rest ≡ sized_page page ++ behind → (length page == 0) ≡ true
-    → MatchResult r (λ same. (same ≡ pages) × (behind ≡ [])) (λ f. (f.0 ≡ min (length pages.items) 4_294_967_295) × (f.1 ≡ faults.Head) × (1 ≤ length behind))
-    → MatchResult r (λ same. file ≡ file_of (texts same.items)) (λ f. IsNoMemory f.0 f.1 ⊎ IsNoForm file f.0 f.1)
-whole-file (Ok same) pages file rest behind page read full first end e =
-    ended file rest behind (texts pages.items) read (first ∙ ap (λ (p : List ℕ). sized_page p ++ behind) (empty-page page end))
-    ∙ ap (λ (b : List ℕ). file_of (texts pages.items) ++ b) e.1 ∙ append-nil (file_of (texts pages.items))
-    ∙ sym (ap (λ (v : Vec (Vec ℕ Global) Global). file_of (texts v.items)) e.0)
-whole-file (Err f) pages file rest behind page read full first end e =
+pub whole-file : (form : Version) (r : Result (Vec (Vec ℕ Global) Global) (ℕ × FileFault)) (pages : Vec (Vec ℕ Global) Global) (file rest behind page : List ℕ)
+    → form ≡ form_of file → file ≡ sized_pages form (texts pages.items) ++ rest → AreNotEmpty (texts pages.items) → rest ≡ sized_page form page ++ behind → (length page == 0) ≡ true
+    → MatchResult r (λ same. (same ≡ pages) × (behind ≡ [])) (λ f. (f.0 ≡ min (length pages.items) 4_294_967_295) × (f.1 ≡ whys.Page faults.Head) × (1 ≤ length behind))
+    → MatchResult r (λ same. file ≡ file_of form (texts same.items)) (λ f. IsNoMemory f.0 f.1 ⊎ IsNoForm file f.0 f.1)
+whole-file form (Ok same) pages file rest behind page is read full first end e =
+    ended form file rest behind (texts pages.items) read (first ∙ ap (λ (p : List ℕ). sized_page form p ++ behind) (empty-page page end))
+    ∙ ap (λ (b : List ℕ). file_of form (texts pages.items) ++ b) e.1 ∙ append-nil (file_of form (texts pages.items))
+    ∙ sym (ap (λ (v : Vec (Vec ℕ Global) Global). file_of form (texts v.items)) e.0)
+whole-file form (Err f) pages file rest behind page is read full first end e =
     inr (inr (
       record {
         pages = texts pages.items;
         rest = behind;
-        same = ended file rest behind (texts pages.items) read (first ∙ ap (λ (p : List ℕ). sized_page p ++ behind) (empty-page page end));
+        same = ended form file rest behind (texts pages.items) read (first ∙ ap (λ (p : List ℕ). sized_page form p ++ behind) (empty-page page end))
+            ∙ ap (λ (v : Version). file_of v (texts pages.items) ++ behind) is;
         full = full;
         more = e.2;
         number = e.0 ∙ ap (λ n. min n 4_294_967_295) (sym (length-map pages.items (λ (v : Vec ℕ Global). v.items)));
       },
       e.1,
+    ))
+
+-- what is answered where no page stands in front
+pub broken-file : (form : Version) (pages : List (Vec ℕ Global)) (file rest : List ℕ) (n : ℕ) (fault : FileFault)
+    → form ≡ form_of file → file ≡ sized_pages form (texts pages) ++ rest → AreNotEmpty (texts pages) → front_fault form rest ≡ Some fault → n ≡ min (length pages) 4_294_967_295
+    → IsNoMemory n fault ⊎ IsNoForm file n fault
+broken-file form pages file rest n fault is read full why number =
+    inr (inl (
+    record {
+      pages = texts pages;
+      rest = rest;
+      same = read ∙ ap (λ (v : Version). sized_pages v (texts pages) ++ rest) is;
+      full = full;
+      why = ap (λ (v : Version). front_fault v rest) (sym is) ∙ why;
+      number = number ∙ ap (λ n. min n 4_294_967_295) (sym (length-map pages (λ (v : Vec ℕ Global). v.items)));
+    }
     ))
 
 -- what holds where a call went well, of a call that did

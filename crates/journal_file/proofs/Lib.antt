@@ -1,2 +1,4 @@
 mod Files
 mod One
+mod Summed
+mod Grown

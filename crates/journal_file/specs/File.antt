@@ -1,69 +1,133 @@
--- A day's file: the bytes of its pages, each behind its length, and an end. The form is the gateway's own, version 1.
-use Rattle.std.specs.Prelude.{◌≡◌, ◌⊎◌, ◌≤◌, ℕ, ◌+◌, Bool, true, nat_lt, List, [], ◌∷◌, ◌++◌, length, min, take, Some}
+-- A day's file: the bytes of its pages, each behind its length and its sum, and an end. The form is the gateway's own.
+-- Files of a first form, in which a page stands behind its length alone, are read and no longer written.
+use Rattle.std.specs.Prelude.{◌≡◌, ◌⊎◌, ◌≤◌, ◌==◌, ℕ, ◌+◌, Bool, true, ◌||◌, nat_lt, List, [], ◌∷◌, ◌++◌, length, min}
+use Rattle.std.specs.Prelude.{bytes_eq, drop, take, Option, Some, None, if◌then◌else◌}
 use Rattle.std.specs.Int.{w64, to_be_bytes, from_be_bytes}
 use Rattle.std.specs.List.{flat_map}
 use Rattle.journal_pages.specs.declared.fault.PageFault.{PageFault}
-use Rattle.journal_pages.specs.declared.fault.PageFault.TheVariants as faults
-use Rattle.journal_days.specs.Day.{day_fault}
+use Rattle.journal_pages.specs.declared.fault.PageFault.TheVariants as pages
+use Rattle.journal_pages.specs.declared.version.Version.{Version}
+use Rattle.journal_pages.specs.declared.version.Version.TheVariants.{One, Two}
+use Rattle.journal_pages.specs.Page.{page_name}
+use Rattle.journal_days.specs.Day.{day_fault, version_of}
+use Rattle.gate_journal.specs.Kept.{IsRead, Kept}
+use Rattle.journal_file.specs.declared.fault.FileFault.{FileFault}
+use Rattle.journal_file.specs.declared.fault.FileFault.TheVariants as faults
+use Rattle.journal_file.specs.Sum.{sum_of}
 
--- a page behind its length, eight bytes, the high byte first
-abbrev pub sized_page : List ℕ → List ℕ
-sized_page page = to_be_bytes w64 (length page) ++ page
+-- ---- what is written
 
-abbrev pub sized_pages : List (List ℕ) → List ℕ
-sized_pages pages = flat_map sized_page pages
+-- what stands before a page: its length in eight bytes, the high byte first, and in the second form its sum likewise
+abbrev pub before_page : Version → List ℕ → List ℕ
+before_page One page = to_be_bytes w64 (length page)
+before_page Two page = to_be_bytes w64 (length page) ++ to_be_bytes w64 (sum_of page)
 
--- pages, and an end: a length of 0
-abbrev pub file_of : List (List ℕ) → List ℕ
-file_of pages = sized_pages pages ++ sized_page []
+abbrev pub sized_page : Version → List ℕ → List ℕ
+sized_page form page = before_page form page ++ page
+
+abbrev pub sized_pages : Version → List (List ℕ) → List ℕ
+sized_pages form pages = flat_map (sized_page form) pages
+
+-- pages, and an end: a page of no bytes
+abbrev pub file_of : Version → List (List ℕ) → List ℕ
+file_of form pages = sized_pages form pages ++ sized_page form []
+
+-- ---- what is read
+
+-- these four bytes stand there in a file
+abbrev pub stands_at : ℕ → List ℕ → List ℕ → Bool
+stands_at place name file = bytes_eq (take 4 (drop place file)) name
+
+-- The form of a file, by the name of its first page: the second where that of a page of version 2 stands behind a length
+-- and a sum; the first where that of a page of version 1 stands behind a length, or there are eight bytes, an end of it.
+abbrev pub form_of : List ℕ → Version
+form_of file =
+    if stands_at 16 (page_name Two) file then Two
+    else if stands_at 8 (page_name One) file || length file == 8 then One
+    else Two
+
+-- how many bytes stand before a page
+abbrev pub before_size : Version → ℕ
+before_size One = 8
+before_size Two = 16
+
+-- the length that stands in front
+abbrev pub size_in : List ℕ → ℕ
+size_in bytes = from_be_bytes w64 (take 8 bytes)
+
+-- there are fewer bytes than stand before a page, or than its length says
+abbrev pub is_cut_short : Version → List ℕ → Bool
+is_cut_short form bytes = nat_lt (length bytes) (before_size form + size_in bytes)
+
+-- the page in front, where it isn't cut short
+abbrev pub page_in : Version → List ℕ → List ℕ
+page_in form bytes = take (size_in bytes) (drop (before_size form) bytes)
+
+-- in the second form the sum in front is that of the page
+abbrev pub has_its_sum : Version → List ℕ → Bool
+has_its_sum One bytes = true
+has_its_sum Two bytes = from_be_bytes w64 (take 8 (drop 8 bytes)) == sum_of (page_in Two bytes)
+
+-- why no page stands in front, if none does
+abbrev pub front_fault : Version → List ℕ → Option FileFault
+front_fault form bytes =
+    if is_cut_short form bytes then Some (faults.Page pages.CutShort)
+    else if has_its_sum form bytes then None
+    else Some faults.Sum
 
 -- ---- what is no file
-
--- there are fewer bytes than a length, or than it says
-abbrev pub is_cut_short : List ℕ → Bool
-is_cut_short bytes = nat_lt (length bytes) (8 + from_be_bytes w64 (take 8 bytes))
 
 -- none is an end
 abbrev pub AreNotEmpty : List (List ℕ) → Type 0
 AreNotEmpty [] = Unit {0}
 AreNotEmpty (page ∷ pages) = (1 ≤ length page) × AreNotEmpty pages
 
--- the number of the page behind so many, from 0; behind 2^32 - 1 it stays
+-- the place of the page behind so many, from 0; behind 2^32 - 1 it stays
 abbrev pub number_behind : List (List ℕ) → ℕ
 number_behind pages = min (length pages) 4_294_967_295
 
--- whole pages, and behind them neither another nor an end
-pub record IsCutAt (n : ℕ) (file : List ℕ) : Type 0 where
+-- whole pages, and behind them neither another nor an end, for this reason
+pub record IsBrokenAt (n : ℕ) (fault : FileFault) (file : List ℕ) : Type 0 where
   pub pages : List (List ℕ)
   pub rest : List ℕ
-  pub same : file ≡ sized_pages pages ++ rest
+  pub same : file ≡ sized_pages (form_of file) pages ++ rest
   pub full : AreNotEmpty pages
-  pub cut : is_cut_short rest ≡ true
+  pub why : front_fault (form_of file) rest ≡ Some fault
   pub number : n ≡ number_behind pages
 
 -- a file, and something behind its end
 pub record GoesOnAt (n : ℕ) (file : List ℕ) : Type 0 where
   pub pages : List (List ℕ)
   pub rest : List ℕ
-  pub same : file ≡ file_of pages ++ rest
+  pub same : file ≡ file_of (form_of file) pages ++ rest
   pub full : AreNotEmpty pages
   pub more : 1 ≤ length rest
   pub number : n ≡ number_behind pages
 
 -- why bytes are no file, by its form
-abbrev pub IsNoForm : List ℕ → ℕ → PageFault → Type 0
-IsNoForm file n fault = (IsCutAt n file × (fault ≡ faults.CutShort)) ⊎ (GoesOnAt n file × (fault ≡ faults.Head))
+abbrev pub IsNoForm : List ℕ → ℕ → FileFault → Type 0
+IsNoForm file n fault = IsBrokenAt n fault file ⊎ (GoesOnAt n file × (fault ≡ faults.Page pages.Head))
 
 -- a file whose pages are no day
-pub record IsNoDay (file : List ℕ) (n : ℕ) (fault : PageFault) : Type 0 where
+pub record IsNoDay (file : List ℕ) (n : ℕ) (fault : FileFault) : Type 0 where
   pub pages : List (List ℕ)
-  pub same : file ≡ file_of pages
-  pub why : day_fault pages ≡ Some (n, fault)
+  pub page_fault : PageFault
+  pub same : file ≡ file_of (form_of file) pages
+  pub why : day_fault (version_of pages) pages ≡ Some (n, page_fault)
+  pub is : fault ≡ faults.Page page_fault
 
 -- why bytes are no day's file
-abbrev pub IsNoFile : List ℕ → ℕ → PageFault → Type 0
+abbrev pub IsNoFile : List ℕ → ℕ → FileFault → Type 0
 IsNoFile file n fault = IsNoForm file n fault ⊎ IsNoDay file n fault
 
 -- memory ran out, of which the file says nothing
-abbrev pub IsNoMemory : ℕ → PageFault → Type 0
-IsNoMemory n fault = (n ≡ 0) × (fault ≡ faults.NoMemory)
+abbrev pub IsNoMemory : ℕ → FileFault → Type 0
+IsNoMemory n fault = (n ≡ 0) × (fault ≡ faults.Page pages.NoMemory)
+
+-- ---- what a file says
+
+-- the history that a file's pages are
+pub record Says (file : List ℕ) (day : Kept) : Type 0 where
+  pub pages : List (List ℕ)
+  pub same : file ≡ file_of (form_of file) pages
+  pub read : IsRead pages day

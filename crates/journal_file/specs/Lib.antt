@@ -1,4 +1,5 @@
 pub mod File
+pub mod Sum
 pub mod Written
 pub use Rattle.gate_journal.specs.Kept
 pub use Rattle.journal_days.specs.Cut

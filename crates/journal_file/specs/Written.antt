@@ -2,14 +2,15 @@
 use Rattle.std.specs.Prelude.{◌≡◌, ℕ, List, Option, None}
 use Rattle.std.specs.Io.KnownBytes.{Appends}
 use Rattle.gate_journal.specs.gate_law.Events.{History}
+use Rattle.journal_pages.specs.declared.version.Version.TheVariants.{Two}
 use Rattle.journal_days.specs.Day.{day_fault}
 use Rattle.gate_journal.specs.Kept.{kept_in, turns}
 use Rattle.journal_file.specs.File.{file_of}
 
--- the pages of a day, in a file
+-- the pages of a day, in a file of the second form
 pub record IsFile (pages : List (List ℕ)) (file : List ℕ) : Type 0 where
-  pub same : file ≡ file_of pages
-  pub day : day_fault pages ≡ None
+  pub same : file ≡ file_of Two pages
+  pub day : day_fault Two pages ≡ None
 
 -- pages that say these turns, in a file
 pub record IsFileOf (h : History) (file : List ℕ) : Type 0 where

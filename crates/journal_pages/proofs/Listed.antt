@@ -1,7 +1,10 @@
 -- The records of some bytes, one at a time; those of a page are the page.
 use Rattle.std.proofs.Common.{◌≡◌, ◌<◌, ◌≤◌, ◌^◌, ℕ, zero, suc, ◌+◌, true, false, Bool, Option, Some, None, List, [], ◌∷◌, ◌++◌, length, take, drop, refl, sym, ap, ◌∙◌, arith, append-nil, length-drop}
 use Rattle.std.specs.List.{flat_map}
-use Rattle.std.specs.Prelude.{◌==◌, not, bytes_eq, is_none, if◌then◌else◌}
+use Rattle.std.proofs.Math.Seq.{take-add}
+use Rattle.std.specs.Prelude.{◌==◌, not, nat_lt, bytes_eq, is_none, if◌then◌else◌}
+use Rattle.std.specs.Int.{w64, from_be_bytes, to_be_bytes}
+use Rattle.std.proofs.lemmas.Bool.{le-ltb}
 use Rattle.std.proofs.lemmas.Bool.Decides.{nat_tests}
 use Rattle.std.proofs.lemmas.List.{drop_at, length-take, take-append-drop}
 use Rattle.std.proofs.lemmas.Slice.Eq.{bytes_eq-Decides}
@@ -11,8 +14,10 @@ use Rattle.journal_pages.specs.declared.place.Place.{Place}
 use Rattle.journal_pages.specs.declared.place.Place.TheVariants.{PageStart}
 use Rattle.journal_pages.specs.Record.{Record, Front, Stands, Refused, front, is_sound, record_bytes, records_by_looks, records_in, records_of_front, size_of}
 use Rattle.journal_pages.specs.Ordered.{AreSound, order_fault}
-use Rattle.journal_pages.specs.Page.{fault_at, fault_by_looks, fault_of_front, is_page, page_fault, page_head, page_records, place_after, records_fault, unless}
-use Rattle.journal_pages.proofs.Spelled.{AreBytes, AreBytes-behind, front-sound, front-spelled}
+use Rattle.journal_pages.specs.Page.{fault_at, fault_by_looks, fault_of_front, front_size, is_page, page_fault, page_front, page_name, page_number, page_records, place_after, records_fault, unless}
+use Rattle.journal_pages.specs.declared.version.Version.{Version}
+use Rattle.journal_pages.specs.declared.version.Version.TheVariants.{One, Two}
+use Rattle.journal_pages.proofs.Spelled.{AreBytes, AreBytes-behind, eight, front-sound, front-spelled}
 use Rattle.journal_pages.proofs.Written.{written-stands}
 
 same-records : (f : Front) (g h : ℕ → List Record) → ((n : ℕ) → 1 ≤ n → g n ≡ h n) → records_of_front f g ≡ records_of_front f h
@@ -112,40 +117,53 @@ all-sound zero bytes = tt
 all-sound (suc looks) [] = tt
 all-sound (suc looks) (b ∷ bytes) = sound-front looks (b ∷ bytes) (λ n. all-sound looks (drop n (b ∷ bytes))) (front (b ∷ bytes)) refl
 
-pub page-sound : (text : List ℕ) → AreSound (page_records text)
-page-sound text = all-sound (length (drop 4 text)) (drop 4 text)
+pub page-sound : (version : Version) (text : List ℕ) → AreSound (page_records version text)
+page-sound version text = all-sound (length (drop (front_size version) text)) (drop (front_size version) text)
 
-none-of : (o : Option PageFault) → is_none o ≡ true → o ≡ None
+pub none-of : (o : Option PageFault) → is_none o ≡ true → o ≡ None
 none-of None e = refl
 none-of (Some fault) e = let no : ⊥ = cc in absurd no
 
-parts : (a b : Bool) (o : Option PageFault) → (if not a then Some faults.Head else if b then Some faults.CutShort else o) ≡ None → (a ≡ true) × (o ≡ None)
-parts false b o e = let no : ⊥ = cc in absurd no
-parts true true o e = let no : ⊥ = cc in absurd no
-parts true false o e = (refl, e)
+parts : (a s b : Bool) (o : Option PageFault) → (if not a then Some faults.Head else if s then Some faults.Head else if b then Some faults.CutShort else o) ≡ None
+    → (a ≡ true) × (s ≡ false) × (o ≡ None)
+parts false s b o e = let no : ⊥ = cc in absurd no
+parts true true b o e = let no : ⊥ = cc in absurd no
+parts true false true o e = let no : ⊥ = cc in absurd no
+parts true false false o e = (refl, refl, e)
+
+at-least : (m n : ℕ) → nat_lt m n ≡ false → n ≤ m
+at-least m n e = grind (arith, nat_tests)
 
 same-text : (a b : List ℕ) → bytes_eq a b ≡ true → a ≡ b
 same-text a b e = grind (arith, bytes_eq-Decides)
 
-pub page-parts : (text : List ℕ) → is_page text ≡ true → (take 4 text ≡ page_head) × (records_fault PageStart (drop 4 text) ≡ None)
-page-parts text e =
-    let both = parts (bytes_eq (take 4 text) page_head) (length text == 4) (records_fault PageStart (drop 4 text)) (none-of (page_fault text) e) in
-    (same-text (take 4 text) page_head both.0, both.1)
+pub record PageParts (version : Version) (text : List ℕ) : Type 0 where
+  pub name : take 4 text ≡ page_name version
+  pub long : front_size version ≤ length text
+  pub records : records_fault PageStart (drop (front_size version) text) ≡ None
 
-pub page-long : (text : List ℕ) → is_page text ≡ true → 4 ≤ length text
-page-long text e =
-    let front = ap length (page-parts text e).0 in
-    let few = length-take 4 text in
-    omega (arith, front, few)
+pub page-parts : (version : Version) (text : List ℕ) → page_fault version text ≡ None → PageParts version text
+page-parts version text e =
+    let all = parts (bytes_eq (take 4 text) (page_name version)) (nat_lt (length text) (front_size version)) (length text == front_size version)
+    (records_fault PageStart (drop (front_size version) text)) e in
+    record { name = same-text (take 4 text) (page_name version) all.0; long = at-least (length text) (front_size version) all.1; records = all.2 }
 
-pub page-spelled : (text : List ℕ) → AreBytes text → is_page text ≡ true → text ≡ page_head ++ flat_map record_bytes (page_records text)
+-- what stands before the records is the name and the number
+front-is : (text : List ℕ) → AreBytes text → 12 ≤ length text → take 4 text ≡ page_name Two → take 12 text ≡ page_front (page_number text)
+front-is text below long name =
+    let short : nat_lt (length text) 12 ≡ false = le-ltb (length text) 12 long in
+    let number : page_number text ≡ from_be_bytes w64 (take 8 (drop 4 text)) = ap (λ (b : Bool). if b then 0 else from_be_bytes w64 (take 8 (drop 4 text))) short in
+    take-add 4 8 text ∙ ap (λ (l : List ℕ). l ++ take 8 (drop 4 text)) name
+    ∙ ap (λ (l : List ℕ). page_name Two ++ l) (sym (ap (to_be_bytes w64) number ∙ eight 4 text below (omega (arith, long))))
+
+pub page-spelled : (text : List ℕ) → AreBytes text → is_page text ≡ true → text ≡ page_front (page_number text) ++ flat_map record_bytes (page_records Two text)
 page-spelled text below e =
-    let both = page-parts text e in
-    sym (take-append-drop 4 text) ∙ ap (λ (l : List ℕ). l ++ drop 4 text) both.0
-    ∙ ap (λ (l : List ℕ). page_head ++ l) (sym (spelled (length (drop 4 text)) PageStart (drop 4 text) (AreBytes-behind 4 text below) (omega arith) both.1))
+    let all = page-parts Two text (none-of (page_fault Two text) e) in
+    sym (take-append-drop 12 text) ∙ ap (λ (l : List ℕ). l ++ drop 12 text) (front-is text below all.long all.name)
+    ∙ ap (λ (l : List ℕ). page_front (page_number text) ++ l) (sym (spelled (length (drop 12 text)) PageStart (drop 12 text) (AreBytes-behind 12 text below) (omega arith) all.records))
 
-pub page-ordered : (text : List ℕ) → is_page text ≡ true → order_fault PageStart (page_records text) ≡ None
-page-ordered text e = ordered (length (drop 4 text)) PageStart (drop 4 text) (omega arith) (page-parts text e).1
+pub page-ordered : (version : Version) (text : List ℕ) → page_fault version text ≡ None → order_fault PageStart (page_records version text) ≡ None
+page-ordered version text e = ordered (length (drop (front_size version) text)) PageStart (drop (front_size version) text) (omega arith) (page-parts version text e).records
 
 -- ---- a page by its parts
 
@@ -156,10 +174,13 @@ written-front r source link at sound = ap front (sym (append-nil (record_bytes r
 pub written-alone : (r : Record) → r.source < 2 ^ 16 → r.link < 2 ^ 64 → r.at < 2 ^ 64 → is_sound r ≡ true → records_in (record_bytes r) ≡ r ∷ []
 written-alone r source link at sound = ap records_in (sym (append-nil (record_bytes r))) ∙ written-listed r [] source link at sound
 
-longer : (n : ℕ) → 5 ≤ n → (n == 4) ≡ false
-longer n some = grind (arith, nat_tests)
+longer : (n size : ℕ) → size + 1 ≤ n → (n == size) ≡ false
+longer n size some = grind (arith, nat_tests)
 
-pub page-made : (text : List ℕ) → take 4 text ≡ page_head → 5 ≤ length text → records_fault PageStart (drop 4 text) ≡ None → page_fault text ≡ None
-page-made text head some none =
-    let is : (length text == 4) ≡ false = longer (length text) some in
-    rw (head, is) none
+pub page-made : (version : Version) (text : List ℕ) → take 4 text ≡ page_name version → front_size version + 1 ≤ length text → records_fault PageStart (drop (front_size version) text) ≡ None
+    → page_fault version text ≡ None
+page-made version text name some none =
+    let named : bytes_eq (take 4 text) (page_name version) ≡ true = grind (arith, bytes_eq-Decides) in
+    let long : nat_lt (length text) (front_size version) ≡ false = le-ltb (length text) (front_size version) (omega (arith, some)) in
+    let is : (length text == front_size version) ≡ false = longer (length text) (front_size version) some in
+    rw (named, long, is) none

@@ -81,7 +81,7 @@ two at bs below long = be_bytes_2 (take 2 (drop at bs)) _ (length-take-le 2 (dro
 four : (at : ℕ) (bs : List ℕ) → AreBytes bs → at + 4 ≤ length bs → to_be_bytes w32 (from_be_bytes w32 (take 4 (drop at bs))) ≡ take 4 (drop at bs)
 four at bs below long = be_bytes_4 (take 4 (drop at bs)) _ (length-take-le 4 (drop at bs) (omega (arith, length-drop at bs))) (AreBytes-part 4 at bs below) refl
 
-eight : (at : ℕ) (bs : List ℕ) → AreBytes bs → at + 8 ≤ length bs → to_be_bytes w64 (from_be_bytes w64 (take 8 (drop at bs))) ≡ take 8 (drop at bs)
+pub eight : (at : ℕ) (bs : List ℕ) → AreBytes bs → at + 8 ≤ length bs → to_be_bytes w64 (from_be_bytes w64 (take 8 (drop at bs))) ≡ take 8 (drop at bs)
 eight at bs below long = be_bytes_8 (take 8 (drop at bs)) _ (length-take-le 8 (drop at bs) (omega (arith, length-drop at bs))) (AreBytes-part 8 at bs below) refl
 
 pieces : (r : Record) (rest : List ℕ) → record_bytes r ++ rest ≡ kind_number r.kind ∷ (to_be_bytes w16 r.source ++ (to_be_bytes w64 r.link ++ (to_be_bytes w64 r.at ++ (to_be_bytes w32 (length r.payload) ++ (r.payload ++ rest)))))

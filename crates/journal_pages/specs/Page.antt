@@ -1,8 +1,11 @@
--- A page: four bytes that say what it is, and records, in an order. A page may begin and end inside a batch. The
--- format is the gateway's own, version 1.
+-- A page: a name that says what it is, from version 2 on a number, and records, in an order. A page may begin and end
+-- inside a batch. The format is the gateway's own; there are two versions, and pages are written in the second.
 use Rattle.std.specs.Prelude.{ℕ, zero, suc, ◌==◌, Bool, true, not, ◌&&◌, ◌||◌, nat_lt, nat_le, List}
 use Rattle.std.specs.Prelude.{[], ◌∷◌, length, drop, take, bytes_eq, Option, Some, None, is_none, if◌then◌else◌}
-use Rattle.std.specs.Prelude.{codes}
+use Rattle.std.specs.Prelude.{◌++◌, codes}
+use Rattle.std.specs.Int.{w64, to_be_bytes, from_be_bytes}
+use Rattle.journal_pages.specs.declared.version.Version.{Version}
+use Rattle.journal_pages.specs.declared.version.Version.TheVariants.{One, Two}
 use Rattle.journal_pages.specs.declared.kind.RecordKind.{RecordKind}
 use Rattle.journal_pages.specs.declared.kind.RecordKind.TheVariants.{Report, ClientWrite, ClientClose, PortWrite}
 use Rattle.journal_pages.specs.declared.kind.RecordKind.TheVariants.{PortClose, Fault, BatchEnd}
@@ -111,19 +114,41 @@ fault_by_looks (suc looks) place (b ∷ bytes) =
 abbrev pub records_fault : Place → List ℕ → Option PageFault
 records_fault place bytes = fault_by_looks (length bytes) place bytes
 
-abbrev pub page_head : List ℕ
-page_head = codes "GJ01"
+-- what a page of a version begins with
+abbrev pub page_name : Version → List ℕ
+page_name One = codes "GJ01"
+page_name Two = codes "GJ02"
 
--- why a text is no page, if it isn't one; a page has a record
-abbrev pub page_fault : List ℕ → Option PageFault
-page_fault text =
-    if not (bytes_eq (take 4 text) page_head) then Some faults.Head
-    else if length text == 4 then Some faults.CutShort
-    else records_fault PageStart (drop 4 text)
+-- how many bytes stand before its first record: the name, and of version 2 a number of eight bytes
+abbrev pub front_size : Version → ℕ
+front_size One = 4
+front_size Two = 12
 
+-- the version of a page by what it begins with
+abbrev pub version_named : List ℕ → Version
+version_named page = if bytes_eq (take 4 page) (page_name One) then One else Two
+
+-- the number that a page of version 2 has: how many records of the history stand before it; 0 of a shorter text
+abbrev pub page_number : List ℕ → ℕ
+page_number text = if nat_lt (length text) (front_size Two) then 0 else from_be_bytes w64 (take 8 (drop 4 text))
+
+-- what stands before the records of a page of version 2 with this number
+abbrev pub page_front : ℕ → List ℕ
+page_front number = page_name Two ++ to_be_bytes w64 number
+
+-- Why a text is no page of a version, if it isn't one. A page has a record. Its number is compared where pages stand one
+-- behind another, and not here.
+abbrev pub page_fault : Version → List ℕ → Option PageFault
+page_fault version text =
+    if not (bytes_eq (take 4 text) (page_name version)) then Some faults.Head
+    else if nat_lt (length text) (front_size version) then Some faults.Head
+    else if length text == front_size version then Some faults.CutShort
+    else records_fault PageStart (drop (front_size version) text)
+
+-- a text is a page of version 2
 abbrev pub is_page : List ℕ → Bool
-is_page text = is_none (page_fault text)
+is_page text = is_none (page_fault Two text)
 
--- the records of a page
-abbrev pub page_records : List ℕ → List Record
-page_records text = records_in (drop 4 text)
+-- the records of a page of a version
+abbrev pub page_records : Version → List ℕ → List Record
+page_records version text = records_in (drop (front_size version) text)

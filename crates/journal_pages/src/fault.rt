@@ -10,7 +10,7 @@ use thiserror::Error;
 /// and `Order`, in this order; the first that is found is given.
 #[derive(Clone, Copy, Debug, PartialEq, Eq, Drop, Error)]
 pub enum PageFault {
-    /// 1: it doesn't begin with `GJ01`.
+    /// 1: it doesn't begin with its version's name, or is shorter than what stands before a page's records.
     #[error("head")]
     Head,
     /// 2: a record's kind isn't 1 to 15.
@@ -25,6 +25,9 @@ pub enum PageFault {
     /// 5: a record stands where its kind can't.
     #[error("order of kinds")]
     Order,
+    /// 6: its number isn't that of the records before it. No text alone is refused so, but a page behind others.
+    #[error("number")]
+    Number,
     /// Memory ran out. The text may be read again.
     #[error("out of memory")]
     NoMemory,

@@ -2,22 +2,22 @@
 
 ghost use Rattle.std.specs.Prelude.{◌≡◌, ◌++◌, ◌⊎◌, Some, None, MatchResult, true, length, drop};
 ghost use Rattle.std.specs.List.{flat_map};
-ghost use Rattle.journal_pages.specs.Page.{is_page, page_fault, page_head, page_records};
+ghost use Rattle.journal_pages.specs.Page as format;
+ghost use Rattle.journal_pages.specs.Page.{is_page, page_fault, page_front, page_records};
 ghost use Rattle.journal_pages.specs.Record.{record_bytes};
 ghost use Rattle.journal_pages.specs.declared.fault.PageFault.TheVariants.{NoMemory};
+ghost use Rattle.journal_pages.specs.declared.version.Version.TheVariants.{Two};
 
 use crate::bytes::PageBytes;
 use crate::fault::PageFault;
 use crate::place::Place;
-use crate::reading::{HEAD, front};
+use crate::reading::{HEAD, front, long_number_at};
 use crate::records::Records;
+use crate::version::Version;
 use std::alloc::{AllocError, Global};
 use wire_law::WholeWire;
 
-/// What a page begins with: the journal's name and version.
-const PAGE_HEAD: &[u8; 4] = b"GJ01";
-
-/// Bytes that are a page: records in their order, each with what its kind has.
+/// Bytes that are a page of version 2: its name, a number, and records in their order, each with what its kind has.
 #[derive(Drop)]
 pub struct Page {
     pub bytes: PageBytes,
@@ -29,29 +29,31 @@ impl Page {
     ghost use Rattle.journal_pages.specs.Seen.{records_ahead};
     ghost use Rattle.journal_pages.specs.declared.place.Place.TheVariants.{PageStart};
 
-    /// The page that a text is. Records are judged one after another, each for `CutShort`, `Kind`, `Payload` and
-    /// `Order`, in this order; the first that is found is given. `NoMemory` says nothing of the text: one growth.
+    /// The page of version 2 that a text is, whatever its number. Records are judged one after another, each for
+    /// `CutShort`, `Kind`, `Payload` and `Order`, in this order; the first that is found is given. `NoMemory` says
+    /// nothing of the text: one growth.
     pub fn read(alloc: Global, text: &[u8]) -> Result<Page, PageFault>
         ensures { MatchResult result (λ page. page.bytes ≡ text.now)
-            (λ fault. (fault ≡ NoMemory) ⊎ (page_fault text.now ≡ Some fault)) }
+            (λ fault. (fault ≡ NoMemory) ⊎ (page_fault Two text.now ≡ Some fault)) }
     {
-        judge(text)?;
+        judge(Version::Two, text)?;
         Ok(Page {
             bytes: PageBytes::of(alloc, text)?,
         })
     }
 
-    /// Its records, one by one, lent where they lie: all of them, so that written one behind another they are the page,
-    /// and in its order. Takes no memory.
+    /// Its records, one by one, lent where they lie: all of them, so that written one behind another, behind the name
+    /// and the number, they are the page, and in its order. Takes no memory.
     pub fn records(&self) -> Records<'_>
-        ensures records { records_ahead result ≡ page_records self.now.bytes }
-        ensures whole { self.now.bytes ≡ page_head ++ flat_map record_bytes (records_ahead result) }
+        ensures records { records_ahead result ≡ page_records Two self.now.bytes }
+        ensures whole { self.now.bytes
+            ≡ page_front (format.page_number self.now.bytes) ++ flat_map record_bytes (records_ahead result) }
         ensures ordered { order_fault PageStart (records_ahead result) ≡ None }
         ensures sound { AreSound (records_ahead result) }
     {
         let text = self.bytes.as_slice();
         is_spelled(text);
-        let (_, records) = text.split_at(PAGE_HEAD.len());
+        let (_, records) = text.split_at(Version::Two.front_size());
         Records::of(records)
     }
 }
@@ -80,25 +82,37 @@ impl WholeWire for Page {
     }
 }
 
-/// A page is its head and its records, written one behind another. It does nothing: its contract says it.
+/// A page is its name, its number and its records, written one behind another. It does nothing: its contract says it.
 fn is_spelled(text: &[u8])
     requires { is_page text.now ≡ true }
-    ensures { text.now ≡ page_head ++ flat_map record_bytes (page_records text.now) }
+    ensures { text.now ≡ page_front (format.page_number text.now) ++ flat_map record_bytes (page_records Two text.now) }
 {}
 
-/// Nothing, where a text is a page; else the first thing that is wrong with it. Takes no memory.
-pub fn judge(text: &[u8]) -> Result<(), PageFault>
-    ensures { MatchResult result (λ nothing. page_fault text.now ≡ None)
-        (λ fault. page_fault text.now ≡ Some fault) }
+/// The number of a page of version 2: how many records of the history stand before it. Of a text that is shorter than
+/// what stands before a page's records it is 0. Takes no memory.
+pub fn page_number(text: &[u8]) -> u64
+    ensures { result ≡ format.page_number text.now }
 {
-    if !text.starts_with(PAGE_HEAD) {
+    if text.len() < 12 {
+        return 0;
+    }
+    long_number_at(text, 4)
+}
+
+/// Nothing, where a text is a page of a version; else the first thing that is wrong with it. Takes no memory.
+pub fn judge(version: Version, text: &[u8]) -> Result<(), PageFault>
+    ensures { MatchResult result (λ nothing. page_fault version text.now ≡ None)
+        (λ fault. page_fault version text.now ≡ Some fault) }
+{
+    let start = version.front_size();
+    if !version.is_of(text) || text.len() < start {
         return Err(PageFault::Head);
     }
-    if text.len() == PAGE_HEAD.len() {
+    if text.len() == start {
         return Err(PageFault::CutShort);
     }
     let mut place = Place::PageStart;
-    let mut at = PAGE_HEAD.len();
+    let mut at = start;
     while at < text.len() {
         let (_, rest) = text.split_at(at);
         let next = front(rest)?;

@@ -88,7 +88,7 @@ fn read_as<'a>(kind: RecordKind, bytes: &'a [u8], size: usize) -> (RecordHead, &
 }
 
 /// The number of the eight bytes from `at` on.
-fn long_number_at(bytes: &[u8], at: usize) -> u64
+pub fn long_number_at(bytes: &[u8], at: usize) -> u64
     requires { at + 8 ≤ length bytes.now }
     ensures { result ≡ from_be_bytes w64 (take 8 (drop at bytes.now)) }
 {

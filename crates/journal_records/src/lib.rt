@@ -1,7 +1,7 @@
 //! The journal's records: an event, and the batch that it gave, written as records behind the pages of a day and read
 //! from them.
 //!
-//! The format is the gateway's own, version 1.
+//! The format is the gateway's own.
 #![tactic(auto)]
 
 mod batches;
@@ -16,7 +16,7 @@ mod turns;
 
 pub use days::{batches_of, events_of};
 pub use events::append_event;
-pub use journal_days::{DayPages, DayRecords, judge_day};
+pub use journal_days::{DayPages, DayRecords, Version, judge_day};
 pub use laws::{
     read_batches_are_written, read_events_are_written, turns_are_read, turns_are_whole,
     written_batches_are_read, written_events_are_read,

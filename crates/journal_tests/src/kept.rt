@@ -35,7 +35,7 @@ fn told(alloc: Global) -> Result<Batch, Fail> {
 }
 
 /// The records of such a batch behind a tick of port 2 at moment 1,000, by the format.
-const TOLD: &[u8; 146] = b"GJ01\
+const TOLD: &[u8; 154] = b"GJ02\0\0\0\0\0\0\0\0\
     \x08\0\x02\0\0\0\0\0\0\0\0\0\0\0\0\0\0\x03\xe8\0\0\0\0\
     \x0a\0\x03\0\0\0\0\0\0\x01\x02\0\0\0\0\0\0\x03\xe8\0\0\0\x02ab\
     \x0b\0\x03\0\0\0\0\0\0\x01\x02\0\0\0\0\0\0\x03\xe8\0\0\0\0\

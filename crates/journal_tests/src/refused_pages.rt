@@ -41,7 +41,7 @@ fn fault_of(
     second: &[u8],
     third: &[u8],
 ) -> Result<Option<PageFault>, Fail> {
-    let mut text = Vec::from_slice(alloc, b"GJ01")?;
+    let mut text = Vec::from_slice(alloc, b"GJ02\0\0\0\0\0\0\0\0")?;
     text.extend_from_slice(first)?;
     text.extend_from_slice(second)?;
     text.extend_from_slice(third)?;

@@ -7,12 +7,18 @@ use std::process::Abort;
 use std::test::Fail;
 
 /// Client 1's link 1 is up at moment 0, and its batch is empty.
-const ONE_UP: &[u8; 50] = b"GJ01\
+const ONE_UP: &[u8; 58] = b"GJ02\0\0\0\0\0\0\0\0\
     \x01\0\x01\0\0\0\0\0\0\0\x01\0\0\0\0\0\0\0\0\0\0\0\0\
     \x0f\0\0\0\0\0\0\0\0\0\0\0\0\0\0\0\0\0\0\0\0\0\0";
 
-/// The last batch of 1,425 ends at moment 1,424, which is 0x590.
-const LAST_END: &[u8; 27] = b"GJ01\
+/// The same in version 1.
+const ONE_UP_BEFORE: &[u8; 50] = b"GJ01\
+    \x01\0\x01\0\0\0\0\0\0\0\x01\0\0\0\0\0\0\0\0\0\0\0\0\
+    \x0f\0\0\0\0\0\0\0\0\0\0\0\0\0\0\0\0\0\0\0\0\0\0";
+
+/// The last event of 1,425 and its batch are at moment 1,424, which is 0x590; 2,848 records, 0xb20, stand before them.
+const LAST_TICK: &[u8; 58] = b"GJ02\0\0\0\0\0\0\x0b\x20\
+    \x07\0\x01\0\0\0\0\0\0\0\0\0\0\0\0\0\0\x05\x90\0\0\0\0\
     \x0f\0\0\0\0\0\0\0\0\0\0\0\0\0\0\0\0\x05\x90\0\0\0\0";
 
 /// What reading this one page comes to; `None` for a history.
@@ -24,9 +30,9 @@ fn fault_of_page(alloc: Global, page: &[u8]) -> Result<Option<(u32, PageFault)>,
 /// What has to be wrong with the first bytes of `ONE_UP` as a day: behind the first record the batch isn't ended.
 fn fault_of_front(size: usize) -> Option<(u32, PageFault)> {
     match size {
-        0..=3 => Some((0, PageFault::Head)),
-        27 => Some((0, PageFault::Order)),
-        50 => None,
+        0..=11 => Some((0, PageFault::Head)),
+        35 => Some((0, PageFault::Order)),
+        58 => None,
         _ => Some((0, PageFault::CutShort)),
     }
 }
@@ -43,9 +49,9 @@ fn one_up(alloc: Global) -> Result<History, Fail> {
     Ok(history)
 }
 
-/// An event with an empty batch is fifty bytes.
+/// An event with an empty batch is 58 bytes.
 #[test]
-fn one_event_is_fifty_bytes(rt: HostRuntime) -> Result<(), Fail> {
+fn one_event_is_58_bytes(rt: HostRuntime) -> Result<(), Fail> {
     let history = one_up(rt.alloc())?;
     assert_eq!(rt; history.pages().len(), 1);
     assert_eq!(rt; first_page(&history)?, ONE_UP.as_slice());
@@ -54,7 +60,7 @@ fn one_event_is_fifty_bytes(rt: HostRuntime) -> Result<(), Fail> {
 
 /// They are read as this event and no other.
 #[test]
-fn fifty_bytes_are_one_event(rt: HostRuntime) -> Result<(), Fail> {
+fn these_bytes_are_one_event(rt: HostRuntime) -> Result<(), Fail> {
     let alloc = rt.alloc();
     let again = read_again(alloc)?;
     let events = again.events(alloc)?;
@@ -73,17 +79,20 @@ fn read_again(alloc: Global) -> Result<History, Fail> {
     history_of(alloc, history.pages())
 }
 
-/// Its last byte is cut off; its first byte is another; its last record is of kind 16.
+/// Its last byte is cut off; its first byte is another; its last record is of kind 16; its number is 1.
 #[test]
 fn one_event_changed(rt: HostRuntime) -> Result<(), Fail> {
     let alloc = rt.alloc();
-    assert!(rt; fault_of_page(alloc, &ONE_UP[..49])? == Some((0, PageFault::CutShort)));
+    assert!(rt; fault_of_page(alloc, &ONE_UP[..57])? == Some((0, PageFault::CutShort)));
     let mut page = *ONE_UP;
     page[0] = 0x48;
     assert!(rt; fault_of_page(alloc, &page)? == Some((0, PageFault::Head)));
     let mut page = *ONE_UP;
-    page[27] = 0x10;
+    page[35] = 0x10;
     assert!(rt; fault_of_page(alloc, &page)? == Some((0, PageFault::Kind)));
+    let mut page = *ONE_UP;
+    page[11] = 1;
+    assert!(rt; fault_of_page(alloc, &page)? == Some((0, PageFault::Number)));
     Ok(())
 }
 
@@ -110,15 +119,15 @@ fn a_day_of_ticks(alloc: Global) -> Result<History, Fail> {
     Ok(history)
 }
 
-/// The last end begins a page.
+/// The last tick begins a page.
 #[test]
 fn a_day_of_ticks_is_two_pages(rt: HostRuntime) -> Result<(), Fail> {
     let history = a_day_of_ticks(rt.alloc())?;
     let pages = history.pages();
     assert_eq!(rt; pages.len(), 2);
-    assert_eq!(rt; first_page(&history)?.len(), 65_531);
+    assert_eq!(rt; first_page(&history)?.len(), 65_516);
     let last = pages.last().ok_or("a page")?;
-    assert_eq!(rt; last.as_slice(), LAST_END.as_slice());
+    assert_eq!(rt; last.as_slice(), LAST_TICK.as_slice());
     Ok(())
 }
 
@@ -128,5 +137,16 @@ fn a_day_of_ticks_is_read(rt: HostRuntime) -> Result<(), Fail> {
     let alloc = rt.alloc();
     let events = a_day_of_ticks(alloc)?.events(alloc)?;
     assert_eq!(rt; events.len(), 1_425);
+    Ok(())
+}
+
+/// The page of version 1 is read as the same event, and kept as the page of version 2.
+#[test]
+fn a_page_of_version_1_is_rewritten(rt: HostRuntime) -> Result<(), Fail> {
+    let alloc = rt.alloc();
+    let pages = vec![in alloc; Vec::from_slice(alloc, ONE_UP_BEFORE)?]?;
+    let history = history_of(alloc, pages.as_slice())?;
+    assert_eq!(rt; history.pages().len(), 1);
+    assert_eq!(rt; first_page(&history)?, ONE_UP.as_slice());
     Ok(())
 }

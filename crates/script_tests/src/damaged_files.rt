@@ -6,8 +6,18 @@ use std::alloc::Global;
 use std::process::Abort;
 use std::test::Fail;
 
-/// Client 1's link 1 is up at moment 0, and its batch is empty: a page of 50 bytes behind its length, and an end.
-const ONE_UP: &[u8; 66] = b"\0\0\0\0\0\0\0\x32GJ01\
+/// Client 1's link 1 is up at moment 0, and its batch is empty: a page of 58 bytes behind its length and its sum, and an
+/// end. The sums were computed from the form by hand.
+const ONE_UP: &[u8; 90] = b"\0\0\0\0\0\0\0\x3a\
+    \x8c\x9c\x4e\xdc\x21\x0d\x97\xc5\
+    GJ02\0\0\0\0\0\0\0\0\
+    \x01\0\x01\0\0\0\0\0\0\0\x01\0\0\0\0\0\0\0\0\0\0\0\0\
+    \x0f\0\0\0\0\0\0\0\0\0\0\0\0\0\0\0\0\0\0\0\0\0\0\
+    \0\0\0\0\0\0\0\0\
+    \xcb\xf2\x9c\xe4\x84\x22\x23\x25";
+
+/// The same in the first form: a page of version 1 behind its length alone, and an end.
+const ONE_UP_BEFORE: &[u8; 66] = b"\0\0\0\0\0\0\0\x32GJ01\
     \x01\0\x01\0\0\0\0\0\0\0\x01\0\0\0\0\0\0\0\0\0\0\0\0\
     \x0f\0\0\0\0\0\0\0\0\0\0\0\0\0\0\0\0\0\0\0\0\0\0\
     \0\0\0\0\0\0\0\0";
@@ -26,15 +36,20 @@ fn refusal_of(alloc: Global, file: &[u8]) -> Result<Vec<u8>, Fail> {
 }
 
 /// A file without an order is audited.
-#[test]
-fn a_file_without_orders(rt: HostRuntime) -> Result<(), Fail> {
-    let alloc = rt.alloc();
+fn has_no_orders(alloc: Global, file: &[u8]) -> Result<bool, Fail> {
     let settings = fixed_settings(alloc)?;
     let mut output = Vec::new(alloc);
     let mut faults = Vec::new(alloc);
-    let status = audit_file(alloc, ONE_UP, &settings, &mut output, &mut faults);
-    assert!(rt; status == 0);
-    assert!(rt; output.as_slice() == b"orders 0 agree 0\n".as_slice());
+    let status = audit_file(alloc, file, &settings, &mut output, &mut faults);
+    Ok(status == 0 && output.as_slice() == b"orders 0 agree 0\n".as_slice())
+}
+
+/// Of either form.
+#[test]
+fn a_file_without_orders(rt: HostRuntime) -> Result<(), Fail> {
+    let alloc = rt.alloc();
+    assert!(rt; has_no_orders(alloc, ONE_UP)?);
+    assert!(rt; has_no_orders(alloc, ONE_UP_BEFORE)?);
     Ok(())
 }
 
@@ -42,7 +57,7 @@ fn a_file_without_orders(rt: HostRuntime) -> Result<(), Fail> {
 #[test]
 fn each_front_of_a_file(rt: HostRuntime) -> Result<(), Fail> {
     for size in 0..ONE_UP.len() {
-        let told = if size < 58 {
+        let told = if size < 74 {
             b"page 0: cut short\n"
         } else {
             b"page 1: cut short\n"
@@ -53,7 +68,7 @@ fn each_front_of_a_file(rt: HostRuntime) -> Result<(), Fail> {
     Ok(())
 }
 
-/// A byte behind the end; a byte of the page that is another.
+/// A byte behind the end; a byte of the page that is another, which its sum tells; in the first form its faults.
 #[test]
 fn a_file_that_is_changed(rt: HostRuntime) -> Result<(), Fail> {
     let alloc = rt.alloc();
@@ -61,11 +76,22 @@ fn a_file_that_is_changed(rt: HostRuntime) -> Result<(), Fail> {
     longer.push(0)?;
     refuses(&rt, alloc, longer.as_slice(), b"page 1: head\n")?;
     let mut file = *ONE_UP;
-    file[8] = 0x48;
-    refuses(&rt, alloc, &file, b"page 0: head\n")?;
-    let mut file = *ONE_UP;
+    file[51] = 0x10;
+    refuses(&rt, alloc, &file, b"page 0: sum\n")?;
+    let mut file = *ONE_UP_BEFORE;
     file[35] = 0x10;
     refuses(&rt, alloc, &file, b"page 0: kind\n")
+}
+
+/// Each byte of a file changed: its page's by the sum, and the end's.
+#[test]
+fn each_byte_of_a_file(rt: HostRuntime) -> Result<(), Fail> {
+    for at in 0..ONE_UP.len() {
+        let mut file = *ONE_UP;
+        file[at] ^= 1;
+        assert!(rt; !has_no_orders(rt.alloc(), &file)?, "byte {at}");
+    }
+    Ok(())
 }
 
 /// A file is refused, and this is told.

@@ -5,7 +5,7 @@ use Rattle.journal_pages.proofs.page.judge.Given as goal
 abbrev pub invariant-loop-at : goal.invariant-loop-at
 invariant-loop-at l = record {
   within : l.at ≤ length l.text;
-  rest : page_fault l.text ≡ records_fault l.place (drop l.at l.text);
+  rest : page_fault l.fn.version l.text ≡ records_fault l.place (drop l.at l.text);
 }
 
 -- proposed from the loop's first test

@@ -3,6 +3,7 @@ use Rattle.gate_law.specs.Events.{Batch}
 use Rattle.gate_events.specs.declared.event.Event.{Event}
 use Rattle.gate_events.specs.Seen.{batch_seen}
 use Rattle.journal_records.specs.journal_days.Cut.{with_records}
+use Rattle.journal_pages.specs.declared.version.Version.TheVariants.{Two}
 use Rattle.journal_records.specs.journal_days.Day.{day_fault, day_records}
 use Rattle.journal_records.specs.Days.{batches_in, events_in}
 use Rattle.journal_records.specs.Parts.{turn_records}
@@ -11,11 +12,11 @@ use Rattle.gate_journal.proofs.Growing.{batches-pushed, day-pushed, events-pushe
 use Rattle.gate_journal.proofs.history.History.push.Goals as goal
 
 pub invariant_of-self : goal.invariant_of-self
-invariant_of-self c = ap day_fault c.in_err-append_turn.ensures.err ∙ c.self.invariant
+invariant_of-self c = ap (day_fault Two) c.in_err-append_turn.ensures.err ∙ c.self.invariant
 
 pub invariant_of-self-2 : goal.invariant_of-self-2
 invariant_of-self-2 c =
-    ap day_fault c.in_ok-append_turn.ensures.ok
+    ap (day_fault Two) c.in_ok-append_turn.ensures.ok
     ∙ day-pushed c.self.inside.pages c.args.event.now (batch_seen c.args.batch.now) c.self.invariant c.in_ok-append_turn.ensures.turn
 
 pub returns-in_err-append_turn-clause-err : goal.returns-in_err-append_turn-clause-err
@@ -24,14 +25,14 @@ returns-in_err-append_turn-clause-err c = on-err c.from_residual.result (ap kept
 pub returns-clause-events : goal.returns-clause-events
 returns-clause-events c =
     let e : Event = c.args.event.now in
-    ap (λ (p : List (List ℕ)). events_in (day_records p)) c.in_ok-append_turn.ensures.ok
+    ap (λ (p : List (List ℕ)). events_in (day_records Two p)) c.in_ok-append_turn.ensures.ok
     ∙ events-pushed c.self.inside.pages e (batch_seen c.args.batch.now) c.self.invariant c.in_ok-append_turn.ensures.turn
     ∙ ap (λ (k : Kept). k.events ++ e ∷ []) c.self.view_is
 
 pub returns-clause-batches : goal.returns-clause-batches
 returns-clause-batches c =
     let b : Batch = batch_seen c.args.batch.now in
-    ap (λ (p : List (List ℕ)). batches_in (day_records p)) c.in_ok-append_turn.ensures.ok
+    ap (λ (p : List (List ℕ)). batches_in (day_records Two p)) c.in_ok-append_turn.ensures.ok
     ∙ batches-pushed c.self.inside.pages c.args.event.now b c.self.invariant c.in_ok-append_turn.ensures.turn
     ∙ ap (λ (k : Kept). k.batches ++ b ∷ []) c.self.view_is
 
