@@ -230,7 +230,11 @@ fn gave_one_list<'a, R: time::Clock + Abort>(rt: &R, pen: TestPen<'a, R>) -> Res
 }
 
 /// So many events were put of a line.
-fn kept<'p, 'a, P, R: Abort + time::Clock>(rt: &'a R, line: &TestLine<'p, 'a, P, R>, events: usize) {
+fn kept<'p, 'a, P, R: Abort + time::Clock>(
+    rt: &'a R,
+    line: &TestLine<'p, 'a, P, R>,
+    events: usize,
+) {
     assert!(rt; line.reader.gate.kept.events.len() == events);
 }
 
