@@ -27,6 +27,10 @@ pub Each-map : {A : Type 0} (P Q : A → Type 0) (xs : List A) → ((x : A) → 
 Each-map P Q [] f each = tt
 Each-map P Q (x ∷ xs) f each = (f x each.0, Each-map P Q xs f each.1)
 
+pub Each-append : {A : Type 0} (P : A → Type 0) (xs ys : List A) → Each P xs → Each P ys → Each P (xs ++ ys)
+Each-append P [] ys first rest = rest
+Each-append P (x ∷ xs) ys first rest = (first.0, Each-append P xs ys first.1 rest)
+
 pub Each-filter : {A : Type 0} (P : A → Type 0) (p : A → Bool) (xs : List A) → Each P xs → Each P (filter p xs)
 Each-filter P p [] each = tt
 Each-filter P p (x ∷ xs) each = by_test (p x) (Each-filter P p xs each.1)
