@@ -52,7 +52,7 @@ cancelling : (o : OrderRecord) (rs : List Entry) (c : Entry) → AreReplaces rs 
 cancelling o [] c are is = rw is refl
 cancelling o (q ∷ rs) c are is = rw are.0 (cancelling o rs c are.1 is)
 
-cancel-id : (o : OrderRecord) (rs : List Entry) (c : Entry) → AreReplaces rs → is_replace c.message ≡ false → is_id_of (cancels (chained_with o (rs ++ c ∷ []))) (text 11 c.message) ≡ true
+pub cancel-id : (o : OrderRecord) (rs : List Entry) (c : Entry) → AreReplaces rs → is_replace c.message ≡ false → is_id_of (cancels (chained_with o (rs ++ c ∷ []))) (text 11 c.message) ≡ true
 cancel-id o [] c are is = let own = eq-same (text 11 c.message) in rw (is, own) refl
 cancel-id o (q ∷ rs) c are is = rw are.0 (cancel-id o rs c are.1 is)
 

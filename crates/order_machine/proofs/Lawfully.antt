@@ -172,13 +172,14 @@ module _ (terms : List Terms) (before : OrderHistory) (port : ℕ) (m : Outbound
   abbrev Leads : List ℕ → Type 0
   Leads x = order_of_token terms port A x ≡ Some o.new
 
+  -- what holds of a pending replace
+  abbrev IsKnown : Entry → Type 0
+  IsKnown q = IsHome terms A o.new (token_of q) × IsFound A o.new q × IsUsed (issued o.new.client before) (Rattle.fix_fields.specs.Field.text 11 q.message)
+
   -- each of its tokens leads to that order
   on-all : Each Leads (tokens_in m)
   on-all = by_message m has row
     where
-      abbrev HasHome : Entry → Type 0
-      HasHome q = IsHome terms A o.new (token_of q) × IsFound A o.new q × IsUsed (issued o.new.client before) (Rattle.fix_fields.specs.Field.text 11 q.message)
-
       one : (x : List ℕ) → x ≡ token → Leads x
       one x same = subst Leads (sym same) on'
 
@@ -186,7 +187,7 @@ module _ (terms : List Terms) (before : OrderHistory) (port : ℕ) (m : Outbound
       by_message (market.Replaced k) has may =
           let parts = and-parts (works_as (record_life o) k.previous_token) (is_first k.token (replacements o.replaces) && same_terms k.side k.stock o.new) may in
           let asked = oldest-is o.replaces k.token (and-parts (is_first k.token (replacements o.replaces)) (same_terms k.side k.stock o.new) parts.1).0 in
-          let homes = subst (Each HasHome) asked.2 f.holds.replaces in
+          let homes = subst (Each IsKnown) asked.2 f.holds.replaces in
           let home = homes.0.0 in
           (ap (order_of_token terms port A) asked.3 ∙ subst (λ (p : ℕ). order_of_token terms p A (token_of asked.0) ≡ Some o.new) own_port home.mine, (one k.previous_token (cc), tt))
       by_message (market.Accepted k) has may = (one k.token (cc), tt)

@@ -50,6 +50,9 @@ AreNamed old_id qs = Each (λ (q : Entry). text 41 q.message ≡ old_id (text 11
 pub leads-at : (new : Entry) (old_id : List ℕ → List ℕ) (sent bodies : List Message) (o : OrderRecord) (rs : List Entry) (c : Option Cancelling) (qs : List Entry) → Leads new old_id sent bodies o qs → Leads new old_id sent bodies (at o rs c) qs
 leads-at new old_id sent bodies o rs c qs l = record { reads = record { read_so = l.reads.read_so; chained_so = l.reads.chained_so; refused_so = l.reads.refused_so }; well = l.well }
 
+pub tells-at : (o : OrderRecord) (rs : List Entry) (c : Option Cancelling) (qs : List Entry) (old_id : List ℕ → List ℕ) (sent : List Message) (r : Message) → Tells old_id sent r o qs → Tells old_id sent r (at o rs c) qs
+tells-at o rs c qs old_id sent r t = record { reads = record { read_so = t.reads.read_so; chained_so = t.reads.chained_so; refused_so = t.reads.refused_so }; says = t.says }
+
 pub same_some : {A : Type 0} (a b : A) → ◌≡◌ {A = Option A} (Some a) (Some b) → a ≡ b
 same_some a b e = cc
 
