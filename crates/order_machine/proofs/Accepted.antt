@@ -1,7 +1,6 @@
 -- Accepted: the order is in the book, or dead at once.
 use Rattle.std.proofs.Common.{◌≡◌, ◌≢◌, ℕ, ◌+◌, ◌<◌, ◌≤◌, ◌^◌, Bool, true, false, List, [], ◌∷◌, ◌++◌, map, refl, sym}
 use Rattle.std.proofs.Common.{ap, ◌∙◌, subst, arith, codes, bytes_eq, Option, Some, None}
-use Rattle.std.specs.Prelude.{if◌then◌else◌}
 use Rattle.order_law.specs.ouch_codec.declared.outbound.Outbound.{Outbound}
 use Rattle.order_law.specs.ouch_codec.declared.outbound.Outbound.TheVariants as market
 use Rattle.order_law.specs.ouch_codec.declared.outbound.accepted.Accepted.{Accepted}

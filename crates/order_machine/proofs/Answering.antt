@@ -1,40 +1,37 @@
 -- A payload of the market keeps the table as the lists have it.
-use Rattle.std.proofs.Common.{◌≡◌, ◌≢◌, ℕ, ◌+◌, ◌*◌, ◌<◌, ◌≤◌, ◌^◌, Bool, true, false, List, [], ◌∷◌, ◌++◌, length}
+use Rattle.std.proofs.Common.{◌≡◌, ℕ, ◌+◌, ◌<◌, ◌≤◌, ◌^◌, Bool, true, false, List, [], ◌∷◌, ◌++◌, length}
 use Rattle.std.proofs.Common.{map, reverse, refl, sym, ap, ◌∙◌, subst, arith, bytes_eq, Option, Some, None, Result, Ok}
 use Rattle.std.proofs.Common.{Err, eqb-true, eq-eqb}
-use Rattle.std.specs.Prelude.{◌&&◌, ◌||◌, ◌==◌, not, if◌then◌else◌, is_some, option_and_then, option_map}
-use Rattle.std.specs.Prelude.{option_to_list}
-use Rattle.std.specs.List.{count_by, find}
+use Rattle.std.specs.Prelude.{◌==◌, if◌then◌else◌, option_and_then, option_map}
+use Rattle.std.specs.List.{count_by}
 use Rattle.order_law.specs.ouch_codec.declared.outbound.Outbound.{Outbound}
 use Rattle.order_law.specs.ouch_codec.declared.refusal.DecodeRefusal.{DecodeRefusal}
 use Rattle.fix_fields.specs.Field.{Message, text}
 use Rattle.order_law.specs.Reading.{is_report}
 use Rattle.order_law.specs.Chain.{is_used}
-use Rattle.order_law.specs.History.{Entry, Heard, OrderHistory, Terms, OrderTurn, accepted, handled, issued, new_of}
-use Rattle.order_law.specs.History.{orders_numbered, outstanding}
+use Rattle.order_law.specs.History.{Entry, Heard, OrderHistory, Terms, OrderTurn, accepted, issued, new_of}
 use Rattle.order_law.specs.Lawful.{judgement, order_of_token, order_token}
 use Rattle.order_law.specs.Told as law
 use Rattle.order_law.specs.Told.{Shown, Told, nobody, reports_in, told_of_entry, told_by}
 use Rattle.order_law.specs.Headline.{Each}
 use Rattle.order_machine.specs.OrderRecord.{Cancelling, OrderRecord, after_message, asked_as, cancel_entry, fill_of}
-use Rattle.order_machine.specs.OrderRecord.{last_of, record_life, pending, replacements, shown_as}
+use Rattle.order_machine.specs.OrderRecord.{last_of, record_life, replacements, shown_as}
 use Rattle.order_machine.specs.Told.{IsTold}
-use Rattle.order_machine.specs.Table.{GivenToken, TableState, by_number, record_by_token, has_number, has_used}
-use Rattle.order_machine.specs.Table.{is_token, put}
+use Rattle.order_machine.specs.Table.{TableState, record_by_token, has_used}
+use Rattle.order_machine.specs.Table.{put}
 use Rattle.order_machine.specs.Machine.{GivenByEvent, bodies_of, payload_fault, faulty, heard_on, market_step}
 use Rattle.order_machine.specs.Machine.{order_in, silent}
-use Rattle.order_machine.proofs.Texts.{eq-is}
-use Rattle.order_machine.proofs.Lists.{Each-append, Each-map, found-passes}
+use Rattle.order_machine.proofs.Lists.{Each-append, Each-map}
 use Rattle.order_machine.proofs.Asked.{last-is}
-use Rattle.order_machine.proofs.Leads.{onto, same_some}
+use Rattle.order_machine.proofs.Leads.{same_some}
 use Rattle.order_machine.proofs.Moves.{answers_last}
 use Rattle.order_machine.proofs.Fits.{IsUsed}
-use Rattle.order_machine.proofs.Holds.{FitsIn, Holds, Still, StillBeside, news, port_of}
+use Rattle.order_machine.proofs.Holds.{FitsIn, Still, StillBeside, port_of}
 use Rattle.order_machine.proofs.Hearing.{fault-Holds, heard_turn, numbered-heard, tokenless-Holds}
 use Rattle.order_machine.proofs.Judged.{IsLawful, lawful}
 use Rattle.order_machine.proofs.Lawfully as lawfully
-use Rattle.order_machine.proofs.Truth.{Next, turn-next}
-use Rattle.order_machine.proofs.Linked.{IsTable, fault-same, token-fits, token-leads, token-on, token-port}
+use Rattle.order_machine.proofs.Truth.{turn-next}
+use Rattle.order_machine.proofs.Linked.{IsTable, fault-same, token-fits, token-leads, token-port}
 use Rattle.order_machine.proofs.Placed.{Each-put, entries-put, entries_of}
 use Rattle.order_machine.proofs.Ids.{OfShown, told-few, told-ids, used-onto}
 

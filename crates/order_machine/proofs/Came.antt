@@ -4,8 +4,6 @@ use Rattle.std.proofs.Common.{sym, ap, ◌∙◌, subst, arith, decimal, codes, 
 use Rattle.std.specs.Prelude.{if◌then◌else◌}
 use Rattle.tokens.specs.TokenText.{token_text}
 use Rattle.order_law.specs.ouch_codec.declared.outbound.Outbound.{Outbound}
-use Rattle.order_law.specs.ouch_codec.declared.outbound.Outbound.TheVariants as market
-use Rattle.order_law.specs.ouch_codec.declared.refusal.DecodeRefusal.{DecodeRefusal}
 use Rattle.fix_fields.specs.Field.{Message, character, is, text}
 use Rattle.order_law.specs.Life.{Life, after, born, life}
 use Rattle.order_law.specs.Chain.{is_used}

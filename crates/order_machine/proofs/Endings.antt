@@ -1,19 +1,19 @@
 -- All of an order is cancelled, or the market rejects a cancel: with any number of replaces before it.
-use Rattle.std.proofs.Common.{◌≡◌, ℕ, Bool, true, false, List, [], ◌∷◌, ◌++◌, map, refl, sym, ap, ◌∙◌, subst, codes, bytes_eq, Option, Some, None}
-use Rattle.std.specs.Prelude.{◌||◌, not, filter, if◌then◌else◌}
-use Rattle.std.specs.List.{find, list_any}
+use Rattle.std.proofs.Common.{◌≡◌, ℕ, true, false, List, [], ◌∷◌, ◌++◌, refl, sym, ap, ◌∙◌, subst, codes, bytes_eq, Option, Some, None}
+use Rattle.std.specs.Prelude.{filter}
+use Rattle.std.specs.List.{find}
 use Rattle.order_law.specs.declared.stage.Stage.TheVariants.{Working}
 use Rattle.fix_fields.specs.Field.{Message, text}
-use Rattle.order_law.specs.Chain.{Chain, Request, cancels, chain, has_pending_cancel}
+use Rattle.order_law.specs.Chain.{Chain, cancels, chain, has_pending_cancel}
 use Rattle.order_law.specs.Verdicts.{is_replace}
 use Rattle.order_law.specs.History.{Entry}
 use Rattle.order_law.specs.Told as told
 use Rattle.order_law.specs.Told.{Occasion, Shown, is_cancel, plain, report}
 use Rattle.order_law.specs.Headline.{Each, has_due_ids, is_id_of}
-use Rattle.order_machine.specs.OrderRecord.{Cancelling, OrderRecord, at, cancel_entry, gone, pending, request_of, unasked}
+use Rattle.order_machine.specs.OrderRecord.{Cancelling, OrderRecord, cancel_entry, gone, unasked}
 use Rattle.order_machine.proofs.Texts.{eq-same, eq-turned}
 use Rattle.order_machine.proofs.Due.{IsSound, ReadsWith, chained_with, shown_with}
-use Rattle.order_machine.proofs.Reports.{AreOthers, Tells, canceled-Reads, canceled_on-Reads, report-tells}
+use Rattle.order_machine.proofs.Reports.{AreOthers, canceled-Reads, canceled_on-Reads, report-tells}
 use Rattle.order_machine.proofs.Rejects.{last-rejected, not_used-2}
 use Rattle.order_machine.proofs.Sound.{gone-sound}
 use Rattle.order_machine.proofs.AskedReplaces.{append-nothing}
@@ -95,7 +95,7 @@ module _ (old_id : List ℕ → List ℕ) (n : ℕ) (why : Option (List ℕ)) (o
       → Leads o.new old_id sent (told.cancelled n why (told.closed (shown_with o rs))) (gone o) []
   cancelled-plain rs are apart others named reads =
       let first = report-tells n (why_4 None why) (gone o) rs old_id sent sound (canceled-Reads n why rs o sent works others reads)
-          (plain_4-ids n why (shown_with (gone o) rs) (chain o.new.order sent) (chained_with (gone o) rs) old_id (ap has_pending_cancel reads.chained_so ∙ none-cancelling o rs are) refl) in
+      (plain_4-ids n why (shown_with (gone o) rs) (chain o.new.order sent) (chained_with (gone o) rs) old_id (ap has_pending_cancel reads.chained_so ∙ none-cancelling o rs are) refl) in
       rw (no-cancel rs are, only-replaces rs are)
       (leads-more old_id sent _ _ (gone o) (gone o) rs [] first (too_late-leads old_id (gone o) sound rs rs _ apart named first.reads))
 
@@ -104,7 +104,7 @@ module _ (old_id : List ℕ → List ℕ) (n : ℕ) (why : Option (List ℕ)) (o
   cancelled-on rs c are is apart named reads =
       let names = before-named old_id rs c named in
       let first = report-tells n (why_4 (Some c) why) (gone o) rs old_id sent sound (canceled_on-Reads n why c rs o sent works (before-others rs c apart) reads)
-          (let id = cancel-id o rs c are is in let old = eq-same (old_id (text 11 c.message)) in let some = cancelling o rs c are is in rw (reads.chained_so, some, id, names.1, old) refl) in
+      (let id = cancel-id o rs c are is in let old = eq-same (old_id (text 11 c.message)) in let some = cancelling o rs c are is in rw (reads.chained_so, some, id, names.1, old) refl) in
       rw (the-cancel rs c are is, without-cancel rs c are is)
       (leads-more old_id sent _ _ (gone o) (gone o) rs [] first (too_late-leads old_id (gone o) sound rs rs _ (before-apart rs c apart) names.0 first.reads))
 

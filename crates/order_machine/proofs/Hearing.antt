@@ -25,7 +25,6 @@ use Rattle.order_machine.proofs.Holds.{true-of}
 use Rattle.order_machine.proofs.Untouched.{tokenless-untouched}
 use Rattle.order_law.specs.declared.stage.Stage.{Stage}
 use Rattle.order_law.specs.declared.stage.Stage.TheVariants.{Waiting, Working, Closed}
-use Rattle.order_law.specs.History.{Said}
 use Rattle.order_law.specs.Lawful.{order_token}
 
 pub append-nothing : {A : Type 0} (xs : List A) → xs ++ [] ≡ xs

@@ -1,6 +1,6 @@
 -- The ClOrdIDs in the bodies that a message of the market leads to, and how many of them are reports.
 use Rattle.std.proofs.Common.{◌≡◌, ℕ, ◌+◌, ◌≤◌, Bool, true, false, List, [], ◌∷◌, ◌++◌, map, refl, sym, ap, ◌∙◌, subst}
-use Rattle.std.proofs.Common.{arith, codes, bytes_eq, Option, Some, None}
+use Rattle.std.proofs.Common.{arith, codes, Option, Some, None}
 use Rattle.std.specs.Prelude.{◌&&◌, ◌||◌, if◌then◌else◌, filter, option_map, unwrap_or}
 use Rattle.std.specs.List.{count_by, find}
 use Rattle.order_law.specs.ouch_codec.declared.outbound.Outbound.{Outbound}

@@ -1,6 +1,6 @@
 -- A lawful message on an order keeps what every told history keeps, and each order true.
 use Rattle.std.proofs.Common.{◌≡◌, ◌≢◌, ℕ, ◌+◌, ◌*◌, ◌<◌, ◌≤◌, ◌^◌, Bool, true, false, List, [], ◌∷◌, ◌++◌, length}
-use Rattle.std.proofs.Common.{map, reverse, refl, sym, ap, ◌∙◌, subst, arith, decimal, codes, bytes_eq, Option, Some}
+use Rattle.std.proofs.Common.{map, reverse, refl, sym, ap, ◌∙◌, subst, arith, decimal, bytes_eq, Option, Some}
 use Rattle.std.proofs.Common.{None, Ok, eqb-true, eq-eqb, ne_eqb}
 use Rattle.std.specs.Prelude.{◌&&◌, ◌||◌, ◌==◌, not, if◌then◌else◌, is_some}
 use Rattle.std.specs.List.{count_by, find, list_any}
@@ -8,7 +8,7 @@ use Rattle.tokens.specs.TokenText.{token_text}
 use Rattle.order_law.specs.ouch_codec.declared.outbound.Outbound.{Outbound}
 use Rattle.order_law.specs.ouch_codec.declared.outbound.Outbound.TheVariants as market
 use Rattle.fix_fields.specs.Field.{Message, character, is}
-use Rattle.order_law.specs.Life.{Life, after, born, is_closed, life}
+use Rattle.order_law.specs.Life.{Life, after, is_closed, life}
 use Rattle.order_law.specs.Reading.{is_report}
 use Rattle.order_law.specs.Chain.{chain, is_used, orders}
 use Rattle.order_law.specs.History.{Asked, Entry, Heard, OrderHistory, Terms, OrderTurn, accepted, answers}
@@ -30,7 +30,7 @@ use Rattle.order_machine.proofs.Fits.{IsFound, IsHome, IsUsed, life-of, named, n
 use Rattle.std.proofs.Common.{ℕ}
 use Rattle.order_machine.proofs.Holds.{FitsIn, HasRecord, Holds, IsEntry, Keeps-more, Of-used, PassesOver, news}
 use Rattle.order_machine.proofs.Holds.{orders_of, port_of, true-of, each-find}
-use Rattle.order_machine.proofs.Untouched.{Other, apart-home, born-passes, other-untouched, tokens_in}
+use Rattle.order_machine.proofs.Untouched.{apart-home, born-passes, other-untouched, tokens_in}
 use Rattle.order_machine.proofs.Judged.{IsLawful}
 use Rattle.order_machine.proofs.Row.{oldest-is, row-moves}
 use Rattle.order_machine.proofs.Hearing.{asked-as, asked-now, closed-asked, untouched-fits, heard_turn, numbered-heard}
@@ -204,7 +204,7 @@ module _ (terms : List Terms) (before : OrderHistory) (port : ℕ) (m : Outbound
   B = told_by (reports_in before) m (record_life o) (answers_last m (replacements o.replaces) (asked_as terms o)) (map fill_of o.trades) (shown_as o)
 
   asked-own : answers_last_cancel o.new.order m (outstanding terms port before) ≡ answers_last m (replacements o.replaces) (asked_as terms o)
-  asked-own = 
+  asked-own =
       (let mine : own o.new.order (outstanding terms port before) ≡ asked_as terms o = subst (λ (p : ℕ). own o.new.order (outstanding terms p before) ≡ asked_as terms o) own_port f.asked_so in
       last-cancel o.new.order m (outstanding terms port before)
       ∙ ap (answers_last m (next_tokens o.new.order (outstanding terms port before))) mine

@@ -1,5 +1,5 @@
 -- The bodies of a turn on an order, one after another: what its client has read after them, and that each reads well.
-use Rattle.std.proofs.Common.{◌≡◌, ℕ, Bool, true, false, List, [], ◌∷◌, ◌++◌, codes, bytes_eq, Option, Some}
+use Rattle.std.proofs.Common.{◌≡◌, ℕ, Bool, true, false, List, [], ◌∷◌, ◌++◌, codes, Option, Some}
 use Rattle.std.specs.Prelude.{if◌then◌else◌}
 use Rattle.fix_fields.specs.Field.{Message, text}
 use Rattle.order_law.specs.Verdicts.{is_replace}

@@ -1,6 +1,6 @@
 -- The table of orders is as the lists of a history have it: whatever is looked up in it is what the lists say.
 use Rattle.std.proofs.Common.{◌≡◌, ℕ, ◌+◌, ◌*◌, ◌≤◌, Bool, true, false, List, [], ◌∷◌, length, map, refl, sym, ap, ◌∙◌}
-use Rattle.std.proofs.Common.{subst, arith, bytes_eq, codes, Option, Some, None, Result, Ok, Err, eqb-true}
+use Rattle.std.proofs.Common.{subst, arith, bytes_eq, Option, Some, None, Result, Ok, Err, eqb-true}
 use Rattle.std.specs.Prelude.{◌&&◌, ◌==◌, not, if◌then◌else◌, is_some, filter, option_and_then, option_map}
 use Rattle.std.specs.List.{count_by, find}
 use Rattle.fix_fields.specs.Field.{Message, text}
@@ -11,7 +11,7 @@ use Rattle.order_law.specs.ouch_codec.declared.refusal.DecodeRefusal.{DecodeRefu
 use Rattle.order_law.specs.Life.{is_closed}
 use Rattle.order_law.specs.Reading.{Reading, reading}
 use Rattle.order_law.specs.Chain.{Chain, chain, goes_by, is_used, named, orders}
-use Rattle.order_law.specs.Verdicts.{Named, Port, Verdict, first_row, is_replace, open_orders, rows_of_new}
+use Rattle.order_law.specs.Verdicts.{Named, Port, first_row, is_replace, open_orders, rows_of_new}
 use Rattle.order_law.specs.Verdicts.{rows_of_request}
 use Rattle.order_law.specs.History.{Entry, OrderHistory, Terms, accepted, given_tokens, handled, is_new_order, issued}
 use Rattle.order_law.specs.History.{life_of, new_of, orders_numbered, pending_tokens, standing_of, terms_of, token_of}
@@ -30,7 +30,7 @@ use Rattle.order_machine.proofs.Executed.{count-more}
 use Rattle.order_machine.proofs.Finding.{Each-found, and-turned, count-each, find-each, find-filter, find-map}
 use Rattle.order_machine.proofs.Finding.{find-same, length-map, map-filter, map-map}
 use Rattle.order_machine.proofs.Fits.{life-of, tokens-are}
-use Rattle.order_machine.proofs.Holds.{FitsIn, Holds, news, orders_of, port_of}
+use Rattle.order_machine.proofs.Holds.{FitsIn, Holds, news, port_of}
 use Rattle.order_machine.proofs.Placed.{AreDistinct}
 
 -- an accepted replace has a token

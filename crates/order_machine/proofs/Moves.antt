@@ -4,7 +4,6 @@ use Rattle.std.proofs.Common.{subst, Option, Some, None}
 use Rattle.std.specs.Prelude.{◌&&◌, not, if◌then◌else◌, filter, length}
 use Rattle.std.specs.List.{count_by, list_any}
 use Rattle.order_law.specs.ouch_codec.declared.outbound.Outbound.{Outbound}
-use Rattle.order_law.specs.ouch_codec.declared.outbound.Outbound.TheVariants as market
 use Rattle.order_law.specs.declared.stage.Stage.TheVariants.{Waiting, Closed}
 use Rattle.fix_fields.specs.Field.{Message, text}
 use Rattle.order_law.specs.Life.{after, first_token, is_closed}

@@ -8,12 +8,12 @@ use Rattle.order_law.specs.declared.stage.Stage.TheVariants.{Waiting, Working, C
 use Rattle.fix_fields.specs.Field.{Message}
 use Rattle.order_law.specs.Life.{after, first_token, is_live, is_waiting}
 use Rattle.order_law.specs.Verdicts.{is_replace}
-use Rattle.order_law.specs.History.{Asked, Entry, Terms, token_of}
+use Rattle.order_law.specs.History.{Entry, Terms, token_of}
 use Rattle.order_law.specs.Told as told
 use Rattle.order_law.specs.Told.{is_cancel, told_by}
 use Rattle.order_law.specs.Headline.{Each}
-use Rattle.order_machine.specs.OrderRecord.{Cancelling, OrderRecord, asked_as, at, cancel_asked, cancel_entry, fill_of, last_of, live_token, new_asked, pending, record_life, replacements, replaces_asked, shown_as, still_cancelling}
-use Rattle.order_machine.proofs.Due.{IsSound, Reads, ReadsWith, shown_with}
+use Rattle.order_machine.specs.OrderRecord.{Cancelling, OrderRecord, asked_as, at, cancel_asked, cancel_entry, fill_of, last_of, live_token, new_asked, pending, record_life, replacements, shown_as, still_cancelling}
+use Rattle.order_machine.proofs.Due.{Reads, shown_with}
 use Rattle.order_machine.proofs.Leads.{AreApart, AreNamed, Leads, leads-at, leads-on, not_replaced-leads}
 use Rattle.order_machine.proofs.Moves.{Keeps, Moves, answers_last, unanswered}
 use Rattle.order_machine.proofs.Asked.{asked-parts, cancel-goes_on, last-is}

@@ -1,16 +1,16 @@
 -- Replaced: the oldest pending replace is done. Those behind it stay pending, unless the order is dead then.
 use Rattle.std.proofs.Common.{◌≡◌, ℕ, ◌+◌, ◌<◌, ◌≤◌, ◌^◌, Bool, true, false, List, [], ◌∷◌, ◌++◌, map, refl, sym, ap, ◌∙◌}
-use Rattle.std.proofs.Common.{subst, arith, codes, bytes_eq, Option, Some, None}
-use Rattle.std.specs.Prelude.{if◌then◌else◌, length}
+use Rattle.std.proofs.Common.{subst, arith, codes, bytes_eq, Option, None}
+use Rattle.std.specs.Prelude.{if◌then◌else◌}
 use Rattle.order_law.specs.ouch_codec.declared.outbound.Outbound.TheVariants as market
 use Rattle.order_law.specs.ouch_codec.declared.outbound.replaced.Replaced.{Replaced}
 use Rattle.order_law.specs.declared.stage.Stage.TheVariants.{Working, Closed}
 use Rattle.fix_fields.specs.Field.{Message, text}
-use Rattle.order_law.specs.Life.{after, is_dead, is_live}
+use Rattle.order_law.specs.Life.{is_dead, is_live}
 use Rattle.order_law.specs.History.{Entry, Terms, token_of}
 use Rattle.order_law.specs.Told as told
 use Rattle.order_law.specs.Told.{Shown, on_request, priced, report, told_by}
-use Rattle.order_law.specs.Headline.{Each, has_due_ids}
+use Rattle.order_law.specs.Headline.{has_due_ids}
 use Rattle.order_machine.specs.OrderRecord.{Cancelling, OrderRecord, asked_as, at, cancel_asked, cancel_entry, fill_of}
 use Rattle.order_machine.specs.OrderRecord.{gone, last_of, leaves, live_token, pending, put_by_replace, record_life}
 use Rattle.order_machine.specs.OrderRecord.{replacements, replaces_asked, shown_as, still_cancelling, unasked}

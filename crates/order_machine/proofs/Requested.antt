@@ -11,7 +11,7 @@ use Rattle.order_law.specs.Chain.{chain, is_used}
 use Rattle.order_law.specs.History.{Asked, Entry, OrderHistory, Terms, OrderTurn, accepted, given_tokens, handled, is_new_order, issued, life_of, new_of, orders_numbered, outstanding, pending_tokens, token_of}
 use Rattle.order_law.specs.Told.{Told, answers_last_cancel, nobody, price_after, reports_in, told, told_by, told_on, told_of_entry}
 use Rattle.order_law.specs.Headline.{Each, IsTrueToMarket, old_ids}
-use Rattle.order_machine.specs.OrderRecord.{Cancelling, OrderRecord, ToldTrade, asked_as, at, fill_of, record_life, read, replacements, shown_as}
+use Rattle.order_machine.specs.OrderRecord.{Cancelling, OrderRecord, asked_as, at, replacements, shown_as}
 use Rattle.order_machine.proofs.Texts.{eq-other, eq-same, or-true, token-same}
 use Rattle.order_machine.proofs.Lists.{Each-append, Each-map, append-nothing, length-push}
 use Rattle.order_machine.proofs.Due.{IsSound, Reads, ReadsWith, chained_with, shown_with}
@@ -31,12 +31,11 @@ use Rattle.std.specs.Prelude.{option_and_then, option_map}
 use Rattle.order_machine.proofs.Pushing.{IsNext, home-kept, new-kept, next-home}
 use Rattle.order_machine.proofs.Coming as coming
 use Rattle.order_machine.proofs.Coming.{IsTold, coming_turn, numbered-came}
-use Rattle.order_law.specs.declared.stage.Stage.{Stage}
-use Rattle.order_law.specs.declared.stage.Stage.TheVariants.{Waiting, Working, Closed}
+use Rattle.order_law.specs.declared.stage.Stage.TheVariants.{Closed}
 use Rattle.order_law.specs.Chain.{Chain, has_pending_cancel, replaces}
 use Rattle.order_law.specs.Told as told
 use Rattle.order_law.specs.Headline.{has_due_ids, is_id_of}
-use Rattle.order_machine.specs.OrderRecord.{asked_replace, cancel_asked, cancel_entry, asked_cancel, chained, leaves, live_token, new_asked, pending, replaces_asked, request_of}
+use Rattle.order_machine.specs.OrderRecord.{asked_replace, cancel_asked, cancel_entry, asked_cancel, chained, live_token, new_asked, pending, replaces_asked, request_of}
 use Rattle.order_machine.proofs.Pushing.{found-kept, price-kept}
 use Rattle.std.proofs.Common.{◌⊎◌, inl, inr, ⊎_elim}
 use Rattle.order_law.specs.Told.{told_accepted_as, told_by_verdict}

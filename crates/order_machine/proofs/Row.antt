@@ -1,6 +1,6 @@
 -- What a lawful message makes of the order that it is on, whatever its type.
 use Rattle.std.proofs.Common.{◌≡◌, ◌≢◌, ℕ, ◌-◌, ◌<◌, ◌≤◌, ◌^◌, Bool, true, false, List, [], ◌∷◌, map, refl, sym, ap, subst}
-use Rattle.std.proofs.Common.{arith, codes, bytes_eq, Option, Some, None, eqb-true}
+use Rattle.std.proofs.Common.{arith}
 use Rattle.std.specs.Prelude.{◌&&◌, ◌||◌, ◌==◌, not}
 use Rattle.std.specs.List.{list_any}
 use Rattle.order_law.specs.ouch_codec.declared.outbound.Outbound.{Outbound}

@@ -1,35 +1,35 @@
 -- A client's message keeps the table as the lists have it, and asks what the law asks.
-use Rattle.std.proofs.Common.{◌≡◌, ◌≢◌, ℕ, ◌+◌, ◌*◌, ◌<◌, ◌≤◌, ◌^◌, Bool, true, false, List, [], ◌∷◌, ◌++◌, length, map, reverse, refl, sym, ap, ◌∙◌, subst, arith, decimal, codes, bytes_eq, Option, Some, None, eqb-true, eq-eqb, ne_eqb}
+use Rattle.std.proofs.Common.{◌≡◌, ℕ, ◌+◌, ◌*◌, ◌<◌, ◌≤◌, ◌^◌, Bool, true, false, List, [], ◌∷◌, ◌++◌, length, map, reverse, refl, sym, ap, ◌∙◌, subst, arith, decimal, codes, bytes_eq, Option, Some, None, eq-eqb}
 use Rattle.std.specs.Prelude.{◌&&◌, ◌||◌, ◌==◌, if◌then◌else◌, is_some, filter, option_and_then, option_map}
 use Rattle.std.specs.List.{count_by, find, list_any}
 use Rattle.std.proofs.lemmas.List.Folds.{list_any-append}
 use Rattle.order_law.specs.declared.stage.Stage.TheVariants.{Waiting}
-use Rattle.fix_fields.specs.Field.{Message, is, text}
+use Rattle.fix_fields.specs.Field.{Message, text}
 use Rattle.order_law.specs.Reading.{is_report, reading}
 use Rattle.order_law.specs.Chain.{chain, is_used, named}
-use Rattle.order_law.specs.Verdicts.{Accepted, Named, Port, Refused, Verdict, first_row, is_replace, rows_of_request, verdict_of_request}
+use Rattle.order_law.specs.Verdicts.{Accepted, Named, Port, Refused, Verdict, is_replace}
 use Rattle.order_law.specs.History.{Asked, Came, Entry, last_token, OrderEvent, OrderHistory, Terms, OrderTurn, accepted, asks_of, entry_at, given_tokens, handled, is_new_order, issued, new_of, orders_numbered, outstanding, standing_of, terms_of, token_of, verdict}
 use Rattle.order_law.specs.Told.{Shown, Told, accepted_new, accepted_request, newly_shown, plain, refusing_report, refused_request, report, reports_in, shown_in, shown, told_by_verdict, told_accepted_as}
 use Rattle.order_law.specs.Told as law
-use Rattle.order_law.specs.Headline.{Each, said_in}
+use Rattle.order_law.specs.Headline.{Each}
 use Rattle.order_machine.specs.OrderRecord.{OrderRecord, after_request, asked_replace, at, cancel_asked, entered, live_token, new_asked, replacements, shown_as}
-use Rattle.order_machine.specs.Told.{IsTold, IsToldTurn}
-use Rattle.order_machine.specs.Table.{GivenToken, TableState, UsedId, record_by_id, has_number, has_used, is_named, is_same_id, named_as, put, token_given, used_by, with_token}
-use Rattle.order_machine.specs.Machine.{GivenByEvent, accept_new, accept_on, accept_request, entry_of_new, entry_of_request, refuse_new, refuse_request, request_asked, verdict_in}
-use Rattle.order_machine.proofs.Texts.{eq-decimal_other, eq-is, eq-same}
+use Rattle.order_machine.specs.Told.{IsTold}
+use Rattle.order_machine.specs.Table.{GivenToken, TableState, UsedId, record_by_id, has_used, is_named, is_same_id, named_as, put, token_given, used_by, with_token}
+use Rattle.order_machine.specs.Machine.{GivenByEvent, accept_new, accept_on, entry_of_new, entry_of_request, refuse_new, refuse_request, request_asked, verdict_in}
+use Rattle.order_machine.proofs.Texts.{eq-decimal_other}
 use Rattle.order_machine.proofs.Lists.{Each-filter, Each-map}
 use Rattle.order_machine.proofs.Executed.{count-more}
 use Rattle.order_machine.proofs.Finding.{Each-found}
 use Rattle.order_machine.proofs.Leads.{same_some}
 use Rattle.order_machine.proofs.Fits.{shown-is}
-use Rattle.order_machine.proofs.Holds.{FitsIn, HasRecord, Holds, IsEntry, Still, StillBeside, news, port_of}
+use Rattle.order_machine.proofs.Holds.{FitsIn, IsEntry, Still, StillBeside, news, port_of}
 use Rattle.order_machine.proofs.Coming.{coming_turn, numbered-came}
 use Rattle.order_machine.proofs.Came.{beside-new, fits-new, known-refused, new-refused, taken-new, unknown-refused}
-use Rattle.order_machine.proofs.Verdicts.{RequestSays, request-says}
+use Rattle.order_machine.proofs.Verdicts.{request-says}
 use Rattle.order_machine.proofs.Truth as truth
 use Rattle.order_machine.proofs.Truth.{Next, RequestOf, turn-next}
-use Rattle.order_machine.proofs.Linked.{HasOwnToken, IsTable, given-tokens, id-leads, named-client, named-so, verdict-same}
-use Rattle.order_machine.proofs.Placed.{AreDistinct, Each-put, entries-put, entries_of}
+use Rattle.order_machine.proofs.Linked.{HasOwnToken, IsTable, given-tokens, id-leads, named-so, verdict-same}
+use Rattle.order_machine.proofs.Placed.{AreDistinct, Each-put, entries-put}
 
 -- ---- ids
 

@@ -1,10 +1,9 @@
 -- In every told history each order is true to the market, after each turn.
-use Rattle.std.proofs.Common.{◌≡◌, ℕ, suc, ◌+◌, ◌*◌, ◌<◌, ◌^◌, Bool, true, false, List, [], ◌∷◌, length, refl, sym, ap}
+use Rattle.std.proofs.Common.{◌≡◌, ℕ, ◌+◌, ◌<◌, ◌^◌, Bool, true, false, List, [], ◌∷◌, length, refl, sym, ap}
 use Rattle.std.proofs.Common.{◌∙◌, subst, arith, decimal, codes, Option, Some, None, Result, Ok, Err}
 use Rattle.std.specs.Prelude.{◌&&◌, if◌then◌else◌}
 use Rattle.std.specs.List.{find}
 use Rattle.order_law.specs.ouch_codec.declared.outbound.Outbound.{Outbound}
-use Rattle.order_law.specs.ouch_codec.declared.outbound.Outbound.TheVariants as market
 use Rattle.order_law.specs.ouch_codec.declared.refusal.DecodeRefusal.{DecodeRefusal}
 use Rattle.fix_fields.specs.Field.{Message, text}
 use Rattle.order_law.specs.Life.{is_closed}
@@ -17,12 +16,9 @@ use Rattle.order_law.specs.Told.{Told, answers_last_cancel, nobody, price_after,
 use Rattle.order_law.specs.Told.{told_of_entry}
 use Rattle.order_law.specs.Headline.{Each, IsTrueToMarket, said_in}
 use Rattle.order_machine.specs.OrderRecord.{OrderRecord, after_request, at, live_token, replacements, shown_as}
-use Rattle.order_machine.proofs.Texts.{and-parts}
 use Rattle.order_machine.proofs.Fits.{named}
 use Rattle.order_machine.specs.Told.{IsTold, IsToldTurn, fault_of}
-use Rattle.std.specs.Prelude.{◌++◌, nat_le, nat_lt, take, drop, fold, option_and_then}
-use Rattle.std.specs.List.{list_all}
-use Rattle.std.proofs.lemmas.Bool.Decides.{nat_tests}
+use Rattle.std.specs.Prelude.{◌++◌, nat_le, option_and_then}
 use Rattle.order_machine.proofs.Holds.{FitsIn, HasRecord, Holds, StillBeside, news, port_of, record-of}
 use Rattle.order_machine.proofs.Hearing.{fault-Holds, heard_turn, tokenless-Holds}
 use Rattle.order_machine.proofs.Lawfully.{lawful-Holds, token-of}

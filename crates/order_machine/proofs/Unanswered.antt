@@ -1,6 +1,6 @@
 -- After each turn the list of what is asked and not answered has, on each port, what the law reads from all turns.
 use Rattle.std.proofs.Common.{◌≡◌, ◌≢◌, ℕ, ◌-◌, ◌*◌, Bool, true, false, List, [], ◌∷◌, length, refl, sym, ap, ◌∙◌}
-use Rattle.std.proofs.Common.{subst, codes, bytes_eq, Option, Some, None, Result, Ok, Err, eq-eqb, eqb-true, ne_eqb}
+use Rattle.std.proofs.Common.{subst, bytes_eq, Option, Some, None, Result, Ok, Err, eq-eqb, eqb-true, ne_eqb}
 use Rattle.std.specs.Prelude.{◌==◌, ◌&&◌, ◌||◌, not, if◌then◌else◌, filter, option_and_then, option_map}
 use Rattle.std.specs.List.{find}
 use Rattle.order_law.specs.ouch_codec.declared.outbound.Outbound.{Outbound}

@@ -9,7 +9,7 @@ use Rattle.order_law.specs.ouch_codec.declared.outbound.rejected.Rejected.{Rejec
 use Rattle.order_law.specs.declared.stage.Stage.{Stage}
 use Rattle.order_law.specs.declared.stage.Stage.TheVariants.{Waiting, Working, Closed}
 use Rattle.fix_fields.specs.Field.{Message, text}
-use Rattle.order_law.specs.Life.{after, born, first_token, is_live, is_of}
+use Rattle.order_law.specs.Life.{after, born, first_token}
 use Rattle.order_law.specs.History.{Asked, Entry, Said, SaysCancel, SaysNew, SaysReplace, Terms, answers, from_token}
 use Rattle.order_law.specs.History.{terms_of, token_of}
 use Rattle.order_law.specs.Lawful.{order_of_token, order_token}

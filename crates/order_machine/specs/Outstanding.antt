@@ -6,11 +6,10 @@ use Rattle.std.specs.Prelude.{◌≡◌, ℕ, ◌==◌, Bool, not, ◌&&◌, ◌
 use Rattle.std.specs.Prelude.{bytes_eq, Result, Ok, Err}
 use Rattle.order_law.specs.Life.{is_closed}
 use Rattle.order_law.specs.ouch_codec.declared.outbound.Outbound.{Outbound}
-use Rattle.order_law.specs.ouch_codec.declared.outbound.Outbound.TheVariants as market
 use Rattle.order_law.specs.ouch_codec.declared.refusal.DecodeRefusal.{DecodeRefusal}
 use Rattle.order_law.specs.History.{Asked, Came, OrderEvent, Heard, OrderHistory, Terms, answers, terms_of}
 use Rattle.order_machine.specs.OrderRecord.{OrderRecord, after_message, replacements}
-use Rattle.order_machine.specs.Table.{TableState, record_by_token, table_without_orders}
+use Rattle.order_machine.specs.Table.{TableState, table_without_orders}
 use Rattle.order_machine.specs.Machine.{client_step, payload_fault, order_in}
 use Rattle.order_machine.specs.Runs.{Leads}
 
