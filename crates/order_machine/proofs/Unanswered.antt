@@ -69,6 +69,14 @@ recorded terms h s t port a k = by_order (by_number s a.order) refl (number-lead
       named = eq-is o.new.order a.order (found-passes (has_number a.order) s.orders o e);
     }
 
+-- the replaces that are asked for the order of a token are its pending ones
+pub next-pending : (terms : List Terms) (before : OrderHistory) (s : TableState) (t : IsTable terms before s) (port : ℕ) (m : Outbound) (token : List ℕ) (o : OrderRecord) → record_by_token s port token ≡ Some o
+    → next_tokens o.new.order (outstanding terms port before) ≡ replacements o.replaces
+next-pending terms before s t port m token o on =
+    let fits : FitsIn terms before o = token-fits terms before s t port m token o on in
+    ap (λ (p : ℕ). next_tokens o.new.order (outstanding terms p before)) (sym (token-port terms before s t port m token o on))
+    ∙ next-own terms o (outstanding terms (port_of terms o.new) before) fits.asked_so
+
 -- a message changes nothing of the new order
 if-new : (b : Bool) (x y : OrderRecord) (e : Entry) → x.new ≡ e → y.new ≡ e → (if b then x else y).new ≡ e
 if-new true x y e same same' = same
@@ -253,13 +261,9 @@ module _ (terms : List Terms) (before : OrderHistory) (s : TableState) (t : IsTa
     same = λ p. was.same p ∙ sym (same-asked heard n p);
   }
 
-  -- the replaces that are asked for an order are those pending
   next-then : (m : Outbound) (token : List ℕ) (o : OrderRecord) → record_by_token s port token ≡ Some o → next_tokens (after_message s.exec_ids m o).new.order (outstanding terms port before) ≡ replacements o.replaces
   next-then m token o on =
-      let fits : FitsIn terms before o = token-fits terms before s t port m token o on in
-      ap (λ (e : Entry). next_tokens e.order (outstanding terms port before)) (after_message-new s.exec_ids m o)
-      ∙ ap (λ (p : ℕ). next_tokens o.new.order (outstanding terms p before)) (sym (token-port terms before s t port m token o on))
-      ∙ next-own terms o (outstanding terms (port_of terms o.new) before) fits.asked_so
+      ap (λ (e : Entry). next_tokens e.order (outstanding terms port before)) (after_message-new s.exec_ids m o) ∙ next-pending terms before s t port m token o on
 
   heard-rest : (m : Outbound) (token : List ℕ) (x : Option OrderRecord) → record_by_token s port token ≡ x → LeavesRest terms before s port (Ok m) sends (heard_on s m x) (still_asked_on s port m x asked)
   heard-rest m token None on = silent-rest m
