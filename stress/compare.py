@@ -73,8 +73,9 @@ def market_differs(order, found):
 
 def terms(given):
     """What a D or G asks: shares, price, time in force, display, minimum quantity."""
-    return (worth(given[38]), worth(given[44]) * 10_000, 0 if given.get(59) == b"3" else 99_998,
-            b"P" if given.get(18) == b"6" else b"Y", worth(given.get(110, b"0")))
+    whole = given.get(59) == rules.FILL_OR_KILL
+    return (worth(given[38]), worth(given[44]) * 10_000, 0 if whole or given.get(59) == b"3" else 99_998,
+            b"P" if given.get(18) == b"6" else b"Y", worth(given[38]) if whole else worth(given.get(110, b"0")))
 
 
 def asked(it):

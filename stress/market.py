@@ -16,6 +16,8 @@ class Order:
     entered: ouch.Enter
     tokens: list
     live: bool = False
+    minimum: int = 0
+    traded: bool = False
     open: int = 0
     executed: int = 0
     cancelled: int = 0
@@ -90,10 +92,12 @@ class Market:
     def stand(self, order, shares, price, state):
         shares, price = self.terms(shares, price)
         self.say(ouch.accepted(order.entered, shares, price, len(self.history), state))
-        self.set(order, shares, price, state)
+        self.set(order, shares, price, state, order.entered.minimum)
 
-    def set(self, order, shares, price, state):
+    def set(self, order, shares, price, state, minimum):
+        """It is in the book; its first trade is of the minimum quantity at least, where as much is open."""
         order.live, order.open, order.price = True, shares, price
+        order.minimum, order.traded = minimum, False
         self.standing[order.entered.stock] = order
         if state == b"D":
             self.close(order)
@@ -104,7 +108,7 @@ class Market:
 
     def fill_last(self, order):
         self.say(ouch.accepted(order.entered, 1, 777_777, len(self.history), b"L"))
-        self.set(order, 1, 777_777, b"L")
+        self.set(order, 1, 777_777, b"L", order.entered.minimum)
         self.trade(order, 1)
 
     def replace(self, it, now):
@@ -129,7 +133,7 @@ class Market:
         self.say(ouch.replaced(given, it.old, shares, price, len(self.history), state))
         order.tokens.append(it.new)
         self.by_token[it.new] = order
-        self.set(order, shares, price, state)
+        self.set(order, shares, price, state, it.minimum)
 
     def cancel(self, it, now):
         """Answered where the token is that of an open order."""
@@ -186,7 +190,13 @@ class Market:
         elif order and kind == "reduce" and order.open > 1:
             self.reduce(order)
         elif order and kind in ("part", "fill"):
-            self.trade(order, order.open if kind == "fill" else self.random.randint(1, order.open))
+            self.trade_some(order, kind)
+
+    def trade_some(self, order, kind):
+        """A trade, if the minimum quantity allows one while there was none."""
+        least = 1 if order.traded else max(1, order.minimum)
+        if least <= order.open:
+            self.trade(order, order.open if kind == "fill" else self.random.randint(least, order.open))
 
     def reduce(self, order):
         shares = self.random.randint(1, order.open - 1)
@@ -207,6 +217,7 @@ class Market:
         price, match = max(0, price), self.match()
         self.say(ouch.executed(order.token, shares, price, match))
         order.trades[match] = (shares, price)
+        order.traded = True
         self.traded.append(order)
         order.open -= shares
         order.executed += shares

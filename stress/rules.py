@@ -5,6 +5,8 @@ REQUIRED = {b"D": (11, 54, 55, 38, 40), b"F": (11, 41), b"G": (11, 41, 38, 40)}
 IDS = {b"D": (11,), b"F": (11, 41), b"G": (11, 41)}
 FORMATS = {b"D": (54, 38, 40, 44, 59, 528, 110), b"F": (), b"G": (54, 38, 40, 44, 59, 528, 110)}
 FLOATS = (38, 44, 110)
+LIFE_TIMES = {b"D": (b"0", b"3", b"4"), b"G": (b"0", b"3")}
+FILL_OR_KILL = b"4"
 SIDES = {b"1": b"B", b"2": b"S", b"5": b"T", b"6": b"E"}
 MOST_OPEN = 10_000
 MOST_REPLACES = 65_535
@@ -43,10 +45,10 @@ def in_range(amount, least, most):
     return amount.denominator == 1 and least <= amount <= most
 
 
-def terms(given):
-    """The rows on 40, 59, 18, 528: what orders and replaces share, in front."""
+def terms(kind, given):
+    """The rows on 40, 59 and 18: what orders and replaces share, in front."""
     yield given[40] != b"2", 11, b"order type"
-    yield given.get(59, b"0") not in (b"0", b"3"), 11, b"time in force"
+    yield given.get(59, b"0") not in LIFE_TIMES[kind], 11, b"time in force"
     yield given.get(18, b"6") != b"6", 11, b"execution instruction"
 
 
@@ -75,7 +77,7 @@ def new_order_rows(given, book):
     yield from port_rows(book.port_state)
     yield given[54] not in SIDES, 11, b"side"
     yield not is_symbol(given[55]), 1, b"symbol"
-    yield from terms(given)
+    yield from terms(b"D", given)
     yield given.get(528, b"A") not in (b"A", b"P", b"R"), 11, b"capacity"
     yield from amounts(given)
     yield book.count_open() >= MOST_OPEN, 3, b"too many open orders"
@@ -92,7 +94,7 @@ def request_rows(kind, given, book, order):
         return
     own = {54: order.side, 55: order.symbol, 528: order.capacity}
     yield any(given.get(tag, value) != value for tag, value in own.items()), 99, b"side, symbol or capacity"
-    for holds, _, text in [*terms(given), *amounts(given)]:
+    for holds, _, text in [*terms(kind, given), *amounts(given)]:
         yield holds, 99, text
     yield worth(given[38]) <= order.executed, 99, b"total not above executed"
     yield order.replaces >= MOST_REPLACES, 2, b"replace limit"

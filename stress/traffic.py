@@ -3,7 +3,7 @@ import string
 
 DIGITS = string.digits + string.ascii_uppercase
 WRONG_VALUES = {
-    54: [b"3", b"9", b"B"], 55: [b"TOOLONGSYM", b"A B", b"\xc3\xa9"], 40: [b"1", b"P"], 59: [b"1", b"4", b"6"],
+    54: [b"3", b"9", b"B"], 55: [b"TOOLONGSYM", b"A B", b"\xc3\xa9"], 40: [b"1", b"P"], 59: [b"1", b"2", b"4", b"5"],
     18: [b"7", b"66", b"6 P"], 528: [b"I", b"W"], 38: [b"0", b"-5", b"1000000", b"1.5", b"99999999999999999999"],
     110: [b"-1", b"0.5", b"1000000"], 44: [b"1.00001", b"0", b"-3", b"200000", b"0.00001", b"199999.9901"],
 }
@@ -71,7 +71,10 @@ class Traffic:
 
     def new_order(self):
         side = self.random.choice([b"1", b"2", b"5", b"6"])
-        return b"D", {11: self.name(), 54: side, 55: self.symbol(), **self.terms()}
+        given = {11: self.name(), 54: side, 55: self.symbol(), **self.terms()}
+        if self.random.random() < 0.1:
+            given[59] = b"4"
+        return b"D", given
 
     def any_order(self):
         """An order that is open where there is one, now and then a closed one."""

@@ -250,7 +250,8 @@ impl Book {
         }
     }
 
-    /// A trade, where the order is live, as much of it is open, and a match number is left.
+    /// A trade, where the order is live, as much of it is open, the minimum quantity allows it, and a match number is
+    /// left.
     fn trade(&mut self, alloc: Global, trading: &Trading) -> Result<Vec<Outbound>, AllocError>
         ensures step { IfOk result (λ says.
             IsStepOf (law.act self.old (choose.Execute trading.now)) self.new says.items) }
@@ -259,7 +260,7 @@ impl Book {
         let Some(place) = first_live(self.orders.as_slice(), &trading.token) else {
             return Ok(Vec::new(alloc));
         };
-        if !self.orders[place].is_open_for(trading.shares) {
+        if !self.orders[place].may_trade(trading.shares) {
             return Ok(Vec::new(alloc));
         }
         let Some(match_number) = self.matches.checked_add(1) else {

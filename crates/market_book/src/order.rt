@@ -26,6 +26,8 @@ pub struct BookedOrder {
     value: u128,
     /// The newest first.
     trades: Vec<Trade>,
+    /// Some of it was traded since it was accepted, or replaced last.
+    has_traded: bool,
     ghost unfilled_set: { unfilled < 2 ^ 32 },
 }
 
@@ -43,6 +45,7 @@ impl Model for BookedOrder {
       cancelled = o.cancelled;
       value = o.value;
       trades = o.trades.items;
+      has_traded = o.has_traded;
       unfilled_set = o.unfilled_set;
     } };
 
@@ -69,6 +72,7 @@ impl BookedOrder {
             cancelled,
             value: 0,
             trades: Vec::new(alloc),
+            has_traded: false,
         }
     }
 
@@ -117,6 +121,26 @@ impl BookedOrder {
         1 <= shares && shares <= self.unfilled
     }
 
+    /// Its minimum quantity: that of the Enter Order, or of the last Replace Order that was taken.
+    fn minimum(&self) -> u32
+        ensures { result ≡ law.minimum_of self.now }
+    {
+        match self.replacements.first() {
+            Some(request) => request.minimum_quantity,
+            None => self.entered.minimum_quantity,
+        }
+    }
+
+    /// So many shares, 1 or more, may be traded: what is open has as many, and the first trade since the order was
+    /// accepted, or replaced last, is of its minimum quantity at least.
+    ///
+    /// Source: OUCH 4.2, "Enter Order Message", Minimum Quantity.
+    pub fn may_trade(&self, shares: u32) -> bool
+        ensures { result ≡ law.may_trade shares self.now }
+    {
+        self.is_open_for(shares) && (self.has_traded || self.minimum() <= shares)
+    }
+
     /// It has a trade with this number that stands.
     pub fn has_trade(&self, match_number: u64) -> bool
         ensures { result ≡ law.has_trade match_number self.now }
@@ -148,6 +172,7 @@ impl BookedOrder {
                 is_broken: false,
             },
         )?;
+        self.has_traded = true;
         self.unfilled -= trading.shares;
         self.executed += trading.shares;
         self.value += u128::from(trading.shares) * u128::from(trading.price);
@@ -167,8 +192,8 @@ impl BookedOrder {
         mark(&mut self.trades, match_number);
     }
 
-    /// It goes by the request's new token from now on, with so many shares open, or dead. `AllocError` leaves it as it
-    /// was.
+    /// It goes by the request's new token from now on, with so many shares open, or dead, and its next trade is its first
+    /// one again. `AllocError` leaves it as it was.
     pub fn replace(
         &mut self,
         request: &Replace,
@@ -181,6 +206,7 @@ impl BookedOrder {
         ensures err { OnErr result (self.new ≡ self.old) }
     {
         self.replacements.insert(0, *request)?;
+        self.has_traded = false;
         match state {
             OrderState::Live => self.unfilled = shares,
             OrderState::Dead => {

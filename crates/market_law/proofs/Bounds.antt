@@ -1,6 +1,7 @@
 -- Each token is used once, and no order comes to more than what was asked for it.
-use Rattle.std.proofs.Common.{◌≡◌, ℕ, zero, suc, ◌-◌, ◌≤◌, ◌^◌, Bool, true, false, List, [], ◌∷◌, refl, sym, subst}
+use Rattle.std.proofs.Common.{◌≡◌, ℕ, zero, suc, ◌-◌, ◌≤◌, ◌^◌, Bool, true, false, List, [], ◌∷◌, refl}
 use Rattle.std.proofs.Common.{Option, Some, None, ⊎_elim, arith, nat_lt, nat_le, ◌==◌}
+use Rattle.std.specs.Prelude.{◌||◌}
 use Rattle.std.specs.Prelude.{if◌then◌else◌}
 use Rattle.std.specs.List.{list_any, find}
 use Rattle.std.proofs.lemmas.Bool.Decides.{nat_tests}
@@ -17,11 +18,11 @@ use Rattle.order_law.specs.Life.{stands_as}
 use Rattle.market_law.specs.declared.choice.Choice.TheVariants as choose
 use Rattle.market_law.specs.Messages.{canceled}
 use Rattle.market_law.specs.Numbers.{shares-fit, less-than-most}
-use Rattle.market_law.specs.Machine.{Machine, BookOrder, Step, is_token_used, is_live_as, change, with_live_order}
+use Rattle.market_law.specs.Machine.{Machine, BookOrder, Step, is_token_used, is_live_as, with_live_order}
 use Rattle.market_law.specs.Machine.{taken_off, moved, traded_in_book, has_trade, broken_off, without, cancel_all}
 use Rattle.market_law.specs.Machine.{move, ToEnter, Takes, Rejects, to_enter, ToReplace, Replaces, TakesOff, Keeps}
 use Rattle.market_law.specs.Machine.{to_replace, ToCancel, Cancels, Waits, Denies, to_cancel, enter, replace}
-use Rattle.market_law.specs.Machine.{replace_on, cancel, cancel_on, live_order, live_of, is_open_for, trade_by}
+use Rattle.market_law.specs.Machine.{replace_on, cancel, cancel_on, live_order, live_of, is_open_for, may_trade, minimum_of, trade_by}
 use Rattle.market_law.specs.Machine.{trade_on, take_off_on, break_on, says_nothing, saying, tokens_of}
 use Rattle.market_law.specs.Run.{Move, Comes, Acts, moves, ran}
 use Rattle.market_law.specs.Said.{names, IsSaid, EachSaid}
@@ -29,7 +30,7 @@ use Rattle.market_law.specs.Moves.{IsKnown, IsSmall, IsWithin, times}
 use Rattle.market_law.proofs.Basics.{Each, eq-is, or-false, and-parts, each-both}
 use Rattle.market_law.proofs.Sound.{filled}
 use Rattle.market_law.proofs.Books.{live-holds}
-use Rattle.market_law.proofs.Says.{IsPlaced, ran-told, found-passes, each-change}
+use Rattle.market_law.proofs.Says.{IsPlaced, ran-told, found-passes, each-change, each-first}
 
 -- ---- each token once
 
@@ -72,15 +73,6 @@ module _ (root_of : List ℕ → Option (List ℕ)) (P : Inbound → Type 0) (li
       by_found None = e
       by_found (Some y) = omega (arith, e)
 
-  -- where the first that passes becomes another
-  each-first : (p : BookOrder → Bool) (f : BookOrder → BookOrder) (cs : List BookOrder) (c : BookOrder) → find p cs ≡ Some c → (IsWithin limit) (f c) → Each (IsWithin limit) cs → Each (IsWithin limit) (change p f cs)
-  each-first p f [] c e k each = absurd (cc)
-  each-first p f (x ∷ xs) c e k each = by_test (p x) e (λ h. each-first p f xs c h k each.1)
-    where
-      by_test : (b : Bool) → (if b then Some x else find p xs) ≡ Some c → (find p xs ≡ Some c → Each (IsWithin limit) (change p f xs)) → Each (IsWithin limit) (if b then f x ∷ xs else x ∷ change p f xs)
-      by_test true h later = let is : x ≡ c = cc in (subst (λ y. (IsWithin limit) (f y)) (sym is) k, each.1)
-      by_test false h later = (each.0, later h)
-
   module _ (m : Machine) (placed : Each (IsPlaced root_of P) m.book) (w : Each (IsWithin limit) m.book) where
     abbrev Keeping : Step → Type 0
     Keeping s = Each (IsWithin limit) s.machine.book
@@ -100,7 +92,7 @@ module _ (root_of : List ℕ → Option (List ℕ)) (P : Inbound → Type 0) (li
           let k = found-passes (λ x. IsPlaced root_of P x × (IsWithin limit) x) (is_live_as r.token) m.book c at (each-both (IsPlaced root_of P) (IsWithin limit) m.book placed w) in
           let first = (and-parts _ (nat_lt 0 c.unfilled) k.1).0 in
           let top = small c.entered.token (k.0.0.leads r.token (live-holds (tokens_of c) r.token (filled c) first)) in
-          each-first (is_live_as r.token) (moved r (suc left) (shares-fit (suc left) most) state) m.book c at (within state top k.0.1) w
+          each-first (IsWithin limit) (is_live_as r.token) (moved r (suc left) (shares-fit (suc left) most) state) m.book c at (within state top k.0.1) w
         where
           within : (b : OrderState) → r.shares ≤ limit c.entered.token → (IsWithin limit) c → (IsWithin limit) (moved r (suc left) (shares-fit (suc left) most) b c)
           within Live top e = omega (arith, is, top)
@@ -144,20 +136,20 @@ module _ (root_of : List ℕ → Option (List ℕ)) (P : Inbound → Type 0) (li
       where
         by_chain : (found : Option BookOrder) → live_order m x.token ≡ found → Keeping (trade_on m x found)
         by_chain None at = w
-        by_chain (Some c) at = by_test (is_open_for x.shares c) refl
+        by_chain (Some c) at = by_test (may_trade x.shares c) refl
           where
             by_number : is_open_for x.shares c ≡ true → (b : Bool) (z : nat_lt (suc m.matches) (2 ^ 64) ≡ b) → Keeping (trade_by m x c b z)
             by_number z true n =
                 let k = (found-passes (IsWithin limit) (is_live_as x.token) m.book c at w).0 in
                 let le = less (and-parts (nat_le 1 x.shares) (nat_le x.shares c.unfilled) z).1 in
-                each-first (is_live_as x.token) (traded_in_book (suc m.matches) x) m.book c at (omega (arith, k, le)) w
+                each-first (IsWithin limit) (is_live_as x.token) (traded_in_book (suc m.matches) x) m.book c at (omega (arith, k, le)) w
               where
                 less : nat_le x.shares c.unfilled ≡ true → x.shares ≤ c.unfilled
                 less h = grind (arith, nat_tests)
             by_number z false n = w
 
-            by_test : (b : Bool) → is_open_for x.shares c ≡ b → Keeping (if b then trade_by m x c (nat_lt (suc m.matches) (2 ^ 64)) refl else says_nothing m)
-            by_test true z = by_number z (nat_lt (suc m.matches) (2 ^ 64)) refl
+            by_test : (b : Bool) → may_trade x.shares c ≡ b → Keeping (if b then trade_by m x c (nat_lt (suc m.matches) (2 ^ 64)) refl else says_nothing m)
+            by_test true z = by_number (and-parts (is_open_for x.shares c) (c.has_traded || nat_le (minimum_of c) x.shares) z).0 (nat_lt (suc m.matches) (2 ^ 64)) refl
             by_test false z = w
     moves-within (Acts (choose.TakeOff x)) e = by_chain (live_order m x.token)
       where

@@ -4,4 +4,5 @@ pub mod Books
 pub mod Runs
 pub mod Says
 pub mod Bounds
+pub mod Whole
 pub mod Theorems

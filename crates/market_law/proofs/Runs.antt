@@ -24,7 +24,7 @@ use Rattle.market_law.specs.Machine.{Machine, BookOrder, Step, is_token_used, us
 use Rattle.market_law.specs.Machine.{opened_in_book, unopened, taken_off, has_trade, broken_off, without, accept, move}
 use Rattle.market_law.specs.Machine.{ToEnter, Takes, Rejects, to_enter, ToReplace, Replaces, TakesOff, Keeps}
 use Rattle.market_law.specs.Machine.{to_replace, ToCancel, Cancels, Waits, Denies, to_cancel, enter, replace}
-use Rattle.market_law.specs.Machine.{replace_on, cancel, cancel_on, live_order, live_of, inbound, act, is_open_for}
+use Rattle.market_law.specs.Machine.{replace_on, cancel, cancel_on, live_order, live_of, inbound, act, is_open_for, may_trade}
 use Rattle.market_law.specs.Machine.{trade_by, trade_on, take_off_on, break_on, says_nothing, saying}
 use Rattle.market_law.specs.Run.{life_in_book, Move, Comes, Acts, moves, ran}
 use Rattle.market_law.proofs.Basics.{Each, eq-same, eq-is, not-both, is-false, or-false, or-case, or-right, each-all}
@@ -245,7 +245,7 @@ module _ (m : Machine) (said : List Outbound) (s : IsSound m said) where
     where
       by_chain : (found : Option BookOrder) → live_order m x.token ≡ found → Keeping m said (trade_on m x found)
       by_chain None e = s
-      by_chain (Some c) e = by_test (is_open_for x.shares c)
+      by_chain (Some c) e = by_test (may_trade x.shares c)
         where
           by_number : (b : Bool) (z : nat_lt (suc m.matches) (2 ^ 64) ≡ b) → Keeping m said (trade_by m x c b z)
           by_number true z = traded-Sound m said x.token c e s x (is-less (suc m.matches) (2 ^ 64) z)

@@ -1,6 +1,8 @@
 -- Whatever the machine is asked and chooses, each message that it says is lawful of the life that it said before.
 use Rattle.std.proofs.Common.{◌≡◌, ℕ, zero, suc, ◌-◌, ◌≤◌, ◌<◌, ◌^◌, Bool, true, false, List, [], ◌∷◌, ◌++◌, refl, sym}
 use Rattle.std.proofs.Common.{ap, ◌∙◌, subst, bytes_eq, Option, Some, None, inl, inr, ⊎_elim, arith, nat_lt, nat_le}
+use Rattle.std.specs.Prelude.{◌||◌, ◌&&◌}
+use Rattle.market_law.proofs.Basics.{and-parts}
 use Rattle.std.proofs.Common.{◌==◌}
 use Rattle.std.specs.Prelude.{◌&&◌, ◌||◌, if◌then◌else◌}
 use Rattle.std.specs.List.{list_any, find}
@@ -27,7 +29,7 @@ use Rattle.market_law.specs.Machine.{Machine, BookOrder, Step, is_token_used, ch
 use Rattle.market_law.specs.Machine.{unopened, taken_off, moved, has_trade, broken_off, without, accept, reject_token}
 use Rattle.market_law.specs.Machine.{move, ToEnter, Takes, Rejects, to_enter, ToReplace, Replaces, TakesOff, Keeps}
 use Rattle.market_law.specs.Machine.{to_replace, ToCancel, Cancels, Waits, Denies, to_cancel, enter, replace}
-use Rattle.market_law.specs.Machine.{replace_on, cancel, cancel_on, live_order, live_of, inbound, act, is_open_for}
+use Rattle.market_law.specs.Machine.{replace_on, cancel, cancel_on, live_order, live_of, inbound, act, is_open_for, may_trade, minimum_of}
 use Rattle.market_law.specs.Machine.{trade_by, trade_on, take_off_on, break_on, says_nothing, saying, is_live_as}
 use Rattle.market_law.specs.Machine.{traded_in_book}
 use Rattle.market_law.specs.Run.{life_in_book, Move, Comes, Acts, moves, ran}
@@ -46,6 +48,15 @@ each-change P p f (c ∷ cs) g e = by_test (p c) (each-change P p f cs g e.1)
     by_test : (b : Bool) → Each P (change p f cs) → Each P (if b then f c ∷ cs else c ∷ change p f cs)
     by_test true rest = (g c e.0, e.1)
     by_test false rest = (e.0, rest)
+
+-- and where the first that passes becomes another, which holds of it
+pub each-first : (P : BookOrder → Type 0) (p : BookOrder → Bool) (f : BookOrder → BookOrder) (cs : List BookOrder) (c : BookOrder) → find p cs ≡ Some c → P (f c) → Each P cs → Each P (change p f cs)
+each-first P p f [] c e k each = absurd (cc)
+each-first P p f (x ∷ xs) c e k each = by_test (p x) e (λ h. each-first P p f xs c h k each.1)
+  where
+    by_test : (b : Bool) → (if b then Some x else find p xs) ≡ Some c → (find p xs ≡ Some c → Each P (change p f xs)) → Each P (if b then f x ∷ xs else x ∷ change p f xs)
+    by_test true h later = let is : x ≡ c = cc in (subst (λ y. P (f y)) (sym is) k, each.1)
+    by_test false h later = (each.0, later h)
 
 pub found-passes : {A : Type 0} (P : A → Type 0) (p : A → Bool) (xs : List A) (x : A) → find p xs ≡ Some x → Each P xs → P x × (p x ≡ true)
 found-passes P p [] x e each = absurd (cc)
@@ -260,14 +271,14 @@ module _ (root_of : List ℕ → Option (List ℕ)) (P : Inbound → Type 0) whe
       where
         by_chain : (found : Option BookOrder) → live_order m x.token ≡ found → Keeping (trade_on m x found)
         by_chain None e = T
-        by_chain (Some c) e = by_test (is_open_for x.shares c) refl
+        by_chain (Some c) e = by_test (may_trade x.shares c) refl
           where
             by_number : is_open_for x.shares c ≡ true → (b : Bool) (z : nat_lt (suc m.matches) (2 ^ 64) ≡ b) → Keeping (trade_by m x c b z)
             by_number may true z = traded-told x.token c e x (is-less (suc m.matches) (2 ^ 64) z) may
             by_number may false z = T
 
-            by_test : (b : Bool) → is_open_for x.shares c ≡ b → Keeping (if b then trade_by m x c (nat_lt (suc m.matches) (2 ^ 64)) refl else says_nothing m)
-            by_test true z = by_number z (nat_lt (suc m.matches) (2 ^ 64)) refl
+            by_test : (b : Bool) → may_trade x.shares c ≡ b → Keeping (if b then trade_by m x c (nat_lt (suc m.matches) (2 ^ 64)) refl else says_nothing m)
+            by_test true z = by_number (and-parts (is_open_for x.shares c) (c.has_traded || nat_le (minimum_of c) x.shares) z).0 (nat_lt (suc m.matches) (2 ^ 64)) refl
             by_test false z = T
     acted-told (choose.TakeOff x) = by_chain (live_order m x.token) refl
       where

@@ -30,6 +30,24 @@ fits-100 = (omega arith, omega arith)
 fits-300 : (1 ≤ 300) × (300 ≤ 999_999)
 fits-300 = (omega arith, omega arith)
 
+fits-1 : (1 ≤ 1) × (1 ≤ 999_999)
+fits-1 = (omega arith, omega arith)
+
+fits-101 : (1 ≤ 101) × (101 ≤ 999_999)
+fits-101 = (omega arith, omega arith)
+
+fits-199 : (1 ≤ 199) × (199 ≤ 999_999)
+fits-199 = (omega arith, omega arith)
+
+fits-249 : (1 ≤ 249) × (249 ≤ 999_999)
+fits-249 = (omega arith, omega arith)
+
+fits-250 : (1 ≤ 250) × (250 ≤ 999_999)
+fits-250 = (omega arith, omega arith)
+
+fits-299 : (1 ≤ 299) × (299 ≤ 999_999)
+fits-299 = (omega arith, omega arith)
+
 fits-301 : (1 ≤ 301) × (301 ≤ 999_999)
 fits-301 = (omega arith, omega arith)
 
@@ -119,8 +137,9 @@ enter_300 = asked.Enter (order_of t1 300 fits-300)
 abbrev enter_other : Inbound
 enter_other = asked.Enter (order_of t3 100 fits-100)
 
-abbrev replace_to : Token → Token → (shares : ℕ) → (1 ≤ shares) × (shares ≤ 999_999) → Inbound
-replace_to from to shares shares_set = asked.Replace (record {
+abbrev replace_with : (least : ℕ) → (1 ≤ least) × (least ≤ 999_999) → Token → Token → (shares : ℕ)
+    → (1 ≤ shares) × (shares ≤ 999_999) → Inbound
+replace_with least least_set from to shares shares_set = asked.Replace (record {
   token = from.bytes;
   replacement_token = to.bytes;
   shares = shares;
@@ -128,7 +147,7 @@ replace_to from to shares shares_set = asked.Replace (record {
   time_in_force = 0;
   display = letter (codes "A");
   intermarket_sweep = letter (codes "Y");
-  minimum_quantity = 200;
+  minimum_quantity = least;
   token_set = from.bytes_set;
   replacement_token_set = to.bytes_set;
   shares_set = shares_set;
@@ -136,8 +155,11 @@ replace_to from to shares shares_set = asked.Replace (record {
   time_in_force_set = zero-fits;
   display_set = refl;
   intermarket_sweep_set = refl;
-  minimum_quantity_set = in_reach 200 fits-200;
+  minimum_quantity_set = in_reach least least_set;
 })
+
+abbrev replace_to : Token → Token → (shares : ℕ) → (1 ≤ shares) × (shares ≤ 999_999) → Inbound
+replace_to = replace_with 200 fits-200
 
 abbrev cancel_all_of : Token → Inbound
 cancel_all_of token = asked.Cancel (record {
@@ -396,17 +418,75 @@ not_by_itself :
     × (acted entered choose.Nothing ≡ [])
 not_by_itself = (refl, refl, refl, refl, refl, refl, refl, refl, refl, refl, refl, refl, refl, refl)
 
+-- ---- minimum quantities
+
+-- the order of 300 shares with a minimum quantity
+abbrev entered_with : (least : ℕ) → (1 ≤ least) × (least ≤ 999_999) → List Move
+entered_with least set = Comes (asked.Enter (record (order_of t1 300 fits-300) {
+  minimum_quantity = least;
+  minimum_quantity_set = in_reach least set;
+})) choose.AcceptLive ∷ []
+
+-- all of it, which is fill or kill
+abbrev fill_or_kill : List Move
+fill_or_kill = entered_with 300 fits-300
+
+abbrev at_least_200 : List Move
+at_least_200 = entered_with 200 fits-200
+
+abbrev then_200 : List Move
+then_200 = at_least_200 ++ Acts (trade t1 200 fits-200) ∷ []
+
+-- the first trade is of the minimum at least, those behind it of any number
+of_a_minimum :
+    (acted fill_or_kill (trade t1 299 fits-299) ≡ [])
+    × (acted fill_or_kill (trade t1 1 fits-1) ≡ [])
+    × (acted fill_or_kill (trade t1 300 fits-300) ≡ e_line t1 300 1 ∷ [])
+    × (acted at_least_200 (trade t1 199 fits-199) ≡ [])
+    × (acted at_least_200 (trade t1 200 fits-200) ≡ e_line t1 200 1 ∷ [])
+    × (acted then_200 (trade t1 1 fits-1) ≡ e_line t1 1 2 ∷ [])
+of_a_minimum = (refl, refl, refl, refl, refl, refl)
+
+-- a trade that was broken was the first one all the same
+abbrev then_broken : List Move
+then_broken = then_200 ++ Acts break_first ∷ []
+
+-- with less than the minimum open there is no trade
+abbrev then_199_left : List Move
+then_199_left = at_least_200 ++ Acts (off t1 101 fits-101) ∷ []
+
+abbrev then_200_left : List Move
+then_200_left = at_least_200 ++ Acts (off t1 100 fits-100) ∷ []
+
+of_a_minimum_later :
+    (acted then_broken (trade t1 100 fits-100) ≡ e_line t1 100 2 ∷ [])
+    × (acted then_199_left (trade t1 199 fits-199) ≡ [])
+    × (acted then_200_left (trade t1 200 fits-200) ≡ e_line t1 200 1 ∷ [])
+of_a_minimum_later = (refl, refl, refl)
+
+-- A replace that is taken gives a minimum of its own, and the next trade is the first one; one that is rejected changes
+-- nothing.
+abbrev then_replaced : List Move
+then_replaced = then_200 ++ Comes (replace_with 250 fits-250 t1 t2 500 fits-500) choose.AcceptLive ∷ []
+
+of_a_minimum_of_a_replace :
+    (acted then_replaced (trade t2 249 fits-249) ≡ [])
+    × (acted then_replaced (trade t2 250 fits-250) ≡ e_line t2 250 2 ∷ [])
+    × (acted (then_200 ++ Comes replace_500 refuse ∷ []) (trade t1 1 fits-1) ≡ e_line t1 1 2 ∷ [])
+of_a_minimum_of_a_replace = (refl, refl, refl)
+
 -- ---- runs
 
--- five replaces of one order with trades between, and the fourth rejected
+-- five replaces of one order with trades between, and the fourth rejected; 100 shares are less than the minimum of the third
 abbrev replaced_five_times : List Move
 replaced_five_times =
     entered
     ++ Comes (replace_to t1 t2 500 fits-500) choose.AcceptLive
-    ∷ Acts (trade t2 100 fits-100)
-    ∷ Comes (replace_to t2 t3 300 fits-300) choose.AcceptLive
-    ∷ Acts (trade t3 100 fits-100)
-    ∷ Comes (replace_to t3 t4 301 fits-301) choose.AcceptLive
+    ∷ Acts (trade t2 200 fits-200)
+    ∷ Comes (replace_to t2 t3 500 fits-500) choose.AcceptLive
+    ∷ Acts (trade t3 200 fits-200)
+    ∷ Comes (replace_to t3 t4 500 fits-500) choose.AcceptLive
+    ∷ Acts (trade t4 100 fits-100)
     ∷ Comes (replace_to t4 t5 500 fits-500) refuse
     ∷ Acts break_first
     ∷ Comes (replace_to t4 t6 500 fits-500) choose.AcceptDead
@@ -415,13 +495,13 @@ replaced_five_times =
 
 replaced_five_times_is_told :
     told replaced_five_times
-    ≡ u_line t4 t6 400 (codes "D")
+    ≡ u_line t4 t6 300 (codes "D")
     ∷ b_line t4 1
     ∷ j_line t5
-    ∷ u_line t3 t4 101 (codes "L")
-    ∷ e_line t3 100 2
-    ∷ u_line t2 t3 200 (codes "L")
-    ∷ e_line t2 100 1
+    ∷ u_line t3 t4 100 (codes "L")
+    ∷ e_line t3 200 2
+    ∷ u_line t2 t3 300 (codes "L")
+    ∷ e_line t2 200 1
     ∷ u_line t1 t2 500 (codes "L")
     ∷ a_line t1 300 (codes "L")
     ∷ []
@@ -434,7 +514,7 @@ its_life moves =
     (l.unfilled, l.executed, l.cancelled, l.value)
 
 replaced_five_times_is_counted :
-    (its_life replaced_five_times ≡ (0, 100, 400, 23_450_000))
+    (its_life replaced_five_times ≡ (0, 200, 300, 46_900_000))
     × (its_life traded_200 ≡ (100, 200, 0, 46_900_000))
     × (its_life (traded_200 ++ Acts (off t1 100 fits-100) ∷ []) ≡ (0, 200, 100, 46_900_000))
 replaced_five_times_is_counted = (refl, refl, refl)

@@ -38,3 +38,8 @@ module _ (root_of : List ℕ → Option (List ℕ)) (limit : List ℕ → ℕ) w
       (root : List ℕ) → root_of request.token ≡ Some root → request.shares ≤ limit root
   IsSmall (Comes (Cancel request) choice) = Unit {0}
   IsSmall (Acts choice) = Unit {0}
+
+-- An order whose minimum quantity is all of its shares trades all or nothing, as long as no replace of it was taken.
+abbrev pub IsAllOrNothing : BookOrder → Type 0
+IsAllOrNothing c = c.replacements ≡ [] → c.entered.minimum_quantity ≡ c.entered.shares
+    → (c.executed ≡ 0) ⊎ (c.executed ≡ c.entered.shares)

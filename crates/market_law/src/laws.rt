@@ -6,7 +6,7 @@ ghost use Rattle.order_law.specs.Headline.{Each};
 ghost use Rattle.order_law.specs.Life.{life};
 ghost use Rattle.market_law.specs.Machine.{BookOrder};
 ghost use Rattle.market_law.specs.Run.{Move, life_in_book, ran};
-ghost use Rattle.market_law.specs.Moves.{IsKnown, IsOneOf, IsSmall, IsWithin, times};
+ghost use Rattle.market_law.specs.Moves.{IsAllOrNothing, IsKnown, IsOneOf, IsSmall, IsWithin, times};
 ghost use Rattle.market_law.specs.Said.{EachSaid, names};
 
 /// The book of each order is the life of all that the machine said, whatever came and whatever it chose. It does
@@ -36,4 +36,10 @@ pub fn orders_stay_within_what_was_asked()
     ensures { (root_of : List ℕ → Option (List ℕ)) (asked : List Inbound) (limit : List ℕ → ℕ) (moves : List Move)
         → Each (IsKnown root_of (IsOneOf asked)) moves → Each (IsSmall root_of limit) moves
         → Each (IsWithin limit) (ran moves).machine.book }
+{}
+
+/// An order whose minimum quantity is all of its shares, as that of a fill or kill order is, has executed none of them
+/// or all, as long as no replace of it was taken. It does nothing: its contract is the law, for callers to cite.
+pub fn fill_or_kill_trades_all_or_nothing()
+    ensures { (moves : List Move) → Each IsAllOrNothing (ran moves).machine.book }
 {}

@@ -1,6 +1,6 @@
 //! The market's machine, as definitions: what it keeps, what it answers to a message, and what it may do by itself.
 //!
-//! Contracts of the crates above cite `specs/`. In Rust there are the choices that are handed to it, and its four laws.
+//! Contracts of the crates above cite `specs/`. In Rust there are the choices that are handed to it, and its five laws.
 //!
 //! Source: OUCH 4.2, "Inbound Messages" and "Outbound Messages".
 #![tactic(auto)]
@@ -10,7 +10,7 @@ mod laws;
 
 pub use choice::{Breaking, Choice, Letter, Removal, Trading};
 pub use laws::{
-    books_are_lives, orders_stay_within_what_was_asked, tokens_are_used_once,
-    what_is_said_is_lawful,
+    books_are_lives, fill_or_kill_trades_all_or_nothing, orders_stay_within_what_was_asked,
+    tokens_are_used_once, what_is_said_is_lawful,
 };
 pub use order_law::Trade;

@@ -16,7 +16,8 @@ use Rattle.market_book.specs.market_law.declared.choice.Trading.{Trading}
 use Rattle.market_book.specs.market_law.Machine.{BookOrder, Machine, Step, ToCancel, ToEnter, ToReplace, Takes}
 use Rattle.market_book.specs.market_law.Machine.{Rejects, Replaces, TakesOff, Keeps, Cancels, Waits, Denies}
 use Rattle.market_book.specs.market_law.Machine.{act, break_on, cancel, cancel_on, enter, has_trade, inbound}
-use Rattle.market_book.specs.market_law.Machine.{is_open_for, is_token_used, live_order, move, replace, replace_on}
+use Rattle.market_book.specs.market_law.Machine.{is_open_for, is_token_used, live_order, may_trade, move, replace}
+use Rattle.market_book.specs.market_law.Machine.{replace_on}
 use Rattle.market_book.specs.market_law.Machine.{says_nothing, take_off_on, to_cancel, to_enter, to_replace, trade_by}
 use Rattle.market_book.specs.market_law.Machine.{trade_on}
 
@@ -68,7 +69,7 @@ few-trade_by m trading c false e = omega arith
 few-trade_on : (m : Machine) (trading : Trading) (live : Option BookOrder) → IsFew (trade_on m trading live)
 few-trade_on m trading None = omega arith
 few-trade_on m trading (Some c) =
-    few-if (is_open_for trading.shares c) (trade_by m trading c (nat_lt (suc m.matches) (2 ^ 64)) refl) (says_nothing m) (few-trade_by m trading c (nat_lt (suc m.matches) (2 ^ 64)) refl) (omega arith)
+    few-if (may_trade trading.shares c) (trade_by m trading c (nat_lt (suc m.matches) (2 ^ 64)) refl) (says_nothing m) (few-trade_by m trading c (nat_lt (suc m.matches) (2 ^ 64)) refl) (omega arith)
 
 few-take_off_on : (m : Machine) (removal : Removal) (live : Option BookOrder) → IsFew (take_off_on m removal live)
 few-take_off_on m removal None = omega arith

@@ -188,9 +188,9 @@ replace_asked_twice : IsLawful exchanges.replace_asked_twice
 unfolding digits price quantity amount amount_of within scaled fraction worth worth_of last_digits price_text
 replace_asked_twice = record { tells = refl; faults = refl; asks = refl; tokens = refl }
 
-fill_or_kill_filled : IsLawful exchanges.fill_or_kill_filled
+fill_or_kill : IsLawful exchanges.fill_or_kill
 unfolding digits price quantity amount amount_of within scaled fraction worth worth_of last_digits price_text
-fill_or_kill_filled = record { tells = refl; faults = refl; asks = refl; tokens = refl }
+fill_or_kill = record { tells = refl; faults = refl; asks = refl; tokens = refl }
 
 -- ---- several replaces
 

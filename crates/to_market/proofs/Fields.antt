@@ -12,9 +12,10 @@ use Rattle.fix_types.specs.NewOrder.{new_order_fields}
 use Rattle.fix_types.proofs.NewOrderValues.{side-value, symbol-value, quantity-value, type-value, price-value}
 use Rattle.fix_types.proofs.NewOrderValues.{life_time-value, instruction-value, capacity-value, minimum-value}
 use Rattle.order_law.specs.Asks.{Day, Immediate, total_of, limit_of, minimum_of, display_of, life_time_of, capacity_of}
-use Rattle.order_law.specs.Verdicts.{Row, field_rows, sides, life_times, capacities, is_symbol, is_minimum}
+use Rattle.order_law.specs.Verdicts.{Row, field_rows, sides, life_times_of_new, capacities, is_symbol, is_minimum}
 use Rattle.to_market.specs.declared.refusal.Refusal.TheVariants as refusals
-use Rattle.to_market.specs.FieldRows.{is_among, is_none_of, life_time, display, minimum, is_no_minimum, refusal_row}
+use Rattle.to_market.specs.FieldRows.{is_among, is_none_of, life_time, display, minimum, minimum_said}
+use Rattle.to_market.specs.FieldRows.{is_no_minimum, refusal_row}
 use Rattle.to_market.proofs.Rows.{price_rows, price_rows_of}
 
 -- the tests on a value that may be missing
@@ -42,13 +43,13 @@ table side symbol type life instruction capacity quantity minimum prices =
     ∷ refusal_row minimum refusals.MinimumQuantity
     ∷ prices
 
-as_table : (m : Message) → field_rows m ≡ table (not (is_one_of 54 sides m)) (not (is_symbol (text 55 m))) (not (is 40 (codes "2") m)) (has 59 m && not (is_one_of 59 life_times m)) (has 18 m && not (is_one_of 18 (codes "6" ∷ []) m)) (has 528 m && not (is_one_of 528 capacities m)) (not (is_ok (quantity 1 (text 38 m)))) (has 110 m && not (is_minimum m)) (price_rows (not (has 44 m)) (price (text 44 m)))
+as_table : (m : Message) → field_rows m ≡ table (not (is_one_of 54 sides m)) (not (is_symbol (text 55 m))) (not (is 40 (codes "2") m)) (has 59 m && not (is_one_of 59 life_times_of_new m)) (has 18 m && not (is_one_of 18 (codes "6" ∷ []) m)) (has 528 m && not (is_one_of 528 capacities m)) (not (is_ok (quantity 1 (text 38 m)))) (has 110 m && not (is_minimum m)) (price_rows (not (has 44 m)) (price (text 44 m)))
 unfolding table
 as_table m = refl
 
 -- of a message's own fields
 abbrev pub rows_of : NewOrder → List Row
-rows_of m = table (not (is_among sides (m.side ∷ []))) (not (is_symbol m.symbol)) (not (bytes_eq (m.ord_type ∷ []) (codes "2"))) (is_none_of life_times (char_text m.time_in_force)) (is_none_of (codes "6" ∷ []) m.exec_inst) (is_none_of capacities (char_text m.order_capacity)) (not (is_ok (quantity 1 m.order_qty))) (is_no_minimum (result_unwrap_or (quantity 1 m.order_qty) 0) m.min_qty) (price_rows_of m.price)
+rows_of m = table (not (is_among sides (m.side ∷ []))) (not (is_symbol m.symbol)) (not (bytes_eq (m.ord_type ∷ []) (codes "2"))) (is_none_of life_times_of_new (char_text m.time_in_force)) (is_none_of (codes "6" ∷ []) m.exec_inst) (is_none_of capacities (char_text m.order_capacity)) (not (is_ok (quantity 1 m.order_qty))) (is_no_minimum (result_unwrap_or (quantity 1 m.order_qty) 0) m.min_qty) (price_rows_of m.price)
 
 -- a field that is always there
 pub text_there : (tag : ℕ) (m : Message) (value : List ℕ) → first_value tag m ≡ Some value → text tag m ≡ value
@@ -68,7 +69,7 @@ field_rows-fields m =
     let missing : not (has 44 fs) ≡ not (is_some m.price) = ap (λ (v : Option (List ℕ)). not (is_some v)) (price-value m) in
     let text_of_price : text 44 fs ≡ unwrap_or m.price [] = ap (λ (v : Option (List ℕ)). unwrap_or v []) (price-value m) in
     as_table fs
-    ∙ rw (side, symbol, type, other-same 59 life_times fs _ (life_time-value m), other-same 18 (codes "6" ∷ []) fs _ (instruction-value m), other-same 528 capacities fs _ (capacity-value m), quantity_there, no_minimum _ m.min_qty fs (minimum-value m) (total_of-fields m), missing, text_of_price) refl
+    ∙ rw (side, symbol, type, other-same 59 life_times_of_new fs _ (life_time-value m), other-same 18 (codes "6" ∷ []) fs _ (instruction-value m), other-same 528 capacities fs _ (capacity-value m), quantity_there, no_minimum _ m.min_qty fs (minimum-value m) (total_of-fields m), missing, text_of_price) refl
 
 pub character-fields : (m : NewOrder) → character 54 (new_order_fields m) ≡ m.side
 character-fields m = ap (λ (t : List ℕ). slice_index t 0) (text_there 54 (new_order_fields m) _ (side-value m))
@@ -79,12 +80,12 @@ symbol-fields m = text_there 55 (new_order_fields m) m.symbol (symbol-value m)
 pub limit_of-fields : (m : NewOrder) → limit_of (new_order_fields m) ≡ result_unwrap_or (price (unwrap_or m.price [])) 0
 limit_of-fields m = ap (λ (v : Option (List ℕ)). result_unwrap_or (price (unwrap_or v [])) 0) (price-value m)
 
-pub life_time_test : (v : Option (List ℕ)) → (if bytes_eq (unwrap_or v []) (codes "3") then Immediate else Day) ≡ life_time v
+pub life_time_test : (v : Option (List ℕ)) → (if list_any (λ t. bytes_eq (unwrap_or v []) t) (codes "3" ∷ codes "4" ∷ []) then Immediate else Day) ≡ life_time v
 life_time_test None = refl
 life_time_test (Some value) = refl
 
 pub life_time_of-fields : (m : NewOrder) → life_time_of (new_order_fields m) ≡ life_time (char_text m.time_in_force)
-life_time_of-fields m = ap (λ (v : Option (List ℕ)). if bytes_eq (unwrap_or v []) (codes "3") then Immediate else Day) (life_time-value m) ∙ life_time_test (char_text m.time_in_force)
+life_time_of-fields m = ap (λ (v : Option (List ℕ)). if list_any (λ t. bytes_eq (unwrap_or v []) t) (codes "3" ∷ codes "4" ∷ []) then Immediate else Day) (life_time-value m) ∙ life_time_test (char_text m.time_in_force)
 
 pub display_test : (v : Option (List ℕ)) → (if bytes_eq (unwrap_or v []) (codes "6") then 80 else 89) ≡ display v
 display_test None = refl
@@ -104,5 +105,19 @@ pub minimum_test : (v : Option (List ℕ)) → (if is_some v then result_unwrap_
 minimum_test None = refl
 minimum_test (Some value) = refl
 
-pub minimum_of-fields : (m : NewOrder) → minimum_of (new_order_fields m) ≡ minimum m.min_qty
-minimum_of-fields m = ap (λ (v : Option (List ℕ)). if is_some v then result_unwrap_or (quantity 0 (unwrap_or v [])) 0 else 0) (minimum-value m) ∙ minimum_test m.min_qty
+pub least_of : (m : Message) (v : Option (List ℕ)) → first_value 110 m ≡ v → (if has 110 m then result_unwrap_or (quantity 0 (text 110 m)) 0 else 0) ≡ minimum v
+least_of m v e = ap (λ (w : Option (List ℕ)). if is_some w then result_unwrap_or (quantity 0 (unwrap_or w [])) 0 else 0) e ∙ minimum_test v
+
+said_test : (v : Option (List ℕ)) (total least : ℕ) → (if bytes_eq (unwrap_or v []) (codes "4") then total else least) ≡ minimum_said v total least
+said_test None total least = refl
+said_test (Some value) total least = refl
+
+-- the minimum quantity by the values of 59, of 110 and of the total
+pub minimum_of-values : (m : Message) (life least : Option (List ℕ)) → first_value 59 m ≡ life → first_value 110 m ≡ least → minimum_of m ≡ minimum_said life (total_of m) (minimum least)
+minimum_of-values m life least is_life is_least =
+    rw (least_of m least is_least) (ap (λ (v : Option (List ℕ)). if bytes_eq (unwrap_or v []) (codes "4") then total_of m else minimum least) is_life ∙ said_test life (total_of m) (minimum least))
+
+pub minimum_of-fields : (m : NewOrder) → minimum_of (new_order_fields m) ≡ minimum_said (char_text m.time_in_force) (result_unwrap_or (quantity 1 m.order_qty) 0) (minimum m.min_qty)
+minimum_of-fields m =
+    minimum_of-values (new_order_fields m) (char_text m.time_in_force) m.min_qty (life_time-value m) (minimum-value m)
+    ∙ ap (λ (total : ℕ). minimum_said (char_text m.time_in_force) total (minimum m.min_qty)) (total_of-fields m)

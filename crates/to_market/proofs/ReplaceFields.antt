@@ -1,7 +1,9 @@
 -- What a replace's fields are read as, and the rows on them.
-use Rattle.std.proofs.Common.{◌≡◌, Bool, true, ℕ, List, [], ◌∷◌, ◌++◌, refl, ap, ◌∙◌}
-use Rattle.std.specs.Prelude.{◌&&◌, ◌||◌, not, nat_le, Option, Some, is_some, is_ok, unwrap_or, bytes_eq, codes}
+use Rattle.std.proofs.Common.{◌≡◌, Bool, true, false, ℕ, List, [], ◌∷◌, ◌++◌, refl, ap, ◌∙◌, arith}
+use Rattle.std.proofs.lemmas.Bool.Decides.{nat_tests}
+use Rattle.std.specs.Prelude.{◌&&◌, ◌||◌, not, nat_le, Option, Some, None, is_some, is_ok, unwrap_or, bytes_eq, codes}
 use Rattle.std.specs.Prelude.{if◌then◌else◌}
+use Rattle.std.specs.List.{list_any}
 use Rattle.std.specs.Result.{result_unwrap_or}
 use Rattle.fixed_point.specs.Decimal.{price, quantity}
 use Rattle.fix_types.specs.declared.replace_request.ReplaceRequest.{ReplaceRequest}
@@ -18,10 +20,11 @@ use Rattle.order_law.specs.Verdicts.{port_rows, rows_of_request}
 use Rattle.to_market.specs.declared.named_order.NamedOrder.{NamedOrder}
 use Rattle.to_market.specs.declared.refusal.Refusal.{Refusal}
 use Rattle.to_market.specs.declared.refusal.Refusal.TheVariants as refusals
-use Rattle.to_market.specs.FieldRows.{is_none_of, life_time, display, minimum, is_no_minimum}
+use Rattle.to_market.specs.FieldRows.{is_fill_or_kill, is_none_of, life_time, display, minimum}
+use Rattle.to_market.specs.FieldRows.{is_no_minimum}
 use Rattle.to_market.specs.Names.{HasRead, changes_terms}
 use Rattle.to_market.specs.Refusals.{request_code_of, refusal_text}
-use Rattle.to_market.proofs.Fields.{display_test, life_time_test, minimum_test, no_minimum, other-same, text_there}
+use Rattle.to_market.proofs.Fields.{display_test, life_time_test, minimum_of-values, no_minimum, other-same, text_there}
 use Rattle.to_market.proofs.Rows.{price_rows, price_rows_of}
 
 -- a row of requests that gives this refusal
@@ -88,10 +91,17 @@ pub limit_of-replace : (m : ReplaceRequest) → limit_of (replace_request_fields
 limit_of-replace m = ap (λ (v : Option (List ℕ)). result_unwrap_or (price (unwrap_or v [])) 0) (price-value m)
 
 pub life_time_of-replace : (m : ReplaceRequest) → life_time_of (replace_request_fields m) ≡ life_time (char_text m.time_in_force)
-life_time_of-replace m = ap (λ (v : Option (List ℕ)). if bytes_eq (unwrap_or v []) (codes "3") then Immediate else Day) (life_time-value m) ∙ life_time_test (char_text m.time_in_force)
+life_time_of-replace m = ap (λ (v : Option (List ℕ)). if list_any (λ t. bytes_eq (unwrap_or v []) t) (codes "3" ∷ codes "4" ∷ []) then Immediate else Day) (life_time-value m) ∙ life_time_test (char_text m.time_in_force)
 
 pub display_of-replace : (m : ReplaceRequest) → display_of (replace_request_fields m) ≡ display m.exec_inst
 display_of-replace m = ap (λ (v : Option (List ℕ)). if bytes_eq (unwrap_or v []) (codes "6") then 80 else 89) (instruction-value m) ∙ display_test m.exec_inst
 
-pub minimum_of-replace : (m : ReplaceRequest) → minimum_of (replace_request_fields m) ≡ minimum m.min_qty
-minimum_of-replace m = ap (λ (v : Option (List ℕ)). if is_some v then result_unwrap_or (quantity 0 (unwrap_or v [])) 0 else 0) (minimum-value m) ∙ minimum_test m.min_qty
+-- a life that a replace may have isn't fill or kill
+not_fill_or_kill : (life : Option ℕ) → is_none_of life_times (char_text life) ≡ false → is_fill_or_kill (char_text life) ≡ false
+not_fill_or_kill None e = refl
+not_fill_or_kill (Some byte) e = grind (arith, nat_tests)
+
+pub minimum_of-replace : (m : ReplaceRequest) → is_none_of life_times (char_text m.time_in_force) ≡ false → minimum_of (replace_request_fields m) ≡ minimum m.min_qty
+minimum_of-replace m is_life =
+    minimum_of-values (replace_request_fields m) (char_text m.time_in_force) m.min_qty (life_time-value m) (minimum-value m)
+    ∙ rw (not_fill_or_kill m.time_in_force is_life) refl

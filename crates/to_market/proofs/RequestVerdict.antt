@@ -116,6 +116,7 @@ pub record HasFields (ask : ReplaceAsk) (m : ReplaceRequest) : Type 0 where
   pub shares : ◌≡◌ {A = Result ℕ DecimalRefusal} (quantity 1 m.order_qty) (Ok ask.shares)
   pub price : ◌≡◌ {A = Result ℕ DecimalRefusal} (price (unwrap_or m.price [])) (Ok ask.price)
   pub life_time : life_time_of_seconds ask.time_in_force ≡ Some (life_time (char_text m.time_in_force))
+  pub is_life : is_none_of life_times (char_text m.time_in_force) ≡ false
   pub display : ask.display ≡ display m.exec_inst
   pub minimum : ask.minimum_quantity ≡ minimum m.min_qty
 
@@ -127,5 +128,5 @@ AsksToReplace-fields ask m has = record {
   price = sym (limit_of-replace m ∙ ap (λ (r : Result ℕ DecimalRefusal). result_unwrap_or r 0) has.price);
   life_time = has.life_time ∙ ap (λ (l : LifeTime). Some l) (sym (life_time_of-replace m));
   display = has.display ∙ sym (display_of-replace m);
-  minimum = has.minimum ∙ sym (minimum_of-replace m);
+  minimum = has.minimum ∙ sym (minimum_of-replace m has.is_life);
 }

@@ -9,11 +9,11 @@ use Rattle.fixed_point.specs.declared.refusal.DecimalRefusal.{DecimalRefusal}
 use Rattle.fix_types.specs.declared.new_order.NewOrder.{NewOrder}
 use Rattle.fix_values.specs.Slots.{char_text}
 use Rattle.fix_types.specs.NewOrder.{new_order_fields}
-use Rattle.order_law.specs.Verdicts.{Row, first_row, field_rows, sides, life_times, capacities, is_symbol}
+use Rattle.order_law.specs.Verdicts.{Row, first_row, field_rows, sides, life_times_of_new, capacities, is_symbol}
 use Rattle.to_market.specs.declared.refusal.Refusal.TheVariants as refusals
 use Rattle.to_market.specs.Refusals.{refused_by}
 use Rattle.to_market.specs.FieldRows.{is_among, is_none_of, is_no_minimum, refusal_row}
-use Rattle.to_market.specs.FieldRows.{life_time, display, minimum}
+use Rattle.to_market.specs.FieldRows.{life_time, display, minimum, minimum_said}
 use Rattle.to_market.specs.NewAsks.{AsksAs}
 use Rattle.to_market.specs.declared.new_ask.NewAsk.{NewAsk}
 use Rattle.to_market.proofs.Rows.{price_rows_of}
@@ -29,7 +29,7 @@ pub record PassesTerms (m : NewOrder) : Type 0 where
   pub side : is_among sides (m.side ∷ []) ≡ true
   pub symbol : is_symbol m.symbol ≡ true
   pub type : bytes_eq (m.ord_type ∷ []) (codes "2") ≡ true
-  pub life_time : is_none_of life_times (char_text m.time_in_force) ≡ false
+  pub life_time : is_none_of life_times_of_new (char_text m.time_in_force) ≡ false
   pub instruction : is_none_of (codes "6" ∷ []) m.exec_inst ≡ false
   pub capacity : is_none_of capacities (char_text m.order_capacity) ≡ false
 
@@ -64,7 +64,7 @@ pub record HasFields (ask : NewAsk) (own : ℕ) (m : NewOrder) : Type 0 where
   pub life_time : life_time_of_seconds ask.time_in_force ≡ Some (life_time (char_text m.time_in_force))
   pub display : ask.display ≡ display m.exec_inst
   pub capacity : ask.capacity ≡ unwrap_or m.order_capacity own
-  pub minimum : ask.minimum_quantity ≡ minimum m.min_qty
+  pub minimum : ask.minimum_quantity ≡ minimum_said (char_text m.time_in_force) ask.shares (minimum m.min_qty)
 
 -- says what the message asks
 pub AsksAs-fields : (ask : NewAsk) (own : ℕ) (m : NewOrder) → is_symbol m.symbol ≡ true → HasFields ask own m → AsksAs ask own (new_order_fields m)
@@ -77,5 +77,5 @@ AsksAs-fields ask own m good has = record {
   life_time = has.life_time ∙ ap (λ (l : LifeTime). Some l) (sym (life_time_of-fields m));
   display = has.display ∙ sym (display_of-fields m);
   capacity = has.capacity ∙ sym (capacity_of-fields own m);
-  minimum = has.minimum ∙ sym (minimum_of-fields m);
+  minimum = has.minimum ∙ ap (λ (r : Result ℕ DecimalRefusal). minimum_said (char_text m.time_in_force) (result_unwrap_or r 0) (minimum m.min_qty)) (sym has.shares) ∙ sym (minimum_of-fields m);
 }

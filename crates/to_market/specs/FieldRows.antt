@@ -2,7 +2,7 @@
 -- themselves stand in `order_law`; `proofs/Fields.antt` and `proofs/ReplaceFields.antt` have that these are what they
 -- judge of a message's tags.
 use Rattle.std.specs.Prelude.{◌≡◌, ℕ, Bool, true, false, not, nat_le, List, Option, Some, None, option_map, Result, Ok}
-use Rattle.std.specs.Prelude.{Err, slice_index, if◌then◌else◌, bytes_eq, codes}
+use Rattle.std.specs.Prelude.{[], ◌∷◌, Err, slice_index, if◌then◌else◌, bytes_eq, codes}
 use Rattle.std.specs.List.{list_any}
 use Rattle.std.specs.Result.{result_unwrap_or}
 use Rattle.fixed_point.specs.Decimal.{price, quantity}
@@ -26,10 +26,15 @@ abbrev pub is_none_of : List (List ℕ) → Option (List ℕ) → Bool
 is_none_of wanted None = false
 is_none_of wanted (Some value) = not (is_among wanted value)
 
--- 59=3 lives for an instant, anything else for the day
+-- 59=3 and 59=4 live for an instant, anything else for the day
 abbrev pub life_time : Option (List ℕ) → LifeTime
 life_time None = Day
-life_time (Some value) = if bytes_eq value (codes "3") then Immediate else Day
+life_time (Some value) = if is_among (codes "3" ∷ codes "4" ∷ []) value then Immediate else Day
+
+-- 59=4
+abbrev pub is_fill_or_kill : Option (List ℕ) → Bool
+is_fill_or_kill None = false
+is_fill_or_kill (Some value) = bytes_eq value (codes "4")
 
 -- 18=6 isn't displayed
 abbrev pub display : Option (List ℕ) → ℕ
@@ -40,6 +45,10 @@ display (Some value) = if bytes_eq value (codes "6") then letter (codes "P") els
 abbrev pub minimum : Option (List ℕ) → ℕ
 minimum None = 0
 minimum (Some value) = result_unwrap_or (quantity 0 value) 0
+
+-- what a new order says of it, by 59, its total and its 110: a fill or kill order its total
+abbrev pub minimum_said : Option (List ℕ) → ℕ → ℕ → ℕ
+minimum_said value total least = if is_fill_or_kill value then total else least
 
 -- a number that was read, up to this many
 abbrev pub is_up_to : ℕ → Result ℕ DecimalRefusal → Bool

@@ -15,7 +15,9 @@ ghost use Rattle.to_market.specs.NewAsks.{AsksAs, asked_with, enter_bytes, clien
 ghost use Rattle.to_market.specs.Refusals.{refused_by};
 
 use crate::client_terms::ClientTerms;
-use crate::limits::{LIMIT, display_of, minimum_of, price_of, shares_of, time_in_force_of};
+use crate::limits::{
+    LIMIT, display_of, minimum_of, minimum_said, price_of, shares_of, time_in_force_of_new,
+};
 use crate::new_ask::NewAsk;
 use crate::refusal::Refusal;
 use fix_types::NewOrder;
@@ -35,11 +37,11 @@ pub fn ask_of(order: &NewOrder, terms: &ClientTerms) -> Result<NewAsk, Refusal>
     let side = side_of(order.side).ok_or(Refusal::Side)?;
     let stock = stock_of(&order.symbol).ok_or(Refusal::Symbol)?;
     refuse_if(order.ord_type.byte() != LIMIT, Refusal::OrderType)?;
-    let time_in_force = time_in_force_of(order.time_in_force).ok_or(Refusal::TimeInForce)?;
+    let time_in_force = time_in_force_of_new(order.time_in_force).ok_or(Refusal::TimeInForce)?;
     let display = display_of(&order.exec_inst).ok_or(Refusal::ExecutionInstruction)?;
     let capacity = capacity_of(order.order_capacity, terms).ok_or(Refusal::Capacity)?;
     let shares = shares_of(&order.order_qty).ok_or(Refusal::Quantity)?;
-    let minimum_quantity = minimum_of(&order.min_qty, shares).ok_or(Refusal::MinimumQuantity)?;
+    let minimum = minimum_of(&order.min_qty, shares).ok_or(Refusal::MinimumQuantity)?;
     let price = price_of(&order.price)?;
     Ok(NewAsk {
         side,
@@ -49,7 +51,7 @@ pub fn ask_of(order: &NewOrder, terms: &ClientTerms) -> Result<NewAsk, Refusal>
         time_in_force,
         display,
         capacity,
-        minimum_quantity,
+        minimum_quantity: minimum_said(order.time_in_force, shares, minimum),
     })
 }
 

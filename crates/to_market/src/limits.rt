@@ -6,7 +6,7 @@ ghost use Rattle.wire_law.specs.Printable.{is_printable};
 ghost use Rattle.fixed_point.specs.Decimal as decimal;
 ghost use Rattle.fix_values.specs.Slots.{char_text};
 ghost use Rattle.order_law.specs.Asks.{life_time_of_seconds};
-ghost use Rattle.order_law.specs.Verdicts.{life_times};
+ghost use Rattle.order_law.specs.Verdicts.{life_times, life_times_of_new};
 ghost use Rattle.to_market.specs.FieldRows.{is_none_of, is_no_minimum, price_read, RefusesPrice};
 ghost use Rattle.to_market.specs.FieldRows as fields;
 
@@ -17,13 +17,34 @@ use order_law::Text;
 
 /// FIX's OrdType (40): limit.
 pub const LIMIT: u8 = b'2';
+/// FIX's TimeInForce (59): fill or kill.
+const FILL_OR_KILL: u8 = b'4';
 /// OUCH's time in force of an order that lives until the market closes.
 const DAY: u32 = 99_998;
 /// OUCH's time in force of an order that is executed at once or cancelled.
 const IMMEDIATE: u32 = 0;
 
-/// TimeInForce (59): 0 or missing day, 3 immediate or cancel.
-pub fn time_in_force_of(time_in_force: Option<Character>) -> Option<u32>
+/// TimeInForce (59) of a new order: 0 or missing day, 3 immediate or cancel, 4 fill or kill, which is immediate too:
+/// what sets it apart is its minimum quantity.
+pub fn time_in_force_of_new(time_in_force: Option<Character>) -> Option<u32>
+    ensures { MatchOption result
+        (is_none_of life_times_of_new (char_text time_in_force) ≡ true)
+        (λ seconds. (is_none_of life_times_of_new (char_text time_in_force) ≡ false)
+        × (life_time_of_seconds seconds ≡ Some (fields.life_time (char_text time_in_force)))) }
+{
+    let Some(time_in_force) = time_in_force else {
+        return Some(DAY);
+    };
+    match time_in_force.byte() {
+        b'0' => Some(DAY),
+        b'3' => Some(IMMEDIATE),
+        FILL_OR_KILL => Some(IMMEDIATE),
+        _ => None,
+    }
+}
+
+/// TimeInForce (59) of a replace: 0 or missing day, 3 immediate or cancel.
+pub fn time_in_force_of_replace(time_in_force: Option<Character>) -> Option<u32>
     ensures { MatchOption result
         (is_none_of life_times (char_text time_in_force) ≡ true)
         (λ seconds. (is_none_of life_times (char_text time_in_force) ≡ false)
@@ -79,6 +100,17 @@ pub fn minimum_of(min_qty: &Option<FloatText>, shares: Shares) -> Option<u32>
     match parse_qty(min_qty.as_slice(), 0) {
         Ok(minimum) if minimum <= shares.count() => Some(minimum),
         _ => None,
+    }
+}
+
+/// The minimum quantity that a new order says, where its MinQty (110) is this minimum: of a fill or kill order (59=4)
+/// all its shares, so that it trades as a whole or not at all.
+pub fn minimum_said(time_in_force: Option<Character>, shares: Shares, minimum: u32) -> u32
+    ensures { result ≡ fields.minimum_said (char_text time_in_force) shares minimum }
+{
+    match time_in_force {
+        Some(given) if given.byte() == FILL_OR_KILL => shares.count(),
+        _ => minimum,
     }
 }
 

@@ -21,7 +21,7 @@ ghost use Rattle.to_market.specs.RequestAsks.{AsksToReplace, cancel_asked_with, 
 ghost use Rattle.to_market.specs.RequestAsks.{replace_bytes};
 
 use crate::asking::refuse_if;
-use crate::limits::{LIMIT, display_of, minimum_of, price_of, shares_of, time_in_force_of};
+use crate::limits::{LIMIT, display_of, minimum_of, price_of, shares_of, time_in_force_of_replace};
 use crate::named_order::NamedOrder;
 use crate::port_state::PortState;
 use crate::refusal::Refusal;
@@ -100,7 +100,9 @@ fn change_of(
 {
     refuse_if(has_other_terms(request, order), Refusal::OtherTerms)?;
     refuse_if(request.ord_type.byte() != LIMIT, Refusal::OrderType)?;
-    let time_in_force = time_in_force_of(request.time_in_force).ok_or(Refusal::TimeInForce)?;
+    let time_in_force = time_in_force_of_replace(request.time_in_force).ok_or(
+        Refusal::TimeInForce,
+    )?;
     let display = display_of(&request.exec_inst).ok_or(Refusal::ExecutionInstruction)?;
     let shares = shares_of(&request.order_qty).ok_or(Refusal::Quantity)?;
     let minimum_quantity = minimum_of(&request.min_qty, shares).ok_or(Refusal::MinimumQuantity)?;

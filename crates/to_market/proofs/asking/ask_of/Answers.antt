@@ -1,6 +1,6 @@
 use Rattle.std.proofs.Common.{rules, ◌∙◌}
 use Rattle.to_market.proofs.Rows.{price-limit, price-refused, price-taken}
-use Rattle.to_market.proofs.Verdict.{PassesTerms, by_quantity, by_price, AsksAs-fields}
+use Rattle.to_market.proofs.Verdict.{PassesTerms, by_quantity, by_minimum, by_price, AsksAs-fields}
 use Rattle.to_market.proofs.asking.ask_of.Goals as goal
 
 pub returns-in_err-shares-clause-verdict : goal.returns-in_err-shares-clause-verdict
@@ -15,6 +15,20 @@ returns-in_err-shares-clause-verdict c =
       capacity = search rules;
     } in
     let verdict = by_quantity m passes (search rules) in
+    search (rules, verdict)
+
+pub returns-in_err-minimum-clause-verdict : goal.returns-in_err-minimum-clause-verdict
+returns-in_err-minimum-clause-verdict c =
+    let m = c.args.order.now in
+    let passes : PassesTerms m = record {
+      side = search rules;
+      symbol = search rules;
+      type = search rules;
+      life_time = search rules;
+      instruction = search rules;
+      capacity = search rules;
+    } in
+    let verdict = by_minimum m c.in_ok-shares.shares passes (search rules) (search rules) in
     search (rules, verdict)
 
 pub returns-in_err-price-clause-verdict : goal.returns-in_err-price-clause-verdict

@@ -42,6 +42,7 @@ returns-clause-asks c =
       shares = search rules;
       price = price-limit c.args.request.now.price c.in_ok-price.price (search rules);
       life_time = search rules;
+      is_life = search rules;
       display = search rules;
       minimum = search rules;
     })

@@ -8,4 +8,4 @@ pub returns : goal.returns
 returns c =
     let found : find (stands_as c.args.match_number) c.self.inside.trades.items ≡ Some c.in-Some.trade =
     sym (ap (find (stands_as c.args.match_number)) c.as_slice.ensures.value) ∙ sym c.standing.ensures ∙ c.in-Some.is in
-    rw (← c.self.view_is, found) (same-order _ _ refl refl refl (search rules) refl (search rules) (search rules))
+    rw (← c.self.view_is, found) (same-order _ _ refl refl refl (search rules) refl (search rules) (search rules) refl)
