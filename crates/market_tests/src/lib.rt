@@ -6,4 +6,6 @@
 #[cfg(test)]
 mod logins;
 #[cfg(test)]
+mod minimums;
+#[cfg(test)]
 mod orders;

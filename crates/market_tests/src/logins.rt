@@ -28,7 +28,7 @@ pub fn bytes_of(alloc: Global, packets: &[Packet]) -> Result<Vec<u8>, Fail> {
 }
 
 /// A new link on which the session and number of a login are these, 30 bytes.
-fn logged_on(alloc: Global, sim: &mut Sim, asked: &[u8]) -> Result<Vec<u8>, Fail> {
+pub fn logged_on(alloc: Global, sim: &mut Sim, asked: &[u8]) -> Result<Vec<u8>, Fail> {
     sim.step(alloc, SimEvent::Gone)?;
     sim.step(alloc, SimEvent::Up)?;
     let mut payload = Vec::from_slice(alloc, USER)?;
