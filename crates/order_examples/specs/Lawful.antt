@@ -273,3 +273,11 @@ rejected_after_it_fell = record { tells = refl; faults = refl; asks = refl; toke
 trades_between_replaces : IsLawful several.trades_between_replaces
 unfolding digits price quantity amount amount_of within scaled fraction worth worth_of last_digits price_text
 trades_between_replaces = record { tells = refl; faults = refl; asks = refl; tokens = refl }
+
+replaces_of_two_orders : IsLawful several.replaces_of_two_orders
+unfolding digits price quantity amount amount_of within scaled fraction worth worth_of last_digits price_text
+replaces_of_two_orders = record { tells = refl; faults = refl; asks = refl; tokens = refl }
+
+fall_beside_another_order : IsLawful several.fall_beside_another_order
+unfolding digits price quantity amount amount_of within scaled fraction worth worth_of last_digits price_text
+fall_beside_another_order = record { tells = refl; faults = refl; asks = refl; tokens = refl }

@@ -8,7 +8,7 @@ use Rattle.order_examples.specs.Transcript.{fixed_terms, heard_by_client, faulte
 use Rattle.order_examples.specs.Transcript.{rejected_message, canceled_message, cancel_reject_message}
 use Rattle.order_examples.specs.Exchanges.{only_entered, entered_and_accepted, four_unanswered, cancelled_while_down}
 use Rattle.order_examples.specs.Exchanges.{filled_while_cancel_pending, ordered_on_a_faulted_port, two_clients}
-use Rattle.order_examples.specs.SeveralReplaces.{fall_answers_the_cancel, four_replaces_and_a_cancel}
+use Rattle.order_examples.specs.SeveralReplaces.{fall_answers_the_cancel, fall_beside_another_order, four_replaces_and_a_cancel}
 use Rattle.order_examples.specs.SeveralReplaces.{four_replaces_done_in_order}
 
 -- by types and tokens, in the order in which it was asked
@@ -60,6 +60,9 @@ lists :
     ∷ heard_by_client (replaced_message 2 1 500 (codes "L")) [] ∷ four_replaces_and_a_cancel)
     ≡ SaysCancel (token_text 2) ∷ [])  -- the cancel of the live token stays
     × (unanswered_on 1 fall_answers_the_cancel ≡ [])
+    × (unanswered_on 1 fall_beside_another_order
+    ≡ SaysNew (token_text 2) ∷ SaysCancel (token_text 1) ∷ SaysReplace (token_text 2) (token_text 4)
+    ∷ [])  -- what is asked of the other order stays
     × (unanswered_on 1 two_clients ≡ SaysNew (token_text 1) ∷ SaysNew (token_text 2) ∷ [])
 unfolding digits price quantity amount amount_of within scaled fraction worth worth_of last_digits
-lists = (refl, refl, refl, refl, refl, refl, refl, refl, refl, refl, refl, refl, refl, refl, refl, refl, refl, refl, refl, refl, refl, refl)
+lists = (refl, refl, refl, refl, refl, refl, refl, refl, refl, refl, refl, refl, refl, refl, refl, refl, refl, refl, refl, refl, refl, refl, refl)

@@ -7,7 +7,7 @@ use Rattle.order_examples.specs.Transcript.{asked_turn, heard_by_client, faulted
 use Rattle.order_examples.specs.Transcript.{cancel_message, accepted_message, replaced_message, replaced_at}
 use Rattle.order_examples.specs.Transcript.{executed_message, canceled_message, rejected_message}
 use Rattle.order_examples.specs.Transcript.{cancel_pending_message, cancel_reject_message}
-use Rattle.order_examples.specs.Exchanges.{replace_asked_while_waiting, replace_pending}
+use Rattle.order_examples.specs.Exchanges.{four_unanswered, replace_asked_while_waiting, replace_pending}
 
 -- a second replace, which names the first one's id, goes from the first one's token
 abbrev pub two_replaces_pending : OrderHistory
@@ -246,3 +246,19 @@ trades_between_replaces =
     (message (codes "35=8|37=1|11=A1|17=5|150=F|39=E|55=INTC|54=1|38=300|44=23.45|32=100|31=23.45|151=200|14=100|6=23.45")
     ∷ [])
     ∷ two_replaces_pending
+
+-- the other order of the port is to be replaced too, while it waits
+abbrev pub replaces_of_two_orders : OrderHistory
+replaces_of_two_orders =
+    asked_turn (codes "35=G|41=B1|11=B2|38=20|40=2|44=1.5")
+    (codes "35=8|37=2|11=B2|41=B1|17=6|150=E|39=E|55=MSFT|54=2|38=10|44=1.5|151=10|14=0|6=0")
+    (replace_at 15000 2 4 20 ∷ [])
+    ∷ four_unanswered
+
+-- a replace that is rejected takes none of another order with it
+abbrev pub fall_beside_another_order : OrderHistory
+fall_beside_another_order =
+    heard_by_client (rejected_message 3 (codes "X"))
+    (message (codes "35=9|37=1|11=A2|41=A1|39=6|434=2|102=2|58=X")
+    ∷ [])
+    ∷ replaces_of_two_orders
