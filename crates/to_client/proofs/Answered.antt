@@ -19,13 +19,13 @@ use Rattle.to_client.specs.declared.shown.Shown.{Shown}
 use Rattle.to_client.specs.Pending.{IsPending, each_rejected, rejects_of, without_replaces}
 use Rattle.to_client.specs.Shows.{IsAnyRequest, IsRequest, ShowsAny, ShowsAs}
 
-abbrev AreReplaces : List Entry → Type 0
+abbrev pub AreReplaces : List Entry → Type 0
 AreReplaces rs = Each (λ (q : Entry). is_replace q.message ≡ true) rs
 
-abbrev IsCancel : Option Entry → Type 0
+abbrev pub IsCancel : Option Entry → Type 0
 IsCancel c = IfSome c (λ (q : Entry). is_replace q.message ≡ false)
 
-abbrev of_replaces : List Entry → Bool
+abbrev pub of_replaces : List Entry → Bool
 of_replaces qs = list_any (λ (q : Entry). is_replace q.message) qs
 
 append-nothing : (qs : List Entry) → qs ++ [] ≡ qs
@@ -56,7 +56,7 @@ filter-replaces [] None are is = refl
 filter-replaces [] (Some q) are is = rw is refl
 filter-replaces (q ∷ rs) c are is = rw are.0 (ap (λ (qs : List Entry). q ∷ qs) (filter-replaces rs c are.1 is))
 
-filter-cancel : (rs : List Entry) (c : Option Entry) → AreReplaces rs → IsCancel c → filter law.is_cancel (rs ++ option_to_list c) ≡ option_to_list c
+pub filter-cancel : (rs : List Entry) (c : Option Entry) → AreReplaces rs → IsCancel c → filter law.is_cancel (rs ++ option_to_list c) ≡ option_to_list c
 filter-cancel [] None are is = refl
 filter-cancel [] (Some q) are is = rw is refl
 filter-cancel (q ∷ rs) c are is = rw are.0 (filter-cancel rs c are.1 is)

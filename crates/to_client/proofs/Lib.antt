@@ -3,5 +3,5 @@ mod Reported
 mod Refused
 mod OnRequests
 pub mod Answered
-mod Rejects
-mod OfOrders
+pub mod Rejects
+pub mod OfOrders

@@ -17,10 +17,10 @@ use Rattle.to_client.specs.Shows.{IsAnyRequest, IsRequest, ShowsAs}
 use Rattle.to_client.proofs.Answered.{before-shows}
 
 -- the first of a list that isn't empty, and those behind it
-record IsSplit (replaces : List Replacing) (first : Replacing) (rest : List Replacing) : Type 0 where
-  all : replaces ≡ first ∷ rest
+pub record IsSplit (replaces : List Replacing) (first : Replacing) (rest : List Replacing) : Type 0 where
+  pub all : replaces ≡ first ∷ rest
 
-split-of : (replaces : List Replacing) (first : Replacing) → first ≡ get_or replaces 0 first → 1 ≤ length replaces → IsSplit replaces first (take (length replaces - 1) (drop 1 replaces))
+pub split-of : (replaces : List Replacing) (first : Replacing) → first ≡ get_or replaces 0 first → 1 ≤ length replaces → IsSplit replaces first (take (length replaces - 1) (drop 1 replaces))
 split-of [] first is some = absurd (omega (arith, some))
 split-of (r ∷ rest) first is some =
     let same : first ≡ r = is in
@@ -28,7 +28,7 @@ split-of (r ∷ rest) first is some =
     record { all = ap (λ (x : Replacing). x ∷ rest) (sym same) ∙ ap (λ (xs : List Replacing). first ∷ xs) (sym (take_all (length (r ∷ rest) - 1) rest fewer)) }
 
 -- whether replaces are behind it
-some-behind : (rest : List Replacing) (qs : List Entry) → messages_in rest ≡ messages_of qs → Each (λ (q : Entry). is_replace q.message ≡ true) qs → list_any (λ (q : Entry). is_replace q.message) qs ≡ not (length rest == 0)
+pub some-behind : (rest : List Replacing) (qs : List Entry) → messages_in rest ≡ messages_of qs → Each (λ (q : Entry). is_replace q.message ≡ true) qs → list_any (λ (q : Entry). is_replace q.message) qs ≡ not (length rest == 0)
 some-behind [] [] same are = refl
 some-behind [] (q ∷ qs) same are = absurd (cc)
 some-behind (r ∷ rest) [] same are = absurd (cc)
