@@ -33,9 +33,11 @@ by_clients :
     × (by_new (codes "35=D|11=B1|54=1|55=INTC|38=300|40=2|44=23.45|59=0|110=0")
     ≡ New (letter (codes "1")) (codes "INTC") (limits 300 234500 Day 0 (codes "Y")) (letter (codes "A")))
     × (by_new (codes "35=D|11=B1|54=1|55=INTC|38=300|40=2|44=23.45|59=4")
-    ≡ New (letter (codes "1")) (codes "INTC") (limits 300 234500 Immediate 300 (codes "Y")) (letter (codes "A")))
-    × (by_new (codes "35=D|11=B1|54=1|55=INTC|38=300|40=2|44=23.45|59=4|110=100")
-    ≡ New (letter (codes "1")) (codes "INTC") (limits 300 234500 Immediate 300 (codes "Y")) (letter (codes "A")))
+    ≡ New (letter (codes "1")) (codes "INTC") (limits 300 234500 Immediate 300 (codes "Y"))
+    (letter (codes "A")))  -- fill or kill: all or nothing
+    × (by_new (codes "35=D|11=B1|54=1|55=INTC|38=300|40=2|44=23.45|59=4|110=7")
+    ≡ New (letter (codes "1")) (codes "INTC") (limits 300 234500 Immediate 300 (codes "Y"))
+    (letter (codes "A")))  -- whatever minimum it asks
     × (by_request (codes "35=G|41=A1|11=B1|38=500|40=2|44=23.5")
     ≡ Some (Change 7 (limits 500 235000 Day 0 (codes "Y"))))
     × (by_request (codes "35=G|41=A1|11=B1|38=500|40=2|44=23.5|59=3|18=6|110=200")

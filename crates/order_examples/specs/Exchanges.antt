@@ -5,9 +5,9 @@ use Rattle.order_law.specs.History.{OrderHistory}
 use Rattle.order_machine.specs.fix_fields.Field.{Message}
 use Rattle.order_machine.specs.fix_fields.Transcript.{message}
 use Rattle.order_examples.specs.Transcript.{asked_turn, asked_by, heard_by_client, heard_by_client_on, faulted}
-use Rattle.order_examples.specs.Transcript.{faulted_on, enter_as, enter_message, enter_sale_message}
-use Rattle.order_examples.specs.Transcript.{enter_whole_message, replace_message, cancel_message, accepted_message}
-use Rattle.order_examples.specs.Transcript.{accepted_at, replaced_message}
+use Rattle.order_examples.specs.Transcript.{faulted_on, enter_as, enter_message, enter_or_kill_message}
+use Rattle.order_examples.specs.Transcript.{enter_sale_message, replace_message}
+use Rattle.order_examples.specs.Transcript.{cancel_message, accepted_message, accepted_at, replaced_message}
 use Rattle.order_examples.specs.Transcript.{replaced_at, executed_message, canceled_message, broken_message}
 use Rattle.order_examples.specs.Transcript.{rejected_message, cancel_pending_message, cancel_reject_message}
 use Rattle.order_examples.specs.Transcript.{system_message}
@@ -469,27 +469,24 @@ order_is_cancelled =
     ∷ [])
     ∷ cancel_at_the_market
 
--- a second replace waits for the first
+-- a second replace, which names the id that the first one named, goes from the first one's token
 abbrev pub replace_asked_twice : OrderHistory
 replace_asked_twice =
     asked_turn (codes "35=G|41=A1|11=A3|38=400|40=2|44=23.45")
-    (codes "35=9|37=1|11=A3|41=A1|39=E|434=2|102=3|58=already pending")
-    []
+    (codes "35=8|37=1|11=A3|41=A1|17=4|150=E|39=E|55=INTC|54=1|38=300|44=23.45|151=300|14=0|6=0")
+    (replace_message 2 3 400 ∷ [])
     ∷ replace_pending
 
--- A fill or kill order is immediate, and its minimum is its total whatever 110 says. A replace can't ask it.
-abbrev pub fill_or_kill : OrderHistory
-fill_or_kill =
+-- a fill or kill order says its total as its minimum quantity, though it asks a smaller one, and is filled at once
+abbrev pub fill_or_kill_filled : OrderHistory
+fill_or_kill_filled =
     heard_by_client (executed_message 1 300 234500 7)
     (message (codes "35=8|37=1|11=A1|17=3|150=F|39=2|55=INTC|54=1|38=300|44=23.45|32=300|31=23.45|151=0|14=300|6=23.45")
     ∷ [])
-    ∷ asked_turn (codes "35=G|41=A1|11=A2|38=500|40=2|44=23.45|59=4")
-    (codes "35=9|37=1|11=A2|41=A1|39=0|434=2|102=99|58=time in force")
-    []
     ∷ heard_by_client (accepted_message 1 300 (codes "INTC    ") (codes "L"))
     (message (codes "35=8|37=1|11=A1|17=2|150=0|39=0|55=INTC|54=1|38=300|44=23.45|151=300|14=0|6=0")
     ∷ [])
-    ∷ asked_turn (codes "35=D|11=A1|54=1|55=INTC|38=300|40=2|44=23.45|59=4|110=100|528=P")
+    ∷ asked_turn (codes "35=D|11=A1|54=1|55=INTC|38=300|40=2|44=23.45|59=4|110=7|528=P")
     (codes "35=8|37=1|11=A1|17=1|150=A|39=A|55=INTC|54=1|38=300|44=23.45|151=300|14=0|6=0")
-    (enter_whole_message 1 300 ∷ [])
+    (enter_or_kill_message 1 300 ∷ [])
     ∷ []
