@@ -1,5 +1,5 @@
 -- Orders and tokens are led to by their keys.
-use Rattle.std.proofs.Common.{◌≡◌, ℕ, zero, suc, ◌<◌, ◌-◌, ◌^◌, Bool, true, false, List, [], ◌∷◌, length, refl, sym}
+use Rattle.std.proofs.Common.{◌≡◌, ℕ, zero, suc, ◌<◌, ◌-◌, ◌^◌, Bool, true, false, List, [], ◌∷◌, ◌++◌, length, refl, sym}
 use Rattle.std.proofs.Common.{ap, ◌∙◌, arith, decimal, subst, slice_get, eq-eqb, eqb-true, true≢false, ◌⊎◌, inl, inr}
 use Rattle.std.specs.Prelude.{◌||◌, ◌&&◌, ◌==◌, not, Option, Some, None, bytes_eq, filter, if◌then◌else◌}
 use Rattle.std.specs.Cmp.Lexicographic.{bytes_decides}
@@ -14,7 +14,7 @@ use Rattle.undo_orders.specs.orders.order_law.Chain.{goes_by}
 use Rattle.undo_orders.specs.orders.order_law.History.{Entry, token_of}
 use Rattle.order_machine.proofs.Texts.{eq-is, number-decimal}
 use Rattle.order_machine.specs.OrderRecord.{Cancelling, OrderRecord, at, chained, filled, gone, live_token, over_if}
-use Rattle.order_machine.specs.OrderRecord.{put_in_book, reduced, renamed, still_after, unasked, with_tokens}
+use Rattle.order_machine.specs.OrderRecord.{put_in_book, reduced, renamed, replacements, still_after, unasked, with_tokens}
 use Rattle.order_machine.specs.OrderRecord.{with_trade}
 use Rattle.order_machine.specs.Table.{GivenToken, has_number, is_named, is_token}
 use Rattle.undo_orders.specs.Changes.{changed_by, replaced_as}
@@ -28,6 +28,7 @@ use Rattle.order_table.specs.Keys.{name_key, same_name, same_number}
 use Rattle.order_table.specs.KeyLaws.{same-name-is, same-token-is}
 use Rattle.order_table.specs.Names.{KeepsNames, KeepsNamesBut}
 use Rattle.order_table.specs.TokenKeys.{same_token_key, token_key}
+use Rattle.undo_orders.proofs.orders.Marks.{any-push}
 use Rattle.order_table.proofs.Counted.{change-new}
 
 -- ---- tests
@@ -66,32 +67,39 @@ number-leads h o n place small writes led k t =
 hit : (client : ℕ) (id : List ℕ) (c : ℕ) (own : List ℕ) → c ≡ client → bytes_eq own id ≡ true → same_name (name_key client id) (name_key c own) ≡ true
 hit client id c own whose t = key-of-same client c id own (sym whose) (sym (eq-is own id t))
 
-pending-key : (client : ℕ) (id : List ℕ) (c : ℕ) (o : OrderRecord) (r : Option Entry) (x : Option Cancelling) → c ≡ client → list_any (λ q. bytes_eq q.id id) (chained (at o r x)).pending ≡ true
-    → (is_key_of_replace (name_key client id) c r || is_key_of_cancel (name_key client id) c x) ≡ true
-pending-key client id c o None None whose t = never t
-pending-key client id c o (Some q) None whose t = or-more (bytes_eq (text 11 q.message) id) false (same_name (name_key client id) (name_key c (text 11 q.message))) false (hit client id c (text 11 q.message) whose) (λ e. e) t
-pending-key client id c o None (Some x) whose t = hit client id c (text 11 x.request.message) whose (or-false (bytes_eq (text 11 x.request.message) id) t)
-pending-key client id c o (Some q) (Some x) whose t =
-    or-more (bytes_eq (text 11 q.message) id) (bytes_eq (text 11 x.request.message) id || false) (same_name (name_key client id) (name_key c (text 11 q.message))) (same_name (name_key client id) (name_key c (text 11 x.request.message)))
-    (hit client id c (text 11 q.message) whose) (λ e. hit client id c (text 11 x.request.message) whose (or-false (bytes_eq (text 11 x.request.message) id) e)) t
+push-in : (a b c : Bool) → (b || c) ≡ true → ((a || b) || c) ≡ true
+push-in true b c e = refl
+push-in false b c e = e
+
+pending-key : (client : ℕ) (id : List ℕ) (c : ℕ) (o : OrderRecord) (rs : List Entry) (x : Option Cancelling) → c ≡ client → list_any (λ q. bytes_eq q.id id) (chained (at o rs x)).pending ≡ true
+    → (is_key_of_replace (name_key client id) c rs || is_key_of_cancel (name_key client id) c x) ≡ true
+pending-key client id c o [] None whose t = never t
+pending-key client id c o [] (Some x) whose t = hit client id c (text 11 x.request.message) whose (or-false (bytes_eq (text 11 x.request.message) id) t)
+pending-key client id c o (q ∷ qs) x whose t =
+    let own = same_name (name_key client id) (name_key c (text 11 q.message)) in
+    let others = is_key_of_replace (name_key client id) c qs in
+    let cancel = is_key_of_cancel (name_key client id) c x in
+    or-elim (bytes_eq (text 11 q.message) id) (list_any (λ r. bytes_eq r.id id) (chained (at o qs x)).pending)
+    (λ e. ap (λ b. (b || others) || cancel) (hit client id c (text 11 q.message) whose e))
+    (λ e. push-in own others cancel (pending-key client id c o qs x whose e)) t
 
 pub named-key : (client : ℕ) (id : List ℕ) (o : OrderRecord) → is_named client id o ≡ true → has_name_key (name_key client id) o ≡ true
 named-key client id o t =
     let parts = and_parts (o.new.client == client) (goes_by id (chained o)) t in
     let whose : o.new.client ≡ client = eqb-true o.new.client client parts.0 in
     or-more (bytes_eq o.id id) (list_any (λ q. bytes_eq q.id id) (chained o).pending)
-    (same_name (name_key client id) (name_key o.new.client o.id)) (is_key_of_replace (name_key client id) o.new.client o.replace || is_key_of_cancel (name_key client id) o.new.client o.cancel)
-    (hit client id o.new.client o.id whose) (pending-key client id o.new.client o o.replace o.cancel whose) parts.1
+    (same_name (name_key client id) (name_key o.new.client o.id)) (is_key_of_replace (name_key client id) o.new.client o.replaces || is_key_of_cancel (name_key client id) o.new.client o.cancel)
+    (hit client id o.new.client o.id whose) (pending-key client id o.new.client o o.replaces o.cancel whose) parts.1
 
 -- a client's order, each of whose keys is noted: its own id, and those of its pending requests
-pub name-leads : (h : Hints NameKey) (client : ℕ) (id : List ℕ) (replace : Option Entry) (cancel : Option Cancelling) (place : ℕ) → LeadsTo (hint_of same_name h (name_key client id)) place
-    → ((k : NameKey) → is_key_of_replace k client replace ≡ true → LeadsTo (hint_of same_name h k) place)
+pub name-leads : (h : Hints NameKey) (client : ℕ) (id : List ℕ) (replaces : List Entry) (cancel : Option Cancelling) (place : ℕ) → LeadsTo (hint_of same_name h (name_key client id)) place
+    → ((k : NameKey) → is_key_of_replace k client replaces ≡ true → LeadsTo (hint_of same_name h k) place)
     → ((k : NameKey) → is_key_of_cancel k client cancel ≡ true → LeadsTo (hint_of same_name h k) place)
-    → (k : NameKey) → (same_name k (name_key client id) || (is_key_of_replace k client replace || is_key_of_cancel k client cancel)) ≡ true → LeadsTo (hint_of same_name h k) place
-name-leads h client id replace cancel place own by_replace by_cancel k t =
-    or-elim (same_name k (name_key client id)) (is_key_of_replace k client replace || is_key_of_cancel k client cancel)
+    → (k : NameKey) → (same_name k (name_key client id) || (is_key_of_replace k client replaces || is_key_of_cancel k client cancel)) ≡ true → LeadsTo (hint_of same_name h k) place
+name-leads h client id replaces cancel place own by_replace by_cancel k t =
+    or-elim (same_name k (name_key client id)) (is_key_of_replace k client replaces || is_key_of_cancel k client cancel)
     (λ e. subst (λ (q : NameKey). LeadsTo (hint_of same_name h q) place) (sym (same-name-is k (name_key client id) e)) own)
-    (or-elim (is_key_of_replace k client replace) (is_key_of_cancel k client cancel) (by_replace k) (by_cancel k)) t
+    (or-elim (is_key_of_replace k client replaces) (is_key_of_cancel k client cancel) (by_replace k) (by_cancel k)) t
 
 -- ---- what a message of the market leaves of them
 
@@ -108,27 +116,32 @@ still-key k c is_answered (Some y) t = by_tokens (filter (λ token. not (is_answ
 
 -- with no other requests pending
 unasked-names : (k : NameKey) (o : OrderRecord) → has_name_key k (unasked o) ≡ true → has_name_key k o ≡ true
-unasked-names k o t = fewer (same_name k (name_key o.new.client o.id)) (is_key_of_replace k o.new.client o.replace) (is_key_of_cancel k o.new.client o.cancel) false false never never t
+unasked-names k o t = fewer (same_name k (name_key o.new.client o.id)) (is_key_of_replace k o.new.client o.replaces) (is_key_of_cancel k o.new.client o.cancel) false false never never t
 
 over-names : (b : Bool) (k : NameKey) (o : OrderRecord) → has_name_key k (over_if b o) ≡ true → has_name_key k o ≡ true
 over-names true k o t = unasked-names k o t
 over-names false k o t = t
 
 -- under the id of its replace
-renamed-names : (k : NameKey) (c : ℕ) (own id : List ℕ) (t u : Bool) → (t ≡ true → u ≡ true) → (same_name k (name_key c id) || (false || t)) ≡ true → (same_name k (name_key c own) || (same_name k (name_key c id) || u)) ≡ true
-renamed-names k c own id t u f e = or-right (same_name k (name_key c own)) (same_name k (name_key c id) || u) (or-more (same_name k (name_key c id)) t (same_name k (name_key c id)) u (λ x. x) f e)
+or-within : (a b t u : Bool) → (t ≡ true → u ≡ true) → (a || (b || t)) ≡ true → ((a || b) || u) ≡ true
+or-within true b t u f e = refl
+or-within false true t u f e = refl
+or-within false false t u f e = f e
 
-replaced-names : (k : NameKey) (shares price : ℕ) (is_dead : Bool) (o : OrderRecord) (q : Option Entry) → o.replace ≡ q → has_name_key k (replaced_as shares price is_dead o q) ≡ true → has_name_key k o ≡ true
-replaced-names k shares price is_dead o None same t = t
-replaced-names k shares price is_dead o (Some q) same t =
-    let left = over-names is_dead k (at (put_in_book shares price (renamed (token_of q) q o)) None (still_after (bytes_eq (live_token o)) o.cancel)) t in
-    ap (λ (r : Option Entry). same_name k (name_key o.new.client o.id) || (is_key_of_replace k o.new.client r || is_key_of_cancel k o.new.client o.cancel)) same
-    ∙ renamed-names k o.new.client o.id (text 11 q.message) (is_key_of_cancel k o.new.client (still_after (bytes_eq (live_token o)) o.cancel)) (is_key_of_cancel k o.new.client o.cancel)
+renamed-names : (k : NameKey) (c : ℕ) (own id : List ℕ) (others t u : Bool) → (t ≡ true → u ≡ true) → (same_name k (name_key c id) || (others || t)) ≡ true → (same_name k (name_key c own) || ((same_name k (name_key c id) || others) || u)) ≡ true
+renamed-names k c own id others t u f e = or-right (same_name k (name_key c own)) ((same_name k (name_key c id) || others) || u) (or-within (same_name k (name_key c id)) others t u f e)
+
+replaced-names : (k : NameKey) (shares price : ℕ) (is_dead : Bool) (o : OrderRecord) (rs : List Entry) → o.replaces ≡ rs → has_name_key k (replaced_as shares price is_dead o rs) ≡ true → has_name_key k o ≡ true
+replaced-names k shares price is_dead o [] same t = t
+replaced-names k shares price is_dead o (q ∷ qs) same t =
+    let left = over-names is_dead k (at (put_in_book shares price (renamed (token_of q) q o)) qs (still_after (bytes_eq (live_token o)) o.cancel)) t in
+    ap (λ (r : List Entry). same_name k (name_key o.new.client o.id) || (is_key_of_replace k o.new.client r || is_key_of_cancel k o.new.client o.cancel)) same
+    ∙ renamed-names k o.new.client o.id (text 11 q.message) (is_key_of_replace k o.new.client qs) (is_key_of_cancel k o.new.client (still_after (bytes_eq (live_token o)) o.cancel)) (is_key_of_cancel k o.new.client o.cancel)
     (still-key k o.new.client (bytes_eq (live_token o)) o.cancel) left
 
 change-keys : (change : Change) (o : OrderRecord) (k : NameKey) → has_name_key k (changed_by change o) ≡ true → has_name_key k o ≡ true
 change-keys (changes.Opened shares price is_dead) o k t = over-names is_dead k (put_in_book shares price o) t
-change-keys (changes.Replaced shares price is_dead) o k t = replaced-names k shares price is_dead o o.replace refl t
+change-keys (changes.Replaced shares price is_dead) o k t = replaced-names k shares price is_dead o o.replaces refl t
 change-keys (changes.Canceled shares) o k t = by_rest (o.unfilled - shares == 0) t
   where
     by_rest : (b : Bool) → has_name_key k (if b then unasked (gone o) else reduced shares o) ≡ true → has_name_key k o ≡ true
@@ -141,33 +154,40 @@ change-keys (changes.Traded d) o k t = by_rest (o.unfilled - d.trade.shares == 0
     by_rest false e = e
 change-keys (changes.Broken d) o k t = t
 change-keys changes.Refused o k t = unasked-names k o t
-change-keys (changes.NotReplaced token) o k t =
-    fewer (same_name k (name_key o.new.client o.id)) (is_key_of_replace k o.new.client o.replace) (is_key_of_cancel k o.new.client o.cancel) false (is_key_of_cancel k o.new.client (still_after (bytes_eq token) o.cancel))
-    never (still-key k o.new.client (bytes_eq token) o.cancel) t
+change-keys changes.NotReplaced o k t =
+    let answered = λ (token : List ℕ). list_any (bytes_eq token) (replacements o.replaces) in
+    fewer (same_name k (name_key o.new.client o.id)) (is_key_of_replace k o.new.client o.replaces) (is_key_of_cancel k o.new.client o.cancel) false (is_key_of_cancel k o.new.client (still_after answered o.cancel))
+    never (still-key k o.new.client answered o.cancel) t
 change-keys (changes.NotCanceled token) o k t =
-    fewer (same_name k (name_key o.new.client o.id)) (is_key_of_replace k o.new.client o.replace) (is_key_of_cancel k o.new.client o.cancel) (is_key_of_replace k o.new.client o.replace) (is_key_of_cancel k o.new.client (still_after (bytes_eq token) o.cancel))
+    fewer (same_name k (name_key o.new.client o.id)) (is_key_of_replace k o.new.client o.replaces) (is_key_of_cancel k o.new.client o.cancel) (is_key_of_replace k o.new.client o.replaces) (is_key_of_cancel k o.new.client (still_after (bytes_eq token) o.cancel))
     (λ e. e) (still-key k o.new.client (bytes_eq token) o.cancel) t
 
 pub change-names : (change : Change) (o : OrderRecord) → KeepsNames o (changed_by change o)
 change-names change o = record { asked = change-new change o; names = change-keys change o }
 
 -- a request more
-pub replace-names : (o : OrderRecord) (q : Entry) → KeepsNamesBut (name_key o.new.client (text 11 q.message)) o (at o (Some q) o.cancel)
+pub replace-names : (o : OrderRecord) (q : Entry) → KeepsNamesBut (name_key o.new.client (text 11 q.message)) o (at o (o.replaces ++ q ∷ []) o.cancel)
 replace-names o q = record {
   asked = refl;
-  names = λ k t. or-elim (same_name k (name_key o.new.client o.id)) (is_key_of_replace k o.new.client (Some q) || is_key_of_cancel k o.new.client o.cancel)
-      (λ e. inl (ap (λ b. b || (is_key_of_replace k o.new.client o.replace || is_key_of_cancel k o.new.client o.cancel)) e))
-      (or-elim (is_key_of_replace k o.new.client (Some q)) (is_key_of_cancel k o.new.client o.cancel) (λ e. inr (same-name-is k (name_key o.new.client (text 11 q.message)) e))
-      (λ e. inl (or-right (same_name k (name_key o.new.client o.id)) (is_key_of_replace k o.new.client o.replace || is_key_of_cancel k o.new.client o.cancel) (or-right (is_key_of_replace k o.new.client o.replace) (is_key_of_cancel k o.new.client o.cancel) e)))) t;
+  names = λ k t. or-elim (same_name k (name_key o.new.client o.id)) (is_key_of_replace k o.new.client (o.replaces ++ q ∷ []) || is_key_of_cancel k o.new.client o.cancel)
+      (λ e. inl (ap (λ b. b || (is_key_of_replace k o.new.client o.replaces || is_key_of_cancel k o.new.client o.cancel)) e))
+      (or-elim (is_key_of_replace k o.new.client (o.replaces ++ q ∷ [])) (is_key_of_cancel k o.new.client o.cancel)
+      (λ e. pushed k (sym (any-push (λ (r : Entry). same_name k (name_key o.new.client (text 11 r.message))) o.replaces q) ∙ e))
+      (λ e. inl (or-right (same_name k (name_key o.new.client o.id)) (is_key_of_replace k o.new.client o.replaces || is_key_of_cancel k o.new.client o.cancel) (or-right (is_key_of_replace k o.new.client o.replaces) (is_key_of_cancel k o.new.client o.cancel) e)))) t;
 }
+  where
+    pushed : (k : NameKey) → (same_name k (name_key o.new.client (text 11 q.message)) || is_key_of_replace k o.new.client o.replaces) ≡ true → (has_name_key k o ≡ true) ⊎ (k ≡ name_key o.new.client (text 11 q.message))
+    pushed k e = or-elim (same_name k (name_key o.new.client (text 11 q.message))) (is_key_of_replace k o.new.client o.replaces)
+        (λ f. inr (same-name-is k (name_key o.new.client (text 11 q.message)) f))
+        (λ f. inl (or-right (same_name k (name_key o.new.client o.id)) (is_key_of_replace k o.new.client o.replaces || is_key_of_cancel k o.new.client o.cancel) (ap (λ b. b || is_key_of_cancel k o.new.client o.cancel) f))) e
 
-pub cancel-names : (o : OrderRecord) (x : Cancelling) → KeepsNamesBut (name_key o.new.client (text 11 x.request.message)) o (at o o.replace (Some x))
+pub cancel-names : (o : OrderRecord) (x : Cancelling) → KeepsNamesBut (name_key o.new.client (text 11 x.request.message)) o (at o o.replaces (Some x))
 cancel-names o x = record {
   asked = refl;
-  names = λ k t. or-elim (same_name k (name_key o.new.client o.id)) (is_key_of_replace k o.new.client o.replace || is_key_of_cancel k o.new.client (Some x))
-      (λ e. inl (ap (λ b. b || (is_key_of_replace k o.new.client o.replace || is_key_of_cancel k o.new.client o.cancel)) e))
-      (or-elim (is_key_of_replace k o.new.client o.replace) (is_key_of_cancel k o.new.client (Some x))
-      (λ e. inl (or-right (same_name k (name_key o.new.client o.id)) (is_key_of_replace k o.new.client o.replace || is_key_of_cancel k o.new.client o.cancel) (ap (λ b. b || is_key_of_cancel k o.new.client o.cancel) e)))
+  names = λ k t. or-elim (same_name k (name_key o.new.client o.id)) (is_key_of_replace k o.new.client o.replaces || is_key_of_cancel k o.new.client (Some x))
+      (λ e. inl (ap (λ b. b || (is_key_of_replace k o.new.client o.replaces || is_key_of_cancel k o.new.client o.cancel)) e))
+      (or-elim (is_key_of_replace k o.new.client o.replaces) (is_key_of_cancel k o.new.client (Some x))
+      (λ e. inl (or-right (same_name k (name_key o.new.client o.id)) (is_key_of_replace k o.new.client o.replaces || is_key_of_cancel k o.new.client o.cancel) (ap (λ b. b || is_key_of_cancel k o.new.client o.cancel) e)))
       (λ e. inr (same-name-is k (name_key o.new.client (text 11 x.request.message)) e))) t;
 }
 

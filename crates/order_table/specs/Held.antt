@@ -41,7 +41,7 @@ found_by_id h client id = find (is_named client id) h.orders
 
 -- An order has had, or is to have, at most one token more than replaces of it were accepted.
 abbrev pub is_counted : List GivenToken → OrderRecord → Bool
-is_counted tokens o = nat_le (length o.tokens + length (option_to_list o.replace))
+is_counted tokens o = nat_le (length o.tokens + length o.replaces)
     (1 + count_by (is_replacement_of o.new.order) tokens)
 
 abbrev pub one_if : Bool → ℕ

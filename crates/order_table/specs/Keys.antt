@@ -1,6 +1,7 @@
 -- By what keys the indexes lead to orders and to tokens. A key says no more than where to look: what is found is
 -- compared itself.
 use Rattle.std.specs.Prelude.{ℕ, Bool, false, ◌||◌, List, Option, Some, None, nat_eq}
+use Rattle.std.specs.List.{list_any}
 use Rattle.std.specs.Str.Parse.{digits_value}
 use Rattle.order_machine.specs.fix_fields.Field.{text}
 use Rattle.hint_index.specs.TextKeys.{same_key, text_key}
@@ -26,10 +27,9 @@ name_key client id = record { key = text_key client id }
 abbrev pub has_number_key : NumberKey → OrderRecord → Bool
 has_number_key k o = nat_eq k.number (digits_value 10 o.new.order)
 
--- of a client with the id of its pending request
-abbrev pub is_key_of_replace : NameKey → ℕ → Option Entry → Bool
-is_key_of_replace k client None = false
-is_key_of_replace k client (Some q) = same_name k (name_key client (text 11 q.message))
+-- of a client with the id of one of its pending replaces, or of its pending cancel
+abbrev pub is_key_of_replace : NameKey → ℕ → List Entry → Bool
+is_key_of_replace k client rs = list_any (λ (q : Entry). same_name k (name_key client (text 11 q.message))) rs
 
 abbrev pub is_key_of_cancel : NameKey → ℕ → Option Cancelling → Bool
 is_key_of_cancel k client None = false
@@ -38,7 +38,7 @@ is_key_of_cancel k client (Some c) = same_name k (name_key client (text 11 c.req
 -- its client with an id that it goes by
 abbrev pub has_name_key : NameKey → OrderRecord → Bool
 has_name_key k o = same_name k (name_key o.new.client o.id)
-    || (is_key_of_replace k o.new.client o.replace || is_key_of_cancel k o.new.client o.cancel)
+    || (is_key_of_replace k o.new.client o.replaces || is_key_of_cancel k o.new.client o.cancel)
 
 -- its port with its text
 abbrev pub has_token_key : TokenKey → GivenToken → Bool
