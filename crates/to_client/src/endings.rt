@@ -2,7 +2,7 @@
 //!
 //! The one error of each is that memory ran out; then the bodies are of no use any more.
 
-ghost use Rattle.std.specs.Prelude.{◌≡◌, ◌≤◌, ◌+◌, ◌++◌, ◌∷◌, [], ℕ, true, codes, length, map, IfOk, IfSome, Option};
+ghost use Rattle.std.specs.Prelude.{◌≡◌, ◌≤◌, ◌+◌, ◌++◌, ◌∷◌, [], ℕ, true, codes, length, map, IfOk, IfSome, List, Option};
 ghost use Rattle.std.specs.List.{list_all};
 ghost use Rattle.order_law.specs.fix_fields.Field.{is_inside};
 ghost use Rattle.orders.specs.fix_types.Report.{report_fields};
@@ -12,7 +12,7 @@ ghost use Rattle.order_law.specs.wire_law.Printable.{is_printable};
 ghost use Rattle.orders.specs.fix_types.Application.{body_fields};
 ghost use Rattle.order_law.specs.History.{Entry};
 ghost use Rattle.order_law.specs.Told as law;
-ghost use Rattle.to_client.specs.Pending.{IsPending, rejects_of};
+ghost use Rattle.to_client.specs.Pending.{AreRequests, IsPending, ShowsBehind, each_rejected, rejects_of};
 ghost use Rattle.to_client.specs.Shows.{IsAnyRequest, ShowsAs};
 
 use crate::occasion::{Occasion, fields_given_by};
@@ -22,7 +22,7 @@ use crate::reporting::report_on;
 use crate::shown::{Request, Shown};
 use fix_values::CxlRejReason;
 use order_law::Text;
-use orders::{AppBody, Report};
+use orders::{AppBody, Replacing, Report};
 use std::alloc::{AllocError, Global};
 
 /// A report as one body more. There is room before it is put there, so that it is moved once.
@@ -77,26 +77,78 @@ pub fn push_too_late(
     shown: &Shown,
     pending: &Pending,
 ) -> Result<(), AllocError>
-    ensures told { IfOk result (λ nothing. (replace cancel : Option Entry) (s : law.Shown) → ShowsAs shown.now s
-        → IsPending pending.now replace cancel s
+    ensures told { IfOk result (λ nothing. (replaces : List Entry) (cancel : Option Entry) (s : law.Shown)
+        → ShowsAs shown.now s → IsPending pending.now replaces cancel s
         → map body_fields bodies.new.items ≡ map body_fields bodies.old.items ++ law.too_late s) }
-    ensures few { length bodies.new.items ≤ length bodies.old.items + 2 }
+    ensures few { length bodies.new.items ≤ length bodies.old.items + length pending.now.replaces.now + 1 }
 {
-    let rest = Shown {
-        has_pending_replace: false,
-        ..*shown
-    };
     let code = CxlRejReason::TooLateToCancel;
-    push_reject(alloc, bodies, &pending.replace, &rest, code, b"too late")?;
+    push_each(alloc, bodies, shown, pending.replaces, code, b"too late", b"too late")?;
     let last = Shown {
+        has_pending_replace: false,
         has_pending_cancel: false,
-        ..rest
+        ..*shown
     };
     push_reject(alloc, bodies, &pending.cancel, &last, code, b"too late")
 }
 
+/// The market rejects the oldest pending replace, and with it those behind it: a reject for each, in order of acceptance,
+/// the first with the market's letter.
+///
+/// Source: OUCH 4.2, "Rejected Message"; FIX 4.4 Volume 4, "Order Cancel Reject".
+pub fn push_not_replaced(
+    alloc: Global,
+    bodies: &mut Vec<AppBody>,
+    reason: u8,
+    shown: &Shown,
+    pending: &Pending,
+) -> Result<(), AllocError>
+    requires { is_printable reason ≡ true }
+    ensures told { IfOk result (λ nothing. (replaces : List Entry) (cancel : Option Entry) (s : law.Shown)
+        → ShowsAs shown.now s → IsPending pending.now replaces cancel s
+        → map body_fields bodies.new.items ≡ map body_fields bodies.old.items
+        ++ law.each_not_replaced (reason ∷ []) s s.pending) }
+    ensures few { length bodies.new.items ≤ length bodies.old.items + length pending.now.replaces.now }
+{
+    let letter = [reason];
+    let code = CxlRejReason::BrokerOption;
+    let behind = b"earlier replace rejected";
+    push_each(alloc, bodies, shown, pending.replaces, code, &letter, behind)
+}
+
+/// Replaces that are pending one behind another, each of them rejected: the first with one text (58), each behind it with
+/// another. A reject shows those behind its own replace as pending, and the cancel as the order is shown.
+fn push_each(
+    alloc: Global,
+    bodies: &mut Vec<AppBody>,
+    shown: &Shown,
+    replaces: &[Replacing],
+    code: CxlRejReason,
+    text: &[u8],
+    behind: &[u8],
+) -> Result<(), AllocError>
+    requires inside { list_all is_inside text.now ≡ true }
+    requires inside_behind { list_all is_inside behind.now ≡ true }
+    ensures told { IfOk result (λ nothing. (rs later : List Entry) (s : law.Shown)
+        → ShowsBehind shown.now s later → AreRequests replaces.now rs
+        → map body_fields bodies.new.items ≡ map body_fields bodies.old.items
+        ++ each_rejected s rs later (cxl_rej_number code) text.now behind.now) }
+    ensures few { length bodies.new.items ≤ length bodies.old.items + length replaces.now }
+{
+    let [replacing, rest @ ..] = replaces else {
+        return Ok(());
+    };
+    let order = Shown {
+        has_pending_replace: !rest.is_empty(),
+        ..*shown
+    };
+    let request = Some(Request::of_replace(&replacing.message));
+    push_reject(alloc, bodies, &request, &order, code, text)?;
+    push_each(alloc, bodies, shown, rest, code, behind, behind)
+}
+
 /// All that was open of an order is cancelled, and it is closed: 150=4, with the market's letter where it gave one,
-/// which answers a pending cancel; then a pending replace is too late.
+/// which answers a pending cancel; then each pending replace is too late.
 ///
 /// Source: FIX 4.4 Volume 4, "Execution Report", ExecType Canceled.
 pub fn push_canceled(
@@ -108,11 +160,11 @@ pub fn push_canceled(
     pending: &Pending,
 ) -> Result<(), AllocError>
     requires { IfSome reason (λ byte. is_printable byte ≡ true) }
-    ensures told { IfOk result (λ nothing. (replace cancel : Option Entry) (s : law.Shown) → ShowsAs shown.now s
-        → IsPending pending.now replace cancel s
+    ensures told { IfOk result (λ nothing. (replaces : List Entry) (cancel : Option Entry) (s : law.Shown)
+        → ShowsAs shown.now s → IsPending pending.now replaces cancel s
         → map body_fields bodies.new.items ≡ map body_fields bodies.old.items
         ++ law.cancelled number (char_text reason) s) }
-    ensures few { length bodies.new.items ≤ length bodies.old.items + 2 }
+    ensures few { length bodies.new.items ≤ length bodies.old.items + length pending.now.replaces.now + 1 }
 {
     let rest = Shown {
         has_pending_cancel: false,
@@ -121,12 +173,8 @@ pub fn push_canceled(
     let details = fields_given_by(Occasion::Canceled(reason));
     let report = report_on(alloc, number, &details, &pending.cancel, &rest)?;
     push_report(bodies, report)?;
-    let last = Shown {
-        has_pending_replace: false,
-        ..rest
-    };
     let code = CxlRejReason::TooLateToCancel;
-    push_reject(alloc, bodies, &pending.replace, &last, code, b"too late")
+    push_each(alloc, bodies, &rest, pending.replaces, code, b"too late", b"too late")
 }
 
 /// The last Cancel Order of a pending cancel is answered, and the order isn't closed: its reject.
@@ -139,8 +187,8 @@ pub fn push_cancel_rejected(
     shown: &Shown,
     pending: &Pending,
 ) -> Result<(), AllocError>
-    ensures told { IfOk result (λ nothing. (replace cancel : Option Entry) (s : law.Shown) → ShowsAs shown.now s
-        → IsPending pending.now replace cancel s
+    ensures told { IfOk result (λ nothing. (replaces : List Entry) (cancel : Option Entry) (s : law.Shown)
+        → ShowsAs shown.now s → IsPending pending.now replaces cancel s
         → map body_fields bodies.new.items ≡ map body_fields bodies.old.items ++ law.cancel_rejected is_last s) }
     ensures few { length bodies.new.items ≤ length bodies.old.items + 1 }
 {
