@@ -1,6 +1,6 @@
 //! The list.
 
-ghost use Rattle.std.specs.Prelude.{◌≡◌, ◌+◌, ◌≤◌, ◌<◌, ◌^◌, ◌++◌, ◌∷◌, [], length, slice_get, slice_set};
+ghost use Rattle.std.specs.Prelude.{◌≡◌, ◌≤◌, ◌<◌, ◌+◌, ◌^◌, ◌++◌, ◌∷◌, [], length, slice_get, slice_set};
 ghost use Rattle.std.specs.Prelude.{Some, IfOk, OnErr, OnOk, false, true, vec_len, vec_capacity};
 ghost use Rattle.orders.specs.order_machine.OrderRecord.{OrderRecord, at};
 ghost use Rattle.orders.specs.Changes.{Fits, changed_by};
@@ -125,8 +125,8 @@ impl UndoOrders {
         }
     }
 
-    /// A replace more of the order at a place is pending: fewer than four were, and with those it has had fewer than
-    /// 65,536 tokens. `AllocError` leaves the list as it was.
+    /// One more replace of the order at a place is pending. With those that are pending it has had fewer than 65,536
+    /// tokens, and fewer than four are pending. `AllocError` leaves the list as it was.
     pub fn accept_replace(
         &mut self,
         alloc: Global,
@@ -138,8 +138,7 @@ impl UndoOrders {
             → length was.tokens + length was.replaces < 65_536 }
         requires few { (was : OrderRecord) → slice_get self.old.now place ≡ Some was → length was.replaces < 4 }
         ensures now { IfOk result (λ nothing. (was : OrderRecord) → slice_get self.old.now place ≡ Some was
-            → self.new.now ≡ slice_set self.old.now place
-                (at was (was.replaces ++ replace_of was replacing ∷ []) was.cancel)) }
+            → self.new.now ≡ slice_set self.old.now place (at was (was.replaces ++ replace_of was replacing ∷ []) was.cancel)) }
         ensures settled { self.new.settled ≡ self.old.settled }
         ensures err { OnErr result (self.new.now ≡ self.old.now) }
     {

@@ -1,4 +1,5 @@
 use Rattle.std.proofs.Common.{◌<◌, ◌++◌, ◌∷◌, List, [], length, sym, ap, ◌∙◌, subst}
+use Rattle.std.specs.Prelude.{Some}
 use Rattle.orders.specs.order_machine.OrderRecord.{OrderRecord, at}
 use Rattle.orders.specs.PutBack.{put_back}
 use Rattle.orders.specs.Seen.{replace_of}
