@@ -1,7 +1,6 @@
 //! A cancel of a client.
 
 ghost use Rattle.std.specs.Prelude.{◌≡◌, ◌≤◌, ◌<◌, ◌^◌, ◌∷◌, ℕ, List, Option, Some, None, IfOk, codes, length, map};
-ghost use Rattle.std.specs.Prelude.{option_to_list};
 ghost use Rattle.fix_types.specs.CancelRequest.{cancel_request_fields};
 ghost use Rattle.order_law.specs.ouch_codec.Inbound.{inbound_bytes};
 ghost use Rattle.order_law.specs.Asks.{Standing};
@@ -32,8 +31,8 @@ use to_market::{refuse_cancel, say_cancel};
 ///
 /// `Refused`, by the first row that holds: its ClOrdID is used; its OrigClOrdID (41) names no order of the client;
 /// the order is closed; the port has ended or is faulted; a cancel of the order is pending. Else it is pending from
-/// then on, and asks the market once for each token: that which the order goes by, and then that of its pending
-/// replace.
+/// then on, and asks the market once for each token: that which the order goes by, and then those of its pending
+/// replaces, the oldest one's first.
 ///
 /// It changes nothing. The one error is that memory ran out.
 ///
@@ -120,34 +119,40 @@ fn cancelling_of(
     order: &Order,
 ) -> Result<Cancelling, AllocError>
     ensures message { IfOk result (λ c. c.message ≡ request.now) }
-    ensures tokens { IfOk result (λ c. c.first ∷ option_to_list c.second
-        ≡ live_token order.now ∷ replacements order.now.replace) }
+    ensures tokens { IfOk result (λ c. c.tokens.items ≡ live_token order.now ∷ replacements order.now.replaces) }
 {
     let message = request.copied(alloc)?;
-    let second = match &order.replace {
-        None => None,
-        Some(replacing) => Some(replacing.get().token),
-    };
-    Ok(Cancelling {
-        message,
-        first: order.token,
-        second,
-    })
+    let tokens = tokens_to_cancel(alloc, order)?;
+    Ok(Cancelling { message, tokens })
 }
 
-/// What a cancel of an order asks: a Cancel Order of the token that it goes by, and then one of its pending replace's.
+/// The tokens that a cancel of an order asks by: the one that it goes by, and those of its pending replaces, the oldest
+/// one's first.
+fn tokens_to_cancel(alloc: Global, order: &Order) -> Result<Vec<[u8; 14]>, AllocError>
+    ensures tokens { IfOk result (λ tokens. tokens.items ≡ live_token order.now ∷ replacements order.now.replaces) }
+    ensures few { IfOk result (λ tokens. length tokens.items ≤ 5) }
+{
+    let replaces = order.replaces.as_slice();
+    let mut tokens = Vec::with_capacity(alloc, replaces.len() + 1)?;
+    tokens.push(order.token)?;
+    for replacing in replaces {
+        tokens.push(replacing.token)?;
+    }
+    Ok(tokens)
+}
+
+/// What a cancel of an order asks: a Cancel Order of the token that it goes by, and then one of that of each pending
+/// replace.
 fn cancels_of(alloc: Global, order: &Order) -> Result<Vec<Inbound>, AllocError>
     ensures says { IfOk result (λ asks. (m : Message) (standing : Standing) (order_of : List ℕ → Option ℕ)
         → text 35 m ≡ codes "F" → Each (Finds order_of) (cancels_asked order.now m)
         → EachWith (Says standing order_of) (cancels_asked order.now m) (map inbound_bytes asks.items)) }
-    ensures few { IfOk result (λ asks. length asks.items ≤ 2) }
+    ensures few { IfOk result (λ asks. length asks.items ≤ 5) }
 {
-    let live = say_cancel(&order.token);
-    match &order.replace {
-        None => Ok(vec![in alloc; Inbound::Cancel(live)]?),
-        Some(replacing) => {
-            let next = say_cancel(&replacing.get().token);
-            Ok(vec![in alloc; Inbound::Cancel(live), Inbound::Cancel(next)]?)
-        }
+    let tokens = tokens_to_cancel(alloc, order)?;
+    let mut asks = Vec::with_capacity(alloc, tokens.len())?;
+    for token in &tokens {
+        asks.push(Inbound::Cancel(say_cancel(token)))?;
     }
+    Ok(asks)
 }

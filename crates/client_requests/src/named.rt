@@ -27,7 +27,7 @@ pub fn named_of<'a>(order: &'a Order, own: u8, replaces: usize) -> NamedOrder<'a
         is_closed: order.progress.stage == Stage::Closed,
         executed: order.progress.executed,
         has_pending_cancel: order.cancel.is_some(),
-        has_pending_replace: order.replace.is_some(),
+        pending_replaces: order.replaces.as_slice().len(),
         replaces: replaces as u64,
     }
 }

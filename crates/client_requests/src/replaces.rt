@@ -31,9 +31,10 @@ use to_market::{ReplaceAsk, ask_of_replace, say_replace};
 /// used already or isn't.
 ///
 /// `Refused`, by the first row that holds: its ClOrdID is used; its OrigClOrdID (41) names no order of the client;
-/// the order is closed; the port has ended or is faulted; a request on the order is pending; then those of
+/// the order is closed; the port has ended or is faulted; a cancel of the order is pending, or four replaces; then those of
 /// `to_market::ask_of_replace` on what it says itself. Else it is pending from then on, takes the next token, and
-/// asks the market to replace the order that goes by its live token.
+/// asks the market to replace the order that goes by the token of the newest pending replace, or, where none is
+/// pending, by its live one.
 ///
 /// It changes nothing. The one error is that memory ran out.
 ///
@@ -133,13 +134,13 @@ fn accept_replace(
     })
 }
 
-/// What a replace of an order asks: one Replace Order, from the token that it goes by.
+/// What a replace of an order asks: one Replace Order, from the token that it goes by once its pending replaces are done.
 fn replaces_of(alloc: Global, ask: &ReplaceAsk, order: &Order) -> Result<Vec<Inbound>, AllocError>
     ensures says { IfOk result (λ asks. (m : Message) (standing : Standing) (order_of : List ℕ → Option ℕ)
         → AsksToReplace ask.now m → Each (Finds order_of) (replaces_asked order.now ask.now.token m)
         → EachWith (Says standing order_of) (replaces_asked order.now ask.now.token m) (map inbound_bytes asks.items)) }
-    ensures few { IfOk result (λ asks. length asks.items ≤ 2) }
+    ensures few { IfOk result (λ asks. length asks.items ≤ 5) }
 {
-    let message = say_replace(ask, &order.token);
+    let message = say_replace(ask, order.next_token());
     Ok(vec![in alloc; Inbound::Replace(message)]?)
 }
