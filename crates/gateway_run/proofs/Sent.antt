@@ -74,7 +74,7 @@ telling_send a G R g r = declared_send (TellingGate.the_type a G R) (
   search (g, sendable) depth 40,
   (
     search (sendable, crosses) depth 40,
-    (search (teller_send a R r, sendable, crosses) depth 40, tt),
+    (search (teller_send a R r, sendable) depth 40, tt),
   ),
 )
 

@@ -86,7 +86,7 @@ pub(crate) fn client_line<
 ) -> RunLine<'p, 'a, W, G, A, C, K, R>
     ensures peer { source_of_peer result.peer ≡ sources.Client client }
     ensures told { recipient_of result.peer ≡ Some (recipients.Client client) }
-    ensures gate { result.reader.gate ≡ gate }
+    ensures gate { result.reader.gate ≡ gate.entry }
     ensures pen { of_pen (λ p. G.told p.pen.now.first.value) result.writer ≡ Some pen.now.to }
     ensures fault { result.fault ≡ None }
 {
@@ -128,7 +128,7 @@ pub(crate) fn port_line<
 ) -> RunLine<'p, 'a, W, G, A, C, K, R>
     ensures peer { source_of_peer result.peer ≡ sources.Port port }
     ensures told { recipient_of result.peer ≡ Some (recipients.Port port) }
-    ensures gate { result.reader.gate ≡ gate }
+    ensures gate { result.reader.gate ≡ gate.entry }
     ensures pen { of_pen (λ p. G.told p.pen.now.first.value) result.writer ≡ Some pen.now.to }
     ensures fault { result.fault ≡ None }
 {
@@ -169,7 +169,7 @@ pub(crate) fn clock_line<
 ) -> RunLine<'p, 'a, W, G, A, C, K, R>
     ensures peer { source_of_peer result.peer ≡ sources.Clock }
     ensures told { recipient_of result.peer ≡ None }
-    ensures gate { result.reader.gate ≡ gate }
+    ensures gate { result.reader.gate ≡ gate.entry }
     ensures nothing { result.writer ≡ writers.Nothing }
     ensures fault { result.fault ≡ None }
 {

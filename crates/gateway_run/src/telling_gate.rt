@@ -39,7 +39,7 @@ impl<'a, G, R> TellingGate<'a, G, R> {
 
     /// The gate. Takes no memory.
     pub(crate) fn into_gate(self) -> G
-        ensures { result ≡ self.gate }
+        ensures { result ≡ self.entry.gate }
     {
         self.gate
     }
