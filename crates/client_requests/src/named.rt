@@ -21,6 +21,7 @@ pub fn named_of<'a>(order: &'a Order, own: u8, replaces: usize) -> NamedOrder<'a
         → HasRead (named_as s order.now) result }
     ensures pending { result.pending_replaces ≡ length order.now.replaces }
 {
+    let pending_replaces = order.replaces.as_slice().len();
     NamedOrder {
         side: order.side,
         symbol: order.symbol.as_slice(),
@@ -28,7 +29,7 @@ pub fn named_of<'a>(order: &'a Order, own: u8, replaces: usize) -> NamedOrder<'a
         is_closed: order.progress.stage == Stage::Closed,
         executed: order.progress.executed,
         has_pending_cancel: order.cancel.is_some(),
-        pending_replaces: order.replaces.as_slice().len(),
+        pending_replaces,
         replaces: replaces as u64,
     }
 }

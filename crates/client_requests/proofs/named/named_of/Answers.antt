@@ -17,13 +17,13 @@ returns-clause-reads c = λ s capacity count.
       is_closed = search rules;
       executed = search rules;
       cancel = ap (λ (r : OrderRecord). chain.has_pending_cancel (chained r)) (sym c.order.view_is) ∙ any-cancel o.client o.order_id o.replaces o.cancel ∙ sym c.is_some.ensures;
-      pending = ap (λ (r : OrderRecord). length (chain.replaces (chained r))) (sym c.order.view_is) ∙ count-replaces o.client o.order_id o.replaces o.cancel ∙ ap (λ (rs : List Replacing). length rs) (sym c.as_slice.ensures);
+      pending = ap (λ (r : OrderRecord). length (chain.replaces (chained r))) (sym c.order.view_is) ∙ count-replaces o.client o.order_id o.replaces o.cancel ∙ ap (λ (rs : List Replacing). length rs) (sym c.as_slice-pending_replaces.ensures);
       replaces = search rules;
     }
 
 pub returns-clause-pending : goal.returns-clause-pending
 returns-clause-pending c =
     let o = c.order.inside in
-    ap (λ (rs : List Replacing). length rs) c.as_slice.ensures
+    ap (λ (rs : List Replacing). length rs) c.as_slice-pending_replaces.ensures
     ∙ sym (length-map o.replaces (replace_seen o.client o.order_id))
     ∙ ap (λ (r : OrderRecord). length r.replaces) c.order.view_is
