@@ -1,5 +1,10 @@
 -- What an accepted cancel or replace asks, and when one is accepted.
-use Rattle.std.specs.Prelude.{◌≡◌, ◌<◌, ℕ, List, [], ◌∷◌, Some, length, map}
+use Rattle.std.specs.Prelude.{◌≡◌, ◌<◌, ℕ, List, [], ◌∷◌, Option, Some, codes, length, map}
+use Rattle.std.specs.Str.Parse.{digits_value}
+use Rattle.order_law.specs.ouch_codec.declared.inbound.Inbound.{Inbound}
+use Rattle.order_law.specs.ouch_codec.Inbound.{inbound_bytes}
+use Rattle.order_law.specs.Asks.{Standing}
+use Rattle.order_law.specs.Headline.{Says}
 use Rattle.std.specs.List.{count_by}
 use Rattle.order_law.specs.History.{Asked, last_token, terms_of}
 use Rattle.order_machine.specs.fix_fields.Field.{Message, text}
@@ -15,6 +20,20 @@ use Rattle.client_requests.specs.declared.sender.Sender.{Sender}
 -- a cancel asks by each token: that which the order goes by, and those of its pending replaces
 abbrev pub cancels_asked : OrderRecord → Message → List Asked
 cancels_asked o m = map (λ token. cancel_asked_with o.new.order token m) (live_token o ∷ replacements o.replaces)
+
+-- a message asks that an order which goes by a token be cancelled
+abbrev pub SaysTheCancel : List ℕ → Inbound → Type 0
+SaysTheCancel token x =
+    (m : Message) → text 35 m ≡ codes "F" → (order : List ℕ) (standing : Standing) (order_of : List ℕ → Option ℕ)
+    → order_of token ≡ Some (digits_value 10 order)
+    → Says standing order_of (cancel_asked_with order token m) (inbound_bytes x)
+
+-- one for each of these tokens
+abbrev pub SayCancels : List (List ℕ) → List Inbound → Type 0
+SayCancels [] [] = Unit {0}
+SayCancels [] (x ∷ xs) = ⊥
+SayCancels (t ∷ ts) [] = ⊥
+SayCancels (t ∷ ts) (x ∷ xs) = SaysTheCancel t x × SayCancels ts xs
 
 -- a replace asks once, from the token that the order goes by once its pending replaces are done to its own
 abbrev pub replaces_asked : OrderRecord → List ℕ → Message → List Asked

@@ -31,8 +31,8 @@ use to_market::{ReplaceAsk, ask_of_replace, say_replace};
 /// used already or isn't.
 ///
 /// `Refused`, by the first row that holds: its ClOrdID is used; its OrigClOrdID (41) names no order of the client;
-/// the order is closed; the port has ended or is faulted; a cancel of the order is pending, or four replaces; then those of
-/// `to_market::ask_of_replace` on what it says itself. Else it is pending from then on, takes the next token, and
+/// the order is closed; the port has ended or is faulted; a cancel of the order is pending, or four replaces; then those
+/// of `to_market::ask_of_replace` on what it says itself. Else it is pending from then on, takes the next token, and
 /// asks the market to replace the order that goes by the token of the newest pending replace, or, where none is
 /// pending, by its live one.
 ///
@@ -134,7 +134,8 @@ fn accept_replace(
     })
 }
 
-/// What a replace of an order asks: one Replace Order, from the token that it goes by once its pending replaces are done.
+/// What a replace of an order asks: one Replace Order, from the token that it goes by once its pending replaces are
+/// done.
 fn replaces_of(alloc: Global, ask: &ReplaceAsk, order: &Order) -> Result<Vec<Inbound>, AllocError>
     ensures says { IfOk result (λ asks. (m : Message) (standing : Standing) (order_of : List ℕ → Option ℕ)
         → AsksToReplace ask.now m → Each (Finds order_of) (replaces_asked order.now ask.now.token m)

@@ -1,6 +1,6 @@
 //! The list of orders, and the list of tokens that were given.
 
-ghost use Rattle.std.specs.Prelude.{◌≡◌, ◌<◌, true, not, decimal};
+ghost use Rattle.std.specs.Prelude.{◌≡◌, ◌<◌, true, not, decimal, length, nat_lt};
 ghost use Rattle.std.specs.List.{count_by};
 ghost use Rattle.undo_orders.specs.orders.order_law.Life.{is_closed};
 ghost use Rattle.order_table.specs.Held.{IsCounted};
@@ -229,8 +229,9 @@ impl<S: BuildHasher + Drop> Table<S> {
         }
     }
 
-    /// A replace more of the order with an OrderID is pending, which was given a token: fewer than four were, and it
-    /// isn't the 65,536th. Where no order has the OrderID, nothing changes. `AllocError` leaves the table as it was.
+    /// A replace more of the order with an OrderID is pending, which was given a token; it isn't the 65,536th. Where no
+    /// order has the OrderID, or four replaces of it are pending already, nothing changes. `AllocError` leaves the table
+    /// as it was.
     pub fn accept_replace(
         &mut self,
         alloc: Global,
@@ -239,22 +240,24 @@ impl<S: BuildHasher + Drop> Table<S> {
         given: GivenToken,
     ) -> Result<(), AllocError>
         requires room { count_by (is_replacement_of (decimal order_id)) self.old.tokens < 65_535 }
-        requires few { (o : record_of.OrderRecord) → with_number self.old order_id ≡ Some o
-            → length o.replaces < 4 }
         requires of_order { given.order ≡ decimal order_id }
         requires is_replacement { given.is_replacement ≡ true }
         ensures accepted { IfOk result (λ nothing. (o : record_of.OrderRecord) → with_number self.old order_id ≡ Some o
-            → self.new ≡ record self.old {
+            → length o.replaces < 4 → self.new ≡ record self.old {
               orders = put (at o
                   (o.replaces ++ replace_seen o.new.client order_id replacing ∷ []) o.cancel) self.old.orders;
               tokens = given
                   ∷ self.old.tokens;
             }) }
+        ensures full { (o : record_of.OrderRecord) → with_number self.old order_id ≡ Some o → 4 ≤ length o.replaces
+            → self.new ≡ self.old }
         ensures unknown { with_number self.old order_id ≡ None → self.new ≡ self.old }
         ensures settled { self.new.settled ≡ self.old.settled }
         ensures err { OnErr result (self.new ≡ self.old) }
     {
-        if let Some(place) = self.orders.place_of(order_id) {
+        if let Some(place) = self.orders.place_of(order_id)
+            && takes_replace(self.orders.item_at(place))
+        {
             self.tokens.reserve_push()?;
             self.orders.accept_replace(alloc, place, replacing)?;
             self.tokens.push(given);
@@ -299,6 +302,13 @@ impl<S: BuildHasher + Drop> Table<S> {
         self.tokens.undo();
         self.open_counts.undo();
     }
+}
+
+/// Whether fewer than four replaces of an order are pending.
+fn takes_replace(order: &Order) -> bool
+    ensures { result ≡ nat_lt (length order.now.replaces) 4 }
+{
+    order.replaces.as_slice().len() < 4
 }
 
 /// Whether an order is closed.

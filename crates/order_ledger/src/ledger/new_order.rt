@@ -129,7 +129,8 @@ impl<S: BuildHasher + Drop> OrderLedger<S> {
     /// Keeps an accepted new order with its token, and its ClOrdID as used: one OrderID and one report more were given.
     fn keep(&mut self, order: Order, given: GivenToken, id: UsedId) -> Result<(), AllocError>
         requires room { HasRoom self.old.now }
-        requires fresh { length order.tokens + length order.replaces ≤ 1 }
+        requires few { length order.tokens ≤ 1 }
+        requires none { order.replaces ≡ [] }
         ensures kept { IfOk result (λ nothing. self.new.now ≡ with_order id order given self.old.now) }
         ensures keeps { Keeps self.old.now self.new.now }
         ensures settled { self.new.settled ≡ self.old.settled }

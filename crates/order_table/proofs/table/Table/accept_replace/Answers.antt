@@ -1,4 +1,4 @@
-use Rattle.std.proofs.Common.{rules, ◌≡◌, ℕ, List, [], ◌∷◌, ◌++◌, decimal, refl, reverse, sym, ap, ◌∙◌, arith}
+use Rattle.std.proofs.Common.{rules, ◌≡◌, ℕ, List, [], ◌∷◌, ◌++◌, decimal, refl, reverse, sym, ap, ◌∙◌, arith, ◌<◌, length, subst, ltb-false, ltb-true}
 use Rattle.std.specs.Prelude.{Some}
 use Rattle.std.proofs.lemmas.Result.{IfOk-from_err}
 use Rattle.std.specs.List.{find, count_by}
@@ -12,7 +12,7 @@ use Rattle.undo_orders.specs.Seen.{replace_of, replace_seen}
 use Rattle.order_table.proofs.Changing.{replace-as}
 use Rattle.order_table.proofs.Newest.{count-reverse}
 use Rattle.order_table.proofs.Counted.{all-at, counted-few, one-more, own-number, own-token, replacing}
-use Rattle.order_table.proofs.Named.{item-at}
+use Rattle.order_table.proofs.Named.{item-at, same-item}
 use Rattle.order_table.proofs.Standing.{on-err, replaced-value, same-counted, same-value}
 use Rattle.order_table.proofs.StillOpen.{as-open}
 use Rattle.order_table.proofs.table.Table.accept_replace.Goals as goal
@@ -31,11 +31,11 @@ accept_replace-requires-clause-room g c = λ was here.
 
 pub accept_replace-requires-clause-few : goal.accept_replace-requires-clause-few
 accept_replace-requires-clause-few g c = λ was here.
-    let newest : IsNewest (has_number (decimal c.args.order_id)) c.self.inside.orders.now c.in-Some.place = (search rules) in
-    c.requires.few was (sym (ap (λ (h : Held). with_number h c.args.order_id) c.self.view_is) ∙ newest.newest ∙ here)
+    let same : was ≡ c.item_at.result.now = same-item c.self.inside.orders.now c.in-Some.place was c.item_at.result.now here c.item_at.ensures in
+    subst (λ (o : OrderRecord). length o.replaces < 4) (sym same) (ltb-true (length c.item_at.result.now.replaces) 4 (sym c.takes_replace.ensures ∙ c.if-takes_replace.true))
 
-pub invariant_of-self-inside-in-Some : goal.invariant_of-self-inside-in-Some
-invariant_of-self-inside-in-Some g c =
+pub invariant_of-self-inside-2 : goal.invariant_of-self-inside-2
+invariant_of-self-inside-2 g c =
     let os = c.self.inside.orders.now in
     let newest : IsNewest (has_number (decimal c.args.order_id)) os c.in-Some.place = (search rules) in
     let there = item-at os c.in-Some.place newest.inside in
@@ -52,7 +52,7 @@ invariant_of-self-inside-in-Some g c =
     )
 
 pub returns-in_ok-accept_replace-clause-accepted : goal.returns-in_ok-accept_replace-clause-accepted
-returns-in_ok-accept_replace-clause-accepted g c = λ o found.
+returns-in_ok-accept_replace-clause-accepted g c = λ o found few.
     let os = c.self.inside.orders.now in
     let newest : IsNewest (has_number (decimal c.args.order_id)) os c.in-Some.place = (search rules) in
     let is_found : find (has_number (decimal c.args.order_id)) (reverse os) ≡ Some o = ap (λ (h : Held). with_number h c.args.order_id) c.self.view_is ∙ found in
