@@ -9,7 +9,9 @@ use Rattle.order_law.specs.ouch_codec.declared.inbound.replace.Replace.{Replace}
 use Rattle.order_law.specs.ouch_codec.Inbound.{inbound_bytes}
 use Rattle.order_law.specs.Asks.{Standing}
 use Rattle.order_law.specs.Headline.{Each, EachWith, Says}
-use Rattle.order_law.specs.History.{last_token}
+use Rattle.to_market.proofs.tokens.Digits.{printable-token}
+use Rattle.order_law.specs.wire_law.Printable.{ArePrintable}
+use Rattle.order_law.specs.History.{last_token, token_of}
 use Rattle.order_machine.specs.fix_fields.Field.{Message, text}
 use Rattle.order_machine.specs.OrderRecord.{OrderRecord, live_token, replacements}
 use Rattle.orders.specs.declared.requests.Replacing.{Replacing}
@@ -68,6 +70,12 @@ pub cancels-said : (o : OrderRecord) (tokens : List (List ℕ)) (xs : List Inbou
     → SayCancels tokens xs → text 35 m ≡ codes "F" → Each (Finds order_of) (cancels_asked o m) → EachWith (Says standing order_of) (cancels_asked o m) (map inbound_bytes xs)
 cancels-said o tokens xs m standing order_of are say kind finds =
     each-said o.new.order (live_token o ∷ replacements o.replaces) xs m standing order_of (subst (λ (ts : List (List ℕ)). SayCancels ts xs) are say) kind finds
+
+-- the token that an order goes by once its pending replaces are done can be sent
+pub printable-last : (client order_id : ℕ) (token : List ℕ) → ArePrintable token → (rs : List Replacing) → ArePrintable (last_token token (replacements (map (replace_seen client order_id) rs)))
+printable-last client order_id token printable [] = printable
+printable-last client order_id token printable (r ∷ rs) =
+    printable-last client order_id (token_of (replace_seen client order_id r)) (printable-token (token_of (replace_seen client order_id r)) r.token_number refl) rs
 
 -- a replace, from the token that the order goes by once its pending replaces are done
 pub replace-said : (o : OrderRecord) (live token : List ℕ) (m : Message) (standing : Standing) (order_of : List ℕ → Option ℕ) (x : Replace) (items : List Inbound)
