@@ -66,17 +66,16 @@ module _ (a : NamedLft) (K R : RattleType) (k : DeskName.Ghosts K.Denot) (r : Is
   run_clock_send = declared_send (RunClock.the_type a K R k)
       (search (r, sendable) depth 40, (search (watch_send, sendable) depth 40, tt))
 
-teller_send : (a : NamedLft) (R : RattleType) → IsSync R → IsSend (Teller.the_row a R)
-teller_send a R r = declared_send (Teller.the_type a R) (search (r, sendable) depth 40, (search (sendable, crosses) depth 40, tt))
+module _ (a : NamedLft) (R : RattleType) (r : IsSync R) where
+  pub teller_send : IsSend (Teller.the_row a R)
+  teller_send = declared_send (Teller.the_type a R)
+      (search (r, sendable) depth 40, (search (sendable, crosses) depth 40, tt))
 
-pub telling_send : (a : NamedLft) (G R : RattleType) → IsSend G → IsSync R → IsSend (TellingGate.the_row a G R)
-telling_send a G R g r = declared_send (TellingGate.the_type a G R) (
-  search (g, sendable) depth 40,
-  (
-    search (sendable, crosses) depth 40,
-    (search (teller_send a R r, sendable) depth 40, tt),
-  ),
-)
+  pub telling_send : (G : RattleType) → IsSend G → IsSend (TellingGate.the_row a G R)
+  telling_send G g = declared_send (TellingGate.the_type a G R) (
+    search (g, sendable) depth 40,
+    (search (sendable, crosses) depth 40, (search (teller_send, sendable) depth 40, tt)),
+  )
 
 pub counted_send : (a : NamedLft) (A : RattleType) → IsSend A → IsSend (CountedLinks.the_row a A)
 counted_send a A s = declared_send (CountedLinks.the_type a A)

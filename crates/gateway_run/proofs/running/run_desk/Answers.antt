@@ -28,5 +28,5 @@ serve_desk-requires-send-G g c κs l =
     = λ a K S T k b h s. outlet_gate_send K S T k b h s a in
     let R = param 1 g.row.R in
     let told : (a : NamedLft) (X : RattleType) → IsSend X → IsSend (TellingGate.the_row a X R)
-    = λ a X x. telling_send a X R x c.type_bounds.sync-R in
+    = λ a X x. telling_send a R c.type_bounds.sync-R X x in
     search (told, gates, sendable, crosses) depth 100 fits 500000

@@ -42,7 +42,7 @@ serve-requires-send-G g c κs l =
     → IsSend (InletGate.the_row q a W G K S T p w e t k b h)
     = λ q a p w e t K S T k b h s. inlet_gate_send W G p w e t sent bounds.send-G K S T k b h s q a in
     let told : (a : NamedLft) (X : RattleType) → IsSend X → IsSend (TellingGate.the_row a X R)
-    = λ a X x. telling_send a X R x bounds.sync-R in
+    = λ a X x. telling_send a R bounds.sync-R X x in
     search (told, gates, sendable, crosses) depth 100 fits 500000
 
 pub serve-requires-send-B : goal.serve-requires-send-B
