@@ -1,9 +1,8 @@
 -- What a scan found, in the definition's words.
 use Rattle.std.specs.Prelude.{ℕ, List, [], drop}
 use Rattle.fix_framing.specs.declared.scan.Scanned.{Scanned}
-use Rattle.fix_framing.specs.declared.scan.Next.{Next}
 use Rattle.fix_framing.specs.declared.scan.NextFrame.{NextFrame}
-use Rattle.fix_framing.specs.Seen.{IsNext, IsNextFrame}
+use Rattle.fix_framing.specs.Seen.{IsNextFrame}
 use Rattle.fix_framing.specs.Stream.{StreamParts, IsOn, end_of, place}
 
 -- with this left behind all
@@ -15,11 +14,6 @@ scanned_parts scanned rest = record {
 }
 
 -- so many bytes are skipped in front of it, and then this stands there
-abbrev pub StandsNext : Next → List ℕ → Type 0
-StandsNext next text =
-    IsOn text [] next.skipped next.skipped × IsNext next.size next.is_over (place (drop next.skipped text))
-
--- the same, with the fields of the frame
 abbrev pub StandsFramed : NextFrame → List ℕ → Type 0
 StandsFramed next text =
     IsOn text [] next.skipped next.skipped × IsNextFrame next.frame next.is_over (place (drop next.skipped text))

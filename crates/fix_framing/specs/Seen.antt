@@ -1,6 +1,5 @@
 -- What the reader's own types say in the definition's words.
 use Rattle.std.specs.Prelude.{◌≡◌, ◌≤◌, ◌<◌, ℕ, Bool, true, false, List, length, take, Option, Some, None}
-use Rattle.fix_fields.specs.Field.{Field}
 use Rattle.fix_fields.specs.Reading.{fields_of}
 use Rattle.fix_framing.specs.declared.start.Start.{Start as ReadStart}
 use Rattle.fix_framing.specs.declared.start.Start.TheVariants as start
@@ -43,21 +42,7 @@ IsThere framing.Skipped stream = Unit {0}
 IsThere framing.Waiting stream = Unit {0}
 IsThere framing.TooLong stream = Unit {0}
 
--- the same place, where a whole one has fields
-abbrev pub IsAhead : Framing → Place → Type 0
-IsAhead (framing.Whole size) place = (fields : List Field) × (place ≡ Frame size fields)
-IsAhead framing.Skipped place = place ≡ Skipped
-IsAhead framing.Waiting place = place ≡ Waiting
-IsAhead framing.TooLong place = place ≡ TooLong
-
--- what comes next: a frame of so many bytes, too long a one, or what has to wait
-abbrev pub IsNext : Option ℕ → Bool → Place → Type 0
-IsNext (Some size) true place = ⊥
-IsNext (Some size) false place = (fields : List Field) × (place ≡ Frame size fields)
-IsNext None true place = place ≡ TooLong
-IsNext None false place = place ≡ Waiting
-
--- the same, with the fields of the frame
+-- what comes next: a frame, too long a one, or what has to wait
 abbrev pub IsNextFrame : Option Framed → Bool → Place → Type 0
 IsNextFrame (Some framed) true place = ⊥
 IsNextFrame (Some framed) false place = place ≡ Frame framed.size framed.fields

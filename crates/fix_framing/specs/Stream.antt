@@ -175,33 +175,10 @@ pub record Sought (old new : ReaderStanding) : Type 0 where
   pub passed : (taken : List ℕ) (passed : List (List Field)) → Passed taken passed old → Passed taken passed new
   pub kept : (count : ℕ) × LetsGo count old.kept new.kept
 
--- what was seen in front: a frame of so many bytes, or none that is whole
-abbrev pub IsSeen : Option ℕ → End → Type 0
-IsSeen None Over = Unit {0}
-IsSeen (Some size) Over = ⊥
-IsSeen None (Rest bytes) = place bytes ≡ Waiting
-IsSeen (Some size) (Rest bytes) = (fields : List Field) × (place bytes ≡ Frame size fields)
-
--- what is remembered of the front stands there
-abbrev pub IsRemembered : Option ℕ → List ℕ → Type 0
-IsRemembered None bytes = Unit {0}
-IsRemembered (Some size) bytes = (fields : List Field) × (place bytes ≡ Frame size fields)
-
 -- so many bytes that are skipped were let go, and then a frame's
 abbrev pub LetsGoTwice : BytesHeld → BytesHeld → Type 0
 LetsGoTwice old new =
     (between : BytesHeld) × (skipped : ℕ) × (size : ℕ) × LetsGo skipped old between × LetsGo size between new
-
--- the frame that comes next is let go, where one is whole; where none is, those that were passed are the stream's
-abbrev pub PassesFrame : Bool → ReaderStanding → ReaderStanding → Type 0
-PassesFrame true old new =
-    (fields : List Field) × ((left old.end).frames ≡ fields ∷ (left new.end).frames)
-    × ((taken : List ℕ) (passed : List (List Field))
-    → Passed taken passed old → Passed taken (passed ++ fields ∷ []) new)
-    × LetsGoTwice old.kept new.kept
-PassesFrame false old new =
-    ((left old.end).frames ≡ []) × Sought old new
-    × ((taken : List ℕ) (passed : List (List Field)) → Passed taken passed old → (parts taken).frames ≡ passed)
 
 -- with a piece these parts were found: the frames were given, and the rest is held
 pub record IsTaken (p : StreamParts) (given : List (List Field)) (old new : ReaderStanding) : Type 0 where

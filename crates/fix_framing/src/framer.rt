@@ -1,21 +1,18 @@
 //! The reader of a stream.
 
 ghost use Rattle.std.specs.Prelude.{◌≡◌, ◌≢◌, ◌<◌, ◌≤◌, ◌*◌, ◌^◌, ◌++◌, ℕ, List, [], length};
-ghost use Rattle.std.specs.Prelude.{IfOk, IfNone, IsOk, OnOk, OnErr, Err, None, IsTrue, ◌↔◌, ⊤};
-ghost use Rattle.std.specs.Borrow.{sem, follows_so};
-ghost use mathlib.Core.Option.{none};
+ghost use Rattle.std.specs.Prelude.{IfOk, IsOk, OnOk, OnErr, Err, None, IsTrue, ◌↔◌};
 ghost use Rattle.stream_buffer.specs.Buffer.{Takes, Counts, LetsGo};
 ghost use Rattle.fix_fields.specs.Field.{Field};
 ghost use Rattle.fix_framing.specs.Stream.{ReaderStanding, Rest, Over, BytesLeave, Feeds, parts, counted_skips};
-ghost use Rattle.fix_framing.specs.Stream.{Passed, PassesFrame, Sought, IsSeen, IsTaken, left, longer};
-ghost use Rattle.fix_framing.specs.Front.{GivesFrame, IsFramed, LendsFrame};
+ghost use Rattle.fix_framing.specs.Stream.{Passed, Sought, IsTaken, longer};
+ghost use Rattle.fix_framing.specs.Front.{GivesFrame, IsFramed};
 ghost use Rattle.fix_framing.specs.declared.frame_fault.FrameFault.TheVariants.{TooLong, NoMemory};
-ghost use Rattle.fix_framing.specs.contracts.framer.Framer.{the_row};
 
 use crate::frame_fault::FrameFault;
 use crate::place::Framed;
-use crate::scan::{next_frame_of, next_of, scan_in};
-use fix_fields::{Fields, FieldsView};
+use crate::scan::{next_frame_of, scan_in};
+use fix_fields::Fields;
 use std::alloc::{AllocError, Global};
 use std::marker::Model;
 use stream_buffer::StreamBuffer;
@@ -24,21 +21,19 @@ use stream_buffer::StreamBuffer;
 /// it still has to judge, or that no more frames come, how many bytes were skipped, and what its buffer holds.
 ///
 /// `Passed taken passed reader` says that the reader has taken these bytes, in any pieces, and that these frames were
-/// passed, by `pass` or by `feed`, which passes what it gives.
+/// passed, by `next` or by `feed`, which pass what they give.
 ///
 /// Source: FIX 4.4 Volume 1, "Message Format".
 #[derive(Drop)]
 pub struct Framer {
     buffer: StreamBuffer,
-    // the size of the frame in front, where it was seen there
-    seen: Option<usize>,
     is_over: bool,
     skipped: u64,
 }
 
 impl Model for Framer {
     ghost use Rattle.std.specs.Prelude.{◌≡◌, []};
-    ghost use Rattle.fix_framing.specs.Stream.{ReaderStanding, IsRemembered, end_of};
+    ghost use Rattle.fix_framing.specs.Stream.{ReaderStanding, end_of};
 
     ghost Value = { ReaderStanding };
 
@@ -48,7 +43,7 @@ impl Model for Framer {
       kept = f.buffer.kept;
     } };
 
-    ghost invariant = { λ f. (f.buffer.offered ≡ []) × IsRemembered f.seen f.buffer.kept.held };
+    ghost invariant = { λ f. f.buffer.offered ≡ [] };
 }
 
 impl Framer {
@@ -60,7 +55,6 @@ impl Framer {
     {
         Framer {
             buffer: StreamBuffer::new(alloc),
-            seen: None,
             is_over: false,
             skipped: 0,
         }
@@ -83,38 +77,8 @@ impl Framer {
         self.buffer.put(alloc, piece)
     }
 
-    /// The frame that comes next, its fields lent; `None` where none is whole. It is the same until `pass`. Bytes
-    /// before it are skipped. `TooLong` where a head announces a frame of more than 8,192 bytes. Takes no memory.
-    ///
-    /// Source: FIX 4.4 Volume 1, "Message Format".
-    #[tactic(auto, using(crate::proofs::Passing::front_all))]
-    pub fn front(&mut self) -> Result<Option<FieldsView<'_>>, FrameFault>
-        ensures* sought { sem 𝓛 (follows_so the_row the_row self.entry.ghost_name none
-            (λ _ _. ⊤) (λ v. Sought self.old v)) }
-        ensures front { LendsFrame (left self.old.end) result }
-
-        // Where none is whole, those that were passed are the stream's.
-        ensures all { IfOk result (λ found. IfNone found ((taken : List ℕ) (passed : List (List Field))
-            → Passed taken passed self.old → (parts taken).frames ≡ passed)) }
-    {
-        let size = self.seek();
-        self.look(size)
-    }
-
-    /// Passes the frame that comes next: whether one is whole. Takes no memory.
-    pub fn pass(&mut self) -> bool
-        ensures { PassesFrame result self.old self.new }
-    {
-        let Some(size) = self.seek() else {
-            return false;
-        };
-        self.seen = None;
-        self.buffer.pass(size);
-        true
-    }
-
     /// The frame that comes next, moved out: its fields, and it is passed; `None` where none is whole. Bytes before it
-    /// are skipped. What `front` and `pass` do with a copy between them, in one reading of its bytes. Two growths.
+    /// are skipped. Two growths.
     ///
     /// `TooLong` where a head announces a frame of more than 8,192 bytes. `NoMemory` leaves the reader as it was.
     ///
@@ -125,7 +89,6 @@ impl Framer {
         let Some(framed) = self.seek_frame(alloc)? else {
             return self.none_is_whole();
         };
-        self.seen = None;
         self.buffer.pass(framed.size);
         Ok(Some(framed.fields))
     }
@@ -140,7 +103,6 @@ impl Framer {
             return Ok(None);
         }
         let next = next_frame_of(alloc, self.buffer.held())?;
-        self.seen = None;
         let_go(&mut self.buffer, next.skipped);
         self.skipped = self.skipped.saturating_add(next.skipped as u64);
         self.is_over = next.is_over;
@@ -157,40 +119,6 @@ impl Framer {
         } else {
             Ok(None)
         }
-    }
-
-    /// Skips what no frame begins with. The size of the frame in front, where one is whole.
-    fn seek(&mut self) -> Option<usize>
-        ensures sought { Sought self.old self.new }
-        ensures seen { IsSeen result self.new.end }
-    {
-        if self.is_over {
-            return None;
-        }
-        if self.seen.is_some() {
-            return self.seen;
-        }
-        let next = next_of(self.buffer.held());
-        self.buffer.pass(next.skipped);
-        self.skipped = self.skipped.saturating_add(next.skipped as u64);
-        self.is_over = next.is_over;
-        self.seen = next.size;
-        next.size
-    }
-
-    /// What was seen in front.
-    fn look(&self, size: Option<usize>) -> Result<Option<FieldsView<'_>>, FrameFault>
-        requires { IsSeen size self.now.end }
-        ensures { LendsFrame (left self.now.end) result }
-    {
-        if self.is_over {
-            return Err(FrameFault::TooLong);
-        }
-        let Some(size) = size else {
-            return Ok(None);
-        };
-        let (text, _) = self.buffer.held().split_at(size);
-        Ok(Some(FieldsView::known(text)))
     }
 
     /// The frames that are whole with this piece of the stream, in order, each with all its fields.
@@ -231,7 +159,6 @@ impl Framer {
         ensures counts { OnOk result (Counts (length piece.now) self.old.kept self.new.kept) }
         ensures err { OnErr result (self.new ≡ self.old) }
     {
-        self.seen = None;
         let scanned = scan_in(alloc, &mut self.buffer, piece)?;
         self.skipped = self.skipped.saturating_add(scanned.skipped as u64);
         self.is_over = scanned.is_over;

@@ -3,11 +3,10 @@
 ghost use Rattle.std.specs.Prelude.{◌≡◌, ◌≤◌, ◌++◌, [], length, drop, IfOk, OnOk, OnErr};
 ghost use Rattle.stream_buffer.specs.Buffer.{Counts};
 ghost use Rattle.fix_framing.specs.Stream.{parts, place};
-ghost use Rattle.fix_framing.specs.Scanned.{scanned_parts, StandsFramed, StandsNext};
-ghost use Rattle.fix_framing.specs.Seen.{IsAhead};
+ghost use Rattle.fix_framing.specs.Scanned.{scanned_parts, StandsFramed};
 
-use crate::place::{Framed, Framing, Place, framing_of, place_of};
-use fix_fields::{Fields, FieldsView};
+use crate::place::{Framed, Place, place_of};
+use fix_fields::Fields;
 use std::alloc::{AllocError, Global};
 use stream_buffer::StreamBuffer;
 
@@ -21,16 +20,8 @@ pub(crate) struct Scanned {
     pub(crate) is_over: bool,
 }
 
-/// What comes next in a text, behind so many bytes that are skipped: a frame of so many bytes, where one is whole; else
-/// what has to wait for more, or too long a frame.
-#[derive(Clone, Copy)]
-pub(crate) struct Next {
-    pub(crate) skipped: usize,
-    pub(crate) size: Option<usize>,
-    pub(crate) is_over: bool,
-}
-
-/// The same, with the fields of the frame.
+/// What comes next in a text, behind so many bytes that are skipped: a frame, where one is whole; else what has to wait
+/// for more, or too long a frame.
 #[derive(Drop)]
 pub(crate) struct NextFrame {
     pub(crate) skipped: usize,
@@ -137,56 +128,6 @@ fn scan_joined(
             buffer.refuse();
             Err(error)
         }
-    }
-}
-
-/// What comes next in a text. Takes no memory.
-pub(crate) fn next_of(text: &[u8]) -> Next
-    ensures { StandsNext result text.now }
-{
-    let mut at = 0usize;
-    loop {
-        let (_, rest) = text.split_at(at);
-        match ahead_of(rest) {
-            Framing::Skipped => at += 1,
-            Framing::Whole(size) => {
-                return Next {
-                    skipped: at,
-                    size: Some(size),
-                    is_over: false,
-                };
-            }
-            Framing::Waiting => {
-                return Next {
-                    skipped: at,
-                    size: None,
-                    is_over: false,
-                };
-            }
-            Framing::TooLong => {
-                return Next {
-                    skipped: at,
-                    size: None,
-                    is_over: true,
-                };
-            }
-        }
-    }
-}
-
-/// What stands in front of a stream: whole only where it is a frame. Takes no memory.
-fn ahead_of(stream: &[u8]) -> Framing
-    ensures { IsAhead result (place stream.now) }
-{
-    match framing_of(stream) {
-        Framing::Whole(size) => {
-            let (text, _) = stream.split_at(size);
-            match FieldsView::of(text) {
-                Some(_) => Framing::Whole(size),
-                None => Framing::Skipped,
-            }
-        }
-        other => other,
     }
 }
 

@@ -13,7 +13,6 @@ const HEARTBEAT: &[u8; 26] = b"8=FIX.4.4\x019=5\x0135=0\x0110=163\x01";
 #[derive(Clone, Copy, Debug)]
 enum Way {
     Fed,
-    Lent,
     Moved,
 }
 
@@ -45,7 +44,6 @@ fn take(
 ) -> Result<(), FrameFault> {
     match way {
         Way::Fed => feed(alloc, framer, texts, piece),
-        Way::Lent => lend(alloc, framer, texts, piece),
         Way::Moved => moved(alloc, framer, texts, piece),
     }
 }
@@ -58,23 +56,6 @@ fn feed(
 ) -> Result<(), FrameFault> {
     for frame in framer.feed(alloc, piece)? {
         texts.extend_from_slice(frame.text())?;
-    }
-    Ok(())
-}
-
-fn lend(
-    alloc: Global,
-    framer: &mut Framer,
-    texts: &mut Vec<u8>,
-    piece: &[u8],
-) -> Result<(), FrameFault> {
-    framer.put(alloc, piece)?;
-    for _ in 0..=piece.len() {
-        match framer.front()? {
-            Some(view) => texts.extend_from_slice(view.to_fields(alloc)?.text())?,
-            None => return Ok(()),
-        }
-        framer.pass();
     }
     Ok(())
 }
@@ -186,7 +167,7 @@ const STREAMS: [(&[u8], &[u8], u64); 10] = [
 
 const SIZES: [usize; 5] = [1, 2, 3, 7, 4_096];
 
-const WAYS: [Way; 3] = [Way::Fed, Way::Lent, Way::Moved];
+const WAYS: [Way; 2] = [Way::Fed, Way::Moved];
 
 /// In pieces of each size, and in each way, a stream gives these texts, and so many bytes are skipped.
 fn gives(
@@ -307,58 +288,43 @@ fn too_long_by_the_last_byte(rt: HostRuntime) -> Result<(), Fail> {
     Ok(())
 }
 
-/// The same frame stands in front until it is passed. Two frames before too long a one are given first, and what comes
-/// behind it isn't taken.
-#[test]
-fn what_stands_in_front(rt: HostRuntime) -> Result<(), Fail> {
-    let mut framer = Framer::new(rt.alloc());
-    stands_in_front(&rt, rt.alloc(), &mut framer)
-}
-
 /// Two bytes, two frames, and a head of too long a one.
 const TWO_AND_TOO_LONG: &[u8] =
     b"xx8=FIX.4.4\x019=5\x0135=0\x0110=163\x018=FIX.4.4\x019=5\x0135=0\x0110=163\x018=FIX.4.4\x019=8169\x01";
 
-fn stands_in_front<R: Abort>(rt: &R, alloc: Global, framer: &mut Framer) -> Result<(), Fail> {
-    assert!(rt; framer.front()?.is_none());
-    assert!(rt; !framer.pass());
+/// Two frames before too long a one are given first, and what comes behind it isn't taken.
+#[test]
+fn what_comes_before_too_long_a_frame(rt: HostRuntime) -> Result<(), Fail> {
+    let mut framer = Framer::new(rt.alloc());
+    comes_before(&rt, rt.alloc(), &mut framer)
+}
+
+fn comes_before<R: Abort>(rt: &R, alloc: Global, framer: &mut Framer) -> Result<(), Fail> {
+    assert!(rt; framer.next(alloc)?.is_none());
     framer.put(alloc, TWO_AND_TOO_LONG)?;
     for _ in 0..2u32 {
-        heartbeat_until_passed(rt, framer)?;
+        heartbeat_comes(rt, alloc, framer)?;
     }
-    nothing_in_front(rt, alloc, framer, b"")?;
-    nothing_in_front(rt, alloc, framer, HEARTBEAT)?;
+    nothing_comes(rt, alloc, framer, b"")?;
+    nothing_comes(rt, alloc, framer, HEARTBEAT)?;
     assert!(rt; framer.skipped() == 2);
     assert!(rt; framer.fed() == 71);
     Ok(())
 }
 
-fn heartbeat_until_passed<R: Abort>(rt: &R, framer: &mut Framer) -> Result<(), Fail> {
-    for _ in 0..3u32 {
-        heartbeat_in_front(rt, framer)?;
-    }
-    assert!(rt; framer.pass());
+fn heartbeat_comes<R: Abort>(rt: &R, alloc: Global, framer: &mut Framer) -> Result<(), Fail> {
+    let fields = framer.next(alloc)?.ok_or("a frame is whole")?;
+    assert!(rt; fields.text() == HEARTBEAT.as_slice());
     Ok(())
 }
 
-fn heartbeat_in_front<R: Abort>(rt: &R, framer: &mut Framer) -> Result<(), Fail> {
-    let view = framer.front()?.ok_or("a frame is whole")?;
-    assert!(rt; view.text() == HEARTBEAT.as_slice());
-    assert!(rt; view.first(35) == Some(b"0".as_slice()));
-    assert!(rt; view.first(10) == Some(b"163".as_slice()));
-    assert!(rt; view.first(34).is_none());
-    Ok(())
-}
-
-fn nothing_in_front<R: Abort>(
+fn nothing_comes<R: Abort>(
     rt: &R,
     alloc: Global,
     framer: &mut Framer,
     piece: &[u8],
 ) -> Result<(), Fail> {
-    assert!(rt; matches!(framer.front(), Err(FrameFault::TooLong)));
     assert!(rt; matches!(framer.next(alloc), Err(FrameFault::TooLong)));
-    assert!(rt; !framer.pass());
     framer.put(alloc, piece)?;
     assert!(rt; is_too_long(framer.feed(alloc, piece)));
     Ok(())
