@@ -15,23 +15,27 @@ pub enum RunOpener<A, C> {
     Clock(bool),
 }
 
-impl<A: Opener, C: Opener> Opener for RunOpener<A, C> {
+impl<A, C> Opener for RunOpener<A, C>
+where
+    A: Opener,
+    C: Opener<Reader = A::Reader, Writer = A::Writer, Closer = A::Closer>,
+{
     ghost opened = { λ o. run_opened A.opened C.opened o };
 
     ghost has_ended = { λ o. run_ended A.has_ended C.has_ended o };
 
-    type Reader = RunReader<A::Reader, C::Reader>;
+    type Reader = RunReader<A::Reader>;
 
-    type Writer = RunWriter<A::Writer, C::Writer>;
+    type Writer = RunWriter<A::Writer>;
 
-    type Closer = RunCloser<A::Closer, C::Closer>;
+    type Closer = RunCloser<A::Closer>;
 
     fn open(
         &mut self,
     ) -> Option<Result<Opened<Self::Reader, Self::Writer, Self::Closer>, LinkFault>> {
         match self {
-            RunOpener::Client(links) => open_client(links),
-            RunOpener::Port(links) => open_port(links),
+            RunOpener::Client(links) => open_link(links),
+            RunOpener::Port(links) => open_link(links),
             RunOpener::Clock(is_to_come) => {
                 if !*is_to_come {
                     return None;
@@ -55,12 +59,12 @@ impl<A: Opener, C: Opener> Opener for RunOpener<A, C> {
     }
 }
 
-/// The next link of a client.
-fn open_client<A: Opener, R, W, K>(
+/// The next link of a client or port.
+fn open_link<A: Opener>(
     links: &mut A,
 ) -> Option<
     Result<
-        Opened<RunReader<A::Reader, R>, RunWriter<A::Writer, W>, RunCloser<A::Closer, K>>,
+        Opened<RunReader<A::Reader>, RunWriter<A::Writer>, RunCloser<A::Closer>>,
         LinkFault,
     >,
 >
@@ -79,42 +83,9 @@ fn open_client<A: Opener, R, W, K>(
                 closer,
             } = opened;
             Some(Ok(Opened {
-                reader: RunReader::Client(reader),
-                writer: RunWriter::Client(writer),
-                closer: RunCloser::Client(closer),
-            }))
-        }
-        Err(fault) => Some(Err(fault)),
-    }
-}
-
-/// The next link of a port.
-fn open_port<A: Opener, R, W, K>(
-    links: &mut A,
-) -> Option<
-    Result<
-        Opened<RunReader<R, A::Reader>, RunWriter<W, A::Writer>, RunCloser<K, A::Closer>>,
-        LinkFault,
-    >,
->
-    ensures counts { IfSome result (λ tried. MatchResult tried
-        (λ _. A.opened links.new ≡ A.opened links.old + 1) (λ _. A.opened links.new ≡ A.opened links.old)) }
-    ensures last { IfNone result ((A.opened links.new ≡ A.opened links.old) × A.has_ended links.new) }
-{
-    let Some(tried) = links.open() else {
-        return None;
-    };
-    match tried {
-        Ok(opened) => {
-            let Opened {
-                reader,
-                writer,
-                closer,
-            } = opened;
-            Some(Ok(Opened {
-                reader: RunReader::Port(reader),
-                writer: RunWriter::Port(writer),
-                closer: RunCloser::Port(closer),
+                reader: RunReader::Link(reader),
+                writer: RunWriter::Link(writer),
+                closer: RunCloser::Link(closer),
             }))
         }
         Err(fault) => Some(Err(fault)),
