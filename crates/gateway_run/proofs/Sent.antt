@@ -88,9 +88,9 @@ opener_send a b A C K R k s c r = let O = RunOpener.the_type (CountedLinks.the_r
     recorded_send _ _ _ O.to_one (enum_send (E.shape O)
     (search (counted_send a A s, port_links_send b K R k r C c, sendable) depth 40))
 
-pub writer_send : (A C : RattleType) → IsSend A → IsSend C → IsSend (RunWriter.the_row A C)
-writer_send A C a c = let O = RunWriter.the_type A C in recorded_send _ _ _ O.to_one (enum_send (E.shape O)
-    (search (a, c, sendable) depth 40))
+pub writer_send : (S : RattleType) → IsSend S → IsSend (RunWriter.the_row S)
+writer_send S s = let O = RunWriter.the_type S in recorded_send _ _ _ O.to_one (enum_send (E.shape O)
+    (search (s, sendable) depth 40))
 
 pub run_pen_send : (a : NamedLft) (W G C : RattleType) (p : Prompt.Ghosts W.Denot) (w : Write.Ghosts W.Denot)
     (t : Gate.Ghosts G.Denot) → IsSend W → IsSend G → IsSend C → IsSend (RunPen.the_row a W G C p w t)
