@@ -12,12 +12,12 @@ use Rattle.desk_gates.specs.desk.declared.DeskName as DeskName
 use Rattle.std.specs.declared.io.Write as Write
 use Rattle.gate_serving.proofs.Sent.{pen_worker_send}
 use Rattle.desk_gates.specs.contracts.bell.BellClock as BellClock
-use Rattle.run_lines.specs.link_io.declared.gate.Gate as Gate
-use Rattle.run_lines.specs.link_io.declared.streams.Prompt as Prompt
-use Rattle.run_lines.specs.contracts.line_pen.RunPen as RunPen
-use Rattle.run_lines.specs.contracts.streams.RunWriter as RunWriter
-use Rattle.run_lines.specs.contracts.counted.CountedLinks as CountedLinks
-use Rattle.run_lines.specs.contracts.opener.RunOpener as RunOpener
+use Rattle.link_io.specs.declared.gate.Gate as Gate
+use Rattle.link_io.specs.declared.streams.Prompt as Prompt
+use Rattle.gate_serving.specs.contracts.run_pen.RunPen as RunPen
+use Rattle.gate_serving.specs.contracts.run_streams.RunWriter as RunWriter
+use Rattle.gate_serving.specs.contracts.counted.CountedLinks as CountedLinks
+use Rattle.gate_serving.specs.contracts.run_opener.RunOpener as RunOpener
 use Rattle.gateway_run.specs.contracts.clock.RunClock as RunClock
 use Rattle.gateway_run.specs.contracts.clock.Watch as Watch
 use Rattle.gateway_run.specs.contracts.port_faults.PortLinks as PortLinks

@@ -13,8 +13,7 @@ use audit_lines::Settings;
 use desk_gates::{
     Closed, DeskName, Finished, Inlet, OutletEnd, OutletPen, Parts, Prompt, Shared, open_desk,
 };
-use gate_serving::{Closer, Opener, serve};
-use run_lines::{ClientCounts, CountedLinks, RunWriter};
+use gate_serving::{ClientCounts, Closer, CountedLinks, Opener, RunWriter, serve};
 use std::alloc::{AllocError, Global};
 use std::hash::RandomState;
 use std::io::Read;

@@ -11,12 +11,12 @@ use Rattle.desk_gates.proofs.Sent.{inlet_gate_send}
 use Rattle.desk_gates.specs.desk.declared.DeskName as DeskName
 use Rattle.desk_gates.specs.declared.outlet_pen.OutletEnd as OutletEnd
 use Rattle.desk_gates.specs.contracts.inlet.InletGate as InletGate
-use Rattle.run_lines.specs.link_io.declared.gate.Gate as Gate
-use Rattle.run_lines.specs.link_io.declared.streams.Prompt as Prompt
-use Rattle.run_lines.specs.contracts.line_pen.RunPen as RunPen
-use Rattle.run_lines.specs.contracts.streams.RunWriter as RunWriter
-use Rattle.run_lines.specs.contracts.counted.CountedLinks as CountedLinks
-use Rattle.run_lines.specs.contracts.opener.RunOpener as RunOpener
+use Rattle.link_io.specs.declared.gate.Gate as Gate
+use Rattle.link_io.specs.declared.streams.Prompt as Prompt
+use Rattle.gate_serving.specs.contracts.run_pen.RunPen as RunPen
+use Rattle.gate_serving.specs.contracts.run_streams.RunWriter as RunWriter
+use Rattle.gate_serving.specs.contracts.counted.CountedLinks as CountedLinks
+use Rattle.gate_serving.specs.contracts.run_opener.RunOpener as RunOpener
 use Rattle.gateway_run.specs.contracts.port_faults.PortLinks as PortLinks
 use Rattle.gateway_run.specs.contracts.telling_gate.TellingGate as TellingGate
 use Rattle.gateway_run.proofs.Sent.{bell_send, opener_send, run_clock_send, run_pen_send, telling_send, writer_send}

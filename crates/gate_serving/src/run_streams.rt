@@ -1,8 +1,9 @@
 //! A link's stream, by what is done with it. That of the clock is at its end, and takes what it is given.
 
-ghost use Rattle.run_lines.specs.Streams.{run_contents, run_remaining, run_tried};
+ghost use Rattle.gate_serving.specs.RunStreams.{run_contents, run_remaining, run_tried};
 
-use gate_serving::{Closer, Prompt};
+use crate::opener::Closer;
+use gate_workers::Prompt;
 use std::io;
 use std::io::{Read, Write};
 use std::sync::atomic::AtomicBool;

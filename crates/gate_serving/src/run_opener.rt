@@ -1,10 +1,11 @@
 //! Where the links of lines come from.
 
 ghost use Rattle.std.specs.Prelude.{◌≡◌, ◌+◌, IfNone, IfSome, MatchResult};
-ghost use Rattle.run_lines.specs.Openers.{run_ended, run_opened};
+ghost use Rattle.gate_serving.specs.RunOpeners.{run_ended, run_opened};
 
-use crate::streams::{RunCloser, RunReader, RunWriter};
-use gate_serving::{LinkEnd, LinkFault, Opened, Opener};
+use crate::opener::{LinkEnd, Opened, Opener};
+use crate::run_streams::{RunCloser, RunReader, RunWriter};
+use gate_workers::LinkFault;
 
 /// Opens the links of a client, or of a port, or the clock's one.
 #[derive(Drop)]

@@ -1,9 +1,9 @@
 -- The bytes of a link's stream, be it a client's or port's or the clock's.
 use Rattle.std.specs.Prelude.{◌≡◌, ℕ, List, [], Option, Some, None, length}
-use Rattle.run_lines.specs.declared.streams.RunReader.{RunReader}
-use Rattle.run_lines.specs.declared.streams.RunReader.TheVariants as readers
-use Rattle.run_lines.specs.declared.streams.RunWriter.{RunWriter}
-use Rattle.run_lines.specs.declared.streams.RunWriter.TheVariants as writers
+use Rattle.gate_serving.specs.declared.run_streams.RunReader.{RunReader}
+use Rattle.gate_serving.specs.declared.run_streams.RunReader.TheVariants as readers
+use Rattle.gate_serving.specs.declared.run_streams.RunWriter.{RunWriter}
+use Rattle.gate_serving.specs.declared.run_streams.RunWriter.TheVariants as writers
 
 -- the bytes that are still to be read, where they are known; the clock's stream has none
 abbrev pub run_remaining : {S : Type 0} → (S → Option (List ℕ)) → RunReader S → Option (List ℕ)
