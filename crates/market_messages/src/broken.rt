@@ -56,7 +56,7 @@ fn tell_broken(
     requires steady { IsSteady order.now }
     ensures told { IfOk result (λ bodies. map body_fields bodies.items
         ≡ told_of issued (market.Broken message.now) order.now) }
-    ensures few { IfOk result (λ bodies. length bodies.items ≤ 3) }
+    ensures few { IfOk result (λ bodies. length bodies.items ≤ 6) }
 {
     let progress = order.progress_after(Change::Broken(told));
     let occasion = Occasion::TradeCancel {

@@ -40,7 +40,7 @@ fn tell_cancel_reject(
     requires { is_lawful (market.CancelReject message.now) order.now ≡ true }
     ensures told { IfOk result (λ bodies. (issued : ℕ)
         → map body_fields bodies.items ≡ told_of issued (market.CancelReject message.now) order.now) }
-    ensures few { IfOk result (λ bodies. length bodies.items ≤ 3) }
+    ensures few { IfOk result (λ bodies. length bodies.items ≤ 6) }
 {
     let progress = order.progress_after(Change::NotCanceled(message.token));
     let shown = shown_of(order, &progress);

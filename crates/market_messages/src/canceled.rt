@@ -45,7 +45,7 @@ fn tell_canceled(
     requires may { is_lawful (market.Canceled message.now) order.now ≡ true }
     ensures told { IfOk result (λ bodies. map body_fields bodies.items
         ≡ told_of issued (market.Canceled message.now) order.now) }
-    ensures few { IfOk result (λ bodies. length bodies.items ≤ 3) }
+    ensures few { IfOk result (λ bodies. length bodies.items ≤ 6) }
 {
     let progress = order.progress_after(Change::Canceled(message.decrement));
     let mut bodies = Vec::with_capacity(alloc, 1)?;

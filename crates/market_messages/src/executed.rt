@@ -47,7 +47,7 @@ fn tell_executed(
     requires may { is_lawful (market.Executed message.now) order.now ≡ true }
     ensures told { IfOk result (λ bodies. map body_fields bodies.items
         ≡ told_of issued (market.Executed message.now) order.now) }
-    ensures few { IfOk result (λ bodies. length bodies.items ≤ 3) }
+    ensures few { IfOk result (λ bodies. length bodies.items ≤ 6) }
 {
     let (shares, price) = (message.shares, message.price);
     let told = told_trade(message, issued + 1);

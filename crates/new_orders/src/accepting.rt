@@ -100,7 +100,7 @@ fn asks_of(alloc: Global, enter: EnterOrder) -> Result<Vec<Inbound>, AllocError>
     ensures says { IfOk result (λ asks. (standing : Standing) (order_of : List ℕ → Option ℕ) (asked : Asked)
         → Says standing order_of asked (enter_bytes enter)
         → EachWith (Says standing order_of) (asked ∷ []) (map inbound_bytes asks.items)) }
-    ensures few { IfOk result (λ asks. length asks.items ≤ 2) }
+    ensures few { IfOk result (λ asks. length asks.items ≤ 5) }
 {
     Ok(vec![in alloc; Inbound::Enter(enter)]?)
 }

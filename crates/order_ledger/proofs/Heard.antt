@@ -40,7 +40,7 @@ pub silent-changes : (old : TableState) (port : ℕ) (m : Result Outbound Decode
 silent-changes old port m changed nothing is = subst (λ (x : Option ChangedOrder). ChangesAny old port m x) (sym nothing) (ap (λ (g : GivenByEvent). g.state) is)
 
 -- where an order is changed, and its client told
-module _ (old : TableState) (port : ℕ) (m : Result Outbound DecodeRefusal) (order_id client : ℕ) (h : Heard) (turn : MarketTurn) (told : OrderIsTold old port m order_id client h) (was held : Held) (same_orders : was.orders ≡ old.orders) (same_tokens : was.tokens ≡ old.tokens) where
+module _ (old : TableState) (port : ℕ) (m : Result Outbound DecodeRefusal) (order_id client : ℕ) (next : List (List ℕ)) (h : Heard) (turn : MarketTurn) (told : OrderIsTold old port m order_id client next h) (was held : Held) (same_orders : was.orders ≡ old.orders) (same_tokens : was.tokens ≡ old.tokens) where
   pub told-meets : ((o : OrderRecord) → by_number old (decimal order_id) ≡ Some o → held ≡ record was { orders = put (changed_by h.change o) was.orders })
       → client_seen turn.client ≡ (told_of_entry told.order.new (map body_fields h.bodies.items)).client → turn.bodies.items ≡ h.bodies.items
       → GivesMarket (market_step old port m) turn (record old { orders = held.orders; tokens = held.tokens; exec_ids = old.exec_ids + count_by is_report (map body_fields h.bodies.items) })
@@ -58,7 +58,7 @@ module _ (old : TableState) (port : ℕ) (m : Result Outbound DecodeRefusal) (or
   -- and it is the one that is changed
   pub told-changes : (closed : Bool)
       → ((o : OrderRecord) → by_number old (decimal order_id) ≡ Some o → closed ≡ is_closed (changed_by h.change o).stage)
-      → ChangesOrder old port m (record { order_id = order_id; is_closed = closed })
+      → ChangesOrder old port m (record { order_id = order_id; is_closed = closed; next = next })
   told-changes closed closes =
       let now = changed_by h.change told.order in
       let same : now.new ≡ told.order.new = change-new h.change told.order in
@@ -71,6 +71,7 @@ module _ (old : TableState) (port : ℕ) (m : Result Outbound DecodeRefusal) (or
         same = same;
         of_order = number;
         closed = sym (closes told.order told.found);
+        next = told.of_replaces;
         orders = ap (λ (g : GivenByEvent). g.state.orders) told.gives;
       }
 

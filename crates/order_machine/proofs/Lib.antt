@@ -1,11 +1,13 @@
 pub mod Texts
 pub mod Lists
 pub mod Bodies
+mod AskedReplaces
 mod Due
 mod Reports
 mod Sound
 mod Rejects
 mod Leads
+mod Endings
 mod Moves
 pub mod Executed
 mod Asked
@@ -13,6 +15,7 @@ mod Canceled
 mod Accepted
 mod Broken
 mod Rejected
+mod NotReplaced
 mod Replaced
 mod Judged
 mod Row
