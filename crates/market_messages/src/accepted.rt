@@ -1,6 +1,6 @@
 //! Accepted: the market took a new order.
 
-ghost use Rattle.std.specs.Prelude.{◌≡◌, ◌≤◌, ◌<◌, ◌^◌, true, length, map, IfOk, ℕ, List};
+ghost use Rattle.std.specs.Prelude.{◌≡◌, ◌≤◌, ◌<◌, ◌^◌, true, length, map, IfOk};
 ghost use Rattle.orders.specs.fix_types.Application.{body_fields};
 ghost use Rattle.orders.specs.declared.change.Change.TheVariants.{Opened};
 ghost use Rattle.ouch_codec.specs.declared.outbound.Outbound.TheVariants as market;

@@ -1,7 +1,6 @@
 //! Broken Trade: a trade of an order is taken back.
 
-ghost use Rattle.std.specs.Prelude.{◌≡◌, ◌≤◌, ◌<◌, ◌^◌, ◌∷◌, [], true, length, map, IfOk, Some, option_map, reverse, ℕ};
-ghost use Rattle.std.specs.Prelude.{List};
+ghost use Rattle.std.specs.Prelude.{◌≡◌, ◌≤◌, ◌<◌, ◌^◌, true, length, map, IfOk, Some, option_map, reverse};
 ghost use Rattle.std.specs.List.{find, position};
 ghost use Rattle.orders.specs.fix_types.Application.{body_fields};
 ghost use Rattle.orders.specs.order_law.Life.{is_of};

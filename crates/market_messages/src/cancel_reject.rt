@@ -1,6 +1,6 @@
 //! Cancel Reject: the market does not cancel an order.
 
-ghost use Rattle.std.specs.Prelude.{◌≡◌, ◌≤◌, ℕ, true, length, map, IfOk, List};
+ghost use Rattle.std.specs.Prelude.{◌≡◌, ◌≤◌, ℕ, true, length, map, IfOk};
 ghost use Rattle.orders.specs.fix_types.Application.{body_fields};
 ghost use Rattle.ouch_codec.specs.declared.outbound.Outbound.TheVariants as market;
 ghost use Rattle.market_messages.specs.Meets.{MeetsRow, is_lawful, told_of};

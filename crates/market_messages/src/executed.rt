@@ -1,6 +1,6 @@
 //! Executed: shares of an order were traded.
 
-ghost use Rattle.std.specs.Prelude.{◌≡◌, ◌≤◌, ◌<◌, ◌^◌, ◌==◌, true, length, map, IfOk, ℕ, List};
+ghost use Rattle.std.specs.Prelude.{◌≡◌, ◌≤◌, ◌<◌, ◌^◌, ◌==◌, true, length, map, IfOk};
 ghost use Rattle.std.specs.List.{list_any};
 ghost use Rattle.orders.specs.fix_types.Application.{body_fields};
 ghost use Rattle.ouch_codec.specs.declared.outbound.Outbound.TheVariants as market;

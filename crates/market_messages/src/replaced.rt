@@ -1,6 +1,6 @@
 //! Replaced: an order goes by another token from now on, with other terms.
 
-ghost use Rattle.std.specs.Prelude.{◌≡◌, ◌≤◌, ◌<◌, ◌^◌, ◌∷◌, ◌++◌, true, length, map, IfOk, ℕ, List};
+ghost use Rattle.std.specs.Prelude.{◌≡◌, ◌≤◌, ◌<◌, ◌^◌, ◌∷◌, ◌++◌, true, length, map, IfOk, List};
 ghost use Rattle.std.specs.Prelude.{Option, option_to_list};
 ghost use Rattle.orders.specs.fix_types.Application.{body_fields};
 ghost use Rattle.orders.specs.declared.change.Change.TheVariants as changes;

@@ -1,9 +1,8 @@
 //! An accepted new order.
 
-ghost use Rattle.std.specs.Prelude.{◌≡◌, ◌+◌, ◌<◌, ◌≤◌, ◌^◌, ◌∷◌, [], ℕ, List, Option, Some, codes, decimal, length};
+ghost use Rattle.std.specs.Prelude.{◌≡◌, ◌+◌, ◌<◌, ◌≤◌, ◌^◌, ◌∷◌, [], ℕ, List, Option, codes, length};
 ghost use Rattle.std.specs.Prelude.{map, IfOk};
 ghost use Rattle.client_requests.specs.fix_types.Application.{body_fields};
-ghost use Rattle.client_requests.specs.fix_types.NewOrder.{new_order_fields};
 ghost use Rattle.order_law.specs.ouch_codec.Inbound.{inbound_bytes};
 ghost use Rattle.order_law.specs.Asks.{Standing};
 ghost use Rattle.order_law.specs.Headline.{EachWith, Says};

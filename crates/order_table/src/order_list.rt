@@ -1,6 +1,6 @@
 //! The list of orders with its indexes.
 
-ghost use Rattle.std.specs.Prelude.{◌≡◌, ◌+◌, ◌≤◌, ◌<◌, ◌^◌, ◌++◌, ◌∷◌, [], ℕ, None, Some, true, decimal, length};
+ghost use Rattle.std.specs.Prelude.{◌≡◌, ◌+◌, ◌≤◌, ◌<◌, ◌^◌, ◌++◌, ◌∷◌, [], None, Some, true, decimal, length};
 ghost use Rattle.std.specs.Prelude.{reverse};
 ghost use Rattle.std.specs.Prelude.{slice_get, slice_set, MatchOption, IfOk, OnErr, OnOk};
 ghost use Rattle.std.specs.List.{find};

@@ -128,7 +128,7 @@ impl Model for Order {
 }
 
 impl Order {
-    ghost use Rattle.std.specs.Prelude.{ℕ, ◌++◌, ◌∷◌, OnErr, OnOk, Some, bytes_eq, decimal};
+    ghost use Rattle.std.specs.Prelude.{◌++◌, ◌∷◌, OnErr, OnOk, Some, bytes_eq, decimal};
     ghost use Rattle.std.specs.List.{list_any};
     ghost use Rattle.order_machine.specs.tokens.TokenText.{token_text};
     ghost use Rattle.fix_types.specs.NewOrder.{new_order_fields};

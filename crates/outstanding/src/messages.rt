@@ -1,6 +1,6 @@
 //! The list of messages.
 
-ghost use Rattle.std.specs.Prelude.{◌≡◌, ◌+◌, ◌≤◌, ◌<◌, ◌++◌, ◌∷◌, [], false, List, map, filter, decimal, length};
+ghost use Rattle.std.specs.Prelude.{◌≡◌, ◌+◌, ◌≤◌, ◌<◌, ◌++◌, [], false, map, filter, decimal, length};
 ghost use Rattle.std.specs.Prelude.{vec_len, vec_capacity, IfOk, OnErr};
 ghost use Rattle.order_law.specs.ouch_codec.Inbound.{inbound_bytes};
 ghost use Rattle.outstanding.specs.Kept.{bytes_on, is_answered_by, kept_from, left_by, seen};

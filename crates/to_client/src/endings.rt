@@ -2,7 +2,7 @@
 //!
 //! The one error of each is that memory ran out; then the bodies are of no use any more.
 
-ghost use Rattle.std.specs.Prelude.{◌≡◌, ◌≤◌, ◌+◌, ◌++◌, ◌∷◌, [], ℕ, List, true, codes, length, map, IfOk, IfSome, Option};
+ghost use Rattle.std.specs.Prelude.{◌≡◌, ◌≤◌, ◌+◌, ◌++◌, ◌∷◌, [], List, true, length, map, IfOk, IfSome, Option};
 ghost use Rattle.std.specs.List.{list_all};
 ghost use Rattle.order_law.specs.fix_fields.Field.{is_inside};
 ghost use Rattle.orders.specs.fix_types.Report.{report_fields};

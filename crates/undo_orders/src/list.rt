@@ -1,12 +1,11 @@
 //! The list.
 
 ghost use Rattle.std.specs.Prelude.{◌≡◌, ◌≤◌, ◌<◌, ◌+◌, ◌^◌, ◌++◌, ◌∷◌, [], length, slice_get, slice_set};
-ghost use Rattle.std.specs.Prelude.{Some, IfOk, OnErr, OnOk, false, true, vec_len, vec_capacity};
+ghost use Rattle.std.specs.Prelude.{Some, IfOk, OnErr, OnOk, false, vec_len, vec_capacity};
 ghost use Rattle.orders.specs.order_machine.OrderRecord.{OrderRecord, at};
 ghost use Rattle.orders.specs.Changes.{Fits, changed_by};
 ghost use Rattle.orders.specs.Seen.{cancel_of, replace_of};
 ghost use Rattle.orders.specs.PutBack.{needs_memory, put_back};
-ghost use Rattle.hint_index.specs.undo_list.Undoing.{IsWithin};
 ghost use Rattle.undo_orders.specs.PuttingBack.{changed_at};
 
 use hint_index::SettledList;
