@@ -64,8 +64,8 @@ grows-within few many packets old new most grows = record {
   orders_settled = grows.orders_settled;
 }
 
--- no event gives more numbers than six, or brings more than one packet
-pub grows-most : {S H : Type 0} (numbers packets : ℕ) (old new : Parts S H) → numbers ≤ 6 → packets ≤ 1 → Grows numbers packets old new → Grows 6 1 old new
+-- no event gives more numbers than three, or brings more than one packet
+pub grows-most : {S H : Type 0} (numbers packets : ℕ) (old new : Parts S H) → numbers ≤ 3 → packets ≤ 1 → Grows numbers packets old new → Grows 3 1 old new
 grows-most numbers packets old new few one grows = record {
   clients = grows.clients;
   ports = grows.ports;

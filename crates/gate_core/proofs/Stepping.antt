@@ -34,7 +34,7 @@ shaped-still numbers packets old new grows shaped = record {
     same : new.client_ports.items ≡ old.client_ports.items
     same = rw grows.client_ports refl
 
-pub numbers-still : {S H : Type 0} (events : ℕ) (old new : Parts S H) → Grows 6 1 old new → HasNumbers events old → HasNumbers (events + 1) new
+pub numbers-still : {S H : Type 0} (events : ℕ) (old new : Parts S H) → Grows 3 1 old new → HasNumbers events old → HasNumbers (events + 1) new
 numbers-still events old new grows has = record {
   issued = omega (arith, grows.issued, has.issued);
   next = grows.next (events + 1) has.next;

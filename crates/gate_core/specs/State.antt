@@ -50,7 +50,7 @@ pub record IsShaped {S H : Type 0} (g : Parts S H) : Type 0 where
 -- There are numbers for far more events than are ever stepped: after so many of them, so many numbers were given at
 -- most.
 pub record HasNumbers {S H : Type 0} (events : ℕ) (g : Parts S H) : Type 0 where
-  pub issued : core.core_numbers g.orders ≤ 6 * events
+  pub issued : core.core_numbers g.orders ≤ 3 * events
   pub next : NextWithin (events + 1) g.ports.lines.items
 
 -- a port's session is open just while a link of the port is current
@@ -105,5 +105,5 @@ pub record AreSound (events : ℕ) (p : PartsStand) : Type 0 where
   pub served : ledger.clients p.orders.table ≡ length p.clients
   pub few_clients : length p.clients ≤ 64
   pub few_ports : length p.ports ≤ 16
-  pub issued : ledger.ledger_numbers p.orders.table ≤ 6 * events
+  pub issued : ledger.ledger_numbers p.orders.table ≤ 3 * events
   pub next : (i : ℕ) (c : PortStands) → slice_get p.ports i ≡ Some c → next_of c.port ≤ events + 1

@@ -20,10 +20,10 @@ pub record IsClient (s : TableState) (client : ℕ) : Type 0 where
 abbrev pub ledger_numbers : TableState → ℕ
 ledger_numbers s = s.order_ids + s.exec_ids + length s.tokens
 
--- what each call keeps: there are the same clients, and it gives six numbers at most
+-- what each call keeps: there are the same clients, and it gives three numbers at most
 pub record Keeps (old new : TableState) : Type 0 where
   pub clients : clients new ≡ clients old
-  pub issued : ledger_numbers new ≤ ledger_numbers old + 6
+  pub issued : ledger_numbers new ≤ ledger_numbers old + 3
 
 -- numbers are left for one call more, and for far more than any day has
 abbrev pub HasRoom : TableState → Type 0

@@ -36,6 +36,7 @@ pub mod Finding
 pub mod Linked
 pub mod Placed
 mod Ids
+pub mod FewReports
 mod Stepping
 mod Answering
 pub mod Running

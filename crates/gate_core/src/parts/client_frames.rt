@@ -34,7 +34,7 @@ impl<S: BuildHasher + Drop> Parts<S> {
         requires room { CoreHasRoom self.old.orders }
         ensures step { IfOk result (λ b. (s : Settings) (v : Lists) → Ready s v self.old
             → Stepped s (ClientMessage client link at frame.now) (batch_seen b) v self.new) }
-        ensures grows { Grows 6 0 self.old self.new }
+        ensures grows { Grows 3 0 self.old self.new }
     {
         let Some(place) = self.client_on(client, link) else {
             return Ok(Batch::empty(alloc));
@@ -64,7 +64,7 @@ impl<S: BuildHasher + Drop> Parts<S> {
         ensures step { IfOk result (λ b. (s : Settings) (v : Lists) (link : ℕ) (frame : Message)
             → AfterFrame s (place + 1) link at frame (Some message.now) said.items v self.old
             → Stepped s (ClientMessage (place + 1) link at frame) (batch_seen b) v self.new) }
-        ensures grows { Grows 6 0 self.old self.new }
+        ensures grows { Grows 3 0 self.old self.new }
     {
         let port = self.port_at(place);
         let Asked {

@@ -48,7 +48,7 @@ impl<S: BuildHasher + Drop> Parts<S> {
         requires room { CoreHasRoom self.old.orders }
         ensures asked { IfOk result (λ out. (s : Settings) (v : Lists) → Ready s v self.old
             → port + 1 ≡ port_of s (place + 1) → IsAsked s (place + 1) at message.now out v self.new) }
-        ensures grows { Grows 6 0 self.old self.new }
+        ensures grows { Grows 3 0 self.old self.new }
     {
         let out = self.take(alloc, place, message)?;
         let issues = self.issue(alloc, place, &out.bodies, at)?;
@@ -68,7 +68,7 @@ impl<S: BuildHasher + Drop> Parts<S> {
         requires room { CoreHasRoom self.old.orders }
         ensures turn { IfOk result (λ out. (s : Settings) (v : Lists) → Ready s v self.old
             → IsTurn s (place + 1) message.now out v self.new) }
-        ensures grows { Grows 6 0 self.old self.new }
+        ensures grows { Grows 3 0 self.old self.new }
     {
         let port = self.port_at(place);
         let state = stands(self.ports.lines[port].state());

@@ -39,7 +39,7 @@ impl<S: BuildHasher + Drop> Parts<S> {
         requires next { NextWithin (2 ^ 59) self.old.ports.lines.items }
         ensures step { IfOk result (λ b. (s : Settings) (v : Lists) → Ready s v self.old
             → Stepped s (PortPacket port link at packet.now) (batch_seen b) v self.new) }
-        ensures grows { Grows 6 1 self.old self.new }
+        ensures grows { Grows 3 1 self.old self.new }
     {
         let Some(place) = self.port_on(port, link) else {
             return Ok(Batch::empty(alloc));

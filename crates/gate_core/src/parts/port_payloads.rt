@@ -54,7 +54,7 @@ impl<S: BuildHasher + Drop> Parts<S> {
         ensures turn { IfOk result (λ judged. (s : Settings) (v : Lists) → NumbersLeft v.turns
             → ArePartsOf s v self.old → PayloadIsJudged s (place + 1) payload.now judged v self.new) }
         ensures within { IfOk result (λ judged. IsWithin (length self.old.clients.lines.items) judged) }
-        ensures grows { Grows 6 0 self.old self.new }
+        ensures grows { Grows 3 0 self.old self.new }
     {
         match self.orders.market(alloc, (place + 1) as u16, payload) {
             Ok(out) => Ok(Judged::Told {
@@ -91,7 +91,7 @@ impl<S: BuildHasher + Drop> Parts<S> {
         ensures step { IfOk result (λ b. (s : Settings) (v : Lists) (link : ℕ) (packet : Packet)
             → AfterPacket s (place + 1) link at packet (Some payload.now) (option_to_list said) v self.old
             → Stepped s (PortPacket (place + 1) link at packet) (batch_seen b) v self.new) }
-        ensures grows { Grows 6 0 self.old self.new }
+        ensures grows { Grows 3 0 self.old self.new }
     {
         match self.judge(alloc, place, payload)? {
             Judged::Told {

@@ -9,5 +9,5 @@ invariant-loop-event l = record {
   after : IsAfterTurns (map terms_seen l.terms) (run_history (take l.event-index l.events) l.outcomes.items) l.core;
   same : length l.outcomes.items ≡ l.event-index;
   clients : core_clients l.core ≡ length l.terms;
-  issued : core_numbers l.core ≤ 6 * l.event-index;
+  issued : core_numbers l.core ≤ 3 * l.event-index;
 }
