@@ -3,8 +3,8 @@
 ghost use Rattle.std.specs.Prelude.{◌≡◌, [], None};
 
 use fix_types::AppBody;
-use std::alloc::Global;
 use order_machine::NextTokens;
+use std::alloc::Global;
 use to_market::Inbound;
 
 /// What a client's message gives: bodies for the client, and what its port is asked, in order.
