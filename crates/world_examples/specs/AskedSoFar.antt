@@ -1,5 +1,6 @@
 -- All that ports were asked, what says it, and where its tokens lead, computed on exchanges that are written down.
-use Rattle.std.proofs.Common.{◌≡◌, ℕ, Bool, true, false, List, [], ◌∷◌, Option, Some, None, codes, refl, sym, ap, subst, inl, ⊎_elim, bytes_eq}
+use Rattle.std.proofs.Common.{◌≡◌, ℕ, Bool, true, false, List, [], ◌∷◌, Option, Some, None, codes, refl, sym, ap}
+use Rattle.std.proofs.Common.{subst, inl, ⊎_elim, bytes_eq}
 use Rattle.std.specs.Prelude.{map}
 use Rattle.std.specs.Fmt.{digits}
 use Rattle.fixed_point.specs.Decimal.{price, quantity, amount, amount_of, within, scaled, fraction, worth, worth_of}
@@ -91,7 +92,8 @@ isnt_true b e f = cc
 
 other_token : HasTokens (SaysNew (token_text 1)) (enter_message 2 300) → ⊥
 unfolding digits last_digits
-other_token tokens = isnt_true (bytes_eq (token_text 2) (token_text 1)) refl (ap (λ (t : List ℕ). bytes_eq t (token_text 1)) tokens.1)
+other_token tokens = isnt_true (bytes_eq (token_text 2) (token_text 1)) refl
+    (ap (λ (t : List ℕ). bytes_eq t (token_text 1)) tokens.1)
 
 other_type : HasTokens (SaysNew (token_text 1)) (cancel_message 1) → ⊥
 unfolding digits last_digits
@@ -107,6 +109,8 @@ unfolding digits price quantity amount amount_of within scaled fraction worth wo
 wasnt_asked = (
   λ w. w.there,
   λ w. w.there,
-  λ w. ⊎_elim (λ is. other_token (subst (λ (a : Asked). HasTokens a.said (enter_message 2 300)) (sym is) w.says.tokens)) (λ n. n) w.there,
-  λ w. ⊎_elim (λ is. other_type (subst (λ (a : Asked). HasTokens a.said (cancel_message 1)) (sym is) w.says.tokens)) (λ n. n) w.there,
+  λ w. ⊎_elim (λ is. other_token (subst (λ (a : Asked). HasTokens a.said (enter_message 2 300)) (sym is) w.says.tokens))
+      (λ n. n) w.there,
+  λ w. ⊎_elim (λ is. other_type (subst (λ (a : Asked). HasTokens a.said (cancel_message 1)) (sym is) w.says.tokens))
+      (λ n. n) w.there,
 )
