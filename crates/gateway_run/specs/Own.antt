@@ -5,13 +5,13 @@ use Rattle.gate_events.specs.declared.source.Source.TheVariants as sources
 use Rattle.gate_events.specs.declared.source.Recipient.{Recipient}
 use Rattle.gate_events.specs.declared.source.Recipient.TheVariants as recipients
 use Rattle.std.specs.declared.io.Write as Write
-use Rattle.run_lines.specs.link_io.declared.streams.Prompt as Prompt
-use Rattle.run_lines.specs.link_io.declared.gate.Gate as Gate
-use Rattle.run_lines.specs.gate_serving.declared.pen_worker.PenWorker.{PenWorker}
-use Rattle.run_lines.specs.declared.line_pen.RunPen.{RunPen}
-use Rattle.run_lines.specs.declared.line_pen.RunPen.TheVariants as pens
-use Rattle.run_lines.specs.declared.peer.RunPeer.{RunPeer}
-use Rattle.run_lines.specs.declared.peer.RunPeer.TheVariants as peers
+use Rattle.link_io.specs.declared.streams.Prompt as Prompt
+use Rattle.link_io.specs.declared.gate.Gate as Gate
+use Rattle.gate_serving.specs.declared.pen_worker.PenWorker.{PenWorker}
+use Rattle.gate_serving.specs.declared.run_pen.RunPen.{RunPen}
+use Rattle.gate_serving.specs.declared.run_pen.RunPen.TheVariants as pens
+use Rattle.gate_serving.specs.declared.run_peer.RunPeer.{RunPeer}
+use Rattle.gate_serving.specs.declared.run_peer.RunPeer.TheVariants as peers
 
 -- whom a line's events are of: its own client, port or clock
 abbrev pub source_of_peer : RunPeer → Source

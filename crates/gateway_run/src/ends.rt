@@ -8,7 +8,7 @@ use crate::port_faults::PortLinks;
 use crate::telling_gate::TellingGate;
 use desk_gates::{DeskName, Inlet, InletGate, OutletEnd, OutletPen, Prompt, Shared};
 use gate_events::{ClientNumber, PortNumber, Recipient, Source};
-use run_lines::{ClientCounts, CountedLinks};
+use gate_serving::{ClientCounts, CountedLinks};
 use std::alloc::{AllocError, Global};
 use std::hash::RandomState;
 use std::sync::Wait;

@@ -4,7 +4,7 @@ ghost use Rattle.std.specs.Prelude.{◌≡◌, All, [], None, Some};
 ghost use Rattle.gate_events.specs.declared.source.Recipient.TheVariants as recipients;
 ghost use Rattle.gate_events.specs.declared.source.Source.TheVariants as sources;
 ghost use Rattle.gateway_run.specs.Own.{of_pen, recipient_of, source_of_peer};
-ghost use Rattle.run_lines.specs.declared.line_pen.RunPen.TheVariants as writers;
+ghost use Rattle.gate_serving.specs.declared.run_pen.RunPen.TheVariants as writers;
 
 use crate::clock::RunClock;
 use crate::port_faults::PortLinks;
@@ -15,8 +15,9 @@ use desk_gates::{
     Shared,
 };
 use gate_events::{ClientNumber, PortNumber, Recipient};
-use gate_serving::{Line, LinkFault, PenWorker, Worker};
-use run_lines::{ClientCounts, CountedLinks, RunOpener, RunPeer, RunPen, Ticks};
+use gate_serving::{
+    ClientCounts, CountedLinks, Line, LinkFault, PenWorker, RunOpener, RunPeer, RunPen, Ticks, Worker,
+};
 use std::alloc::{AllocError, Global};
 use std::hash::RandomState;
 use std::sync::Wait;

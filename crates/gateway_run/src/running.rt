@@ -13,8 +13,7 @@ use audit_lines::Settings;
 use desk_gates::{
     Closed, DeskName, Finished, Inlet, OutletEnd, OutletPen, Parts, Prompt, Shared, open_desk,
 };
-use gate_serving::{Closer, Opener, serve};
-use run_lines::{ClientCounts, CountedLinks, RunWriter};
+use gate_serving::{ClientCounts, Closer, CountedLinks, Opener, RunWriter, serve};
 use std::alloc::{AllocError, Global};
 use std::hash::RandomState;
 use std::io::Read;
@@ -53,10 +52,7 @@ where
     A::Reader: Read + Send + Drop,
     A::Writer: Prompt + Send + Drop,
     A::Closer: Closer + Send + Drop,
-    C: Opener + Send + Drop,
-    C::Reader: Read + Send + Drop,
-    C::Writer: Prompt + Send + Drop,
-    C::Closer: Closer + Send + Drop,
+    C: Opener<Reader = A::Reader, Writer = A::Writer, Closer = A::Closer> + Send + Drop,
 {
     let count = Count {
         clients: settings.clients().len() as u16,
@@ -82,16 +78,13 @@ where
     A::Reader: Read + Send + Drop,
     A::Writer: Prompt + Send + Drop,
     A::Closer: Closer + Send + Drop,
-    C: Opener + Send + Drop,
-    C::Reader: Read + Send + Drop,
-    C::Writer: Prompt + Send + Drop,
-    C::Closer: Closer + Send + Drop,
+    C: Opener<Reader = A::Reader, Writer = A::Writer, Closer = A::Closer> + Send + Drop,
     requires named { (parts.inlets ≡ K.inlets) × (parts.outlets ≡ K.outlets) }
     requires clock { 0 < length parts.inlets }
 {
     let (shared, inlets, outlets) = open_desk::<K, RandomState>(alloc, parts)?;
     let counts = ClientCounts::of(plan.clients.len().min(usize::from(count.clients)) as u32);
-    let pens = pens_of::<RunWriter<A::Writer, C::Writer>, K, R>(
+    let pens = pens_of::<RunWriter<A::Writer>, K, R>(
         rt,
         alloc,
         &shared,
@@ -149,7 +142,7 @@ fn serve_desk<'p, 'a, K, R, A, C, G>(
     shared: &'a Shared<K, RandomState>,
     counts: &'a ClientCounts,
     inlets: Vec<Inlet<K>>,
-    pens: &'p [OutletPen<RunWriter<A::Writer, C::Writer>, G>],
+    pens: &'p [OutletPen<RunWriter<A::Writer>, G>],
     plan: RunPlan<A, C>,
     is_over: &'a AtomicBool,
 ) -> Result<Left<K>, RunFault>
@@ -160,10 +153,7 @@ where
     A::Reader: Read + Send + Drop,
     A::Writer: Prompt + Send + Drop,
     A::Closer: Closer + Send + Drop,
-    C: Opener + Send + Drop,
-    C::Reader: Read + Send + Drop,
-    C::Writer: Prompt + Send + Drop,
-    C::Closer: Closer + Send + Drop,
+    C: Opener<Reader = A::Reader, Writer = A::Writer, Closer = A::Closer> + Send + Drop,
     G: OutletEnd + Send + Drop,
     requires clock { 0 < length inlets.items }
 {

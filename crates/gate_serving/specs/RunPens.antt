@@ -1,15 +1,15 @@
 -- How a link ended that a line's writer wrote.
 use Rattle.std.specs.Prelude.{◌≡◌, ℕ, List, Option, Result, Ok}
 use Rattle.std.specs.declared.io.Write as Write
-use Rattle.gate_serving.specs.gate_workers.Pens.{HasEnded}
-use Rattle.gate_serving.specs.gate_workers.declared.writer.WriterEnd.{WriterEnd}
-use Rattle.gate_serving.specs.gate_workers.declared.writer.WriterEnd.TheVariants.{Stopped}
+use Rattle.gate_workers.specs.Pens.{HasEnded}
+use Rattle.gate_workers.specs.declared.writer.WriterEnd.{WriterEnd}
+use Rattle.gate_workers.specs.declared.writer.WriterEnd.TheVariants.{Stopped}
 use Rattle.gate_serving.specs.declared.pen_worker.PenWorker.{PenWorker}
 use Rattle.link_io.specs.declared.gate.Gate as Gate
 use Rattle.link_io.specs.declared.link_fault.LinkFault.{LinkFault}
 use Rattle.link_io.specs.declared.streams.Prompt as Prompt
-use Rattle.run_lines.specs.declared.line_pen.RunPen.{RunPen}
-use Rattle.run_lines.specs.declared.line_pen.RunPen.TheVariants as pens
+use Rattle.gate_serving.specs.declared.run_pen.RunPen.{RunPen}
+use Rattle.gate_serving.specs.declared.run_pen.RunPen.TheVariants as pens
 
 -- that of a client or port as its pen wrote it; the clock's one was stopped
 abbrev pub run_wrote : {W G C : Type 0} {p : Prompt.Ghosts W} {w : Write.Ghosts W} {g : Gate.Ghosts G}

@@ -1,9 +1,10 @@
 //! Whose line it is.
 
-ghost use Rattle.run_lines.specs.Peers.{run_reads};
+ghost use Rattle.gate_serving.specs.RunPeers.{run_reads};
 
+use crate::peer::Peer;
 use gate_events::{ClientNumber, PortNumber};
-use gate_serving::{Clock, Gate, LinkFault, Peer, ticker};
+use gate_workers::{Clock, Gate, LinkFault, ticker};
 use std::alloc::Global;
 use std::io::Read;
 use std::sync::Wait;

@@ -1,6 +1,7 @@
 //! The links of clients, counted: who has to end with them knows when they are over.
 
-use gate_serving::{LinkEnd, LinkFault, Opened, Opener};
+use crate::opener::{LinkEnd, Opened, Opener};
+use gate_workers::LinkFault;
 use std::sync::atomic::{AtomicBool, AtomicU32, Ordering};
 
 /// How a gateway's clients stand.

@@ -4,10 +4,10 @@ use Rattle.gate_law.specs.Events.{Event, ClientUp, ClientGone, PortUp, PortGone}
 use Rattle.link_io.specs.Decoding.{AreAllOfFrames, AreAllOfPackets, FramesOfLink, MadeOfFrames, MadeOfPackets}
 use Rattle.link_io.specs.Decoding.{PacketsOfLink}
 use Rattle.link_io.specs.declared.link_fault.LinkFault.{LinkFault}
-use Rattle.gate_serving.specs.gate_workers.ReadersWork.{ReadsLink}
-use Rattle.gate_serving.specs.gate_workers.TickersWork.{PutsTicks}
-use Rattle.run_lines.specs.declared.peer.RunPeer.{RunPeer}
-use Rattle.run_lines.specs.declared.peer.RunPeer.TheVariants as peers
+use Rattle.gate_workers.specs.ReadersWork.{ReadsLink}
+use Rattle.gate_workers.specs.TickersWork.{PutsTicks}
+use Rattle.gate_serving.specs.declared.run_peer.RunPeer.{RunPeer}
+use Rattle.gate_serving.specs.declared.run_peer.RunPeer.TheVariants as peers
 
 -- of a client's and a port's line what the bytes of the link say, between its coming and its going; of the clock's
 -- ticks of these clients and ports, and nothing else

@@ -1,10 +1,11 @@
 //! Where the links of lines come from.
 
 ghost use Rattle.std.specs.Prelude.{◌≡◌, ◌+◌, IfNone, IfSome, MatchResult};
-ghost use Rattle.run_lines.specs.Openers.{run_ended, run_opened};
+ghost use Rattle.gate_serving.specs.RunOpeners.{run_ended, run_opened};
 
-use crate::streams::{RunCloser, RunReader, RunWriter};
-use gate_serving::{LinkEnd, LinkFault, Opened, Opener};
+use crate::opener::{LinkEnd, Opened, Opener};
+use crate::run_streams::{RunCloser, RunReader, RunWriter};
+use gate_workers::LinkFault;
 
 /// Opens the links of a client, or of a port, or the clock's one.
 #[derive(Drop)]
@@ -15,23 +16,27 @@ pub enum RunOpener<A, C> {
     Clock(bool),
 }
 
-impl<A: Opener, C: Opener> Opener for RunOpener<A, C> {
+impl<A, C> Opener for RunOpener<A, C>
+where
+    A: Opener,
+    C: Opener<Reader = A::Reader, Writer = A::Writer, Closer = A::Closer>,
+{
     ghost opened = { λ o. run_opened A.opened C.opened o };
 
     ghost has_ended = { λ o. run_ended A.has_ended C.has_ended o };
 
-    type Reader = RunReader<A::Reader, C::Reader>;
+    type Reader = RunReader<A::Reader>;
 
-    type Writer = RunWriter<A::Writer, C::Writer>;
+    type Writer = RunWriter<A::Writer>;
 
-    type Closer = RunCloser<A::Closer, C::Closer>;
+    type Closer = RunCloser<A::Closer>;
 
     fn open(
         &mut self,
     ) -> Option<Result<Opened<Self::Reader, Self::Writer, Self::Closer>, LinkFault>> {
         match self {
-            RunOpener::Client(links) => open_client(links),
-            RunOpener::Port(links) => open_port(links),
+            RunOpener::Client(links) => open_link(links),
+            RunOpener::Port(links) => open_link(links),
             RunOpener::Clock(is_to_come) => {
                 if !*is_to_come {
                     return None;
@@ -55,12 +60,12 @@ impl<A: Opener, C: Opener> Opener for RunOpener<A, C> {
     }
 }
 
-/// The next link of a client.
-fn open_client<A: Opener, R, W, K>(
+/// The next link of a client or port.
+fn open_link<A: Opener>(
     links: &mut A,
 ) -> Option<
     Result<
-        Opened<RunReader<A::Reader, R>, RunWriter<A::Writer, W>, RunCloser<A::Closer, K>>,
+        Opened<RunReader<A::Reader>, RunWriter<A::Writer>, RunCloser<A::Closer>>,
         LinkFault,
     >,
 >
@@ -79,42 +84,9 @@ fn open_client<A: Opener, R, W, K>(
                 closer,
             } = opened;
             Some(Ok(Opened {
-                reader: RunReader::Client(reader),
-                writer: RunWriter::Client(writer),
-                closer: RunCloser::Client(closer),
-            }))
-        }
-        Err(fault) => Some(Err(fault)),
-    }
-}
-
-/// The next link of a port.
-fn open_port<A: Opener, R, W, K>(
-    links: &mut A,
-) -> Option<
-    Result<
-        Opened<RunReader<R, A::Reader>, RunWriter<W, A::Writer>, RunCloser<K, A::Closer>>,
-        LinkFault,
-    >,
->
-    ensures counts { IfSome result (λ tried. MatchResult tried
-        (λ _. A.opened links.new ≡ A.opened links.old + 1) (λ _. A.opened links.new ≡ A.opened links.old)) }
-    ensures last { IfNone result ((A.opened links.new ≡ A.opened links.old) × A.has_ended links.new) }
-{
-    let Some(tried) = links.open() else {
-        return None;
-    };
-    match tried {
-        Ok(opened) => {
-            let Opened {
-                reader,
-                writer,
-                closer,
-            } = opened;
-            Some(Ok(Opened {
-                reader: RunReader::Port(reader),
-                writer: RunWriter::Port(writer),
-                closer: RunCloser::Port(closer),
+                reader: RunReader::Link(reader),
+                writer: RunWriter::Link(writer),
+                closer: RunCloser::Link(closer),
             }))
         }
         Err(fault) => Some(Err(fault)),

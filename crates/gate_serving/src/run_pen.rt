@@ -1,8 +1,10 @@
 //! What writes a line's links.
 
-ghost use Rattle.run_lines.specs.Pens.{run_wrote};
+ghost use Rattle.gate_serving.specs.RunPens.{run_wrote};
 
-use gate_serving::{Clock, Gate, LineWriter, LinkFault, PenWorker, Prompt, WriterEnd};
+use crate::line_writer::LineWriter;
+use crate::pen_worker::PenWorker;
+use gate_workers::{Clock, Gate, LinkFault, Prompt, WriterEnd};
 use std::alloc::Global;
 use std::sync::Wait;
 use std::sync::atomic::AtomicBool;
