@@ -1,7 +1,8 @@
 //! The clocks of readers, and of the worker that has time pass.
 
+use crate::counted::ClientCounts;
 use desk_gates::{DeskName, Shared};
-use gate_serving::{ClientCounts, Clock};
+use gate_serving::Clock;
 use link_sockets::SystemClock;
 use std::hash::RandomState;
 use std::sync::Wait;

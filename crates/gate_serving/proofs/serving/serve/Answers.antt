@@ -1,5 +1,16 @@
+use denote.Param.{param}
+use denote.Param.Send.{IsSend, sendable}
+use denote.Ref.{NamedLft}
+use denote.RattleType.{RattleType}
+use Rattle.std.proofs.Crossing.{crosses}
+use Rattle.std.specs.declared.io.Write as Write
+use Rattle.gate_workers.specs.link_io.declared.gate.Gate as Gate
+use Rattle.gate_workers.specs.link_io.declared.streams.Prompt as Prompt
+use Rattle.gate_serving.specs.contracts.pen_worker.PenWorker as PenWorker
+use Rattle.gate_serving.proofs.Sent.{pen_worker_send}
 use Rattle.std.proofs.Common.{◌≡◌, arith, Bool, true, false}
 use Rattle.std.proofs.lemmas.Slice.Zip.{AllZip-long}
+use Rattle.gate_workers.specs.Pens.{HasEnded}
 use Rattle.gate_serving.specs.Halves.{IsJoined, IsSplit}
 use Rattle.gate_serving.specs.Lines.{LineServed}
 use Rattle.gate_serving.proofs.Served.{HalvesDid, all_of_any, all_through, served_in_part, served_whole}
@@ -7,24 +18,34 @@ use Rattle.gate_serving.proofs.serving.serve.Goals as goal
 
 pub joined-back-requires-clause-room : goal.joined-back-requires-clause-room
 joined-back-requires-clause-room g c =
-    let done = AllZip-long _ _ _ c.run_all-halves.ensures.did in
+    let done = AllZip-long _ _ _ c.run_all.ensures.did in
     let split = AllZip-long _ _ _ c.split-halves.ensures.lines in
-    omega (arith, done, split, c.run_all-halves.result.ok.0, c.args.lines.ok.0, c.in-Ok-with_capacity-2.ensures.exact, c.len-count.ensures)
+    omega (arith, done, split, c.run_all.result.ok.0, c.args.lines.ok.0, c.in-Ok-with_capacity-2.ensures.exact, c.len-count.ensures)
 
 pub returns-then-not-load-clause-served : goal.returns-then-not-load-clause-served
 returns-then-not-load-clause-served g c =
     all_through IsSplit
-    (HalvesDid g.P.Peer.reads g.O.Opener.has_ended g.O.Opener.opened g.G.Gate.was_put g.G.Gate.was_taken g.B.LineWriter.wrote g.B.LineWriter.let_go_between)
+    (HalvesDid g.O.Opener.has_ended g.O.Opener.opened g.G.Gate.was_put g.G.Gate.was_taken (HasEnded g.O-Writer.Write.contents))
     IsJoined (λ x. ◌≡◌ {A = Bool} x.0.all_over true)
-    (LineServed g.P.Peer.reads g.O.Opener.has_ended g.O.Opener.opened g.G.Gate.was_put g.G.Gate.was_taken g.B.LineWriter.wrote g.B.LineWriter.let_go_between true)
-    (served_whole g.P.Peer.reads g.O.Opener.has_ended g.O.Opener.opened g.G.Gate.was_put g.G.Gate.was_taken g.B.LineWriter.wrote g.B.LineWriter.let_go_between)
-    _ _ _ _ c.split-halves.ensures.lines c.run_all-halves.ensures.did (c.joined-back.ensures.all_over c.if-all_over.true) c.joined-back.ensures.lines
+    (LineServed g.O.Opener.has_ended g.O.Opener.opened g.G.Gate.was_put g.G.Gate.was_taken (HasEnded g.O-Writer.Write.contents) true)
+    (served_whole g.O.Opener.has_ended g.O.Opener.opened g.G.Gate.was_put g.G.Gate.was_taken (HasEnded g.O-Writer.Write.contents))
+    _ _ _ _ c.split-halves.ensures.lines c.run_all.ensures.did (c.joined-back.ensures.all_over c.if-all_over.true) c.joined-back.ensures.lines
 
 pub returns-clause-no_thread : goal.returns-clause-no_thread
 returns-clause-no_thread g c = λ e.
     all_through IsSplit
-    (HalvesDid g.P.Peer.reads g.O.Opener.has_ended g.O.Opener.opened g.G.Gate.was_put g.G.Gate.was_taken g.B.LineWriter.wrote g.B.LineWriter.let_go_between)
+    (HalvesDid g.O.Opener.has_ended g.O.Opener.opened g.G.Gate.was_put g.G.Gate.was_taken (HasEnded g.O-Writer.Write.contents))
     IsJoined (λ x. Unit {0})
-    (LineServed g.P.Peer.reads g.O.Opener.has_ended g.O.Opener.opened g.G.Gate.was_put g.G.Gate.was_taken g.B.LineWriter.wrote g.B.LineWriter.let_go_between false)
-    (served_in_part g.P.Peer.reads g.O.Opener.has_ended g.O.Opener.opened g.G.Gate.was_put g.G.Gate.was_taken g.B.LineWriter.wrote g.B.LineWriter.let_go_between)
-    _ _ _ _ c.split-halves.ensures.lines c.run_all-halves.ensures.did (all_of_any c.run_all-halves.result.items) c.joined-back.ensures.lines
+    (LineServed g.O.Opener.has_ended g.O.Opener.opened g.G.Gate.was_put g.G.Gate.was_taken (HasEnded g.O-Writer.Write.contents) false)
+    (served_in_part g.O.Opener.has_ended g.O.Opener.opened g.G.Gate.was_put g.G.Gate.was_taken (HasEnded g.O-Writer.Write.contents))
+    _ _ _ _ c.split-halves.ensures.lines c.run_all.ensures.did (all_of_any c.run_all.result.items) c.joined-back.ensures.lines
+
+-- a line's writer may go to another thread, since its pen may
+pub run_all-requires-send-B : goal.run_all-requires-send-B
+run_all-requires-send-B g c κs l =
+    let W = param 7 g.row.O-Writer in let H = param 4 g.row.H in
+    let bounds = c.type_bounds in
+    let pens : (a : NamedLft) (D : RattleType) (p : Prompt.Ghosts W.Denot) (w : Write.Ghosts W.Denot)
+    (t : Gate.Ghosts H.Denot) → IsSend D → IsSend (PenWorker.the_row a W H D p w t)
+    = λ a D p w t d. pen_worker_send W H p w t bounds.send-O-Writer bounds.send-H a D d in
+    search (pens, sendable, crosses) depth 100 fits 500000
