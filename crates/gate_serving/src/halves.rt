@@ -173,6 +173,7 @@ where
     D: Clock,
     K: Closer + Drop,
 {
+    #[tactic(auto, using(crate::proofs::Served::none_written))]
     /// Writes links, numbered from 1 as they come, until no further one does. What is told between two of them is for
     /// links that are over: it is let go.
     fn write_links<R: Wait>(&mut self, rt: &R, alloc: Global, flag: &AtomicBool)

@@ -18,9 +18,9 @@ use Rattle.gate_serving.proofs.serving.serve.Goals as goal
 
 pub joined-back-requires-clause-room : goal.joined-back-requires-clause-room
 joined-back-requires-clause-room g c =
-    let done = AllZip-long _ _ _ c.run_all.ensures.did in
+    let done = AllZip-long _ _ _ c.run_all-halves.ensures.did in
     let split = AllZip-long _ _ _ c.split-halves.ensures.lines in
-    omega (arith, done, split, c.run_all.result.ok.0, c.args.lines.ok.0, c.in-Ok-with_capacity-2.ensures.exact, c.len-count.ensures)
+    omega (arith, done, split, c.run_all-halves.result.0.ok.0, c.args.lines.ok.0, c.in-Ok-with_capacity-2.ensures.exact, c.len-count.ensures)
 
 pub returns-then-not-load-clause-served : goal.returns-then-not-load-clause-served
 returns-then-not-load-clause-served g c =
@@ -29,16 +29,18 @@ returns-then-not-load-clause-served g c =
     IsJoined (λ x. ◌≡◌ {A = Bool} x.0.all_over true)
     (LineServed g.O.Opener.has_ended g.O.Opener.opened g.G.Gate.was_put g.G.Gate.was_taken (HasEnded g.O-Writer.Write.contents) true)
     (served_whole g.O.Opener.has_ended g.O.Opener.opened g.G.Gate.was_put g.G.Gate.was_taken (HasEnded g.O-Writer.Write.contents))
-    _ _ _ _ c.split-halves.ensures.lines c.run_all.ensures.did (c.joined-back.ensures.all_over c.if-all_over.true) c.joined-back.ensures.lines
+    _ _ _ _ c.split-halves.ensures.lines c.run_all-halves.ensures.did (c.joined-back.ensures.all_over c.if-all_over.true) c.joined-back.ensures.lines
 
 pub returns-clause-no_thread : goal.returns-clause-no_thread
-returns-clause-no_thread g c = λ e.
-    all_through IsSplit
-    (HalvesDid g.O.Opener.has_ended g.O.Opener.opened g.G.Gate.was_put g.G.Gate.was_taken (HasEnded g.O-Writer.Write.contents))
-    IsJoined (λ x. Unit {0})
-    (LineServed g.O.Opener.has_ended g.O.Opener.opened g.G.Gate.was_put g.G.Gate.was_taken (HasEnded g.O-Writer.Write.contents) false)
-    (served_in_part g.O.Opener.has_ended g.O.Opener.opened g.G.Gate.was_put g.G.Gate.was_taken (HasEnded g.O-Writer.Write.contents))
-    _ _ _ _ c.split-halves.ensures.lines c.run_all.ensures.did (all_of_any c.run_all.result.items) c.joined-back.ensures.lines
+returns-clause-no_thread g c = λ e. (
+  all_through IsSplit
+      (HalvesDid g.O.Opener.has_ended g.O.Opener.opened g.G.Gate.was_put g.G.Gate.was_taken (HasEnded g.O-Writer.Write.contents))
+      IsJoined (λ x. Unit {0})
+      (LineServed g.O.Opener.has_ended g.O.Opener.opened g.G.Gate.was_put g.G.Gate.was_taken (HasEnded g.O-Writer.Write.contents) false)
+      (served_in_part g.O.Opener.has_ended g.O.Opener.opened g.G.Gate.was_put g.G.Gate.was_taken (HasEnded g.O-Writer.Write.contents))
+      _ _ _ _ c.split-halves.ensures.lines c.run_all-halves.ensures.did (all_of_any c.run_all-halves.result.0.items) c.joined-back.ensures.lines,
+  c.run_all-halves.ensures.meanwhile,
+)
 
 -- a line's writer may go to another thread, since its pen may
 pub run_all-requires-send-B : goal.run_all-requires-send-B
