@@ -1,6 +1,6 @@
 use Rattle.gate_workers.specs.Pens.{HasEnded}
 use Rattle.gate_serving.proofs.Served.{one_written}
-use Rattle.gate_serving.proofs.halves.Writes.write_links.Goals as goal
+use Rattle.gate_serving.proofs.halves.Writes+PenWorker+W+H+D+W+K.write_links.Goals as goal
 
 pub loop-before-preserved : goal.loop-before-preserved
 loop-before-preserved g c =
