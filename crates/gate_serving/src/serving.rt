@@ -63,12 +63,12 @@ where
     D: Clock + Send + Drop,
     ensures served { IfOk result (λ back. AllZip
         (LineServed O.has_ended O.opened G.was_put G.was_taken (HasEnded O.Writer.contents) true)
-        lines.items back.0.items) }
-    ensures ticked { IfOk result (λ back. WasDone (TicksDid G.was_put G.was_taken) ticks back.1) }
+        lines.entry.items back.0.items) }
+    ensures ticked { IfOk result (λ back. WasDone (TicksDid G.was_put G.was_taken) ticks.entry back.1) }
     ensures no_thread { IfErr result (λ e. e.0 ≡ NoThread → AllZip
         (LineServed O.has_ended O.opened G.was_put G.was_taken (HasEnded O.Writer.contents) false)
-        lines.items e.1.items × WasDone (TicksDid G.was_put G.was_taken) ticks e.2) }
-    ensures no_memory { IfErr result (λ e. e.0 ≡ NoMemory → (e.1.items ≡ lines.items) × (e.2 ≡ ticks)) }
+        lines.entry.items e.1.items × WasDone (TicksDid G.was_put G.was_taken) ticks.entry e.2) }
+    ensures no_memory { IfErr result (λ e. e.0 ≡ NoMemory → (e.1.items ≡ lines.entry.items) × (e.2 ≡ ticks.entry)) }
 {
     let count = lines.len();
     let Ok(slots) = slots_of(alloc, count) else {
