@@ -68,7 +68,8 @@ where
     ensures no_thread { IfErr result (λ e. e.0 ≡ NoThread → AllZip
         (LineServed O.has_ended O.opened G.was_put G.was_taken (HasEnded O.Writer.contents) false)
         lines.entry.items e.1.items × WasDone (TicksDid G.was_put G.was_taken) ticks.entry e.2) }
-    ensures no_memory { IfErr result (λ e. e.0 ≡ NoMemory → (e.1.items ≡ lines.entry.items) × (e.2 ≡ ticks.entry)) }
+    ensures no_memory { IfErr result (λ e. e.0 ≡ NoMemory
+        → (e.1.items ≡ lines.entry.items) × (e.2 ≡ ticks.entry)) }
 {
     let count = lines.len();
     let Ok(slots) = slots_of(alloc, count) else {
