@@ -54,9 +54,13 @@ class Order:
     changes: list = field(default_factory=list)
     cancels: int = 0
     first_name: bytes = b""
+    falls: bool = False
 
     def waits_for(self, kind):
         return any(it.kind == kind for it in self.pending)
+
+    def replaces_pending(self):
+        return sum(it.kind == b"G" for it in self.pending)
 
     def take(self, request):
         """The pending request that this one is, which is answered now."""
@@ -204,11 +208,20 @@ class Book:
             self.forget(order, request)
             self.expect(frame, order.reject(request, 0, b"too late"))
         else:
-            self.forget(order, request)
-            text = b"cancel rejected by market" if request.kind == b"F" else frame[58][:1]
-            self.expect(frame, order.reject(request, 2, text))
+            self.expect(frame, order.reject(request, 2, self.turned_down(frame, order, request)))
         text = frame[58].decode("latin-1")
         self.counts[f"102={frame[102].decode()} {text if len(text) > 1 else '(letter)'}"] += 1
+
+    def turned_down(self, frame, order, request):
+        """Why the market doesn't do a request. With the oldest pending replace all behind it fall, one after another."""
+        oldest = next((it for it in order.pending if it.kind == b"G"), None)
+        self.need(request is oldest or request.kind == b"F" and not order.falls, "a request out of its order")
+        self.forget(order, request)
+        if request.kind == b"F":
+            return b"cancel rejected by market"
+        text = b"earlier replace rejected" if order.falls else frame[58][:1]
+        order.falls = order.replaces_pending() > 0
+        return text
 
     def forget(self, order, request):
         order.take(request)
@@ -230,6 +243,7 @@ class Book:
         if len(self.exec_ids) > 1 and self.exec_ids[-2] >= self.exec_ids[-1]:
             raise Wrong("17 doesn't rise")
         order, kind = self.orders.get(int(frame[37])), frame[150]
+        self.need(order is None or not order.falls, "a report while replaces fall")
         if order is None:
             self.judged_new(frame, kind)
         elif kind in (b"6", b"E"):

@@ -226,6 +226,10 @@ class Client:
         """The next message, which goes out, or waits for a link with its number."""
         self.ask(*self.traffic.next(), now)
 
+    def reprice(self, now):
+        for kind, fields in self.traffic.reprices():
+            self.ask(kind, fields, now)
+
     def ask(self, kind, fields, now):
         self.book.ask(Request(self.session.send(kind, fields, now, kept=True), kind, fields))
 

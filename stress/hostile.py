@@ -23,6 +23,24 @@ def of_waiting(market, waiting):
     return ouch.cancel_reject(entered[1:15]) if entered else None
 
 
+def of_second(make):
+    """A payload about a Replace Order whose order waits for the answer to the one before it."""
+    def made(market, waiting):
+        asked = [it for _, it in waiting if it[:1] == b"U" and it[15:29] not in market.used]
+        for payload in asked:
+            first = next((it for it in asked if it[15:29] == payload[1:15]), None)
+            order = market.by_token.get(first[1:15]) if first else None
+            if order and order.live and order.token == first[1:15]:
+                return make(order, ouch.asked(payload))
+        return None
+    return made
+
+
+def replaced_early(order, second):
+    given = order.entered._replace(token=second.new)
+    return ouch.replaced(given, order.token, max(1, order.open), second.price, 1, b"L")
+
+
 def always(payload):
     return lambda market, waiting: payload
 
@@ -45,6 +63,8 @@ PAYLOADS = {
     "one_too_many": of_live(lambda it: ouch.executed(it.token, it.open + 1, 10_000, 0)),
     "accepted_twice": of_live(twice),
     "replaced_unasked": of_live(unasked),
+    "replaced_out_of_order": of_second(replaced_early),
+    "rejected_out_of_order": of_second(lambda order, second: ouch.rejected(second.new, b"Z")),
     "rejected_accepted": of_live(lambda it: ouch.rejected(it.token, b"Z")),
     "cancel_reject_waiting": of_waiting,
     "modify": always(b"M" + b" " * 27),

@@ -3,7 +3,7 @@ from . import noise
 
 MUCH = 8_000_000
 KINDS = {"garbage": 30, "damage": 30, "test": 8, "ask_again": 8, "repeat": 10, "administrative": 8, "burst": 3,
-         "fatal": 1.5, "oversized": 1, "connect_twice": 3, "log_out": 2, "end_writing": 1}
+         "reprices": 30, "fatal": 1.5, "oversized": 1, "connect_twice": 3, "log_out": 2, "end_writing": 1}
 
 
 class Mischief:
@@ -55,6 +55,9 @@ class Mischief:
             self.client.say(now)
         if self.random.random() < 0.3:
             self.session.ask_again(max(1, self.session.expected - 5), 0, now)
+
+    def reprices(self, now):
+        self.client.reprice(now)
 
     # What ends a link.
 

@@ -9,7 +9,7 @@ SAYINGS = {"part": 40, "fill": 14, "reduce": 10, "cancel": 5, "bust": 14, "event
 HOSTILE = {
     "empty": b"1", "type_zero": b"4", "short_accepted": b"1", "canceled_unknown": b"2", "executed_unknown": b"2",
     "broken_unknown": b"2", "one_too_many": b"3", "accepted_twice": b"3", "replaced_unasked": b"3",
-    "rejected_accepted": b"3", "cancel_reject_waiting": b"3", "modify": b"4", "aiq": b"4", "correction": b"4",
+    "rejected_accepted": b"3", "replaced_out_of_order": b"3", "rejected_out_of_order": b"3", "cancel_reject_waiting": b"3", "modify": b"4", "aiq": b"4", "correction": b"4",
     "reference": b"4", "match_twice": b"3", "bust_unknown": b"3", "packet_type": b"1", "long_heartbeat": b"1",
     "second_login": b"1", "bad_login_number": b"1", "login_skips": b"5", "login_elsewhere": b"6", "end": b"ended",
     "no_length": b"",

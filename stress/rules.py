@@ -10,6 +10,7 @@ FILL_OR_KILL = b"4"
 SIDES = {b"1": b"B", b"2": b"S", b"5": b"T", b"6": b"E"}
 MOST_OPEN = 10_000
 MOST_REPLACES = 65_535
+MOST_PENDING = 4
 
 
 def is_text_of(value, most):
@@ -89,7 +90,7 @@ def request_rows(kind, given, book, order):
     yield order is None, 1, b"unknown order"
     yield order.closed, 0, b"too late"
     yield from port_rows(book.port_state)
-    yield order.waits_for(b"F") or kind == b"G" and order.waits_for(b"G"), 3, b"already pending"
+    yield order.waits_for(b"F") or kind == b"G" and order.replaces_pending() >= MOST_PENDING, 3, b"already pending"
     if kind == b"F":
         return
     own = {54: order.side, 55: order.symbol, 528: order.capacity}

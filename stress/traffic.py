@@ -107,6 +107,22 @@ class Traffic:
             given.pop(110, None)
         return b"G", given
 
+    def reprices(self):
+        """Up to five replaces of one order, made before any of them is answered: mostly each names the one before it."""
+        order, names, made = self.any_order(), [], []
+        for _ in range(self.random.randint(2, 5)):
+            kind, given = self.replace()
+            if order:
+                given[41] = self.random.choice(names[-1:] or [order.name]) if self.random.random() < 0.8 else (
+                    self.random.choice([order.name, *names, *(it.name for it in order.pending)]))
+                given[38] = b"%d" % min(999_999, order.executed + order.open + self.random.randint(1, 500))
+                given.pop(110, None)
+                for tag in (54, 55, 528):
+                    given.pop(tag, None)
+            names.append(given[11])
+            made.append((kind, self.fields(given)))
+        return made
+
     def spoiled(self):
         """A message with one value, or two, that a row of refusal is for."""
         kind, given = self.random.choice([self.new_order, self.new_order, self.replace])()

@@ -1,5 +1,5 @@
 -- What an accepted replace comes to.
-use Rattle.std.proofs.Common.{◌≡◌, ◌≤◌, ◌<◌, ℕ, ◌+◌, Bool, true, List, [], ◌∷◌, length, refl, sym, ap, ◌∙◌, subst}
+use Rattle.std.proofs.Common.{◌≡◌, ◌≤◌, ◌<◌, ℕ, ◌+◌, Bool, true, List, [], ◌∷◌, ◌++◌, length, refl, sym, ap, ◌∙◌, subst}
 use Rattle.std.proofs.Common.{decimal, Some}
 use Rattle.std.specs.List.{count_by}
 use Rattle.to_market.specs.tokens.TokenText.{token_text}
@@ -62,7 +62,7 @@ pub replacing-in : (s : TableState) (issued number : ℕ) (sender : Sender) (r :
     → x.message ≡ r → x.token_number ≡ number + 1 → token ≡ token_text (number + 1)
     → g.port ≡ sender.terms.port → g.text ≡ token → g.order ≡ decimal order_id → g.is_replacement ≡ true
     → body_fields body ∷ [] ≡ accepted_request (issued + 1) (entry_of sender.client r o (number + 1)) (Some (shown_as o))
-    → SaysAll s sender (replaces_asked o token (replace_request_fields r)) asks → length asks ≤ 2
+    → SaysAll s sender (replaces_asked o token (replace_request_fields r)) asks → length asks ≤ 5
     → IsReplacing s sender (replace_request_fields r) order_id x g body asks
 replacing-in s issued number sender r o order_id x g token body asks is takes of_order is_message is_number is_token g_port g_text g_order g_kind is_body says few =
     let m : Message = replace_request_fields r in
@@ -75,17 +75,18 @@ replacing-in s issued number sender r o order_id x g token body asks is takes of
       named = is.named;
       of_order = of_order;
       room = subst (λ (k : List ℕ). count_by (is_replacement_of k) s.tokens < 65_535) of_order takes.room;
+      few_pending = takes.few;
       of_given = g_order;
       is_replacement = g_kind;
       asked = replaces_asked o token m;
       of_asked = (of_order, tt);
       gives = accepted-on s client m (port_seen sender.port) o refl is.named is.verdict
-          ∙ ap (λ (n : ℕ). tells (record (with_used client m s) { orders = put (at o (Some (entry_of client r o n)) o.cancel) s.orders; tokens = record { port = (terms_of s.terms client).port; text = token_text n; order = o.new.order; is_replacement = true } ∷ s.tokens; exec_ids = s.exec_ids + 1 }) client (accepted_request (s.exec_ids + 1) (entry_of client r o n) (Some (shown_as o))) (replaces_asked o (token_text n) m)) next
-          ∙ ap (λ (e : Entry). tells (record (with_used client m s) { orders = put (at o (Some e) o.cancel) s.orders; tokens = record { port = (terms_of s.terms client).port; text = token_text (number + 1); order = o.new.order; is_replacement = true } ∷ s.tokens; exec_ids = s.exec_ids + 1 }) client (accepted_request (s.exec_ids + 1) (entry_of client r o (number + 1)) (Some (shown_as o))) (replaces_asked o (token_text (number + 1)) m)) kept
-          ∙ ap (λ (t : GivenToken). tells (record (with_used client m s) { orders = put (at o (Some (replace_seen o.new.client order_id x)) o.cancel) s.orders; tokens = t ∷ s.tokens; exec_ids = s.exec_ids + 1 }) client (accepted_request (s.exec_ids + 1) (entry_of client r o (number + 1)) (Some (shown_as o))) (replaces_asked o (token_text (number + 1)) m)) given
-          ∙ ap (λ (t : List ℕ). tells (record (with_used client m s) { orders = put (at o (Some (replace_seen o.new.client order_id x)) o.cancel) s.orders; tokens = g ∷ s.tokens; exec_ids = s.exec_ids + 1 }) client (accepted_request (s.exec_ids + 1) (entry_of client r o (number + 1)) (Some (shown_as o))) (replaces_asked o t m)) (sym is_token)
-          ∙ ap (λ (n : ℕ). tells (record (with_used client m s) { orders = put (at o (Some (replace_seen o.new.client order_id x)) o.cancel) s.orders; tokens = g ∷ s.tokens; exec_ids = s.exec_ids + 1 }) client (accepted_request (n + 1) (entry_of client r o (number + 1)) (Some (shown_as o))) (replaces_asked o token m)) is.reports
-          ∙ ap (λ (bs : List Message). tells (record (with_used client m s) { orders = put (at o (Some (replace_seen o.new.client order_id x)) o.cancel) s.orders; tokens = g ∷ s.tokens; exec_ids = s.exec_ids + 1 }) client bs (replaces_asked o token m)) (sym is_body);
+          ∙ ap (λ (n : ℕ). tells (record (with_used client m s) { orders = put (at o (o.replaces ++ entry_of client r o n ∷ []) o.cancel) s.orders; tokens = record { port = (terms_of s.terms client).port; text = token_text n; order = o.new.order; is_replacement = true } ∷ s.tokens; exec_ids = s.exec_ids + 1 }) client (accepted_request (s.exec_ids + 1) (entry_of client r o n) (Some (shown_as o))) (replaces_asked o (token_text n) m)) next
+          ∙ ap (λ (e : Entry). tells (record (with_used client m s) { orders = put (at o (o.replaces ++ e ∷ []) o.cancel) s.orders; tokens = record { port = (terms_of s.terms client).port; text = token_text (number + 1); order = o.new.order; is_replacement = true } ∷ s.tokens; exec_ids = s.exec_ids + 1 }) client (accepted_request (s.exec_ids + 1) (entry_of client r o (number + 1)) (Some (shown_as o))) (replaces_asked o (token_text (number + 1)) m)) kept
+          ∙ ap (λ (t : GivenToken). tells (record (with_used client m s) { orders = put (at o (o.replaces ++ replace_seen o.new.client order_id x ∷ []) o.cancel) s.orders; tokens = t ∷ s.tokens; exec_ids = s.exec_ids + 1 }) client (accepted_request (s.exec_ids + 1) (entry_of client r o (number + 1)) (Some (shown_as o))) (replaces_asked o (token_text (number + 1)) m)) given
+          ∙ ap (λ (t : List ℕ). tells (record (with_used client m s) { orders = put (at o (o.replaces ++ replace_seen o.new.client order_id x ∷ []) o.cancel) s.orders; tokens = g ∷ s.tokens; exec_ids = s.exec_ids + 1 }) client (accepted_request (s.exec_ids + 1) (entry_of client r o (number + 1)) (Some (shown_as o))) (replaces_asked o t m)) (sym is_token)
+          ∙ ap (λ (n : ℕ). tells (record (with_used client m s) { orders = put (at o (o.replaces ++ replace_seen o.new.client order_id x ∷ []) o.cancel) s.orders; tokens = g ∷ s.tokens; exec_ids = s.exec_ids + 1 }) client (accepted_request (n + 1) (entry_of client r o (number + 1)) (Some (shown_as o))) (replaces_asked o token m)) is.reports
+          ∙ ap (λ (bs : List Message). tells (record (with_used client m s) { orders = put (at o (o.replaces ++ replace_seen o.new.client order_id x ∷ []) o.cancel) s.orders; tokens = g ∷ s.tokens; exec_ids = s.exec_ids + 1 }) client bs (replaces_asked o token m)) (sym is_body);
       says = says;
       few = few;
     }

@@ -3,3 +3,4 @@ mod Steps
 mod Sending
 mod AcceptedCancel
 mod AcceptedReplace
+mod Pending

@@ -1,6 +1,7 @@
 -- What a cancel or a replace makes of a table, as one answer. (FIX 4.4 Volume 4, "Order Cancel Request", "Order
 -- Cancel/Replace Request".)
-use Rattle.std.specs.Prelude.{◌≡◌, ◌≤◌, ◌<◌, ℕ, ◌+◌, Bool, true, List, [], ◌∷◌, Option, Some, decimal, length, map}
+use Rattle.std.specs.Prelude.{◌≡◌, ◌≤◌, ◌<◌, ℕ, ◌+◌, Bool, true, List, [], ◌∷◌, ◌++◌, Option, Some, decimal, length}
+use Rattle.std.specs.Prelude.{map}
 use Rattle.std.specs.List.{count_by}
 use Rattle.fix_types.specs.declared.application.AppBody.{AppBody}
 use Rattle.fix_types.specs.declared.cancel_request.CancelRequest.{CancelRequest}
@@ -64,11 +65,11 @@ pub record IsCancelling (s : TableState) (sender : Sender) (m : Message) (order_
   pub of_asked : AreOf order_id asked
   pub gives : client_step s sender.client m (port_seen sender.port)
       ≡ tells (record (with_used sender.client m s) {
-        orders = put (at order order.replace (Some (cancel_seen order.new.client order_id c))) s.orders;
+        orders = put (at order order.replaces (Some (cancel_seen order.new.client order_id c))) s.orders;
         exec_ids = s.exec_ids + 1;
       }) sender.client (body_fields body ∷ []) asked
   pub says : SaysAll s sender asked asks
-  pub few : length asks ≤ 2
+  pub few : length asks ≤ 5
 
 -- a replace of this order is pending, under a token of its own, and its client is told so
 pub record IsReplacing (s : TableState) (sender : Sender) (m : Message) (order_id : ℕ) (r : Replacing)
@@ -77,18 +78,19 @@ pub record IsReplacing (s : TableState) (sender : Sender) (m : Message) (order_i
   pub named : record_by_id s sender.client (text 41 m) ≡ Some order
   pub of_order : order.new.order ≡ decimal order_id
   pub room : count_by (is_replacement_of (decimal order_id)) s.tokens < 65_535
+  pub few_pending : length order.replaces < 4
   pub of_given : given.order ≡ decimal order_id
   pub is_replacement : given.is_replacement ≡ true
   pub asked : List Asked
   pub of_asked : AreOf order_id asked
   pub gives : client_step s sender.client m (port_seen sender.port)
       ≡ tells (record (with_used sender.client m s) {
-        orders = put (at order (Some (replace_seen order.new.client order_id r)) order.cancel) s.orders;
+        orders = put (at order (order.replaces ++ replace_seen order.new.client order_id r ∷ []) order.cancel) s.orders;
         tokens = given ∷ s.tokens;
         exec_ids = s.exec_ids + 1;
       }) sender.client (body_fields body ∷ []) asked
   pub says : SaysAll s sender asked asks
-  pub few : length asks ≤ 2
+  pub few : length asks ≤ 5
 
 abbrev pub IsCancelTurn : TableState → Sender → Message → CancelTurn → Type 0
 IsCancelTurn s sender m (cancels.Refused body) = IsRefused s sender m body

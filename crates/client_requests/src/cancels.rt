@@ -1,7 +1,7 @@
 //! A cancel of a client.
 
-ghost use Rattle.std.specs.Prelude.{◌≡◌, ◌≤◌, ◌<◌, ◌^◌, ◌∷◌, ℕ, List, Option, Some, None, IfOk, codes, length, map};
-ghost use Rattle.std.specs.Prelude.{option_to_list};
+ghost use Rattle.std.specs.Prelude.{◌≡◌, ◌+◌, ◌≤◌, ◌<◌, ◌^◌, ◌++◌, ◌∷◌, ℕ, List, Option, Some, None, IfOk, codes};
+ghost use Rattle.std.specs.Prelude.{length, map};
 ghost use Rattle.fix_types.specs.CancelRequest.{cancel_request_fields};
 ghost use Rattle.order_law.specs.ouch_codec.Inbound.{inbound_bytes};
 ghost use Rattle.order_law.specs.Asks.{Standing};
@@ -10,7 +10,8 @@ ghost use Rattle.order_machine.specs.fix_fields.Field.{Message, text};
 ghost use Rattle.order_machine.specs.OrderRecord.{live_token, replacements};
 ghost use Rattle.order_machine.specs.Table.{TableState};
 ghost use Rattle.order_table.specs.Held.{found_by_id};
-ghost use Rattle.client_requests.specs.Asked.{IsAccepted, cancels_asked};
+ghost use Rattle.orders.specs.Seen.{replacing_token};
+ghost use Rattle.client_requests.specs.Asked.{IsAccepted, SayCancels, cancels_asked};
 ghost use Rattle.order_machine.specs.Runs.{Finds};
 ghost use Rattle.client_requests.specs.Turns.{StepsCancel, IsCancelTurn};
 
@@ -21,7 +22,7 @@ use crate::turns::CancelTurn;
 use fix_types::{AppBody, CancelRequest};
 use order_law::Inbound;
 use order_table::Table;
-use orders::{Cancelling, Order};
+use orders::{Cancelling, Order, Replacing};
 use std::alloc::{AllocError, Global};
 use std::hash::BuildHasher;
 use to_client::{Request, report_pending};
@@ -32,8 +33,8 @@ use to_market::{refuse_cancel, say_cancel};
 ///
 /// `Refused`, by the first row that holds: its ClOrdID is used; its OrigClOrdID (41) names no order of the client;
 /// the order is closed; the port has ended or is faulted; a cancel of the order is pending. Else it is pending from
-/// then on, and asks the market once for each token: that which the order goes by, and then that of its pending
-/// replace.
+/// then on, and asks the market once for each token: that which the order goes by, and then those of its pending
+/// replaces, the oldest one's first.
 ///
 /// It changes nothing. The one error is that memory ran out.
 ///
@@ -120,34 +121,48 @@ fn cancelling_of(
     order: &Order,
 ) -> Result<Cancelling, AllocError>
     ensures message { IfOk result (λ c. c.message ≡ request.now) }
-    ensures tokens { IfOk result (λ c. c.first ∷ option_to_list c.second
-        ≡ live_token order.now ∷ replacements order.now.replace) }
+    ensures tokens { IfOk result (λ c. c.tokens.items ≡ live_token order.now ∷ replacements order.now.replaces) }
 {
     let message = request.copied(alloc)?;
-    let second = match &order.replace {
-        None => None,
-        Some(replacing) => Some(replacing.get().token),
-    };
-    Ok(Cancelling {
-        message,
-        first: order.token,
-        second,
-    })
+    let tokens = tokens_to_cancel(alloc, order)?;
+    Ok(Cancelling { message, tokens })
 }
 
-/// What a cancel of an order asks: a Cancel Order of the token that it goes by, and then one of its pending replace's.
+/// The tokens that a cancel of an order asks by: the one that it goes by, and those of its pending replaces, the oldest
+/// one's first.
+fn tokens_to_cancel(alloc: Global, order: &Order) -> Result<Vec<[u8; 14]>, AllocError>
+    ensures { IfOk result (λ tokens. tokens.items ≡ live_token order.now ∷ replacements order.now.replaces) }
+{
+    let next = order.next_tokens();
+    let mut tokens = Vec::with_capacity(alloc, 5)?;
+    tokens.push(order.token)?;
+    tokens.extend_from_slice(next.as_slice())?;
+    Ok(tokens)
+}
+
+/// What a cancel of an order asks: a Cancel Order of the token that it goes by, and then one of that of each pending
+/// replace, the oldest one's first.
 fn cancels_of(alloc: Global, order: &Order) -> Result<Vec<Inbound>, AllocError>
     ensures says { IfOk result (λ asks. (m : Message) (standing : Standing) (order_of : List ℕ → Option ℕ)
         → text 35 m ≡ codes "F" → Each (Finds order_of) (cancels_asked order.now m)
         → EachWith (Says standing order_of) (cancels_asked order.now m) (map inbound_bytes asks.items)) }
-    ensures few { IfOk result (λ asks. length asks.items ≤ 2) }
+    ensures few { IfOk result (λ asks. length asks.items ≤ 5) }
 {
-    let live = say_cancel(&order.token);
-    match &order.replace {
-        None => Ok(vec![in alloc; Inbound::Cancel(live)]?),
-        Some(replacing) => {
-            let next = say_cancel(&replacing.get().token);
-            Ok(vec![in alloc; Inbound::Cancel(live), Inbound::Cancel(next)]?)
-        }
-    }
+    let mut asks = Vec::with_capacity(alloc, 5)?;
+    asks.push(Inbound::Cancel(say_cancel(&order.token)))?;
+    push_cancels(&mut asks, order.replaces.as_slice())?;
+    Ok(asks)
+}
+
+/// A Cancel Order of the token of each of these replaces, behind others.
+fn push_cancels(asks: &mut Vec<Inbound>, replaces: &[Replacing]) -> Result<(), AllocError>
+    ensures says { IfOk result (λ nothing. (tokens : List (List ℕ)) → SayCancels tokens asks.old.items
+        → SayCancels (tokens ++ map replacing_token replaces.now) asks.new.items) }
+    ensures few { length asks.new.items ≤ length asks.old.items + length replaces.now }
+{
+    let [first, rest @ ..] = replaces else {
+        return Ok(());
+    };
+    asks.push(Inbound::Cancel(say_cancel(&first.token)))?;
+    push_cancels(asks, rest)
 }

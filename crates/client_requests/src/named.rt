@@ -1,6 +1,6 @@
 //! The order that a request names, as its table reads it and as a report or reject shows it.
 
-ghost use Rattle.std.specs.Prelude.{◌≡◌, unwrap_or};
+ghost use Rattle.std.specs.Prelude.{◌≡◌, length, unwrap_or};
 ghost use Rattle.std.specs.List.{count_by};
 ghost use Rattle.order_law.specs.History.{terms_of};
 ghost use Rattle.order_machine.specs.OrderRecord.{shown_as};
@@ -16,10 +16,12 @@ use to_market::{Character, NamedOrder};
 /// An order as the table of requests reads it: `own` is the capacity of its client, and so many replaces of it were
 /// accepted.
 pub fn named_of<'a>(order: &'a Order, own: u8, replaces: usize) -> NamedOrder<'a>
-    ensures { (s : TableState) → (terms_of s.terms order.now.new.client).capacity ≡ own
+    ensures reads { (s : TableState) → (terms_of s.terms order.now.new.client).capacity ≡ own
         → count_by (is_replacement_of order.now.new.order) s.tokens ≡ replaces
         → HasRead (named_as s order.now) result }
+    ensures pending { result.pending_replaces ≡ length order.now.replaces }
 {
+    let pending_replaces = order.replaces.as_slice().len();
     NamedOrder {
         side: order.side,
         symbol: order.symbol.as_slice(),
@@ -27,7 +29,7 @@ pub fn named_of<'a>(order: &'a Order, own: u8, replaces: usize) -> NamedOrder<'a
         is_closed: order.progress.stage == Stage::Closed,
         executed: order.progress.executed,
         has_pending_cancel: order.cancel.is_some(),
-        has_pending_replace: order.replace.is_some(),
+        pending_replaces,
         replaces: replaces as u64,
     }
 }

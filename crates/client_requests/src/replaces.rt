@@ -6,6 +6,9 @@ ghost use Rattle.order_law.specs.ouch_codec.Inbound.{inbound_bytes};
 ghost use Rattle.to_market.specs.tokens.TokenText.{token_text};
 ghost use Rattle.order_law.specs.Asks.{Standing};
 ghost use Rattle.order_law.specs.Headline.{Each, EachWith, Says};
+ghost use Rattle.order_law.specs.History.{last_token};
+ghost use Rattle.order_law.specs.wire_law.Printable.{ArePrintable};
+ghost use Rattle.order_machine.specs.OrderRecord.{live_token, replacements};
 ghost use Rattle.order_machine.specs.fix_fields.Field.{Message, text};
 ghost use Rattle.order_machine.specs.Table.{TableState};
 ghost use Rattle.order_table.specs.Held.{found_by_id};
@@ -31,9 +34,10 @@ use to_market::{ReplaceAsk, ask_of_replace, say_replace};
 /// used already or isn't.
 ///
 /// `Refused`, by the first row that holds: its ClOrdID is used; its OrigClOrdID (41) names no order of the client;
-/// the order is closed; the port has ended or is faulted; a request on the order is pending; then those of
-/// `to_market::ask_of_replace` on what it says itself. Else it is pending from then on, takes the next token, and
-/// asks the market to replace the order that goes by its live token.
+/// the order is closed; the port has ended or is faulted; a cancel of the order is pending, or four replaces; then those
+/// of `to_market::ask_of_replace` on what it says itself. Else it is pending from then on, takes the next token, and
+/// asks the market to replace the order that goes by the token of the newest pending replace, or, where none is
+/// pending, by its live one.
 ///
 /// It changes nothing. The one error is that memory ran out.
 ///
@@ -109,6 +113,7 @@ fn accept_replace(
         → TakesToken given sender.now order.now s → IsReplaceTurn s sender.now
         (replace_request_fields request.now) turn) }
 {
+    let order_id = order.order_id;
     let asked = Request::of_replace(request);
     let shown = shown_now(order);
     let report = report_pending(alloc, issued + 1, &asked, &shown)?;
@@ -116,7 +121,7 @@ fn accept_replace(
     let message = request.copied(alloc)?;
     let token = ask.token.bytes();
     Ok(ReplaceTurn::Accepted {
-        order_id: order.order_id,
+        order_id,
         replacing: Replacing {
             message,
             token,
@@ -125,7 +130,7 @@ fn accept_replace(
         given: GivenToken {
             port: sender.terms.port,
             token,
-            order_id: order.order_id,
+            order_id,
             is_replacement: true,
         },
         body: AppBody::Report(report),
@@ -133,13 +138,15 @@ fn accept_replace(
     })
 }
 
-/// What a replace of an order asks: one Replace Order, from the token that it goes by.
+/// What a replace of an order asks: one Replace Order, from the token that it goes by once its pending replaces are
+/// done.
 fn replaces_of(alloc: Global, ask: &ReplaceAsk, order: &Order) -> Result<Vec<Inbound>, AllocError>
+    requires { ArePrintable (last_token (live_token order.now) (replacements order.now.replaces)) }
     ensures says { IfOk result (λ asks. (m : Message) (standing : Standing) (order_of : List ℕ → Option ℕ)
         → AsksToReplace ask.now m → Each (Finds order_of) (replaces_asked order.now ask.now.token m)
         → EachWith (Says standing order_of) (replaces_asked order.now ask.now.token m) (map inbound_bytes asks.items)) }
-    ensures few { IfOk result (λ asks. length asks.items ≤ 2) }
+    ensures few { IfOk result (λ asks. length asks.items ≤ 5) }
 {
-    let message = say_replace(ask, &order.token);
+    let message = say_replace(ask, order.next_token());
     Ok(vec![in alloc; Inbound::Replace(message)]?)
 }

@@ -1,3 +1,4 @@
 pub mod Same
 pub mod Lists
 pub mod Finding
+pub mod Tokens

@@ -67,3 +67,25 @@ first-at p xs i place d inside at none here = record {
     taken [] i inside = absurd (omega (arith, inside))
     taken (y ∷ ys) zero inside = refl
     taken (y ∷ ys) (suc i) inside = ap suc (taken ys i (omega (arith, inside)))
+
+-- a loop that tests each element
+any-push : {X : Type 0} (p : X → Bool) (xs : List X) (y : X) → list_any p xs ≡ false → p y ≡ false → list_any p (xs ++ y ∷ []) ≡ false
+any-push p [] y none here = rw here refl
+any-push p (x ∷ xs) y none here = by_test (p x) none (λ e. any-push p xs y e here)
+  where
+    by_test : (b : Bool) → (b || list_any p xs) ≡ false → (list_any p xs ≡ false → list_any p (xs ++ y ∷ []) ≡ false) → (b || list_any p (xs ++ y ∷ [])) ≡ false
+    by_test true e later = absurd (cc)
+    by_test false e later = later e
+
+pub none_any_more : {X : Type 0} (p : X → Bool) (xs : List X) (i : ℕ) (d : X) → i < length xs → list_any p (take i xs) ≡ false → p (get_or xs i d) ≡ false → list_any p (take (i + 1) xs) ≡ false
+none_any_more p xs i d inside none here =
+    ap (λ n. list_any p (take n xs)) (add_one i) ∙ ap (list_any p) (take-suc xs i d inside) ∙ any-push p (take i xs) (get_or xs i d) none here
+
+pub any_here : {X : Type 0} (p : X → Bool) (xs : List X) (i : ℕ) (d : X) → i < length xs → p (get_or xs i d) ≡ true → list_any p xs ≡ true
+any_here p [] i d inside here = absurd (omega (arith, inside))
+any_here p (x ∷ xs) zero d inside here = rw here refl
+any_here p (x ∷ xs) (suc i) d inside here = by_test (p x) (any_here p xs i d (omega (arith, inside)) here)
+  where
+    by_test : (b : Bool) → list_any p xs ≡ true → (b || list_any p xs) ≡ true
+    by_test true e = refl
+    by_test false e = e

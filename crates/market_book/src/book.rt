@@ -5,6 +5,7 @@ ghost use Rattle.std.specs.List.{find};
 ghost use Rattle.ouch_codec.specs.declared.inbound.Inbound.TheVariants as asked;
 ghost use Rattle.market_law.specs.Machine as law;
 ghost use Rattle.market_law.specs.Messages as say;
+ghost use Rattle.market_law.specs.Rows as rows;
 ghost use Rattle.market_law.specs.declared.choice.Choice.TheVariants as choose;
 ghost use Rattle.market_book.specs.Places.{IsFirstAt};
 ghost use Rattle.market_book.specs.Steps.{IsStepOf};
@@ -12,7 +13,7 @@ ghost use Rattle.market_book.specs.Steps.{IsStepOf};
 use crate::order::BookedOrder;
 use crate::places::{first_live, first_with_trade, is_one_of};
 use crate::saying;
-use market_law::{Breaking, Choice, Letter, Removal, Trading};
+use market_law::{BookRow, Breaking, Choice, Letter, Removal, Trading};
 use ouch_codec::{Cancel, EnterOrder, Inbound, OrderState, Outbound, Replace};
 use std::alloc::{AllocError, Global};
 use std::marker::Model;
@@ -86,6 +87,14 @@ impl Book {
             Choice::SystemEvent(event) => one(alloc, saying::system_event(event)),
             _ => Ok(Vec::new(alloc)),
         }
+    }
+
+    /// What the book has of the order that goes by this token, or went by it before a replace: zeros and no side where
+    /// there is none. Takes no memory.
+    pub fn row(&self, token: &[u8; 14]) -> BookRow
+        ensures { result ≡ rows.row self.now.book token.now }
+    {
+        row_in(self.orders.as_slice(), token)
     }
 
     /// A new order comes.
@@ -318,4 +327,22 @@ fn one(alloc: Global, message: Outbound) -> Result<Vec<Outbound>, AllocError>
     let mut says = Vec::new(alloc);
     says.push(message)?;
     Ok(says)
+}
+
+/// What these have of the order that has had the token.
+fn row_in(orders: &[BookedOrder], token: &[u8; 14]) -> BookRow
+    ensures { result ≡ rows.row orders.now token.now }
+{
+    for order in orders {
+        if order.has_had(token) {
+            return order.row();
+        }
+    }
+    BookRow {
+        side: None,
+        executed: 0,
+        unfilled: 0,
+        cancelled: 0,
+        value: 0,
+    }
 }

@@ -10,6 +10,7 @@ mod book;
 mod order;
 mod places;
 mod saying;
+mod sides;
 
 pub use book::Book;
-pub use market_law::{Breaking, Choice, Letter, Removal, Trading};
+pub use market_law::{BookRow, Breaking, Choice, Letter, Removal, Trading};

@@ -1,14 +1,17 @@
 //! One order in the book.
 
-ghost use Rattle.std.specs.Prelude.{◌≡◌, ◌≤◌, ◌<◌, ◌+◌, ◌^◌, ◌*◌, OnOk, OnErr};
+ghost use Rattle.std.specs.Prelude.{◌≡◌, ◌≤◌, ◌<◌, ◌+◌, ◌^◌, ◌*◌, OnOk, OnErr, Some};
 ghost use Rattle.std.specs.List.{find, list_any};
 ghost use Rattle.std.specs.Prelude.{map};
 ghost use Rattle.market_law.specs.order_law.Life.{stands_as};
 ghost use Rattle.market_law.specs.order_law.Life.{marked as law_marked};
 ghost use Rattle.market_law.specs.Machine as law;
 ghost use Rattle.market_law.specs.Numbers.{shares-fit};
+ghost use Rattle.market_law.specs.Rows as rows;
+ghost use Rattle.market_book.specs.Tokens.{asks_for};
 
-use market_law::{Trade, Trading};
+use crate::sides::fix_side;
+use market_law::{BookRow, Trade, Trading};
 use ouch_codec::{EnterOrder, OrderState, Replace};
 use std::alloc::{AllocError, Global};
 use std::marker::Model;
@@ -114,6 +117,26 @@ impl BookedOrder {
         *self.live_token() == *token && self.unfilled > 0
     }
 
+    /// The token is the one that it goes by, or one that it went by before a replace.
+    pub fn has_had(&self, token: &[u8; 14]) -> bool
+        ensures { result ≡ rows.has_had token.now self.now }
+    {
+        asked_for(self.replacements.as_slice(), token) || *token == self.entered.token
+    }
+
+    /// Its side and its quantities.
+    pub fn row(&self) -> BookRow
+        ensures { result ≡ rows.row_of_order (Some self.now) }
+    {
+        BookRow {
+            side: Some(fix_side(self.entered.side)),
+            executed: u64::from(self.executed),
+            unfilled: u64::from(self.unfilled),
+            cancelled: self.cancelled,
+            value: self.value,
+        }
+    }
+
     /// So many shares, 1 or more, may leave what is open.
     pub fn is_open_for(&self, shares: u32) -> bool
         ensures { result ≡ law.is_open_for shares self.now }
@@ -216,6 +239,18 @@ impl BookedOrder {
         }
         Ok(())
     }
+}
+
+/// One of these replaces asked for the token.
+fn asked_for(replacements: &[Replace], token: &[u8; 14]) -> bool
+    ensures { result ≡ list_any (asks_for token.now) replacements.now }
+{
+    for request in replacements {
+        if *token == request.replacement_token {
+            return true;
+        }
+    }
+    false
 }
 
 /// The trade has this number and stands.

@@ -1,20 +1,23 @@
 -- The machine, computed: each answer to each message by each choice, each act, and runs that are written down. Moves
 -- stand in the order in which they happen, what is said the newest first.
 use Rattle.std.proofs.Common.{◌≡◌, ℕ, ◌<◌, ◌≤◌, ◌^◌, List, [], ◌∷◌, refl, arith}
-use Rattle.std.specs.Prelude.{codes, map, reverse, ◌++◌, slice_index}
+use Rattle.std.specs.Prelude.{codes, map, reverse, ◌++◌, slice_index, Option, Some, None}
 use Rattle.order_law.specs.ouch_codec.declared.inbound.Inbound.{Inbound}
 use Rattle.order_law.specs.ouch_codec.declared.inbound.Inbound.TheVariants as asked
 use Rattle.order_law.specs.ouch_codec.declared.inbound.enter_order.EnterOrder.{EnterOrder}
 use Rattle.order_law.specs.ouch_codec.declared.outbound.Outbound.{Outbound}
 use Rattle.order_law.specs.ouch_codec.declared.outbound.Outbound.TheVariants as market
-use Rattle.order_law.specs.ouch_codec.declared.side.Side.TheVariants.{Sell}
+use Rattle.order_law.specs.ouch_codec.declared.side.Side.{Side}
+use Rattle.order_law.specs.ouch_codec.declared.side.Side.TheVariants.{Buy, Sell, SellShort, SellShortExempt}
 use Rattle.order_law.specs.ouch_codec.Letters.{side_letter, order_state_letter}
 use Rattle.order_law.specs.Life.{life}
 use Rattle.market_law.specs.declared.choice.Choice.{Choice}
 use Rattle.market_law.specs.declared.choice.Choice.TheVariants as choose
 use Rattle.market_law.specs.Messages.{Token}
-use Rattle.market_law.specs.Machine.{Machine, inbound, act}
+use Rattle.market_law.specs.declared.row.BookRow.{BookRow}
+use Rattle.market_law.specs.Machine.{Machine, inbound, act, unopened}
 use Rattle.market_law.specs.Run.{Move, Comes, Acts, ran}
+use Rattle.market_law.specs.Rows.{row, row_of_order}
 
 -- ---- numbers that fit
 
@@ -528,3 +531,61 @@ two_orders :
     ≡ e_line t1 100 2 ∷ e_line t3 100 1 ∷ a_line t3 100 (codes "L") ∷ a_line t1 300 (codes "L") ∷ [])
     × (answer entered_two (replace_to t1 t3 500 fits-500) choose.AcceptLive ≡ [])
 two_orders = (refl, refl)
+
+-- ---- rows of the book
+
+abbrev row_after : List Move → Token → BookRow
+row_after moves token = row (machine_after moves).book token.bytes
+
+abbrev no_row : BookRow
+no_row = record { side = None; executed = 0; unfilled = 0; cancelled = 0; value = 0 }
+
+-- of a sale
+abbrev sale : ℕ → ℕ → ℕ → ℕ → BookRow
+sale executed unfilled cancelled value = record {
+  side = Some (letter (codes "2"));
+  executed = executed;
+  unfilled = unfilled;
+  cancelled = cancelled;
+  value = value;
+}
+
+-- an order that never came, or was rejected; one that is in the book, and one that is over as it is accepted; trades,
+-- shares that are taken off, and a trade that is taken back
+rows :
+    (row_after [] t1 ≡ no_row)
+    × (row_after rejected t1 ≡ no_row)
+    × (row_after entered t2 ≡ no_row)
+    × (row_after entered t1 ≡ sale 0 300 0 0)
+    × (row_after (Comes enter_300 choose.AcceptDead ∷ []) t1 ≡ sale 0 0 300 0)
+    × (row_after traded_200 t1 ≡ sale 200 100 0 46_900_000)
+    × (row_after traded_twice t1 ≡ sale 300 0 0 70_350_000)
+    × (row_after (traded_200 ++ Acts (off t1 100 fits-100) ∷ []) t1 ≡ sale 200 0 100 46_900_000)
+    × (row_after (traded_200 ++ Acts break_first ∷ []) t1 ≡ sale 0 100 0 0)
+rows = (refl, refl, refl, refl, refl, refl, refl, refl, refl)
+
+-- an order that was replaced has its row by each token that it has had, and none by one that was rejected
+rows_of_replaced :
+    (row_after replace_rejected t1 ≡ sale 0 300 0 0)
+    × (row_after replace_rejected t2 ≡ no_row)
+    × (row_after replaced_by_3 t1 ≡ sale 0 500 0 0)
+    × (row_after replaced_by_3 t3 ≡ sale 0 500 0 0)
+    × (row_after replaced_by_3 t2 ≡ no_row)
+    × (row_after replaced_five_times t1 ≡ sale 200 0 300 46_900_000)
+    × (row_after replaced_five_times t3 ≡ sale 200 0 300 46_900_000)
+    × (row_after replaced_five_times t6 ≡ sale 200 0 300 46_900_000)
+    × (row_after replaced_five_times t5 ≡ no_row)
+rows_of_replaced = (refl, refl, refl, refl, refl, refl, refl, refl, refl)
+
+-- each of two orders has its own; and each side has its byte
+abbrev side_after : Side → Option ℕ
+side_after side = (row_of_order (Some (unopened (record (order_of t1 300 fits-300) { side = side })))).side
+
+rows_of_each :
+    (row_after entered_two t1 ≡ sale 0 300 0 0)
+    × (row_after entered_two t3 ≡ sale 0 100 0 0)
+    × (side_after Buy ≡ Some (letter (codes "1")))
+    × (side_after Sell ≡ Some (letter (codes "2")))
+    × (side_after SellShort ≡ Some (letter (codes "5")))
+    × (side_after SellShortExempt ≡ Some (letter (codes "6")))
+rows_of_each = (refl, refl, refl, refl, refl, refl)

@@ -64,11 +64,12 @@ module _ (s : TableState) (port : ℕ) (m : Outbound) (token : List ℕ) (has : 
   judged-of o on (Faulty Undecodable) is = absurd is
   judged-of o on (Faulty UnknownToken) is = absurd is
   judged-of o on (Faulty OutsideProfile) is = absurd is
-  judged-of o on (Told order_id client h) is = record {
+  judged-of o on (Told order_id client next h) is = record {
     order = o;
     found = ap (by_number s) (sym is.of_order) ∙ found-by_number s port token o on;
     of_token = ap (option_and_then (record_by_token s port)) has ∙ on;
     of_client = is.of_client;
+    of_replaces = is.of_replaces;
     fits = is.is_heard.fits;
     gives = lawful o on is.is_heard.lawful ∙ heard-told s m o h is.is_heard;
   }

@@ -1,12 +1,11 @@
 -- When what comes of a message on an order is what the law says.
-use Rattle.std.specs.Prelude.{◌≡◌, ℕ, Bool, true, false, not, ◌&&◌, List, [], bytes_eq, map, Result, Ok, Err}
-use Rattle.std.specs.List.{list_any}
+use Rattle.std.specs.Prelude.{◌≡◌, ℕ, Bool, true, false, not, ◌&&◌, List, [], map, Result, Ok, Err}
 use Rattle.orders.specs.fix_types.Application.{body_fields}
 use Rattle.ouch_codec.specs.declared.outbound.Outbound.{Outbound}
 use Rattle.ouch_codec.specs.declared.outbound.rejected.Rejected.{Rejected}
 use Rattle.orders.specs.order_law.declared.stage.Stage.TheVariants.{Waiting, Closed}
 use Rattle.order_machine.specs.fix_fields.Field.{Message}
-use Rattle.orders.specs.order_law.Lawful.{row_holds}
+use Rattle.orders.specs.order_law.Lawful.{is_first, row_holds}
 use Rattle.orders.specs.order_law.Life.{is_closed, is_live, is_waiting}
 use Rattle.orders.specs.order_law.Told.{told_by}
 use Rattle.order_machine.specs.OrderRecord.{OrderRecord, after_message, fill_of, last_of, record_life, replacements}
@@ -18,18 +17,19 @@ use Rattle.market_messages.specs.declared.heard.RowFault.TheVariants.{NoMemory, 
 
 -- the message is lawful of the order
 abbrev pub is_lawful : Outbound → OrderRecord → Bool
-is_lawful m o = row_holds m (record_life o) o.new (replacements o.replace)
+is_lawful m o = row_holds m (record_life o) o.new (replacements o.replaces)
 
--- what a Rejected is lawful of: the new order, which waits, or a pending replace of an order that isn't closed
+-- what a Rejected is lawful of: the new order, which waits, or the oldest pending replace of an order that isn't closed
 abbrev pub rejects_new : Rejected → OrderRecord → Bool
 rejects_new m o = is_live (record_life o) m.token && is_waiting o.stage
 
 abbrev pub rejects_replace : Rejected → OrderRecord → Bool
-rejects_replace m o = list_any (bytes_eq m.token) (replacements o.replace) && not (is_closed o.stage)
+rejects_replace m o = is_first m.token (replacements o.replaces) && not (is_closed o.stage)
 
 -- what its client is told, after so many reports
 abbrev pub told_of : ℕ → Outbound → OrderRecord → List Message
-told_of issued m o = told_by issued m (record_life o) (last_of m o.cancel) (map fill_of o.trades) (shown_as o)
+told_of issued m o = told_by issued m (record_life o) (last_of m (replacements o.replaces) o.cancel)
+    (map fill_of o.trades) (shown_as o)
 
 -- after so many reports: it is lawful, its client is told what the law tells, and what it changes fits the order and
 -- makes of it what the law makes

@@ -10,7 +10,7 @@ use Rattle.orders.specs.order_law.Lawful.{bytes_fault, row_fault, token_fault, t
 use Rattle.orders.specs.order_law.Reading.{is_report}
 use Rattle.orders.specs.order_law.Told.{told_of_entry}
 use Rattle.order_machine.specs.Machine.{GivenByEvent, faulty, market_step, order_in, silent, tells}
-use Rattle.order_machine.specs.OrderRecord.{OrderRecord}
+use Rattle.order_machine.specs.OrderRecord.{OrderRecord, replacements}
 use Rattle.order_machine.specs.Table.{TableState, by_number, put}
 use Rattle.orders.specs.Changes.{Fits, changed_by}
 use Rattle.order_table.specs.Held.{Held}
@@ -47,11 +47,12 @@ order_heard s port (Err refusal) = None
 
 -- the order with this OrderID is changed, which the change fits, and its client, of this number, is told
 pub record OrderIsTold (s : TableState) (port : ℕ) (heard : Result Outbound DecodeRefusal) (order_id client : ℕ)
-    (h : Heard) : Type 0 where
+    (next : List (List ℕ)) (h : Heard) : Type 0 where
   pub order : OrderRecord
   pub found : by_number s (decimal order_id) ≡ Some order
   pub of_token : order_heard s port heard ≡ Some order
   pub of_client : order.new.client ≡ client
+  pub of_replaces : next ≡ replacements order.replaces
   pub fits : Fits h.change order
   pub gives : market_step s port heard ≡ changes_to s order (changed_by h.change order) (map body_fields h.bodies.items)
 
@@ -59,7 +60,7 @@ pub record OrderIsTold (s : TableState) (port : ℕ) (heard : Result Outbound De
 abbrev pub IsJudged : TableState → ℕ → Result Outbound DecodeRefusal → Judged → Type 0
 IsJudged s port heard Silent = market_step s port heard ≡ silent s
 IsJudged s port heard (Faulty fault) = market_step s port heard ≡ faulty s (market_fault_number fault)
-IsJudged s port heard (Told order_id client h) = OrderIsTold s port heard order_id client h
+IsJudged s port heard (Told order_id client next h) = OrderIsTold s port heard order_id client next h
 
 -- of every state with this table, after so many reports
 abbrev pub Steps : ℕ → ℕ → Result Outbound DecodeRefusal → Held → Judged → Type 0

@@ -1,6 +1,6 @@
 //! Accepted: the market took a new order.
 
-ghost use Rattle.std.specs.Prelude.{◌≡◌, ◌≤◌, ◌<◌, ◌^◌, true, length, map, IfOk, ℕ, List};
+ghost use Rattle.std.specs.Prelude.{◌≡◌, ◌≤◌, ◌<◌, ◌^◌, true, length, map, IfOk};
 ghost use Rattle.orders.specs.fix_types.Application.{body_fields};
 ghost use Rattle.orders.specs.declared.change.Change.TheVariants.{Opened};
 ghost use Rattle.ouch_codec.specs.declared.outbound.Outbound.TheVariants as market;
@@ -48,7 +48,7 @@ fn tell_accepted(
     requires may { is_lawful (market.Accepted message.now) order.now ≡ true }
     ensures told { IfOk result (λ bodies. map body_fields bodies.items
         ≡ told_of issued (market.Accepted message.now) order.now) }
-    ensures few { IfOk result (λ bodies. length bodies.items ≤ 3) }
+    ensures few { IfOk result (λ bodies. length bodies.items ≤ 6) }
 {
     let opened = order.progress_after(opened_by(message, false));
     let mut bodies = Vec::with_capacity(alloc, 1)?;

@@ -1,7 +1,6 @@
 //! Broken Trade: a trade of an order is taken back.
 
-ghost use Rattle.std.specs.Prelude.{◌≡◌, ◌≤◌, ◌<◌, ◌^◌, ◌∷◌, [], true, length, map, IfOk, Some, option_map, reverse, ℕ};
-ghost use Rattle.std.specs.Prelude.{List};
+ghost use Rattle.std.specs.Prelude.{◌≡◌, ◌≤◌, ◌<◌, ◌^◌, true, length, map, IfOk, Some, option_map, reverse};
 ghost use Rattle.std.specs.List.{find, position};
 ghost use Rattle.orders.specs.fix_types.Application.{body_fields};
 ghost use Rattle.orders.specs.order_law.Life.{is_of};
@@ -56,7 +55,7 @@ fn tell_broken(
     requires steady { IsSteady order.now }
     ensures told { IfOk result (λ bodies. map body_fields bodies.items
         ≡ told_of issued (market.Broken message.now) order.now) }
-    ensures few { IfOk result (λ bodies. length bodies.items ≤ 3) }
+    ensures few { IfOk result (λ bodies. length bodies.items ≤ 6) }
 {
     let progress = order.progress_after(Change::Broken(told));
     let occasion = Occasion::TradeCancel {

@@ -1,6 +1,6 @@
 //! Cancel Reject: the market does not cancel an order.
 
-ghost use Rattle.std.specs.Prelude.{◌≡◌, ◌≤◌, ℕ, true, length, map, IfOk, List};
+ghost use Rattle.std.specs.Prelude.{◌≡◌, ◌≤◌, ℕ, true, length, map, IfOk};
 ghost use Rattle.orders.specs.fix_types.Application.{body_fields};
 ghost use Rattle.ouch_codec.specs.declared.outbound.Outbound.TheVariants as market;
 ghost use Rattle.market_messages.specs.Meets.{MeetsRow, is_lawful, told_of};
@@ -40,7 +40,7 @@ fn tell_cancel_reject(
     requires { is_lawful (market.CancelReject message.now) order.now ≡ true }
     ensures told { IfOk result (λ bodies. (issued : ℕ)
         → map body_fields bodies.items ≡ told_of issued (market.CancelReject message.now) order.now) }
-    ensures few { IfOk result (λ bodies. length bodies.items ≤ 3) }
+    ensures few { IfOk result (λ bodies. length bodies.items ≤ 6) }
 {
     let progress = order.progress_after(Change::NotCanceled(message.token));
     let shown = shown_of(order, &progress);

@@ -1,6 +1,6 @@
 //! Executed: shares of an order were traded.
 
-ghost use Rattle.std.specs.Prelude.{◌≡◌, ◌≤◌, ◌<◌, ◌^◌, ◌==◌, true, length, map, IfOk, ℕ, List};
+ghost use Rattle.std.specs.Prelude.{◌≡◌, ◌≤◌, ◌<◌, ◌^◌, ◌==◌, true, length, map, IfOk};
 ghost use Rattle.std.specs.List.{list_any};
 ghost use Rattle.orders.specs.fix_types.Application.{body_fields};
 ghost use Rattle.ouch_codec.specs.declared.outbound.Outbound.TheVariants as market;
@@ -47,7 +47,7 @@ fn tell_executed(
     requires may { is_lawful (market.Executed message.now) order.now ≡ true }
     ensures told { IfOk result (λ bodies. map body_fields bodies.items
         ≡ told_of issued (market.Executed message.now) order.now) }
-    ensures few { IfOk result (λ bodies. length bodies.items ≤ 3) }
+    ensures few { IfOk result (λ bodies. length bodies.items ≤ 6) }
 {
     let (shares, price) = (message.shares, message.price);
     let told = told_trade(message, issued + 1);

@@ -12,9 +12,9 @@ use thiserror::Error;
 pub struct Heard {
     /// What it changes of the order.
     pub change: Change,
-    /// What its client is told, in order: three bodies at most, or none.
+    /// What its client is told, in order: six bodies at most, or none.
     pub bodies: Vec<AppBody>,
-    ghost few: { length bodies.items ≤ 3 },
+    ghost few: { length bodies.items ≤ 6 },
 }
 
 /// Why nothing comes of a message.

@@ -1,6 +1,6 @@
 //! A payload of the market, judged by the table of orders.
 
-ghost use Rattle.std.specs.Prelude.{◌≡◌, ◌<◌, ◌^◌, IfOk};
+ghost use Rattle.std.specs.Prelude.{◌<◌, ◌^◌, IfOk};
 ghost use Rattle.market_messages.specs.Turns.{Steps};
 
 use crate::judged::Judged;

@@ -2,6 +2,7 @@
 
 use crate::heard::Heard;
 use crate::market_fault::MarketFault;
+use orders::NextTokens;
 
 /// What a payload of the market comes to.
 #[derive(Drop)]
@@ -16,6 +17,8 @@ pub enum Judged {
         order_id: u64,
         /// The number of its client, from 1.
         client: u16,
+        /// The tokens of the replaces that were pending before it, the oldest one's first.
+        next: NextTokens,
         heard: Heard,
     },
 }

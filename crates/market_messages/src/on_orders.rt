@@ -95,6 +95,7 @@ fn answer_of(order: &Order, answer: Result<Heard, RowFault>) -> Result<Judged, A
         Ok(heard) => Ok(Judged::Told {
             order_id: order.order_id,
             client: order.client,
+            next: order.next_tokens(),
             heard,
         }),
         Err(fault) => refusal_of(fault),

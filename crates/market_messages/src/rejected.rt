@@ -1,6 +1,6 @@
 //! Rejected: the market didn't take a new order, or a replacement.
 
-ghost use Rattle.std.specs.Prelude.{◌≡◌, ℕ, ◌≤◌, ◌<◌, ◌^◌, true, false, length, map, IfOk, List};
+ghost use Rattle.std.specs.Prelude.{◌≡◌, ℕ, ◌≤◌, ◌<◌, ◌^◌, true, false, length, map, IfOk};
 ghost use Rattle.orders.specs.fix_types.Application.{body_fields};
 ghost use Rattle.ouch_codec.specs.declared.outbound.Outbound.TheVariants as market;
 ghost use Rattle.market_messages.specs.Meets.{MeetsRow, rejects_new, rejects_replace, told_of};
@@ -10,13 +10,13 @@ use orders::{AppBody, Change, Order, Stage, is_same_token};
 use ouch_codec::Rejected;
 use std::alloc::{AllocError, Global};
 use to_client::{
-    CxlRejReason, Occasion, Pending, Shown, pending_of, push_cancel_rejected, push_reject,
-    push_report, push_too_late, report_of, shown_of,
+    Occasion, Pending, Shown, pending_of, push_cancel_rejected, push_not_replaced, push_report,
+    push_too_late, report_of, shown_of,
 };
 
 /// Lawful for an order that waits under this token: it is over, with the market's letter as the reason, and each
-/// pending request is too late. And for an order that isn't closed, of its pending replace: that is answered by a
-/// reject with the letter, and the Cancel Order of its token is answered.
+/// pending request is too late. And for an order that isn't closed, of its oldest pending replace: that is answered by
+/// a reject with the letter, each replace behind it by another, and the Cancel Orders of their tokens are answered.
 ///
 /// Source: OUCH 4.2, "Rejected Message".
 pub fn on_rejected(
@@ -36,7 +36,7 @@ pub fn on_rejected(
     }
     if may_reject_replace(order, message) {
         return Ok(Heard {
-            change: Change::NotReplaced(message.token),
+            change: Change::NotReplaced,
             bodies: tell_not_replaced(alloc, order, message)?,
         });
     }
@@ -54,7 +54,7 @@ fn tell_refused(
     requires may { rejects_new message.now order.now ≡ true }
     ensures told { IfOk result (λ bodies. map body_fields bodies.items
         ≡ told_of issued (market.Rejected message.now) order.now) }
-    ensures few { IfOk result (λ bodies. length bodies.items ≤ 3) }
+    ensures few { IfOk result (λ bodies. length bodies.items ≤ 6) }
 {
     let refused = order.progress_after(Change::Refused);
     let occasion = Occasion::Rejected(message.reason);
@@ -66,7 +66,7 @@ fn tell_refused(
     Ok(bodies)
 }
 
-/// What its client is told of a replace.
+/// What its client is told of its pending replaces.
 fn tell_not_replaced(
     alloc: Global,
     order: &Order,
@@ -76,24 +76,23 @@ fn tell_not_replaced(
     requires may { rejects_replace message.now order.now ≡ true }
     ensures told { IfOk result (λ bodies. (issued : ℕ)
         → map body_fields bodies.items ≡ told_of issued (market.Rejected message.now) order.now) }
-    ensures few { IfOk result (λ bodies. length bodies.items ≤ 3) }
+    ensures few { IfOk result (λ bodies. length bodies.items ≤ 6) }
 {
-    let progress = order.progress_after(Change::NotReplaced(message.token));
+    let progress = order.progress_after(Change::NotReplaced);
     let pending = pending_of(order);
-    let shown = Shown {
-        has_pending_replace: false,
-        ..shown_of(order, &progress)
-    };
+    let shown = shown_of(order, &progress);
     let mut bodies = Vec::with_capacity(alloc, 1)?;
-    let letter = [message.reason];
-    let code = CxlRejReason::BrokerOption;
-    push_reject(alloc, &mut bodies, &pending.replace, &shown, code, &letter)?;
+    push_not_replaced(alloc, &mut bodies, message.reason, &shown, &pending)?;
+    let left = Shown {
+        has_pending_replace: false,
+        ..shown
+    };
     let rest = Pending {
-        replace: None,
+        replaces: &[],
         ..pending
     };
-    let is_last = order.is_last(&message.token);
-    push_cancel_rejected(alloc, &mut bodies, is_last, &shown, &rest)?;
+    let is_last = order.is_last_of_replaces();
+    push_cancel_rejected(alloc, &mut bodies, is_last, &left, &rest)?;
     Ok(bodies)
 }
 
@@ -104,7 +103,7 @@ fn may_refuse(order: &Order, message: &Rejected) -> bool
     is_same_token(&message.token, &order.token) && order.progress.stage == Stage::Waiting
 }
 
-/// Whether this is the token of a pending replace of an order that isn't closed.
+/// Whether this is the token of the oldest pending replace of an order that isn't closed.
 fn may_reject_replace(order: &Order, message: &Rejected) -> bool
     ensures { result ≡ rejects_replace message.now order.now }
 {

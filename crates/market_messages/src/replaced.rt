@@ -1,21 +1,22 @@
 //! Replaced: an order goes by another token from now on, with other terms.
 
-ghost use Rattle.std.specs.Prelude.{◌≡◌, ◌≤◌, ◌<◌, ◌^◌, true, length, map, IfOk, ℕ, List, Option, option_to_list};
+ghost use Rattle.std.specs.Prelude.{◌≡◌, ◌≤◌, ◌<◌, ◌^◌, ◌∷◌, ◌++◌, true, length, map, IfOk, List};
+ghost use Rattle.std.specs.Prelude.{Option, option_to_list};
 ghost use Rattle.orders.specs.fix_types.Application.{body_fields};
 ghost use Rattle.orders.specs.declared.change.Change.TheVariants as changes;
 ghost use Rattle.ouch_codec.specs.declared.outbound.Outbound.TheVariants as market;
 ghost use Rattle.orders.specs.order_law.History.{Entry};
-ghost use Rattle.order_machine.specs.fix_fields.Field.{Message, text};
+ghost use Rattle.order_machine.specs.fix_fields.Field.{text};
 ghost use Rattle.orders.specs.order_law.Told as law;
 ghost use Rattle.to_client.specs.declared.pending.Pending.{Pending};
-ghost use Rattle.to_client.specs.Pending.{IsPending};
+ghost use Rattle.to_client.specs.Pending.{IsPending, messages_in, messages_of};
 ghost use Rattle.to_client.specs.Shows.{IsRequest, ShowsAs};
 ghost use Rattle.market_messages.specs.Meets.{MeetsRow, is_lawful, told_of};
 
 use crate::accepted::is_dead;
 use crate::heard::{Heard, RowFault};
 use crate::terms::is_same_terms;
-use orders::{AppBody, Change, Order, Stage, is_same_token};
+use orders::{AppBody, Change, Order, Replacing, Stage, is_same_token};
 use ouch_codec::Replaced;
 use std::alloc::{AllocError, Global};
 use to_client::{
@@ -23,10 +24,11 @@ use to_client::{
     report_replaced, shown_of,
 };
 
-/// Lawful for an order in the book under the previous token, of its pending replace, with the side and stock that the
-/// order asked: it is open under the replace's token and ClOrdID with the shares and the price given, which answers
-/// the replace. Where its state is dead, all of it is cancelled at once, which a second report says and which answers
-/// a pending cancel; else the Cancel Order of the previous token is answered.
+/// Lawful for an order in the book under the previous token, of its oldest pending replace, with the side and stock
+/// that the order asked: it is open under the replace's token and ClOrdID with the shares and the price given, which
+/// answers the replace. Where its state is dead, all of it is cancelled at once, which a second report says and which
+/// answers a pending cancel, and the replaces behind it are too late; else the Cancel Order of the previous token is
+/// answered.
 ///
 /// Source: OUCH 4.2, "Replaced Message".
 pub fn on_replaced(
@@ -58,27 +60,26 @@ fn tell_replaced(
     requires may { is_lawful (market.Replaced message.now) order.now ≡ true }
     ensures told { IfOk result (λ bodies. map body_fields bodies.items
         ≡ told_of issued (market.Replaced message.now) order.now) }
-    ensures few { IfOk result (λ bodies. length bodies.items ≤ 3) }
+    ensures few { IfOk result (λ bodies. length bodies.items ≤ 6) }
 {
     let mut bodies = Vec::with_capacity(alloc, 1)?;
-    let Some(replacing) = &order.replace else {
+    let [oldest, others @ ..] = order.replaces.as_slice() else {
         return Ok(bodies);
     };
-    let request = Request::of_replace(&replacing.get().message);
-    let pending = pending_of(order);
+    let request = Request::of_replace(&oldest.message);
     let rest = Pending {
-        replace: None,
-        ..pending
+        replaces: others,
+        ..pending_of(order)
     };
     let opened = order.progress_after(replaced_by(message, false));
     let whole = shown_of(order, &opened);
-    let shown = renamed(&whole, &request);
+    let shown = renamed(&whole, &request, others);
     let report = report_replaced(alloc, issued + 1, &request, &shown)?;
     push_report(&mut bodies, report)?;
     if is_dead(message.order_state) {
         let gone = order.progress_after(replaced_by(message, true));
         let over = shown_of(order, &gone);
-        let closed = renamed(&over, &request);
+        let closed = renamed(&over, &request, others);
         push_canceled(alloc, &mut bodies, issued + 2, None, &closed, &rest)?;
         return Ok(bodies);
     }
@@ -87,15 +88,16 @@ fn tell_replaced(
     Ok(bodies)
 }
 
-/// An order as it is shown under the ClOrdID of a replace, which isn't pending any more.
-fn renamed<'a>(shown: &Shown<'a>, request: &Request<'a>) -> Shown<'a>
-    ensures { (pending : Pending) (replace cancel : Option Entry) (s : law.Shown) (m : Message) → ShowsAs shown.now s
-        → IsPending pending replace cancel s → IsRequest request.now m
-        → ShowsAs result (record s { id = text 11 m; pending = option_to_list cancel }) }
+/// An order as it is shown under the ClOrdID of its oldest replace, which isn't pending any more: these still are.
+fn renamed<'a>(shown: &Shown<'a>, request: &Request<'a>, others: &[Replacing]) -> Shown<'a>
+    ensures { (pending : Pending) (q : Entry) (qs : List Entry) (cancel : Option Entry) (s : law.Shown)
+        → ShowsAs shown.now s → IsPending pending (q ∷ qs) cancel s → messages_in others.now ≡ messages_of qs
+        → IsRequest request.now q.message
+        → ShowsAs result (record s { id = text 11 q.message; pending = qs ++ option_to_list cancel }) }
 {
     Shown {
         cl_ord_id: request.cl_ord_id,
-        has_pending_replace: false,
+        has_pending_replace: !others.is_empty(),
         ..*shown
     }
 }
@@ -111,7 +113,7 @@ fn replaced_by(message: &Replaced, is_dead: bool) -> Change
     }
 }
 
-/// Whether a pending replace of an order waits for a Replaced like this.
+/// Whether the oldest pending replace of an order waits for a Replaced like this.
 fn may_replace(order: &Order, message: &Replaced) -> bool
     ensures { result ≡ is_lawful (market.Replaced message.now) order.now }
 {

@@ -1,7 +1,7 @@
 -- A new order, by its verdict: what the table's step gives.
 use Rattle.std.proofs.Common.{◌≡◌, ◌≤◌, ℕ, ◌+◌, Bool, List, [], ◌∷◌, codes, length, map, refl, sym, subst, ap, ◌∙◌}
 use Rattle.std.proofs.Common.{arith, decimal, Some}
-use Rattle.std.specs.Prelude.{false, Option, option_to_list}
+use Rattle.std.specs.Prelude.{false, Option}
 use Rattle.to_market.specs.tokens.TokenText.{token_text}
 use Rattle.client_requests.specs.fix_types.declared.application.AppBody.{AppBody}
 use Rattle.client_requests.specs.fix_types.declared.new_order.NewOrder.{NewOrder}
@@ -90,7 +90,7 @@ module _ (s : TableState) (order_ids exec_ids : ℕ) (sender : Sender) (held : H
       → AsksNext sender held d enter → o ≡ entered (entry_after (order_ids + 1) sender held d) → given ≡ given_to sender.terms.port enter.token (order_ids + 1)
       → map body_fields bodies ≡ law.report (exec_ids + 1) (law.plain (codes "A")) (shown_as o) ∷ []
       → ((standing : Standing) (order_of : List ℕ → Option ℕ) (asked : Asked) → Says standing order_of asked (enter_bytes enter) → EachWith (Says standing order_of) (asked ∷ []) (map inbound_bytes asks))
-      → length asks ≤ 2
+      → length asks ≤ 5
       → IsEntering s sender m (order_ids + 1) o given bodies asks
   entering-in enter o given bodies asks verdict next is_order is_given is_told says few =
       let of_state : o ≡ entered (entry_of_new s client m) = is_order ∙ ap entered (sym same-entry) in
@@ -105,7 +105,8 @@ module _ (s : TableState) (order_ids exec_ids : ℕ) (sender : Sender) (held : H
             ∙ ap (λ (bs : List Message). tells (with_order (used_by client m) o given s) client bs (new_asked s.terms (entry_of_new s client m) Waiting)) (sym is_told);
         says = λ order_of finds. says (terms_of s.terms client).standing order_of _ (next-says order_of);
         few = few;
-        fresh = subst (λ (x : OrderRecord). length x.tokens + length (option_to_list x.replace) ≤ 1) (sym is_order) (omega arith);
+        one_token = subst (λ (x : OrderRecord). length x.tokens ≤ 1) (sym is_order) (omega arith);
+        none_pending = ap (λ (x : OrderRecord). x.replaces) is_order;
       }
     where
       next-says : (order_of : List ℕ → Option ℕ) → Says (terms_of s.terms client).standing order_of (asked_with (decimal (s.order_ids + 1)) (token_text (length s.tokens + 1)) (terms_of s.terms client).capacity m) (enter_bytes enter)

@@ -1,5 +1,5 @@
 -- What a new order makes of a table, as one answer. (FIX 4.4 Volume 4, "New Order - Single".)
-use Rattle.std.specs.Prelude.{◌≡◌, ◌≤◌, ℕ, ◌+◌, Bool, List, [], ◌∷◌, ◌++◌, Some, decimal, length, map, option_to_list}
+use Rattle.std.specs.Prelude.{◌≡◌, ◌≤◌, ℕ, ◌+◌, Bool, List, [], ◌∷◌, ◌++◌, Some, decimal, length, map}
 use Rattle.client_requests.specs.fix_types.declared.application.AppBody.{AppBody}
 use Rattle.client_requests.specs.fix_types.declared.new_order.NewOrder.{NewOrder}
 use Rattle.client_requests.specs.fix_types.NewOrder.{new_order_fields}
@@ -52,8 +52,9 @@ pub record IsEntering (s : TableState) (sender : Sender) (m : Message) (order_id
   pub gives : client_step s sender.client m (port_seen sender.port)
       ≡ tells (with_order (used_by sender.client m) o given s) sender.client (map body_fields bodies) asked
   pub says : SaysAll s sender asked asks
-  pub few : length asks ≤ 2
-  pub fresh : length o.tokens + length (option_to_list o.replace) ≤ 1
+  pub few : length asks ≤ 5
+  pub one_token : length o.tokens ≤ 1
+  pub none_pending : o.replaces ≡ []
 
 -- a state with this table, after so many OrderIDs and reports
 pub record StandsAfter (s : TableState) (order_ids exec_ids : ℕ) (sender : Sender) (held : Held) (id : List ℕ)

@@ -1,9 +1,8 @@
 //! An accepted new order.
 
-ghost use Rattle.std.specs.Prelude.{◌≡◌, ◌+◌, ◌<◌, ◌≤◌, ◌^◌, ◌∷◌, [], ℕ, List, Option, Some, codes, decimal, length};
+ghost use Rattle.std.specs.Prelude.{◌≡◌, ◌+◌, ◌<◌, ◌≤◌, ◌^◌, ◌∷◌, [], ℕ, List, Option, codes, length};
 ghost use Rattle.std.specs.Prelude.{map, IfOk};
 ghost use Rattle.client_requests.specs.fix_types.Application.{body_fields};
-ghost use Rattle.client_requests.specs.fix_types.NewOrder.{new_order_fields};
 ghost use Rattle.order_law.specs.ouch_codec.Inbound.{inbound_bytes};
 ghost use Rattle.order_law.specs.Asks.{Standing};
 ghost use Rattle.order_law.specs.Headline.{EachWith, Says};
@@ -100,7 +99,7 @@ fn asks_of(alloc: Global, enter: EnterOrder) -> Result<Vec<Inbound>, AllocError>
     ensures says { IfOk result (λ asks. (standing : Standing) (order_of : List ℕ → Option ℕ) (asked : Asked)
         → Says standing order_of asked (enter_bytes enter)
         → EachWith (Says standing order_of) (asked ∷ []) (map inbound_bytes asks.items)) }
-    ensures few { IfOk result (λ asks. length asks.items ≤ 2) }
+    ensures few { IfOk result (λ asks. length asks.items ≤ 5) }
 {
     Ok(vec![in alloc; Inbound::Enter(enter)]?)
 }

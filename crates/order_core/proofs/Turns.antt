@@ -12,6 +12,7 @@ use Rattle.outstanding.specs.order_law.Lawful.{order_token}
 use Rattle.order_ledger.specs.market_messages.ouch_codec.declared.outbound.Outbound.{Outbound}
 use Rattle.order_ledger.specs.market_messages.ouch_codec.declared.refusal.DecodeRefusal.{DecodeRefusal}
 use Rattle.outstanding.specs.order_law.Verdicts.{Port, Down, Up, Ended, Faulted}
+use Rattle.order_machine.specs.OrderRecord.{replacements}
 use Rattle.order_machine.specs.Table.{TableState, record_by_token, table_without_orders}
 use Rattle.order_machine.specs.Machine.{GivenByEvent, client_step, faulty, market_step}
 use Rattle.order_machine.specs.Runs.{Finds, Leads, LeadsTo, NumbersLeft, TurnsLeave}
@@ -104,12 +105,13 @@ module _ (terms : List Terms) (before : OrderHistory) (old : OrderCoreState) (cl
 module _ (terms : List Terms) (before : OrderHistory) (old : OrderCoreState) (port : ℕ) (short : NumbersLeft before) (market : MarketTurnsKeep) (quiet : QuietTurnsKeep) (leaves : TurnsLeave terms before old.table) (keeps : KeepsOutstanding terms before old.kept) (t : OrderTurn) (new : TableState) (leads : Leads old.table t new) where
   -- a message leaves what is outstanding of what is kept
   kept-by_token : (m : Outbound) → t.event ≡ Heard port (Ok m) → (market_step old.table port (Ok m)).fault ≡ None → (c : ChangedOrder) (is : ChangesOrder old.table port (Ok m) c)
-      → (x : Option (List ℕ)) → order_token m ≡ x → KeepsOutstanding terms (t ∷ before) (left_by port m (decimal c.order_id) c.is_closed old.kept)
+      → (x : Option (List ℕ)) → order_token m ≡ x → KeepsOutstanding terms (t ∷ before) (left_by port m c.next (decimal c.order_id) c.is_closed old.kept)
   kept-by_token m is_event no_fault c is None has =
       let found : option_and_then (record_by_token old.table port) None ≡ Some is.order = ap (option_and_then (record_by_token old.table port)) (sym has) ∙ is.found in cc
   kept-by_token m is_event no_fault c is (Some token) has =
-      subst₂ (λ (order : List ℕ) (closed : Bool). KeepsOutstanding terms (t ∷ before) (left_by port m order closed old.kept)) is.of_order is.closed
-      (market terms before old.table short leaves old.kept keeps t new port m is_event leads token is.order is.now (ap (option_and_then (record_by_token old.table port)) (sym has) ∙ is.found) is.same no_fault is.orders)
+      subst (λ (next : List (List ℕ)). KeepsOutstanding terms (t ∷ before) (left_by port m next (decimal c.order_id) c.is_closed old.kept)) (sym is.next)
+      (subst₂ (λ (order : List ℕ) (closed : Bool). KeepsOutstanding terms (t ∷ before) (left_by port m (replacements is.order.replaces) order closed old.kept)) is.of_order is.closed
+      (market terms before old.table short leaves old.kept keeps t new port m is_event leads token is.order is.now (ap (option_and_then (record_by_token old.table port)) (sym has) ∙ is.found) is.same no_fault is.orders))
 
   -- and any payload does
   pub kept-after : (heard : Result Outbound DecodeRefusal) → t.event ≡ Heard port heard → (market_step old.table port heard).fault ≡ None → (changed : Option ChangedOrder) → ChangesAny old.table port heard changed

@@ -40,7 +40,7 @@ pub record MeetsClient (old : OrderCoreState) (client : ℕ) (message : AppMsg) 
 abbrev pub left_after : ℕ → Result Outbound DecodeRefusal → Option ChangedOrder → List KeptMessage → List KeptMessage
 left_after port heard None kept = kept
 left_after port (Err refusal) (Some c) kept = kept
-left_after port (Ok m) (Some c) kept = left_by port m (decimal c.order_id) c.is_closed kept
+left_after port (Ok m) (Some c) kept = left_by port m c.next (decimal c.order_id) c.is_closed kept
 
 -- a payload that is handled: what the ledger gives is told, and what it answers goes
 pub record MeetsHandled (old : OrderCoreState) (port : ℕ) (heard : Result Outbound DecodeRefusal) (out : MarketOut)

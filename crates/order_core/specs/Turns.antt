@@ -1,5 +1,5 @@
 -- Calls of the order core as turns of a history.
-use Rattle.std.specs.Prelude.{ℕ, List, [], Some, None, map, Result, Ok, Err}
+use Rattle.std.specs.Prelude.{ℕ, [], Some, None, map, Result, Ok, Err}
 use Rattle.order_ledger.specs.fix_types.declared.application.AppMsg.{AppMsg}
 use Rattle.order_ledger.specs.fix_types.Application.{body_fields, message_fields}
 use Rattle.order_ledger.specs.market_messages.ouch_codec.Inbound.{inbound_bytes}

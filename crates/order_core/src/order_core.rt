@@ -225,7 +225,7 @@ impl<S: BuildHasher + Drop> OrderCore<S> {
         ensures settled { self.new.settled ≡ self.old.settled }
         ensures err { OnErr result (self.new ≡ self.old) }
     {
-        self.asked.reserve(2)?;
+        self.asked.reserve(5)?;
         let its_port = self.ledger.port_of(client);
         let turn = self.ledger.client(alloc, client, message, port)?;
         self.asked
@@ -282,7 +282,8 @@ fn drop_answered(
     if let Some(changed) = changed
         && let Ok(message) = heard
     {
-        asked.answer(port, message, changed.order_id, changed.is_closed);
+        let next = changed.next.as_slice();
+        asked.answer(port, message, changed.order_id, changed.is_closed, next);
     }
 }
 

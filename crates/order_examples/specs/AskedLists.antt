@@ -17,6 +17,8 @@ use Rattle.order_examples.specs.Exchanges.{cancelled_across_a_replace, cancelled
 use Rattle.order_examples.specs.Exchanges.{filled_across_replace_and_cancel, cancel_at_the_market, order_is_cancelled}
 use Rattle.order_examples.specs.Exchanges.{accepted_with_a_replace_pending, dead_as_it_is_accepted, asked_twice}
 use Rattle.order_examples.specs.Exchanges.{four_unanswered, cancelled_while_down, ordered_on_a_faulted_port}
+use Rattle.order_examples.specs.SeveralReplaces.{all_fall_under_a_cancel, fall_answers_the_cancel, fall_beside_another_order}
+use Rattle.order_examples.specs.SeveralReplaces.{two_replaces_and_a_cancel}
 
 -- the table and the list that the events of an exchange leave
 abbrev table_after : OrderHistory → TableState
@@ -56,6 +58,16 @@ lists :
     × (on_ports (heard_by_client (cancel_reject_message 1) [] ∷ cancelled_across_a_replace)
     ≡ (1, SaysReplace (token_text 1) (token_text 2)) ∷ (1, SaysCancel (token_text 2))
     ∷ [])  -- the cancel of one token
+    × (on_ports (heard_by_client (replaced_message 2 1 500 (codes "L")) [] ∷ two_replaces_and_a_cancel)
+    ≡ (1, SaysReplace (token_text 2) (token_text 3)) ∷ (1, SaysCancel (token_text 2)) ∷ (1, SaysCancel (token_text 3))
+    ∷ [])  -- the oldest is done: the other stays asked
+    × (on_ports (heard_by_client (rejected_message 2 (codes "X")) [] ∷ two_replaces_and_a_cancel)
+    ≡ (1, SaysCancel (token_text 1)) ∷ [])  -- the oldest falls, and with it all that is asked behind it
+    × (on_ports all_fall_under_a_cancel ≡ [])
+    × (on_ports fall_answers_the_cancel ≡ [])
+    × (on_ports fall_beside_another_order
+    ≡ (1, SaysNew (token_text 2)) ∷ (1, SaysCancel (token_text 1)) ∷ (1, SaysReplace (token_text 2) (token_text 4))
+    ∷ [])  -- what is asked of the other order stays
     × (on_ports filled_across_replace_and_cancel ≡ [])
     × (on_ports (heard_by_client (canceled_message 1 300 (codes "U")) [] ∷ four_unanswered)
     ≡ (1, SaysNew (token_text 2)) ∷ [])  -- the first order is closed
@@ -72,4 +84,4 @@ lists :
     × (on_ports (faulted_on 2 (accepted_message 1 300 (codes "INTC    ") (codes "L")) 2 ∷ entered_on_both)
     ≡ on_ports entered_on_both)  -- a token of the other port is a fault
 unfolding digits price quantity amount amount_of within scaled fraction worth worth_of last_digits
-lists = (refl, refl, refl, refl, refl, refl, refl, refl, refl, refl, refl, refl, refl, refl, refl, refl, refl, refl, refl, refl, refl, refl)
+lists = (refl, refl, refl, refl, refl, refl, refl, refl, refl, refl, refl, refl, refl, refl, refl, refl, refl, refl, refl, refl, refl, refl, refl, refl, refl, refl, refl)

@@ -1,8 +1,7 @@
 -- What an exchange that is written down has to be, as equations that can be computed: each turn tells what is told,
 -- has the fault that is judged, and sends messages that ask what is asked.
-use Rattle.std.specs.Prelude.{◌≡◌, ◌&&◌, Bool, true, nat_lt, ℕ, List, [], ◌∷◌, map, Option, Some, None, if◌then◌else◌}
+use Rattle.std.specs.Prelude.{◌≡◌, ℕ, List, [], ◌∷◌, map, Option, Some, None, if◌then◌else◌}
 use Rattle.std.specs.Prelude.{codes}
-use Rattle.std.specs.List.{list_all}
 use Rattle.order_law.specs.ouch_codec.ToMarket as said
 use Rattle.order_law.specs.Asks.{Ask, ask_of_bytes}
 use Rattle.order_law.specs.Verdicts.{Up, Down, Ended, Faulted}

@@ -469,12 +469,12 @@ order_is_cancelled =
     ∷ [])
     ∷ cancel_at_the_market
 
--- a second replace waits for the first
+-- a second replace, which names the id that the first one named, goes from the first one's token
 abbrev pub replace_asked_twice : OrderHistory
 replace_asked_twice =
     asked_turn (codes "35=G|41=A1|11=A3|38=400|40=2|44=23.45")
-    (codes "35=9|37=1|11=A3|41=A1|39=E|434=2|102=3|58=already pending")
-    []
+    (codes "35=8|37=1|11=A3|41=A1|17=4|150=E|39=E|55=INTC|54=1|38=300|44=23.45|151=300|14=0|6=0")
+    (replace_message 2 3 400 ∷ [])
     ∷ replace_pending
 
 -- A fill or kill order is immediate, and its minimum is its total whatever 110 says. A replace can't ask it.

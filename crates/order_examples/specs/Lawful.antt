@@ -6,6 +6,7 @@ use Rattle.fixed_point.specs.Price.{price_text}
 use Rattle.tokens.specs.TokenText.{last_digits}
 use Rattle.order_examples.specs.Computed.{IsLawful}
 use Rattle.order_examples.specs.Exchanges as exchanges
+use Rattle.order_examples.specs.SeveralReplaces as several
 
 only_entered : IsLawful exchanges.only_entered
 unfolding digits price quantity amount amount_of within scaled fraction worth worth_of last_digits price_text
@@ -190,3 +191,93 @@ replace_asked_twice = record { tells = refl; faults = refl; asks = refl; tokens 
 fill_or_kill : IsLawful exchanges.fill_or_kill
 unfolding digits price quantity amount amount_of within scaled fraction worth worth_of last_digits price_text
 fill_or_kill = record { tells = refl; faults = refl; asks = refl; tokens = refl }
+
+-- ---- several replaces
+
+two_replaces_pending : IsLawful several.two_replaces_pending
+unfolding digits price quantity amount amount_of within scaled fraction worth worth_of last_digits price_text
+two_replaces_pending = record { tells = refl; faults = refl; asks = refl; tokens = refl }
+
+three_replaces_pending : IsLawful several.three_replaces_pending
+unfolding digits price quantity amount amount_of within scaled fraction worth worth_of last_digits price_text
+three_replaces_pending = record { tells = refl; faults = refl; asks = refl; tokens = refl }
+
+four_replaces_pending : IsLawful several.four_replaces_pending
+unfolding digits price quantity amount amount_of within scaled fraction worth worth_of last_digits price_text
+four_replaces_pending = record { tells = refl; faults = refl; asks = refl; tokens = refl }
+
+four_replaces_and_a_cancel : IsLawful several.four_replaces_and_a_cancel
+unfolding digits price quantity amount amount_of within scaled fraction worth worth_of last_digits price_text
+four_replaces_and_a_cancel = record { tells = refl; faults = refl; asks = refl; tokens = refl }
+
+two_replaces_and_a_cancel : IsLawful several.two_replaces_and_a_cancel
+unfolding digits price quantity amount amount_of within scaled fraction worth worth_of last_digits price_text
+two_replaces_and_a_cancel = record { tells = refl; faults = refl; asks = refl; tokens = refl }
+
+fifth_replace_has_to_wait : IsLawful several.fifth_replace_has_to_wait
+unfolding digits price quantity amount amount_of within scaled fraction worth worth_of last_digits price_text
+fifth_replace_has_to_wait = record { tells = refl; faults = refl; asks = refl; tokens = refl }
+
+four_replaces_done_in_order : IsLawful several.four_replaces_done_in_order
+unfolding digits price quantity amount amount_of within scaled fraction worth worth_of last_digits price_text
+four_replaces_done_in_order = record { tells = refl; faults = refl; asks = refl; tokens = refl }
+
+four_rejected_at_once : IsLawful several.four_rejected_at_once
+unfolding digits price quantity amount amount_of within scaled fraction worth worth_of last_digits price_text
+four_rejected_at_once = record { tells = refl; faults = refl; asks = refl; tokens = refl }
+
+second_of_four_rejected : IsLawful several.second_of_four_rejected
+unfolding digits price quantity amount amount_of within scaled fraction worth worth_of last_digits price_text
+second_of_four_rejected = record { tells = refl; faults = refl; asks = refl; tokens = refl }
+
+all_fall_under_a_cancel : IsLawful several.all_fall_under_a_cancel
+unfolding digits price quantity amount amount_of within scaled fraction worth worth_of last_digits price_text
+all_fall_under_a_cancel = record { tells = refl; faults = refl; asks = refl; tokens = refl }
+
+fall_answers_the_cancel : IsLawful several.fall_answers_the_cancel
+unfolding digits price quantity amount amount_of within scaled fraction worth worth_of last_digits price_text
+fall_answers_the_cancel = record { tells = refl; faults = refl; asks = refl; tokens = refl }
+
+cancel_reject_after_a_fall : IsLawful several.cancel_reject_after_a_fall
+unfolding digits price quantity amount amount_of within scaled fraction worth worth_of last_digits price_text
+cancel_reject_after_a_fall = record { tells = refl; faults = refl; asks = refl; tokens = refl }
+
+filled_with_four_and_a_cancel : IsLawful several.filled_with_four_and_a_cancel
+unfolding digits price quantity amount amount_of within scaled fraction worth worth_of last_digits price_text
+filled_with_four_and_a_cancel = record { tells = refl; faults = refl; asks = refl; tokens = refl }
+
+cancelled_with_four_and_a_cancel : IsLawful several.cancelled_with_four_and_a_cancel
+unfolding digits price quantity amount amount_of within scaled fraction worth worth_of last_digits price_text
+cancelled_with_four_and_a_cancel = record { tells = refl; faults = refl; asks = refl; tokens = refl }
+
+dead_with_four_and_a_cancel : IsLawful several.dead_with_four_and_a_cancel
+unfolding digits price quantity amount amount_of within scaled fraction worth worth_of last_digits price_text
+dead_with_four_and_a_cancel = record { tells = refl; faults = refl; asks = refl; tokens = refl }
+
+replaced_after_all_fell : IsLawful several.replaced_after_all_fell
+unfolding digits price quantity amount amount_of within scaled fraction worth worth_of last_digits price_text
+replaced_after_all_fell = record { tells = refl; faults = refl; asks = refl; tokens = refl }
+
+fall_while_it_waits : IsLawful several.fall_while_it_waits
+unfolding digits price quantity amount amount_of within scaled fraction worth worth_of last_digits price_text
+fall_while_it_waits = record { tells = refl; faults = refl; asks = refl; tokens = refl }
+
+replaces_out_of_order : IsLawful several.replaces_out_of_order
+unfolding digits price quantity amount amount_of within scaled fraction worth worth_of last_digits price_text
+replaces_out_of_order = record { tells = refl; faults = refl; asks = refl; tokens = refl }
+
+rejected_after_it_fell : IsLawful several.rejected_after_it_fell
+unfolding digits price quantity amount amount_of within scaled fraction worth worth_of last_digits price_text
+rejected_after_it_fell = record { tells = refl; faults = refl; asks = refl; tokens = refl }
+
+trades_between_replaces : IsLawful several.trades_between_replaces
+unfolding digits price quantity amount amount_of within scaled fraction worth worth_of last_digits price_text
+trades_between_replaces = record { tells = refl; faults = refl; asks = refl; tokens = refl }
+
+replaces_of_two_orders : IsLawful several.replaces_of_two_orders
+unfolding digits price quantity amount amount_of within scaled fraction worth worth_of last_digits price_text
+replaces_of_two_orders = record { tells = refl; faults = refl; asks = refl; tokens = refl }
+
+fall_beside_another_order : IsLawful several.fall_beside_another_order
+unfolding digits price quantity amount amount_of within scaled fraction worth worth_of last_digits price_text
+fall_beside_another_order = record { tells = refl; faults = refl; asks = refl; tokens = refl }

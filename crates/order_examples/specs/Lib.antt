@@ -1,5 +1,6 @@
 pub mod Transcript
 pub mod Exchanges
+pub mod SeveralReplaces
 pub mod Computed
 pub mod Lawful
 pub mod Outstanding

@@ -13,6 +13,7 @@ use Rattle.order_examples.specs.Exchanges.{entered_and_accepted, order_is_filled
 use Rattle.order_examples.specs.Exchanges.{broken_after_it_is_filled, replace_rejected, replace_pending}
 use Rattle.order_examples.specs.Exchanges.{replace_asked_while_waiting, replaced_after_a_trade}
 use Rattle.order_examples.specs.Exchanges.{broken_after_it_is_replaced, only_entered}
+use Rattle.order_examples.specs.SeveralReplaces.{second_of_four_rejected, two_replaces_pending}
 
 -- the fault of a payload of port 1 after a history
 abbrev fault : OrderHistory → List ℕ → Option ℕ
@@ -60,6 +61,11 @@ faults :
     × (fault replace_asked_while_waiting (replaced_message 2 1 500 (codes "L")) ≡ Some row_fault)  -- the order waits
     × (fault replace_rejected (replaced_message 2 1 500 (codes "L")) ≡ Some row_fault)  -- the replace isn't pending
     × (fault closed_by_the_market (replaced_message 2 1 500 (codes "L")) ≡ Some row_fault)  -- the order is closed
+    × (fault two_replaces_pending (replaced_message 2 1 500 (codes "L")) ≡ None)  -- of the oldest of two
+    × (fault two_replaces_pending (replaced_message 3 1 400 (codes "L")) ≡ Some row_fault)  -- of the second
+    × (fault two_replaces_pending (replaced_message 3 2 400 (codes "L"))
+    ≡ Some row_fault)  -- the previous token isn't live yet either
+    × (fault second_of_four_rejected (replaced_message 4 2 450 (codes "L")) ≡ Some row_fault)  -- it fell
     × (fault entered_and_accepted (canceled_message 1 300 (codes "U")) ≡ None)  -- lawful
     × (fault entered_and_accepted (canceled_message 1 301 (codes "U")) ≡ Some row_fault)  -- more than is open
     × (fault entered_and_accepted (canceled_message 1 0 (codes "U")) ≡ Some row_fault)  -- nothing
@@ -86,6 +92,9 @@ faults :
     × (fault only_entered (rejected_message 1 (codes "T")) ≡ None)  -- of an order that waits
     × (fault entered_and_accepted (rejected_message 1 (codes "T")) ≡ Some row_fault)  -- the order doesn't wait
     × (fault replace_pending (rejected_message 2 (codes "T")) ≡ None)  -- of a pending replace
+    × (fault two_replaces_pending (rejected_message 2 (codes "T")) ≡ None)  -- of the oldest of two
+    × (fault two_replaces_pending (rejected_message 3 (codes "T")) ≡ Some row_fault)  -- of the second
+    × (fault second_of_four_rejected (rejected_message 5 (codes "T")) ≡ Some row_fault)  -- it fell
     × (fault closed_by_the_market (rejected_message 2 (codes "T")) ≡ Some row_fault)  -- the replace isn't pending
     × (fault entered_and_accepted (cancel_reject_message 1) ≡ None)  -- lawful
     × (fault only_entered (cancel_reject_message 1) ≡ Some row_fault)  -- the order waits
@@ -94,4 +103,4 @@ faults :
     × (fault only_entered (cancel_pending_message 1) ≡ None)  -- any token of the port
     × (fault only_entered (cancel_pending_message 2) ≡ Some token_fault)  -- a token that isn't given
 unfolding digits price quantity amount amount_of within scaled fraction worth worth_of last_digits
-faults = (refl, refl, refl, refl, refl, refl, refl, refl, refl, refl, refl, refl, refl, refl, refl, refl, refl, refl, refl, refl, refl, refl, refl, refl, refl, refl, refl, refl, refl, refl, refl, refl, refl, refl, refl, refl, refl, refl, refl, refl, refl, refl, refl, refl, refl, refl, refl, refl, refl, refl, refl, refl, refl, refl, refl, refl, refl)
+faults = (refl, refl, refl, refl, refl, refl, refl, refl, refl, refl, refl, refl, refl, refl, refl, refl, refl, refl, refl, refl, refl, refl, refl, refl, refl, refl, refl, refl, refl, refl, refl, refl, refl, refl, refl, refl, refl, refl, refl, refl, refl, refl, refl, refl, refl, refl, refl, refl, refl, refl, refl, refl, refl, refl, refl, refl, refl, refl, refl, refl, refl, refl, refl, refl)

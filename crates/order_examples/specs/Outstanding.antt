@@ -8,6 +8,8 @@ use Rattle.order_examples.specs.Transcript.{fixed_terms, heard_by_client, faulte
 use Rattle.order_examples.specs.Transcript.{rejected_message, canceled_message, cancel_reject_message}
 use Rattle.order_examples.specs.Exchanges.{only_entered, entered_and_accepted, four_unanswered, cancelled_while_down}
 use Rattle.order_examples.specs.Exchanges.{filled_while_cancel_pending, ordered_on_a_faulted_port, two_clients}
+use Rattle.order_examples.specs.SeveralReplaces.{fall_answers_the_cancel, fall_beside_another_order, four_replaces_and_a_cancel}
+use Rattle.order_examples.specs.SeveralReplaces.{four_replaces_done_in_order}
 
 -- by types and tokens, in the order in which it was asked
 abbrev unanswered_on : ℕ → OrderHistory → List Said
@@ -41,6 +43,26 @@ lists :
     × (unanswered_on 1 filled_while_cancel_pending ≡ [])
     × (unanswered_on 1 ordered_on_a_faulted_port ≡ [])  -- it was refused
     × (unanswered_on 2 ordered_on_a_faulted_port ≡ SaysNew (token_text 1) ∷ [])
+    × (unanswered_on 1 four_replaces_and_a_cancel
+    ≡ SaysReplace (token_text 1) (token_text 2) ∷ SaysReplace (token_text 2) (token_text 3)
+    ∷ SaysReplace (token_text 3) (token_text 4) ∷ SaysReplace (token_text 4) (token_text 5)
+    ∷ SaysCancel (token_text 1) ∷ SaysCancel (token_text 2) ∷ SaysCancel (token_text 3)
+    ∷ SaysCancel (token_text 4) ∷ SaysCancel (token_text 5) ∷ [])  -- each replace from the one before it
+    × (unanswered_on 1 four_replaces_done_in_order ≡ [])
+    × (unanswered_on 1 (heard_by_client (replaced_message 2 1 500 (codes "L")) [] ∷ four_replaces_and_a_cancel)
+    ≡ SaysReplace (token_text 2) (token_text 3) ∷ SaysReplace (token_text 3) (token_text 4)
+    ∷ SaysReplace (token_text 4) (token_text 5) ∷ SaysCancel (token_text 2) ∷ SaysCancel (token_text 3)
+    ∷ SaysCancel (token_text 4) ∷ SaysCancel (token_text 5)
+    ∷ [])  -- the oldest is done: the others stay asked
+    × (unanswered_on 1 (heard_by_client (rejected_message 2 (codes "X")) [] ∷ four_replaces_and_a_cancel)
+    ≡ SaysCancel (token_text 1) ∷ [])  -- the oldest falls, and with it all that is asked behind it
+    × (unanswered_on 1 (heard_by_client (rejected_message 3 (codes "X")) []
+    ∷ heard_by_client (replaced_message 2 1 500 (codes "L")) [] ∷ four_replaces_and_a_cancel)
+    ≡ SaysCancel (token_text 2) ∷ [])  -- the cancel of the live token stays
+    × (unanswered_on 1 fall_answers_the_cancel ≡ [])
+    × (unanswered_on 1 fall_beside_another_order
+    ≡ SaysNew (token_text 2) ∷ SaysCancel (token_text 1) ∷ SaysReplace (token_text 2) (token_text 4)
+    ∷ [])  -- what is asked of the other order stays
     × (unanswered_on 1 two_clients ≡ SaysNew (token_text 1) ∷ SaysNew (token_text 2) ∷ [])
 unfolding digits price quantity amount amount_of within scaled fraction worth worth_of last_digits
-lists = (refl, refl, refl, refl, refl, refl, refl, refl, refl, refl, refl, refl, refl, refl, refl, refl)
+lists = (refl, refl, refl, refl, refl, refl, refl, refl, refl, refl, refl, refl, refl, refl, refl, refl, refl, refl, refl, refl, refl, refl, refl)

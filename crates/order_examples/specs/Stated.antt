@@ -3,7 +3,7 @@
 -- outstanding.
 use Rattle.std.specs.Prelude.{◌≡◌, ◌&&◌, ℕ, Bool, true, List, [], ◌∷◌, filter, map, bytes_eq, refl, if◌then◌else◌}
 use Rattle.std.specs.Fmt.{digits}
-use Rattle.std.specs.List.{filter_map, list_all, flat_map}
+use Rattle.std.specs.List.{list_all, flat_map}
 use Rattle.fixed_point.specs.Decimal.{price, quantity, amount, amount_of, within, scaled, fraction, worth, worth_of}
 use Rattle.fixed_point.specs.Price.{price_text}
 use Rattle.tokens.specs.TokenText.{last_digits}
@@ -11,13 +11,14 @@ use Rattle.order_law.specs.declared.account.Account.{Account}
 use Rattle.order_machine.specs.fix_fields.Field.{Message, text}
 use Rattle.order_law.specs.Life.{account_of}
 use Rattle.order_law.specs.Reading.{account_read, is_report_on, reading}
-use Rattle.order_law.specs.Chain.{Chain, Request, chain}
+use Rattle.order_law.specs.Chain.{Chain, Request, cancels, chain, replaces}
 use Rattle.order_law.specs.History.{Asked, OrderHistory, Terms, terms_of, Entry, accepted, issued, is_cancel_said}
-use Rattle.order_law.specs.History.{is_new_order, is_replace_said, outstanding, pending_tokens}
+use Rattle.order_law.specs.History.{asked_of, is_new_order, is_replace_said, next_tokens, outstanding, pending_tokens}
 use Rattle.order_law.specs.Headline.{ReportState, stated, due_after, is_reject_on, is_answer_to, has_due_ids, old_ids}
-use Rattle.order_law.specs.Headline.{asked_of, cancels, each_once, ids_asked, life_in, replacement_of, replaces}
+use Rattle.order_law.specs.Headline.{each_once, ids_asked, life_in}
 use Rattle.order_examples.specs.Transcript.{fixed_terms}
 use Rattle.order_examples.specs.Exchanges as exchanges
+use Rattle.order_examples.specs.SeveralReplaces as several
 
 -- ---- reports
 
@@ -91,8 +92,7 @@ record IsTrue (h : OrderHistory) : Type 0 where
       ≡ each_order (λ e. ids_asked (asked_of is_replace_said e.order (asked_on h e))) h
   pub tokens :
       each_order (λ e. pending_tokens e.client (chain_of h e) (accepted fixed_terms h)) h
-      ≡ each_order (λ e. filter_map (λ (a : Asked). replacement_of a.said)
-      (asked_of is_replace_said e.order (asked_on h e))) h
+      ≡ each_order (λ e. next_tokens e.order (asked_on h e)) h
   pub cancels : each_order (λ e. ids_of (cancels (chain_of h e))) h
       ≡ each_order (λ e. each_once (ids_asked (asked_of is_cancel_said e.order (asked_on h e)))) h
 
@@ -250,3 +250,45 @@ broken_among_equals = record {
   tokens = refl;
   cancels = refl;
 }
+
+-- ---- several replaces
+
+fifth_replace_has_to_wait : IsTrue several.fifth_replace_has_to_wait
+unfolding digits price quantity amount amount_of within scaled fraction worth worth_of last_digits price_text
+fifth_replace_has_to_wait = record { states = refl; ids = refl; accounts = refl; replaces = refl; tokens = refl; cancels = refl }
+
+second_of_four_rejected : IsTrue several.second_of_four_rejected
+unfolding digits price quantity amount amount_of within scaled fraction worth worth_of last_digits price_text
+second_of_four_rejected = record { states = refl; ids = refl; accounts = refl; replaces = refl; tokens = refl; cancels = refl }
+
+all_fall_under_a_cancel : IsTrue several.all_fall_under_a_cancel
+unfolding digits price quantity amount amount_of within scaled fraction worth worth_of last_digits price_text
+all_fall_under_a_cancel = record { states = refl; ids = refl; accounts = refl; replaces = refl; tokens = refl; cancels = refl }
+
+fall_answers_the_cancel : IsTrue several.fall_answers_the_cancel
+unfolding digits price quantity amount amount_of within scaled fraction worth worth_of last_digits price_text
+fall_answers_the_cancel = record { states = refl; ids = refl; accounts = refl; replaces = refl; tokens = refl; cancels = refl }
+
+filled_with_four_and_a_cancel : IsTrue several.filled_with_four_and_a_cancel
+unfolding digits price quantity amount amount_of within scaled fraction worth worth_of last_digits price_text
+filled_with_four_and_a_cancel = record { states = refl; ids = refl; accounts = refl; replaces = refl; tokens = refl; cancels = refl }
+
+dead_with_four_and_a_cancel : IsTrue several.dead_with_four_and_a_cancel
+unfolding digits price quantity amount amount_of within scaled fraction worth worth_of last_digits price_text
+dead_with_four_and_a_cancel = record { states = refl; ids = refl; accounts = refl; replaces = refl; tokens = refl; cancels = refl }
+
+replaced_after_all_fell : IsTrue several.replaced_after_all_fell
+unfolding digits price quantity amount amount_of within scaled fraction worth worth_of last_digits price_text
+replaced_after_all_fell = record { states = refl; ids = refl; accounts = refl; replaces = refl; tokens = refl; cancels = refl }
+
+fall_while_it_waits : IsTrue several.fall_while_it_waits
+unfolding digits price quantity amount amount_of within scaled fraction worth worth_of last_digits price_text
+fall_while_it_waits = record { states = refl; ids = refl; accounts = refl; replaces = refl; tokens = refl; cancels = refl }
+
+trades_between_replaces : IsTrue several.trades_between_replaces
+unfolding digits price quantity amount amount_of within scaled fraction worth worth_of last_digits price_text
+trades_between_replaces = record { states = refl; ids = refl; accounts = refl; replaces = refl; tokens = refl; cancels = refl }
+
+four_replaces_and_a_cancel : IsTrue several.four_replaces_and_a_cancel
+unfolding digits price quantity amount amount_of within scaled fraction worth worth_of last_digits price_text
+four_replaces_and_a_cancel = record { states = refl; ids = refl; accounts = refl; replaces = refl; tokens = refl; cancels = refl }

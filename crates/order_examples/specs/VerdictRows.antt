@@ -10,8 +10,9 @@ use Rattle.order_law.specs.Chain.{unchained}
 use Rattle.order_law.specs.History.{OrderHistory, issued, accepted, verdict, standing_of}
 use Rattle.order_machine.specs.fix_fields.Transcript.{message}
 use Rattle.order_examples.specs.Transcript.{fixed_terms}
-use Rattle.order_examples.specs.Exchanges.{entered_and_accepted, order_is_filled, replace_pending}
+use Rattle.order_examples.specs.Exchanges.{entered_and_accepted, order_is_filled}
 use Rattle.order_examples.specs.Exchanges.{cancelled_across_a_replace, replaced_after_a_trade, four_unanswered}
+use Rattle.order_examples.specs.SeveralReplaces.{four_replaces_pending, three_replaces_pending}
 
 -- the verdict of a new order with its port up
 abbrev of_new : List ℕ → Verdict
@@ -36,10 +37,15 @@ of_new_orders :
     × (of_new (codes "35=D|11=B1|54=1|55=IN TC|38=300|40=2|44=23.45") ≡ Refused 1 (codes "symbol"))  -- a space
     × (of_new (codes "35=D|11=B1|54=1|55=INTC|38=300|40=1|44=23.45") ≡ Refused 11 (codes "order type"))
     × (of_new (codes "35=D|11=B1|54=1|55=INTC|38=300|40=2|44=23.45|59=1") ≡ Refused 11 (codes "time in force"))
+    × (of_new (codes "35=D|11=B1|54=1|55=INTC|38=300|40=2|44=23.45|59=3") ≡ Accepted)  -- immediate or cancel
+    × (of_new (codes "35=D|11=B1|54=1|55=INTC|38=300|40=2|44=23.45|59=4") ≡ Accepted)  -- fill or kill
+    × (of_new (codes "35=D|11=B1|54=1|55=INTC|38=300|40=2|44=23.45|59=4|110=300") ≡ Accepted)
+    × (of_new (codes "35=D|11=B1|54=1|55=INTC|38=300|40=2|44=23.45|59=4|110=301")
+    ≡ Refused 13 (codes "minimum quantity"))  -- its minimum is judged all the same
     × (of_new (codes "35=D|11=B1|54=1|55=INTC|38=300|40=2|44=23.45|59=2") ≡ Refused 11 (codes "time in force"))
-    × (of_new (codes "35=D|11=B1|54=1|55=INTC|38=300|40=2|44=23.45|59=3") ≡ Accepted)
-    × (of_new (codes "35=D|11=B1|54=1|55=INTC|38=300|40=2|44=23.45|59=4") ≡ Accepted)
     × (of_new (codes "35=D|11=B1|54=1|55=INTC|38=300|40=2|44=23.45|59=5") ≡ Refused 11 (codes "time in force"))
+    × (of_new (codes "35=D|11=B1|54=1|55=INTC|38=300|40=2|44=23.45|59=44") ≡ Refused 11 (codes "time in force"))
+    × (of_new (codes "35=D|11=B1|54=1|55=INTC|38=300|40=2|44=23.45|59=") ≡ Refused 11 (codes "time in force"))
     × (of_new (codes "35=D|11=B1|54=1|55=INTC|38=300|40=2|44=23.45|18=5") ≡ Refused 11 (codes "execution instruction"))
     × (of_new (codes "35=D|11=B1|54=1|55=INTC|38=300|40=2|44=23.45|528=B") ≡ Refused 11 (codes "capacity"))
     × (of_new (codes "35=D|11=B1|54=1|55=INTC|38=300.5|40=2|44=23.45") ≡ Refused 13 (codes "quantity"))  -- not exact
@@ -55,8 +61,7 @@ of_new_orders :
     × (of_new (codes "35=D|11=B1|54=1|55=INTC|38=300|40=2|44=0") ≡ Refused 99 (codes "price out of range"))
     × (verdict_of_new [] Up 9999999999999 (message usual) ≡ Refused 99 (codes "no token left"))
 unfolding digits price quantity amount amount_of within scaled fraction worth worth_of last_digits
-of_new_orders =
-    (refl, refl, refl, refl, refl, refl, refl, refl, refl, refl, refl, refl, refl, refl, refl, refl, refl, refl, refl, refl, refl, refl, refl, refl, refl, refl, refl)
+of_new_orders = (refl, refl, refl, refl, refl, refl, refl, refl, refl, refl, refl, refl, refl, refl, refl, refl, refl, refl, refl, refl, refl, refl, refl, refl, refl, refl, refl, refl, refl, refl, refl)
 
 -- new orders on which one row holds and the next one too: the earlier refuses
 first_of_two_on_new_orders :
@@ -145,7 +150,13 @@ of_requests :
     × (of_request cancelled_across_a_replace (codes "35=F|41=A1|11=B2")
     ≡ Refused 3 (codes "already pending"))  -- a cancel for a cancel
     × (of_request cancelled_across_a_replace (codes "35=G|41=A3|11=B2|38=400|40=2|44=23.45")
-    ≡ Refused 3 (codes "already pending"))  -- a replace for either; named by the cancel's id
+    ≡ Refused 3 (codes "already pending"))  -- a replace for a cancel; named by the cancel's id
+    × (of_request three_replaces_pending (codes "35=G|41=A1|11=B2|38=400|40=2|44=23.45")
+    ≡ Accepted)  -- a fourth replace
+    × (of_request four_replaces_pending (codes "35=G|41=A1|11=B2|38=400|40=2|44=23.45")
+    ≡ Refused 3 (codes "already pending"))  -- a fifth
+    × (of_request four_replaces_pending (codes "35=F|41=A1|11=B2") ≡ Accepted)  -- a cancel waits for a cancel alone
+    × (of_request four_replaces_pending (codes "35=F|41=A3|11=B2") ≡ Accepted)  -- under the id of any of them
     × (of_request entered_and_accepted (codes "35=G|41=A1|11=B2|38=400|40=2|44=23.45|54=2")
     ≡ Refused 99 (codes "side, symbol or capacity"))
     × (of_request entered_and_accepted (codes "35=G|41=A1|11=B2|38=400|40=2|44=23.45|55=MSFT")
@@ -160,7 +171,7 @@ of_requests :
     ≡ Refused 99 (codes "time in force"))
     × (of_request entered_and_accepted (codes "35=G|41=A1|11=B2|38=400|40=2|44=23.45|59=3") ≡ Accepted)
     × (of_request entered_and_accepted (codes "35=G|41=A1|11=B2|38=400|40=2|44=23.45|59=4")
-    ≡ Refused 99 (codes "time in force"))
+    ≡ Refused 99 (codes "time in force"))  -- a replace can't be fill or kill
     × (of_request entered_and_accepted (codes "35=G|41=A1|11=B2|38=400|40=2|44=23.45|18=5")
     ≡ Refused 99 (codes "execution instruction"))
     × (of_request entered_and_accepted (codes "35=G|41=A1|11=B2|38=0|40=2|44=23.45") ≡ Refused 99 (codes "quantity"))
@@ -178,15 +189,15 @@ of_requests :
     × (of_named 0 0 9999999999999 (codes "35=G|41=A1|11=B2|38=400|40=2|44=23.45") ≡ Refused 2 (codes "no token left"))
     × (of_named 0 0 9999999999999 (codes "35=F|41=A1|11=B2") ≡ Accepted)  -- a cancel needs none
 unfolding digits price quantity amount amount_of within scaled fraction worth worth_of last_digits
-of_requests = (refl, refl, refl, refl, refl, refl, refl, refl, refl, refl, refl, refl, refl, refl, refl, refl, refl, refl, refl, refl, refl, refl, refl, refl, refl, refl, refl, refl)
+of_requests = (refl, refl, refl, refl, refl, refl, refl, refl, refl, refl, refl, refl, refl, refl, refl, refl, refl, refl, refl, refl, refl, refl, refl, refl, refl, refl, refl, refl, refl, refl, refl, refl)
 
 -- requests on which one row holds and the next one too: the earlier refuses
 first_of_two_on_requests :
     (of_request entered_and_accepted (codes "35=F|41=Q|11=A1") ≡ Refused 6 (codes "duplicate ClOrdID"))
     × (verdict_after order_is_filled Ended (codes "35=F|41=A1|11=B2") ≡ Refused 0 (codes "too late"))
-    × (verdict_after replace_pending (Faulted 3) (codes "35=G|41=A1|11=B2|38=400|40=2|44=23.45")
+    × (verdict_after four_replaces_pending (Faulted 3) (codes "35=G|41=A1|11=B2|38=400|40=2|44=23.45")
     ≡ Refused 2 (codes "port fault 3"))
-    × (of_request replace_pending (codes "35=G|41=A1|11=B2|38=400|40=2|44=23.45|54=2")
+    × (of_request four_replaces_pending (codes "35=G|41=A1|11=B2|38=400|40=2|44=23.45|54=2")
     ≡ Refused 3 (codes "already pending"))
     × (of_request entered_and_accepted (codes "35=G|41=A1|11=B2|38=400|40=1|44=23.45|54=2")
     ≡ Refused 99 (codes "side, symbol or capacity"))

@@ -15,6 +15,6 @@ pub use fix_fields::{Fields, Text};
 pub use fixed_point::{WorthRefusal, parse_worth};
 pub use ouch_codec::{EnterOrder, Inbound, Outbound};
 pub use stage::Stage;
-pub use tokens::Token;
+pub use tokens::{NextTokens, Token};
 pub use trade::Trade;
 pub use wire_law::{is_printable, padded};

@@ -1,5 +1,5 @@
 -- What a payload comes to, and what is given of it.
-use Rattle.std.proofs.Common.{◌≡◌, ℕ, ◌+◌, Bool, List, [], ◌∷◌, map, refl, sym, ap, ◌∙◌, subst, Option, Some, None}
+use Rattle.std.proofs.Common.{◌≡◌, ℕ, ◌+◌, ◌≤◌, Bool, List, [], ◌∷◌, map, refl, sym, ap, ◌∙◌, subst, Option, Some, None}
 use Rattle.std.proofs.Common.{Result, decimal}
 use Rattle.std.specs.Prelude.{if◌then◌else◌}
 use Rattle.fix_types.specs.declared.application.AppBody.{AppBody}
@@ -11,10 +11,12 @@ use Rattle.new_orders.specs.order_law.History.{Entry}
 use Rattle.new_orders.specs.order_law.Life.{is_closed}
 use Rattle.new_orders.specs.order_law.Reading.{is_report}
 use Rattle.new_orders.specs.order_law.Told.{told_of_entry}
+use Rattle.order_machine.specs.fix_fields.Field.{Message}
 use Rattle.order_machine.specs.OrderRecord.{OrderRecord}
 use Rattle.order_machine.specs.Table.{GivenToken, TableState, by_number, has_number, put}
 use Rattle.order_machine.specs.Machine.{GivenByEvent, market_step, silent}
 use Rattle.order_machine.proofs.Executed.{count-more}
+use Rattle.order_machine.proofs.FewReports.{few-reports}
 use Rattle.order_machine.proofs.Lists.{found-passes}
 use Rattle.order_machine.proofs.Texts.{eq-is}
 use Rattle.new_orders.specs.client_requests.orders.Changes.{changed_by}
@@ -39,8 +41,13 @@ silent-meets old port m turn nobody nothing is = record {
 pub silent-changes : (old : TableState) (port : ℕ) (m : Result Outbound DecodeRefusal) (changed : Option ChangedOrder) → changed ≡ None → market_step old port m ≡ silent old → ChangesAny old port m changed
 silent-changes old port m changed nothing is = subst (λ (x : Option ChangedOrder). ChangesAny old port m x) (sym nothing) (ap (λ (g : GivenByEvent). g.state) is)
 
+-- two of the bodies that are told are reports at most
+pub told-few : (s : TableState) (port : ℕ) (m : Result Outbound DecodeRefusal) (order_id client : ℕ) (next : List (List ℕ)) (h : Heard) → OrderIsTold s port m order_id client next h
+    → count_by is_report (map body_fields h.bodies.items) ≤ 2
+told-few s port m order_id client next h told = subst (λ (bodies : List Message). count_by is_report bodies ≤ 2) (ap (λ (g : GivenByEvent). g.bodies) told.gives) (few-reports s port m)
+
 -- where an order is changed, and its client told
-module _ (old : TableState) (port : ℕ) (m : Result Outbound DecodeRefusal) (order_id client : ℕ) (h : Heard) (turn : MarketTurn) (told : OrderIsTold old port m order_id client h) (was held : Held) (same_orders : was.orders ≡ old.orders) (same_tokens : was.tokens ≡ old.tokens) where
+module _ (old : TableState) (port : ℕ) (m : Result Outbound DecodeRefusal) (order_id client : ℕ) (next : List (List ℕ)) (h : Heard) (turn : MarketTurn) (told : OrderIsTold old port m order_id client next h) (was held : Held) (same_orders : was.orders ≡ old.orders) (same_tokens : was.tokens ≡ old.tokens) where
   pub told-meets : ((o : OrderRecord) → by_number old (decimal order_id) ≡ Some o → held ≡ record was { orders = put (changed_by h.change o) was.orders })
       → client_seen turn.client ≡ (told_of_entry told.order.new (map body_fields h.bodies.items)).client → turn.bodies.items ≡ h.bodies.items
       → GivesMarket (market_step old port m) turn (record old { orders = held.orders; tokens = held.tokens; exec_ids = old.exec_ids + count_by is_report (map body_fields h.bodies.items) })
@@ -58,7 +65,7 @@ module _ (old : TableState) (port : ℕ) (m : Result Outbound DecodeRefusal) (or
   -- and it is the one that is changed
   pub told-changes : (closed : Bool)
       → ((o : OrderRecord) → by_number old (decimal order_id) ≡ Some o → closed ≡ is_closed (changed_by h.change o).stage)
-      → ChangesOrder old port m (record { order_id = order_id; is_closed = closed })
+      → ChangesOrder old port m (record { order_id = order_id; is_closed = closed; next = next })
   told-changes closed closes =
       let now = changed_by h.change told.order in
       let same : now.new ≡ told.order.new = change-new h.change told.order in
@@ -71,6 +78,7 @@ module _ (old : TableState) (port : ℕ) (m : Result Outbound DecodeRefusal) (or
         same = same;
         of_order = number;
         closed = sym (closes told.order told.found);
+        next = told.of_replaces;
         orders = ap (λ (g : GivenByEvent). g.state.orders) told.gives;
       }
 

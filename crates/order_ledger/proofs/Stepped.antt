@@ -1,7 +1,7 @@
 -- What comes of a client's message, put into the table, is what the table's step gives.
-use Rattle.std.proofs.Common.{◌≡◌, ℕ, ◌+◌, ◌≤◌, List, [], ◌∷◌, length, map, refl, sym, ap, ◌∙◌, subst, arith, Option}
+use Rattle.std.proofs.Common.{◌≡◌, ℕ, ◌+◌, ◌≤◌, ◌<◌, Bool, true, false, List, [], ◌∷◌, ◌++◌, length, map, refl, sym, ap, ◌∙◌, subst, arith, ltb-false, ltb-true, Option}
 use Rattle.std.proofs.Common.{Some, None, decimal}
-use Rattle.std.specs.Prelude.{Result, Ok, Err, IfOk}
+use Rattle.std.specs.Prelude.{Result, Ok, Err, IfOk, nat_lt}
 use Rattle.fix_types.specs.declared.application.AppBody.{AppBody}
 use Rattle.fix_types.specs.Application.{body_fields}
 use Rattle.to_market.specs.ouch_codec.Inbound.{inbound_bytes}
@@ -118,23 +118,23 @@ entering-meets old sender m turn new order_id bodies told numbered_as o given is
 module _ (old : TableState) (sender : Sender) (m : Message) (turn : ClientTurn) (new : TableState) (order_id : ℕ) (body : AppBody) (told : turn.bodies.items ≡ body ∷ []) (numbered_as : turn.order_id ≡ order_id) where
   module _ (numbered : GoByNumbers old) (was held : Held) (same_orders : was.orders ≡ old.orders) (same_tokens : was.tokens ≡ old.tokens) (state : new ≡ with_table old sender.client m held) where
     pub cancelling-meets : (c : Cancelling) → IsCancelling old sender m order_id c body turn.asks.items
-        → ((o : OrderRecord) → by_number old (decimal order_id) ≡ Some o → held ≡ changed (at o o.replace (Some (cancel_seen o.new.client order_id c))) was)
+        → ((o : OrderRecord) → by_number old (decimal order_id) ≡ Some o → held ≡ changed (at o o.replaces (Some (cancel_seen o.new.client order_id c))) was)
         → MeetsFields old sender.client m (port_seen sender.port) turn new
     cancelling-meets c is is_changed =
         let found : by_number old (decimal order_id) ≡ Some is.order = ap (by_number old) (sym is.of_order) ∙ numbered sender.client _ is.order is.named in
         given-meets old sender.client m (port_seen sender.port) turn new (body ∷ []) is.asked
         (is.gives ∙ ap (λ (s : TableState). tells s sender.client (body_fields body ∷ []) is.asked) (sym (state ∙ ap (with_table old sender.client m) (is_changed is.order found)
-        ∙ with-lists old sender.client m _ (put (at is.order is.order.replace (Some (cancel_seen is.order.new.client order_id c))) old.orders) _ old.tokens (ap (put (at is.order is.order.replace (Some (cancel_seen is.order.new.client order_id c)))) same_orders) same_tokens)))
+        ∙ with-lists old sender.client m _ (put (at is.order is.order.replaces (Some (cancel_seen is.order.new.client order_id c))) old.orders) _ old.tokens (ap (put (at is.order is.order.replaces (Some (cancel_seen is.order.new.client order_id c)))) same_orders) same_tokens)))
         told (subst (λ (k : ℕ). AreOf k is.asked) (sym numbered_as) is.of_asked) is.says
 
     pub replacing-meets : (r : Replacing) (given : GivenToken) → IsReplacing old sender m order_id r given body turn.asks.items
-        → ((o : OrderRecord) → by_number old (decimal order_id) ≡ Some o → held ≡ record was { orders = put (at o (Some (replace_seen o.new.client order_id r)) o.cancel) was.orders; tokens = given ∷ was.tokens })
+        → ((o : OrderRecord) → by_number old (decimal order_id) ≡ Some o → length o.replaces < 4 → held ≡ record was { orders = put (at o (o.replaces ++ replace_seen o.new.client order_id r ∷ []) o.cancel) was.orders; tokens = given ∷ was.tokens })
         → MeetsFields old sender.client m (port_seen sender.port) turn new
     replacing-meets r given is is_changed =
         let found : by_number old (decimal order_id) ≡ Some is.order = ap (by_number old) (sym is.of_order) ∙ numbered sender.client _ is.order is.named in
         given-meets old sender.client m (port_seen sender.port) turn new (body ∷ []) is.asked
-        (is.gives ∙ ap (λ (s : TableState). tells s sender.client (body_fields body ∷ []) is.asked) (sym (state ∙ ap (with_table old sender.client m) (is_changed is.order found)
-        ∙ with-lists old sender.client m _ (put (at is.order (Some (replace_seen is.order.new.client order_id r)) is.order.cancel) old.orders) _ (given ∷ old.tokens) (ap (put (at is.order (Some (replace_seen is.order.new.client order_id r)) is.order.cancel)) same_orders) (ap (λ (ts : List GivenToken). given ∷ ts) same_tokens))))
+        (is.gives ∙ ap (λ (s : TableState). tells s sender.client (body_fields body ∷ []) is.asked) (sym (state ∙ ap (with_table old sender.client m) (is_changed is.order found is.few_pending)
+        ∙ with-lists old sender.client m _ (put (at is.order (is.order.replaces ++ replace_seen is.order.new.client order_id r ∷ []) is.order.cancel) old.orders) _ (given ∷ old.tokens) (ap (put (at is.order (is.order.replaces ++ replace_seen is.order.new.client order_id r ∷ []) is.order.cancel)) same_orders) (ap (λ (ts : List GivenToken). given ∷ ts) same_tokens))))
         told (subst (λ (k : ℕ). AreOf k is.asked) (sym numbered_as) is.of_asked) is.says
 
 -- ---- tokens
@@ -148,11 +148,19 @@ same-tokens h k order_id f accepted unknown = by_order (with_number h order_id) 
     by_order None e = ap (λ (x : Held). length x.tokens) (unknown e)
     by_order (Some o) e = ap (λ (x : Held). length x.tokens) (accepted o e)
 
--- a replace takes one
-pub one_token : (h k : Held) (order_id : ℕ) (given : GivenToken) (f : OrderRecord → OrderRecord) → ((o : OrderRecord) → with_number h order_id ≡ Some o → k ≡ record h { orders = put (f o) h.orders; tokens = given ∷ h.tokens })
-    → (with_number h order_id ≡ None → k ≡ h) → length k.tokens ≤ length h.tokens + 1
-one_token h k order_id given f accepted unknown = by_order (with_number h order_id) refl
+-- a replace takes one, where it is kept
+pub one_token : (h k : Held) (order_id : ℕ) (given : GivenToken) (f : OrderRecord → OrderRecord)
+    → ((o : OrderRecord) → with_number h order_id ≡ Some o → length o.replaces < 4 → k ≡ record h { orders = put (f o) h.orders; tokens = given ∷ h.tokens })
+    → ((o : OrderRecord) → with_number h order_id ≡ Some o → 4 ≤ length o.replaces → k ≡ h) → (with_number h order_id ≡ None → k ≡ h) → length k.tokens ≤ length h.tokens + 1
+one_token h k order_id given f accepted full unknown = by_order (with_number h order_id) refl
   where
+    as_before : k ≡ h → length k.tokens ≤ length h.tokens + 1
+    as_before e = let same : length k.tokens ≡ length h.tokens = ap (λ (x : Held). length x.tokens) e in omega (arith, same)
+
+    by_count : (o : OrderRecord) → with_number h order_id ≡ Some o → (b : Bool) → nat_lt (length o.replaces) 4 ≡ b → length k.tokens ≤ length h.tokens + 1
+    by_count o e true few = let more : length k.tokens ≡ length (given ∷ h.tokens) = ap (λ (x : Held). length x.tokens) (accepted o e (ltb-true (length o.replaces) 4 few)) in omega (arith, more)
+    by_count o e false many = as_before (full o e (ltb-false (length o.replaces) 4 many))
+
     by_order : (x : Option OrderRecord) → with_number h order_id ≡ x → length k.tokens ≤ length h.tokens + 1
-    by_order None e = let same : length k.tokens ≡ length h.tokens = ap (λ (x : Held). length x.tokens) (unknown e) in omega (arith, same)
-    by_order (Some o) e = let more : length k.tokens ≡ length (given ∷ h.tokens) = ap (λ (x : Held). length x.tokens) (accepted o e) in omega (arith, more)
+    by_order None e = as_before (unknown e)
+    by_order (Some o) e = by_count o e (nat_lt (length o.replaces) 4) refl

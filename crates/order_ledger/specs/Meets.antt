@@ -10,7 +10,7 @@ use Rattle.new_orders.specs.order_law.Headline.{Each, EachWith, Says}
 use Rattle.new_orders.specs.order_law.Life.{is_closed}
 use Rattle.order_machine.specs.fix_fields.Field.{Message}
 use Rattle.new_orders.specs.order_law.Verdicts.{Port}
-use Rattle.order_machine.specs.OrderRecord.{OrderRecord}
+use Rattle.order_machine.specs.OrderRecord.{OrderRecord, replacements}
 use Rattle.order_machine.specs.Table.{TableState, record_by_id, by_number, put}
 use Rattle.order_machine.specs.Machine.{GivenByEvent, client_step, faulty, market_step}
 use Rattle.order_machine.specs.Runs.{Finds}
@@ -64,7 +64,7 @@ MeetsMarket old g (Err NoMemory) new = Unit {0}
 MeetsMarket old g (Err (Faulty fault)) new = g ≡ faulty old (market_fault_number fault)
 
 -- The order that the message is on is changed, and no other: it keeps its OrderID and its client, and is closed then
--- or isn't.
+-- or isn't. Replaces by these tokens were pending on it.
 pub record ChangesOrder (s : TableState) (port : ℕ) (heard : Result Outbound DecodeRefusal)
     (c : ChangedOrder) : Type 0 where
   pub order : OrderRecord
@@ -73,6 +73,7 @@ pub record ChangesOrder (s : TableState) (port : ℕ) (heard : Result Outbound D
   pub same : now.new ≡ order.new
   pub of_order : now.new.order ≡ decimal c.order_id
   pub closed : is_closed now.stage ≡ c.is_closed
+  pub next : c.next ≡ replacements order.replaces
   pub orders : (market_step s port heard).state.orders ≡ put now s.orders
 
 -- a payload changes this order, or nothing

@@ -171,7 +171,7 @@ impl<S: BuildHasher + Drop> OrderLedger<S> {
         requires room { HasRoom self.old.now }
         ensures meets { IfOk result (λ turn. MeetsMessage self.old.now client message.now (port_seen port) turn
             self.new.now) }
-        ensures few { IfOk result (λ turn. length turn.asks.items ≤ 2) }
+        ensures few { IfOk result (λ turn. length turn.asks.items ≤ 5) }
         ensures keeps { Keeps self.old.now self.new.now }
         ensures settled { self.new.settled ≡ self.old.settled }
         ensures err { OnErr result (self.new ≡ self.old) }

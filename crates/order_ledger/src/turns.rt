@@ -3,6 +3,7 @@
 ghost use Rattle.std.specs.Prelude.{◌≡◌, [], None};
 
 use fix_types::AppBody;
+use order_machine::NextTokens;
 use std::alloc::Global;
 use to_market::Inbound;
 
@@ -13,17 +14,19 @@ pub struct ClientTurn {
     pub bodies: Vec<AppBody>,
     /// OrderID (37) of the order that the port is asked of; 0 where it is asked nothing.
     pub order_id: u64,
-    /// What its port is asked, two messages at most: to be sent at once, or as soon as the port is up.
+    /// What its port is asked, five messages at most: to be sent at once, or as soon as the port is up.
     pub asks: Vec<Inbound>,
 }
 
 /// An order that a payload of the market changed.
-#[derive(Clone, Copy)]
+#[derive(Drop)]
 pub struct ChangedOrder {
     /// OrderID (37).
     pub order_id: u64,
     /// It is closed now.
     pub is_closed: bool,
+    /// The tokens of the replaces that were pending before it, the oldest one's first.
+    pub next: NextTokens,
 }
 
 /// What a payload of the market gives: bodies for one client at most, in order.

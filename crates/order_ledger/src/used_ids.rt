@@ -1,7 +1,7 @@
 //! The ids that clients have used.
 
 ghost use Rattle.std.specs.Prelude.{◌≡◌, ◌≤◌, ◌<◌, ◌^◌, ◌++◌, ◌∷◌, [], length, OnOk};
-ghost use Rattle.hint_index.specs.TextKeys.{same_key, text_key};
+ghost use Rattle.hint_index.specs.TextKeys.{same_key};
 ghost use Rattle.order_machine.specs.Table as table;
 ghost use Rattle.order_ledger.specs.UsedKeys.{has_used_key};
 ghost use Rattle.order_ledger.specs.UsedKeyLaws.{used-alike};

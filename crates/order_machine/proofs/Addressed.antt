@@ -1,7 +1,7 @@
 -- Each body that a message of the market leads to is on its order, enters none and gives no token.
 use Rattle.std.proofs.Common.{◌≡◌, ℕ, ◌+◌, Bool, true, false, List, [], ◌∷◌, ◌++◌, map, reverse, refl, ap, ◌∙◌, codes}
 use Rattle.std.proofs.Common.{bytes_eq, Option, Some, None}
-use Rattle.std.specs.Prelude.{◌&&◌, ◌||◌, ◌==◌, not, if◌then◌else◌, filter, unwrap_or}
+use Rattle.std.specs.Prelude.{◌&&◌, ◌||◌, if◌then◌else◌, filter, unwrap_or}
 use Rattle.std.specs.List.{find}
 use Rattle.std.proofs.Common.{append_assoc}
 use Rattle.std.proofs.lemmas.List.{reverse-append}
@@ -13,6 +13,7 @@ use Rattle.fix_fields.specs.Field.{Message, is, text}
 use Rattle.order_law.specs.Life.{Life, after, is_closed, is_dead, is_live, is_waiting}
 use Rattle.order_law.specs.Reading.{Fill, is_report}
 use Rattle.order_law.specs.Chain.{is_used, orders}
+use Rattle.order_law.specs.Verdicts.{is_replace}
 use Rattle.order_law.specs.History.{Entry}
 use Rattle.order_law.specs.Told as told
 use Rattle.order_law.specs.Told.{Occasion, Shown, report, told_by}
@@ -67,6 +68,11 @@ if-on : (order : List ℕ) (b : Bool) (xs ys : List Message) → Each (IsOn orde
 if-on order true xs ys x y = x
 if-on order false xs ys x y = y
 
+-- replaces that aren't done, one behind another
+not_replaced-on : (why : List ℕ) (s : Shown) (qs : List Entry) → Each (IsOn s.order) (told.each_not_replaced why s qs)
+not_replaced-on why s [] = tt
+not_replaced-on why s (q ∷ qs) = if-on s.order (is_replace q.message) _ [] (reject-on (record s { pending = qs }) q 2 why, not_replaced-on (codes "earlier replace rejected") s qs) tt
+
 append-on : (order : List ℕ) (xs ys : List Message) → Each (IsOn order) xs → Each (IsOn order) ys → Each (IsOn order) (xs ++ ys)
 append-on order [] ys x y = y
 append-on order (r ∷ xs) ys x y = (x.0, append-on order xs ys x.1 y)
@@ -90,7 +96,7 @@ told-on reports (market.Broken m) l is_last fills s = (report-on (reports + 1) (
 told-on reports (market.Rejected m) l is_last fills s =
     if-on s.order (is_waiting l.stage && is_live l m.token) _ _
     (report-on (reports + 1) (record (told.plain (codes "8")) { code = Some (codes "99"); why = Some (m.reason ∷ []) }) (record (told.closed s) { is_refused = true }) refl, too_late-on (record (told.closed s) { is_refused = true }) s.pending)
-    (append-on s.order _ _ (rejects-on (told.without_replace m.token s) 2 (m.reason ∷ []) (filter (told.asked_token m.token) s.pending)) (cancel_rejected-on is_last (told.without_replace m.token s)))
+    (append-on s.order _ _ (not_replaced-on (m.reason ∷ []) s s.pending) (cancel_rejected-on is_last (told.without_replaces s)))
 told-on reports (market.CancelReject m) l is_last fills s = cancel_rejected-on is_last s
 told-on reports (market.CancelPending m) l is_last fills s = tt
 told-on reports (market.SystemEvent m) l is_last fills s = tt

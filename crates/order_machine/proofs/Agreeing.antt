@@ -2,21 +2,24 @@
 use Rattle.std.proofs.Common.{◌≡◌, ◌≢◌, ℕ, Bool, true, false, List, [], ◌∷◌, ◌++◌, map, refl, sym, ap, ◌∙◌, bytes_eq}
 use Rattle.std.proofs.Common.{Option, Some, None}
 use Rattle.std.specs.Prelude.{◌&&◌, not, if◌then◌else◌, filter}
-use Rattle.std.specs.List.{filter_map}
 use Rattle.order_law.specs.ouch_codec.declared.outbound.Outbound.{Outbound}
 use Rattle.order_law.specs.declared.stage.Stage.{Stage}
 use Rattle.order_law.specs.declared.stage.Stage.TheVariants.{Waiting, Working, Closed}
 use Rattle.fix_fields.specs.Field.{Message, text}
 use Rattle.order_law.specs.Reading.{Reading, reading}
 use Rattle.order_law.specs.Life.{Life}
-use Rattle.order_law.specs.Chain.{Chain, Request, chain}
-use Rattle.order_law.specs.History.{Asked, Entry, Said, Terms, is_cancel_said, is_replace_said, life_of, pending_tokens}
-use Rattle.order_law.specs.Headline.{Agree, PendingIsOutstanding, asked_of, cancels, each_once, ids_asked}
-use Rattle.order_law.specs.Headline.{replacement_of, replaces}
-use Rattle.order_machine.specs.OrderRecord.{Cancelling, OrderRecord, asked_as, cancel_asked, asked_cancel, chained}
-use Rattle.order_machine.specs.OrderRecord.{live_token, record_life, new_asked, read, replace_asked, replacements}
+use Rattle.order_law.specs.Chain.{Chain, Request, cancels, chain, replaces}
+use Rattle.order_law.specs.History.{Asked, Entry, Said, SaysNew, Terms, asked_of, is_cancel_said, is_replace_said}
+use Rattle.order_law.specs.History.{life_of, pending_tokens, token_of}
+use Rattle.order_law.specs.Verdicts.{is_replace}
+use Rattle.order_law.specs.Headline.{Agree, Each, PendingIsOutstanding, each_once, ids_asked}
+use Rattle.order_machine.specs.OrderRecord.{Cancelling, OrderRecord, asked_as, asked_cancel, asked_replace, cancel_asked}
+use Rattle.order_machine.specs.OrderRecord.{cancel_entry, live_token, record_life, new_asked, read, replaces_asked}
+use Rattle.order_machine.specs.OrderRecord.{request_of}
 use Rattle.order_machine.proofs.Texts.{eq-same}
-use Rattle.order_machine.proofs.Fits.{Fits, life-of, own, tokens-are}
+use Rattle.order_machine.proofs.Fits.{Fits, life-of, next-is, own, tokens-are}
+use Rattle.order_machine.proofs.AskedReplaces.{append-nothing}
+use Rattle.std.proofs.lemmas.List.Elements.{filter-append}
 
 pub agree-of : (x : Reading) (l : Life) (o : OrderRecord) → x ≡ read o → l ≡ record_life o → Agree x l
 agree-of x l o e f = record {
@@ -57,69 +60,75 @@ one-id new q (token ∷ other ∷ tokens) some =
     let same = eq-same (text 11 q.message) in
     ap (λ ids. text 11 q.message ∷ filter (λ other. not (bytes_eq (text 11 q.message) other)) ids) rest ∙ rw same refl
 
-replaces-of : (terms : List Terms) (o : OrderRecord) → of_kind is_replace_said (asked_as terms o) ≡ replace_asked o.new (live_token o) o.replace
-replaces-of terms o = by_parts o.stage o.replace o.cancel
-  where
-    by_parts : (s : Stage) (r : Option Entry) (c : Option Cancelling) → of_kind is_replace_said (new_asked terms o.new s ++ (replace_asked o.new (live_token o) r ++ cancel_asked o.new c)) ≡ replace_asked o.new (live_token o) r
-    by_parts Waiting None None = refl
-    by_parts Waiting None (Some c) = no-replaces o.new c.request c.tokens
-    by_parts Waiting (Some q) None = refl
-    by_parts Waiting (Some q) (Some c) = rw (no-replaces o.new c.request c.tokens) refl
-    by_parts Working None None = refl
-    by_parts Working None (Some c) = no-replaces o.new c.request c.tokens
-    by_parts Working (Some q) None = refl
-    by_parts Working (Some q) (Some c) = rw (no-replaces o.new c.request c.tokens) refl
-    by_parts Closed None None = refl
-    by_parts Closed None (Some c) = no-replaces o.new c.request c.tokens
-    by_parts Closed (Some q) None = refl
-    by_parts Closed (Some q) (Some c) = rw (no-replaces o.new c.request c.tokens) refl
+-- in its parts
+by-parts : (kind : Said → Bool) (terms : List Terms) (o : OrderRecord) → of_kind kind (asked_as terms o) ≡ of_kind kind (new_asked terms o.new o.stage) ++ (of_kind kind (replaces_asked o.new (live_token o) o.replaces) ++ of_kind kind (cancel_asked o.new o.cancel))
+by-parts kind terms o =
+    filter-append (λ (a : Asked). kind a.said) (new_asked terms o.new o.stage) (replaces_asked o.new (live_token o) o.replaces ++ cancel_asked o.new o.cancel)
+    ∙ ap (λ (xs : List Asked). of_kind kind (new_asked terms o.new o.stage) ++ xs) (filter-append (λ (a : Asked). kind a.said) (replaces_asked o.new (live_token o) o.replaces) (cancel_asked o.new o.cancel))
+
+of-new : (kind : Said → Bool) → ((token : List ℕ) → kind (SaysNew token) ≡ false) → (terms : List Terms) (new : Entry) (s : Stage) → of_kind kind (new_asked terms new s) ≡ []
+of-new kind none terms new Waiting = rw (none (token_of new)) refl
+of-new kind none terms new Working = refl
+of-new kind none terms new Closed = refl
+
+each-replace : (new : Entry) (from : List ℕ) (qs : List Entry) → of_kind is_replace_said (replaces_asked new from qs) ≡ replaces_asked new from qs
+each-replace new from [] = refl
+each-replace new from (q ∷ qs) = ap (λ (xs : List Asked). asked_replace new from q ∷ xs) (each-replace new (token_of q) qs)
+
+no-cancels : (new : Entry) (from : List ℕ) (qs : List Entry) → of_kind is_cancel_said (replaces_asked new from qs) ≡ []
+no-cancels new from [] = refl
+no-cancels new from (q ∷ qs) = no-cancels new (token_of q) qs
+
+no-replaces-cancelling : (new : Entry) (c : Option Cancelling) → of_kind is_replace_said (cancel_asked new c) ≡ []
+no-replaces-cancelling new None = refl
+no-replaces-cancelling new (Some c) = no-replaces new c.request c.tokens
+
+all-cancelling : (new : Entry) (c : Option Cancelling) → of_kind is_cancel_said (cancel_asked new c) ≡ cancel_asked new c
+all-cancelling new None = refl
+all-cancelling new (Some c) = all-cancels new c.request c.tokens
+
+replaces-of : (terms : List Terms) (o : OrderRecord) → of_kind is_replace_said (asked_as terms o) ≡ replaces_asked o.new (live_token o) o.replaces
+replaces-of terms o =
+    by-parts is_replace_said terms o
+    ∙ rw (of-new is_replace_said (λ token. refl) terms o.new o.stage, each-replace o.new (live_token o) o.replaces, no-replaces-cancelling o.new o.cancel) (append-nothing (replaces_asked o.new (live_token o) o.replaces))
 
 cancels-of : (terms : List Terms) (o : OrderRecord) → of_kind is_cancel_said (asked_as terms o) ≡ cancel_asked o.new o.cancel
-cancels-of terms o = by_parts o.stage o.replace o.cancel
-  where
-    by_parts : (s : Stage) (r : Option Entry) (c : Option Cancelling) → of_kind is_cancel_said (new_asked terms o.new s ++ (replace_asked o.new (live_token o) r ++ cancel_asked o.new c)) ≡ cancel_asked o.new c
-    by_parts Waiting None None = refl
-    by_parts Waiting None (Some c) = all-cancels o.new c.request c.tokens
-    by_parts Waiting (Some q) None = refl
-    by_parts Waiting (Some q) (Some c) = all-cancels o.new c.request c.tokens
-    by_parts Working None None = refl
-    by_parts Working None (Some c) = all-cancels o.new c.request c.tokens
-    by_parts Working (Some q) None = refl
-    by_parts Working (Some q) (Some c) = all-cancels o.new c.request c.tokens
-    by_parts Closed None None = refl
-    by_parts Closed None (Some c) = all-cancels o.new c.request c.tokens
-    by_parts Closed (Some q) None = refl
-    by_parts Closed (Some q) (Some c) = all-cancels o.new c.request c.tokens
+cancels-of terms o =
+    by-parts is_cancel_said terms o
+    ∙ rw (of-new is_cancel_said (λ token. refl) terms o.new o.stage, no-cancels o.new (live_token o) o.replaces, all-cancelling o.new o.cancel) refl
+
+-- ---- the ids of pending requests
+
+abbrev NoReplace : Option Cancelling → Type 0
+NoReplace c = (x : Cancelling) → c ≡ Some x → is_replace x.request.message ≡ false
+
+ids-replaced : (new : Entry) (from id : List ℕ) (rs : List Entry) (c : Option Cancelling) → Each (λ (q : Entry). is_replace q.message ≡ true) rs → NoReplace c
+    → map (λ (q : Request). q.id) (replaces (record { current = id; pending = map request_of (rs ++ cancel_entry c) })) ≡ ids_asked (replaces_asked new from rs)
+ids-replaced new from id [] None are none = refl
+ids-replaced new from id [] (Some c) are none = rw (none c refl) refl
+ids-replaced new from id (q ∷ rs) c are none = rw are.0 (ap (λ (ids : List (List ℕ)). text 11 q.message ∷ ids) (ids-replaced new (token_of q) id rs c are.1 none))
+
+ids-cancelled : (new : Entry) (id : List ℕ) (rs : List Entry) (c : Option Cancelling) → Each (λ (q : Entry). is_replace q.message ≡ true) rs → NoReplace c → ((x : Cancelling) → c ≡ Some x → x.tokens ≢ [])
+    → map (λ (q : Request). q.id) (cancels (record { current = id; pending = map request_of (rs ++ cancel_entry c) })) ≡ each_once (ids_asked (cancel_asked new c))
+ids-cancelled new id [] None are none left = refl
+ids-cancelled new id [] (Some c) are none left =
+    let own : map (λ (q : Request). q.id) (cancels (record { current = id; pending = map request_of (c.request ∷ []) })) ≡ text 11 c.request.message ∷ [] = rw (none c refl) refl in
+    own ∙ sym (one-id new c.request c.tokens (left c refl))
+ids-cancelled new id (q ∷ rs) c are none left = rw are.0 (ids-cancelled new id rs c are.1 none left)
 
 module _ (terms : List Terms) (entries : List Entry) (numbered : ℕ) (sent : List Message) (messages : List Outbound) (asked : List Asked) (reports limit : ℕ) (o : OrderRecord)
     (f : Fits terms entries numbered sent messages asked reports limit o) where
-  asked-replaces : asked_of is_replace_said o.new.order asked ≡ replace_asked o.new (live_token o) o.replace
+  asked-replaces : asked_of is_replace_said o.new.order asked ≡ replaces_asked o.new (live_token o) o.replaces
   asked-replaces = filter-both is_replace_said o.new.order asked ∙ ap (of_kind is_replace_said) f.asked_so ∙ replaces-of terms o
 
   asked-cancels : asked_of is_cancel_said o.new.order asked ≡ cancel_asked o.new o.cancel
   asked-cancels = filter-both is_cancel_said o.new.order asked ∙ ap (of_kind is_cancel_said) f.asked_so ∙ cancels-of terms o
 
-  ids-replaced : (r : Option Entry) (c : Option Cancelling) → map (λ (q : Request). q.id) (replaces (chained (record o { replace = r; cancel = c }))) ≡ ids_asked (replace_asked o.new (live_token o) r)
-  ids-replaced None None = refl
-  ids-replaced None (Some c) = refl
-  ids-replaced (Some q) None = refl
-  ids-replaced (Some q) (Some c) = refl
-
-  ids-cancelled : (r : Option Entry) (c : Option Cancelling) → ((x : Cancelling) → c ≡ Some x → x.tokens ≢ []) → map (λ (q : Request). q.id) (cancels (chained (record o { replace = r; cancel = c }))) ≡ each_once (ids_asked (cancel_asked o.new c))
-  ids-cancelled None None left = refl
-  ids-cancelled None (Some c) left = sym (one-id o.new c.request c.tokens (left c refl))
-  ids-cancelled (Some q) None left = refl
-  ids-cancelled (Some q) (Some c) left = sym (one-id o.new c.request c.tokens (left c refl))
-
-  tokens-asked : (r : Option Entry) → replacements r ≡ filter_map (λ (a : Asked). replacement_of a.said) (replace_asked o.new (live_token o) r)
-  tokens-asked None = refl
-  tokens-asked (Some q) = refl
-
   pub pending-of : PendingIsOutstanding o.new.order (chain o.new.order sent) (pending_tokens o.new.client (chain o.new.order sent) entries) asked
   pending-of = record {
-    replaces = rw (f.reads.chained_so, asked-replaces) (ids-replaced o.replace o.cancel);
-    tokens = ap (λ (x : Chain). pending_tokens o.new.client x entries) f.reads.chained_so ∙ tokens-are terms entries numbered sent messages asked reports limit o f ∙ tokens-asked o.replace ∙ ap (λ (xs : List Asked). filter_map (λ (a : Asked). replacement_of a.said) xs) (sym asked-replaces);
-    cancels = rw (f.reads.chained_so, asked-cancels) (ids-cancelled o.replace o.cancel f.keeps.left);
+    replaces = rw (f.reads.chained_so, asked-replaces) (ids-replaced o.new (live_token o) o.id o.replaces o.cancel f.keeps.sound.replaces f.keeps.sound.cancels);
+    tokens = ap (λ (x : Chain). pending_tokens o.new.client x entries) f.reads.chained_so ∙ tokens-are terms entries numbered sent messages asked reports limit o f ∙ sym (next-is terms entries numbered sent messages asked reports limit o f);
+    cancels = rw (f.reads.chained_so, asked-cancels) (ids-cancelled o.new o.id o.replaces o.cancel f.keeps.sound.replaces f.keeps.sound.cancels f.keeps.left);
   }
 
   pub agree-so : Agree (reading o.new.order sent) (life_of o.new.order entries messages)

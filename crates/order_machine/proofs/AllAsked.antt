@@ -1,7 +1,6 @@
 -- Each run leaves, on each port, what the law says is outstanding: turn by turn, from no order on.
 use Rattle.std.proofs.Common.{◌≡◌, ℕ, ◌<◌, ◌^◌, List, [], ◌∷◌, ◌++◌, length, refl, sym, ◌∙◌, subst, arith, None, Result}
 use Rattle.order_law.specs.ouch_codec.declared.outbound.Outbound.{Outbound}
-use Rattle.order_law.specs.ouch_codec.declared.outbound.Outbound.TheVariants as market
 use Rattle.order_law.specs.ouch_codec.declared.refusal.DecodeRefusal.{DecodeRefusal}
 use Rattle.fix_fields.specs.Field.{Message}
 use Rattle.order_law.specs.Verdicts.{Port}

@@ -1,40 +1,37 @@
 -- A payload of the market keeps the table as the lists have it.
-use Rattle.std.proofs.Common.{◌≡◌, ◌≢◌, ℕ, ◌+◌, ◌*◌, ◌<◌, ◌≤◌, ◌^◌, Bool, true, false, List, [], ◌∷◌, ◌++◌, length}
+use Rattle.std.proofs.Common.{◌≡◌, ℕ, ◌+◌, ◌<◌, ◌≤◌, ◌^◌, Bool, true, false, List, [], ◌∷◌, ◌++◌, length}
 use Rattle.std.proofs.Common.{map, reverse, refl, sym, ap, ◌∙◌, subst, arith, bytes_eq, Option, Some, None, Result, Ok}
 use Rattle.std.proofs.Common.{Err, eqb-true, eq-eqb}
-use Rattle.std.specs.Prelude.{◌&&◌, ◌||◌, ◌==◌, not, if◌then◌else◌, is_some, option_and_then, option_map}
-use Rattle.std.specs.Prelude.{option_to_list}
-use Rattle.std.specs.List.{count_by, find}
+use Rattle.std.specs.Prelude.{◌==◌, if◌then◌else◌, option_and_then, option_map}
+use Rattle.std.specs.List.{count_by}
 use Rattle.order_law.specs.ouch_codec.declared.outbound.Outbound.{Outbound}
 use Rattle.order_law.specs.ouch_codec.declared.refusal.DecodeRefusal.{DecodeRefusal}
 use Rattle.fix_fields.specs.Field.{Message, text}
 use Rattle.order_law.specs.Reading.{is_report}
 use Rattle.order_law.specs.Chain.{is_used}
-use Rattle.order_law.specs.History.{Entry, Heard, OrderHistory, Terms, OrderTurn, accepted, handled, issued, new_of}
-use Rattle.order_law.specs.History.{orders_numbered, outstanding}
+use Rattle.order_law.specs.History.{Entry, Heard, OrderHistory, Terms, OrderTurn, accepted, issued, new_of}
 use Rattle.order_law.specs.Lawful.{judgement, order_of_token, order_token}
 use Rattle.order_law.specs.Told as law
 use Rattle.order_law.specs.Told.{Shown, Told, nobody, reports_in, told_of_entry, told_by}
 use Rattle.order_law.specs.Headline.{Each}
 use Rattle.order_machine.specs.OrderRecord.{Cancelling, OrderRecord, after_message, asked_as, cancel_entry, fill_of}
-use Rattle.order_machine.specs.OrderRecord.{last_of, record_life, pending, shown_as}
+use Rattle.order_machine.specs.OrderRecord.{last_of, record_life, replacements, shown_as}
 use Rattle.order_machine.specs.Told.{IsTold}
-use Rattle.order_machine.specs.Table.{GivenToken, TableState, by_number, record_by_token, has_number, has_used}
-use Rattle.order_machine.specs.Table.{is_token, put}
+use Rattle.order_machine.specs.Table.{TableState, record_by_token, has_used}
+use Rattle.order_machine.specs.Table.{put}
 use Rattle.order_machine.specs.Machine.{GivenByEvent, bodies_of, payload_fault, faulty, heard_on, market_step}
 use Rattle.order_machine.specs.Machine.{order_in, silent}
-use Rattle.order_machine.proofs.Texts.{eq-is}
-use Rattle.order_machine.proofs.Lists.{Each-map, found-passes}
+use Rattle.order_machine.proofs.Lists.{Each-append, Each-map}
 use Rattle.order_machine.proofs.Asked.{last-is}
-use Rattle.order_machine.proofs.Leads.{onto, same_some}
+use Rattle.order_machine.proofs.Leads.{same_some}
 use Rattle.order_machine.proofs.Moves.{answers_last}
 use Rattle.order_machine.proofs.Fits.{IsUsed}
-use Rattle.order_machine.proofs.Holds.{FitsIn, Holds, Still, StillBeside, news, port_of}
+use Rattle.order_machine.proofs.Holds.{FitsIn, Still, StillBeside, port_of}
 use Rattle.order_machine.proofs.Hearing.{fault-Holds, heard_turn, numbered-heard, tokenless-Holds}
 use Rattle.order_machine.proofs.Judged.{IsLawful, lawful}
 use Rattle.order_machine.proofs.Lawfully as lawfully
-use Rattle.order_machine.proofs.Truth.{Next, turn-next}
-use Rattle.order_machine.proofs.Linked.{IsTable, fault-same, token-fits, token-leads, token-on, token-port}
+use Rattle.order_machine.proofs.Truth.{turn-next}
+use Rattle.order_machine.proofs.Linked.{IsTable, fault-same, token-fits, token-leads, token-port}
 use Rattle.order_machine.proofs.Placed.{Each-put, entries-put, entries_of}
 use Rattle.order_machine.proofs.Ids.{OfShown, told-few, told-ids, used-onto}
 
@@ -145,8 +142,8 @@ module _ (terms : List Terms) (before : OrderHistory) (s : TableState) (t : IsTa
 
   bodies-same : B ≡ bodies_of s m o
   bodies-same =
-      ap (λ (n : ℕ). told_by n m (record_life o) (answers_last m (asked_as terms o)) (map fill_of o.trades) (shown_as o)) (sym t.exec_ids)
-      ∙ ap (λ (b : Bool). told_by s.exec_ids m (record_life o) b (map fill_of o.trades) (shown_as o)) (last-is terms m o f.keeps.left)
+      ap (λ (n : ℕ). told_by n m (record_life o) (answers_last m (replacements o.replaces) (asked_as terms o)) (map fill_of o.trades) (shown_as o)) (sym t.exec_ids)
+      ∙ ap (λ (b : Bool). told_by s.exec_ids m (record_life o) b (map fill_of o.trades) (shown_as o)) (last-is terms m (replacements o.replaces) o f.keeps.left)
 
   abbrev said : Told
   said = record { client = (told_of_entry o.new (bodies_of s m o)).client; bodies = bodies_of s m o }
@@ -184,13 +181,14 @@ module _ (terms : List Terms) (before : OrderHistory) (s : TableState) (t : IsTa
   Known = IsUsed (issued o.new.client before)
 
   shown-known : OfShown Known (shown_as o)
-  shown-known = (f.holds.id, requests o.replace o.cancel refl refl)
+  shown-known = (f.holds.id, Each-append IsKnown o.replaces (cancel_entry o.cancel) (Each-map _ IsKnown o.replaces (λ q h. h.2) f.holds.replaces) (of-cancel o.cancel (λ c e. (f.holds.cancel c e).2)))
     where
-      requests : (r : Option Entry) (c : Option Cancelling) → o.replace ≡ r → o.cancel ≡ c → Each (λ (q : Entry). Known (text 11 q.message)) (option_to_list r ++ cancel_entry c)
-      requests None None is_r is_c = tt
-      requests None (Some c) is_r is_c = ((f.holds.cancel c is_c).2, tt)
-      requests (Some q) None is_r is_c = ((f.holds.replace q is_r).2, tt)
-      requests (Some q) (Some c) is_r is_c = ((f.holds.replace q is_r).2, ((f.holds.cancel c is_c).2, tt))
+      IsKnown : Entry → Type 0
+      IsKnown q = Known (text 11 q.message)
+
+      of-cancel : (c : Option Cancelling) → ((x : Cancelling) → c ≡ Some x → Known (text 11 x.request.message)) → Each (λ (q : Entry). Known (text 11 q.message)) (cancel_entry c)
+      of-cancel None known = tt
+      of-cancel (Some c) known = (known c refl, tt)
 
   used-now : (c : ℕ) (id : List ℕ) → has_used s.used c id ≡ is_used id (issued c (After said))
   used-now c id = t.used c id ∙ subst (λ (x : Told). is_used id (issued c before) ≡ is_used id (issued c (After x))) tells-it (by_client (o.new.client == c) refl)
@@ -200,7 +198,7 @@ module _ (terms : List Terms) (before : OrderHistory) (s : TableState) (t : IsTa
           let same : o.new.client ≡ c = eqb-true o.new.client c e in
           subst (λ (d : ℕ). is_used id (issued d before) ≡ is_used id (issued d (After what))) same
           (sym (ap (is_used id) (lawfully.issued-mine terms before port m token what.client what.bodies sends t.held has is_judged refl short few_reports l o f own_port same_new)
-          ∙ used-onto id B (issued o.new.client before) (told-ids Known (reports_in before) m (record_life o) (answers_last m (asked_as terms o)) (map fill_of o.trades) (shown_as o) shown-known)))
+          ∙ used-onto id B (issued o.new.client before) (told-ids Known (reports_in before) m (record_life o) (answers_last m (replacements o.replaces) (asked_as terms o)) (map fill_of o.trades) (shown_as o) shown-known)))
       by_client false e = ap (is_used id) (sym (lawfully.issued-other terms before port m token what.client what.bodies sends t.held has is_judged refl short few_reports l o f own_port same_new c
           (λ same. (let on : (o.new.client == c) ≡ true = eq-eqb o.new.client c same in let x : true ≡ false = sym on ∙ e in cc))))
 
@@ -208,7 +206,7 @@ module _ (terms : List Terms) (before : OrderHistory) (s : TableState) (t : IsTa
   told-then = (record { tells = tells-it; fault = sym is_judged }, t.is_told)
 
   few_bodies : count_by is_report (bodies_of s m o) ≤ 2
-  few_bodies = told-few s.exec_ids m (record_life o) (last_of m o.cancel) (map fill_of o.trades) (shown_as o)
+  few_bodies = told-few s.exec_ids m (record_life o) (last_of m (replacements o.replaces) o.cancel) (map fill_of o.trades) (shown_as o)
 
   heard-Table : IsTable terms (After said) (record s { orders = put p s.orders; exec_ids = s.exec_ids + count_by is_report (bodies_of s m o) })
   heard-Table = record {

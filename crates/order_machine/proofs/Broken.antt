@@ -3,7 +3,6 @@ use Rattle.std.proofs.Common.{◌≡◌, ℕ, ◌+◌, ◌-◌, ◌<◌, ◌≤�
 use Rattle.std.proofs.Common.{◌∙◌, subst, arith, decimal, bytes_eq, Some, eqb-true}
 use Rattle.std.specs.Prelude.{◌&&◌, ◌||◌, ◌==◌, not}
 use Rattle.std.specs.List.{find, list_any}
-use Rattle.order_law.specs.ouch_codec.declared.outbound.Outbound.{Outbound}
 use Rattle.order_law.specs.ouch_codec.declared.outbound.Outbound.TheVariants as market
 use Rattle.order_law.specs.ouch_codec.declared.outbound.broken.Broken.{Broken}
 use Rattle.order_law.specs.declared.stage.Stage.{Stage}
@@ -17,7 +16,7 @@ use Rattle.order_law.specs.History.{Entry, Said, SaysCancel, SaysNew, SaysReplac
 use Rattle.order_law.specs.Told.{Shown, exec_id_of, priced, report, told_by}
 use Rattle.order_law.specs.Headline.{has_due_ids}
 use Rattle.order_machine.specs.OrderRecord.{stands_told, OrderRecord, ToldTrade, asked_as, with_trade_broken, chained}
-use Rattle.order_machine.specs.OrderRecord.{fill_of, record_life, mark, shown_as}
+use Rattle.order_machine.specs.OrderRecord.{fill_of, pending, record_life, replacements, mark, shown_as}
 use Rattle.order_machine.proofs.Texts.{and-parts, eq-decimal_other, eq-same}
 use Rattle.order_machine.proofs.Due.{Reads}
 use Rattle.order_machine.proofs.Reports.{broken-Reads, broken_occasion, report-tells}
@@ -91,7 +90,7 @@ shown-broken t o Closed e off none = let left = none e in rw (e, left) refl
 module _ (P : List ℕ → Type 0) (Q : Entry → Type 0) (R : List ℕ → Type 0) (terms : List Terms) (old_id : List ℕ → List ℕ) (sent : List Message) (reports limit more : ℕ) (m : Broken) (o : OrderRecord)
     (own : is_of (record_life o) m.token ≡ true) (stands : list_any (stands_as m.match_number) (record_life o).trades ≡ true)
     (reports_small : reports < 10 ^ 64) (limit_small : limit < 10 ^ 63)
-    (keeps : Keeps reports limit o) (named : AreNamed old_id o) (reads : Reads sent o) where
+    (keeps : Keeps reports limit o) (named : AreNamed old_id (pending o)) (reads : Reads sent o) where
   pub found : Stands m.match_number reports o.trades
   found = stands-in m.match_number reports o.trades reports_small keeps.numbered stands
 
@@ -119,7 +118,7 @@ module _ (P : List ℕ → Type 0) (Q : Entry → Type 0) (R : List ℕ → Type
   abbrev pub p : OrderRecord
   p = with_trade_broken t o
 
-  answers_none : (said : Said) → answers (market.Broken m) said ≡ false
+  answers_none : (said : Said) → answers (market.Broken m) (replacements o.replaces) said ≡ false
   answers_none (SaysNew token) = refl
   answers_none (SaysReplace from to) = refl
   answers_none (SaysCancel token) = refl
@@ -131,10 +130,10 @@ module _ (P : List ℕ → Type 0) (Q : Entry → Type 0) (R : List ℕ → Type
       let marks = marks-same m.match_number o.trades in
       rw (own, first, marks, same) refl
 
-  broken-bodies : told_by reports (market.Broken m) (record_life o) (answers_last (market.Broken m) (asked_as terms o)) (map fill_of o.trades) (shown_as o) ≡ report (reports + 1) (broken_occasion t reason) (shown_as p) ∷ []
+  broken-bodies : told_by reports (market.Broken m) (record_life o) (answers_last (market.Broken m) (replacements o.replaces) (asked_as terms o)) (map fill_of o.trades) (shown_as o) ≡ report (reports + 1) (broken_occasion t reason) (shown_as p) ∷ []
   broken-bodies =
       let exec = found.exec_id in
-      let first : told_by reports (market.Broken m) (record_life o) (answers_last (market.Broken m) (asked_as terms o)) (map fill_of o.trades) (shown_as o) ≡ report (reports + 1) (broken_occasion t reason) (Rattle.order_law.specs.Told.lived (record_life p) (shown_as o)) ∷ [] = rw (broken-lives, exec) refl in
+      let first : told_by reports (market.Broken m) (record_life o) (answers_last (market.Broken m) (replacements o.replaces) (asked_as terms o)) (map fill_of o.trades) (shown_as o) ≡ report (reports + 1) (broken_occasion t reason) (Rattle.order_law.specs.Told.lived (record_life p) (shown_as o)) ∷ [] = rw (broken-lives, exec) refl in
       first ∙ ap (λ (s : Shown). report (reports + 1) (broken_occasion t reason) s ∷ []) (shown-broken t o o.stage refl accepted keeps.none_closed)
 
   broken-ids : has_due_ids (report (reports + 1) (broken_occasion t reason) (shown_as p)) (chain o.new.order sent) (chained p) old_id ≡ true
@@ -143,16 +142,19 @@ module _ (P : List ℕ → Type 0) (Q : Entry → Type 0) (R : List ℕ → Type
   pub broken-moves : Moves P Q R terms old_id sent reports limit more (market.Broken m) o p
   broken-moves = record {
     same = refl;
-    kept = λ k. record { front = k.front; live = k.live; replace = k.replace; cancel = k.cancel; id = k.id };
+    kept = λ k. record { front = k.front; live = k.live; replaces = k.replaces; cancel = k.cancel; id = k.id };
     lives = broken-lives;
-    leads = subst (λ (bodies : List Message). Leads o.new old_id sent bodies p) (sym broken-bodies)
-        (leads-one old_id sent _ p (report-tells (reports + 1) (broken_occasion t reason) p old_id sent (broken-sound t o accepted keeps.sound)
+    leads = subst (λ (bodies : List Message). Leads o.new old_id sent bodies p (pending p)) (sym broken-bodies)
+        (leads-one old_id sent _ p (pending p) (report-tells (reports + 1) (broken_occasion t reason) p (pending p) old_id sent (broken-sound t o accepted keeps.sound)
         (broken-Reads (reports + 1) t reason o sent found.fill (omega (arith, keeps.small, limit_small)) live_order accepted reads) broken-ids));
-    asked = λ e. unanswered-same terms (market.Broken m) o answers_none;
+    asked = λ e. unanswered-same terms (market.Broken m) (replacements o.replaces) o answers_none;
     price = refl;
     keeps = λ after later. record {
       sound = broken-sound t o accepted keeps.sound;
-      apart = record { requests = keeps.apart.requests; current = keeps.apart.current };
+      apart = keeps.apart;
+      current = keeps.current;
+      tokens_apart = keeps.tokens_apart;
+      few = keeps.few;
       first = keeps.first;
       over_replace = keeps.over_replace;
       over_cancel = keeps.over_cancel;

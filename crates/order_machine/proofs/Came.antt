@@ -1,11 +1,9 @@
 -- Each client's message keeps what every told history keeps.
 use Rattle.std.proofs.Common.{◌≡◌, ℕ, ◌+◌, ◌*◌, ◌<◌, ◌≤◌, ◌^◌, Bool, true, false, List, [], ◌∷◌, ◌++◌, length, refl}
-use Rattle.std.proofs.Common.{sym, ap, ◌∙◌, subst, arith, decimal, codes, bytes_eq, Some, None, eq-eqb}
+use Rattle.std.proofs.Common.{sym, ap, ◌∙◌, subst, arith, decimal, codes, bytes_eq, Option, Some, None, eq-eqb}
 use Rattle.std.specs.Prelude.{if◌then◌else◌}
 use Rattle.tokens.specs.TokenText.{token_text}
 use Rattle.order_law.specs.ouch_codec.declared.outbound.Outbound.{Outbound}
-use Rattle.order_law.specs.ouch_codec.declared.outbound.Outbound.TheVariants as market
-use Rattle.order_law.specs.ouch_codec.declared.refusal.DecodeRefusal.{DecodeRefusal}
 use Rattle.fix_fields.specs.Field.{Message, character, is, text}
 use Rattle.order_law.specs.Life.{Life, after, born, life}
 use Rattle.order_law.specs.Chain.{is_used}
@@ -13,16 +11,17 @@ use Rattle.order_law.specs.History.{Entry, OrderHistory, Terms, OrderTurn, accep
 use Rattle.order_law.specs.History.{is_new_order, issued, life_of, new_of, orders_numbered, outstanding, token_of}
 use Rattle.order_law.specs.Told.{price_after, priced, reports_in}
 use Rattle.order_law.specs.Headline.{Each, IsTrueToMarket, old_ids}
-use Rattle.order_machine.specs.OrderRecord.{OrderRecord, asked_as, shown_as}
+use Rattle.order_machine.specs.OrderRecord.{Cancelling, OrderRecord, asked_as, cancel_entry, pending, shown_as}
 use Rattle.order_machine.proofs.Texts.{eq-decimal_other, eq-is, eq-other, eq-same}
 use Rattle.order_machine.proofs.Due.{Reads, Reads-others, ReadsWell-others}
 use Rattle.order_machine.proofs.Leads.{same_some}
 use Rattle.order_machine.proofs.Moves.{Of}
 use Rattle.order_machine.proofs.Fits.{IsFound, IsHome, IsUsed, own, shown-is}
 use Rattle.order_machine.proofs.Holds.{Still, StillBeside, HasRecord, Holds, FitsIn, PassesOver, news, port_of}
-use Rattle.order_machine.proofs.Reports.{Tells, entered-Reads, report-tells}
+use Rattle.order_machine.proofs.Reports.{AreOthers, Tells, entered-Reads, report-tells}
+use Rattle.order_machine.proofs.Lists.{Each-append, Each-map}
 use Rattle.order_machine.proofs.Sound.{entered-sound}
-use Rattle.order_machine.proofs.Rejects.{IsNotPending, refused-tells}
+use Rattle.order_machine.proofs.Rejects.{refused-tells}
 use Rattle.order_law.specs.Asks.{limit_of}
 use Rattle.order_law.specs.Verdicts.{Accepted, Port, Refused, Verdict, has_to_wait, is_replace}
 use Rattle.order_law.specs.History.{Came, asks_of, entry_at, standing_of, verdict}
@@ -66,14 +65,22 @@ module _ (terms : List Terms) (before : OrderHistory) (client : ℕ) (m : Messag
 -- ---- a request that is refused
 
 -- an id that isn't used isn't pending
-not-pending : (terms : List Terms) (entries : List Entry) (sent : List Message) (o : OrderRecord) (id : List ℕ) → is_used id sent ≡ false → Of (IsHome terms entries o.new) (IsFound entries o.new) (IsUsed sent) o → IsNotPending id o
-not-pending terms entries sent o id unused holds = record {
-  of_replace = λ q e. eq-other (text 11 q.message) id (λ same. clash (text 11 q.message) same (holds.replace q e).2);
-  of_cancel = λ c e. eq-other (text 11 c.request.message) id (λ same. clash (text 11 c.request.message) same (holds.cancel c e).2);
-}
+not-pending : (terms : List Terms) (entries : List Entry) (sent : List Message) (o : OrderRecord) (id : List ℕ) → is_used id sent ≡ false → Of (IsHome terms entries o.new) (IsFound entries o.new) (IsUsed sent) o → AreOthers id (pending o)
+not-pending terms entries sent o id unused holds =
+    Each-append (IsOther) o.replaces (cancel_entry o.cancel) (Each-map _ IsOther o.replaces (λ q h. apart q h.2) holds.replaces) (of-cancel o.cancel (λ c e. apart c.request (holds.cancel c e).2))
   where
+    IsOther : Entry → Type 0
+    IsOther q = bytes_eq (text 11 q.message) id ≡ false
+
+    of-cancel : (c : Option Cancelling) → ((x : Cancelling) → c ≡ Some x → bytes_eq (text 11 x.request.message) id ≡ false) → AreOthers id (cancel_entry c)
+    of-cancel None is = tt
+    of-cancel (Some c) is = (is c refl, tt)
+
     clash : (i : List ℕ) → i ≡ id → is_used i sent ≡ true → ⊥
     clash i same used = let x : true ≡ false = sym used ∙ (ap (λ (j : List ℕ). is_used j sent) same ∙ unused) in cc
+
+    apart : (q : Entry) → IsUsed sent (text 11 q.message) → bytes_eq (text 11 q.message) id ≡ false
+    apart q used = eq-other (text 11 q.message) id (λ same. clash (text 11 q.message) same used)
 
 module _ (terms : List Terms) (before : OrderHistory) (client : ℕ) (m : Message) (port : Port) (sends : List (List ℕ)) (H : Holds terms before) (short : length before < 2 ^ 59)
     (code : ℕ) (why : List ℕ) (v : verdict terms (issued client before) (accepted terms before) port m ≡ Refused code why) (no_new : is_new_order m ≡ false) where
@@ -115,11 +122,11 @@ module _ (terms : List Terms) (before : OrderHistory) (client : ℕ) (m : Messag
             let order : e.order ≡ decimal h.fits.number = ap (λ (q : Entry). q.order) (sym h.same) ∙ h.fits.order_is in
             rw order (eq-decimal_other h.fits.number k (λ same. (omega (arith, same, above, h.fits.is_numbered, numbered-came client m port (x ∷ []) sends before))) (omega (arith, h.fits.is_numbered, H.few)) small)
 
-        own-tells : (y : OrderRecord) → FitsIn terms before y → y.new ≡ e → client ≡ y.new.client → Tells (old_ids y.new.client A) (issued y.new.client before) x y
+        own-tells : (y : OrderRecord) → FitsIn terms before y → y.new ≡ e → client ≡ y.new.client → Tells (old_ids y.new.client A) (issued y.new.client before) x y (pending y)
         own-tells y f is_e mine =
             let shown_so : s ≡ shown_as y = ap (shown terms before) (sym is_e) ∙ shown-is terms before (orders_numbered before) (outstanding terms (port_of terms y.new) before) (reports_in before) (1_000_000 * length before) y f in
-            subst (λ (z : Shown). Tells (old_ids y.new.client A) (issued y.new.client before) (reject z.order (status_of z) m code why) y) (sym shown_so)
-            (refused-tells m code why y (old_ids y.new.client A) (issued y.new.client before) f.keeps.sound f.reads (bytes_eq (decimal code) (codes "6")) refl
+            subst (λ (z : Shown). Tells (old_ids y.new.client A) (issued y.new.client before) (reject z.order (status_of z) m code why) y (pending y)) (sym shown_so)
+            (refused-tells m code why y (pending y) (old_ids y.new.client A) (issued y.new.client before) f.keeps.sound f.reads (bytes_eq (decimal code) (codes "6")) refl
             (λ other. not-pending terms A (issued y.new.client before) y (text 11 m) (subst (λ (c : ℕ). is_used (text 11 m) (issued c before) ≡ false) mine
             (refused-unused (issued client before) (option_and_then (standing_of terms (issued client before) A) (named_order (text 41 m) (issued client before))) port (given_tokens A) m code why own-verdict other)) f.holds))
 
@@ -199,8 +206,8 @@ module _ (terms : List Terms) (before : OrderHistory) (client : ℕ) (m : Messag
   reads-new : Reads (a ∷ issued client before) (entered en)
   reads-new = entered-Reads (reports_in before + 1) en (issued client before) (omega (arith, says-new.most)) (H.unread (orders_numbered before + 1) client (omega arith) (omega (arith, H.few)))
 
-  tells-new : (old_id : List ℕ → List ℕ) → Tells old_id (issued client before) a (entered en)
-  tells-new old_id = report-tells (reports_in before + 1) (plain (codes "A")) (entered en) old_id (issued client before) (entered-sound en) reads-new (let id = eq-same (text 11 m) in rw id refl)
+  tells-new : (old_id : List ℕ → List ℕ) → Tells old_id (issued client before) a (entered en) []
+  tells-new old_id = report-tells (reports_in before + 1) (plain (codes "A")) (entered en) [] old_id (issued client before) (entered-sound en) reads-new (let id = eq-same (text 11 m) in rw id refl)
 
   pub fits-new : FitsIn terms (w ∷ before) (entered en)
   fits-new = rw taken-new (record {
@@ -210,7 +217,10 @@ module _ (terms : List Terms) (before : OrderHistory) (client : ℕ) (m : Messag
     asked_so = asked-new;
     keeps = record {
       sound = entered-sound en;
-      apart = record { requests = λ q c e. absurd (cc); current = λ q e. absurd (cc) };
+      apart = tt;
+      current = tt;
+      tokens_apart = tt;
+      few = omega arith;
       first = λ e. refl;
       over_replace = λ e. refl;
       over_cancel = λ e. refl;
@@ -225,7 +235,7 @@ module _ (terms : List Terms) (before : OrderHistory) (client : ℕ) (m : Messag
     holds = record {
       front = home-new;
       live = (home-new, tt);
-      replace = λ q e. absurd (cc);
+      replaces = tt;
       cancel = λ c e. absurd (cc);
       id = subst (λ (xs : List Message). is_used (text 11 m) xs ≡ true) (sym (coming.issued-own terms before client m port a sends H)) (let id = eq-same (text 11 m) in rw id refl);
     };

@@ -1,8 +1,7 @@
 -- Canceled: a part of what is open, or all of it.
 use Rattle.std.proofs.Common.{◌≡◌, ℕ, ◌+◌, ◌-◌, ◌<◌, ◌≤◌, ◌^◌, true, false, List, [], ◌∷◌, map, refl, sym, ap, ◌∙◌}
 use Rattle.std.proofs.Common.{subst, arith, codes, Option, Some, None, eqb-true}
-use Rattle.std.specs.Prelude.{◌==◌, if◌then◌else◌}
-use Rattle.order_law.specs.ouch_codec.declared.outbound.Outbound.{Outbound}
+use Rattle.std.specs.Prelude.{◌==◌}
 use Rattle.order_law.specs.ouch_codec.declared.outbound.Outbound.TheVariants as market
 use Rattle.order_law.specs.ouch_codec.declared.outbound.canceled.Canceled.{Canceled}
 use Rattle.order_law.specs.declared.stage.Stage.TheVariants.{Waiting, Working, Closed}
@@ -14,29 +13,30 @@ use Rattle.order_law.specs.Told.{Occasion, Shown, cancelled, priced, plain, repo
 use Rattle.order_law.specs.Told as told
 use Rattle.order_law.specs.Headline.{has_due_ids}
 use Rattle.order_machine.specs.OrderRecord.{Cancelling, OrderRecord, asked_as, chained, fill_of, gone, leaves}
-use Rattle.order_machine.specs.OrderRecord.{record_life, reduced, shown_as, unasked}
+use Rattle.order_machine.specs.OrderRecord.{pending, record_life, reduced, replacements, shown_as, unasked}
 use Rattle.order_machine.proofs.Texts.{eq-same}
 use Rattle.order_machine.proofs.Due.{Reads}
 use Rattle.order_machine.proofs.Reports.{report-tells, restated-Reads}
 use Rattle.order_machine.proofs.Sound.{reduced-sound}
-use Rattle.order_machine.proofs.Leads.{AreNamed, Leads, cancelled-leads, leads-one}
+use Rattle.order_machine.proofs.Leads.{AreNamed, Leads, leads-one}
+use Rattle.order_machine.proofs.Endings.{cancelled-leads}
 use Rattle.order_machine.proofs.Moves.{AreNumbered, Keeps, Moves, Of-unasked, answers_last}
 use Rattle.order_machine.proofs.Executed.{AreNumbered-more, unanswered-same}
 
 -- an order of which nothing is open or asked any more keeps what it has to
-pub over-keeps : (reports limit more after : ℕ) (o p : OrderRecord) → reports ≤ after → p.stage ≡ Closed → p.replace ≡ None → p.cancel ≡ None → p.trades ≡ o.trades → (p.is_refused ≡ true → o.trades ≡ []) → p.unfilled ≡ 0 → p.executed ≤ limit + more → AreNumbered reports o.trades
+pub over-keeps : (reports limit more after : ℕ) (o p : OrderRecord) → reports ≤ after → p.stage ≡ Closed → p.replaces ≡ [] → p.cancel ≡ None → p.trades ≡ o.trades → (p.is_refused ≡ true → o.trades ≡ []) → p.unfilled ≡ 0 → p.executed ≤ limit + more → AreNumbered reports o.trades
     → Keeps after (limit + more) p
 over-keeps reports limit more after o p later over no_r no_c same rejected none small numbered = record {
   sound = record {
     total = λ e. absurd (let x : is_closed Closed ≡ false = ap is_closed (sym over) ∙ e in cc);
     refused = λ e. over;
-    replaces = λ q e. absurd (let x : ◌≡◌ {A = Option Entry} None (Some q) = sym no_r ∙ e in cc);
+    replaces = rw no_r tt;
     cancels = λ c e. absurd (let x : ◌≡◌ {A = Option Cancelling} None (Some c) = sym no_c ∙ e in cc);
   };
-  apart = record {
-    requests = λ q c is_q is_c. absurd (let x : ◌≡◌ {A = Option Entry} None (Some q) = sym no_r ∙ is_q in cc);
-    current = λ q is_q. absurd (let x : ◌≡◌ {A = Option Entry} None (Some q) = sym no_r ∙ is_q in cc);
-  };
+  apart = rw (no_r, no_c) tt;
+  current = rw no_r tt;
+  tokens_apart = rw no_r tt;
+  few = rw no_r (omega arith);
   first = λ e. absurd (let x : Closed ≡ Waiting = sym over ∙ e in cc);
   over_replace = λ e. no_r;
   over_cancel = λ e. no_c;
@@ -52,14 +52,14 @@ over-keeps reports limit more after o p later over no_r no_c same rejected none 
 module _ (P : List ℕ → Type 0) (Q : Entry → Type 0) (R : List ℕ → Type 0) (terms : List Terms) (old_id : List ℕ → List ℕ) (sent : List Message) (reports limit more : ℕ) (m : Canceled) (o : OrderRecord)
     (live : is_live (record_life o) m.token ≡ true) (works : o.stage ≡ Working)
     (some : 1 ≤ m.decrement) (few : m.decrement ≤ o.unfilled) (limit_small : limit < 10 ^ 63)
-    (keeps : Keeps reports limit o) (named : AreNamed old_id o) (reads : Reads sent o) where
+    (keeps : Keeps reports limit o) (named : AreNamed old_id (pending o)) (reads : Reads sent o) where
   in_book : leaves o ≡ o.unfilled
   in_book = rw works refl
 
   small : o.executed + o.unfilled < 10 ^ 64
   small = omega (arith, keeps.small, in_book, limit_small)
 
-  answers_none : (said : Said) → answers (market.Canceled m) said ≡ false
+  answers_none : (said : Said) → answers (market.Canceled m) (replacements o.replaces) said ≡ false
   answers_none (SaysNew token) = refl
   answers_none (SaysReplace from to) = refl
   answers_none (SaysCancel token) = refl
@@ -80,7 +80,7 @@ module _ (P : List ℕ → Type 0) (Q : Entry → Type 0) (R : List ℕ → Type
     part-lives : after (record_life o) (market.Canceled m) ≡ record_life p
     part-lives = rw (live, rest) refl
 
-    part-bodies : told_by reports (market.Canceled m) (record_life o) (answers_last (market.Canceled m) (asked_as terms o)) (map fill_of o.trades) (shown_as o) ≡ report (reports + 1) restated (shown_as p) ∷ []
+    part-bodies : told_by reports (market.Canceled m) (record_life o) (answers_last (market.Canceled m) (replacements o.replaces) (asked_as terms o)) (map fill_of o.trades) (shown_as o) ≡ report (reports + 1) restated (shown_as p) ∷ []
     part-bodies = rw (part-lives, works) refl
 
     part-ids : has_due_ids (report (reports + 1) restated (shown_as p)) (chain o.new.order sent) (chained p) old_id ≡ true
@@ -89,16 +89,19 @@ module _ (P : List ℕ → Type 0) (Q : Entry → Type 0) (R : List ℕ → Type
     pub part-moves : Moves P Q R terms old_id sent reports limit more (market.Canceled m) o p
     part-moves = record {
       same = refl;
-      kept = λ k. record { front = k.front; live = k.live; replace = k.replace; cancel = k.cancel; id = k.id };
+      kept = λ k. record { front = k.front; live = k.live; replaces = k.replaces; cancel = k.cancel; id = k.id };
       lives = part-lives;
-      leads = subst (λ (bodies : List Message). Leads o.new old_id sent bodies p) (sym part-bodies)
-          (leads-one old_id sent _ p (report-tells (reports + 1) restated p old_id sent (reduced-sound m.decrement o works keeps.sound)
+      leads = subst (λ (bodies : List Message). Leads o.new old_id sent bodies p (pending p)) (sym part-bodies)
+          (leads-one old_id sent _ p (pending p) (report-tells (reports + 1) restated p (pending p) old_id sent (reduced-sound m.decrement o works keeps.sound)
           (restated-Reads (reports + 1) m.decrement (codes "5") reason o sent works few (omega (arith, small)) small reads) part-ids));
-      asked = λ e. unanswered-same terms (market.Canceled m) o answers_none;
+      asked = λ e. unanswered-same terms (market.Canceled m) (replacements o.replaces) o answers_none;
       price = same_price;
       keeps = λ after later. record {
         sound = reduced-sound m.decrement o works keeps.sound;
-        apart = record { requests = keeps.apart.requests; current = keeps.apart.current };
+        apart = keeps.apart;
+        current = keeps.current;
+        tokens_apart = keeps.tokens_apart;
+        few = keeps.few;
         first = keeps.first;
         over_replace = keeps.over_replace;
         over_cancel = keeps.over_cancel;
@@ -125,7 +128,7 @@ module _ (P : List ℕ → Type 0) (Q : Entry → Type 0) (R : List ℕ → Type
     all-lives : after (record_life o) (market.Canceled m) ≡ record_life (unasked (gone o))
     all-lives = rw (live, none, nothing_left, all_of_it) refl
 
-    all-bodies : told_by reports (market.Canceled m) (record_life o) (answers_last (market.Canceled m) (asked_as terms o)) (map fill_of o.trades) (shown_as o) ≡ cancelled (reports + 1) (Some reason) (told.closed (shown_as o))
+    all-bodies : told_by reports (market.Canceled m) (record_life o) (answers_last (market.Canceled m) (replacements o.replaces) (asked_as terms o)) (map fill_of o.trades) (shown_as o) ≡ cancelled (reports + 1) (Some reason) (told.closed (shown_as o))
     all-bodies = rw (all-lives) refl
 
     pub all-moves : Moves P Q R terms old_id sent reports limit more (market.Canceled m) o (unasked (gone o))
@@ -133,8 +136,8 @@ module _ (P : List ℕ → Type 0) (Q : Entry → Type 0) (R : List ℕ → Type
       same = refl;
       kept = Of-unasked P Q R o (unasked (gone o)) refl refl refl refl;
       lives = all-lives;
-      leads = subst (λ (bodies : List Message). Leads o.new old_id sent bodies (unasked (gone o))) (sym all-bodies)
-          (cancelled-leads old_id (reports + 1) (Some reason) o works sent o.replace o.cancel keeps.sound keeps.apart named reads);
+      leads = subst (λ (bodies : List Message). Leads o.new old_id sent bodies (unasked (gone o)) []) (sym all-bodies)
+          (cancelled-leads old_id (reports + 1) (Some reason) o works keeps.sound sent o.replaces o.cancel keeps.sound.replaces keeps.sound.cancels keeps.apart keeps.current named reads);
       asked = λ e. absurd (cc);
       price = same_price;
       keeps = λ after later. over-keeps reports limit more after o (unasked (gone o)) (omega (arith, later)) refl refl refl refl keeps.rejected refl (omega (arith, keeps.small)) keeps.numbered;

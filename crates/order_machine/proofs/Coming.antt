@@ -10,7 +10,7 @@ use Rattle.order_law.specs.Life.{Life, after, born, is_closed, is_live, is_of, l
 use Rattle.order_law.specs.Reading.{is_report}
 use Rattle.order_law.specs.Chain.{chain, is_used, orders}
 use Rattle.order_law.specs.History.{Asked, Entry, Heard, OrderHistory, Terms, OrderTurn, accepted, answers}
-use Rattle.order_law.specs.History.{given_tokens, handled, is_new_order, issued, life_of, new_of, orders_numbered}
+use Rattle.order_law.specs.History.{given_tokens, handled, is_new_order, issued, last_token, life_of, new_of, orders_numbered}
 use Rattle.order_law.specs.History.{outstanding, pending_tokens, terms_of, token_of}
 use Rattle.order_law.specs.Told.{reports_in}
 use Rattle.order_law.specs.Headline.{Each, IsTrueToMarket, ReadsWell, old_ids}
@@ -121,6 +121,9 @@ asks-order terms e entries sent messages = by_kind (is_new_order e.message) (is_
     live_one : List ℕ
     live_one = Rattle.order_law.specs.Life.live (life_of e.order entries messages)
 
+    pending : List (List ℕ)
+    pending = pending_tokens e.client (chain e.order sent) entries
+
     request : Option Rattle.order_law.specs.Asks.Ask
     request = Rattle.order_law.specs.Asks.asked_by_request (Rattle.std.specs.Str.Parse.digits_value 10 e.order) e.message
 
@@ -130,11 +133,11 @@ asks-order terms e entries sent messages = by_kind (is_new_order e.message) (is_
 
     by_kind : (n g : Bool) → Each (λ (a : Asked). a.order ≡ e.order)
         (if n then record { order = e.order; id = text 11 e.message; said = Rattle.order_law.specs.History.SaysNew (token_of e); ask = Some (Rattle.order_law.specs.Asks.asked_by_new (terms_of terms e.client).capacity e.message) } ∷ []
-        else (if g then record { order = e.order; id = text 11 e.message; said = Rattle.order_law.specs.History.SaysReplace live_one (token_of e); ask = request } ∷ []
-        else map (λ token. record { order = e.order; id = text 11 e.message; said = Rattle.order_law.specs.History.SaysCancel token; ask = request }) (live_one ∷ Rattle.order_law.specs.History.pending_tokens e.client (chain e.order sent) entries)))
+        else (if g then record { order = e.order; id = text 11 e.message; said = Rattle.order_law.specs.History.SaysReplace (last_token live_one pending) (token_of e); ask = request } ∷ []
+        else map (λ token. record { order = e.order; id = text 11 e.message; said = Rattle.order_law.specs.History.SaysCancel token; ask = request }) (live_one ∷ pending)))
     by_kind true g = (refl, tt)
     by_kind false true = (refl, tt)
-    by_kind false false = (refl, each-cancel (Rattle.order_law.specs.History.pending_tokens e.client (chain e.order sent) entries))
+    by_kind false false = (refl, each-cancel pending)
 
 own-none : (order k : List ℕ) (asked : List Asked) → Each (λ (a : Asked). a.order ≡ order) asked → bytes_eq order k ≡ false → own k asked ≡ []
 own-none order k [] each apart = refl

@@ -1,6 +1,6 @@
 -- Executed: a trade, which may leave nothing open.
 use Rattle.std.proofs.Common.{◌≡◌, ℕ, ◌+◌, ◌-◌, ◌<◌, ◌≤◌, ◌^◌, Bool, true, false, List, [], ◌∷◌, map, refl, sym, ap}
-use Rattle.std.proofs.Common.{◌∙◌, subst, arith, eqb-true}
+use Rattle.std.proofs.Common.{◌∙◌, None, subst, arith, eqb-true}
 use Rattle.std.specs.Prelude.{◌==◌, if◌then◌else◌}
 use Rattle.std.specs.List.{count_by}
 use Rattle.std.proofs.lemmas.List.Sums.{sum_by-append}
@@ -17,12 +17,12 @@ use Rattle.order_law.specs.History.{Asked, Entry, Said, SaysCancel, Terms, answe
 use Rattle.order_law.specs.Told.{Shown, priced, report, told_by, too_late}
 use Rattle.order_law.specs.Headline.{has_due_ids}
 use Rattle.order_machine.specs.OrderRecord.{OrderRecord, ToldTrade, asked_as, chained, fill_of, filled, leaves}
-use Rattle.order_machine.specs.OrderRecord.{record_life, shown_as, with_trade, unasked}
+use Rattle.order_machine.specs.OrderRecord.{pending, record_life, replacements, shown_as, with_trade, unasked}
 use Rattle.order_machine.proofs.Texts.{eq-same}
 use Rattle.order_machine.proofs.Due.{Reads}
 use Rattle.order_machine.proofs.Reports.{Tells, filled-Reads, report-tells, trade_occasion, traded-Reads}
 use Rattle.order_machine.proofs.Sound.{filled-sound, traded-sound}
-use Rattle.order_machine.proofs.Leads.{AreNamed, Leads, leads-more, leads-one, too_late-leads}
+use Rattle.order_machine.proofs.Leads.{AreNamed, Leads, leads-at, leads-more, leads-one, too_late-leads}
 use Rattle.order_machine.proofs.Moves.{AreNumbered, Keeps, Moves, Of-unasked, answers_last, unanswered}
 
 pub count-more : {X : Type 0} (p : X → Bool) (x : X) (xs : List X) → count_by p (x ∷ xs) ≡ (if p x then 1 else 0) + count_by p xs
@@ -34,17 +34,17 @@ AreNumbered-more n k [] more a = tt
 AreNumbered-more n k (t ∷ ts) more a = (a.0, omega (arith, a.1), a.2)
 
 -- a message that answers nothing leaves all that is asked
-pub unanswered-same : (terms : List Terms) (m : Outbound) (o : OrderRecord) → ((said : Said) → answers m said ≡ false) → unanswered m (asked_as terms o) ≡ asked_as terms o
-unanswered-same terms m o none = same (asked_as terms o)
+pub unanswered-same : (terms : List Terms) (m : Outbound) (next : List (List ℕ)) (o : OrderRecord) → ((said : Said) → answers m next said ≡ false) → unanswered m next (asked_as terms o) ≡ asked_as terms o
+unanswered-same terms m next o none = same (asked_as terms o)
   where
-    same : (asked : List Asked) → unanswered m asked ≡ asked
+    same : (asked : List Asked) → unanswered m next asked ≡ asked
     same [] = refl
     same (a ∷ asked) = rw (none a.said) (ap (λ xs. a ∷ xs) (same asked))
 
 module _ (P : List ℕ → Type 0) (Q : Entry → Type 0) (R : List ℕ → Type 0) (terms : List Terms) (old_id : List ℕ → List ℕ) (sent : List Message) (reports limit more : ℕ) (m : Executed) (o : OrderRecord)
     (live : is_live (record_life o) m.token ≡ true) (works : o.stage ≡ Working)
     (some : 1 ≤ m.shares) (few : m.shares ≤ o.unfilled) (price_small : m.price < 2 ^ 128) (limit_small : limit < 10 ^ 63)
-    (keeps : Keeps reports limit o) (named : AreNamed old_id o) (reads : Reads sent o) where
+    (keeps : Keeps reports limit o) (named : AreNamed old_id (pending o)) (reads : Reads sent o) where
   abbrev trade : Trade
   trade = record { match_number = m.match_number; shares = m.shares; price = m.price; is_broken = false }
 
@@ -54,7 +54,7 @@ module _ (P : List ℕ → Type 0) (Q : Entry → Type 0) (R : List ℕ → Type
   small : o.executed + o.unfilled < 10 ^ 64
   small = omega (arith, keeps.small, in_book, limit_small)
 
-  answers_none : (said : Said) → answers (market.Executed m) said ≡ false
+  answers_none : (said : Said) → answers (market.Executed m) (replacements o.replaces) said ≡ false
   answers_none (Rattle.order_law.specs.History.SaysNew token) = refl
   answers_none (Rattle.order_law.specs.History.SaysReplace from to) = refl
   answers_none (SaysCancel token) = refl
@@ -85,22 +85,25 @@ module _ (P : List ℕ → Type 0) (Q : Entry → Type 0) (R : List ℕ → Type
     part-lives : after (record_life o) (market.Executed m) ≡ record_life p
     part-lives = rw (live, rest) refl
 
-    part-bodies : told_by reports (market.Executed m) (record_life o) (answers_last (market.Executed m) (asked_as terms o)) (map fill_of o.trades) (shown_as o) ≡ report (reports + 1) (trade_occasion trade) (shown_as p) ∷ []
+    part-bodies : told_by reports (market.Executed m) (record_life o) (answers_last (market.Executed m) (replacements o.replaces) (asked_as terms o)) (map fill_of o.trades) (shown_as o) ≡ report (reports + 1) (trade_occasion trade) (shown_as p) ∷ []
     part-bodies = rw (part-lives, works) refl
 
     pub part-moves : Moves P Q R terms old_id sent reports limit more (market.Executed m) o p
     part-moves = record {
       same = refl;
-      kept = λ k. record { front = k.front; live = k.live; replace = k.replace; cancel = k.cancel; id = k.id };
+      kept = λ k. record { front = k.front; live = k.live; replaces = k.replaces; cancel = k.cancel; id = k.id };
       lives = part-lives;
-      leads = subst (λ (bodies : List Message). Leads o.new old_id sent bodies p) (sym part-bodies)
-          (leads-one old_id sent _ p (report-tells (reports + 1) (trade_occasion trade) p old_id sent (traded-sound (reports + 1) trade o works keeps.sound)
+      leads = subst (λ (bodies : List Message). Leads o.new old_id sent bodies p (pending p)) (sym part-bodies)
+          (leads-one old_id sent _ p (pending p) (report-tells (reports + 1) (trade_occasion trade) p (pending p) old_id sent (traded-sound (reports + 1) trade o works keeps.sound)
           (traded-Reads (reports + 1) trade o sent works few rest price_small small reads) (trade-ids (reports + 1) p refl)));
-      asked = λ e. unanswered-same terms (market.Executed m) o answers_none;
+      asked = λ e. unanswered-same terms (market.Executed m) (replacements o.replaces) o answers_none;
       price = same_price;
       keeps = λ after later. record {
         sound = traded-sound (reports + 1) trade o works keeps.sound;
-        apart = record { requests = keeps.apart.requests; current = keeps.apart.current };
+        apart = keeps.apart;
+        current = keeps.current;
+        tokens_apart = keeps.tokens_apart;
+        few = keeps.few;
         first = λ e. absurd (let x : Working ≡ Waiting = sym works ∙ e in cc);
         over_replace = λ e. absurd (let x : Working ≡ Closed = sym works ∙ e in cc);
         over_cancel = λ e. absurd (let x : Working ≡ Closed = sym works ∙ e in cc);
@@ -127,11 +130,11 @@ module _ (P : List ℕ → Type 0) (Q : Entry → Type 0) (R : List ℕ → Type
     nothing_left : o.unfilled - m.shares ≡ 0
     nothing_left = eqb-true (o.unfilled - m.shares) 0 none
 
-    all-bodies : told_by reports (market.Executed m) (record_life o) (answers_last (market.Executed m) (asked_as terms o)) (map fill_of o.trades) (shown_as o) ≡ report (reports + 1) (trade_occasion trade) (shown_as f) ∷ too_late (shown_as f)
+    all-bodies : told_by reports (market.Executed m) (record_life o) (answers_last (market.Executed m) (replacements o.replaces) (asked_as terms o)) (map fill_of o.trades) (shown_as o) ≡ report (reports + 1) (trade_occasion trade) (shown_as f) ∷ too_late (shown_as f)
     all-bodies = rw (all-lives, nothing_left) refl
 
-    first-tells : Tells old_id sent (report (reports + 1) (trade_occasion trade) (shown_as f)) f
-    first-tells = report-tells (reports + 1) (trade_occasion trade) f old_id sent (filled-sound (reports + 1) trade o keeps.sound)
+    first-tells : Tells old_id sent (report (reports + 1) (trade_occasion trade) (shown_as f)) f (pending f)
+    first-tells = report-tells (reports + 1) (trade_occasion trade) f (pending f) old_id sent (filled-sound (reports + 1) trade o keeps.sound)
         (filled-Reads (reports + 1) trade o sent works few price_small small reads) (trade-ids (reports + 1) f refl)
 
     pub all-moves : Moves P Q R terms old_id sent reports limit more (market.Executed m) o (unasked f)
@@ -139,15 +142,17 @@ module _ (P : List ℕ → Type 0) (Q : Entry → Type 0) (R : List ℕ → Type
       same = refl;
       kept = Of-unasked P Q R o (unasked f) refl refl refl refl;
       lives = all-lives;
-      leads = subst (λ (bodies : List Message). Leads o.new old_id sent bodies (unasked f)) (sym all-bodies)
-          (leads-more old_id sent _ _ f (unasked f) first-tells
-          (too_late-leads old_id f o.replace o.cancel _ (filled-sound (reports + 1) trade o keeps.sound)
-          (record { requests = keeps.apart.requests; current = keeps.apart.current }) (record { replace = named.replace; cancel = named.cancel }) first-tells.reads));
+      leads = subst (λ (bodies : List Message). Leads o.new old_id sent bodies (unasked f) []) (sym all-bodies)
+          (leads-more old_id sent _ _ f (unasked f) (pending f) [] first-tells
+          (leads-at o.new old_id _ _ f [] None [] (too_late-leads old_id f (filled-sound (reports + 1) trade o keeps.sound) (pending f) (pending f) _ keeps.apart named first-tells.reads)));
       asked = λ e. absurd (cc);
       price = same_price;
       keeps = λ after later. record {
-        sound = record { total = λ e. absurd (cc); refused = λ e. refl; replaces = λ q e. absurd (cc); cancels = λ c e. absurd (cc) };
-        apart = record { requests = λ q c is_q is_c. absurd (cc); current = λ q is_q. absurd (cc) };
+        sound = record { total = λ e. absurd (cc); refused = λ e. refl; replaces = tt; cancels = λ c e. absurd (cc) };
+        apart = tt;
+        current = tt;
+        tokens_apart = tt;
+        few = omega arith;
         first = λ e. absurd (cc);
         over_replace = λ e. refl;
         over_cancel = λ e. refl;

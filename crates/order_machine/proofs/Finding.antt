@@ -1,5 +1,5 @@
 -- What is found in a list that another one is made of.
-use Rattle.std.proofs.Common.{◌≡◌, ℕ, suc, ◌+◌, Bool, true, false, List, [], ◌∷◌, length, map, refl, ap, ◌∙◌, arith, Option, Some, None}
+use Rattle.std.proofs.Common.{◌≡◌, suc, ◌+◌, Bool, true, false, List, [], ◌∷◌, length, map, refl, ap, ◌∙◌, arith, Some}
 use Rattle.std.specs.Prelude.{◌&&◌, if◌then◌else◌, filter, option_map}
 use Rattle.std.specs.List.{count_by, find}
 use Rattle.order_law.specs.Headline.{Each}

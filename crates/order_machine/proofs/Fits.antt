@@ -1,7 +1,7 @@
 -- An order's record is as the lists of a history have it.
 use Rattle.std.proofs.Common.{◌≡◌, ◌≢◌, ℕ, ◌+◌, ◌≤◌, Bool, true, false, List, [], ◌∷◌, refl, sym, ap, ◌∙◌, decimal}
 use Rattle.std.proofs.Common.{bytes_eq, Option, Some, None}
-use Rattle.std.specs.Prelude.{◌||◌, not, if◌then◌else◌, filter}
+use Rattle.std.specs.Prelude.{◌&&◌, ◌||◌, ◌++◌, map, not, if◌then◌else◌, filter}
 use Rattle.std.specs.List.{filter_map}
 use Rattle.tokens.specs.TokenText.{token_text}
 use Rattle.order_law.specs.ouch_codec.declared.outbound.Outbound.{Outbound}
@@ -12,11 +12,15 @@ use Rattle.order_law.specs.Reading.{Reading, is_refused_order, reading}
 use Rattle.order_law.specs.Chain.{Chain, Request, is_used}
 use Rattle.order_law.specs.History.{Asked, Entry, OrderHistory, Terms, accepted, answers, by_id, given_tokens, handled}
 use Rattle.order_law.specs.History.{is_new_order, issued, life_of, new_of, pending_tokens, terms_of, token_of}
+use Rattle.order_law.specs.History.{Said, asked_of, is_answered, is_replace_said, next_tokens, replacement_of}
+use Rattle.order_law.specs.Verdicts.{is_replace}
 use Rattle.order_law.specs.Lawful.{order_of_token}
 use Rattle.order_law.specs.Told.{Shown, price_after, shown}
-use Rattle.order_law.specs.Headline.{old_ids}
+use Rattle.order_law.specs.Headline.{Each, old_ids}
 use Rattle.order_machine.specs.OrderRecord.{Cancelling, OrderRecord, asked_as, chained, leaves, record_life, pending}
-use Rattle.order_machine.specs.OrderRecord.{read, replacements, shown_as}
+use Rattle.order_machine.specs.OrderRecord.{cancel_entry, read, replacements, request_of, shown_as}
+use Rattle.order_machine.proofs.Lists.{Each-append, Each-map}
+use Rattle.order_machine.proofs.AskedReplaces.{tokens-asked}
 use Rattle.order_machine.proofs.Texts.{eq-is, eq-same}
 use Rattle.order_machine.proofs.Due.{Reads}
 use Rattle.order_machine.proofs.Leads.{AreNamed}
@@ -41,6 +45,23 @@ IsUsed sent id = is_used id sent ≡ true
 abbrev pub own : List ℕ → List Asked → List Asked
 own order asked = filter (λ (a : Asked). bytes_eq a.order order) asked
 
+-- what is asked for an order of one kind is among what is asked for it
+asked-own : (kind : Said → Bool) (order : List ℕ) (asked : List Asked) → asked_of kind order asked ≡ asked_of kind order (own order asked)
+asked-own kind order [] = refl
+asked-own kind order (a ∷ asked) = by_test (bytes_eq a.order order) refl (asked-own kind order asked)
+  where
+    by_test : (b : Bool) → bytes_eq a.order order ≡ b → asked_of kind order asked ≡ asked_of kind order (own order asked)
+        → (if b && kind a.said then a ∷ asked_of kind order asked else asked_of kind order asked) ≡ asked_of kind order (if b then a ∷ own order asked else own order asked)
+    by_test true is e = rw is (ap (λ (xs : List Asked). if kind a.said then a ∷ xs else xs) e)
+    by_test false is e = e
+
+-- the replaces that are asked for an order are its pending ones
+pub next-own : (terms : List Terms) (o : OrderRecord) (asked : List Asked) → own o.new.order asked ≡ asked_as terms o → next_tokens o.new.order asked ≡ replacements o.replaces
+next-own terms o asked same =
+    ap (filter_map (λ (a : Asked). replacement_of a.said)) (asked-own is_replace_said o.new.order asked)
+    ∙ ap (next_tokens o.new.order) same
+    ∙ tokens-asked terms o
+
 pub record Fits (terms : List Terms) (entries : List Entry) (numbered : ℕ) (sent : List Message) (messages : List Outbound) (asked : List Asked) (reports limit : ℕ) (o : OrderRecord) : Type 0 where
   pub reads : Reads sent o
   pub lives : life (token_of o.new) (character 54 o.new.message) messages ≡ record_life o
@@ -59,29 +80,39 @@ module _ (terms : List Terms) (entries : List Entry) (numbered : ℕ) (sent : Li
   pub life-of : life_of o.new.order entries messages ≡ record_life o
   life-of = rw f.known f.lives
 
-  pub named : AreNamed (old_ids o.new.client entries) o
-  named = record {
-    replace = λ q e. (let found = (f.holds.replace q e).1 in rw found refl);
-    cancel = λ c e. (let found = (f.holds.cancel c e).1 in rw found refl);
-  }
+  found-cancel : (c : Option Cancelling) → ((x : Cancelling) → c ≡ Some x → IsFound entries o.new x.request) → Each (IsFound entries o.new) (cancel_entry c)
+  found-cancel None found = tt
+  found-cancel (Some c) found = (found c refl, tt)
+
+  replaces-found : Each (IsFound entries o.new) o.replaces
+  replaces-found = Each-map _ (IsFound entries o.new) o.replaces (λ q holds. holds.1) f.holds.replaces
+
+  -- each pending request is found by its id
+  all-found : Each (IsFound entries o.new) (pending o)
+  all-found = Each-append (IsFound entries o.new) o.replaces (cancel_entry o.cancel) replaces-found (found-cancel o.cancel (λ c e. (f.holds.cancel c e).1))
+
+  pub named : AreNamed (old_ids o.new.client entries) (pending o)
+  named = Each-map (IsFound entries o.new) (λ (q : Entry). text 41 q.message ≡ old_ids o.new.client entries (text 11 q.message)) (pending o) (λ q found. rw found refl) all-found
 
   pub pending-is : filter_map (λ (q : Request). by_id o.new.client q.id entries) (chained o).pending ≡ pending o
-  pending-is = by_requests o.replace o.cancel refl refl
+  pending-is = each-is (pending o) all-found
     where
-      by_requests : (r : Option Entry) (c : Option Cancelling) → o.replace ≡ r → o.cancel ≡ c → filter_map (λ (q : Request). by_id o.new.client q.id entries) (chained o).pending ≡ pending o
-      by_requests None None is_r is_c = rw (is_r, is_c) refl
-      by_requests None (Some c) is_r is_c = let found = (f.holds.cancel c is_c).1 in rw (is_r, is_c, found) refl
-      by_requests (Some q) None is_r is_c = let found = (f.holds.replace q is_r).1 in rw (is_r, is_c, found) refl
-      by_requests (Some q) (Some c) is_r is_c = let found = (f.holds.replace q is_r).1 in let found' = (f.holds.cancel c is_c).1 in rw (is_r, is_c, found, found') refl
+      each-is : (qs : List Entry) → Each (IsFound entries o.new) qs → filter_map (λ (q : Request). by_id o.new.client q.id entries) (map request_of qs) ≡ qs
+      each-is [] found = refl
+      each-is (q ∷ qs) found = rw found.0 (ap (λ (xs : List Entry). q ∷ xs) (each-is qs found.1))
 
-  pub tokens-are : pending_tokens o.new.client (chained o) entries ≡ replacements o.replace
-  tokens-are = by_requests o.replace o.cancel refl refl
+  pub tokens-are : pending_tokens o.new.client (chained o) entries ≡ replacements o.replaces
+  tokens-are = each-token o.replaces o.cancel f.keeps.sound.replaces replaces-found f.keeps.sound.cancels
     where
-      by_requests : (r : Option Entry) (c : Option Cancelling) → o.replace ≡ r → o.cancel ≡ c → pending_tokens o.new.client (chained o) entries ≡ replacements o.replace
-      by_requests None None is_r is_c = rw (is_r, is_c) refl
-      by_requests None (Some c) is_r is_c = rw (is_r, is_c) refl
-      by_requests (Some q) None is_r is_c = let found = (f.holds.replace q is_r).1 in rw (is_r, is_c, found) refl
-      by_requests (Some q) (Some c) is_r is_c = let found = (f.holds.replace q is_r).1 in rw (is_r, is_c, found) refl
+      each-token : (rs : List Entry) (c : Option Cancelling) → Each (λ (q : Entry). is_replace q.message ≡ true) rs → Each (IsFound entries o.new) rs → ((x : Cancelling) → c ≡ Some x → is_replace x.request.message ≡ false)
+          → pending_tokens o.new.client (record { current = o.id; pending = map request_of (rs ++ cancel_entry c) }) entries ≡ replacements rs
+      each-token [] None are found none = refl
+      each-token [] (Some c) are found none = rw (none c refl) refl
+      each-token (q ∷ rs) c are found none = rw (are.0, found.0) (ap (λ (ts : List (List ℕ)). token_of q ∷ ts) (each-token rs c are.1 found.1 none))
+
+  -- the replaces that are asked for it ask for their tokens
+  pub next-is : next_tokens o.new.order asked ≡ replacements o.replaces
+  next-is = next-own terms o asked f.asked_so
 
 -- ---- an order as it is shown
 
@@ -128,15 +159,18 @@ module _ (terms : List Terms) (before : OrderHistory) (numbered : ℕ) (asked : 
 
 -- ---- what is asked, after a message
 
-module _ (order : List ℕ) (entries : List Entry) (messages : List Outbound) (m : Outbound) where
+module _ (order : List ℕ) (entries : List Entry) (messages : List Outbound) (m : Outbound) (earlier : List Asked) where
   abbrev still : Asked → Bool
-  still a = not (answers m a.said || is_closed (life_of a.order entries messages).stage)
+  still a = not (is_answered m earlier a || is_closed (life_of a.order entries messages).stage)
+
+  abbrev next : List (List ℕ)
+  next = next_tokens order earlier
 
   abbrev Goal : Asked → List Asked → Bool → Type 0
-  Goal a asked c = own order (filter still (a ∷ asked)) ≡ (if c then [] else unanswered m (own order (a ∷ asked)))
+  Goal a asked c = own order (filter still (a ∷ asked)) ≡ (if c then [] else unanswered m next (own order (a ∷ asked)))
 
   -- of another order
-  other-after : (a : Asked) (asked : List Asked) (c : Bool) → bytes_eq a.order order ≡ false → own order (filter still asked) ≡ (if c then [] else unanswered m (own order asked)) → Goal a asked c
+  other-after : (a : Asked) (asked : List Asked) (c : Bool) → bytes_eq a.order order ≡ false → own order (filter still asked) ≡ (if c then [] else unanswered m next (own order asked)) → Goal a asked c
   other-after a asked c other e = by_still (still a) refl
     where
       by_still : (b : Bool) → still a ≡ b → Goal a asked c
@@ -144,26 +178,26 @@ module _ (order : List ℕ) (entries : List Entry) (messages : List Outbound) (m
       by_still false s = rw (s, other) e
 
   -- of the order itself
-  same-after : (a : Asked) (asked : List Asked) (c : Bool) → is_closed (life_of order entries messages).stage ≡ c → a.order ≡ order → own order (filter still asked) ≡ (if c then [] else unanswered m (own order asked)) → Goal a asked c
-  same-after a asked true is_c same e = let closed_one = ap (λ (k : List ℕ). is_closed (life_of k entries messages).stage) same ∙ is_c in by_answer (answers m a.said) refl closed_one
+  same-after : (a : Asked) (asked : List Asked) (c : Bool) → is_closed (life_of order entries messages).stage ≡ c → a.order ≡ order → own order (filter still asked) ≡ (if c then [] else unanswered m next (own order asked)) → Goal a asked c
+  same-after a asked true is_c same e = let closed_one = ap (λ (k : List ℕ). is_closed (life_of k entries messages).stage) same ∙ is_c in by_answer (is_answered m earlier a) refl closed_one
     where
-      by_answer : (b : Bool) → answers m a.said ≡ b → is_closed (life_of a.order entries messages).stage ≡ true → Goal a asked true
+      by_answer : (b : Bool) → is_answered m earlier a ≡ b → is_closed (life_of a.order entries messages).stage ≡ true → Goal a asked true
       by_answer true s closed_one = rw s e
       by_answer false s closed_one = rw (s, closed_one) e
   same-after a asked false is_c same e =
       let open_one = ap (λ (k : List ℕ). is_closed (life_of k entries messages).stage) same ∙ is_c in
       let mine = ap (λ (k : List ℕ). bytes_eq k order) same ∙ eq-same order in
-      by_answer (answers m a.said) refl open_one mine
+      by_answer (answers m next a.said) refl (ap (λ (k : List ℕ). answers m (next_tokens k earlier) a.said) same) open_one mine
     where
-      by_answer : (b : Bool) → answers m a.said ≡ b → is_closed (life_of a.order entries messages).stage ≡ false → bytes_eq a.order order ≡ true → Goal a asked false
-      by_answer true s open_one mine = rw (s, mine, s) e
-      by_answer false s open_one mine = rw (s, open_one, mine, s) (ap (λ xs. a ∷ xs) e)
+      by_answer : (b : Bool) → answers m next a.said ≡ b → is_answered m earlier a ≡ answers m next a.said → is_closed (life_of a.order entries messages).stage ≡ false → bytes_eq a.order order ≡ true → Goal a asked false
+      by_answer true s answer open_one mine = let all = answer ∙ s in rw (all, mine, s) e
+      by_answer false s answer open_one mine = let all = answer ∙ s in rw (all, open_one, mine, s) (ap (λ xs. a ∷ xs) e)
 
-  pub own-after : (c : Bool) → is_closed (life_of order entries messages).stage ≡ c → (asked : List Asked) → own order (filter still asked) ≡ (if c then [] else unanswered m (own order asked))
+  pub own-after : (c : Bool) → is_closed (life_of order entries messages).stage ≡ c → (asked : List Asked) → own order (filter still asked) ≡ (if c then [] else unanswered m next (own order asked))
   own-after true is_c [] = refl
   own-after false is_c [] = refl
   own-after c is_c (a ∷ asked) = by_own (bytes_eq a.order order) refl (own-after c is_c asked)
     where
-      by_own : (b : Bool) → bytes_eq a.order order ≡ b → own order (filter still asked) ≡ (if c then [] else unanswered m (own order asked)) → Goal a asked c
+      by_own : (b : Bool) → bytes_eq a.order order ≡ b → own order (filter still asked) ≡ (if c then [] else unanswered m next (own order asked)) → Goal a asked c
       by_own true is_own e = same-after a asked c is_c (eq-is a.order order is_own) e
       by_own false is_own e = other-after a asked c is_own e

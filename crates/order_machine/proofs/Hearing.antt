@@ -9,23 +9,22 @@ use Rattle.order_law.specs.ouch_codec.declared.refusal.DecodeRefusal.{DecodeRefu
 use Rattle.fix_fields.specs.Field.{Message, character}
 use Rattle.order_law.specs.Life.{Life, after, born, is_closed, life}
 use Rattle.order_law.specs.Chain.{is_used, orders}
-use Rattle.order_law.specs.History.{Asked, Heard, OrderHistory, Terms, OrderTurn, accepted, answers, given_tokens}
-use Rattle.order_law.specs.History.{handled, issued, life_of, orders_numbered, outstanding, token_of}
+use Rattle.order_law.specs.History.{Asked, Heard, OrderHistory, Terms, OrderTurn, accepted, given_tokens, is_answered}
+use Rattle.order_law.specs.History.{handled, issued, life_of, next_tokens, orders_numbered, outstanding, token_of}
 use Rattle.order_law.specs.Told.{price_after, priced, reports_in}
 use Rattle.order_law.specs.Headline.{Each, IsTrueToMarket}
-use Rattle.order_machine.specs.OrderRecord.{OrderRecord, asked_as, record_life}
+use Rattle.order_machine.specs.OrderRecord.{OrderRecord, asked_as, record_life, replacements}
 use Rattle.order_machine.proofs.Lists.{Each-map}
 use Rattle.order_machine.proofs.Due.{IsUnread, Reads}
 use Rattle.order_machine.proofs.Executed.{count-more}
 use Rattle.order_machine.proofs.Moves.{Keeps, unanswered}
-use Rattle.order_machine.proofs.Fits.{life-of, own, own-after}
+use Rattle.order_machine.proofs.Fits.{life-of, next-own, own, own-after}
 use Rattle.order_machine.proofs.Untouched.{IsUntouched}
 use Rattle.order_machine.proofs.Holds.{FitsIn, HasRecord, Holds, IsEntry, PassesOver, Still, news, port_of, quiet-Fits}
 use Rattle.order_machine.proofs.Holds.{true-of}
 use Rattle.order_machine.proofs.Untouched.{tokenless-untouched}
 use Rattle.order_law.specs.declared.stage.Stage.{Stage}
 use Rattle.order_law.specs.declared.stage.Stage.TheVariants.{Waiting, Working, Closed}
-use Rattle.order_law.specs.History.{Said}
 use Rattle.order_law.specs.Lawful.{order_token}
 
 pub append-nothing : {A : Type 0} (xs : List A) → xs ++ [] ≡ xs
@@ -54,19 +53,22 @@ module _ (terms : List Terms) (before : OrderHistory) (port : ℕ) (m : Outbound
   t = heard_turn port (Ok m) client bodies sends None
 
   -- what is then asked for an order
-  pub asked-now : (k : List ℕ) (p : ℕ) (c : Bool) → is_closed (life_of k (accepted terms before) (handled p (t ∷ before))).stage ≡ c → own k (outstanding terms p (t ∷ before)) ≡ (if c then [] else unanswered m (own k (outstanding terms p before)))
-  asked-now k p c is_c = ap (own k) (append-nothing (filter still (outstanding terms p before))) ∙ own-after k (accepted terms before) (handled p (t ∷ before)) m c is_c (outstanding terms p before)
+  pub asked-now : (k : List ℕ) (p : ℕ) (c : Bool) → is_closed (life_of k (accepted terms before) (handled p (t ∷ before))).stage ≡ c → own k (outstanding terms p (t ∷ before)) ≡ (if c then [] else unanswered m (next_tokens k (outstanding terms p before)) (own k (outstanding terms p before)))
+  asked-now k p c is_c = ap (own k) (append-nothing (filter still (outstanding terms p before))) ∙ own-after k (accepted terms before) (handled p (t ∷ before)) m (outstanding terms p before) c is_c (outstanding terms p before)
     where
       still : Asked → Bool
-      still a = not (answers m a.said || is_closed (life_of a.order (accepted terms before) (handled p (t ∷ before))).stage)
+      still a = not (is_answered m (outstanding terms p before) a || is_closed (life_of a.order (accepted terms before) (handled p (t ∷ before))).stage)
 
   pub asked-as : (o p : OrderRecord) (port' : ℕ) → own o.new.order (outstanding terms port' before) ≡ asked_as terms o → life_of o.new.order (accepted terms before) (handled port' (t ∷ before)) ≡ record_life p
-      → (is_closed p.stage ≡ true → asked_as terms p ≡ []) → (is_closed p.stage ≡ false → unanswered m (asked_as terms o) ≡ asked_as terms p) → own o.new.order (outstanding terms port' (t ∷ before)) ≡ asked_as terms p
+      → (is_closed p.stage ≡ true → asked_as terms p ≡ []) → (is_closed p.stage ≡ false → unanswered m (replacements o.replaces) (asked_as terms o) ≡ asked_as terms p) → own o.new.order (outstanding terms port' (t ∷ before)) ≡ asked_as terms p
   asked-as o p port' was lives over goes_on = asked-now o.new.order port' (is_closed p.stage) (ap (λ (l : Life). is_closed l.stage) lives) ∙ by_closed (is_closed p.stage) refl
     where
-      by_closed : (c : Bool) → is_closed p.stage ≡ c → (if c then [] else unanswered m (own o.new.order (outstanding terms port' before))) ≡ asked_as terms p
+      by_closed : (c : Bool) → is_closed p.stage ≡ c → (if c then [] else unanswered m (next_tokens o.new.order (outstanding terms port' before)) (own o.new.order (outstanding terms port' before))) ≡ asked_as terms p
       by_closed true e = sym (over e)
-      by_closed false e = ap (unanswered m) was ∙ goes_on e
+      by_closed false e =
+          ap (unanswered m (next_tokens o.new.order (outstanding terms port' before))) was
+          ∙ ap (λ (next : List (List ℕ)). unanswered m next (asked_as terms o)) (next-own terms o (outstanding terms port' before) was)
+          ∙ goes_on e
 
   -- an order that hears nothing of it
   module _ (o : OrderRecord) (f : FitsIn terms before o) (untouched : IsUntouched terms m o) where
@@ -194,6 +196,6 @@ tokenless-Holds terms before port m sends H none = quiet-Holds terms before port
     same-life k p side above most true = (tokenless-life m none (born (token_text k) side), H.unheard k p side above most)
     same-life k p side above most false = H.unheard k p side above most
 
-    by_closed : (k p : ℕ) → orders_numbered before < k → k < 10 ^ 64 → (f : Bool) → (if f then [] else unanswered m (own (decimal k) (outstanding terms p before))) ≡ []
+    by_closed : (k p : ℕ) → orders_numbered before < k → k < 10 ^ 64 → (f : Bool) → (if f then [] else unanswered m (next_tokens (decimal k) (outstanding terms p before)) (own (decimal k) (outstanding terms p before))) ≡ []
     by_closed k p above small true = refl
     by_closed k p above small false = rw (H.unasked k p above small) refl

@@ -13,6 +13,7 @@ use Rattle.order_law.specs.History.{is_new_order, issued, new_of, orders_numbere
 use Rattle.order_law.specs.Told.{price_after, priced, reports_in}
 use Rattle.order_law.specs.Headline.{Each, IsTrueToMarket, ReadsWell, old_ids}
 use Rattle.order_machine.specs.OrderRecord.{OrderRecord}
+use Rattle.order_machine.proofs.Lists.{Each-map}
 use Rattle.order_machine.proofs.Due.{IsUnread, Reads}
 use Rattle.order_machine.proofs.Executed.{AreNumbered-more}
 use Rattle.order_machine.proofs.Leads.{same_some}
@@ -96,6 +97,9 @@ pub Keeps-more : (reports limit reports' limit' : ℕ) (o : OrderRecord) → rep
 Keeps-more reports limit reports' limit' o more more' k = record {
   sound = k.sound;
   apart = k.apart;
+  current = k.current;
+  tokens_apart = k.tokens_apart;
+  few = k.few;
   first = k.first;
   over_replace = k.over_replace;
   over_cancel = k.over_cancel;
@@ -112,7 +116,7 @@ pub Of-used : (P : List ℕ → Type 0) (Q : Entry → Type 0) (R S : List ℕ �
 Of-used P Q R S o more k = record {
   front = k.front;
   live = k.live;
-  replace = λ q e. ((k.replace q e).0, (k.replace q e).1, more (Rattle.fix_fields.specs.Field.text 11 q.message) (k.replace q e).2);
+  replaces = Each-map _ _ o.replaces (λ q holds. (holds.0, holds.1, more (Rattle.fix_fields.specs.Field.text 11 q.message) holds.2)) k.replaces;
   cancel = λ c e. ((k.cancel c e).0, (k.cancel c e).1, more (Rattle.fix_fields.specs.Field.text 11 c.request.message) (k.cancel c e).2);
   id = more o.id k.id;
 }

@@ -1,6 +1,6 @@
 -- The ClOrdIDs in the bodies that a message of the market leads to, and how many of them are reports.
 use Rattle.std.proofs.Common.{◌≡◌, ℕ, ◌+◌, ◌≤◌, Bool, true, false, List, [], ◌∷◌, ◌++◌, map, refl, sym, ap, ◌∙◌, subst}
-use Rattle.std.proofs.Common.{arith, codes, bytes_eq, Option, Some, None}
+use Rattle.std.proofs.Common.{arith, codes, Option, Some, None}
 use Rattle.std.specs.Prelude.{◌&&◌, ◌||◌, if◌then◌else◌, filter, option_map, unwrap_or}
 use Rattle.std.specs.List.{count_by, find}
 use Rattle.order_law.specs.ouch_codec.declared.outbound.Outbound.{Outbound}
@@ -71,6 +71,19 @@ module _ (P : List ℕ → Type 0) where
   dead-ids : (n : ℕ) (state : OrderState) (s : Shown) (alive : List Message) → OfShown s → Each HasId alive → Each HasId (told.where_dead n state s alive)
   dead-ids n state s alive of each = if-ids (is_dead state) (told.cancelled n None (told.closed s)) alive (cancelled-ids n None (told.closed s) of) each
 
+  -- replaces that aren't done, one behind another
+  not_replaced-ids : (why : List ℕ) (s : Shown) (qs : List Entry) → Each OfRequest qs → Each HasId (told.each_not_replaced why s qs)
+  not_replaced-ids why s [] each = tt
+  not_replaced-ids why s (q ∷ qs) each = if-ids (is_replace q.message) _ [] (each.0, not_replaced-ids (codes "earlier replace rejected") s qs each.1) tt
+
+  without_first-ids : (p : Entry → Bool) (qs : List Entry) → Each OfRequest qs → Each OfRequest (told.without_first p qs)
+  without_first-ids p [] each = tt
+  without_first-ids p (q ∷ qs) each = by_test (p q) (without_first-ids p qs each.1)
+    where
+      by_test : (b : Bool) → Each OfRequest (told.without_first p qs) → Each OfRequest (if b then qs else q ∷ told.without_first p qs)
+      by_test true rest = each.1
+      by_test false rest = (each.0, rest)
+
   found-of : (p : Entry → Bool) (qs : List Entry) (q : Entry) → find p qs ≡ Some q → Each OfRequest qs → OfRequest q
   found-of p qs q e each = Rattle.order_machine.proofs.Finding.Each-found OfRequest p qs q each e
 
@@ -81,7 +94,7 @@ module _ (P : List ℕ → Type 0) where
       by_request None e = rw e tt
       by_request (Some q) e =
           let mine = found-of (told.asked_token m.token) s.pending q e of.1 in
-          let rest : OfShown (told.shown_renamed m q s) = (mine, Each-filter OfRequest (λ (x : Entry). Rattle.std.specs.Prelude.not (told.asked_token m.token x)) s.pending of.1) in
+          let rest : OfShown (told.shown_renamed m q s) = (mine, without_first-ids (told.asked_token m.token) s.pending of.1) in
           rw e (mine, dead-ids (reports + 2) m.order_state (told.shown_renamed m q s) (told.cancel_rejected is_last (told.shown_renamed m q s)) rest (cancel_rejected-ids is_last (told.shown_renamed m q s) rest))
 
   pub told-ids : (reports : ℕ) (m : Outbound) (l : Life) (is_last : Bool) (fills : List Fill) (s : Shown) → OfShown s → Each HasId (told_by reports m l is_last fills s)
@@ -92,8 +105,8 @@ module _ (P : List ℕ → Type 0) where
   told-ids reports (market.Broken m) l is_last fills s of = (of.0, tt)
   told-ids reports (market.Rejected m) l is_last fills s of =
       if-ids (is_waiting l.stage && is_live l m.token) _ _ (of.0, too_late-ids (record (told.closed s) { is_refused = true }) s.pending of.1)
-      (append-ids _ _ (rejects-ids (told.without_replace m.token s) 2 (m.reason ∷ []) (filter (told.asked_token m.token) s.pending) (Each-filter OfRequest (told.asked_token m.token) s.pending of.1))
-      (cancel_rejected-ids is_last (told.without_replace m.token s) (of.0, Each-filter OfRequest (λ (x : Entry). Rattle.std.specs.Prelude.not (told.asked_token m.token x)) s.pending of.1)))
+      (append-ids _ _ (not_replaced-ids (m.reason ∷ []) s s.pending of.1)
+      (cancel_rejected-ids is_last (told.without_replaces s) (of.0, Each-filter OfRequest told.is_cancel s.pending of.1)))
   told-ids reports (market.CancelReject m) l is_last fills s of = cancel_rejected-ids is_last s of
   told-ids reports (market.CancelPending m) l is_last fills s of = tt
   told-ids reports (market.SystemEvent m) l is_last fills s of = tt
@@ -137,6 +150,15 @@ few-rejects : (n : ℕ) (s : Shown) (code : ℕ) (why : List ℕ) (qs : List Ent
 few-rejects n s code why [] rs few = few
 few-rejects n s code why (q ∷ qs) rs few = few-reject n s q code why (map (λ (x : Entry). told.answered_no s x code why) qs ++ rs) (few-rejects n s code why qs rs few)
 
+few-not_replaced : (n : ℕ) (why : List ℕ) (s : Shown) (qs : List Entry) (rs : List Message) → IsFew n rs → IsFew n (told.each_not_replaced why s qs ++ rs)
+few-not_replaced n why s [] rs few = few
+few-not_replaced n why s (q ∷ qs) rs few = by_kind (is_replace q.message) (few-reject n (record s { pending = qs }) q 2 why (told.each_not_replaced (codes "earlier replace rejected") s qs ++ rs) (few-not_replaced n (codes "earlier replace rejected") s qs rs few))
+  where
+    by_kind : (b : Bool) → IsFew n (told.answered_no (record s { pending = qs }) q 2 why ∷ (told.each_not_replaced (codes "earlier replace rejected") s qs ++ rs))
+        → IsFew n ((if b then told.answered_no (record s { pending = qs }) q 2 why ∷ told.each_not_replaced (codes "earlier replace rejected") s qs else []) ++ rs)
+    by_kind true all = all
+    by_kind false all = few
+
 few-if : (n : ℕ) (b : Bool) (xs ys : List Message) → IsFew n xs → IsFew n ys → IsFew n (if b then xs else ys)
 few-if n true xs ys x y = x
 few-if n false xs ys x y = y
@@ -175,7 +197,7 @@ told-few reports (market.Broken m) l is_last fills s = few-report (reports + 1) 
 told-few reports (market.Rejected m) l is_last fills s =
     few-if 2 (is_waiting l.stage && is_live l m.token) _ _
     (few-report (reports + 1) 1 (record (told.plain (codes "8")) { code = Some (codes "99"); why = Some (m.reason ∷ []) }) (record (told.closed s) { is_refused = true }) (told.too_late (record (told.closed s) { is_refused = true })) (few-too_late 1 (record (told.closed s) { is_refused = true }) s.pending))
-    (few-rejects 2 (told.without_replace m.token s) 2 (m.reason ∷ []) (filter (told.asked_token m.token) s.pending) (told.cancel_rejected is_last (told.without_replace m.token s)) (few-cancel_rejected 2 is_last (told.without_replace m.token s)))
+    (few-not_replaced 2 (m.reason ∷ []) s s.pending (told.cancel_rejected is_last (told.without_replaces s)) (few-cancel_rejected 2 is_last (told.without_replaces s)))
 told-few reports (market.CancelReject m) l is_last fills s = few-cancel_rejected 2 is_last s
 told-few reports (market.CancelPending m) l is_last fills s = few-none 2
 told-few reports (market.SystemEvent m) l is_last fills s = few-none 2

@@ -1,16 +1,17 @@
 -- Each token that a client's message asks about leads to the order that it is asked of.
-use Rattle.std.proofs.Common.{◌≡◌, ℕ, ◌<◌, ◌^◌, Bool, true, false, List, [], ◌∷◌, length, map, refl, sym, ap, ◌∙◌, subst, arith, Option, Some, None}
+use Rattle.std.proofs.Common.{◌≡◌, ℕ, ◌<◌, ◌^◌, Bool, true, false, List, [], ◌∷◌, ◌++◌, length, map, refl, sym, ap, ◌∙◌, subst, arith, Option, Some, None}
 use Rattle.std.specs.Prelude.{if◌then◌else◌, option_map}
 use Rattle.std.specs.List.{find}
 use Rattle.std.specs.Str.Parse.{digits_value}
 use Rattle.fix_fields.specs.Field.{Message, text}
 use Rattle.order_law.specs.Verdicts.{Accepted, Port, Refused, Verdict, is_replace}
-use Rattle.order_law.specs.History.{Entry, OrderHistory, Terms, accepted, is_new_order, terms_of}
+use Rattle.order_law.specs.History.{Entry, OrderHistory, Terms, accepted, is_new_order, last_token, terms_of, token_of}
 use Rattle.order_law.specs.Headline.{Each}
-use Rattle.order_machine.specs.OrderRecord.{Cancelling, OrderRecord, after_request, at, cancel_asked, asked_cancel, live_token, replace_asked, replacements}
+use Rattle.order_machine.specs.OrderRecord.{Cancelling, OrderRecord, after_request, at, cancel_asked, asked_cancel, asked_replace, live_token, replacements}
 use Rattle.order_machine.specs.Table.{TableState, record_by_id, by_number, has_number, is_named, put}
 use Rattle.order_machine.specs.Machine.{GivenByEvent, accept_new, accept_on, accept_request, by_verdict, client_step, entry_of_request, refuse_new, refuse_request, request_asked, verdict_in}
 use Rattle.order_machine.specs.Runs.{Finds, LeadsTo, TurnsLeave}
+use Rattle.order_machine.proofs.Lists.{Each-front, Each-map}
 use Rattle.order_machine.proofs.Fits.{IsHome}
 use Rattle.order_machine.proofs.Holds.{FitsIn, port_of}
 use Rattle.order_machine.proofs.Finding.{Each-found}
@@ -23,7 +24,7 @@ use Rattle.order_machine.proofs.Running.{Leaves-Holding, client-goes, leads-to}
 
 -- a cancel that is asked of an order
 abbrev cancelling : Entry → OrderRecord → Cancelling
-cancelling q o = record { request = q; tokens = live_token o ∷ replacements o.replace }
+cancelling q o = record { request = q; tokens = live_token o ∷ replacements o.replaces }
 
 module _ (terms : List Terms) (h : OrderHistory) (s : TableState) (t : IsTable terms h s) where
   -- an order that fits has its number in the table
@@ -47,14 +48,21 @@ module _ (terms : List Terms) (h : OrderHistory) (s : TableState) (t : IsTable t
     cancels-find new q leads [] each = tt
     cancels-find new q leads (token ∷ tokens) each = (home-leads new leads token each.0, cancels-find new q leads tokens each.1)
 
+    -- the last of its tokens and those of its pending replaces
+    last-home : (new : Entry) (from : List ℕ) (rs : List Entry) → IsHome terms (accepted terms h) new from → Each (λ (r : Entry). IsHome terms (accepted terms h) new (token_of r)) rs → IsHome terms (accepted terms h) new (last_token from (replacements rs))
+    last-home new from [] home each = home
+    last-home new from (r ∷ rs) home each = last-home new (token_of r) rs each.0 each.1
+
     -- what a request asks of an order, which fits with the request
     request-finds : (q : Entry) (o : OrderRecord) → FitsIn terms h (after_request q o) → LeadsTo s (port_of terms o.new) order_of → Each (Finds order_of) (request_asked q o)
     request-finds q o f leads = by_kind (is_replace q.message) f
       where
-        by_kind : (b : Bool) → FitsIn terms h (if b then at o (Some q) o.cancel else at o o.replace (Some (cancelling q o)))
-            → Each (Finds order_of) (if b then replace_asked o.new (live_token o) (Some q) else cancel_asked o.new (Some (cancelling q o)))
-        by_kind true f = (home-leads o.new leads (live_token o) f.holds.front, tt)
-        by_kind false f = cancels-find o.new q leads (live_token o ∷ replacements o.replace) (f.holds.cancel (cancelling q o) refl).0
+        by_kind : (b : Bool) → FitsIn terms h (if b then at o (o.replaces ++ q ∷ []) o.cancel else at o o.replaces (Some (cancelling q o)))
+            → Each (Finds order_of) (if b then asked_replace o.new (last_token (live_token o) (replacements o.replaces)) q ∷ [] else cancel_asked o.new (Some (cancelling q o)))
+        by_kind true f =
+            let homes = Each-front _ o.replaces (q ∷ []) f.holds.replaces in
+            (home-leads o.new leads _ (last-home o.new (live_token o) o.replaces f.holds.front (Each-map _ (λ (r : Entry). IsHome terms (accepted terms h) o.new (token_of r)) o.replaces (λ r home. home.0) homes)), tt)
+        by_kind false f = cancels-find o.new q leads (live_token o ∷ replacements o.replaces) (f.holds.cancel (cancelling q o) refl).0
 
 -- ---- an order that is put in its place
 

@@ -1,6 +1,6 @@
 -- A lawful message on an order keeps what every told history keeps, and each order true.
 use Rattle.std.proofs.Common.{◌≡◌, ◌≢◌, ℕ, ◌+◌, ◌*◌, ◌<◌, ◌≤◌, ◌^◌, Bool, true, false, List, [], ◌∷◌, ◌++◌, length}
-use Rattle.std.proofs.Common.{map, reverse, refl, sym, ap, ◌∙◌, subst, arith, decimal, codes, bytes_eq, Option, Some}
+use Rattle.std.proofs.Common.{map, reverse, refl, sym, ap, ◌∙◌, subst, arith, decimal, bytes_eq, Option, Some}
 use Rattle.std.proofs.Common.{None, Ok, eqb-true, eq-eqb, ne_eqb}
 use Rattle.std.specs.Prelude.{◌&&◌, ◌||◌, ◌==◌, not, if◌then◌else◌, is_some}
 use Rattle.std.specs.List.{count_by, find, list_any}
@@ -8,12 +8,12 @@ use Rattle.tokens.specs.TokenText.{token_text}
 use Rattle.order_law.specs.ouch_codec.declared.outbound.Outbound.{Outbound}
 use Rattle.order_law.specs.ouch_codec.declared.outbound.Outbound.TheVariants as market
 use Rattle.fix_fields.specs.Field.{Message, character, is}
-use Rattle.order_law.specs.Life.{Life, after, born, is_closed, life}
+use Rattle.order_law.specs.Life.{Life, after, is_closed, life}
 use Rattle.order_law.specs.Reading.{is_report}
 use Rattle.order_law.specs.Chain.{chain, is_used, orders}
 use Rattle.order_law.specs.History.{Asked, Entry, Heard, OrderHistory, Terms, OrderTurn, accepted, answers}
 use Rattle.order_law.specs.History.{given_tokens, handled, is_new_order, issued, life_of, new_of, orders_numbered}
-use Rattle.order_law.specs.History.{outstanding, pending_tokens, terms_of, token_of}
+use Rattle.order_law.specs.History.{is_answered, next_tokens, outstanding, pending_tokens, terms_of, token_of}
 use Rattle.order_law.specs.Lawful.{has_token, judgement, order_of_token, order_token}
 use Rattle.order_law.specs.Told.{Told, answers_last_cancel, price_after, priced, reports_in, told, told_by, told_on}
 use Rattle.order_law.specs.Told.{told_of_entry}
@@ -26,15 +26,15 @@ use Rattle.order_machine.proofs.Due.{IsUnread, IsUnread-others, Others, Reads, R
 use Rattle.order_machine.proofs.Leads.{onto, same_some}
 use Rattle.order_machine.proofs.Moves.{Keeps, Moves, answers_last, unanswered}
 use Rattle.order_machine.proofs.Addressed.{IsOn, on-others, onto-reverse, orders-onto, others-onto, told-on, used-onto}
-use Rattle.order_machine.proofs.Fits.{IsFound, IsHome, IsUsed, life-of, named, own, shown-is, tokens-are}
+use Rattle.order_machine.proofs.Fits.{IsFound, IsHome, IsUsed, life-of, named, next-own, own, shown-is, tokens-are}
 use Rattle.std.proofs.Common.{ℕ}
 use Rattle.order_machine.proofs.Holds.{FitsIn, HasRecord, Holds, IsEntry, Keeps-more, Of-used, PassesOver, news}
 use Rattle.order_machine.proofs.Holds.{orders_of, port_of, true-of, each-find}
-use Rattle.order_machine.proofs.Untouched.{Other, apart-home, born-passes, other-untouched, tokens_in}
+use Rattle.order_machine.proofs.Untouched.{apart-home, born-passes, other-untouched, tokens_in}
 use Rattle.order_machine.proofs.Judged.{IsLawful}
-use Rattle.order_machine.proofs.Row.{replacement-is, row-moves}
+use Rattle.order_machine.proofs.Row.{oldest-is, row-moves}
 use Rattle.order_machine.proofs.Hearing.{asked-as, asked-now, closed-asked, untouched-fits, heard_turn, numbered-heard}
-use Rattle.order_law.specs.Lawful.{row_holds, same_terms, works_as}
+use Rattle.order_law.specs.Lawful.{is_first, row_holds, same_terms, works_as}
 use Rattle.order_law.specs.Reading.{Reading, reading, Fill}
 use Rattle.order_law.specs.Told.{Shown, shown}
 use Rattle.order_law.specs.History.{is_cancel_said}
@@ -97,18 +97,22 @@ any-own P k (a ∷ asked) = by_test (bytes_eq a.order k) (any-own P k asked)
     by_test true e = ap (λ (r : Bool). P a || r) e
     by_test false e = e
 
-and-assoc : (a b c : Bool) → ((a && b) && c) ≡ (a && (b && c))
-and-assoc true b c = refl
-and-assoc false b c = refl
-
 any-same : (P Q : Asked → Bool) (xs : List Asked) → ((a : Asked) → P a ≡ Q a) → list_any P xs ≡ list_any Q xs
 any-same P Q [] same = refl
 any-same P Q (x ∷ xs) same = rw (same x, any-same P Q xs same) refl
 
-last-cancel : (k : List ℕ) (m : Outbound) (asked : List Asked) → answers_last_cancel k m asked ≡ answers_last m (own k asked)
+-- of the order's own, what answers it is told by the tokens of its replaces
+own-answer : (k : List ℕ) (m : Outbound) (asked : List Asked) (a : Asked) → ((bytes_eq a.order k && is_cancel_said a.said) && not (is_answered m asked a)) ≡ (bytes_eq a.order k && (is_cancel_said a.said && not (answers m (next_tokens k asked) a.said)))
+own-answer k m asked a = by_order (bytes_eq a.order k) refl
+  where
+    by_order : (b : Bool) → bytes_eq a.order k ≡ b → ((b && is_cancel_said a.said) && not (is_answered m asked a)) ≡ (b && (is_cancel_said a.said && not (answers m (next_tokens k asked) a.said)))
+    by_order true same = ap (λ (i : List ℕ). is_cancel_said a.said && not (answers m (next_tokens i asked) a.said)) (eq-is a.order k same)
+    by_order false other = refl
+
+last-cancel : (k : List ℕ) (m : Outbound) (asked : List Asked) → answers_last_cancel k m asked ≡ answers_last m (next_tokens k asked) (own k asked)
 last-cancel k m asked =
     let first = any-own (λ (a : Asked). is_cancel_said a.said) k asked in
-    let second = any-same (λ (a : Asked). (bytes_eq a.order k && is_cancel_said a.said) && not (answers m a.said)) (λ (a : Asked). bytes_eq a.order k && (is_cancel_said a.said && not (answers m a.said))) asked (λ a. and-assoc (bytes_eq a.order k) (is_cancel_said a.said) (not (answers m a.said))) ∙ any-own (λ (a : Asked). is_cancel_said a.said && not (answers m a.said)) k asked in
+    let second = any-same (λ (a : Asked). (bytes_eq a.order k && is_cancel_said a.said) && not (is_answered m asked a)) (λ (a : Asked). bytes_eq a.order k && (is_cancel_said a.said && not (answers m (next_tokens k asked) a.said))) asked (own-answer k m asked) ∙ any-own (λ (a : Asked). is_cancel_said a.said && not (answers m (next_tokens k asked) a.said)) k asked in
     rw (first, second) refl
 
 -- ---- what is issued
@@ -154,11 +158,11 @@ module _ (terms : List Terms) (before : OrderHistory) (port : ℕ) (m : Outbound
   lived-on : life_of o.new.order A (handled port before) ≡ record_life o
   lived-on = subst (λ (p : ℕ). life_of o.new.order A (handled p before) ≡ record_life o) own_port (life-of terms A (orders_numbered before) (issued o.new.client before) (handled (port_of terms o.new) before) (outstanding terms (port_of terms o.new) before) (reports_in before) (1_000_000 * length before) o f)
 
-  row : row_holds m (record_life o) o.new (replacements o.replace) ≡ true
+  row : row_holds m (record_life o) o.new (replacements o.replaces) ≡ true
   row =
       let first : row_holds m (life_of o.new.order A (handled port before)) o.new (pending_tokens o.new.client (chain o.new.order (issued o.new.client before)) A) ≡ true = subst (λ (e : Entry). row_holds m (life_of e.order A (handled port before)) e (pending_tokens e.client (chain e.order (issued e.client before)) A) ≡ true) (sym same_new) l.row in
       let second : row_holds m (record_life o) o.new (pending_tokens o.new.client (chain o.new.order (issued o.new.client before)) A) ≡ true = ap (λ (x : Life). row_holds m x o.new (pending_tokens o.new.client (chain o.new.order (issued o.new.client before)) A)) (sym lived-on) ∙ first in
-      let tokens : pending_tokens o.new.client (chain o.new.order (issued o.new.client before)) A ≡ replacements o.replace = ap (λ (y : Rattle.order_law.specs.Chain.Chain). pending_tokens o.new.client y A) f.reads.chained_so ∙ tokens-are terms A (orders_numbered before) (issued o.new.client before) (handled (port_of terms o.new) before) (outstanding terms (port_of terms o.new) before) (reports_in before) (1_000_000 * length before) o f in
+      let tokens : pending_tokens o.new.client (chain o.new.order (issued o.new.client before)) A ≡ replacements o.replaces = ap (λ (y : Rattle.order_law.specs.Chain.Chain). pending_tokens o.new.client y A) f.reads.chained_so ∙ tokens-are terms A (orders_numbered before) (issued o.new.client before) (handled (port_of terms o.new) before) (outstanding terms (port_of terms o.new) before) (reports_in before) (1_000_000 * length before) o f in
       ap (λ (ts : List (List ℕ)). row_holds m (record_life o) o.new ts) (sym tokens) ∙ second
 
   -- the order that the message is on
@@ -168,6 +172,10 @@ module _ (terms : List Terms) (before : OrderHistory) (port : ℕ) (m : Outbound
   abbrev Leads : List ℕ → Type 0
   Leads x = order_of_token terms port A x ≡ Some o.new
 
+  -- what holds of a pending replace
+  abbrev IsKnown : Entry → Type 0
+  IsKnown q = IsHome terms A o.new (token_of q) × IsFound A o.new q × IsUsed (issued o.new.client before) (Rattle.fix_fields.specs.Field.text 11 q.message)
+
   -- each of its tokens leads to that order
   on-all : Each Leads (tokens_in m)
   on-all = by_message m has row
@@ -175,12 +183,13 @@ module _ (terms : List Terms) (before : OrderHistory) (port : ℕ) (m : Outbound
       one : (x : List ℕ) → x ≡ token → Leads x
       one x same = subst Leads (sym same) on'
 
-      by_message : (k : Outbound) → order_token k ≡ Some token → row_holds k (record_life o) o.new (replacements o.replace) ≡ true → Each Leads (tokens_in k)
+      by_message : (k : Outbound) → order_token k ≡ Some token → row_holds k (record_life o) o.new (replacements o.replaces) ≡ true → Each Leads (tokens_in k)
       by_message (market.Replaced k) has may =
-          let parts = and-parts (works_as (record_life o) k.previous_token) (list_any (bytes_eq k.token) (replacements o.replace) && same_terms k.side k.stock o.new) may in
-          let asked = replacement-is o.replace k.token (and-parts (list_any (bytes_eq k.token) (replacements o.replace)) (same_terms k.side k.stock o.new) parts.1).0 in
-          let home = (f.holds.replace asked.0 asked.1).0 in
-          (ap (order_of_token terms port A) asked.2 ∙ subst (λ (p : ℕ). order_of_token terms p A (token_of asked.0) ≡ Some o.new) own_port home.mine, (one k.previous_token (cc), tt))
+          let parts = and-parts (works_as (record_life o) k.previous_token) (is_first k.token (replacements o.replaces) && same_terms k.side k.stock o.new) may in
+          let asked = oldest-is o.replaces k.token (and-parts (is_first k.token (replacements o.replaces)) (same_terms k.side k.stock o.new) parts.1).0 in
+          let homes = subst (Each IsKnown) asked.2 f.holds.replaces in
+          let home = homes.0.0 in
+          (ap (order_of_token terms port A) asked.3 ∙ subst (λ (p : ℕ). order_of_token terms p A (token_of asked.0) ≡ Some o.new) own_port home.mine, (one k.previous_token (cc), tt))
       by_message (market.Accepted k) has may = (one k.token (cc), tt)
       by_message (market.Canceled k) has may = (one k.token (cc), tt)
       by_message (market.Executed k) has may = (one k.token (cc), tt)
@@ -192,10 +201,14 @@ module _ (terms : List Terms) (before : OrderHistory) (port : ℕ) (m : Outbound
       by_message market.Skipped has may = tt
 
   abbrev pub B : List Message
-  B = told_by (reports_in before) m (record_life o) (answers_last m (asked_as terms o)) (map fill_of o.trades) (shown_as o)
+  B = told_by (reports_in before) m (record_life o) (answers_last m (replacements o.replaces) (asked_as terms o)) (map fill_of o.trades) (shown_as o)
 
-  asked-own : answers_last_cancel o.new.order m (outstanding terms port before) ≡ answers_last m (asked_as terms o)
-  asked-own = last-cancel o.new.order m (outstanding terms port before) ∙ ap (answers_last m) (subst (λ (p : ℕ). own o.new.order (outstanding terms p before) ≡ asked_as terms o) own_port f.asked_so)
+  asked-own : answers_last_cancel o.new.order m (outstanding terms port before) ≡ answers_last m (replacements o.replaces) (asked_as terms o)
+  asked-own =
+      (let mine : own o.new.order (outstanding terms port before) ≡ asked_as terms o = subst (λ (p : ℕ). own o.new.order (outstanding terms p before) ≡ asked_as terms o) own_port f.asked_so in
+      last-cancel o.new.order m (outstanding terms port before)
+      ∙ ap (answers_last m (next_tokens o.new.order (outstanding terms port before))) mine
+      ∙ ap (λ (next : List (List ℕ)). answers_last m next (asked_as terms o)) (next-own terms o (outstanding terms port before) mine))
 
   fills-own : (reading o.new.order (issued o.new.client before)).fills ≡ map fill_of o.trades
   fills-own = ap (λ (x : Reading). x.fills) f.reads.read_so
@@ -207,8 +220,8 @@ module _ (terms : List Terms) (before : OrderHistory) (port : ℕ) (m : Outbound
   told-all =
       ap (λ (x : Life). told_by (reports_in before) m x (answers_last_cancel o.new.order m (outstanding terms port before)) (reading o.new.order (issued o.new.client before)).fills (shown terms before o.new)) lived-on
       ∙ ap (λ (b : Bool). told_by (reports_in before) m (record_life o) b (reading o.new.order (issued o.new.client before)).fills (shown terms before o.new)) asked-own
-      ∙ ap (λ (fs : List Fill). told_by (reports_in before) m (record_life o) (answers_last m (asked_as terms o)) fs (shown terms before o.new)) fills-own
-      ∙ ap (λ (s : Shown). told_by (reports_in before) m (record_life o) (answers_last m (asked_as terms o)) (map fill_of o.trades) s) shown-own
+      ∙ ap (λ (fs : List Fill). told_by (reports_in before) m (record_life o) (answers_last m (replacements o.replaces) (asked_as terms o)) fs (shown terms before o.new)) fills-own
+      ∙ ap (λ (s : Shown). told_by (reports_in before) m (record_life o) (answers_last m (replacements o.replaces) (asked_as terms o)) (map fill_of o.trades) s) shown-own
 
   pub told-to : told_of_entry o.new B ≡ record { client = client; bodies = bodies }
   told-to =
@@ -226,7 +239,7 @@ module _ (terms : List Terms) (before : OrderHistory) (port : ℕ) (m : Outbound
   issued-other c apart = said.others c apart (issued c before)
 
   on-order : Each (IsOn o.new.order) B
-  on-order = told-on (reports_in before) m (record_life o) (answers_last m (asked_as terms o)) (map fill_of o.trades) (shown_as o)
+  on-order = told-on (reports_in before) m (record_life o) (answers_last m (replacements o.replaces) (asked_as terms o)) (map fill_of o.trades) (shown_as o)
 
   -- ---- the order itself
 
@@ -337,7 +350,7 @@ module _ (terms : List Terms) (before : OrderHistory) (port : ℕ) (m : Outbound
   still-unasked : (n p : ℕ) → orders_numbered before < n → n < 10 ^ 64 → own (decimal n) (outstanding terms p (t ∷ before)) ≡ []
   still-unasked n p above small = asked-now terms before port m client bodies sends H (decimal n) p (is_closed (life_of (decimal n) A (handled p (t ∷ before))).stage) refl ∙ by_closed (is_closed (life_of (decimal n) A (handled p (t ∷ before))).stage)
     where
-      by_closed : (b : Bool) → (if b then [] else unanswered m (own (decimal n) (outstanding terms p before))) ≡ []
+      by_closed : (b : Bool) → (if b then [] else unanswered m (next_tokens (decimal n) (outstanding terms p before)) (own (decimal n) (outstanding terms p before))) ≡ []
       by_closed true = refl
       by_closed false = rw (H.unasked n p above small) refl
 

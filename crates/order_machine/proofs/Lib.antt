@@ -1,11 +1,13 @@
 pub mod Texts
 pub mod Lists
 pub mod Bodies
+mod AskedReplaces
 mod Due
 mod Reports
 mod Sound
 mod Rejects
 mod Leads
+mod Endings
 mod Moves
 pub mod Executed
 mod Asked
@@ -13,6 +15,7 @@ mod Canceled
 mod Accepted
 mod Broken
 mod Rejected
+mod NotReplaced
 mod Replaced
 mod Judged
 mod Row
@@ -33,6 +36,7 @@ pub mod Finding
 pub mod Linked
 pub mod Placed
 mod Ids
+pub mod FewReports
 mod Stepping
 mod Answering
 pub mod Running

@@ -1,6 +1,6 @@
 -- The table of orders is as the lists of a history have it: whatever is looked up in it is what the lists say.
 use Rattle.std.proofs.Common.{◌≡◌, ℕ, ◌+◌, ◌*◌, ◌≤◌, Bool, true, false, List, [], ◌∷◌, length, map, refl, sym, ap, ◌∙◌}
-use Rattle.std.proofs.Common.{subst, arith, bytes_eq, codes, Option, Some, None, Result, Ok, Err, eqb-true}
+use Rattle.std.proofs.Common.{subst, arith, bytes_eq, Option, Some, None, Result, Ok, Err, eqb-true}
 use Rattle.std.specs.Prelude.{◌&&◌, ◌==◌, not, if◌then◌else◌, is_some, filter, option_and_then, option_map}
 use Rattle.std.specs.List.{count_by, find}
 use Rattle.fix_fields.specs.Field.{Message, text}
@@ -11,7 +11,7 @@ use Rattle.order_law.specs.ouch_codec.declared.refusal.DecodeRefusal.{DecodeRefu
 use Rattle.order_law.specs.Life.{is_closed}
 use Rattle.order_law.specs.Reading.{Reading, reading}
 use Rattle.order_law.specs.Chain.{Chain, chain, goes_by, is_used, named, orders}
-use Rattle.order_law.specs.Verdicts.{Named, Port, Verdict, first_row, is_replace, open_orders, rows_of_new}
+use Rattle.order_law.specs.Verdicts.{Named, Port, first_row, is_replace, open_orders, rows_of_new}
 use Rattle.order_law.specs.Verdicts.{rows_of_request}
 use Rattle.order_law.specs.History.{Entry, OrderHistory, Terms, accepted, given_tokens, handled, is_new_order, issued}
 use Rattle.order_law.specs.History.{life_of, new_of, orders_numbered, pending_tokens, standing_of, terms_of, token_of}
@@ -30,7 +30,7 @@ use Rattle.order_machine.proofs.Executed.{count-more}
 use Rattle.order_machine.proofs.Finding.{Each-found, and-turned, count-each, find-each, find-filter, find-map}
 use Rattle.order_machine.proofs.Finding.{find-same, length-map, map-filter, map-map}
 use Rattle.order_machine.proofs.Fits.{life-of, tokens-are}
-use Rattle.order_machine.proofs.Holds.{FitsIn, Holds, news, orders_of, port_of}
+use Rattle.order_machine.proofs.Holds.{FitsIn, Holds, news, port_of}
 use Rattle.order_machine.proofs.Placed.{AreDistinct}
 
 -- an accepted replace has a token
@@ -254,10 +254,10 @@ module _ (terms : List Terms) (h : OrderHistory) (s : TableState) (t : IsTable t
   token-port token o e = (Rattle.order_machine.proofs.Lawfully.token-of terms h port token o.new t.held (token-on token o e)).on_port
 
   row-same : (o : OrderRecord) → FitsIn terms h o → port_of terms o.new ≡ port
-      → row_holds m (life_of o.new.order E (handled port h)) o.new (pending_tokens o.new.client (chain o.new.order (issued o.new.client h)) E) ≡ row_holds m (record_life o) o.new (replacements o.replace)
+      → row_holds m (life_of o.new.order E (handled port h)) o.new (pending_tokens o.new.client (chain o.new.order (issued o.new.client h)) E) ≡ row_holds m (record_life o) o.new (replacements o.replaces)
   row-same o f own_port =
       let lives : life_of o.new.order E (handled port h) ≡ record_life o = subst (λ (p : ℕ). life_of o.new.order E (handled p h) ≡ record_life o) own_port (life-of terms E (orders_numbered h) (issued o.new.client h) (handled (port_of terms o.new) h) (Rattle.order_law.specs.History.outstanding terms (port_of terms o.new) h) (reports_in h) (1_000_000 * length h) o f) in
-      let tokens : pending_tokens o.new.client (chain o.new.order (issued o.new.client h)) E ≡ replacements o.replace = ap (λ (y : Chain). pending_tokens o.new.client y E) f.reads.chained_so ∙ tokens-are terms E (orders_numbered h) (issued o.new.client h) (handled (port_of terms o.new) h) (Rattle.order_law.specs.History.outstanding terms (port_of terms o.new) h) (reports_in h) (1_000_000 * length h) o f in
+      let tokens : pending_tokens o.new.client (chain o.new.order (issued o.new.client h)) E ≡ replacements o.replaces = ap (λ (y : Chain). pending_tokens o.new.client y E) f.reads.chained_so ∙ tokens-are terms E (orders_numbered h) (issued o.new.client h) (handled (port_of terms o.new) h) (Rattle.order_law.specs.History.outstanding terms (port_of terms o.new) h) (reports_in h) (1_000_000 * length h) o f in
       ap (λ (l : Rattle.order_law.specs.Life.Life). row_holds m l o.new (pending_tokens o.new.client (chain o.new.order (issued o.new.client h)) E)) lives
       ∙ ap (λ (ts : List (List ℕ)). row_holds m (record_life o) o.new ts) tokens
 
@@ -267,7 +267,7 @@ module _ (terms : List Terms) (h : OrderHistory) (s : TableState) (t : IsTable t
   lawful-same : (token : List ℕ) → is_lawful_in s port m token ≡ is_lawful_on terms port h m token
   lawful-same token = by_order (record_by_token s port token) refl ∙ ap (option_map row_of) (token-leads terms h s t port token)
     where
-      by_order : (x : Option OrderRecord) → record_by_token s port token ≡ x → option_map (λ (o : OrderRecord). row_holds m (record_life o) o.new (replacements o.replace)) x ≡ option_map row_of (option_map (λ (o : OrderRecord). o.new) x)
+      by_order : (x : Option OrderRecord) → record_by_token s port token ≡ x → option_map (λ (o : OrderRecord). row_holds m (record_life o) o.new (replacements o.replaces)) x ≡ option_map row_of (option_map (λ (o : OrderRecord). o.new) x)
       by_order None e = refl
       by_order (Some o) e = ap Some (sym (row-same o (token-fits token o e) (token-port token o e)))
 

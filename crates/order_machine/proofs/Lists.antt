@@ -1,7 +1,5 @@
 -- Members of a list by their place, after a push and after a write.
-use Rattle.std.proofs.Common.{◌≡◌, ◌≢◌, ℕ, suc, zero, ◌+◌, ◌<◌, ◌⊎◌, Bool, true, false, List, [], ◌∷◌, ◌++◌, length, refl, sym, ap, ◌∙◌, arith, Some, None, slice_get, slice_set, inl, inr, ⊎_elim, reverse}
-use Rattle.std.proofs.lemmas.List.{reverse-append}
-use Rattle.std.proofs.lemmas.List.Elements.{filter-append}
+use Rattle.std.proofs.Common.{◌≡◌, suc, ◌+◌, Bool, true, false, List, [], ◌∷◌, ◌++◌, length, refl, sym, ap, ◌∙◌, arith, Some, None}
 use Rattle.std.proofs.lemmas.List.Sums.{sum_by-append}
 use Rattle.std.specs.Prelude.{filter, if◌then◌else◌}
 use Rattle.std.specs.List.{count_by, find}
@@ -27,6 +25,14 @@ pub Each-map : {A : Type 0} (P Q : A → Type 0) (xs : List A) → ((x : A) → 
 Each-map P Q [] f each = tt
 Each-map P Q (x ∷ xs) f each = (f x each.0, Each-map P Q xs f each.1)
 
+pub Each-append : {A : Type 0} (P : A → Type 0) (xs ys : List A) → Each P xs → Each P ys → Each P (xs ++ ys)
+Each-append P [] ys first rest = rest
+Each-append P (x ∷ xs) ys first rest = (first.0, Each-append P xs ys first.1 rest)
+
+pub Each-front : {A : Type 0} (P : A → Type 0) (xs ys : List A) → Each P (xs ++ ys) → Each P xs
+Each-front P [] ys each = tt
+Each-front P (x ∷ xs) ys each = (each.0, Each-front P xs ys each.1)
+
 pub Each-filter : {A : Type 0} (P : A → Type 0) (p : A → Bool) (xs : List A) → Each P xs → Each P (filter p xs)
 Each-filter P p [] each = tt
 Each-filter P p (x ∷ xs) each = by_test (p x) (Each-filter P p xs each.1)
@@ -40,10 +46,10 @@ Each-filter P p (x ∷ xs) each = by_test (p x) (Each-filter P p xs each.1)
 pub count-push : {A : Type 0} (p : A → Bool) (xs : List A) (x : A) → count_by p (xs ++ x ∷ []) ≡ count_by p xs + (if p x then 1 else 0)
 count-push {A = A} p xs x = sum_by-append (λ (y : A). if p y then 1 else 0) xs (x ∷ []) ∙ omega arith
 
-length-push : {A : Type 0} (xs : List A) (x : A) → length (xs ++ x ∷ []) ≡ suc (length xs)
+pub length-push : {A : Type 0} (xs : List A) (x : A) → length (xs ++ x ∷ []) ≡ suc (length xs)
 length-push [] x = refl
 length-push (a ∷ xs) x = ap suc (length-push xs x)
 
-append-nothing : {A : Type 0} (xs : List A) → xs ++ [] ≡ xs
+pub append-nothing : {A : Type 0} (xs : List A) → xs ++ [] ≡ xs
 append-nothing [] = refl
 append-nothing (a ∷ xs) = ap (λ ys. a ∷ ys) (append-nothing xs)

@@ -6,8 +6,6 @@ use Rattle.std.specs.Prelude.{◌&&◌, ◌==◌, if◌then◌else◌, is_some}
 use Rattle.std.specs.List.{find}
 use Rattle.tokens.specs.TokenText.{token_text}
 use Rattle.order_law.specs.ouch_codec.declared.outbound.Outbound.{Outbound}
-use Rattle.order_law.specs.ouch_codec.declared.outbound.Outbound.TheVariants as market
-use Rattle.order_law.specs.ouch_codec.declared.refusal.DecodeRefusal.{DecodeRefusal}
 use Rattle.fix_fields.specs.Field.{Message, character, is}
 use Rattle.order_law.specs.Chain.{is_used}
 use Rattle.order_law.specs.History.{Asked, Entry, OrderHistory, Terms, accepted, given_tokens, handled, is_new_order}
@@ -179,7 +177,7 @@ module _ (terms : List Terms) (before : OrderHistory) (en : Entry) (H : Holds te
       holds-kept = record {
         front = home-kept o.new (Rattle.order_machine.specs.OrderRecord.live_token o) f.holds.front;
         live = homes o.tokens f.holds.live;
-        replace = λ q e. (let h = f.holds.replace q e in (home-kept o.new (token_of q) h.0, found-kept o.new.client (Rattle.fix_fields.specs.Field.text 11 q.message) h.2 ∙ h.1, used (Rattle.fix_fields.specs.Field.text 11 q.message) h.2));
+        replaces = Each-map _ _ o.replaces (λ q h. (home-kept o.new (token_of q) h.0, found-kept o.new.client (Rattle.fix_fields.specs.Field.text 11 q.message) h.2 ∙ h.1, used (Rattle.fix_fields.specs.Field.text 11 q.message) h.2)) f.holds.replaces;
         cancel = λ c e. (let h = f.holds.cancel c e in (homes c.tokens h.0, found-kept o.new.client (Rattle.fix_fields.specs.Field.text 11 c.request.message) h.2 ∙ h.1, used (Rattle.fix_fields.specs.Field.text 11 c.request.message) h.2));
         id = used o.id f.holds.id;
       }

@@ -1,6 +1,6 @@
 -- What a lawful message makes of the order that it is on, whatever its type.
-use Rattle.std.proofs.Common.{◌≡◌, ◌≢◌, ℕ, ◌-◌, ◌<◌, ◌≤◌, ◌^◌, Bool, true, false, List, [], ◌∷◌, map, refl, sym, subst}
-use Rattle.std.proofs.Common.{arith, codes, bytes_eq, Option, Some, None, eqb-true}
+use Rattle.std.proofs.Common.{◌≡◌, ◌≢◌, ℕ, ◌-◌, ◌<◌, ◌≤◌, ◌^◌, Bool, true, false, List, [], ◌∷◌, map, refl, sym, ap, subst}
+use Rattle.std.proofs.Common.{arith}
 use Rattle.std.specs.Prelude.{◌&&◌, ◌||◌, ◌==◌, not}
 use Rattle.std.specs.List.{list_any}
 use Rattle.order_law.specs.ouch_codec.declared.outbound.Outbound.{Outbound}
@@ -19,7 +19,7 @@ use Rattle.order_law.specs.Life.{after, is_closed, is_dead, is_live, is_waiting}
 use Rattle.order_law.specs.History.{Entry, Said, Terms, answers, token_of}
 use Rattle.order_law.specs.Told.{priced, told_by}
 use Rattle.order_machine.specs.OrderRecord.{after_message, OrderRecord, asked_as, fill_of, record_life, replacements}
-use Rattle.order_machine.specs.OrderRecord.{shown_as}
+use Rattle.order_machine.specs.OrderRecord.{at, pending, shown_as, still_cancelling}
 use Rattle.order_machine.proofs.Texts.{eq-is}
 use Rattle.order_machine.proofs.Due.{Reads}
 use Rattle.order_machine.proofs.Leads.{AreNamed, Leads, leads-none}
@@ -27,7 +27,7 @@ use Rattle.order_machine.proofs.Moves.{Keeps, Moves, answers_last}
 use Rattle.order_machine.proofs.Executed.{AreNumbered-more, unanswered-same}
 use Rattle.order_machine.proofs.Canceled.{over-keeps}
 use Rattle.order_law.specs.Life.{is_of, is_working, stands_as}
-use Rattle.order_law.specs.Lawful.{may_leave, row_holds, same_terms, works_as}
+use Rattle.order_law.specs.Lawful.{is_first, may_leave, row_holds, same_terms, works_as}
 use Rattle.std.specs.Prelude.{nat_le}
 use Rattle.std.proofs.Common.{leb-true}
 use Rattle.order_law.specs.declared.trade.Trade.{Trade}
@@ -37,6 +37,7 @@ use Rattle.order_machine.proofs.Canceled as canceled
 use Rattle.order_machine.proofs.Accepted as accepted
 use Rattle.order_machine.proofs.Broken as broken
 use Rattle.order_machine.proofs.Rejected as rejected
+use Rattle.order_machine.proofs.NotReplaced.{not_replaced}
 use Rattle.order_machine.proofs.Replaced as replaced
 
 working-is : (s : Stage) → is_working s ≡ true → s ≡ Working
@@ -54,14 +55,10 @@ closed-is Waiting e over = absurd (let x : Waiting ≡ Closed = over in cc)
 closed-is Working e over = absurd (let x : Working ≡ Closed = over in cc)
 closed-is Closed e over = absurd (cc)
 
--- a token of a pending replace is the one replace's
-pub replacement-is : (r : Option Entry) (token : List ℕ) → list_any (bytes_eq token) (replacements r) ≡ true → (q : Entry) × (r ≡ Some q) × (token ≡ token_of q)
-replacement-is None token e = absurd (cc)
-replacement-is (Some q) token e = by_test (bytes_eq token (token_of q)) refl e
-  where
-    by_test : (b : Bool) → bytes_eq token (token_of q) ≡ b → (b || false) ≡ true → (x : Entry) × (◌≡◌ {A = Option Entry} (Some q) (Some x)) × (token ≡ token_of x)
-    by_test true same e = (q, refl, eq-is token (token_of q) same)
-    by_test false same e = absurd (cc)
+-- the first token of pending replaces is that of the oldest
+pub oldest-is : (rs : List Entry) (token : List ℕ) → is_first token (replacements rs) ≡ true → (q : Entry) × (qs : List Entry) × (rs ≡ q ∷ qs) × (token ≡ token_of q)
+oldest-is [] token e = absurd (cc)
+oldest-is (q ∷ qs) token e = (q, qs, refl, eq-is token (token_of q) e)
 
 or-parts : (a b : Bool) → (a || b) ≡ true → a ≡ false → b ≡ true
 or-parts true b e off = absurd (cc)
@@ -69,20 +66,23 @@ or-parts false b e off = e
 
 -- a message that says nothing of an order changes nothing
 module _ (P : List ℕ → Type 0) (Q : Entry → Type 0) (R : List ℕ → Type 0) (terms : List Terms) (old_id : List ℕ → List ℕ) (sent : List Message) (reports limit more : ℕ) (m : Outbound) (o : OrderRecord)
-    (lives : after (record_life o) m ≡ record_life o) (answers_none : (said : Said) → answers m said ≡ false) (price : priced m (record_life o) o.price ≡ o.price)
-    (bodies : told_by reports m (record_life o) (answers_last m (asked_as terms o)) (map fill_of o.trades) (shown_as o) ≡ [])
+    (lives : after (record_life o) m ≡ record_life o) (answers_none : (said : Said) → answers m (replacements o.replaces) said ≡ false) (price : priced m (record_life o) o.price ≡ o.price)
+    (bodies : told_by reports m (record_life o) (answers_last m (replacements o.replaces) (asked_as terms o)) (map fill_of o.trades) (shown_as o) ≡ [])
     (keeps : Keeps reports limit o) (reads : Reads sent o) where
   pub passed-moves : Moves P Q R terms old_id sent reports limit more m o o
   passed-moves = record {
     same = refl;
     kept = λ k. k;
     lives = lives;
-    leads = subst (λ (bodies : List Message). Leads o.new old_id sent bodies o) (sym bodies) (leads-none old_id sent o reads);
-    asked = λ is_live. unanswered-same terms m o answers_none;
+    leads = subst (λ (bodies : List Message). Leads o.new old_id sent bodies o (pending o)) (sym bodies) (leads-none old_id sent o (pending o) reads);
+    asked = λ is_live. unanswered-same terms m (replacements o.replaces) o answers_none;
     price = price;
     keeps = λ last later. record {
       sound = keeps.sound;
       apart = keeps.apart;
+      current = keeps.current;
+      tokens_apart = keeps.tokens_apart;
+      few = keeps.few;
       first = keeps.first;
       over_replace = keeps.over_replace;
       over_cancel = keeps.over_cancel;
@@ -98,7 +98,7 @@ module _ (P : List ℕ → Type 0) (Q : Entry → Type 0) (R : List ℕ → Type
 
 module _ (P : List ℕ → Type 0) (Q : Entry → Type 0) (R : List ℕ → Type 0) (terms : List Terms) (old_id : List ℕ → List ℕ) (sent : List Message) (reports limit : ℕ) (o : OrderRecord)
     (reports_small : reports < 10 ^ 64) (limit_small : limit < 10 ^ 63)
-    (keeps : Keeps reports limit o) (named : AreNamed old_id o) (reads : Reads sent o) where
+    (keeps : Keeps reports limit o) (named : AreNamed old_id (pending o)) (reads : Reads sent o) where
   abbrev Goes : Outbound → Type 0
   Goes m = Moves P Q R terms old_id sent reports limit 1_000_000 m o (after_message reports m o)
 
@@ -106,7 +106,7 @@ module _ (P : List ℕ → Type 0) (Q : Entry → Type 0) (R : List ℕ → Type
   goes m p e moves = subst (λ (x : OrderRecord). Moves P Q R terms old_id sent reports limit 1_000_000 m o x) (sym e) moves
 
   abbrev Holds : Outbound → Type 0
-  Holds m = row_holds m (record_life o) o.new (replacements o.replace) ≡ true
+  Holds m = row_holds m (record_life o) o.new (replacements o.replaces) ≡ true
 
   on_accepted : (m : Accepted) → Holds (market.Accepted m) → Goes (market.Accepted m)
   on_accepted m may =
@@ -120,14 +120,14 @@ module _ (P : List ℕ → Type 0) (Q : Entry → Type 0) (R : List ℕ → Type
 
   on_replaced : (m : Replaced) → Holds (market.Replaced m) → Goes (market.Replaced m)
   on_replaced m may =
-      let parts = and-parts (works_as (record_life o) m.previous_token) (list_any (bytes_eq m.token) (replacements o.replace) && same_terms m.side m.stock o.new) may in
+      let parts = and-parts (works_as (record_life o) m.previous_token) (is_first m.token (replacements o.replaces) && same_terms m.side m.stock o.new) may in
       let works = and-parts (is_live (record_life o) m.previous_token) (is_working o.stage) parts.0 in
-      let asked = replacement-is o.replace m.token (and-parts (list_any (bytes_eq m.token) (replacements o.replace)) (same_terms m.side m.stock o.new) parts.1).0 in
-      by_state works.0 (working-is o.stage works.1) asked.0 asked.1 asked.2 (is_dead m.order_state) refl
+      let asked = oldest-is o.replaces m.token (and-parts (is_first m.token (replacements o.replaces)) (same_terms m.side m.stock o.new) parts.1).0 in
+      by_state works.0 (working-is o.stage works.1) asked.0 asked.1 asked.2 asked.3 (is_dead m.order_state) refl
     where
-      by_state : is_live (record_life o) m.previous_token ≡ true → o.stage ≡ Working → (q : Entry) → o.replace ≡ Some q → m.token ≡ token_of q → (d : Bool) → is_dead m.order_state ≡ d → Goes (market.Replaced m)
-      by_state live works q is_q token true dead = goes (market.Replaced m) _ (rw (is_q, dead) refl) (replaced.replaced_dead P Q R terms old_id sent reports limit 1_000_000 m o q works live is_q token (omega (arith, m.shares_set.1)) (omega arith) limit_small keeps named reads dead)
-      by_state live works q is_q token false alive = goes (market.Replaced m) _ (rw (is_q, alive) refl) (replaced.replaced_live P Q R terms old_id sent reports limit 1_000_000 m o q works live is_q token (omega (arith, m.shares_set.1)) (omega arith) limit_small keeps named reads alive)
+      by_state : is_live (record_life o) m.previous_token ≡ true → o.stage ≡ Working → (q : Entry) (qs : List Entry) → o.replaces ≡ q ∷ qs → m.token ≡ token_of q → (d : Bool) → is_dead m.order_state ≡ d → Goes (market.Replaced m)
+      by_state live works q qs are token true dead = goes (market.Replaced m) _ (rw (are, dead) refl) (replaced.replaced_dead P Q R terms old_id sent reports limit 1_000_000 m o q qs works live are token (omega (arith, m.shares_set.1)) (omega arith) limit_small keeps named reads dead)
+      by_state live works q qs are token false alive = goes (market.Replaced m) _ (rw (are, alive) refl) (replaced.replaced_live P Q R terms old_id sent reports limit 1_000_000 m o q qs works live are token (omega (arith, m.shares_set.1)) (omega arith) limit_small keeps named reads alive)
 
   on_canceled : (m : Canceled) → Holds (market.Canceled m) → Goes (market.Canceled m)
   on_canceled m may =
@@ -170,10 +170,10 @@ module _ (P : List ℕ → Type 0) (Q : Entry → Type 0) (R : List ℕ → Type
           let parts = and-parts (is_waiting o.stage) (is_live (record_life o) m.token) first in
           goes (market.Rejected m) _ (rw first refl) (rejected.refused-moves P Q R terms old_id sent reports limit 1_000_000 m o parts.1 (waiting-is o.stage parts.0) keeps named reads)
       by_first may false not_first =
-          let rest = or-parts (is_live (record_life o) m.token && is_waiting o.stage) (list_any (bytes_eq m.token) (replacements o.replace) && not (is_closed o.stage)) may (flipped (is_waiting o.stage) (is_live (record_life o) m.token) not_first) in
-          let parts = and-parts (list_any (bytes_eq m.token) (replacements o.replace)) (not (is_closed o.stage)) rest in
-          let asked = replacement-is o.replace m.token parts.0 in
-          goes (market.Rejected m) _ (rw not_first refl) (replaced.not_replaced P Q R terms old_id sent reports limit 1_000_000 m o asked.0 (closed-is o.stage parts.1) not_first asked.1 asked.2 keeps named reads)
+          let rest = or-parts (is_live (record_life o) m.token && is_waiting o.stage) (is_first m.token (replacements o.replaces) && not (is_closed o.stage)) may (flipped (is_waiting o.stage) (is_live (record_life o) m.token) not_first) in
+          let parts = and-parts (is_first m.token (replacements o.replaces)) (not (is_closed o.stage)) rest in
+          let asked = oldest-is o.replaces m.token parts.0 in
+          goes (market.Rejected m) _ (rw not_first (ap (λ (rs : List Entry). at o [] (still_cancelling (market.Rejected m) (replacements rs) o.cancel)) asked.2)) (not_replaced P Q R terms old_id sent reports limit 1_000_000 m o asked.0 asked.1 (closed-is o.stage parts.1) not_first asked.2 asked.3 keeps named reads)
 
   on_cancel_reject : (m : CancelReject) → Holds (market.CancelReject m) → Goes (market.CancelReject m)
   on_cancel_reject m may =
@@ -181,9 +181,9 @@ module _ (P : List ℕ → Type 0) (Q : Entry → Type 0) (R : List ℕ → Type
       goes (market.CancelReject m) _ refl (rejected.cancel_reject-moves P Q R terms old_id sent reports limit 1_000_000 m o (working-is o.stage works.1) keeps named reads)
 
   abbrev Passes : Outbound → Type 0
-  Passes m = (after (record_life o) m ≡ record_life o) × ((said : Said) → answers m said ≡ false) × (priced m (record_life o) o.price ≡ o.price)
+  Passes m = (after (record_life o) m ≡ record_life o) × ((said : Said) → answers m (replacements o.replaces) said ≡ false) × (priced m (record_life o) o.price ≡ o.price)
 
-  passed : (m : Outbound) → Passes m → told_by reports m (record_life o) (answers_last m (asked_as terms o)) (map fill_of o.trades) (shown_as o) ≡ [] → after_message reports m o ≡ o → Goes m
+  passed : (m : Outbound) → Passes m → told_by reports m (record_life o) (answers_last m (replacements o.replaces) (asked_as terms o)) (map fill_of o.trades) (shown_as o) ≡ [] → after_message reports m o ≡ o → Goes m
   passed m p none e = goes m o e (passed-moves P Q R terms old_id sent reports limit 1_000_000 m o p.0 p.1 p.2 none keeps reads)
 
   pub row-moves : (m : Outbound) → Holds m → Goes m

@@ -1,25 +1,22 @@
 -- Each run of the machine has the headline: turn by turn, from the empty table on.
-use Rattle.std.proofs.Common.{◌≡◌, ℕ, ◌+◌, ◌<◌, ◌^◌, Bool, true, false, List, [], ◌∷◌, length, refl, sym, ap, ◌∙◌}
-use Rattle.std.proofs.Common.{subst, arith, codes, Option, Some, None, Result}
+use Rattle.std.proofs.Common.{◌≡◌, ℕ, ◌<◌, ◌^◌, Bool, true, false, List, [], ◌∷◌, length, refl, sym, ap, ◌∙◌}
+use Rattle.std.proofs.Common.{subst, arith, Option, Some, None, Result}
 use Rattle.std.specs.Prelude.{if◌then◌else◌, option_map}
 use Rattle.std.specs.Str.Parse.{digits_value}
 use Rattle.order_law.specs.ouch_codec.declared.outbound.Outbound.{Outbound}
-use Rattle.order_law.specs.ouch_codec.declared.outbound.Outbound.TheVariants as market
 use Rattle.order_law.specs.ouch_codec.declared.refusal.DecodeRefusal.{DecodeRefusal}
 use Rattle.fix_fields.specs.Field.{Message, text}
 use Rattle.order_law.specs.Verdicts.{Accepted, Port, Refused, Verdict, first_row, rows_of_request}
 use Rattle.order_law.specs.History.{Asked, Came, Entry, OrderEvent, Heard, OrderHistory, Terms, OrderTurn, accepted}
 use Rattle.order_law.specs.History.{asks_of, entry_at, handled, is_new_order, issued, terms_of}
-use Rattle.order_law.specs.Lawful.{judgement, order_of_token}
-use Rattle.order_law.specs.Told.{reports_in, told}
-use Rattle.order_law.specs.Headline.{AnswersClient, Headline, Says, Sends, TurnHolds, TurnOf, order_number}
+use Rattle.order_law.specs.Told.{reports_in}
+use Rattle.order_law.specs.Headline.{Headline, Says, Sends, order_number}
 use Rattle.order_machine.specs.OrderRecord.{OrderRecord}
-use Rattle.order_machine.specs.Told.{IsTold, IsToldTurn, fault_of}
+use Rattle.order_machine.specs.Told.{IsToldTurn}
 use Rattle.order_machine.specs.Table.{TableState, record_by_id, record_by_token, table_without_orders, has_used}
-use Rattle.order_machine.specs.Table.{named_as}
 use Rattle.order_machine.specs.Machine.{GivenByEvent, accept_new, accept_on, accept_request, by_verdict, client_step}
 use Rattle.order_machine.specs.Machine.{market_step, refuse_new, refuse_request, table_step, verdict_in}
-use Rattle.order_machine.specs.Runs.{IsTableRun, Leads, LeadsTo, TurnsLeave, TurnMeets, SendsAs}
+use Rattle.order_machine.specs.Runs.{Leads, LeadsTo, TurnsLeave, TurnMeets, SendsAs}
 use Rattle.order_machine.proofs.Coming.{coming_turn}
 use Rattle.order_machine.proofs.Hearing.{heard_turn}
 use Rattle.order_machine.proofs.Truth.{AllTrue, empty-Holds, turn-next}

@@ -1,35 +1,35 @@
 -- A client's message keeps the table as the lists have it, and asks what the law asks.
-use Rattle.std.proofs.Common.{◌≡◌, ◌≢◌, ℕ, ◌+◌, ◌*◌, ◌<◌, ◌≤◌, ◌^◌, Bool, true, false, List, [], ◌∷◌, ◌++◌, length, map, reverse, refl, sym, ap, ◌∙◌, subst, arith, decimal, codes, bytes_eq, Option, Some, None, eqb-true, eq-eqb, ne_eqb}
+use Rattle.std.proofs.Common.{◌≡◌, ℕ, ◌+◌, ◌*◌, ◌<◌, ◌≤◌, ◌^◌, Bool, true, false, List, [], ◌∷◌, ◌++◌, length, map, reverse, refl, sym, ap, ◌∙◌, subst, arith, decimal, codes, bytes_eq, Option, Some, None, eq-eqb}
 use Rattle.std.specs.Prelude.{◌&&◌, ◌||◌, ◌==◌, if◌then◌else◌, is_some, filter, option_and_then, option_map}
 use Rattle.std.specs.List.{count_by, find, list_any}
 use Rattle.std.proofs.lemmas.List.Folds.{list_any-append}
 use Rattle.order_law.specs.declared.stage.Stage.TheVariants.{Waiting}
-use Rattle.fix_fields.specs.Field.{Message, is, text}
+use Rattle.fix_fields.specs.Field.{Message, text}
 use Rattle.order_law.specs.Reading.{is_report, reading}
 use Rattle.order_law.specs.Chain.{chain, is_used, named}
-use Rattle.order_law.specs.Verdicts.{Accepted, Named, Port, Refused, Verdict, first_row, is_replace, rows_of_request, verdict_of_request}
-use Rattle.order_law.specs.History.{Asked, Came, Entry, OrderEvent, OrderHistory, Terms, OrderTurn, accepted, asks_of, entry_at, given_tokens, handled, is_new_order, issued, new_of, orders_numbered, outstanding, standing_of, terms_of, token_of, verdict}
+use Rattle.order_law.specs.Verdicts.{Accepted, Named, Port, Refused, Verdict, is_replace}
+use Rattle.order_law.specs.History.{Asked, Came, Entry, last_token, OrderEvent, OrderHistory, Terms, OrderTurn, accepted, asks_of, entry_at, given_tokens, handled, is_new_order, issued, new_of, orders_numbered, outstanding, standing_of, terms_of, token_of, verdict}
 use Rattle.order_law.specs.Told.{Shown, Told, accepted_new, accepted_request, newly_shown, plain, refusing_report, refused_request, report, reports_in, shown_in, shown, told_by_verdict, told_accepted_as}
 use Rattle.order_law.specs.Told as law
-use Rattle.order_law.specs.Headline.{Each, said_in}
-use Rattle.order_machine.specs.OrderRecord.{OrderRecord, after_request, at, cancel_asked, entered, live_token, new_asked, replace_asked, replacements, shown_as}
-use Rattle.order_machine.specs.Told.{IsTold, IsToldTurn}
-use Rattle.order_machine.specs.Table.{GivenToken, TableState, UsedId, record_by_id, has_number, has_used, is_named, is_same_id, named_as, put, token_given, used_by, with_token}
-use Rattle.order_machine.specs.Machine.{GivenByEvent, accept_new, accept_on, accept_request, entry_of_new, entry_of_request, refuse_new, refuse_request, request_asked, verdict_in}
-use Rattle.order_machine.proofs.Texts.{eq-decimal_other, eq-is, eq-same}
+use Rattle.order_law.specs.Headline.{Each}
+use Rattle.order_machine.specs.OrderRecord.{OrderRecord, after_request, asked_replace, at, cancel_asked, entered, live_token, new_asked, replacements, shown_as}
+use Rattle.order_machine.specs.Told.{IsTold}
+use Rattle.order_machine.specs.Table.{GivenToken, TableState, UsedId, record_by_id, has_used, is_named, is_same_id, named_as, put, token_given, used_by, with_token}
+use Rattle.order_machine.specs.Machine.{GivenByEvent, accept_new, accept_on, entry_of_new, entry_of_request, refuse_new, refuse_request, request_asked, verdict_in}
+use Rattle.order_machine.proofs.Texts.{eq-decimal_other}
 use Rattle.order_machine.proofs.Lists.{Each-filter, Each-map}
 use Rattle.order_machine.proofs.Executed.{count-more}
 use Rattle.order_machine.proofs.Finding.{Each-found}
 use Rattle.order_machine.proofs.Leads.{same_some}
 use Rattle.order_machine.proofs.Fits.{shown-is}
-use Rattle.order_machine.proofs.Holds.{FitsIn, HasRecord, Holds, IsEntry, Still, StillBeside, news, port_of}
+use Rattle.order_machine.proofs.Holds.{FitsIn, IsEntry, Still, StillBeside, news, port_of}
 use Rattle.order_machine.proofs.Coming.{coming_turn, numbered-came}
 use Rattle.order_machine.proofs.Came.{beside-new, fits-new, known-refused, new-refused, taken-new, unknown-refused}
-use Rattle.order_machine.proofs.Verdicts.{RequestSays, request-says}
+use Rattle.order_machine.proofs.Verdicts.{request-says}
 use Rattle.order_machine.proofs.Truth as truth
 use Rattle.order_machine.proofs.Truth.{Next, RequestOf, turn-next}
-use Rattle.order_machine.proofs.Linked.{HasOwnToken, IsTable, given-tokens, id-leads, named-client, named-so, verdict-same}
-use Rattle.order_machine.proofs.Placed.{AreDistinct, Each-put, entries-put, entries_of}
+use Rattle.order_machine.proofs.Linked.{HasOwnToken, IsTable, given-tokens, id-leads, named-so, verdict-same}
+use Rattle.order_machine.proofs.Placed.{AreDistinct, Each-put, entries-put}
 
 -- ---- ids
 
@@ -299,7 +299,7 @@ module _ (terms : List Terms) (before : OrderHistory) (s : TableState) (t : IsTa
 pub after_request-new : (q : Entry) (o : OrderRecord) → (after_request q o).new ≡ o.new
 after_request-new q o = by_kind (is_replace q.message)
   where
-    by_kind : (b : Bool) → (if b then at o (Some q) o.cancel else at o o.replace (Some (record { request = q; tokens = live_token o ∷ replacements o.replace }))).new ≡ o.new
+    by_kind : (b : Bool) → (if b then at o (o.replaces ++ q ∷ []) o.cancel else at o o.replaces (Some (record { request = q; tokens = live_token o ∷ replacements o.replaces }))).new ≡ o.new
     by_kind true = refl
     by_kind false = refl
 
@@ -414,16 +414,16 @@ module _ (terms : List Terms) (before : OrderHistory) (s : TableState) (t : IsTa
       live-so : Rattle.order_law.specs.Life.live (Rattle.order_law.specs.History.life_of o.new.order E (handled (port_of terms o.new) before)) ≡ live_token o
       live-so = ap Rattle.order_law.specs.Life.live (Rattle.order_machine.proofs.Fits.life-of terms E (orders_numbered before) (issued c before) (handled (port_of terms o.new) before) (outstanding terms (port_of terms o.new) before) (reports_in before) (1_000_000 * length before) o f)
 
-      tokens-so : Rattle.order_law.specs.History.pending_tokens c (chain o.new.order (issued c before)) E ≡ replacements o.replace
+      tokens-so : Rattle.order_law.specs.History.pending_tokens c (chain o.new.order (issued c before)) E ≡ replacements o.replaces
       tokens-so = ap (λ (x : Rattle.order_law.specs.Chain.Chain). Rattle.order_law.specs.History.pending_tokens c x E) f.reads.chained_so
           ∙ Rattle.order_machine.proofs.Fits.tokens-are terms E (orders_numbered before) (issued c before) (handled (port_of terms o.new) before) (outstanding terms (port_of terms o.new) before) (reports_in before) (1_000_000 * length before) o f
 
       by_kind : (b : Bool)
-          → (if b then record { order = o.new.order; id = text 11 m; said = Rattle.order_law.specs.History.SaysReplace (Rattle.order_law.specs.Life.live (Rattle.order_law.specs.History.life_of o.new.order E (handled (port_of terms o.new) before))) (token_of q); ask = Rattle.order_law.specs.Asks.asked_by_request (Rattle.std.specs.Str.Parse.digits_value 10 o.new.order) m } ∷ []
+          → (if b then record { order = o.new.order; id = text 11 m; said = Rattle.order_law.specs.History.SaysReplace (last_token (Rattle.order_law.specs.Life.live (Rattle.order_law.specs.History.life_of o.new.order E (handled (port_of terms o.new) before))) (Rattle.order_law.specs.History.pending_tokens c (chain o.new.order (issued c before)) E)) (token_of q); ask = Rattle.order_law.specs.Asks.asked_by_request (Rattle.std.specs.Str.Parse.digits_value 10 o.new.order) m } ∷ []
           else map (λ token. record { order = o.new.order; id = text 11 m; said = Rattle.order_law.specs.History.SaysCancel token; ask = Rattle.order_law.specs.Asks.asked_by_request (Rattle.std.specs.Str.Parse.digits_value 10 o.new.order) m })
           (Rattle.order_law.specs.Life.live (Rattle.order_law.specs.History.life_of o.new.order E (handled (port_of terms o.new) before)) ∷ Rattle.order_law.specs.History.pending_tokens c (chain o.new.order (issued c before)) E))
-          ≡ (if b then replace_asked o.new (live_token o) (Some q) else cancel_asked o.new (Some (record { request = q; tokens = live_token o ∷ replacements o.replace })))
-      by_kind true = rw live-so refl
+          ≡ (if b then asked_replace o.new (last_token (live_token o) (replacements o.replaces)) q ∷ [] else cancel_asked o.new (Some (record { request = q; tokens = live_token o ∷ replacements o.replaces })))
+      by_kind true = rw (live-so, tokens-so) refl
       by_kind false = rw (live-so, tokens-so) refl
 
   abbrev Asks : Entry → ℕ → Type 0

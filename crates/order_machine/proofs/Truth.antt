@@ -1,10 +1,9 @@
 -- In every told history each order is true to the market, after each turn.
-use Rattle.std.proofs.Common.{◌≡◌, ℕ, suc, ◌+◌, ◌*◌, ◌<◌, ◌^◌, Bool, true, false, List, [], ◌∷◌, length, refl, sym, ap}
+use Rattle.std.proofs.Common.{◌≡◌, ℕ, ◌+◌, ◌<◌, ◌^◌, Bool, true, false, List, [], ◌∷◌, length, refl, sym, ap}
 use Rattle.std.proofs.Common.{◌∙◌, subst, arith, decimal, codes, Option, Some, None, Result, Ok, Err}
 use Rattle.std.specs.Prelude.{◌&&◌, if◌then◌else◌}
 use Rattle.std.specs.List.{find}
 use Rattle.order_law.specs.ouch_codec.declared.outbound.Outbound.{Outbound}
-use Rattle.order_law.specs.ouch_codec.declared.outbound.Outbound.TheVariants as market
 use Rattle.order_law.specs.ouch_codec.declared.refusal.DecodeRefusal.{DecodeRefusal}
 use Rattle.fix_fields.specs.Field.{Message, text}
 use Rattle.order_law.specs.Life.{is_closed}
@@ -17,12 +16,9 @@ use Rattle.order_law.specs.Told.{Told, answers_last_cancel, nobody, price_after,
 use Rattle.order_law.specs.Told.{told_of_entry}
 use Rattle.order_law.specs.Headline.{Each, IsTrueToMarket, said_in}
 use Rattle.order_machine.specs.OrderRecord.{OrderRecord, after_request, at, live_token, replacements, shown_as}
-use Rattle.order_machine.proofs.Texts.{and-parts}
 use Rattle.order_machine.proofs.Fits.{named}
 use Rattle.order_machine.specs.Told.{IsTold, IsToldTurn, fault_of}
-use Rattle.std.specs.Prelude.{nat_lt, take, drop, fold, option_and_then}
-use Rattle.std.specs.List.{list_all}
-use Rattle.std.proofs.lemmas.Bool.Decides.{nat_tests}
+use Rattle.std.specs.Prelude.{◌++◌, nat_le, option_and_then}
 use Rattle.order_machine.proofs.Holds.{FitsIn, HasRecord, Holds, StillBeside, news, port_of, record-of}
 use Rattle.order_machine.proofs.Hearing.{fault-Holds, heard_turn, tokenless-Holds}
 use Rattle.order_machine.proofs.Lawfully.{lawful-Holds, token-of}
@@ -32,9 +28,9 @@ use Rattle.order_machine.proofs.Came.{known-refused, new-refused, new-taken, tak
 use Rattle.order_law.specs.Told.{told_accepted_as}
 use Rattle.order_machine.proofs.Requested as requested
 use Rattle.order_machine.proofs.Verdicts.{RequestSays, named-is, request-says}
-use Rattle.order_law.specs.Chain.{goes_by, named as named_order, has_pending_cancel, has_pending_replace}
+use Rattle.order_law.specs.Chain.{goes_by, named as named_order, has_pending_cancel, replaces}
 use Rattle.order_law.specs.Reading.{Reading}
-use Rattle.order_law.specs.Verdicts.{Accepted, Port, Refused, Verdict, is_replace, verdict_of_request, Named}
+use Rattle.order_law.specs.Verdicts.{Accepted, Port, Refused, Verdict, is_replace, most_pending, verdict_of_request, Named}
 use Rattle.order_law.specs.History.{Came, OrderEvent, standing_of, verdict}
 use Rattle.order_law.specs.Told.{Shown, on_request, refused_request, reject, report, shown, shown_in, status_of}
 use Rattle.order_law.specs.Told.{told_by_verdict}
@@ -117,11 +113,14 @@ module _ (terms : List Terms) (before : OrderHistory) (m : Message) (port : Port
   may-ask : (Rattle.order_law.specs.Verdicts.has_to_wait (is_replace m) (chained o)) ≡ false
   may-ask = ap (Rattle.order_law.specs.Verdicts.has_to_wait (is_replace m)) (sym (chain_so ∙ f.reads.chained_so)) ∙ says.may
 
-  parts : (has_pending_cancel (chained o) ≡ false) × ((is_replace m && has_pending_replace (chained o)) ≡ false)
-  parts = requested.or-both (has_pending_cancel (chained o)) (is_replace m && has_pending_replace (chained o)) may-ask
+  parts : (has_pending_cancel (chained o) ≡ false) × ((is_replace m && nat_le most_pending (length (replaces (chained o)))) ≡ false)
+  parts = requested.or-both (has_pending_cancel (chained o)) (is_replace m && nat_le most_pending (length (replaces (chained o)))) may-ask
 
   no_c : o.cancel ≡ None
-  no_c = requested.no-cancel o parts.0
+  no_c = requested.no-cancel o f.keeps.sound parts.0
+
+  few-pending : is_replace m ≡ true → length o.replaces < most_pending
+  few-pending kind = requested.few-replaces o f.keeps.sound (ap (λ (x : Bool). x && nat_le most_pending (length (replaces (chained o)))) (sym kind) ∙ parts.1)
 
   abbrev Comes' : List Message → Type 0
   Comes' bodies = Next terms (coming_turn o.new.client m port bodies sends) before
@@ -151,23 +150,21 @@ module _ (terms : List Terms) (before : OrderHistory) (m : Message) (port : Port
     where
       by_kind : (b : Bool) → is_replace m ≡ b → Then BodiesTold
       by_kind true kind =
-          let no_r = requested.no-replace o (ap (λ (x : Bool). x && has_pending_replace (chained o)) (sym kind) ∙ parts.1) in
-          let now : after_request entry o ≡ at o (Some entry) o.cancel = rw kind refl in
-          subst Then (sym (told-as ∙ requested.replace-told terms before m port sends H short o f v old named says.unused lives_on no_c says.token token refl kind no_r))
-          (fits-then (report (reports_in before + 1) (on_request (codes "E") entry) (shown_as (at o (Some entry) o.cancel)) ∷ []) (at o (Some entry) o.cancel) now (requested.replace-fits terms before m port sends H short o f v old named says.unused lives_on no_c says.token token refl kind no_r))
+          let now : after_request entry o ≡ at o (o.replaces ++ entry ∷ []) o.cancel = rw kind refl in
+          subst Then (sym (told-as ∙ requested.replace-told terms before m port sends H short o f v old named says.unused lives_on no_c says.token token refl kind (few-pending kind)))
+          (fits-then (report (reports_in before + 1) (on_request (codes "E") entry) (shown_as (at o (o.replaces ++ entry ∷ []) o.cancel)) ∷ []) (at o (o.replaces ++ entry ∷ []) o.cancel) now (requested.replace-fits terms before m port sends H short o f v old named says.unused lives_on no_c says.token token refl kind (few-pending kind)))
       by_kind false kind =
-          let now : after_request entry o ≡ at o o.replace (Some (record { request = entry; tokens = live_token o ∷ replacements o.replace })) = rw kind refl in
+          let now : after_request entry o ≡ at o o.replaces (Some (record { request = entry; tokens = live_token o ∷ replacements o.replaces })) = rw kind refl in
           subst Then (sym (told-as ∙ requested.cancel-told terms before m port sends H short o f v old named says.unused lives_on no_c says.token token refl kind))
-          (fits-then (report (reports_in before + 1) (on_request (codes "6") entry) (shown_as (at o o.replace (Some (record { request = entry; tokens = live_token o ∷ replacements o.replace })))) ∷ []) (at o o.replace (Some (record { request = entry; tokens = live_token o ∷ replacements o.replace }))) now (requested.cancel-fits terms before m port sends H short o f v old named says.unused lives_on no_c says.token token refl kind))
+          (fits-then (report (reports_in before + 1) (on_request (codes "6") entry) (shown_as (at o o.replaces (Some (record { request = entry; tokens = live_token o ∷ replacements o.replaces })))) ∷ []) (at o o.replaces (Some (record { request = entry; tokens = live_token o ∷ replacements o.replaces }))) now (requested.cancel-fits terms before m port sends H short o f v old named says.unused lives_on no_c says.token token refl kind))
 
   accepted-request : Comes' (told_by_verdict terms o.new.client m port before (verdict terms (issued o.new.client before) (accepted terms before) port m))
   accepted-request = by_kind (is_replace m) refl
     where
       by_kind : (b : Bool) → is_replace m ≡ b → Comes' (told_by_verdict terms o.new.client m port before (verdict terms (issued o.new.client before) (accepted terms before) port m))
       by_kind true kind =
-          let no_r = requested.no-replace o (ap (λ (x : Bool). x && has_pending_replace (chained o)) (sym kind) ∙ parts.1) in
-          subst Comes' (sym (told-as ∙ requested.replace-told terms before m port sends H short o f v old named says.unused lives_on no_c says.token token refl kind no_r))
-          (requested.replace-Holds terms before m port sends H short o f v old named says.unused lives_on no_c says.token token refl kind no_r)
+          subst Comes' (sym (told-as ∙ requested.replace-told terms before m port sends H short o f v old named says.unused lives_on no_c says.token token refl kind (few-pending kind)))
+          (requested.replace-Holds terms before m port sends H short o f v old named says.unused lives_on no_c says.token token refl kind (few-pending kind))
       by_kind false kind =
           subst Comes' (sym (told-as ∙ requested.cancel-told terms before m port sends H short o f v old named says.unused lives_on no_c says.token token refl kind))
           (requested.cancel-Holds terms before m port sends H short o f v old named says.unused lives_on no_c says.token token refl kind)

@@ -1,6 +1,6 @@
 -- After each turn the list of what is asked and not answered has, on each port, what the law reads from all turns.
 use Rattle.std.proofs.Common.{◌≡◌, ◌≢◌, ℕ, ◌-◌, ◌*◌, Bool, true, false, List, [], ◌∷◌, length, refl, sym, ap, ◌∙◌}
-use Rattle.std.proofs.Common.{subst, codes, bytes_eq, Option, Some, None, Result, Ok, Err, eq-eqb, eqb-true, ne_eqb}
+use Rattle.std.proofs.Common.{subst, bytes_eq, Option, Some, None, Result, Ok, Err, eq-eqb, eqb-true, ne_eqb}
 use Rattle.std.specs.Prelude.{◌==◌, ◌&&◌, ◌||◌, not, if◌then◌else◌, filter, option_and_then, option_map}
 use Rattle.std.specs.List.{find}
 use Rattle.order_law.specs.ouch_codec.declared.outbound.Outbound.{Outbound}
@@ -10,26 +10,27 @@ use Rattle.order_law.specs.ouch_codec.declared.outbound.replaced.Replaced.{Repla
 use Rattle.fix_fields.specs.Field.{Message}
 use Rattle.order_law.specs.Life.{Life, is_closed, is_dead}
 use Rattle.order_law.specs.History.{Asked, Entry, OrderHistory, Terms, OrderTurn, accepted, answers, handled, issued}
-use Rattle.order_law.specs.History.{life_of, new_of, orders_numbered, outstanding}
+use Rattle.order_law.specs.History.{life_of, new_of, next_tokens, orders_numbered, outstanding}
+use Rattle.order_law.specs.History.{is_answered as is_law_answered}
 use Rattle.order_law.specs.Told.{reports_in}
 use Rattle.order_law.specs.Lawful.{order_token}
 use Rattle.order_law.specs.Headline.{Each}
 use Rattle.order_machine.specs.OrderRecord.{OrderRecord, ToldTrade, after_broken, after_message, after_replaced}
-use Rattle.order_machine.specs.OrderRecord.{record_life, stands_told}
+use Rattle.order_machine.specs.OrderRecord.{record_life, replacements, stands_told}
 use Rattle.order_machine.specs.Table.{TableState, by_number, record_by_token, has_number, put}
 use Rattle.order_machine.specs.Machine.{GivenByEvent, payload_fault, faulty, heard_on, market_step, silent}
 use Rattle.order_machine.specs.Outstanding.{OnPort, is_answered, is_on, on_port, still_asked, still_asked_on}
 use Rattle.order_machine.specs.Outstanding.{unanswered_by}
-use Rattle.order_machine.proofs.Texts.{and-false, eq-is, eq-true, eq-turned}
+use Rattle.order_machine.proofs.Texts.{eq-is, eq-true, eq-turned}
 use Rattle.order_machine.proofs.Lists.{Each-filter, found-passes}
 use Rattle.order_machine.proofs.Leads.{same_some}
 use Rattle.order_machine.proofs.Moves.{filter-all}
-use Rattle.order_machine.proofs.Fits.{life-of, own}
+use Rattle.order_machine.proofs.Fits.{life-of, next-own, own}
 use Rattle.order_machine.proofs.Holds.{FitsIn, port_of}
 use Rattle.order_machine.proofs.Hearing.{append-nothing, heard_turn}
 use Rattle.order_machine.proofs.Finding.{Each-found}
 use Rattle.order_machine.proofs.Placed.{number-put_other, number-put_own}
-use Rattle.order_machine.proofs.Linked.{IsTable, number-leads, token-port}
+use Rattle.order_machine.proofs.Linked.{IsTable, number-leads, token-fits, token-port}
 use Rattle.order_machine.proofs.OnPorts.{each-all, each-both, filter-each, kept-members, on-filter}
 
 -- its order was accepted, of a client on this port
@@ -68,14 +69,22 @@ recorded terms h s t port a k = by_order (by_number s a.order) refl (number-lead
       named = eq-is o.new.order a.order (found-passes (has_number a.order) s.orders o e);
     }
 
+-- the replaces that are asked for the order of a token are its pending ones
+pub next-pending : (terms : List Terms) (before : OrderHistory) (s : TableState) (t : IsTable terms before s) (port : ℕ) (m : Outbound) (token : List ℕ) (o : OrderRecord) → record_by_token s port token ≡ Some o
+    → next_tokens o.new.order (outstanding terms port before) ≡ replacements o.replaces
+next-pending terms before s t port m token o on =
+    let fits : FitsIn terms before o = token-fits terms before s t port m token o on in
+    ap (λ (p : ℕ). next_tokens o.new.order (outstanding terms p before)) (sym (token-port terms before s t port m token o on))
+    ∙ next-own terms o (outstanding terms (port_of terms o.new) before) fits.asked_so
+
 -- a message changes nothing of the new order
 if-new : (b : Bool) (x y : OrderRecord) (e : Entry) → x.new ≡ e → y.new ≡ e → (if b then x else y).new ≡ e
 if-new true x y e same same' = same
 if-new false x y e same same' = same'
 
-replaced-new : (m : Replaced) (o : OrderRecord) (r : Option Entry) → (after_replaced m o r).new ≡ o.new
-replaced-new m o None = refl
-replaced-new m o (Some q) = if-new (is_dead m.order_state) _ _ o.new refl refl
+replaced-new : (m : Replaced) (o : OrderRecord) (rs : List Entry) → (after_replaced m o rs).new ≡ o.new
+replaced-new m o [] = refl
+replaced-new m o (q ∷ qs) = if-new (is_dead m.order_state) _ _ o.new refl refl
 
 broken-new : (o : OrderRecord) (x : Option ToldTrade) → (after_broken o x).new ≡ o.new
 broken-new o None = refl
@@ -83,7 +92,7 @@ broken-new o (Some t) = refl
 
 pub after_message-new : (n : ℕ) (m : Outbound) (o : OrderRecord) → (after_message n m o).new ≡ o.new
 after_message-new n (market.Accepted m) o = if-new (is_dead m.order_state) _ _ o.new refl refl
-after_message-new n (market.Replaced m) o = replaced-new m o o.replace
+after_message-new n (market.Replaced m) o = replaced-new m o o.replaces
 after_message-new n (market.Canceled m) o = if-new (o.unfilled - m.decrement == 0) _ _ o.new refl refl
 after_message-new n (market.Executed m) o = if-new (o.unfilled - m.shares == 0) _ _ o.new refl refl
 after_message-new n (market.Broken m) o = broken-new o (find (stands_told m.match_number) o.trades)
@@ -104,7 +113,7 @@ module _ (terms : List Terms) (before : OrderHistory) (s : TableState) (t : IsTa
 
   -- the law's test of what a port was asked
   abbrev still : ℕ → Asked → Bool
-  still p a = not (answers m a.said || is_closed (life_of a.order A (handled p (turn ∷ before))).stage)
+  still p a = not (is_law_answered m (outstanding terms p before) a || is_closed (life_of a.order A (handled p (turn ∷ before))).stage)
 
   -- an order of a port that stays as it is
   abbrev Stays : ℕ → Type 0
@@ -146,11 +155,11 @@ module _ (terms : List Terms) (before : OrderHistory) (s : TableState) (t : IsTa
             let r = recorded terms before s t p a k.0 in
             k.1 (r.order, r.fits, Each-found (FitsIn terms (turn ∷ before)) (has_number a.order) s.orders r.order after.fit r.found, r.at_home) (eq-true a.order r.order.new.order (sym r.named))
 
-    -- where one order of the port is this one then
-    module _ (q : OrderRecord) (at_port : port_of terms q.new ≡ port) (fit : Each (FitsIn terms (turn ∷ before)) (put q s.orders)) where
+    -- where one order of the port is this one then, with replaces pending before that ask for these tokens
+    module _ (q : OrderRecord) (next : List (List ℕ)) (next-so : next_tokens q.new.order (outstanding terms port before) ≡ next) (at_port : port_of terms q.new ≡ port) (fit : Each (FitsIn terms (turn ∷ before)) (put q s.orders)) where
       -- the machine's test
       abbrev keeps : Asked → Bool
-      keeps a = not (answers m a.said || (is_closed q.stage && bytes_eq a.order q.new.order))
+      keeps a = not (bytes_eq a.order q.new.order && (answers m next a.said || is_closed q.stage))
 
       other-stays : (p : ℕ) (a : Asked) → IsMember p a → bytes_eq q.new.order a.order ≡ false → still p a ≡ true
       other-stays p a k apart =
@@ -175,14 +184,6 @@ module _ (terms : List Terms) (before : OrderHistory) (s : TableState) (t : IsTa
           (subst (λ (r : ℕ). life_of q.new.order A (handled r (turn ∷ before)) ≡ record_life q) at_port
           (life-of terms A (orders_numbered (turn ∷ before)) (issued q.new.client (turn ∷ before)) (handled (port_of terms q.new) (turn ∷ before)) (outstanding terms (port_of terms q.new) (turn ∷ before)) (reports_in (turn ∷ before)) (1_000_000 * length (turn ∷ before)) q f)))
 
-      and-true : (b : Bool) → (b && true) ≡ b
-      and-true true = refl
-      and-true false = refl
-
-      or-off : (x y : Bool) → not (x || y) ≡ true → not (x || false) ≡ true
-      or-off true y e = e
-      or-off false y e = refl
-
       -- on its port both tests are one
       same-here : (a : Asked) → IsMember port a → still port a ≡ keeps a
       same-here a k = by_order (bytes_eq q.new.order a.order) refl
@@ -190,12 +191,12 @@ module _ (terms : List Terms) (before : OrderHistory) (s : TableState) (t : IsTa
           by_order : (b : Bool) → bytes_eq q.new.order a.order ≡ b → still port a ≡ keeps a
           by_order true mine =
               let same = eq-is q.new.order a.order mine in
-              ap (λ (c : Bool). not (answers m a.said || c)) (own-life a k same ∙ sym (ap (λ (c : Bool). is_closed q.stage && c) (eq-true a.order q.new.order (sym same)) ∙ and-true (is_closed q.stage)))
+              let here : bytes_eq a.order q.new.order ≡ true = eq-true a.order q.new.order (sym same) in
+              ap (λ (ts : List (List ℕ)). not (answers m ts a.said || is_closed (life_of a.order A (handled port (turn ∷ before))).stage)) (ap (λ (i : List ℕ). next_tokens i (outstanding terms port before)) (sym same) ∙ next-so)
+              ∙ ap (λ (c : Bool). not (answers m next a.said || c)) (own-life a k same)
+              ∙ sym (ap (λ (b : Bool). not (b && (answers m next a.said || is_closed q.stage))) here)
           by_order false other =
-              let stays = other-stays port a k other in
-              stays ∙ sym (ap (λ (c : Bool). not (answers m a.said || (is_closed q.stage && c))) (eq-turned q.new.order a.order other)
-              ∙ ap (λ (c : Bool). not (answers m a.said || c)) (and-false (is_closed q.stage))
-              ∙ or-off (answers m a.said) (is_closed (life_of a.order A (handled port (turn ∷ before))).stage) stays)
+              other-stays port a k other ∙ sym (ap (λ (b : Bool). not (b && (answers m next a.said || is_closed q.stage))) (eq-turned q.new.order a.order other))
 
       -- and all that another one is asked stays
       same-elsewhere : (p : ℕ) → port ≢ p → (a : Asked) → IsMember p a → still p a ≡ true
@@ -207,23 +208,23 @@ module _ (terms : List Terms) (before : OrderHistory) (s : TableState) (t : IsTa
 
       module _ (asked : List OnPort) (same : (p : ℕ) → on_port p asked ≡ outstanding terms p before) where
         abbrev HasRest : ℕ → Type 0
-        HasRest p = on_port p (unanswered_by port m q asked) ≡ outstanding terms p (turn ∷ before)
+        HasRest p = on_port p (unanswered_by port m next q asked) ≡ outstanding terms p (turn ∷ before)
 
         rest-here : HasRest port
         rest-here =
-            on-filter port (λ (x : OnPort). not (is_answered port m q x)) keeps (λ x here. rw here refl) asked
+            on-filter port (λ (x : OnPort). not (is_answered port m next q x)) keeps (λ x here. rw here refl) asked
             ∙ ap (filter keeps) (same port)
             ∙ sym (filter-each (IsMember port) (still port) keeps (outstanding terms port before) same-here (members port))
             ∙ sym (append-nothing (filter (still port) (outstanding terms port before)))
 
         rest-elsewhere : (p : ℕ) → port ≢ p → HasRest p
         rest-elsewhere p apart =
-            on-filter p (λ (x : OnPort). not (is_answered port m q x)) (λ (a : Asked). true) passes asked
+            on-filter p (λ (x : OnPort). not (is_answered port m next q x)) (λ (a : Asked). true) passes asked
             ∙ ap (filter (λ (a : Asked). true)) (same p)
             ∙ sym (filter-each (IsMember p) (still p) (λ (a : Asked). true) (outstanding terms p before) (same-elsewhere p apart) (members p))
             ∙ sym (append-nothing (filter (still p) (outstanding terms p before)))
           where
-            passes : (x : OnPort) → is_on p x ≡ true → not (is_answered port m q x) ≡ true
+            passes : (x : OnPort) → is_on p x ≡ true → not (is_answered port m next q x) ≡ true
             passes x here = let off = ne_eqb x.port port (λ e. apart (sym e ∙ eqb-true x.port p here)) in rw off refl
 
         pub rest : (p : ℕ) → HasRest p
@@ -260,11 +261,15 @@ module _ (terms : List Terms) (before : OrderHistory) (s : TableState) (t : IsTa
     same = λ p. was.same p ∙ sym (same-asked heard n p);
   }
 
+  next-then : (m : Outbound) (token : List ℕ) (o : OrderRecord) → record_by_token s port token ≡ Some o → next_tokens (after_message s.exec_ids m o).new.order (outstanding terms port before) ≡ replacements o.replaces
+  next-then m token o on =
+      ap (λ (e : Entry). next_tokens e.order (outstanding terms port before)) (after_message-new s.exec_ids m o) ∙ next-pending terms before s t port m token o on
+
   heard-rest : (m : Outbound) (token : List ℕ) (x : Option OrderRecord) → record_by_token s port token ≡ x → LeavesRest terms before s port (Ok m) sends (heard_on s m x) (still_asked_on s port m x asked)
   heard-rest m token None on = silent-rest m
   heard-rest m token (Some o) on = λ after. record {
     placed = placed-then terms before s t port m (heard_on s m (Some o)).client (heard_on s m (Some o)).bodies sends was.placed;
-    same = rest terms before s t port m (heard_on s m (Some o)).client (heard_on s m (Some o)).bodies sends was.placed (after_message s.exec_ids m o)
+    same = rest terms before s t port m (heard_on s m (Some o)).client (heard_on s m (Some o)).bodies sends was.placed (after_message s.exec_ids m o) (replacements o.replaces) (next-then m token o on)
         (ap (port_of terms) (after_message-new s.exec_ids m o) ∙ token-port terms before s t port m token o on) after.fit asked was.same;
   }
 

@@ -5,17 +5,20 @@ use Rattle.std.specs.Prelude.{◌==◌, option_to_list}
 use Rattle.std.specs.List.{list_any}
 use Rattle.order_law.specs.ouch_codec.declared.outbound.Outbound.{Outbound}
 use Rattle.order_law.specs.ouch_codec.declared.outbound.Outbound.TheVariants as market
+use Rattle.order_law.specs.ouch_codec.declared.outbound.rejected.Rejected.{Rejected}
 use Rattle.order_law.specs.declared.stage.Stage.{Stage}
 use Rattle.order_law.specs.declared.stage.Stage.TheVariants.{Waiting, Working, Closed}
-use Rattle.fix_fields.specs.Field.{Message}
-use Rattle.order_law.specs.Life.{after, born, first_token, is_live, is_of}
-use Rattle.order_law.specs.History.{Entry, Said, SaysCancel, SaysNew, SaysReplace, Terms, answers, terms_of, token_of}
+use Rattle.fix_fields.specs.Field.{Message, text}
+use Rattle.order_law.specs.Life.{after, born, first_token}
+use Rattle.order_law.specs.History.{Asked, Entry, Said, SaysCancel, SaysNew, SaysReplace, Terms, answers, from_token}
+use Rattle.order_law.specs.History.{terms_of, token_of}
 use Rattle.order_law.specs.Lawful.{order_of_token, order_token}
 use Rattle.order_law.specs.Told.{priced}
 use Rattle.order_law.specs.Headline.{Each}
 use Rattle.order_machine.specs.OrderRecord.{Cancelling, OrderRecord, asked_as, unanswered_tokens, live_token}
-use Rattle.order_machine.specs.OrderRecord.{record_life, new_asked, replace_asked, still_cancelling}
+use Rattle.order_machine.specs.OrderRecord.{asked_replace, record_life, new_asked, replacements, replaces_asked, still_cancelling}
 use Rattle.order_machine.proofs.Texts.{eq-other, eq-same}
+use Rattle.order_machine.proofs.Lists.{Each-map}
 use Rattle.order_machine.proofs.Leads.{same_some}
 use Rattle.order_machine.proofs.Moves.{Of, unanswered}
 use Rattle.order_machine.proofs.Asked.{asked-parts}
@@ -26,14 +29,14 @@ use Rattle.order_machine.proofs.Fits.{IsFound, IsHome, IsUsed}
 -- the message changes nothing of the order
 pub record IsUntouched (terms : List Terms) (m : Outbound) (o : OrderRecord) : Type 0 where
   pub lives : after (record_life o) m ≡ record_life o
-  pub asked : unanswered m (asked_as terms o) ≡ asked_as terms o
+  pub asked : unanswered m (replacements o.replaces) (asked_as terms o) ≡ asked_as terms o
   pub price : (before : ℕ) → priced m (record_life o) before ≡ before
 
 -- ---- a message without a token
 
 pub tokenless-untouched : (terms : List Terms) (m : Outbound) (o : OrderRecord) → order_token m ≡ None → IsUntouched terms m o
-tokenless-untouched terms (market.SystemEvent m) o none = record { lives = refl; asked = unanswered-same terms (market.SystemEvent m) o (λ said. refl); price = λ before. refl }
-tokenless-untouched terms market.Skipped o none = record { lives = refl; asked = unanswered-same terms market.Skipped o (λ said. refl); price = λ before. refl }
+tokenless-untouched terms (market.SystemEvent m) o none = record { lives = refl; asked = unanswered-same terms (market.SystemEvent m) (replacements o.replaces) o (λ said. refl); price = λ before. refl }
+tokenless-untouched terms market.Skipped o none = record { lives = refl; asked = unanswered-same terms market.Skipped (replacements o.replaces) o (λ said. refl); price = λ before. refl }
 tokenless-untouched terms (market.Accepted m) o none = absurd (cc)
 tokenless-untouched terms (market.Replaced m) o none = absurd (cc)
 tokenless-untouched terms (market.Canceled m) o none = absurd (cc)
@@ -76,26 +79,34 @@ said_token (SaysNew token) = token
 said_token (SaysReplace from to) = to
 said_token (SaysCancel token) = token
 
--- it answers nothing that is asked about another token
-answers-off : (m : Outbound) (said : Said) → Other m (said_token said) → answers m said ≡ false
-answers-off (market.Accepted m) (SaysNew token) off = off.0
-answers-off (market.Accepted m) (SaysReplace from to) off = refl
-answers-off (market.Accepted m) (SaysCancel token) off = refl
-answers-off (market.Replaced m) (SaysNew token) off = refl
-answers-off (market.Replaced m) (SaysReplace from to) off = off.0
-answers-off (market.Replaced m) (SaysCancel token) off = off.1.0
-answers-off (market.Rejected m) (SaysNew token) off = off.0
-answers-off (market.Rejected m) (SaysReplace from to) off = off.0
-answers-off (market.Rejected m) (SaysCancel token) off = off.0
-answers-off (market.CancelReject m) (SaysNew token) off = refl
-answers-off (market.CancelReject m) (SaysReplace from to) off = refl
-answers-off (market.CancelReject m) (SaysCancel token) off = off.0
-answers-off (market.Canceled m) said off = refl
-answers-off (market.Executed m) said off = refl
-answers-off (market.Broken m) said off = refl
-answers-off (market.CancelPending m) said off = refl
-answers-off (market.SystemEvent m) said off = refl
-answers-off market.Skipped said off = refl
+-- nothing is from a token on that isn't there
+from-off : (token : List ℕ) (next : List (List ℕ)) → Each (λ (x : List ℕ). bytes_eq token x ≡ false) next → from_token token next ≡ []
+from-off token [] off = refl
+from-off token (x ∷ next) off = rw off.0 (from-off token next off.1)
+
+among-none : (token : List ℕ) (m : Rejected) (next : List (List ℕ)) → Each (Other (market.Rejected m)) next → list_any (bytes_eq token) (from_token m.token next) ≡ false
+among-none token m next others = ap (list_any (bytes_eq token)) (from-off m.token next (Each-map (Other (market.Rejected m)) (λ (x : List ℕ). bytes_eq m.token x ≡ false) next (λ x off. off.0) others))
+
+-- it answers nothing that is asked about another token, where the pending replaces have others too
+answers-off : (m : Outbound) (next : List (List ℕ)) (said : Said) → Each (Other m) next → Other m (said_token said) → answers m next said ≡ false
+answers-off (market.Accepted m) next (SaysNew token) others off = off.0
+answers-off (market.Accepted m) next (SaysReplace from to) others off = refl
+answers-off (market.Accepted m) next (SaysCancel token) others off = refl
+answers-off (market.Replaced m) next (SaysNew token) others off = refl
+answers-off (market.Replaced m) next (SaysReplace from to) others off = off.0
+answers-off (market.Replaced m) next (SaysCancel token) others off = off.1.0
+answers-off (market.Rejected m) next (SaysNew token) others off = off.0
+answers-off (market.Rejected m) next (SaysReplace from to) others off = among-none to m next others
+answers-off (market.Rejected m) next (SaysCancel token) others off = among-none token m next others
+answers-off (market.CancelReject m) next (SaysNew token) others off = refl
+answers-off (market.CancelReject m) next (SaysReplace from to) others off = refl
+answers-off (market.CancelReject m) next (SaysCancel token) others off = off.0
+answers-off (market.Canceled m) next said others off = refl
+answers-off (market.Executed m) next said others off = refl
+answers-off (market.Broken m) next said others off = refl
+answers-off (market.CancelPending m) next said others off = refl
+answers-off (market.SystemEvent m) next said others off = refl
+answers-off market.Skipped next said others off = refl
 
 -- it is nothing to an order that no message has been on, if it has not its token
 pub born-passes : (m : Outbound) (root : List ℕ) (side : ℕ) → Other m root → (after (born root side) m ≡ born root side) × ((before : ℕ) → priced m (born root side) before ≡ before)
@@ -145,27 +156,37 @@ module _ (terms : List Terms) (entries : List Entry) (sent : List Message) (o : 
   same-price market.Skipped off before = refl
 
   module _ (m : Outbound) (off : Elsewhere m) where
-    kept-all : (tokens : List (List ℕ)) → Each (IsHome terms entries o.new) tokens → unanswered_tokens m tokens ≡ tokens
+    abbrev next : List (List ℕ)
+    next = replacements o.replaces
+
+    next-off : (rs : List Entry) → Each (λ (q : Entry). IsHome terms entries o.new (token_of q) × IsFound entries o.new q × IsUsed sent (text 11 q.message)) rs → Each (Other m) (replacements rs)
+    next-off [] holds = tt
+    next-off (q ∷ rs) holds = (off (token_of q) holds.0.0, next-off rs holds.1)
+
+    others : Each (Other m) next
+    others = next-off o.replaces holds.replaces
+
+    kept-all : (tokens : List (List ℕ)) → Each (IsHome terms entries o.new) tokens → unanswered_tokens m next tokens ≡ tokens
     kept-all [] homes = refl
-    kept-all (token ∷ tokens) homes = rw (answers-off m (SaysCancel token) (off token homes.0)) (ap (λ ts. token ∷ ts) (kept-all tokens homes.1))
+    kept-all (token ∷ tokens) homes = rw (answers-off m next (SaysCancel token) others (off token homes.0)) (ap (λ ts. token ∷ ts) (kept-all tokens homes.1))
 
-    same-cancels : still_cancelling m o.cancel ≡ o.cancel
-    same-cancels = same-cancel o.cancel m left (λ c is_c. kept-all c.tokens (holds.cancel c is_c).0)
+    same-cancels : still_cancelling m next o.cancel ≡ o.cancel
+    same-cancels = same-cancel o.cancel m next left (λ c is_c. kept-all c.tokens (holds.cancel c is_c).0)
 
-    same-replace : (r : Option Entry) → o.replace ≡ r → unanswered m (replace_asked o.new (live_token o) r) ≡ replace_asked o.new (live_token o) r
-    same-replace None is_r = refl
-    same-replace (Some q) is_r = rw (answers-off m (SaysReplace (live_token o) (token_of q)) (off (token_of q) (holds.replace q is_r).0)) refl
+    same-replaces : (from : List ℕ) (rs : List Entry) → Each (Other m) (replacements rs) → unanswered m next (replaces_asked o.new from rs) ≡ replaces_asked o.new from rs
+    same-replaces from [] each = refl
+    same-replaces from (q ∷ rs) each = rw (answers-off m next (SaysReplace from (token_of q)) others each.0) (ap (λ (xs : List Asked). asked_replace o.new from q ∷ xs) (same-replaces (token_of q) rs each.1))
 
-    same-new : (s : Stage) → o.stage ≡ s → unanswered m (new_asked terms o.new s) ≡ new_asked terms o.new s
+    same-new : (s : Stage) → o.stage ≡ s → unanswered m next (new_asked terms o.new s) ≡ new_asked terms o.new s
     same-new Waiting is_s =
         let root : Other m (token_of o.new) = subst (λ (ts : List (List ℕ)). Other m (first_token ts)) (first is_s) (off (live_token o) holds.front) in
-        rw (answers-off m (SaysNew (token_of o.new)) root) refl
+        rw (answers-off m next (SaysNew (token_of o.new)) others root) refl
     same-new Working is_s = refl
     same-new Closed is_s = refl
 
     pub other-untouched : IsUntouched terms m o
     other-untouched = record {
       lives = lives-on m off;
-      asked = asked-parts terms m o ∙ rw (same-cancels, same-new o.stage refl, same-replace o.replace refl) refl;
+      asked = asked-parts terms m next o ∙ rw (same-cancels, same-new o.stage refl, same-replaces (live_token o) o.replaces others) refl;
       price = same-price m off;
     }

@@ -6,11 +6,10 @@ use Rattle.std.specs.Prelude.{◌≡◌, ℕ, ◌==◌, Bool, not, ◌&&◌, ◌
 use Rattle.std.specs.Prelude.{bytes_eq, Result, Ok, Err}
 use Rattle.order_law.specs.Life.{is_closed}
 use Rattle.order_law.specs.ouch_codec.declared.outbound.Outbound.{Outbound}
-use Rattle.order_law.specs.ouch_codec.declared.outbound.Outbound.TheVariants as market
 use Rattle.order_law.specs.ouch_codec.declared.refusal.DecodeRefusal.{DecodeRefusal}
 use Rattle.order_law.specs.History.{Asked, Came, OrderEvent, Heard, OrderHistory, Terms, answers, terms_of}
-use Rattle.order_machine.specs.OrderRecord.{OrderRecord, after_message}
-use Rattle.order_machine.specs.Table.{TableState, record_by_token, table_without_orders}
+use Rattle.order_machine.specs.OrderRecord.{OrderRecord, after_message, replacements}
+use Rattle.order_machine.specs.Table.{TableState, table_without_orders}
 use Rattle.order_machine.specs.Machine.{client_step, payload_fault, order_in}
 use Rattle.order_machine.specs.Runs.{Leads}
 
@@ -29,19 +28,20 @@ on_port port asked = map (λ (q : OnPort). q.asked) (filter (is_on port) asked)
 abbrev pub asked_on : ℕ → List Asked → List OnPort
 asked_on port asks = map (λ (a : Asked). record { port = port; asked = a }) asks
 
--- A message on a port, after which its order is this one: it answers what it says it does of that port, and, where
--- the order is closed then, all that is asked of it.
-abbrev pub is_answered : ℕ → Outbound → OrderRecord → OnPort → Bool
-is_answered port m o q = is_on port q && (answers m q.asked.said
-    || (is_closed o.stage && bytes_eq q.asked.order o.new.order))
+-- A message on a port, on an order that had replaces pending under these tokens and is this one afterwards: of what is
+-- asked of the order it answers what it says it does, and, where the order is closed then, all.
+abbrev pub is_answered : ℕ → Outbound → List (List ℕ) → OrderRecord → OnPort → Bool
+is_answered port m next o q = is_on port q && (bytes_eq q.asked.order o.new.order
+    && (answers m next q.asked.said || is_closed o.stage))
 
-abbrev pub unanswered_by : ℕ → Outbound → OrderRecord → List OnPort → List OnPort
-unanswered_by port m o asked = filter (λ (q : OnPort). not (is_answered port m o q)) asked
+abbrev pub unanswered_by : ℕ → Outbound → List (List ℕ) → OrderRecord → List OnPort → List OnPort
+unanswered_by port m next o asked = filter (λ (q : OnPort). not (is_answered port m next o q)) asked
 
 -- after a message on an order
 abbrev pub still_asked_on : TableState → ℕ → Outbound → Option OrderRecord → List OnPort → List OnPort
 still_asked_on s port m None asked = asked
-still_asked_on s port m (Some o) asked = unanswered_by port m (after_message s.exec_ids m o) asked
+still_asked_on s port m (Some o) asked =
+    unanswered_by port m (replacements o.replaces) (after_message s.exec_ids m o) asked
 
 -- after a payload: a fault answers nothing
 abbrev pub still_asked : TableState → ℕ → Result Outbound DecodeRefusal → Option ℕ → List OnPort → List OnPort

@@ -1,5 +1,5 @@
 -- The table of orders: what the gateway keeps so that it can answer, and how it looks things up.
-use Rattle.std.specs.Prelude.{ℕ, Bool, ◌&&◌, ◌||◌, ◌==◌, not, List, [], ◌∷◌, Option, bytes_eq, option_and_then}
+use Rattle.std.specs.Prelude.{ℕ, Bool, ◌&&◌, ◌==◌, not, List, [], ◌∷◌, Option, bytes_eq, option_and_then}
 use Rattle.std.specs.Prelude.{if◌then◌else◌, is_some}
 use Rattle.std.specs.List.{list_any, count_by, find}
 use Rattle.fix_fields.specs.Field.{Message, text}

@@ -6,4 +6,4 @@
 #![tactic(auto)]
 
 pub use fix_fields::Text;
-pub use order_law::{Stage, Trade, padded};
+pub use order_law::{NextTokens, Stage, Trade, padded};

@@ -1,7 +1,7 @@
 -- How many tokens the orders of a table have had: at most one more than replaces were accepted.
 use Rattle.std.proofs.Common.{◌≡◌, ℕ, zero, suc, ◌+◌, ◌-◌, ◌≤◌, Bool, true, false, List, [], ◌∷◌, ◌++◌, length}
 use Rattle.std.proofs.Common.{reverse, refl, sym, ap, ◌∙◌, arith, slice_get, slice_set, leb-true}
-use Rattle.std.specs.Prelude.{◌&&◌, ◌==◌, nat_le, Option, Some, None, if◌then◌else◌, option_to_list, bytes_eq}
+use Rattle.std.specs.Prelude.{◌&&◌, ◌==◌, nat_le, Some, if◌then◌else◌, bytes_eq}
 use Rattle.std.specs.List.{count_by, list_all}
 use Rattle.std.proofs.lemmas.Bool.{and_parts}
 use Rattle.std.proofs.lemmas.Bool.Decides.{nat_tests}
@@ -21,9 +21,9 @@ use Rattle.order_table.specs.Held.{is_counted}
 within : (m n : ℕ) → m ≤ n → nat_le m n ≡ true
 within m n few = grind (arith, nat_tests)
 
--- the tokens that it has had, and that of its pending replace
+-- the tokens that it has had, and those of its pending replaces
 abbrev pub had : OrderRecord → ℕ
-had o = length o.tokens + length (option_to_list o.replace)
+had o = length o.tokens + length o.replaces
 
 abbrev count_of : List GivenToken → OrderRecord → ℕ
 count_of ts o = count_by (is_replacement_of o.new.order) ts
@@ -46,6 +46,14 @@ all-set test [] i x all passes = refl
 all-set test (y ∷ ys) zero x all passes = both (test x) (list_all test ys) passes (and_parts (test y) (list_all test ys) all).1
 all-set test (y ∷ ys) (suc i) x all passes =
     both (test y) (list_all test (slice_set ys i x)) (and_parts (test y) (list_all test ys) all).0 (all-set test ys i x (and_parts (test y) (list_all test ys) all).1 passes)
+
+length-push : {A : Type 0} (xs : List A) (x : A) → length (xs ++ x ∷ []) ≡ length xs + 1
+length-push [] x = refl
+length-push (y ∷ ys) x = let rest = length-push ys x in omega (arith, rest)
+
+-- an order with a replace more pending
+pub one-more : (o : OrderRecord) (q : Entry) → had (at o (o.replaces ++ q ∷ []) o.cancel) ≤ had o + 1
+one-more o q = let longer = length-push o.replaces q in omega (arith, longer)
 
 -- ---- a further token
 
@@ -101,21 +109,21 @@ over-new : (b : Bool) (o : OrderRecord) → (over_if b o).new ≡ o.new
 over-new true o = refl
 over-new false o = refl
 
-replaced-few : (shares price : ℕ) (is_dead : Bool) (o : OrderRecord) (q : Option Entry) → o.replace ≡ q → had (replaced_as shares price is_dead o q) ≤ had o
-replaced-few shares price is_dead o None e = omega arith
-replaced-few shares price is_dead o (Some q) e =
-    let over = over-few is_dead (at (put_in_book shares price (renamed (token_of q) q o)) None (still_after (bytes_eq (live_token o)) o.cancel)) in
-    let one : length (option_to_list o.replace) ≡ 1 = ap (λ (x : Option Entry). length (option_to_list x)) e in
-    omega (arith, over, one)
+replaced-few : (shares price : ℕ) (is_dead : Bool) (o : OrderRecord) (qs : List Entry) → o.replaces ≡ qs → had (replaced_as shares price is_dead o qs) ≤ had o
+replaced-few shares price is_dead o [] e = omega arith
+replaced-few shares price is_dead o (q ∷ qs) e =
+    let over = over-few is_dead (at (put_in_book shares price (renamed (token_of q) q o)) qs (still_after (bytes_eq (live_token o)) o.cancel)) in
+    let all : length o.replaces ≡ suc (length qs) = ap (λ (xs : List Entry). length xs) e in
+    omega (arith, over, all)
 
-replaced-new : (shares price : ℕ) (is_dead : Bool) (o : OrderRecord) (q : Option Entry) → (replaced_as shares price is_dead o q).new ≡ o.new
-replaced-new shares price is_dead o None = refl
-replaced-new shares price true o (Some q) = refl
-replaced-new shares price false o (Some q) = refl
+replaced-new : (shares price : ℕ) (is_dead : Bool) (o : OrderRecord) (qs : List Entry) → (replaced_as shares price is_dead o qs).new ≡ o.new
+replaced-new shares price is_dead o [] = refl
+replaced-new shares price true o (q ∷ qs) = refl
+replaced-new shares price false o (q ∷ qs) = refl
 
 pub change-few : (change : Change) (o : OrderRecord) → had (changed_by change o) ≤ had o
 change-few (changes.Opened shares price is_dead) o = over-few is_dead (put_in_book shares price o)
-change-few (changes.Replaced shares price is_dead) o = replaced-few shares price is_dead o o.replace refl
+change-few (changes.Replaced shares price is_dead) o = replaced-few shares price is_dead o o.replaces refl
 change-few (changes.Canceled shares) o = by_rest (o.unfilled - shares == 0)
   where
     by_rest : (b : Bool) → had (if b then unasked (gone o) else reduced shares o) ≤ had o
@@ -128,12 +136,12 @@ change-few (changes.Traded t) o = by_rest (o.unfilled - t.trade.shares == 0)
     by_rest false = omega arith
 change-few (changes.Broken t) o = omega arith
 change-few changes.Refused o = omega arith
-change-few (changes.NotReplaced token) o = omega arith
+change-few changes.NotReplaced o = omega arith
 change-few (changes.NotCanceled token) o = omega arith
 
 pub change-new : (change : Change) (o : OrderRecord) → (changed_by change o).new ≡ o.new
 change-new (changes.Opened shares price is_dead) o = over-new is_dead (put_in_book shares price o)
-change-new (changes.Replaced shares price is_dead) o = replaced-new shares price is_dead o o.replace
+change-new (changes.Replaced shares price is_dead) o = replaced-new shares price is_dead o o.replaces
 change-new (changes.Canceled shares) o = by_rest (o.unfilled - shares == 0)
   where
     by_rest : (b : Bool) → (if b then unasked (gone o) else reduced shares o).new ≡ o.new
@@ -146,7 +154,7 @@ change-new (changes.Traded t) o = by_rest (o.unfilled - t.trade.shares == 0)
     by_rest false = refl
 change-new (changes.Broken t) o = refl
 change-new changes.Refused o = refl
-change-new (changes.NotReplaced token) o = refl
+change-new changes.NotReplaced o = refl
 change-new (changes.NotCanceled token) o = refl
 
 -- ---- the order with an OrderID

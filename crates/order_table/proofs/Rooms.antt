@@ -31,12 +31,12 @@ room-in-token a b c h =
     let rest = and_parts (nat_le 1 b) (nat_le 1 c) parts.1 in
     (leb-true 1 a parts.0, leb-true 1 b rest.0, leb-true 1 c rest.1)
 
-pub room-for-order : (a b c : ℕ) → 1 ≤ a → 1 ≤ b → 3 ≤ c → 1 ≤ room_of_order a b c
+pub room-for-order : (a b c : ℕ) → 1 ≤ a → 1 ≤ b → 2 ≤ c → 1 ≤ room_of_order a b c
 room-for-order a b c x y z =
-    one-for (nat_le 1 a && (nat_le 1 b && nat_le 3 c)) (both (nat_le 1 a) (nat_le 1 b && nat_le 3 c) (within 1 a x) (both (nat_le 1 b) (nat_le 3 c) (within 1 b y) (within 3 c z)))
+    one-for (nat_le 1 a && (nat_le 1 b && nat_le 2 c)) (both (nat_le 1 a) (nat_le 1 b && nat_le 2 c) (within 1 a x) (both (nat_le 1 b) (nat_le 2 c) (within 1 b y) (within 2 c z)))
 
-pub room-in-order : (a b c : ℕ) → 1 ≤ room_of_order a b c → (1 ≤ a) × (1 ≤ b) × (3 ≤ c)
+pub room-in-order : (a b c : ℕ) → 1 ≤ room_of_order a b c → (1 ≤ a) × (1 ≤ b) × (2 ≤ c)
 room-in-order a b c h =
-    let parts = and_parts (nat_le 1 a) (nat_le 1 b && nat_le 3 c) (one-of (nat_le 1 a && (nat_le 1 b && nat_le 3 c)) h) in
-    let rest = and_parts (nat_le 1 b) (nat_le 3 c) parts.1 in
-    (leb-true 1 a parts.0, leb-true 1 b rest.0, leb-true 3 c rest.1)
+    let parts = and_parts (nat_le 1 a) (nat_le 1 b && nat_le 2 c) (one-of (nat_le 1 a && (nat_le 1 b && nat_le 2 c)) h) in
+    let rest = and_parts (nat_le 1 b) (nat_le 2 c) parts.1 in
+    (leb-true 1 a parts.0, leb-true 1 b rest.0, leb-true 2 c rest.1)

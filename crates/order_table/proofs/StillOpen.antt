@@ -34,7 +34,7 @@ stays-closed (changes.Canceled shares) o fits closed = let x : is_closed o.stage
 stays-closed (changes.Traded t) o fits closed = let x : is_closed o.stage ≡ false = ap is_closed fits.0 in absurd (cc)
 stays-closed (changes.Broken t) o fits closed = closed
 stays-closed changes.Refused o fits closed = let x : is_closed o.stage ≡ false = ap is_closed fits in absurd (cc)
-stays-closed (changes.NotReplaced token) o fits closed = closed
+stays-closed changes.NotReplaced o fits closed = closed
 stays-closed (changes.NotCanceled token) o fits closed = closed
 
 -- open orders before and after, of any client: it is the order's own or another

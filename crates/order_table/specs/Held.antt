@@ -1,6 +1,6 @@
 -- What the table holds, and what is found in it: `order_machine`'s words over the two lists.
 use Rattle.std.specs.Prelude.{◌≡◌, ℕ, ◌+◌, nat_le, Bool, true, List, length, Option}
-use Rattle.std.specs.Prelude.{option_and_then, option_to_list, decimal, slice_index, if◌then◌else◌}
+use Rattle.std.specs.Prelude.{option_and_then, decimal, slice_index, if◌then◌else◌}
 use Rattle.std.specs.List.{count_by, find, list_all}
 use Rattle.order_machine.specs.OrderRecord.{OrderRecord}
 use Rattle.order_machine.specs.Table.{GivenToken, has_number, is_named, is_replacement_of, is_token, open_count, put}
@@ -39,9 +39,10 @@ changed o h = record h { orders = put o h.orders }
 abbrev pub found_by_id : Held → ℕ → List ℕ → Option OrderRecord
 found_by_id h client id = find (is_named client id) h.orders
 
--- An order has had, or is to have, at most one token more than replaces of it were accepted.
+-- What an order has had, and is to have of its pending replaces, is at most one token more than replaces of it were
+-- accepted.
 abbrev pub is_counted : List GivenToken → OrderRecord → Bool
-is_counted tokens o = nat_le (length o.tokens + length (option_to_list o.replace))
+is_counted tokens o = nat_le (length o.tokens + length o.replaces)
     (1 + count_by (is_replacement_of o.new.order) tokens)
 
 abbrev pub one_if : Bool → ℕ

@@ -6,6 +6,6 @@ use Rattle.order_table.specs.Held.{one_if}
 abbrev pub room_of_token : ℕ → ℕ → ℕ → ℕ
 room_of_token list texts counts = one_if (nat_le 1 list && (nat_le 1 texts && nat_le 1 counts))
 
--- one order more, by its number and by three names
+-- one order more, which has no pending replace: by its number and by two names
 abbrev pub room_of_order : ℕ → ℕ → ℕ → ℕ
-room_of_order list numbers names = one_if (nat_le 1 list && (nat_le 1 numbers && nat_le 3 names))
+room_of_order list numbers names = one_if (nat_le 1 list && (nat_le 1 numbers && nat_le 2 names))

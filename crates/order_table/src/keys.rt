@@ -1,10 +1,11 @@
 //! By what orders and tokens are found.
 
 ghost use Rattle.std.specs.Prelude.{◌≡◌, ℕ, true, Some, decimal, option_map};
+ghost use Rattle.std.specs.List.{list_any};
 ghost use Rattle.order_table.specs.declared.keys.NameKey.{NameKey as Key};
 ghost use Rattle.undo_orders.specs.orders.order_law.Chain.{goes_by};
 ghost use Rattle.order_machine.specs.OrderRecord.{chained};
-ghost use Rattle.undo_orders.specs.Seen.{cancel_seen, has_cancel_id, has_id, replace_seen};
+ghost use Rattle.undo_orders.specs.Seen.{cancel_seen, has_cancel_id};
 ghost use Rattle.order_machine.specs.Table as table;
 ghost use Rattle.order_table.specs.Keys as keys;
 ghost use Rattle.order_table.specs.KeyLaws.{name-alike, number-alike, token-alike};
@@ -102,17 +103,23 @@ fn goes_by(id: &[u8], order: &Order) -> bool
     ensures { result ≡ goes_by id.now (chained order.now) }
 {
     order.cl_ord_id.as_slice() == id
-        || (is_of_replace(id, &order.replace) || is_of_cancel(id, &order.cancel))
+        || (is_of_replaces(id, order.replaces.as_slice()) || is_of_cancel(id, &order.cancel))
 }
 
-/// Whether a pending replace has this ClOrdID.
-fn is_of_replace(id: &[u8], replace: &Option<Boxed<Replacing>>) -> bool
-    ensures { (client order_id : ℕ) → result ≡ has_id id.now (option_map (replace_seen client order_id) replace.now) }
+/// Whether one of the pending replaces has this ClOrdID.
+fn is_of_replaces(id: &[u8], replaces: &[Replacing]) -> bool
+    ensures { result ≡ list_any (keys.is_of_replacing id.now) replaces.now }
 {
-    match replace {
-        None => false,
-        Some(replacing) => replacing.get().message.cl_ord_id.as_slice() == id,
-    }
+    replaces
+        .iter()
+        .any(|replacing| is_of_replacing(id, replacing))
+}
+
+/// Whether a replace has this ClOrdID.
+fn is_of_replacing(id: &[u8], replacing: &Replacing) -> bool
+    ensures { result ≡ keys.is_of_replacing id.now replacing.now }
+{
+    replacing.message.cl_ord_id.as_slice() == id
 }
 
 /// Whether a pending cancel has this ClOrdID.
@@ -141,21 +148,24 @@ fn has_name(order: &Order, key: &NameKey) -> bool
     ensures { result ≡ keys.has_name_key key.now order.now }
 {
     *key == NameKey::of(order.client, order.cl_ord_id.as_slice())
-        || (is_key_of_replace(key, order.client, &order.replace)
+        || (is_key_of_replaces(key, order.client, order.replaces.as_slice())
             || is_key_of_cancel(key, order.client, &order.cancel))
 }
 
-/// Whether a key is that of a client with the id of a pending replace.
-fn is_key_of_replace(key: &NameKey, client: u16, replace: &Option<Boxed<Replacing>>) -> bool
-    ensures { (order_id : ℕ) → result ≡ keys.is_key_of_replace key.now client
-        (option_map (replace_seen client order_id) replace.now) }
+/// Whether a key is that of a client with the id of one of the pending replaces.
+fn is_key_of_replaces(key: &NameKey, client: u16, replaces: &[Replacing]) -> bool
+    ensures { result ≡ list_any (keys.is_key_of_replacing key.now client) replaces.now }
 {
-    match replace {
-        None => false,
-        Some(replacing) => {
-            *key == NameKey::of(client, replacing.get().message.cl_ord_id.as_slice())
-        }
-    }
+    replaces
+        .iter()
+        .any(|replacing| is_key_of_replacing(key, client, replacing))
+}
+
+/// Whether a key is that of a client with the id of a replace.
+fn is_key_of_replacing(key: &NameKey, client: u16, replacing: &Replacing) -> bool
+    ensures { result ≡ keys.is_key_of_replacing key.now client replacing.now }
+{
+    *key == NameKey::of(client, replacing.message.cl_ord_id.as_slice())
 }
 
 /// Whether a key is that of a client with the id of a pending cancel.
@@ -168,17 +178,6 @@ fn is_key_of_cancel(key: &NameKey, client: u16, cancel: &Option<Boxed<Cancelling
         Some(cancelling) => {
             *key == NameKey::of(client, cancelling.get().message.cl_ord_id.as_slice())
         }
-    }
-}
-
-/// The key of a client with the id of a pending replace.
-pub(crate) fn key_of_replace(client: u16, replace: &Option<Boxed<Replacing>>) -> Option<NameKey>
-    ensures { (order_id : ℕ) (k : Key) → keys.is_key_of_replace k client
-        (option_map (replace_seen client order_id) replace.now) ≡ true → result ≡ Some k }
-{
-    match replace {
-        None => None,
-        Some(replacing) => Some(NameKey::of(client, replacing.get().message.cl_ord_id.as_slice())),
     }
 }
 

@@ -1,6 +1,6 @@
 //! The list of orders with its indexes.
 
-ghost use Rattle.std.specs.Prelude.{◌≡◌, ◌+◌, ◌≤◌, ◌<◌, ◌^◌, ◌++◌, ◌∷◌, [], ℕ, None, Some, true, decimal, length};
+ghost use Rattle.std.specs.Prelude.{◌≡◌, ◌+◌, ◌≤◌, ◌<◌, ◌^◌, ◌++◌, ◌∷◌, [], None, Some, true, decimal, length};
 ghost use Rattle.std.specs.Prelude.{reverse};
 ghost use Rattle.std.specs.Prelude.{slice_get, slice_set, MatchOption, IfOk, OnErr, OnOk};
 ghost use Rattle.std.specs.List.{find};
@@ -13,7 +13,7 @@ ghost use Rattle.order_table.specs.Keys.{has_name_key, same_name};
 ghost use Rattle.undo_orders.specs.Changes.{Fits, changed_by};
 ghost use Rattle.undo_orders.specs.Seen.{cancel_of, replace_of};
 
-use crate::keys::{ByName, ByNumber, NameKey, NumberKey, key_of_cancel, key_of_replace};
+use crate::keys::{ByName, ByNumber, NameKey, NumberKey, key_of_cancel};
 use hint_index::HintIndex;
 use std::alloc::{AllocError, Global};
 use std::hash::{BuildHasher, BuildHasherDefault, FoldHasher};
@@ -131,13 +131,14 @@ impl<S: BuildHasher + Drop> OrderList<S> {
     {
         self.orders.reserve_push()?;
         self.numbers.reserve(1)?;
-        self.names.reserve(3)?;
+        self.names.reserve(2)?;
         Ok(())
     }
 
-    /// One order more behind the others, for which there is room. Takes no memory.
+    /// One order more behind the others, for which there is room, and which has no pending replace. Takes no memory.
     pub fn push(&mut self, order: Order)
-        requires { 1 ≤ self.old.pushes }
+        requires room { 1 ≤ self.old.pushes }
+        requires none { order.replaces ≡ [] }
         ensures now { self.new.now ≡ self.old.now ++ order ∷ [] }
         ensures few { length self.new.now < 2 ^ 64 }
         ensures settled { self.new.settled ≡ self.old.settled }
@@ -163,8 +164,8 @@ impl<S: BuildHasher + Drop> OrderList<S> {
         Ok(())
     }
 
-    /// A replace of the order at a place is pending, which has had fewer than 65,536 tokens. `AllocError` leaves the
-    /// list as it was.
+    /// A replace more of the order at a place is pending: fewer than four were, and with those it has had fewer than
+    /// 65,536 tokens. `AllocError` leaves the list as it was.
     pub fn accept_replace(
         &mut self,
         alloc: Global,
@@ -172,9 +173,12 @@ impl<S: BuildHasher + Drop> OrderList<S> {
         replacing: Replacing,
     ) -> Result<(), AllocError>
         requires inside { place < length self.old.now }
-        requires few { (was : OrderRecord) → slice_get self.old.now place ≡ Some was → length was.tokens < 65_536 }
+        requires room { (was : OrderRecord) → slice_get self.old.now place ≡ Some was
+            → length was.tokens + length was.replaces < 65_536 }
+        requires few { (was : OrderRecord) → slice_get self.old.now place ≡ Some was → length was.replaces < 4 }
         ensures now { IfOk result (λ nothing. (was : OrderRecord) → slice_get self.old.now place ≡ Some was
-            → self.new.now ≡ slice_set self.old.now place (at was (Some (replace_of was replacing)) was.cancel)) }
+            → self.new.now ≡ slice_set self.old.now place
+            (at was (was.replaces ++ replace_of was replacing ∷ []) was.cancel)) }
         ensures settled { self.new.settled ≡ self.old.settled }
         ensures err { OnErr result (self.new.now ≡ self.old.now) }
     {
@@ -195,7 +199,7 @@ impl<S: BuildHasher + Drop> OrderList<S> {
     ) -> Result<(), AllocError>
         requires inside { place < length self.old.now }
         ensures now { IfOk result (λ nothing. (was : OrderRecord) → slice_get self.old.now place ≡ Some was
-            → self.new.now ≡ slice_set self.old.now place (at was was.replace (Some (cancel_of was cancelling)))) }
+            → self.new.now ≡ slice_set self.old.now place (at was was.replaces (Some (cancel_of was cancelling)))) }
         ensures settled { self.new.settled ≡ self.old.settled }
         ensures err { OnErr result (self.new.now ≡ self.old.now) }
     {
@@ -231,23 +235,22 @@ pub(crate) fn client_of(order: &Order) -> u16
     order.client
 }
 
-/// Notes that an order is to stand at a place, by each id that it goes by.
+/// Notes that an order which has no pending replace is to stand at a place, by each id that it goes by.
 fn note_names<S: BuildHasher + Drop>(
     names: &mut HintIndex<NameKey, S>,
     orders: &UndoOrders,
     order: &Order,
     place: usize,
 )
-    requires { 3 ≤ names.old.room }
+    requires room { 2 ≤ names.old.room }
+    requires none { order.now.replaces ≡ [] }
     ensures covered { Covered same_name has_name_key names.old orders.now
         → Covered same_name has_name_key names.new orders.now }
     ensures leads { (k : Key) → has_name_key k order.now ≡ true → LeadsTo (hint_of same_name names.new k) place }
 {
     let own = NameKey::of(order.client, order.cl_ord_id.as_slice());
-    let replace = key_of_replace(order.client, &order.replace);
     let cancel = key_of_cancel(order.client, &order.cancel);
     names.note(orders, own, place);
-    note_some(names, orders, replace, place);
     note_some(names, orders, cancel, place);
 }
 

@@ -1,6 +1,6 @@
 //! The list of orders, and the list of tokens that were given.
 
-ghost use Rattle.std.specs.Prelude.{◌≡◌, ◌<◌, true, not, decimal};
+ghost use Rattle.std.specs.Prelude.{◌≡◌, ◌<◌, true, not, decimal, length, nat_lt};
 ghost use Rattle.std.specs.List.{count_by};
 ghost use Rattle.undo_orders.specs.orders.order_law.Life.{is_closed};
 ghost use Rattle.order_table.specs.Held.{IsCounted};
@@ -96,8 +96,7 @@ impl Table {
 }
 
 impl<S: BuildHasher + Drop> Table<S> {
-    ghost use Rattle.std.specs.Prelude.{◌≤◌, ◌+◌, [], ◌∷◌, IfOk, OnErr, MatchOption, Some, None, decimal, length};
-    ghost use Rattle.std.specs.Prelude.{option_to_list};
+    ghost use Rattle.std.specs.Prelude.{◌≤◌, [], ◌∷◌, ◌++◌, IfOk, OnErr, MatchOption, Some, None, decimal, length};
     ghost use Rattle.std.specs.List.{count_by};
     ghost use Rattle.std.specs.Prelude.{false};
     ghost use Rattle.undo_orders.specs.orders.order_law.Life.{is_closed};
@@ -124,7 +123,8 @@ impl<S: BuildHasher + Drop> Table<S> {
     /// One order more, which has had one token and has no pending replace, and the token that it was given.
     /// `AllocError` leaves the table as it was.
     pub fn add(&mut self, order: Order, given: GivenToken) -> Result<(), AllocError>
-        requires { length order.tokens + length (option_to_list order.replace) ≤ 1 }
+        requires few { length order.tokens ≤ 1 }
+        requires none { order.replaces ≡ [] }
         ensures added { IfOk result (λ nothing. self.new
             ≡ record self.old { orders = order ∷ self.old.orders; tokens = given ∷ self.old.tokens }) }
         ensures settled { self.new.settled ≡ self.old.settled }
@@ -229,8 +229,9 @@ impl<S: BuildHasher + Drop> Table<S> {
         }
     }
 
-    /// A replace of the order with an OrderID is pending, which was given a token; it isn't the 65,536th. Where no
-    /// order has the OrderID, nothing changes. `AllocError` leaves the table as it was.
+    /// A replace more of the order with an OrderID is pending, which was given a token; it isn't the 65,536th. Where no
+    /// order has the OrderID, or four replaces of it are pending already, nothing changes. `AllocError` leaves the table
+    /// as it was.
     pub fn accept_replace(
         &mut self,
         alloc: Global,
@@ -242,17 +243,21 @@ impl<S: BuildHasher + Drop> Table<S> {
         requires of_order { given.order ≡ decimal order_id }
         requires is_replacement { given.is_replacement ≡ true }
         ensures accepted { IfOk result (λ nothing. (o : record_of.OrderRecord) → with_number self.old order_id ≡ Some o
-            → self.new ≡ record self.old {
+            → length o.replaces < 4 → self.new ≡ record self.old {
               orders = put (at o
-                  (Some (replace_seen o.new.client order_id replacing)) o.cancel) self.old.orders;
+                  (o.replaces ++ replace_seen o.new.client order_id replacing ∷ []) o.cancel) self.old.orders;
               tokens = given
                   ∷ self.old.tokens;
             }) }
+        ensures full { (o : record_of.OrderRecord) → with_number self.old order_id ≡ Some o → 4 ≤ length o.replaces
+            → self.new ≡ self.old }
         ensures unknown { with_number self.old order_id ≡ None → self.new ≡ self.old }
         ensures settled { self.new.settled ≡ self.old.settled }
         ensures err { OnErr result (self.new ≡ self.old) }
     {
-        if let Some(place) = self.orders.place_of(order_id) {
+        if let Some(place) = self.orders.place_of(order_id)
+            && takes_replace(self.orders.item_at(place))
+        {
             self.tokens.reserve_push()?;
             self.orders.accept_replace(alloc, place, replacing)?;
             self.tokens.push(given);
@@ -269,7 +274,7 @@ impl<S: BuildHasher + Drop> Table<S> {
         cancelling: Cancelling,
     ) -> Result<(), AllocError>
         ensures accepted { IfOk result (λ nothing. (o : record_of.OrderRecord) → with_number self.old order_id ≡ Some o
-            → self.new ≡ changed (at o o.replace (Some (cancel_seen o.new.client order_id cancelling))) self.old) }
+            → self.new ≡ changed (at o o.replaces (Some (cancel_seen o.new.client order_id cancelling))) self.old) }
         ensures unknown { with_number self.old order_id ≡ None → self.new ≡ self.old }
         ensures settled { self.new.settled ≡ self.old.settled }
         ensures err { OnErr result (self.new ≡ self.old) }
@@ -297,6 +302,13 @@ impl<S: BuildHasher + Drop> Table<S> {
         self.tokens.undo();
         self.open_counts.undo();
     }
+}
+
+/// Whether fewer than four replaces of an order are pending.
+fn takes_replace(order: &Order) -> bool
+    ensures { result ≡ nat_lt (length order.now.replaces) 4 }
+{
+    order.replaces.as_slice().len() < 4
 }
 
 /// Whether an order is closed.

@@ -49,7 +49,7 @@ or-push true true c = refl
 or-push true false c = refl
 or-push false b c = refl
 
-any-push : {A : Type 0} (test : A → Bool) (xs : List A) (x : A) → list_any test (xs ++ x ∷ []) ≡ (test x || list_any test xs)
+pub any-push : {A : Type 0} (test : A → Bool) (xs : List A) (x : A) → list_any test (xs ++ x ∷ []) ≡ (test x || list_any test xs)
 any-push test [] x = refl
 any-push test (y ∷ ys) x = ap (λ b. test y || b) (any-push test ys x) ∙ or-push (test y) (test x) (list_any test ys)
 

@@ -7,7 +7,7 @@ use Rattle.order_machine.specs.History.{Entry, token_of}
 use Rattle.order_machine.specs.OrderRecord.{OrderRecord, at, filled, gone, live_token, over_if, put_in_book, reduced, renamed, still_after, unasked, with_trade}
 use Rattle.order_machine.specs.OrderRecord as record_of
 use Rattle.orders.specs.Changes.{changed_by, marks_trades, renames, replaced_as}
-use Rattle.orders.specs.PutBack.{GoesOn, can_have_had, had_before, needs_memory, put_back, with_earlier}
+use Rattle.orders.specs.PutBack.{GoesOn, are_some, can_have_had, had_before, needs_memory, put_back, with_earlier}
 use Rattle.orders.specs.EarlierTrades.{oldest, told_before, trades_before}
 use Rattle.orders.specs.Seen.{cancel_of, progressed, replace_of, told_seen}
 use Rattle.orders.specs.declared.change.Change.{Change}
@@ -69,15 +69,15 @@ over marks named was now false l = l
 never : {P : Type 0} → true ≡ false → P
 never e = absurd (true≢false e)
 
-replaced : (shares price : ℕ) (is_dead : Bool) (o : OrderRecord) (q : Option Entry) → Leaves false true o (replaced_as shares price is_dead o q)
-replaced shares price is_dead o None = same false true o o refl refl refl refl
-replaced shares price is_dead o (Some q) =
-    over false true o (at (put_in_book shares price (renamed (token_of q) q o)) None (still_after (bytes_eq (live_token o)) o.cancel)) is_dead
+replaced : (shares price : ℕ) (is_dead : Bool) (o : OrderRecord) (rs : List Entry) → Leaves false true o (replaced_as shares price is_dead o rs)
+replaced shares price is_dead o [] = same false true o o refl refl refl refl
+replaced shares price is_dead o (q ∷ qs) =
+    over false true o (at (put_in_book shares price (renamed (token_of q) q o)) qs (still_after (bytes_eq (live_token o)) o.cancel)) is_dead
     (record { asked = refl; tokens = inr (token_of q, refl); id = λ e. never e; trades = λ e. inl refl })
 
 pub leaves : (change : Change) (o : OrderRecord) → Leaves (marks_trades change) (renames change) o (changed_by change o)
 leaves (changes.Opened shares price is_dead) o = over false false o (put_in_book shares price o) is_dead (same false false o (put_in_book shares price o) refl refl refl refl)
-leaves (changes.Replaced shares price is_dead) o = replaced shares price is_dead o o.replace
+leaves (changes.Replaced shares price is_dead) o = replaced shares price is_dead o o.replaces
 leaves (changes.Canceled shares) o = by_rest (o.unfilled - shares == 0)
   where
     by_rest : (b : Bool) → Leaves false false o (if b then unasked (gone o) else reduced shares o)
@@ -90,7 +90,7 @@ leaves (changes.Traded t) o = by_rest (o.unfilled - t.trade.shares == 0)
     by_rest false = record { asked = refl; tokens = inl refl; id = λ e. refl; trades = λ e. inr (record { trade = t.trade; number = t.number }, refl) }
 leaves (changes.Broken t) o = record { asked = refl; tokens = inl refl; id = λ e. refl; trades = λ e. never e }
 leaves changes.Refused o = same false false o (changed_by changes.Refused o) refl refl refl refl
-leaves (changes.NotReplaced token) o = same false false o (changed_by (changes.NotReplaced token) o) refl refl refl refl
+leaves changes.NotReplaced o = same false false o (changed_by changes.NotReplaced o) refl refl refl refl
 leaves (changes.NotCanceled token) o = same false false o (changed_by (changes.NotCanceled token) o) refl refl refl refl
 
 pub goes-on : (marks named : Bool) (was now : OrderRecord) (id : Option (List ℕ)) (trades : EarlierTrades) → Leaves marks named was now → unwrap_or id now.id ≡ was.id → told_before trades now.trades ≡ was.trades
@@ -115,7 +115,7 @@ marked-named (changes.Replaced shares price is_dead) e = never (sym e)
 marked-named (changes.Canceled shares) e = refl
 marked-named (changes.Traded t) e = refl
 marked-named changes.Refused e = refl
-marked-named (changes.NotReplaced token) e = refl
+marked-named changes.NotReplaced e = refl
 marked-named (changes.NotCanceled token) e = refl
 
 -- ---- what is put back
@@ -136,11 +136,11 @@ told-of (Unmarked unmarked) ts = refl
 pub oldest-of : (n : ℕ) (ts : List (List ℕ)) → reverse (take n ts) ≡ oldest n (reverse ts)
 oldest-of n ts = ap (λ xs. reverse (take n xs)) (sym (reverse-reverse ts))
 
-pub with-earlier-is : (e : EarlierOrder) (o : OrderRecord) (id : List ℕ) (behind : List (List ℕ)) (trades : List record_of.ToldTrade) (replace : Option Entry) (cancel : Option record_of.Cancelling) → id ≡ unwrap_or e.cl_ord_id o.id
-    → behind ≡ oldest e.earlier_count (had_before o) → trades ≡ told_before e.trades o.trades → replace ≡ option_map (replace_of o) e.replace → cancel ≡ option_map (cancel_of o) e.cancel
-    → record (progressed e.progress o) { id = id; tokens = e.token ∷ behind; trades = trades; replace = replace; cancel = cancel } ≡ with_earlier e o
-with-earlier-is e o id behind trades replace cancel ids tokens told replaces cancels =
-    (λ j. record (progressed e.progress o) { id = ids j; tokens = e.token ∷ tokens j; trades = told j; replace = replaces j; cancel = cancels j })
+pub with-earlier-is : (e : EarlierOrder) (o : OrderRecord) (id : List ℕ) (behind : List (List ℕ)) (trades : List record_of.ToldTrade) (replaces : List Entry) (cancel : Option record_of.Cancelling) → id ≡ unwrap_or e.cl_ord_id o.id
+    → behind ≡ oldest e.earlier_count (had_before o) → trades ≡ told_before e.trades o.trades → replaces ≡ map (replace_of o) e.replaces → cancel ≡ option_map (cancel_of o) e.cancel
+    → record (progressed e.progress o) { id = id; tokens = e.token ∷ behind; trades = trades; replaces = replaces; cancel = cancel } ≡ with_earlier e o
+with-earlier-is e o id behind trades replaces cancel ids tokens told requests cancels =
+    (λ j. record (progressed e.progress o) { id = ids j; tokens = e.token ∷ tokens j; trades = told j; replaces = requests j; cancel = cancels j })
 
 -- ---- what takes no memory
 
@@ -152,14 +152,18 @@ none-there : {A : Type 0} (x : Option A) → is_some x ≡ false → x ≡ None
 none-there None e = refl
 none-there (Some a) e = never e
 
+none-pending : (rs : List Entry) → are_some rs ≡ false → rs ≡ []
+none-pending [] e = refl
+none-pending (q ∷ qs) e = never e
+
 -- of an order without pending requests as it was, which a change neither renames nor marks
 pub light-before : (change : Change) (o : OrderRecord) (earlier : EarlierOrder) → needs_memory change o ≡ false
-    → (o.replace ≡ None → o.cancel ≡ None → (now : OrderRecord) → GoesOn None (First (length o.trades)) o now → put_back earlier now ≡ o) → put_back earlier (changed_by change o) ≡ o
+    → (o.replaces ≡ [] → o.cancel ≡ None → (now : OrderRecord) → GoesOn None (First (length o.trades)) o now → put_back earlier now ≡ o) → put_back earlier (changed_by change o) ≡ o
 light-before change o earlier light back =
-    let parts : ((marks_trades change || renames change) ≡ false) × ((is_some o.replace || is_some o.cancel) ≡ false) = neither (marks_trades change || renames change) (is_some o.replace || is_some o.cancel) light in
+    let parts : ((marks_trades change || renames change) ≡ false) × ((are_some o.replaces || is_some o.cancel) ≡ false) = neither (marks_trades change || renames change) (are_some o.replaces || is_some o.cancel) light in
     let marks : (marks_trades change ≡ false) × (renames change ≡ false) = neither (marks_trades change) (renames change) parts.0 in
-    let asked : (is_some o.replace ≡ false) × (is_some o.cancel ≡ false) = neither (is_some o.replace) (is_some o.cancel) parts.1 in
+    let asked : (are_some o.replaces ≡ false) × (is_some o.cancel ≡ false) = neither (are_some o.replaces) (is_some o.cancel) parts.1 in
     let left : Leaves (marks_trades change) (renames change) o (changed_by change o) = leaves change o in
-    back (none-there o.replace asked.0) (none-there o.cancel asked.1) (changed_by change o)
+    back (none-pending o.replaces asked.0) (none-there o.cancel asked.1) (changed_by change o)
     (goes-on (marks_trades change) (renames change) o (changed_by change o) None (First (length o.trades)) left (left.id marks.1)
     (first-trades (marks_trades change) (renames change) o (changed_by change o) (First (length o.trades)) left marks.0 refl))

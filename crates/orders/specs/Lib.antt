@@ -1,4 +1,5 @@
 pub mod Seen
+pub mod HeldReplaces
 pub mod Changes
 pub mod EarlierTrades
 pub mod PutBack

@@ -1,8 +1,10 @@
 -- An order that is put back to what it had before it was changed.
-use Rattle.std.specs.Prelude.{◌≡◌, ◌≤◌, ℕ, Bool, ◌&&◌, ◌||◌, ◌==◌, not, nat_le, List, ◌∷◌, length, drop, Option}
+use Rattle.std.specs.Prelude.{◌≡◌, ◌≤◌, ℕ, Bool, true, false, ◌&&◌, ◌||◌, ◌==◌, not, nat_le, List, [], ◌∷◌, length}
+use Rattle.std.specs.Prelude.{drop, map, Option}
 use Rattle.std.specs.Prelude.{option_map, unwrap_or, if◌then◌else◌, is_some}
 use Rattle.order_machine.specs.order_law.Asks.{total_of}
 use Rattle.order_machine.specs.order_law.Life.{is_waiting}
+use Rattle.order_machine.specs.History.{Entry}
 use Rattle.order_machine.specs.OrderRecord.{OrderRecord}
 use Rattle.orders.specs.declared.earlier_order.EarlierOrder.{EarlierOrder}
 use Rattle.orders.specs.declared.earlier_trades.EarlierTrades.{EarlierTrades}
@@ -26,7 +28,7 @@ with_earlier e o = record (progressed e.progress o) {
   id = unwrap_or e.cl_ord_id o.id;
   tokens = e.token ∷ oldest e.earlier_count (had_before o);
   trades = told_before e.trades o.trades;
-  replace = option_map (replace_of o) e.replace;
+  replaces = map (replace_of o) e.replaces;
   cancel = option_map (cancel_of o) e.cancel;
 }
 
@@ -34,9 +36,14 @@ with_earlier e o = record (progressed e.progress o) {
 abbrev pub put_back : EarlierOrder → OrderRecord → OrderRecord
 put_back e o = if can_have_had e o then with_earlier e o else o
 
+-- some are pending
+abbrev pub are_some : List Entry → Bool
+are_some [] = false
+are_some (q ∷ qs) = true
+
 -- What it has before a change takes memory: a request is pending, or the change breaks a trade or gives another id.
 abbrev pub needs_memory : Change → OrderRecord → Bool
-needs_memory change o = (marks_trades change || renames change) || (is_some o.replace || is_some o.cancel)
+needs_memory change o = (marks_trades change || renames change) || (are_some o.replaces || is_some o.cancel)
 
 -- One that goes on from an earlier order: it has had its tokens, its ClOrdID was this or is the same, and its trades
 -- were these.

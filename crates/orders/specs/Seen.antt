@@ -1,6 +1,6 @@
 -- How an order of the table is seen: as its record.
-use Rattle.std.specs.Prelude.{ℕ, Bool, false, List, ◌∷◌, Option, Some, None, bytes_eq, decimal, if◌then◌else◌}
-use Rattle.std.specs.Prelude.{option_to_list}
+use Rattle.std.specs.Prelude.{ℕ, Bool, false, List, Option, Some, None, bytes_eq, decimal}
+use Rattle.std.specs.List.{list_any}
 use Rattle.fix_types.specs.CancelRequest.{cancel_request_fields}
 use Rattle.fix_types.specs.ReplaceRequest.{replace_request_fields}
 use Rattle.order_machine.specs.History.{Entry}
@@ -10,7 +10,7 @@ use Rattle.orders.specs.declared.requests.Replacing.{Replacing}
 use Rattle.order_machine.specs.order_law.Life.{marked}
 use Rattle.orders.specs.declared.order.ToldTrade.{ToldTrade}
 use Rattle.orders.specs.declared.progress.Progress.{Progress}
-use Rattle.order_machine.specs.OrderRecord.{OrderRecord}
+use Rattle.order_machine.specs.OrderRecord.{OrderRecord, with_tokens}
 use Rattle.order_machine.specs.OrderRecord as record_of
 
 abbrev pub told_seen : ToldTrade → record_of.ToldTrade
@@ -50,7 +50,7 @@ cancel_seen client order_id c = record {
     order = decimal order_id;
     token = None;
   };
-  tokens = c.first ∷ option_to_list c.second;
+  tokens = c.tokens.items;
 }
 
 -- the same, of an order
@@ -70,18 +70,24 @@ cancel_of o c = record {
     order = o.new.order;
     token = None;
   };
-  tokens = c.first ∷ option_to_list c.second;
+  tokens = c.tokens.items;
 }
 
--- a token, where it is another than this one
-abbrev pub other_than : List ℕ → Option (List ℕ) → Option (List ℕ)
-other_than token None = None
-other_than token (Some other) = if bytes_eq token other then None else Some other
+-- the token that a replace asks for
+abbrev pub replacing_token : Replacing → List ℕ
+replacing_token r = r.token
 
--- a pending request has this ClOrdID
-abbrev pub has_id : List ℕ → Option Entry → Bool
-has_id id None = false
-has_id id (Some q) = bytes_eq (text 11 q.message) id
+-- a token is one of those
+abbrev pub has_token : List Replacing → List ℕ → Bool
+has_token rs token = list_any (λ (r : Replacing). bytes_eq token r.token) rs
+
+-- a cancel, where a Cancel Order of it is left
+abbrev pub left_of : record_of.Cancelling → Option record_of.Cancelling
+left_of c = with_tokens c.request c.tokens
+
+-- a pending replace has this ClOrdID
+abbrev pub has_id : List ℕ → List Entry → Bool
+has_id id rs = list_any (λ (q : Entry). bytes_eq (text 11 q.message) id) rs
 
 abbrev pub has_cancel_id : List ℕ → Option record_of.Cancelling → Bool
 has_cancel_id id None = false

@@ -16,7 +16,7 @@ pub enum Change {
         price: u32,
         is_dead: bool,
     },
-    /// Replaced: the same, under the token and the ClOrdID of its pending replace. Nothing where none is pending.
+    /// Replaced: the same, under the token and the ClOrdID of its oldest pending replace. Nothing where none is pending.
     Replaced {
         shares: u32,
         price: u32,
@@ -30,8 +30,8 @@ pub enum Change {
     Broken(ToldTrade),
     /// Rejected, of the new order.
     Refused,
-    /// Rejected, of its pending replace, which had this token.
-    NotReplaced([u8; 14]),
+    /// Rejected, of its oldest pending replace, and so of those behind it too.
+    NotReplaced,
     /// Cancel Reject, on this token.
     NotCanceled([u8; 14]),
 }

@@ -1,6 +1,7 @@
 //! Requests again, in memory of their own.
 
-ghost use Rattle.std.specs.Prelude.{◌≡◌, IfOk};
+ghost use Rattle.std.specs.Prelude.{◌≡◌, ℕ, IfOk, option_map};
+ghost use Rattle.orders.specs.Seen.{cancel_seen};
 
 use crate::boxed::Boxed;
 use crate::requests::{Cancelling, Replacing};
@@ -8,7 +9,7 @@ use std::alloc::{AllocError, Global};
 
 impl Replacing {
     /// The same replace again, in memory of its own.
-    fn copied(&self, alloc: Global) -> Result<Replacing, AllocError>
+    pub(crate) fn copied(&self, alloc: Global) -> Result<Replacing, AllocError>
         ensures { IfOk result (λ copy. copy ≡ self.now) }
     {
         let token = self.token;
@@ -23,31 +24,14 @@ impl Replacing {
 impl Cancelling {
     /// The same cancel again, in memory of its own.
     fn copied(&self, alloc: Global) -> Result<Cancelling, AllocError>
-        ensures { IfOk result (λ copy. copy ≡ self.now) }
+        ensures { IfOk result (λ copy. (client order_id : ℕ)
+            → cancel_seen client order_id copy ≡ cancel_seen client order_id self.now) }
     {
-        let first = self.first;
-        let second = self.second;
+        let tokens = Vec::from_slice(alloc, &self.tokens)?;
         Ok(Cancelling {
             message: self.message.copied(alloc)?,
-            first,
-            second,
+            tokens,
         })
-    }
-}
-
-/// The same replace in memory of its own, where there is one.
-pub(crate) fn copied_replace(
-    alloc: Global,
-    replace: &Option<Boxed<Replacing>>,
-) -> Result<Option<Boxed<Replacing>>, AllocError>
-    ensures { IfOk result (λ copy. copy ≡ replace.now) }
-{
-    match replace {
-        None => Ok(None),
-        Some(replacing) => {
-            let copy = replacing.get().copied(alloc)?;
-            Ok(Some(Boxed::new(alloc, copy)?))
-        }
     }
 }
 
@@ -56,7 +40,8 @@ pub(crate) fn copied_cancel(
     alloc: Global,
     cancel: &Option<Boxed<Cancelling>>,
 ) -> Result<Option<Boxed<Cancelling>>, AllocError>
-    ensures { IfOk result (λ copy. copy ≡ cancel.now) }
+    ensures { IfOk result (λ copy. (client order_id : ℕ)
+        → option_map (cancel_seen client order_id) copy ≡ option_map (cancel_seen client order_id) cancel.now) }
 {
     match cancel {
         None => Ok(None),

@@ -1,6 +1,6 @@
 //! What an order had before it was changed.
 
-ghost use Rattle.std.specs.Prelude.{◌≡◌, ◌≤◌, ◌+◌, length, option_to_list};
+ghost use Rattle.std.specs.Prelude.{◌≡◌, ◌≤◌, ◌+◌, length};
 ghost use Rattle.order_machine.specs.order_law.declared.stage.Stage.TheVariants.{Waiting};
 ghost use Rattle.orders.specs.EarlierTrades.{most_trades};
 ghost use Rattle.order_machine.specs.order_law.wire_law.Printable.{ArePrintable};
@@ -8,7 +8,8 @@ ghost use Rattle.order_machine.specs.order_law.wire_law.Printable.{ArePrintable}
 use crate::boxed::Boxed;
 use crate::earlier_trades::EarlierTrades;
 use crate::progress::Progress;
-use crate::requests::{Cancelling, Replacing};
+use crate::replaces::Replaces;
+use crate::requests::Cancelling;
 use fix_types::ClOrdId;
 
 /// What an order had before it was changed: all that may change of it. Of the lists that only grow it has the lengths.
@@ -21,10 +22,11 @@ pub struct EarlierOrder {
     pub(crate) cl_ord_id: Option<ClOrdId>,
     pub(crate) progress: Progress,
     pub(crate) trades: EarlierTrades,
-    pub(crate) replace: Option<Boxed<Replacing>>,
+    pub(crate) replaces: Replaces,
     pub(crate) cancel: Option<Boxed<Cancelling>>,
     ghost token_set: { ArePrintable token },
     ghost trades_set: { progress.stage ≡ Waiting → most_trades trades ≡ 0 },
     ghost counted: { progress.tokens ≤ 1 + earlier_count },
-    ghost replace_set: { progress.tokens + length (option_to_list replace) ≤ 65_536 },
+    ghost replaces_set: { progress.tokens + length replaces ≤ 65_536 },
+    ghost few: { length replaces ≤ 4 },
 }

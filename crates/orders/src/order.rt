@@ -1,24 +1,25 @@
 //! An accepted order.
 
-ghost use Rattle.std.specs.Prelude.{◌≡◌, ◌≢◌, ◌≤◌, ◌<◌, ◌+◌, false, [], IfOk, length, option_to_list};
+ghost use Rattle.std.specs.Prelude.{◌≡◌, ◌≢◌, ◌≤◌, ◌<◌, ◌+◌, false, [], IfOk, length, map};
 ghost use Rattle.order_machine.specs.order_law.declared.stage.Stage.TheVariants.{Waiting, Working};
 ghost use Rattle.fix_types.specs.NewOrder.{new_order_fields};
 ghost use Rattle.order_machine.specs.order_law.Asks.{total_of};
 ghost use Rattle.order_machine.specs.OrderRecord.{OrderRecord, over_if};
 ghost use Rattle.orders.specs.Changes.{with_quantities};
-ghost use Rattle.orders.specs.Seen.{progressed};
+ghost use Rattle.orders.specs.Seen.{progressed, replacing_token};
 ghost use Rattle.order_machine.specs.order_law.wire_law.Printable.{ArePrintable};
 
-use crate::answering::without;
+use crate::answering::{without, without_replaces};
 use crate::boxed::Boxed;
 use crate::change::Change;
 use crate::earlier::{is_among, push_earlier};
 use crate::progress::Progress;
+use crate::replaces::Replaces;
 use crate::requests::{Cancelling, Replacing};
 use crate::symbol::Symbol;
 use crate::trades::mark;
 use fix_types::{Character, ClOrdId, NewOrder};
-use order_machine::Trade;
+use order_machine::{NextTokens, Trade};
 use same_bytes::is_same_token;
 use short_list::ShortList;
 use std::alloc::{AllocError, Global};
@@ -57,8 +58,8 @@ pub struct Order {
     pub cl_ord_id: ClOrdId,
     /// Its trades, the oldest first: none while it waits.
     pub trades: ShortList<ToldTrade>,
-    /// The pending replace of it, and the pending cancel, which was accepted after it.
-    pub replace: Option<Boxed<Replacing>>,
+    /// The pending replaces of it, and the pending cancel, which was accepted after them.
+    pub replaces: Replaces,
     pub cancel: Option<Boxed<Cancelling>>,
     ghost token_set: { ArePrintable token },
     ghost trades_set: { progress.stage ≡ Waiting → trades.items ≡ [] },
@@ -68,7 +69,8 @@ pub struct Order {
     ghost order_capacity_set: { order_capacity ≡ asked.value.order_capacity },
     ghost first_total_set: { first_total ≡ total_of (new_order_fields asked.value) },
     ghost total_set: { progress.stage ≡ Waiting → progress.total ≡ total_of (new_order_fields asked.value) },
-    ghost replace_set: { progress.tokens + length (option_to_list replace) ≤ 65_536 },
+    ghost replaces_set: { progress.tokens + length replaces ≤ 65_536 },
+    ghost few: { length replaces ≤ 4 },
 }
 
 // Not derived: then each way out drops it in one call (docs/DECISIONS.md, "Drops").
@@ -88,7 +90,7 @@ impl Drop for Order {
             first_total: _,
             cl_ord_id: _,
             trades: _,
-            replace: _,
+            replaces: _,
             cancel: _,
         } = self;
     }
@@ -120,17 +122,19 @@ impl Model for Order {
       value = o.progress.value;
       tokens = o.token ∷ reverse o.earlier.items;
       trades = reverse (map told_seen o.trades.items);
-      replace = option_map (replace_seen o.client o.order_id) o.replace;
+      replaces = map (replace_seen o.client o.order_id) o.replaces;
       cancel = option_map (cancel_seen o.client o.order_id) o.cancel;
     } };
 }
 
 impl Order {
-    ghost use Rattle.std.specs.Prelude.{ℕ, OnErr, Some, bytes_eq, decimal};
+    ghost use Rattle.std.specs.Prelude.{◌++◌, ◌∷◌, OnErr, OnOk, Some, bytes_eq, decimal};
     ghost use Rattle.std.specs.List.{list_any};
     ghost use Rattle.order_machine.specs.tokens.TokenText.{token_text};
     ghost use Rattle.fix_types.specs.NewOrder.{new_order_fields};
     ghost use Rattle.order_machine.specs.order_law.Asks.{limit_of};
+    ghost use Rattle.order_machine.specs.order_law.Lawful.{is_first};
+    ghost use Rattle.order_machine.specs.History.{last_token};
     ghost use Rattle.order_machine.specs.OrderRecord.{at, entered, last_after, live_token, replacements, still_after};
     ghost use Rattle.order_machine.specs.OrderRecord.{unasked};
     ghost use Rattle.orders.specs.Changes.{Fits, changed_by, replaced_as, with_quantities};
@@ -178,7 +182,7 @@ impl Order {
             first_total: progress.total,
             cl_ord_id: ClOrdId::copied(alloc, message.cl_ord_id.as_slice())?,
             trades: ShortList::new(),
-            replace: None,
+            replaces: Replaces::new(),
             cancel: None,
         })
     }
@@ -204,7 +208,7 @@ impl Order {
             Change::Traded(told) => self.add_trade(alloc, told)?,
             Change::Broken(told) => self.break_trade(told),
             Change::Refused => self.refuse(),
-            Change::NotReplaced(token) => self.end_replace(token),
+            Change::NotReplaced => self.end_replaces(),
             Change::NotCanceled(token) => self.answer(token),
         }
         Ok(())
@@ -226,10 +230,10 @@ impl Order {
                 shares,
                 price,
                 is_dead,
-            } => match &self.replace {
-                None => self.progress,
-                Some(_) => over_if(is_dead, self.progress.replaced(shares, price)),
-            },
+            } if !self.replaces.is_empty() => {
+                over_if(is_dead, self.progress.replaced(shares, price))
+            }
+            Change::Replaced { .. } => self.progress,
             Change::Canceled(shares) if shares == self.progress.unfilled => self.progress.gone(),
             Change::Canceled(shares) => self.progress.reduced(shares),
             Change::Traded(told) if told.trade.shares == self.progress.unfilled => {
@@ -238,7 +242,7 @@ impl Order {
             Change::Traded(told) => self.progress.traded(told.trade.shares, told.trade.price),
             Change::Broken(told) => self.progress.broken(told.trade.shares, told.trade.price),
             Change::Refused => self.progress.refused(),
-            Change::NotReplaced(_) | Change::NotCanceled(_) => self.progress,
+            Change::NotReplaced | Change::NotCanceled(_) => self.progress,
         }
     }
 
@@ -249,14 +253,31 @@ impl Order {
         is_same_token(token, &self.token) || is_among(&self.earlier, token)
     }
 
-    /// Whether a token is that of its pending replace.
+    /// Whether a token is that of the oldest of its pending replaces.
     pub fn awaits(&self, token: &[u8; 14]) -> bool
-        ensures { result ≡ list_any (bytes_eq token.now) (replacements self.now.replace) }
+        ensures { result ≡ is_first token.now (replacements self.now.replaces) }
     {
-        match &self.replace {
-            None => false,
-            Some(replacing) => is_same_token(token, &replacing.get().token),
+        match self.replaces.as_slice() {
+            [] => false,
+            [oldest, ..] => is_same_token(token, &oldest.token),
         }
+    }
+
+    /// The token that it goes by once all its pending replaces are done.
+    pub fn next_token(&self) -> &[u8; 14]
+        ensures { result.now ≡ last_token (live_token self.now) (replacements self.now.replaces) }
+    {
+        match self.replaces.as_slice() {
+            [] => &self.token,
+            [.., newest] => &newest.token,
+        }
+    }
+
+    /// The tokens of its pending replaces, the oldest one's first.
+    pub fn next_tokens(&self) -> NextTokens
+        ensures { result ≡ replacements self.now.replaces }
+    {
+        tokens_of(self.replaces.as_slice())
     }
 
     /// Whether the Cancel Order of a token is the last of its pending cancel that isn't answered.
@@ -269,17 +290,33 @@ impl Order {
         }
     }
 
-    /// A replace of it is pending. It has had fewer than 65,536 tokens.
-    pub fn accept_replace(&mut self, replacing: Boxed<Replacing>)
-        requires { length self.old.tokens < 65_536 }
-        ensures { self.new ≡ at self.old (Some (replace_of self.old replacing)) self.old.cancel }
+    /// Whether the Cancel Orders of the tokens of its pending replaces are the last of its pending cancel that aren't
+    /// answered.
+    pub fn is_last_of_replaces(&self) -> bool
+        ensures { result ≡ last_after (λ token. list_any (bytes_eq token) (replacements self.now.replaces))
+            self.now.cancel }
     {
-        self.replace = Some(replacing);
+        match &self.cancel {
+            None => false,
+            Some(cancelling) => cancelling.get().is_of_replaces(self.replaces.as_slice()),
+        }
+    }
+
+    /// One more replace of it is pending, behind the others. With those it has had fewer than 65,536 tokens, and fewer
+    /// than four are pending. `AllocError` leaves it as it was.
+    pub fn accept_replace(&mut self, alloc: Global, replacing: Replacing) -> Result<(), AllocError>
+        requires room { length self.old.tokens + length self.old.replaces < 65_536 }
+        requires few { length self.old.replaces < 4 }
+        ensures accepted { OnOk result (self.new
+            ≡ at self.old (self.old.replaces ++ replace_of self.old replacing ∷ []) self.old.cancel) }
+        ensures err { OnErr result (self.new ≡ self.old) }
+    {
+        self.replaces.push(alloc, replacing)
     }
 
     /// A cancel of it is pending.
     pub fn accept_cancel(&mut self, cancelling: Boxed<Cancelling>)
-        ensures { self.new ≡ at self.old self.old.replace (Some (cancel_of self.old cancelling)) }
+        ensures { self.new ≡ at self.old self.old.replaces (Some (cancel_of self.old cancelling)) }
     {
         self.cancel = Some(cancelling);
     }
@@ -298,16 +335,15 @@ impl Order {
         }
     }
 
-    /// It is in the book under its pending replace, or dead at once. `AllocError` leaves it as it was.
+    /// It is in the book under its oldest pending replace, or dead at once. `AllocError` leaves it as it was.
     fn replace_by(&mut self, shares: u32, price: u32, is_dead: bool) -> Result<(), AllocError>
         requires { Fits (changes.Replaced shares price is_dead) self.old }
         ensures changed { IfOk result (λ nothing. self.new
-            ≡ replaced_as shares price is_dead self.old self.old.replace) }
+            ≡ replaced_as shares price is_dead self.old self.old.replaces) }
         ensures err { OnErr result (self.new ≡ self.old) }
     {
         self.earlier.reserve(1)?;
-        if let Some(boxed) = self.replace.take() {
-            let replacing = boxed.into_inner();
+        if let Some(replacing) = self.replaces.take_first() {
             let live = self.token;
             let token = replacing.token;
             let cl_ord_id = replacing.message.into_cl_ord_id();
@@ -372,17 +408,18 @@ impl Order {
         self.unask();
     }
 
-    /// Its pending replace is rejected, which had this token.
-    fn end_replace(&mut self, token: [u8; 14])
-        ensures { self.new ≡ changed_by (changes.NotReplaced token) self.old }
+    /// Its oldest pending replace is rejected: none is pending any more, and the Cancel Orders of their tokens are
+    /// answered.
+    fn end_replaces(&mut self)
+        ensures { self.new ≡ changed_by changes.NotReplaced self.old }
     {
-        self.replace = None;
-        self.answer(token);
+        self.cancel = without_replaces(self.cancel.take(), self.replaces.as_slice());
+        self.replaces.clear();
     }
 
     /// The Cancel Order of a token is answered.
     fn answer(&mut self, token: [u8; 14])
-        ensures { self.new ≡ at self.old self.old.replace (still_after (bytes_eq token) self.old.cancel) }
+        ensures { self.new ≡ at self.old self.old.replaces (still_after (bytes_eq token) self.old.cancel) }
     {
         self.cancel = match self.cancel.take() {
             None => None,
@@ -394,7 +431,7 @@ impl Order {
     fn unask(&mut self)
         ensures { self.new ≡ unasked self.old }
     {
-        self.replace = None;
+        self.replaces.clear();
         self.cancel = None;
     }
 }
@@ -406,4 +443,16 @@ fn over_if(is_dead: bool, progress: Progress) -> Progress
         ≡ with_quantities (over_if is_dead (progressed progress o)) o }
 {
     if is_dead { progress.gone() } else { progress }
+}
+
+/// The tokens of these replaces, of which there are four at most.
+fn tokens_of(replaces: &[Replacing]) -> NextTokens
+    requires { length replaces.now ≤ 4 }
+    ensures { result ≡ map replacing_token replaces.now }
+{
+    let mut tokens = NextTokens::new();
+    for replacing in replaces {
+        tokens.push(replacing.token);
+    }
+    tokens
 }

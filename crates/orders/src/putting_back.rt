@@ -1,22 +1,24 @@
 //! How an order is put back to what it had before it was changed.
 
-ghost use Rattle.std.specs.Prelude.{◌≡◌, ℕ, Option, None, IfOk, false, is_some, length, option_map, unwrap_or};
+ghost use Rattle.std.specs.Prelude.{◌≡◌, ℕ, List, [], Option, None, IfOk, false, is_some, length, map, option_map};
+ghost use Rattle.std.specs.Prelude.{unwrap_or};
 ghost use Rattle.order_machine.specs.order_law.declared.stage.Stage.TheVariants.{Waiting};
 ghost use Rattle.order_machine.specs.History.{Entry};
 ghost use Rattle.order_machine.specs.OrderRecord.{Cancelling as CancellingRecord, OrderRecord, at};
 ghost use Rattle.orders.specs.Changes.{changed_by};
-ghost use Rattle.orders.specs.PutBack.{GoesOn, can_have_had, needs_memory, put_back};
+ghost use Rattle.orders.specs.PutBack.{GoesOn, are_some, can_have_had, needs_memory, put_back};
 ghost use Rattle.orders.specs.Seen.{cancel_seen, replace_seen};
 ghost use Rattle.orders.specs.EarlierTrades.{most_trades};
 ghost use Rattle.orders.specs.declared.earlier_trades.EarlierTrades.TheVariants.{First};
 
 use crate::boxed::Boxed;
 use crate::change::{Change, marks_trades, renames};
-use crate::copying::{copied_cancel, copied_replace};
+use crate::copying::copied_cancel;
 use crate::earlier_order::EarlierOrder;
 use crate::earlier_trades::{EarlierTrades, put_trades_back};
 use crate::order::Order;
-use crate::requests::{Cancelling, Replacing};
+use crate::replaces::Replaces;
+use crate::requests::Cancelling;
 use fix_types::ClOrdId;
 use order_machine::Stage;
 use std::alloc::{AllocError, Global};
@@ -44,7 +46,7 @@ impl Order {
         ensures { result ≡ needs_memory change self.now }
     {
         (marks_trades(change) || renames(change))
-            || (is_replace_pending(&self.replace) || is_cancel_pending(&self.cancel))
+            || (is_replace_pending(&self.replaces) || is_cancel_pending(&self.cancel))
     }
 
     /// What it has before a change, where that takes no memory.
@@ -57,8 +59,8 @@ impl Order {
 
     /// What it has before a request is pending on it. It takes the memory of the requests that are pending.
     pub fn before_request(&self, alloc: Global) -> Result<EarlierOrder, AllocError>
-        ensures { IfOk result (λ earlier. (replace : Option Entry) (cancel : Option CancellingRecord)
-            → put_back earlier (at self.now replace cancel) ≡ self.now) }
+        ensures { IfOk result (λ earlier. (replaces : List Entry) (cancel : Option CancellingRecord)
+            → put_back earlier (at self.now replaces cancel) ≡ self.now) }
     {
         self.before_with(alloc, None, self.trades_so_far())
     }
@@ -73,8 +75,8 @@ impl Order {
             put_id_back(&mut self.cl_ord_id, earlier.cl_ord_id);
             self.progress = earlier.progress;
             put_trades_back(&mut self.trades, earlier.trades);
-            put_request_back(&mut self.replace, earlier.replace);
-            put_request_back(&mut self.cancel, earlier.cancel);
+            put_requests_back(&mut self.replaces, earlier.replaces);
+            put_requests_back(&mut self.cancel, earlier.cancel);
         }
     }
 
@@ -96,14 +98,14 @@ impl Order {
             cl_ord_id,
             progress: self.progress,
             trades,
-            replace: copied_replace(alloc, &self.replace)?,
+            replaces: self.replaces.copied(alloc)?,
             cancel: copied_cancel(alloc, &self.cancel)?,
         })
     }
 
     /// What it has, with its ClOrdID, as many trades as it has, and no pending request.
     fn before_alone(&self) -> EarlierOrder
-        ensures { self.now.replace ≡ None → self.now.cancel ≡ None → (now : OrderRecord)
+        ensures { self.now.replaces ≡ [] → self.now.cancel ≡ None → (now : OrderRecord)
             → GoesOn None (First (length self.now.trades)) self.now now → put_back result now ≡ self.now }
     {
         let token = self.token;
@@ -113,7 +115,7 @@ impl Order {
             cl_ord_id: None,
             progress: self.progress,
             trades: self.trades_so_far(),
-            replace: None,
+            replaces: Replaces::new(),
             cancel: None,
         }
     }
@@ -137,13 +139,10 @@ impl Order {
 }
 
 /// Whether a replace is pending.
-fn is_replace_pending(replace: &Option<Boxed<Replacing>>) -> bool
-    ensures { (client order_id : ℕ) → result ≡ is_some (option_map (replace_seen client order_id) replace.now) }
+fn is_replace_pending(replaces: &Replaces) -> bool
+    ensures { (client order_id : ℕ) → result ≡ are_some (map (replace_seen client order_id) replaces.now) }
 {
-    match replace {
-        None => false,
-        Some(_) => true,
-    }
+    !replaces.is_empty()
 }
 
 /// Whether a cancel is pending.
@@ -165,9 +164,9 @@ fn put_id_back(cl_ord_id: &mut ClOrdId, earlier: Option<ClOrdId>)
     }
 }
 
-/// Puts a pending request back to what it was. Takes no memory.
-fn put_request_back<T: Drop>(request: &mut Option<T>, earlier: Option<T>)
-    ensures { request.new ≡ earlier }
+/// Puts pending requests back to what they were. Takes no memory.
+fn put_requests_back<T: Drop>(requests: &mut T, earlier: T)
+    ensures { requests.new ≡ earlier }
 {
-    *request = earlier;
+    *requests = earlier;
 }

@@ -20,9 +20,9 @@ pub struct Replacing {
 pub struct Cancelling {
     /// What its client asked.
     pub message: CancelRequest,
-    /// The tokens whose Cancel Order isn't answered: one, or two where a replace was pending.
-    pub first: [u8; 14],
-    pub second: Option<[u8; 14]>,
+    /// The tokens whose Cancel Order isn't answered: at first the one that the order went by, and those of the replaces
+    /// that were pending, the oldest first.
+    pub tokens: Vec<[u8; 14]>,
 }
 
 // Not derived: then each way out drops it in one call (docs/DECISIONS.md, "Drops").
@@ -30,8 +30,7 @@ impl Drop for Cancelling {
     fn drop(self) {
         let Cancelling {
             message: _,
-            first: _,
-            second: _,
+            tokens: _,
         } = self;
     }
 }

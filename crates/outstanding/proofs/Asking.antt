@@ -1,7 +1,6 @@
 -- Messages that say what is asked of an order, where every token leads to the order.
-use Rattle.std.proofs.Common.{◌≡◌, ℕ, List, [], ◌∷◌, refl, subst, Option}
-use Rattle.order_law.specs.Asks.{Standing}
-use Rattle.order_law.specs.Headline.{Each, EachWith, Says}
+use Rattle.std.proofs.Common.{◌≡◌, ℕ, List, [], ◌∷◌, refl, subst}
+use Rattle.order_law.specs.Headline.{Each}
 use Rattle.order_law.specs.History.{Asked, Said, SaysCancel, SaysNew, SaysReplace}
 use Rattle.order_machine.specs.Runs.{Finds, finds_said}
 use Rattle.outstanding.specs.Keeping.{always}

@@ -4,9 +4,9 @@ use Rattle.std.specs.Prelude.{◌&&◌, if◌then◌else◌, option_map}
 use Rattle.std.specs.Str.Parse.{digits_value}
 use Rattle.order_law.specs.declared.stage.Stage.{Stage}
 use Rattle.order_law.specs.declared.stage.Stage.TheVariants.{Waiting, Working, Closed}
-use Rattle.order_law.specs.History.{Asked, Entry, OrderHistory, Terms, accepted, is_new_order, outstanding}
+use Rattle.order_law.specs.History.{Asked, Entry, OrderHistory, Terms, accepted, is_new_order, outstanding, token_of}
 use Rattle.order_law.specs.Headline.{Each, order_number}
-use Rattle.order_machine.specs.OrderRecord.{Cancelling, OrderRecord, asked_as, cancel_asked, asked_cancel, live_token, new_asked, replace_asked}
+use Rattle.order_machine.specs.OrderRecord.{Cancelling, OrderRecord, asked_as, cancel_asked, asked_cancel, live_token, new_asked, replaces_asked}
 use Rattle.order_machine.proofs.Texts.{and-parts, eq-is, eq-true, not-both}
 use Rattle.order_machine.proofs.Lists.{Each-map, found-passes}
 use Rattle.order_machine.proofs.Fits.{IsHome, own}
@@ -43,9 +43,9 @@ module _ (terms : List Terms) (h : OrderHistory) where
   new-finds order_of new Working = tt
   new-finds order_of new Closed = tt
 
-  replace-finds : (new : Entry) (token : List ℕ) (q : Option Entry) → IsHome terms A new token → Each (Finds (number_at (port_of terms new))) (replace_asked new token q)
-  replace-finds new token None home = tt
-  replace-finds new token (Some q) home = (home-finds new token home, tt)
+  replaces-find : (new : Entry) (from : List ℕ) (rs : List Entry) → IsHome terms A new from → Each (λ (q : Entry). IsHome terms A new (token_of q)) rs → Each (Finds (number_at (port_of terms new))) (replaces_asked new from rs)
+  replaces-find new from [] home homes = tt
+  replaces-find new from (q ∷ rs) home homes = (home-finds new from home, replaces-find new (token_of q) rs homes.0 homes.1)
 
   cancels-find : (new q : Entry) (tokens : List (List ℕ)) → Each (IsHome terms A new) tokens → Each (Finds (number_at (port_of terms new))) (map (λ token. asked_cancel new q token) tokens)
   cancels-find new q [] each = tt
@@ -57,10 +57,10 @@ module _ (terms : List Terms) (h : OrderHistory) where
 
   record-finds : (o : OrderRecord) → FitsIn terms h o → Each (Finds (number_at (port_of terms o.new))) (asked_as terms o)
   record-finds o f =
-      each-append (Finds (number_at (port_of terms o.new))) (new_asked terms o.new o.stage) (replace_asked o.new (live_token o) o.replace ++ cancel_asked o.new o.cancel)
+      each-append (Finds (number_at (port_of terms o.new))) (new_asked terms o.new o.stage) (replaces_asked o.new (live_token o) o.replaces ++ cancel_asked o.new o.cancel)
       (new-finds (number_at (port_of terms o.new)) o.new o.stage)
-      (each-append (Finds (number_at (port_of terms o.new))) (replace_asked o.new (live_token o) o.replace) (cancel_asked o.new o.cancel)
-      (replace-finds o.new (live_token o) o.replace f.holds.front)
+      (each-append (Finds (number_at (port_of terms o.new))) (replaces_asked o.new (live_token o) o.replaces) (cancel_asked o.new o.cancel)
+      (replaces-find o.new (live_token o) o.replaces f.holds.front (Each-map _ (λ (q : Entry). IsHome terms A o.new (token_of q)) o.replaces (λ q known. known.0) f.holds.replaces))
       (cancel-finds o.new o.cancel (λ c e. (f.holds.cancel c e).0)))
 
   -- ---- of all orders of a port

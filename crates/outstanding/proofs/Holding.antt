@@ -9,7 +9,7 @@ use Rattle.outstanding.specs.declared.messages.AskedMessage.{AskedMessage}
 use Rattle.outstanding.specs.Kept.{is_answered_by, asked_by_fields, seen}
 use Rattle.outstanding.proofs.Saying.{said_in-written}
 
-pub number-test : (m n : ℕ) → m < 2 ^ 64 → n < 2 ^ 64 → (m == n) ≡ bytes_eq (decimal m) (decimal n)
+number-test : (m n : ℕ) → m < 2 ^ 64 → n < 2 ^ 64 → (m == n) ≡ bytes_eq (decimal m) (decimal n)
 number-test m n m_small n_small = by_test (m == n) refl
   where
     by_test : (b : Bool) → (m == n) ≡ b → b ≡ bytes_eq (decimal m) (decimal n)
@@ -17,17 +17,19 @@ number-test m n m_small n_small = by_test (m == n) refl
     by_test false e = sym (eq-other (decimal m) (decimal n) (λ same. (let alike : m ≡ n = decimal-same m n (omega arith) (omega arith) same in let on : (m == n) ≡ true = eq-eqb m n alike in let x : true ≡ false = sym on ∙ e in cc)))
 
 -- a message is answered as its fields have it
-pub answered-by_fields : (asked : AskedMessage) (port : ℕ) (m : Outbound) (order : List ℕ) (is_closed : Bool)
-    → is_answered_by port m order is_closed (seen asked)
-    ≡ (asked.port == port && (answers m (asked_by_fields asked.message) || (is_closed && bytes_eq (decimal asked.order_id) order)))
-answered-by_fields asked port m order is_closed =
-    ap (λ (s : Said). asked.port == port && (answers m s || (is_closed && bytes_eq (decimal asked.order_id) order))) (said_in-written asked.message)
+pub answered-by_fields : (asked : AskedMessage) (port : ℕ) (m : Outbound) (next : List (List ℕ)) (order_id : ℕ) (is_closed : Bool) → asked.order_id < 2 ^ 64 → order_id < 2 ^ 64
+    → is_answered_by port m next (decimal order_id) is_closed (seen asked)
+    ≡ (asked.port == port && (asked.order_id == order_id && (answers m next (asked_by_fields asked.message) || is_closed)))
+answered-by_fields asked port m next order_id is_closed small small' =
+    ap (λ (s : Said). asked.port == port && (bytes_eq (decimal asked.order_id) (decimal order_id) && (answers m next s || is_closed))) (said_in-written asked.message)
+    ∙ ap (λ (b : Bool). asked.port == port && (b && (answers m next (asked_by_fields asked.message) || is_closed))) (sym (number-test asked.order_id order_id small small'))
 
-pub is-answer : (p x c y : Bool) → p ≡ true → x ≡ true → (p && (x || (c && y))) ≡ true
-is-answer p x c y e f = rw (e, f) refl
+-- what a message answers of an order on a port, by each test
+pub is-answer : (p o x c : Bool) → p ≡ true → o ≡ true → x ≡ true → (p && (o && (x || c))) ≡ true
+is-answer p o x c e f g = rw (e, f, g) refl
 
-pub is-closing : (p x c y : Bool) → p ≡ true → x ≡ false → c ≡ true → (p && (x || (c && y))) ≡ y
-is-closing p x c y e f g = rw (e, f, g) refl
+pub is-closing : (p o x c : Bool) → p ≡ true → o ≡ true → x ≡ false → (p && (o && (x || c))) ≡ c
+is-closing p o x c e f g = rw (e, f, g) refl
 
-pub is-neither : (p x c y : Bool) → p ≡ true → x ≡ false → c ≡ false → (p && (x || (c && y))) ≡ false
-is-neither p x c y e f g = rw (e, f, g) refl
+pub is-other : (p o x c : Bool) → p ≡ true → o ≡ false → (p && (o && (x || c))) ≡ false
+is-other p o x c e f = rw (e, f) refl

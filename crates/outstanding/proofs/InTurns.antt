@@ -11,9 +11,9 @@ use Rattle.order_law.specs.Life.{is_closed}
 use Rattle.order_machine.specs.fix_fields.Field.{Message}
 use Rattle.order_law.specs.Verdicts.{Port}
 use Rattle.order_law.specs.History.{Asked, Came, Entry, OrderEvent, Heard, OrderHistory, Terms, OrderTurn, accepted}
-use Rattle.order_law.specs.History.{asks, asks_of, entry_at, handled, issued, orders_numbered, outstanding, terms_of}
+use Rattle.order_law.specs.History.{asks, asks_of, entry_at, handled, issued, next_tokens, orders_numbered, outstanding, terms_of}
 use Rattle.order_law.specs.Headline.{Each, EachWith, Says, SaysIn, client_by, order_number, standing_by, standing_in}
-use Rattle.order_machine.specs.OrderRecord.{OrderRecord}
+use Rattle.order_machine.specs.OrderRecord.{OrderRecord, replacements}
 use Rattle.order_machine.specs.Table.{TableState, record_by_token, put}
 use Rattle.order_machine.specs.Machine.{client_step, market_step, table_step}
 use Rattle.order_machine.specs.Outstanding.{LeavesAsked, OnPort, asked_on, is_on, on_port, unanswered_by}
@@ -24,7 +24,7 @@ use Rattle.order_machine.proofs.Coming.{coming_turn}
 use Rattle.order_machine.proofs.Hearing.{append-nothing, heard_turn}
 use Rattle.order_machine.proofs.Linked.{IsTable, token-port}
 use Rattle.order_machine.proofs.Running.{Holding, Leaves-Holding, client-goes, next-Holding, same-turn}
-use Rattle.order_machine.proofs.Unanswered.{ArePlaced, Asking, IsPlaced, all-stay, rest}
+use Rattle.order_machine.proofs.Unanswered.{ArePlaced, Asking, IsPlaced, all-stay, next-pending, rest}
 use Rattle.order_machine.proofs.NewlyAsked.{asks-own, came-Asking, known-still, taken-client}
 use Rattle.order_machine.proofs.AllAsked.{LeavesAsked-Asking, LeavesAsked-some}
 use Rattle.outstanding.specs.Kept.{KeptMessage, bytes_on, kept_from, left_by}
@@ -209,13 +209,18 @@ module _ (terms : List Terms) (before : OrderHistory) (s : TableState) (short : 
       ap (λ (x : OrderTurn). outstanding terms p (x ∷ before)) (sym (turn-is terms before s short leaves t new port (Err refusal) is_e leads fault is_fault)) ∙ append-nothing (outstanding terms p before)
 
 module _ (terms : List Terms) (before : OrderHistory) (s : TableState) (short : length before < 2 ^ 58) (leaves : TurnsLeave terms before s) (t : OrderTurn) (new : TableState) (port : ℕ) (m : Outbound) (is_e : t.event ≡ Heard port (Ok m)) (leads : Leads s t new) where
-  told-same : (now : OrderRecord) → port_of terms now.new ≡ port → (market_step s port (Ok m)).fault ≡ None → (market_step s port (Ok m)).state.orders ≡ put now s.orders
-      → (asked : List OnPort) → ((p : ℕ) → on_port p asked ≡ outstanding terms p before) → (p : ℕ) → on_port p (unanswered_by port m now asked) ≡ outstanding terms p (t ∷ before)
-  told-same now home no_fault is_put asked same p =
+  told-same : (now : OrderRecord) (next : List (List ℕ)) → next_tokens now.new.order (outstanding terms port before) ≡ next → port_of terms now.new ≡ port → (market_step s port (Ok m)).fault ≡ None → (market_step s port (Ok m)).state.orders ≡ put now s.orders
+      → (asked : List OnPort) → ((p : ℕ) → on_port p asked ≡ outstanding terms p before) → (p : ℕ) → on_port p (unanswered_by port m next now asked) ≡ outstanding terms p (t ∷ before)
+  told-same now next next_so home no_fault is_put asked same p =
       let is_fault : t.fault ≡ None = (meets terms before s short leaves t new port (Ok m) is_e leads).fault ∙ no_fault in
-      rest terms before s (h terms before s short leaves t new port (Ok m) is_e leads).table port m t.client t.bodies t.sends (placed terms before s short leaves t new port (Ok m) is_e leads) now home
+      rest terms before s (h terms before s short leaves t new port (Ok m) is_e leads).table port m t.client t.bodies t.sends (placed terms before s short leaves t new port (Ok m) is_e leads) now next next_so home
       (subst (Each (FitsIn terms (heard_turn port (Ok m) t.client t.bodies t.sends None ∷ before))) is_put (table-then terms before s short leaves t new port (Ok m) is_e leads None is_fault).fit) asked same p
       ∙ ap (λ (x : OrderTurn). outstanding terms p (x ∷ before)) (turn-is terms before s short leaves t new port (Ok m) is_e leads None is_fault)
+
+  next-of : (token : List ℕ) (order now : OrderRecord) → record_by_token s port token ≡ Some order → now.new ≡ order.new → next_tokens now.new.order (outstanding terms port before) ≡ replacements order.replaces
+  next-of token order now found same =
+      ap (λ (e : Entry). next_tokens e.order (outstanding terms port before)) same
+      ∙ next-pending terms before s (h terms before s short leaves t new port (Ok m) is_e leads).table port m token order found
 
   home-of : (token : List ℕ) (order now : OrderRecord) → record_by_token s port token ≡ Some order → now.new ≡ order.new → port_of terms now.new ≡ port
   home-of token order now found same = ap (port_of terms) same ∙ token-port terms before s (h terms before s short leaves t new port (Ok m) is_e leads).table port m token order found
@@ -229,10 +234,10 @@ quiet-turns terms before s short leaves kept (asked, same, along) t new port hea
 
 pub market-turns : MarketTurnsKeep
 market-turns terms before s short leaves kept (asked, same, along) t new port m is_e leads token order now found same_new no_fault is_put = (
-  unanswered_by port m now asked,
-  told-same terms before s short leaves t new port m is_e leads now (home-of terms before s short leaves t new port m is_e leads token order now found same_new) no_fault is_put asked same,
-  stands terms before s short leaves t new port (Ok m) is_e leads (unanswered_by port m now asked) (left_by port m now.new.order (is_closed now.stage) kept)
-      (answering-keeps (standing_in terms before) asked kept along port m now),
+  unanswered_by port m (replacements order.replaces) now asked,
+  told-same terms before s short leaves t new port m is_e leads now (replacements order.replaces) (next-of terms before s short leaves t new port m is_e leads token order now found same_new) (home-of terms before s short leaves t new port m is_e leads token order now found same_new) no_fault is_put asked same,
+  stands terms before s short leaves t new port (Ok m) is_e leads (unanswered_by port m (replacements order.replaces) now asked) (left_by port m (replacements order.replaces) now.new.order (is_closed now.stage) kept)
+      (answering-keeps (standing_in terms before) asked kept along port m (replacements order.replaces) now),
 )
 
 pub outstanding-is_kept : OutstandingIsKept

@@ -10,7 +10,7 @@ use Rattle.order_law.specs.History.{Asked, Said, answers}
 use Rattle.order_law.specs.Headline.{Each, EachWith, Says}
 use Rattle.order_machine.specs.OrderRecord.{OrderRecord}
 use Rattle.order_machine.specs.Outstanding.{OnPort, asked_on, is_answered, is_on}
-use Rattle.outstanding.specs.Kept.{KeptMessage, is_answered_by, is_kept_on, kept_from, asked_by_bytes}
+use Rattle.outstanding.specs.Kept.{KeptMessage, is_answered_by, is_kept_on, kept_from}
 use Rattle.outstanding.specs.Keeping.{AnsweringKeeps, AreKept, IsKept, PortsAreSaid, PushingKeeps, SaysAsked, SaysBy}
 use Rattle.outstanding.specs.Keeping.{StandingsMayGrow, always}
 use Rattle.outstanding.proofs.Orders.{says-found}
@@ -61,17 +61,17 @@ pushing-keeps standing_of asked kept along port order asks messages of_order say
     step-append (IsKept standing_of) asked kept (asked_on port asks) (kept_from port order messages) along (newly-kept standing_of port order asks messages of_order says)
 
 -- a message is answered where what it asks is
-answered-alike : (standing_of : List ℕ → Standing) (port : ℕ) (m : Outbound) (o : OrderRecord) (q : OnPort) (k : KeptMessage) → IsKept standing_of q k
-    → not (is_answered port m o q) ≡ not (is_answered_by port m o.new.order (is_closed o.stage) k)
-answered-alike standing_of port m o q k keeps =
-    ap (λ (n : ℕ). not (n == port && (answers m q.asked.said || (is_closed o.stage && bytes_eq q.asked.order o.new.order)))) keeps.port
-    ∙ ap (λ (s : Said). not (k.port == port && (answers m s || (is_closed o.stage && bytes_eq q.asked.order o.new.order)))) (sym (said_in-is q.asked.said k.bytes keeps.says.tokens))
-    ∙ ap (λ (order : List ℕ). not (k.port == port && (answers m (asked_by_bytes k.bytes) || (is_closed o.stage && bytes_eq order o.new.order)))) keeps.order
+answered-alike : (standing_of : List ℕ → Standing) (port : ℕ) (m : Outbound) (next : List (List ℕ)) (o : OrderRecord) (q : OnPort) (k : KeptMessage) → IsKept standing_of q k
+    → not (is_answered port m next o q) ≡ not (is_answered_by port m next o.new.order (is_closed o.stage) k)
+answered-alike standing_of port m next o q k keeps =
+    ap (λ (n : ℕ). not (n == port && (bytes_eq q.asked.order o.new.order && (answers m next q.asked.said || is_closed o.stage)))) keeps.port
+    ∙ ap (λ (order : List ℕ). not (k.port == port && (bytes_eq order o.new.order && (answers m next q.asked.said || is_closed o.stage)))) keeps.order
+    ∙ ap (λ (s : Said). not (k.port == port && (bytes_eq k.order o.new.order && (answers m next s || is_closed o.stage)))) (sym (said_in-is q.asked.said k.bytes keeps.says.tokens))
 
 pub answering-keeps : AnsweringKeeps
-answering-keeps standing_of asked kept along port m o =
-    step-filter (IsKept standing_of) (λ (q : OnPort). not (is_answered port m o q)) (λ (k : KeptMessage). not (is_answered_by port m o.new.order (is_closed o.stage) k))
-    (answered-alike standing_of port m o) asked kept along
+answering-keeps standing_of asked kept along port m next o =
+    step-filter (IsKept standing_of) (λ (q : OnPort). not (is_answered port m next o q)) (λ (k : KeptMessage). not (is_answered_by port m next o.new.order (is_closed o.stage) k))
+    (answered-alike standing_of port m next o) asked kept along
 
 -- what a port is asked, and its own messages
 said-along : (standing_of : List ℕ → Standing) (order_of : List ℕ → Option ℕ) (asked : List OnPort) (kept : List KeptMessage) → AreKept standing_of asked kept

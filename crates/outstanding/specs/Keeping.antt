@@ -46,13 +46,13 @@ PushingKeeps =
     → Each (λ (a : Asked). a.order ≡ order) asks → EachWith (SaysAsked standing_of) asks (map inbound_bytes messages)
     → AreKept standing_of (asked ++ asked_on port asks) (kept ++ kept_from port order messages)
 
--- A message from the market answers the same of what is asked and of what is kept, and so does the closing of its
--- order.
+-- A message from the market answers the same of what is asked and of what is kept, whatever tokens the pending replaces
+-- of its order ask for, and so does the closing of the order.
 abbrev pub AnsweringKeeps : Type 0
 AnsweringKeeps =
     (standing_of : List ℕ → Standing) (asked : List OnPort) (kept : List KeptMessage) → AreKept standing_of asked kept
-    → (port : ℕ) (m : Outbound) (o : OrderRecord)
-    → AreKept standing_of (unanswered_by port m o asked) (left_by port m o.new.order (is_closed o.stage) kept)
+    → (port : ℕ) (m : Outbound) (next : List (List ℕ)) (o : OrderRecord)
+    → AreKept standing_of (unanswered_by port m next o asked) (left_by port m next o.new.order (is_closed o.stage) kept)
 
 -- A port's own messages say what it is asked, in order: where its tokens lead to the orders that are meant.
 abbrev pub PortsAreSaid : Type 0

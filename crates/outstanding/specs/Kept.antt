@@ -51,15 +51,17 @@ asked_by_fields (Cancel message) = SaysCancel message.token
 abbrev pub is_kept_on : ℕ → KeptMessage → Bool
 is_kept_on port k = k.port == port
 
--- A message from the market on a port, after which its order has this OrderID and is closed or not: it answers what
--- is kept, or closes the order that this is of.
-abbrev pub is_answered_by : ℕ → Outbound → List ℕ → Bool → KeptMessage → Bool
-is_answered_by port m order is_closed k =
-    is_kept_on port k && (answers m (asked_by_bytes k.bytes) || (is_closed && bytes_eq k.order order))
+-- A message from the market on a port, on the order with this OrderID, whose pending replaces ask for these tokens, and
+-- which is closed then or not: of what is kept of the order it answers what it says it does, and, where it is closed
+-- then, all.
+abbrev pub is_answered_by : ℕ → Outbound → List (List ℕ) → List ℕ → Bool → KeptMessage → Bool
+is_answered_by port m next order is_closed k =
+    is_kept_on port k && (bytes_eq k.order order && (answers m next (asked_by_bytes k.bytes) || is_closed))
 
 -- what the message leaves
-abbrev pub left_by : ℕ → Outbound → List ℕ → Bool → List KeptMessage → List KeptMessage
-left_by port m order is_closed kept = filter (λ (k : KeptMessage). not (is_answered_by port m order is_closed k)) kept
+abbrev pub left_by : ℕ → Outbound → List (List ℕ) → List ℕ → Bool → List KeptMessage → List KeptMessage
+left_by port m next order is_closed kept =
+    filter (λ (k : KeptMessage). not (is_answered_by port m next order is_closed k)) kept
 
 -- the bytes of a port's own messages, in order
 abbrev pub bytes_on : ℕ → List KeptMessage → List (List ℕ)

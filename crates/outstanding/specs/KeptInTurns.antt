@@ -10,7 +10,7 @@ use Rattle.order_machine.specs.fix_fields.Field.{Message}
 use Rattle.order_law.specs.Verdicts.{Port}
 use Rattle.order_law.specs.History.{Asked, Came, Heard, OrderHistory, Terms, OrderTurn, outstanding, terms_of}
 use Rattle.order_law.specs.Headline.{Each, EachWith, Says, SaysIn, standing_in}
-use Rattle.order_machine.specs.OrderRecord.{OrderRecord}
+use Rattle.order_machine.specs.OrderRecord.{OrderRecord, replacements}
 use Rattle.order_machine.specs.Table.{TableState, record_by_token, put}
 use Rattle.order_machine.specs.Machine.{client_step, market_step}
 use Rattle.order_machine.specs.Outstanding.{OnPort, on_port}
@@ -53,8 +53,8 @@ ClientTurnsKeep =
     (map inbound_bytes messages)
     → KeepsOutstanding terms (t ∷ before) (kept ++ kept_from (terms_of s.terms client).port order messages)
 
--- A turn of a message by which a token of the port has its order become this one: what it answers of the port goes,
--- and what was asked of the order if it is closed now.
+-- A turn of a message by which a token of the port has its order become this one: of what the port was asked of it that
+-- goes which the message answers, and all if it is closed now.
 abbrev pub MarketTurnsKeep : Type 0
 MarketTurnsKeep =
     (terms : List Terms) (before : OrderHistory) (s : TableState) → NumbersLeft before → TurnsLeave terms before s
@@ -62,7 +62,8 @@ MarketTurnsKeep =
     → (t : OrderTurn) (new : TableState) (port : ℕ) (m : Outbound) → t.event ≡ Heard port (Ok m) → Leads s t new
     → (token : List ℕ) (order now : OrderRecord) → record_by_token s port token ≡ Some order → now.new ≡ order.new
     → (market_step s port (Ok m)).fault ≡ None → (market_step s port (Ok m)).state.orders ≡ put now s.orders
-    → KeepsOutstanding terms (t ∷ before) (left_by port m now.new.order (is_closed now.stage) kept)
+    → KeepsOutstanding terms (t ∷ before)
+    (left_by port m (replacements order.replaces) now.new.order (is_closed now.stage) kept)
 
 -- A turn of a payload that changes no order, be it a fault or not: nothing goes.
 abbrev pub QuietTurnsKeep : Type 0

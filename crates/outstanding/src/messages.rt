@@ -1,6 +1,6 @@
 //! The list of messages.
 
-ghost use Rattle.std.specs.Prelude.{◌≡◌, ◌+◌, ◌≤◌, ◌<◌, ◌++◌, ◌∷◌, [], false, List, map, filter, decimal, length};
+ghost use Rattle.std.specs.Prelude.{◌≡◌, ◌+◌, ◌≤◌, ◌<◌, ◌++◌, [], false, map, filter, decimal, length};
 ghost use Rattle.std.specs.Prelude.{vec_len, vec_capacity, IfOk, OnErr};
 ghost use Rattle.order_law.specs.ouch_codec.Inbound.{inbound_bytes};
 ghost use Rattle.outstanding.specs.Kept.{bytes_on, is_answered_by, kept_from, left_by, seen};
@@ -105,16 +105,25 @@ impl AskedMessages {
         push_each(&mut self.messages, port, order_id, messages);
     }
 
-    /// A message from the market was handled on a port, and its order has this OrderID and is closed or not. What it
-    /// answers goes, and where the order is closed, all that the port was asked of it. Takes no memory.
+    /// A message from the market was handled on a port, on the order with this OrderID, which is closed now or not. Of
+    /// what the port was asked of the order that goes which the message answers, and all where the order is closed.
+    /// `next` has the tokens that the order's pending replaces asked for before the message, the oldest first: a
+    /// Rejected of one answers those behind it too. Takes no memory.
     ///
     /// Source: OUCH 4.2, "Outbound Messages".
-    pub fn answer(&mut self, port: u16, heard: &Outbound, order_id: u64, is_closed: bool)
-        ensures left { self.new.messages ≡ left_by port heard.now (decimal order_id) is_closed self.old.messages }
+    pub fn answer(
+        &mut self,
+        port: u16,
+        heard: &Outbound,
+        order_id: u64,
+        is_closed: bool,
+        next: &[[u8; 14]],
+    )
+        ensures left { self.new.messages ≡ left_by port heard.now next.now (decimal order_id) is_closed self.old.messages }
         ensures settled { self.new.settled ≡ self.old.settled }
     {
         self.has_answered = true;
-        mark(&mut self.messages, port, heard, order_id, is_closed);
+        mark(&mut self.messages, port, heard, order_id, is_closed, next);
     }
 
     /// From now on the messages are put back to those of now. Takes no memory.
@@ -171,20 +180,29 @@ fn mark(
     heard: &Outbound,
     order_id: u64,
     is_closed: bool,
+    next: &[[u8; 14]],
 )
     ensures { messages.new.items
-        ≡ map (marked_by (is_answered_by port heard.now (decimal order_id) is_closed)) messages.old.items }
+        ≡ map (marked_by (is_answered_by port heard.now next.now (decimal order_id) is_closed)) messages.old.items }
 {
     for asked in messages.iter_mut() {
-        mark_one(asked, port, heard, order_id, is_closed);
+        mark_one(asked, port, heard, order_id, is_closed, next);
     }
 }
 
 /// Marks one that it answers, or whose order it closes.
-fn mark_one(asked: &mut AskedMessage, port: u16, heard: &Outbound, order_id: u64, is_closed: bool)
-    ensures { asked.new ≡ marked_by (is_answered_by port heard.now (decimal order_id) is_closed) asked.old }
+fn mark_one(
+    asked: &mut AskedMessage,
+    port: u16,
+    heard: &Outbound,
+    order_id: u64,
+    is_closed: bool,
+    next: &[[u8; 14]],
+)
+    ensures { asked.new ≡ marked_by (is_answered_by port heard.now next.now (decimal order_id) is_closed) asked.old }
 {
-    asked.is_answered = asked.is_answered || is_answered(asked, port, heard, order_id, is_closed);
+    asked.is_answered = asked.is_answered
+        || is_answered(asked, port, heard, order_id, is_closed, next);
 }
 
 /// Marks none.
@@ -217,18 +235,20 @@ fn is_unanswered(asked: &AskedMessage) -> bool
     !asked.is_answered
 }
 
-/// Whether a message from the market on a port answers one that is kept, or closes its order.
+/// Whether a message from the market on a port answers one that is kept, or closes its order: the order is looked at
+/// before any token.
 fn is_answered(
     asked: &AskedMessage,
     port: u16,
     heard: &Outbound,
     order_id: u64,
     is_closed: bool,
+    next: &[[u8; 14]],
 ) -> bool
-    ensures { result ≡ is_answered_by port heard.now (decimal order_id) is_closed (seen asked.now) }
+    ensures { result ≡ is_answered_by port heard.now next.now (decimal order_id) is_closed (seen asked.now) }
 {
     asked.port == port
-        && (answers(heard, &asked.message) || (is_closed && asked.order_id == order_id))
+        && (asked.order_id == order_id && (answers(heard, next, &asked.message) || is_closed))
 }
 
 /// Copies of the messages of one port that aren't answered, in order.

@@ -3,3 +3,5 @@ mod Reported
 mod Refused
 mod OnRequests
 pub mod Answered
+pub mod Rejects
+pub mod OfOrders

@@ -1,6 +1,6 @@
 //! An order and its pending requests, as what a client is told shows them.
 
-ghost use Rattle.std.specs.Prelude.{◌≡◌};
+ghost use Rattle.std.specs.Prelude.{◌≡◌, ◌≤◌, length};
 ghost use Rattle.order_law.specs.Asks.{total_of};
 ghost use Rattle.order_law.specs.declared.stage.Stage.TheVariants.{Waiting};
 ghost use Rattle.orders.specs.order_machine.OrderRecord.{shown_as};
@@ -26,22 +26,22 @@ pub fn shown_of<'a>(order: &'a Order, progress: &'a Progress) -> Shown<'a>
         side: order.side,
         progress,
         has_pending_cancel: order.cancel.is_some(),
-        has_pending_replace: order.replace.is_some(),
+        has_pending_replace: !order.replaces.is_empty(),
     }
 }
 
 /// The pending requests of an order.
 pub fn pending_of<'a>(order: &'a Order) -> Pending<'a>
-    ensures { (p : Progress) → IsPending result order.now.replace (cancel_in order.now.cancel)
+    ensures pending { (p : Progress) → IsPending result order.now.replaces (cancel_in order.now.cancel)
         (shown_as (progressed p order.now)) }
+    ensures few { length result.replaces.now ≤ 4 }
 {
-    let replace = match &order.replace {
-        None => None,
-        Some(replacing) => Some(Request::of_replace(&replacing.get().message)),
-    };
     let cancel = match &order.cancel {
         None => None,
         Some(cancelling) => Some(Request::of_cancel(&cancelling.get().message)),
     };
-    Pending { replace, cancel }
+    Pending {
+        replaces: order.replaces.as_slice(),
+        cancel,
+    }
 }

@@ -1,6 +1,6 @@
 //! A report that refuses a new order.
 
-ghost use Rattle.std.specs.Prelude.{◌≡◌, ◌<◌, ◌^◌, IfOk};
+ghost use Rattle.std.specs.Prelude.{◌≡◌, ◌<◌, IfOk};
 ghost use Rattle.orders.specs.fix_types.NewOrder.{new_order_fields};
 ghost use Rattle.orders.specs.fix_types.Report.{report_fields};
 ghost use Rattle.fix_values.specs.Reasons.{ord_rej_number};

@@ -1,6 +1,6 @@
 //! A cancel or replace that isn't done: OrderCancelReject.
 
-ghost use Rattle.std.specs.Prelude.{◌≡◌, ◌∷◌, [], IfOk, Option, option_map};
+ghost use Rattle.std.specs.Prelude.{◌≡◌, ◌∷◌, [], IfOk, Option};
 ghost use Rattle.orders.specs.fix_types.CancelReject.{cancel_reject_fields};
 ghost use Rattle.order_law.specs.fix_fields.Field.{Message};
 ghost use Rattle.fix_values.specs.Reasons.{cxl_rej_number};

@@ -14,9 +14,8 @@ use Rattle.fix_types.proofs.ReplaceRequestValues.{price-value, life_time-value, 
 use Rattle.fix_types.proofs.ReplaceRequestValues.{minimum-value}
 use Rattle.order_law.specs.fix_fields.Field.{Message, has, text, is, is_one_of}
 use Rattle.order_law.specs.Asks.{Day, Immediate, total_of, limit_of, minimum_of, display_of, life_time_of}
-use Rattle.order_law.specs.Chain.{has_pending_cancel, has_pending_replace}
 use Rattle.order_law.specs.Verdicts.{Named, Port, Row, is_minimum, is_replace, last_token, life_times, most_replaces}
-use Rattle.order_law.specs.Verdicts.{port_rows, rows_of_request}
+use Rattle.order_law.specs.Verdicts.{has_to_wait, port_rows, rows_of_request}
 use Rattle.to_market.specs.declared.named_order.NamedOrder.{NamedOrder}
 use Rattle.to_market.specs.declared.refusal.Refusal.{Refusal}
 use Rattle.to_market.specs.declared.refusal.Refusal.TheVariants as refusals
@@ -56,7 +55,7 @@ abbrev other : ℕ → List (List ℕ) → Message → Bool
 other tag wanted m = has tag m && not (is_one_of tag wanted m)
 
 as_table : (used : Bool) (n : Named) (port : Port) (given : ℕ) (m : Message) → is_replace m ≡ true
-    → rows_of_request used (Some n) port given m ≡ replace_table used n.reading.is_closed (port_rows port) (has_pending_cancel n.chain || has_pending_replace n.chain)
+    → rows_of_request used (Some n) port given m ≡ replace_table used n.reading.is_closed (port_rows port) (has_to_wait true n.chain)
     (change_table (other 54 (n.side ∷ []) m || (other 55 (n.symbol ∷ []) m || other 528 ((n.capacity ∷ []) ∷ []) m)) (not (is 40 (codes "2") m)) (other 59 life_times m) (other 18 (codes "6" ∷ []) m) (not (is_ok (quantity 1 (text 38 m)))) (has 110 m && not (is_minimum m)) (price_rows (not (has 44 m)) (price (text 44 m)))
     (last_rows (nat_le (total_of m) n.reading.executed) (nat_le most_replaces n.replaces) (nat_le last_token given)))
 unfolding replace_table change_table
@@ -73,7 +72,7 @@ change_rows m o given =
 
 -- the rows on a replace are those on its fields and on what was read of its order
 pub replace_rows-fields : (used : Bool) (n : Named) (o : NamedOrder) (port : Port) (given : ℕ) (m : ReplaceRequest) → HasRead n o
-    → rows_of_request used (Some n) port given (replace_request_fields m) ≡ replace_table used n.reading.is_closed (port_rows port) (has_pending_cancel n.chain || has_pending_replace n.chain) (change_rows m o given)
+    → rows_of_request used (Some n) port given (replace_request_fields m) ≡ replace_table used n.reading.is_closed (port_rows port) (has_to_wait true n.chain) (change_rows m o given)
 replace_rows-fields used n o port given m read =
     let fs : Message = replace_request_fields m in
     let kind : is_replace fs ≡ true = ap (λ (v : Option (List ℕ)). bytes_eq (unwrap_or v []) (codes "G")) (kind-value m) in

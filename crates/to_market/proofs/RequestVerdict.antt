@@ -1,6 +1,6 @@
 -- The verdict of the rows on a replace, one row after another.
 use Rattle.std.proofs.Common.{◌≡◌, Bool, true, false, ℕ, List, [], ◌∷◌, refl, sym, ap, ◌∙◌}
-use Rattle.std.specs.Prelude.{◌||◌, is_ok, bytes_eq, codes, Result, Ok, Some, nat_le, unwrap_or}
+use Rattle.std.specs.Prelude.{is_ok, bytes_eq, codes, Result, Ok, Some, nat_le, unwrap_or}
 use Rattle.std.specs.Result.{result_unwrap_or}
 use Rattle.fixed_point.specs.Decimal.{price, quantity}
 use Rattle.fixed_point.specs.declared.refusal.DecimalRefusal.{DecimalRefusal}
@@ -8,8 +8,7 @@ use Rattle.fix_types.specs.declared.replace_request.ReplaceRequest.{ReplaceReque
 use Rattle.fix_types.specs.ReplaceRequest.{replace_request_fields}
 use Rattle.fix_values.specs.Slots.{char_text}
 use Rattle.order_law.specs.Asks.{LifeTime, life_time_of_seconds}
-use Rattle.order_law.specs.Chain.{has_pending_cancel, has_pending_replace}
-use Rattle.order_law.specs.Verdicts.{Accepted, Named, Port, Row, Verdict, first_row, last_token, life_times, most_replaces, port_rows, rows_of_request}
+use Rattle.order_law.specs.Verdicts.{Accepted, Named, Port, Row, Verdict, first_row, has_to_wait, last_token, life_times, most_replaces, port_rows, rows_of_request}
 use Rattle.to_market.specs.declared.named_order.NamedOrder.{NamedOrder}
 use Rattle.to_market.specs.declared.refusal.Refusal.{Refusal}
 use Rattle.to_market.specs.declared.refusal.Refusal.TheVariants as refusals
@@ -31,7 +30,7 @@ pub by_changes : (used : Bool) (n : Named) (o : NamedOrder) (port : Port) (given
     → first_row (rows_of_request used (Some n) port given (replace_request_fields m)) ≡ first_row (change_rows m o given)
 by_changes used n o port given m reaches read =
     ap first_row (replace_rows-fields used n o port given m read)
-    ∙ behind used n.reading.is_closed (has_pending_cancel n.chain || has_pending_replace n.chain) (port_rows port) (change_rows m o given) reaches.is_new reaches.is_open reaches.takes_orders reaches.is_answered
+    ∙ behind used n.reading.is_closed (has_to_wait true n.chain) (port_rows port) (change_rows m o given) reaches.is_new reaches.is_open reaches.takes_orders reaches.may
 
 pub other_terms : (o : NamedOrder) (given : ℕ) (m : ReplaceRequest) → changes_terms o m ≡ true → first_row (change_rows m o given) ≡ request_refused_by refusals.OtherTerms
 unfolding change_table

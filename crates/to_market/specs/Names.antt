@@ -1,9 +1,10 @@
 -- What an order that a request names is to the table of requests.
-use Rattle.std.specs.Prelude.{◌≡◌, Bool, false, ◌||◌, [], ◌∷◌, Option, Some, None}
+use Rattle.std.specs.Prelude.{◌≡◌, Bool, true, false, ◌||◌, [], ◌∷◌, length, Option, Some, None}
 use Rattle.fix_types.specs.declared.replace_request.ReplaceRequest.{ReplaceRequest}
 use Rattle.fix_values.specs.Slots.{char_text}
-use Rattle.order_law.specs.Chain.{has_pending_cancel, has_pending_replace}
-use Rattle.order_law.specs.Verdicts.{Accepted, Named, Port, first_row, port_rows}
+use Rattle.order_law.specs.Chain.{has_pending_cancel}
+use Rattle.order_law.specs.Chain as chain
+use Rattle.order_law.specs.Verdicts.{Accepted, Named, Port, first_row, has_to_wait, port_rows}
 use Rattle.to_market.specs.declared.named_order.NamedOrder.{NamedOrder}
 use Rattle.to_market.specs.FieldRows.{is_none_of}
 
@@ -15,7 +16,7 @@ pub record HasRead (n : Named) (o : NamedOrder) : Type 0 where
   pub is_closed : n.reading.is_closed ≡ o.is_closed
   pub executed : n.reading.executed ≡ o.executed
   pub cancel : has_pending_cancel n.chain ≡ o.has_pending_cancel
-  pub replace : has_pending_replace n.chain ≡ o.has_pending_replace
+  pub pending : length (chain.replaces n.chain) ≡ o.pending_replaces
   pub replaces : n.replaces ≡ o.replaces
 
 -- the same, where an order is named
@@ -36,4 +37,4 @@ pub record ReachesTerms (is_used : Bool) (n : Named) (port : Port) : Type 0 wher
   pub is_new : is_used ≡ false
   pub is_open : n.reading.is_closed ≡ false
   pub takes_orders : first_row (port_rows port) ≡ Accepted
-  pub is_answered : (has_pending_cancel n.chain || has_pending_replace n.chain) ≡ false
+  pub may : has_to_wait true n.chain ≡ false

@@ -17,8 +17,8 @@ pub struct NamedOrder<'a> {
     pub executed: u64,
     /// A cancel of it was accepted and isn't answered.
     pub has_pending_cancel: bool,
-    /// A replace of it was accepted and isn't answered.
-    pub has_pending_replace: bool,
+    /// How many replaces of it were accepted and aren't answered.
+    pub pending_replaces: usize,
     /// How many replaces of it were accepted.
     pub replaces: u64,
 }

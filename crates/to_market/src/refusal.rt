@@ -57,7 +57,7 @@ pub enum Refusal {
     UnknownOrder,
     /// The order is closed.
     TooLate,
-    /// A cancel of the order is pending; for a replace also a replace.
+    /// A cancel of the order is pending; for a replace also four replaces.
     AlreadyPending,
     /// A replace has a side, symbol or capacity (54, 55, 528) that isn't the order's.
     OtherTerms,

@@ -9,8 +9,8 @@ ghost use Rattle.fix_values.specs.Slots.{char_text};
 ghost use Rattle.order_law.specs.Asks.{Standing};
 ghost use Rattle.order_law.specs.Headline.{Says};
 ghost use Rattle.order_law.specs.fix_fields.Field.{Message, text};
-ghost use Rattle.order_law.specs.Verdicts.{Accepted, Named, Port, first_row, is_replace, last_token, port_rows};
-ghost use Rattle.order_law.specs.Verdicts.{rows_of_request};
+ghost use Rattle.order_law.specs.Verdicts.{Accepted, Named, Port, first_row, is_replace, last_token, most_pending};
+ghost use Rattle.order_law.specs.Verdicts.{port_rows, rows_of_request};
 ghost use Rattle.to_market.specs.declared.named_order.NamedOrder.{NamedOrder};
 ghost use Rattle.to_market.specs.FieldRows.{is_none_of};
 ghost use Rattle.to_market.specs.Names.{HasRead, IsRead, ReachesTerms, changes_terms};
@@ -35,6 +35,9 @@ use tokens::Token;
 /// So many replaces may be accepted of an order.
 const MOST_REPLACES: u64 = 65_535;
 
+/// So many of them may be pending at once.
+const MOST_PENDING: usize = 4;
+
 /// The first of the table's rows that refuses a cancel, if one does. They read whether its ClOrdID (11) is used
 /// already, the order that its OrigClOrdID (41) names, and how that order's port stands.
 ///
@@ -57,7 +60,8 @@ pub fn refuse_cancel(
 }
 
 /// What a replace asks, or the first of the table's rows that refuses it. `given` tokens were given so far; it takes
-/// the next one. What is taken has room: fewer than 65,535 replaces of its order were accepted. The rest is as of
+/// the next one. What is taken has room: fewer than 65,535 replaces of its order were accepted, and fewer than four are
+/// pending. The rest is as of
 /// `refuse_cancel`.
 ///
 /// Source: FIX 4.4 Volume 4, "Order Cancel/Replace Request".
@@ -74,6 +78,7 @@ pub fn ask_of_replace(
     ensures asks { IfOk result (λ ask. AsksToReplace ask (replace_request_fields request.now)) }
     ensures token { IfOk result (λ ask. ask.token ≡ token_text (given + 1)) }
     ensures room { IfOk result (λ ask. (o : NamedOrder) → order.now ≡ Some o → o.replaces < 65_535) }
+    ensures few { IfOk result (λ ask. (o : NamedOrder) → order.now ≡ Some o → o.pending_replaces < 4) }
 {
     refuse_if(is_used, Refusal::DuplicateClOrdId)?;
     let Some(order) = order else {
@@ -81,7 +86,7 @@ pub fn ask_of_replace(
     };
     refuse_if(order.is_closed, Refusal::TooLate)?;
     refuse_port(port)?;
-    refuse_if(has_pending(order), Refusal::AlreadyPending)?;
+    refuse_if(has_to_wait(order), Refusal::AlreadyPending)?;
     change_of(request, order, given)
 }
 
@@ -121,20 +126,21 @@ fn change_of(
     })
 }
 
-/// The message that asks a replace of the order that goes by `live`, a token: it says the total, not what is open.
+/// The message that asks a replace of the order that goes by the token `from`, or is to go by it once its pending
+/// replaces are done: it says the total, not what is open.
 ///
 /// Source: OUCH 4.2, "Replace Order Message".
-pub fn say_replace(ask: &ReplaceAsk, live: &[u8; 14]) -> Replace
-    requires { ArePrintable live.now }
-    ensures token { result.token ≡ live.now }
+pub fn say_replace(ask: &ReplaceAsk, from: &[u8; 14]) -> Replace
+    requires { ArePrintable from.now }
+    ensures token { result.token ≡ from.now }
     ensures replacement { result.replacement_token ≡ ask.now.token }
     ensures says { (m : Message) → AsksToReplace ask.now m
         → (order : List ℕ) (standing : Standing) (order_of : List ℕ → Option ℕ)
-        → order_of live.now ≡ Some (digits_value 10 order)
-        → Says standing order_of (replace_asked_with order live.now ask.now.token m) (replace_bytes result) }
+        → order_of from.now ≡ Some (digits_value 10 order)
+        → Says standing order_of (replace_asked_with order from.now ask.now.token m) (replace_bytes result) }
 {
     Replace {
-        token: *live,
+        token: *from,
         replacement_token: ask.token.bytes(),
         shares: ask.shares.count(),
         price: ask.price.units(),
@@ -176,11 +182,11 @@ pub fn refuse_port(port: PortState) -> Result<(), Refusal>
     }
 }
 
-/// A request of either kind is pending.
-fn has_pending(order: &NamedOrder) -> bool
-    ensures { result ≡ (order.now.has_pending_cancel || order.now.has_pending_replace) }
+/// A further replace has to wait: a cancel is pending, or as many replaces as may be.
+fn has_to_wait(order: &NamedOrder) -> bool
+    ensures { result ≡ (order.now.has_pending_cancel || nat_le most_pending order.now.pending_replaces) }
 {
-    order.has_pending_cancel || order.has_pending_replace
+    order.has_pending_cancel || order.pending_replaces >= MOST_PENDING
 }
 
 /// A replace gives another side, symbol or capacity (54, 55, 528) than its order has.

@@ -6,4 +6,4 @@
 mod list;
 
 pub use list::UndoOrders;
-pub use orders::{Boxed, Cancelling, Change, Order, Replacing, Stage, is_same_token};
+pub use orders::{Boxed, Cancelling, Change, Order, Replaces, Replacing, Stage, is_same_token};

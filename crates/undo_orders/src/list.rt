@@ -1,12 +1,11 @@
 //! The list.
 
-ghost use Rattle.std.specs.Prelude.{◌≡◌, ◌≤◌, ◌<◌, ◌^◌, ◌++◌, ◌∷◌, [], length, slice_get, slice_set};
-ghost use Rattle.std.specs.Prelude.{Some, IfOk, OnErr, OnOk, false, true, vec_len, vec_capacity};
+ghost use Rattle.std.specs.Prelude.{◌≡◌, ◌≤◌, ◌<◌, ◌+◌, ◌^◌, ◌++◌, ◌∷◌, [], length, slice_get, slice_set};
+ghost use Rattle.std.specs.Prelude.{Some, IfOk, OnErr, OnOk, false, vec_len, vec_capacity};
 ghost use Rattle.orders.specs.order_machine.OrderRecord.{OrderRecord, at};
 ghost use Rattle.orders.specs.Changes.{Fits, changed_by};
 ghost use Rattle.orders.specs.Seen.{cancel_of, replace_of};
 ghost use Rattle.orders.specs.PutBack.{needs_memory, put_back};
-ghost use Rattle.hint_index.specs.undo_list.Undoing.{IsWithin};
 ghost use Rattle.undo_orders.specs.PuttingBack.{changed_at};
 
 use hint_index::SettledList;
@@ -125,8 +124,8 @@ impl UndoOrders {
         }
     }
 
-    /// A replace of the order at a place is pending, which has had fewer than 65,536 tokens. `AllocError` leaves the
-    /// list as it was.
+    /// One more replace of the order at a place is pending. With those that are pending it has had fewer than 65,536
+    /// tokens, and fewer than four are pending. `AllocError` leaves the list as it was.
     pub fn accept_replace(
         &mut self,
         alloc: Global,
@@ -134,16 +133,17 @@ impl UndoOrders {
         replacing: Replacing,
     ) -> Result<(), AllocError>
         requires inside { place < length self.old.now }
-        requires few { (was : OrderRecord) → slice_get self.old.now place ≡ Some was → length was.tokens < 65_536 }
+        requires room { (was : OrderRecord) → slice_get self.old.now place ≡ Some was
+            → length was.tokens + length was.replaces < 65_536 }
+        requires few { (was : OrderRecord) → slice_get self.old.now place ≡ Some was → length was.replaces < 4 }
         ensures now { IfOk result (λ nothing. (was : OrderRecord) → slice_get self.old.now place ≡ Some was
-            → self.new.now ≡ slice_set self.old.now place (at was (Some (replace_of was replacing)) was.cancel)) }
+            → self.new.now ≡ slice_set self.old.now place (at was (was.replaces ++ replace_of was replacing ∷ []) was.cancel)) }
         ensures settled { self.new.settled ≡ self.old.settled }
         ensures err { OnErr result (self.new.now ≡ self.old.now) }
     {
         let earlier = self.orders[place].before_request(alloc)?;
         self.changed.reserve(1)?;
-        let boxed = Boxed::new(alloc, replacing)?;
-        self.orders[place].accept_replace(boxed);
+        self.orders[place].accept_replace(alloc, replacing)?;
         self.changed.push_reserved(Was { place, earlier });
         Ok(())
     }
@@ -157,7 +157,7 @@ impl UndoOrders {
     ) -> Result<(), AllocError>
         requires inside { place < length self.old.now }
         ensures now { IfOk result (λ nothing. (was : OrderRecord) → slice_get self.old.now place ≡ Some was
-            → self.new.now ≡ slice_set self.old.now place (at was was.replace (Some (cancel_of was cancelling)))) }
+            → self.new.now ≡ slice_set self.old.now place (at was was.replaces (Some (cancel_of was cancelling)))) }
         ensures settled { self.new.settled ≡ self.old.settled }
         ensures err { OnErr result (self.new.now ≡ self.old.now) }
     {

@@ -1,6 +1,6 @@
 //! What a payload that a port's session delivered comes to.
 
-ghost use Rattle.std.specs.Prelude.{◌≡◌, ◌<◌, ◌≤◌, ◌+◌, ◌^◌, ◌&&◌, ℕ, List, [], Some, None, length, map, nat_le};
+ghost use Rattle.std.specs.Prelude.{◌≡◌, ◌<◌, ◌+◌, ◌&&◌, ℕ, List, [], Some, None, length, map, nat_le};
 ghost use Rattle.std.specs.Prelude.{is_some, option_to_list, IfOk, IfSome};
 ghost use Rattle.order_core.specs.State.{CoreHasRoom};
 ghost use Rattle.order_core.specs.order_machine.Runs.{NumbersLeft};

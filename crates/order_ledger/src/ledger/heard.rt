@@ -49,6 +49,7 @@ impl<S: BuildHasher + Drop> OrderLedger<S> {
             Judged::Told {
                 order_id,
                 client,
+                next,
                 heard,
             } => {
                 let reports = report_count(&heard.bodies);
@@ -61,6 +62,7 @@ impl<S: BuildHasher + Drop> OrderLedger<S> {
                     changed: Some(ChangedOrder {
                         order_id,
                         is_closed,
+                        next,
                     }),
                 })
             }

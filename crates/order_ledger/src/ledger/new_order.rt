@@ -1,6 +1,6 @@
 //! A new order: what comes of it is put into the table.
 
-ghost use Rattle.std.specs.Prelude.{◌≡◌, ◌≤◌, ◌+◌, ◌++◌, ◌∷◌, [], length, option_to_list, IfOk, OnErr};
+ghost use Rattle.std.specs.Prelude.{◌≡◌, ◌≤◌, ◌+◌, ◌++◌, ◌∷◌, [], length, IfOk, OnErr};
 ghost use Rattle.fix_types.specs.NewOrder.{new_order_fields};
 ghost use Rattle.to_market.specs.PortsSeen.{port_seen};
 
@@ -31,7 +31,7 @@ impl<S: BuildHasher + Drop> OrderLedger<S> {
         requires room { HasRoom self.old.now }
         ensures meets { IfOk result (λ turn. MeetsFields self.old.now client (new_order_fields order.now)
             (port_seen port) turn self.new.now) }
-        ensures few { IfOk result (λ turn. length turn.asks.items ≤ 2) }
+        ensures few { IfOk result (λ turn. length turn.asks.items ≤ 5) }
         ensures keeps { Keeps self.old.now self.new.now }
         ensures settled { self.new.settled ≡ self.old.settled }
         ensures err { OnErr result (self.new ≡ self.old) }
@@ -105,7 +105,7 @@ impl<S: BuildHasher + Drop> OrderLedger<S> {
             accepted.given accepted.bodies.items accepted.asks.items }
         ensures meets { IfOk result (λ turn. MeetsFields self.old.now sender.now.client (new_order_fields message.now)
             (port_seen sender.now.port) turn self.new.now) }
-        ensures few { IfOk result (λ turn. length turn.asks.items ≤ 2) }
+        ensures few { IfOk result (λ turn. length turn.asks.items ≤ 5) }
         ensures keeps { Keeps self.old.now self.new.now }
         ensures settled { self.new.settled ≡ self.old.settled }
         ensures err { OnErr result (self.new ≡ self.old) }
@@ -129,7 +129,8 @@ impl<S: BuildHasher + Drop> OrderLedger<S> {
     /// Keeps an accepted new order with its token, and its ClOrdID as used: one OrderID and one report more were given.
     fn keep(&mut self, order: Order, given: GivenToken, id: UsedId) -> Result<(), AllocError>
         requires room { HasRoom self.old.now }
-        requires fresh { length order.tokens + length (option_to_list order.replace) ≤ 1 }
+        requires few { length order.tokens ≤ 1 }
+        requires none { order.replaces ≡ [] }
         ensures kept { IfOk result (λ nothing. self.new.now ≡ with_order id order given self.old.now) }
         ensures keeps { Keeps self.old.now self.new.now }
         ensures settled { self.new.settled ≡ self.old.settled }

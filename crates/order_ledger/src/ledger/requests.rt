@@ -33,7 +33,7 @@ impl<S: BuildHasher + Drop> OrderLedger<S> {
         requires room { HasRoom self.old.now }
         ensures meets { IfOk result (λ turn. GoByNumbers self.old.now
             → MeetsFields self.old.now client (cancel_request_fields request.now) (port_seen port) turn self.new.now) }
-        ensures few { IfOk result (λ turn. length turn.asks.items ≤ 2) }
+        ensures few { IfOk result (λ turn. length turn.asks.items ≤ 5) }
         ensures keeps { Keeps self.old.now self.new.now }
         ensures settled { self.new.settled ≡ self.old.settled }
         ensures err { OnErr result (self.new ≡ self.old) }
@@ -70,7 +70,7 @@ impl<S: BuildHasher + Drop> OrderLedger<S> {
         requires room { HasRoom self.old.now }
         ensures meets { IfOk result (λ turn. GoByNumbers self.old.now
             → MeetsFields self.old.now client (replace_request_fields request.now) (port_seen port) turn self.new.now) }
-        ensures few { IfOk result (λ turn. length turn.asks.items ≤ 2) }
+        ensures few { IfOk result (λ turn. length turn.asks.items ≤ 5) }
         ensures keeps { Keeps self.old.now self.new.now }
         ensures settled { self.new.settled ≡ self.old.settled }
         ensures err { OnErr result (self.new ≡ self.old) }
@@ -144,7 +144,7 @@ impl<S: BuildHasher + Drop> OrderLedger<S> {
         ensures meets { IfOk result (λ turn. GoByNumbers self.old.now
             → MeetsFields self.old.now sender.now.client (cancel_request_fields request.now)
             (port_seen sender.now.port) turn self.new.now) }
-        ensures few { IfOk result (λ turn. length turn.asks.items ≤ 2) }
+        ensures few { IfOk result (λ turn. length turn.asks.items ≤ 5) }
         ensures keeps { Keeps self.old.now self.new.now }
         ensures settled { self.new.settled ≡ self.old.settled }
         ensures err { OnErr result (self.new ≡ self.old) }
@@ -181,7 +181,7 @@ impl<S: BuildHasher + Drop> OrderLedger<S> {
         ensures meets { IfOk result (λ turn. GoByNumbers self.old.now
             → MeetsFields self.old.now sender.now.client (replace_request_fields request.now)
             (port_seen sender.now.port) turn self.new.now) }
-        ensures few { IfOk result (λ turn. length turn.asks.items ≤ 2) }
+        ensures few { IfOk result (λ turn. length turn.asks.items ≤ 5) }
         ensures keeps { Keeps self.old.now self.new.now }
         ensures settled { self.new.settled ≡ self.old.settled }
         ensures err { OnErr result (self.new ≡ self.old) }

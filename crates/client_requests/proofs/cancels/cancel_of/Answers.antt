@@ -16,7 +16,7 @@ returns-in_ok-body-in-Err g c = λ s stands.
     let held = c.args.table.now in
     let of_order : o.new.order ≡ decimal c.order.inside.order_id = ap (λ (x : OrderRecord). x.new.order) (sym c.order.view_is) in
     let named = named-in s c.args.issued sender held r.cl_ord_id c.args.is_used r.orig_cl_ord_id (Some o) stands c.requires.named in
-    let reads = read-in s c.args.issued sender held r.cl_ord_id c.args.is_used r.orig_cl_ord_id o c.order.inside.order_id c.replace_count-replaces.result c.named_of.result stands named of_order c.replace_count-replaces.ensures c.named_of.ensures in
+    let reads = read-in s c.args.issued sender held r.cl_ord_id c.args.is_used r.orig_cl_ord_id o c.order.inside.order_id c.replace_count-replaces.result c.named_of.result stands named of_order c.replace_count-replaces.ensures c.named_of.ensures.reads in
     refused-in s sender (cancel_request_fields r) (Some o) c.in-Err.refusal c.in_ok-body-in-Err.body refl named
     (verdict-is s sender.client (cancel_request_fields r) (port_seen sender.port) c.args.is_used (Some o) refl stands.used named
     ∙ c.in-Err.ensures (cancel_request_fields r) (Some (named_as s o)) (length s.tokens) refl reads)
@@ -32,7 +32,7 @@ returns-in-Ok g c =
     let held = c.args.table.now in
     let of_order : o.new.order ≡ decimal c.order.inside.order_id = ap (λ (x : OrderRecord). x.new.order) (sym c.order.view_is) in
     let named = named-in s c.args.issued sender held r.cl_ord_id c.args.is_used r.orig_cl_ord_id (Some o) stands c.requires.named in
-    let reads = read-in s c.args.issued sender held r.cl_ord_id c.args.is_used r.orig_cl_ord_id o c.order.inside.order_id c.replace_count-replaces.result c.named_of.result stands named of_order c.replace_count-replaces.ensures c.named_of.ensures in
+    let reads = read-in s c.args.issued sender held r.cl_ord_id c.args.is_used r.orig_cl_ord_id o c.order.inside.order_id c.replace_count-replaces.result c.named_of.result stands named of_order c.replace_count-replaces.ensures c.named_of.ensures.reads in
     accepts s (record {
       reports = stands.reports;
       named = named;

@@ -1,35 +1,24 @@
-use Rattle.std.proofs.Common.{◌≡◌, ℕ, List, [], ◌∷◌, sym, ap, ◌∙◌}
-use Rattle.std.specs.Prelude.{Option, option_map}
-use Rattle.to_market.proofs.tokens.Digits.{printable-token}
+use Rattle.std.proofs.Common.{◌≡◌, ℕ, List, [], ◌∷◌, ◌++◌, map, ap, ◌∙◌, subst, sym}
 use Rattle.order_machine.specs.OrderRecord.{OrderRecord, live_token, replacements}
+use Rattle.order_law.specs.ouch_codec.declared.inbound.Inbound.{Inbound}
+use Rattle.order_law.specs.ouch_codec.declared.inbound.Inbound.TheVariants as inbound
 use Rattle.orders.specs.declared.requests.Replacing.{Replacing}
-use Rattle.orders.specs.Seen.{replace_seen}
-use Rattle.client_requests.proofs.Sending.{cancel-said, cancels-said}
+use Rattle.orders.specs.Seen.{replacing_token}
+use Rattle.client_requests.specs.Asked.{SayCancels, SaysTheCancel}
+use Rattle.client_requests.proofs.Sending.{cancels-said, tokens-seen}
 use Rattle.client_requests.proofs.cancels.cancels_of.Goals as goal
 
-pub say_cancel-next-requires : goal.say_cancel-next-requires
-say_cancel-next-requires c = printable-token c.get.result.now.token c.get.result.now.token_number c.get.result.now.text_set
-
-pub returns-in_ok-vec-in-None-clause-says : goal.returns-in_ok-vec-in-None-clause-says
-returns-in_ok-vec-in-None-clause-says c = λ m standing order_of kind finds.
+pub returns-clause-says : goal.returns-clause-says
+returns-clause-says c = λ m standing order_of kind finds.
     let o = c.args.order.now in
-    let none : replacements o.replace ≡ [] =
-    ap (λ (x : OrderRecord). replacements x.replace) (sym c.order.view_is)
-    ∙ ap (λ (x : Option Replacing). replacements (option_map (replace_seen c.order.inside.client c.order.inside.order_id) x)) c.in-None.is in
-    cancel-said o c.order.inside.token m standing order_of c.say_cancel-live.result c.in_ok-vec-in-None.field-0.items
-    (ap live_token c.order.view_is) none c.in_ok-vec-in-None.ensures.items finds
-    (c.say_cancel-live.ensures.says m kind o.new.order standing order_of)
-
-pub returns-in_ok-vec-in-Some-clause-says : goal.returns-in_ok-vec-in-Some-clause-says
-returns-in_ok-vec-in-Some-clause-says c = λ m standing order_of kind finds.
-    let o = c.args.order.now in
-    let next = c.get.result.now.token in
-    let is_next : replacements o.replace ≡ next ∷ [] =
-    ap (λ (x : OrderRecord). replacements x.replace) (sym c.order.view_is)
-    ∙ ap (λ (x : Option Replacing). replacements (option_map (replace_seen c.order.inside.client c.order.inside.order_id) x)) c.in-Some.is
-    ∙ ap (λ (t : List ℕ). t ∷ []) (sym c.in-Some.replacing.text_set)
-    ∙ ap (λ (r : Replacing). r.token ∷ []) (sym c.get.ensures) in
-    cancels-said o c.order.inside.token next m standing order_of c.say_cancel-live.result c.say_cancel-next.result c.in_ok-vec-in-Some.field-0.items
-    (ap live_token c.order.view_is) is_next c.in_ok-vec-in-Some.ensures.items finds
-    (c.say_cancel-live.ensures.says m kind o.new.order standing order_of)
-    (c.say_cancel-next.ensures.says m kind o.new.order standing order_of)
+    let live = c.order.inside.token in
+    let x : Inbound = inbound.Cancel c.say_cancel.result in
+    let one : c.push.new.self.items ≡ x ∷ [] = c.in_ok-push.ensures.items ∙ ap (λ (xs : List Inbound). xs ++ x ∷ []) c.in_ok-asks.ensures.items in
+    let says : SaysTheCancel live x = λ m kind order standing order_of leads. c.say_cancel.ensures.says m kind order standing order_of leads in
+    let first : SayCancels (live ∷ []) c.push.new.self.items = subst (λ (xs : List Inbound). SayCancels (live ∷ []) xs) (sym one) (says, tt) in
+    let tokens : live ∷ map replacing_token c.as_slice.result.now ≡ live_token o ∷ replacements o.replaces =
+    ap (λ (rs : List Replacing). live ∷ map replacing_token rs) c.as_slice.ensures
+    ∙ ap (λ (ts : List (List ℕ)). live ∷ ts) (tokens-seen c.order.inside.client c.order.inside.order_id c.order.inside.replaces)
+    ∙ ap (λ (r : OrderRecord). live_token r ∷ replacements r.replaces) c.order.view_is in
+    cancels-said o (live ∷ map replacing_token c.as_slice.result.now) c.push_cancels.new.asks.items m standing order_of tokens
+    (c.in_ok-push_cancels.ensures.says (live ∷ []) first) kind finds

@@ -1,9 +1,17 @@
-use Rattle.std.proofs.Common.{◌≡◌, ◌+◌, refl, sym, ap, decimal}
+use Rattle.std.proofs.Common.{◌≡◌, ◌+◌, refl, subst, sym, ap, decimal}
 use Rattle.fix_types.specs.ReplaceRequest.{replace_request_fields}
-use Rattle.order_law.specs.History.{terms_of}
-use Rattle.order_machine.specs.OrderRecord.{OrderRecord, shown_as}
+use Rattle.order_law.specs.History.{last_token, terms_of}
+use Rattle.order_machine.specs.OrderRecord.{OrderRecord, live_token, replacements, shown_as}
 use Rattle.client_requests.proofs.AcceptedReplace.{entry_of, replacing-in}
+use Rattle.order_law.specs.wire_law.Printable.{ArePrintable}
+use Rattle.client_requests.proofs.Sending.{printable-last}
 use Rattle.client_requests.proofs.replaces.accept_replace.Goals as goal
+
+pub replaces_of-requires : goal.replaces_of-requires
+replaces_of-requires c =
+    let o = c.order.inside in
+    subst ArePrintable (ap (λ (r : OrderRecord). last_token (live_token r) (replacements r.replaces)) c.order.view_is)
+    (printable-last o.client o.order_id o.token o.token_set o.replaces)
 
 pub returns : goal.returns
 returns c = λ s is takes.

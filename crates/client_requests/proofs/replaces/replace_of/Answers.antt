@@ -17,7 +17,7 @@ returns-in_ok-body-in-Err g c = λ s stands.
     let held = c.args.table.now in
     let of_order : o.new.order ≡ decimal c.order.inside.order_id = ap (λ (x : OrderRecord). x.new.order) (sym c.order.view_is) in
     let named = named-in s c.args.issued sender held r.cl_ord_id c.args.is_used r.orig_cl_ord_id (Some o) stands c.requires.named in
-    let reads = read-in s c.args.issued sender held r.cl_ord_id c.args.is_used r.orig_cl_ord_id o c.order.inside.order_id c.replace_count-replaces.result c.named_of.result stands named of_order c.replace_count-replaces.ensures c.named_of.ensures in
+    let reads = read-in s c.args.issued sender held r.cl_ord_id c.args.is_used r.orig_cl_ord_id o c.order.inside.order_id c.replace_count-replaces.result c.named_of.result stands named of_order c.replace_count-replaces.ensures c.named_of.ensures.reads in
     let given = given-in s c.args.issued sender held r.cl_ord_id c.args.is_used c.token_count-given.result stands c.token_count-given.ensures in
     refused-in s sender (replace_request_fields r) (Some o) c.in-Err.refusal c.in_ok-body-in-Err.body refl named
     (verdict-is s sender.client (replace_request_fields r) (port_seen sender.port) c.args.is_used (Some o) refl stands.used named
@@ -35,7 +35,7 @@ returns-in-Ok g c =
     let held = c.args.table.now in
     let of_order : o.new.order ≡ decimal c.order.inside.order_id = ap (λ (x : OrderRecord). x.new.order) (sym c.order.view_is) in
     let named = named-in s c.args.issued sender held r.cl_ord_id c.args.is_used r.orig_cl_ord_id (Some o) stands c.requires.named in
-    let reads = read-in s c.args.issued sender held r.cl_ord_id c.args.is_used r.orig_cl_ord_id o c.order.inside.order_id c.replace_count-replaces.result c.named_of.result stands named of_order c.replace_count-replaces.ensures c.named_of.ensures in
+    let reads = read-in s c.args.issued sender held r.cl_ord_id c.args.is_used r.orig_cl_ord_id o c.order.inside.order_id c.replace_count-replaces.result c.named_of.result stands named of_order c.replace_count-replaces.ensures c.named_of.ensures.reads in
     let given = given-in s c.args.issued sender held r.cl_ord_id c.args.is_used c.token_count-given.result stands c.token_count-given.ensures in
     accepts s (record {
       reports = stands.reports;
@@ -47,5 +47,6 @@ returns-in-Ok g c =
       tokens = given;
       terms = stands.terms;
       room = subst (λ (n : ℕ). n < 65_535) (sym reads.replaces) (c.in-Ok.ensures.room c.named_of.result refl);
+      few = subst (λ (n : ℕ). n < 4) c.named_of.ensures.pending (c.in-Ok.ensures.few c.named_of.result refl);
     }))
     c.accept_replace.ensures

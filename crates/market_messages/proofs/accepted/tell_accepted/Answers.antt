@@ -25,7 +25,7 @@ returns-then-is_dead-clause-told c =
     (first-told c.in_ok-bodies.bodies.items c.push_report.new.bodies.items (report_fields c.in_ok-report.report) _ c.in_ok-bodies.ensures.items c.in_ok-push_report.ensures.told
     (c.in_ok-report.ensures.told (shown_as (progressed p o)) c.shown_of-shown.ensures
     ∙ ap (λ (x : OrderRecord). law.report (c.args.issued + 1) (law.plain (codes "0")) (shown_as x)) opened))
-    (c.in_ok-push_canceled.ensures.told o.replace (cancel_in o.cancel) (shown_as (progressed q o)) c.shown_of-closed.ensures (c.pending_of-pending.ensures q))
+    (c.in_ok-push_canceled.ensures.told o.replaces (cancel_in o.cancel) (shown_as (progressed q o)) c.shown_of-closed.ensures (c.pending_of-pending.ensures.pending q))
     (ap (λ (x : OrderRecord). law.cancelled (c.args.issued + 2) None (shown_as x)) gone)
     ∙ sym (dead-told c.args.issued m o (sym c.if-is_dead.ensures))
 

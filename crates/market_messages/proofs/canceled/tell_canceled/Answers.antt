@@ -17,7 +17,7 @@ returns-then-message-order-clause-told c =
     let p = c.progress_after-progress.result in
     let all : m.decrement ≡ o.unfilled = c.if-message-order.true ∙ ap (λ (x : OrderRecord). x.unfilled) c.order.view_is in
     only-told c.in_ok-bodies.bodies.items c.push_canceled.new.bodies.items _ _ c.in_ok-bodies.ensures.items
-    (c.in_ok-push_canceled.ensures.told o.replace (cancel_in o.cancel) (shown_as (progressed p o)) c.shown_of-shown.ensures (c.pending_of-pending.ensures p))
+    (c.in_ok-push_canceled.ensures.told o.replaces (cancel_in o.cancel) (shown_as (progressed p o)) c.shown_of-shown.ensures (c.pending_of-pending.ensures.pending p))
     (ap (λ (x : OrderRecord). law.cancelled (c.args.issued + 1) (Some (m.reason ∷ [])) (shown_as x)) c.progress_after-progress.ensures.after)
     ∙ sym (gone-told m o c.requires.may c.args.issued all)
 

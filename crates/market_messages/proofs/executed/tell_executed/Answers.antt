@@ -25,7 +25,7 @@ returns-then-shares-order-clause-told c =
     (first-told c.in_ok-bodies.bodies.items c.push_report.new.bodies.items (report_fields c.in_ok-report.report) _ c.in_ok-bodies.ensures.items c.in_ok-push_report.ensures.told
     (c.in_ok-report.ensures.told (shown_as (progressed p o)) c.shown_of-shown.ensures
     ∙ ap (λ (x : OrderRecord). law.report (c.args.issued + 1) (occasion_seen (occasions.Trade m.shares m.price)) (shown_as x)) after))
-    (c.in_ok-push_too_late.ensures.told o.replace (cancel_in o.cancel) (shown_as (progressed p o)) c.shown_of-shown.ensures (c.pending_of.ensures p))
+    (c.in_ok-push_too_late.ensures.told o.replaces (cancel_in o.cancel) (shown_as (progressed p o)) c.shown_of-shown.ensures (c.pending_of.ensures.pending p))
     (ap (λ (x : OrderRecord). law.too_late (shown_as x)) after)
     ∙ sym (filled-told m o c.requires.may c.args.issued all)
 

@@ -7,6 +7,7 @@ pub returns-in-Ok : goal.returns-in-Ok
 returns-in-Ok c = λ issued m meets. record {
   of_order = ap (λ (x : OrderRecord). x.new.order) (sym c.order.view_is);
   of_client = ap (λ (x : OrderRecord). x.new.client) (sym c.order.view_is);
+  of_replaces = c.next_tokens.ensures;
   is_heard = subst (MeetsRow issued m c.args.order.now) c.in-Ok.is meets;
 }
 

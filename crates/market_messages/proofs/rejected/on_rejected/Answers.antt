@@ -1,5 +1,9 @@
 use Rattle.std.proofs.Common.{◌≡◌, Bool, true, false, sym, ap, ◌∙◌}
-use Rattle.std.specs.Prelude.{◌||◌}
+use Rattle.std.specs.Prelude.{◌||◌, not}
+use Rattle.std.proofs.lemmas.Bool.{and_parts}
+use Rattle.orders.specs.order_law.Lawful.{is_first}
+use Rattle.orders.specs.order_law.Life.{is_closed}
+use Rattle.order_machine.specs.OrderRecord.{replacements}
 use Rattle.market_messages.specs.Meets.{rejects_new, rejects_replace}
 use Rattle.market_messages.proofs.RejectedRow.{not_replaced-now, refuse-waits, refused-now}
 use Rattle.market_messages.proofs.rejected.on_rejected.Goals as goal
@@ -25,7 +29,7 @@ returns-then-may_reject_replace c =
     record {
       lawful = ap (λ (x : Bool). x || rejects_replace m o) not_new ∙ may;
       told = c.in_ok-tell_not_replaced.ensures.told c.args.issued;
-      now = not_replaced-now c.args.issued m o not_new;
+      now = not_replaced-now c.args.issued m o not_new (and_parts (is_first m.token (replacements o.replaces)) (not (is_closed o.stage)) may).0;
       fits = tt;
     }
 

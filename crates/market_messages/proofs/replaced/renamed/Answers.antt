@@ -1,9 +1,13 @@
-use Rattle.to_client.proofs.Answered.{rest-shows}
+use Rattle.std.proofs.Common.{◌∷◌, sym, ap, ◌∙◌}
+use Rattle.std.specs.Prelude.{not, option_to_list}
+use Rattle.to_client.proofs.Answered.{before-shows, rest-shows}
+use Rattle.to_client.proofs.Rejects.{some-behind}
 use Rattle.market_messages.proofs.replaced.renamed.Goals as goal
 
 pub returns : goal.returns
-returns c = λ pending replace cancel s m shows is asks.
-    let r = rest-shows c.args.shown.now pending replace cancel s shows is in
+returns c = λ pending q qs cancel s shows is same asks.
+    let some = some-behind c.args.others.now qs same is.are_replaces.1 ∙ ap not (sym c.is_empty.ensures) in
+    let r = before-shows c.args.shown.now s qs (option_to_list cancel) (not c.is_empty.result) is.are_replaces.1 some (rest-shows c.args.shown.now pending (q ∷ qs) cancel s shows is) in
     record {
       order = r.order;
       id = asks.id;

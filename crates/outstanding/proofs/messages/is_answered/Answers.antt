@@ -1,33 +1,34 @@
-use Rattle.std.proofs.Common.{sym, ◌∙◌, arith, bytes_eq, decimal, eq-eqb}
+use Rattle.std.proofs.Common.{sym, ◌∙◌, arith, eq-eqb, ne_eqb}
 use Rattle.std.specs.Prelude.{◌==◌}
 use Rattle.order_law.specs.History.{answers}
 use Rattle.outstanding.specs.Kept.{asked_by_fields}
-use Rattle.outstanding.proofs.Holding.{answered-by_fields, is-answer, is-closing, is-neither, number-test}
+use Rattle.outstanding.proofs.Holding.{answered-by_fields, is-answer, is-closing, is-other}
 use Rattle.outstanding.proofs.messages.is_answered.Goals as goal
 
 pub returns-then-answers : goal.returns-then-answers
 returns-then-answers c =
     let a = c.args.asked.now in
     let on = eq-eqb a.port c.args.port c.if-asked-port.true in
+    let own = eq-eqb a.order_id c.args.order_id c.if-asked-order_id.true in
     let answered = sym c.answers.ensures ∙ c.if-answers.true in
     c.if-answers.true
-    ∙ sym (is-answer (a.port == c.args.port) (answers c.args.heard.now (asked_by_fields a.message)) c.args.is_closed (bytes_eq (decimal a.order_id) (decimal c.args.order_id)) on answered)
-    ∙ sym (answered-by_fields a c.args.port c.args.heard.now (decimal c.args.order_id) c.args.is_closed)
+    ∙ sym (is-answer (a.port == c.args.port) (a.order_id == c.args.order_id) (answers c.args.heard.now c.args.next.now (asked_by_fields a.message)) c.args.is_closed on own answered)
+    ∙ sym (answered-by_fields a c.args.port c.args.heard.now c.args.next.now c.args.order_id c.args.is_closed (omega arith) (omega arith))
 
-pub returns-then-is_closed : goal.returns-then-is_closed
-returns-then-is_closed c =
+pub returns-else-answers : goal.returns-else-answers
+returns-else-answers c =
     let a = c.args.asked.now in
     let on = eq-eqb a.port c.args.port c.if-asked-port.true in
-    let other = sym c.answers.ensures ∙ c.if-answers.false in
-    number-test a.order_id c.args.order_id (omega arith) (omega arith)
-    ∙ sym (is-closing (a.port == c.args.port) (answers c.args.heard.now (asked_by_fields a.message)) c.args.is_closed (bytes_eq (decimal a.order_id) (decimal c.args.order_id)) on other c.if-is_closed.true)
-    ∙ sym (answered-by_fields a c.args.port c.args.heard.now (decimal c.args.order_id) c.args.is_closed)
+    let own = eq-eqb a.order_id c.args.order_id c.if-asked-order_id.true in
+    let not_answered = sym c.answers.ensures ∙ c.if-answers.false in
+    sym (is-closing (a.port == c.args.port) (a.order_id == c.args.order_id) (answers c.args.heard.now c.args.next.now (asked_by_fields a.message)) c.args.is_closed on own not_answered)
+    ∙ sym (answered-by_fields a c.args.port c.args.heard.now c.args.next.now c.args.order_id c.args.is_closed (omega arith) (omega arith))
 
-pub returns-else-is_closed : goal.returns-else-is_closed
-returns-else-is_closed c =
+pub returns-else-asked-order_id : goal.returns-else-asked-order_id
+returns-else-asked-order_id c =
     let a = c.args.asked.now in
     let on = eq-eqb a.port c.args.port c.if-asked-port.true in
-    let other = sym c.answers.ensures ∙ c.if-answers.false in
-    c.if-is_closed.false
-    ∙ sym (is-neither (a.port == c.args.port) (answers c.args.heard.now (asked_by_fields a.message)) c.args.is_closed (bytes_eq (decimal a.order_id) (decimal c.args.order_id)) on other c.if-is_closed.false)
-    ∙ sym (answered-by_fields a c.args.port c.args.heard.now (decimal c.args.order_id) c.args.is_closed)
+    let other = ne_eqb a.order_id c.args.order_id c.if-asked-order_id.false in
+    other
+    ∙ sym (is-other (a.port == c.args.port) (a.order_id == c.args.order_id) (answers c.args.heard.now c.args.next.now (asked_by_fields a.message)) c.args.is_closed on other)
+    ∙ sym (answered-by_fields a c.args.port c.args.heard.now c.args.next.now c.args.order_id c.args.is_closed (omega arith) (omega arith))

@@ -7,7 +7,7 @@ pub returns-clause-says : goal.returns-clause-says
 returns-clause-says c =
     let ask = c.args.ask.now in
     let message : Replace = record {
-      token = c.args.live.now;
+      token = c.args.from.now;
       replacement_token = ask.token;
       shares = ask.shares;
       price = ask.price;
@@ -24,7 +24,7 @@ returns-clause-says c =
       intermarket_sweep_set = search rules;
       minimum_quantity_set = search rules;
     } in
-    let has : Replaces ask c.args.live.now message = record {
+    let has : Replaces ask c.args.from.now message = record {
       token = refl;
       replacement = refl;
       shares = refl;
@@ -35,4 +35,4 @@ returns-clause-says c =
       minimum = refl;
     } in
     λ m asks order standing order_of leads.
-    rw (c.bytes.ensures.bytes, c.count.ensures.value, c.units.ensures.value) (says_replace ask c.args.live.now message m order standing order_of asks has leads)
+    rw (c.bytes.ensures.bytes, c.count.ensures.value, c.units.ensures.value) (says_replace ask c.args.from.now message m order standing order_of asks has leads)

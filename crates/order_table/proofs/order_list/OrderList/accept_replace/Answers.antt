@@ -1,5 +1,4 @@
-use Rattle.std.proofs.Common.{◌≡◌, ℕ, true, refl, ap, ◌∙◌, subst}
-use Rattle.std.specs.Prelude.{Some}
+use Rattle.std.proofs.Common.{◌≡◌, ℕ, true, [], ◌∷◌, ◌++◌, refl, ap, ◌∙◌, subst}
 use Rattle.hint_index.proofs.Standing.{covered-same}
 use Rattle.hint_index.specs.Hints.{Covered, LeadsTo, hint_of}
 use Rattle.order_machine.specs.OrderRecord.{at}
@@ -26,9 +25,9 @@ invariant_of-self-2 g c =
     let id = c.args.replacing.message.cl_ord_id in
     let name : c.of-name.result ≡ name_key was.new.client id =
     c.of-name.ensures ∙ ap (λ (n : ℕ). name_key n c.as_slice.result.now) c.client_of-client.ensures ∙ ap (name_key was.new.client) c.as_slice.ensures.bytes in
-    let keeps : KeepsNamesBut (name_key was.new.client id) was (at was (Some (replace_of was c.args.replacing)) was.cancel) = replace-names was (replace_of was c.args.replacing) in
+    let keeps : KeepsNamesBut (name_key was.new.client id) was (at was (was.replaces ++ replace_of was c.args.replacing ∷ []) was.cancel) = replace-names was (replace_of was c.args.replacing) in
     let was_led : (k : NameKey) → has_name_key k was ≡ true → LeadsTo (hint_of same_name c.note.new.self k) c.args.place = λ k t. c.note.ensures.keeps k (covered.now k c.args.place was here t) in
     let own : LeadsTo (hint_of same_name c.note.new.self (name_key was.new.client id)) c.args.place = subst (λ (q : NameKey). LeadsTo (hint_of same_name c.note.new.self q) c.args.place) name c.note.ensures.leads in
-    led-changed c.self.inside.numbers c.note.new.self old c.accept_replace.new.self c.args.place was (at was (Some (replace_of was c.args.replacing)) was.cancel) here refl
+    led-changed c.self.inside.numbers c.note.new.self old c.accept_replace.new.self c.args.place was (at was (was.replaces ++ replace_of was c.args.replacing ∷ []) was.cancel) here refl
     (λ k t. led-by-either (hint_of same_name c.note.new.self) has_name_key (name_key was.new.client id) c.args.place was was_led own k (keeps.names k t))
     (c.in_ok-accept_replace.ensures.now was here) c.accept_replace.ensures.settled (c.self.invariant.0, c.note.ensures.covered covered)

@@ -8,15 +8,15 @@ use Rattle.order_table.proofs.Rooms.{room-in-order}
 use Rattle.order_table.proofs.order_list.OrderList.push.Goals as goal
 
 pub note-requires : goal.note-requires
-note-requires g c = record { room = (room-in-order c.self.inside.orders.pushes c.self.inside.numbers.room c.self.inside.names.room (subst (λ (u : Undoable OrderRecord). 1 ≤ u.pushes) (sym c.self.view_is) c.requires)).1 }
+note-requires g c = record { room = (room-in-order c.self.inside.orders.pushes c.self.inside.numbers.room c.self.inside.names.room (subst (λ (u : Undoable OrderRecord). 1 ≤ u.pushes) (sym c.self.view_is) c.requires.room)).1 }
 
-pub note_names-requires : goal.note_names-requires
-note_names-requires g c =
-    (room-in-order c.self.inside.orders.pushes c.self.inside.numbers.room c.self.inside.names.room (subst (λ (u : Undoable OrderRecord). 1 ≤ u.pushes) (sym c.self.view_is) c.requires)).2
+pub note_names-requires-clause-room : goal.note_names-requires-clause-room
+note_names-requires-clause-room g c =
+    (room-in-order c.self.inside.orders.pushes c.self.inside.numbers.room c.self.inside.names.room (subst (λ (u : Undoable OrderRecord). 1 ≤ u.pushes) (sym c.self.view_is) c.requires.room)).2
 
 pub push-requires : goal.push-requires
 push-requires g c =
-    (room-in-order c.self.inside.orders.pushes c.self.inside.numbers.room c.self.inside.names.room (subst (λ (u : Undoable OrderRecord). 1 ≤ u.pushes) (sym c.self.view_is) c.requires)).0
+    (room-in-order c.self.inside.orders.pushes c.self.inside.numbers.room c.self.inside.names.room (subst (λ (u : Undoable OrderRecord). 1 ≤ u.pushes) (sym c.self.view_is) c.requires.room)).0
 
 pub invariant_of-self : goal.invariant_of-self
 invariant_of-self g c = (

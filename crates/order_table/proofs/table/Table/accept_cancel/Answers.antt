@@ -21,7 +21,7 @@ invariant_of-self-inside g c =
     let newest : IsNewest (has_number (decimal c.args.order_id)) os c.in-Some.place = (search rules) in
     let there = item-at os c.in-Some.place newest.inside in
     let was = there.0 in
-    let now : OrderRecord = at was was.replace (Some (cancel_of was c.args.cancelling)) in (
+    let now : OrderRecord = at was was.replaces (Some (cancel_of was c.args.cancelling)) in (
       by-result c.accept_cancel.result c.accept_cancel.ensures.now c.accept_cancel.ensures.err
           (λ written. same-counted refl refl (written was there.1) (record {
             had = kept c.self.inside.tokens.now os c.in-Some.place was now c.self.inside.counted.had there.1 refl (omega arith);
@@ -39,11 +39,11 @@ returns-in_ok-accept_cancel-clause-accepted g c = λ o found.
     let there = item-at os c.in-Some.place newest.inside in
     let was = there.0 in
     changed-value os c.self.inside.tokens.now c.self.inside.orders.settled c.self.inside.tokens.settled (decimal c.args.order_id) c.in-Some.place was
-    (λ (x : OrderRecord). at x x.replace (Some (cancel_seen x.new.client c.args.order_id c.args.cancelling))) (λ x. refl) newest there.1 o is_found
-    c.accept_cancel.new.self.now c.accept_cancel.new.self.settled (at was was.replace (Some (cancel_of was c.args.cancelling)))
-    (ap (λ (x : record_of.Cancelling). at was was.replace (Some x)) (cancel-as was c.args.order_id c.args.cancelling (own-number (decimal c.args.order_id) os c.in-Some.place was newest there.1)))
+    (λ (x : OrderRecord). at x x.replaces (Some (cancel_seen x.new.client c.args.order_id c.args.cancelling))) (λ x. refl) newest there.1 o is_found
+    c.accept_cancel.new.self.now c.accept_cancel.new.self.settled (at was was.replaces (Some (cancel_of was c.args.cancelling)))
+    (ap (λ (x : record_of.Cancelling). at was was.replaces (Some x)) (cancel-as was c.args.order_id c.args.cancelling (own-number (decimal c.args.order_id) os c.in-Some.place was newest there.1)))
     (c.in_ok-accept_cancel.ensures.now was there.1) c.accept_cancel.ensures.settled
-    ∙ ap (changed (at o o.replace (Some (cancel_seen o.new.client c.args.order_id c.args.cancelling)))) c.self.view_is
+    ∙ ap (changed (at o o.replaces (Some (cancel_seen o.new.client c.args.order_id c.args.cancelling)))) c.self.view_is
 
 pub returns-in_err-accept_cancel-clause-err : goal.returns-in_err-accept_cancel-clause-err
 returns-in_err-accept_cancel-clause-err g c =

@@ -1,10 +1,9 @@
-use Rattle.std.proofs.Common.{rules, ◌≡◌, ◌≤◌, ◌++◌, Bool, true, false, List, length, map, take, filter, decimal, sym, ap, ◌∙◌, arith, length-append}
-use Rattle.std.specs.Prelude.{vec_len, not}
-use Rattle.std.proofs.lemmas.List.{length-map, take-append-le, take-take, take_all}
+use Rattle.std.proofs.Common.{rules, List, map, take, ap, ◌∙◌, arith}
+use Rattle.std.proofs.lemmas.List.{length-map, take-take}
 use Rattle.outstanding.specs.declared.messages.AskedMessage.{AskedMessage}
-use Rattle.outstanding.specs.Kept.{HeldMessages, KeptMessage, is_answered_by, kept_from, left_by, seen}
-use Rattle.outstanding.specs.Marks.{asked_of, is_unanswered, marked_by, unanswered, unmarked}
-use Rattle.outstanding.proofs.Marks.{marks-answer, marks-keep, none-marked, none-pushed, unanswered-pushed, unanswered-twice, unmarked-all, unmarked-seen}
+use Rattle.outstanding.specs.Kept.{HeldMessages, seen}
+use Rattle.outstanding.specs.Marks.{unanswered}
+use Rattle.outstanding.proofs.Marks.{none-marked, unmarked-all, unmarked-seen}
 use Rattle.outstanding.proofs.messages.AskedMessages.undo.Goals as goal
 
 pub invariant_of-self-inside : goal.invariant_of-self-inside

@@ -1,0 +1,2 @@
+pub mod AskedSoFar
+pub mod ReadAlike

@@ -1,0 +1,16 @@
+pub mod Members
+pub mod Lives
+pub mod Outstanding
+pub mod Known
+pub mod Turns
+pub mod Homes
+pub mod Holding
+pub mod Fates
+pub mod Oldest
+pub mod Lawful
+pub mod Terms
+pub mod Judged
+pub mod NoFault
+pub mod AtRest
+pub mod Kept
+pub mod Sent
