@@ -67,7 +67,8 @@ impl<
         pens: &'p [OutletPen<W, G>],
         pen: &'p OutletPen<W, G>,
     ) -> Result<(), AllocError> {
-        if is_of(&inlet, source_of(peer)) && is_to(pen, peer) {
+        let is_its_pen = is_to(pen, peer);
+        if is_its_pen && is_of(&inlet, source_of(peer)) {
             let at = inlet.position();
             let teller = teller_of(rt, self.tells_frames, peer);
             let own = InletGate::new(shared, pens, inlet);
