@@ -67,10 +67,9 @@ impl<
         pens: &'p [OutletPen<W, G>],
         pen: &'p OutletPen<W, G>,
     ) -> Result<(), AllocError> {
-        let is_its_pen = is_to(pen, peer);
-        if is_its_pen && is_of(&inlet, source_of(peer)) {
+        if is_of(&inlet, source_of(&peer)) && is_to(pen, &peer) {
             let at = inlet.position();
-            let teller = teller_of(rt, self.tells_frames, peer);
+            let teller = teller_of(rt, self.tells_frames, &peer);
             let own = InletGate::new(shared, pens, inlet);
             let gate = TellingGate::new(self.alloc, own, teller);
             let line = line_of(rt, shared, peer, opener, gate, at, pen);
@@ -90,12 +89,12 @@ impl<
 }
 
 /// Whom a client's or port's events come from.
-fn source_of(peer: Recipient) -> Source
-    ensures { result ≡ source_of_peer peer }
+fn source_of(peer: &Recipient) -> Source
+    ensures { result ≡ source_of_peer peer.now }
 {
     match peer {
-        Recipient::Client(client) => Source::Client(client),
-        Recipient::Port(port) => Source::Port(port),
+        Recipient::Client(client) => Source::Client(*client),
+        Recipient::Port(port) => Source::Port(*port),
     }
 }
 
@@ -107,10 +106,13 @@ fn is_of<K: DeskName>(inlet: &Inlet<K>, source: Source) -> bool
 }
 
 /// Whether a pen writes what this one is told.
-fn is_to<W: Prompt + Drop, G: OutletEnd + Drop>(pen: &OutletPen<W, G>, recipient: Recipient) -> bool
-    ensures { result ≡ true → pen.now.to ≡ recipient }
+fn is_to<W: Prompt + Drop, G: OutletEnd + Drop>(
+    pen: &OutletPen<W, G>,
+    recipient: &Recipient,
+) -> bool
+    ensures { result ≡ true → pen.now.to ≡ recipient.now }
 {
-    pen.recipient() == recipient
+    pen.recipient() == *recipient
 }
 
 /// Lines over the inlets and the outlets' pens of a desk: each inlet of a client or port with the pen at its position.

@@ -207,7 +207,7 @@ pub(crate) fn pens_of<'a, W: Prompt + Drop, K: DeskName, R: Clock + Eprint>(
 {
     let mut pens = Vec::with_capacity(alloc, outlets.len())?;
     for outlet in outlets {
-        let teller = teller_of(rt, tells_frames, outlet.recipient());
+        let teller = teller_of(rt, tells_frames, &outlet.recipient());
         let gate = TellingGate::new(alloc, OutletGate::new(shared, outlet), teller);
         pens.push(OutletPen::new(gate))?;
     }
@@ -218,7 +218,7 @@ pub(crate) fn pens_of<'a, W: Prompt + Drop, K: DeskName, R: Clock + Eprint>(
 pub(crate) fn teller_of<'a, R: Clock + Eprint>(
     rt: &'a R,
     tells_frames: bool,
-    whose: Recipient,
+    whose: &Recipient,
 ) -> Option<Teller<'a, R>> {
     match whose {
         Recipient::Client(client) if tells_frames => {
