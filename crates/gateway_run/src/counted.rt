@@ -5,7 +5,7 @@ use std::sync::atomic::{AtomicBool, AtomicU32, Ordering};
 
 /// How a gateway's clients stand.
 #[derive(Drop)]
-pub struct ClientCounts {
+pub(crate) struct ClientCounts {
     /// How many may have a further link.
     left: AtomicU32,
     /// How many wait for a link, or have one.
@@ -14,7 +14,7 @@ pub struct ClientCounts {
 
 impl ClientCounts {
     /// Of so many clients, none of which waits or has a link. Takes no memory.
-    pub fn of(clients: u32) -> ClientCounts {
+    pub(crate) fn of(clients: u32) -> ClientCounts {
         ClientCounts {
             left: AtomicU32::new(clients),
             busy: AtomicU32::new(0),
@@ -22,14 +22,14 @@ impl ClientCounts {
     }
 
     /// Whether no client waits for a link or has one.
-    pub fn are_idle(&self) -> bool {
+    pub(crate) fn are_idle(&self) -> bool {
         self.busy.load(Ordering::SeqCst) == 0
     }
 }
 
 /// The links of a client. Once the last client has no further one, `is_over` is set.
 #[derive(Drop)]
-pub struct CountedLinks<'a, O> {
+pub(crate) struct CountedLinks<'a, O> {
     links: O,
     counts: &'a ClientCounts,
     is_over: &'a AtomicBool,
@@ -37,7 +37,11 @@ pub struct CountedLinks<'a, O> {
 
 impl<'a, O> CountedLinks<'a, O> {
     /// These links, as those of one of the clients that are counted. Takes no memory.
-    pub fn new(links: O, counts: &'a ClientCounts, is_over: &'a AtomicBool) -> CountedLinks<'a, O> {
+    pub(crate) fn new(
+        links: O,
+        counts: &'a ClientCounts,
+        is_over: &'a AtomicBool,
+    ) -> CountedLinks<'a, O> {
         CountedLinks {
             links,
             counts,
