@@ -12,7 +12,8 @@ use Rattle.gate_serving.specs.declared.halves.Writes.{Writes}
 use Rattle.gate_serving.specs.declared.line.Line.{Line}
 use Rattle.gate_serving.specs.declared.line.Worker.{Worker}
 use Rattle.gate_serving.specs.Halves.{IsJoined, IsSplit, ReadsDid, WritesDid}
-use Rattle.gate_serving.specs.Lines.{HasLetGo, LetGoAt, LineRead, LineServed, LineWrittenBy, LinksRead, LinksWrittenBy, MayBeDone}
+use Rattle.gate_events.specs.declared.source.Recipient.{Recipient}
+use Rattle.gate_serving.specs.Lines.{LineRead, LineServed, LineWrittenBy, LinksRead, MayBeDone, reads_of}
 use Rattle.gate_workers.specs.WritersWork.{OfAStream}
 
 -- ---- links that are read
@@ -66,109 +67,78 @@ module _ (reads : ℕ → Result Unit LinkFault → List Event → List Event �
 
 -- ---- links that are written
 
-module _ {B : Type 0} (let_go : B → B → Type 0) where
-  pub gone_none : (x : B) → HasLetGo let_go x x
-  gone_none x = ([], refl)
+module _ {B : Type 0} (has_ended : Result WriterEnd LinkFault → Type 0) where
+  pub none_written : (x : B) → LineWrittenBy has_ended x x
+  none_written x = ([], refl)
 
-  pub gone_more : (x y z : B) → HasLetGo let_go x y → let_go y z → HasLetGo let_go x z
-  gone_more x y z (places, h) more = (y ∷ places, (h, more))
-
-  gone_behind : (places : List B) (x y z : B) → HasLetGo let_go x y → LetGoAt let_go places y z → HasLetGo let_go x z
-  gone_behind [] x y z h same = subst (λ (v : B). HasLetGo let_go x v) (sym same) h
-  gone_behind (last ∷ before) x y z h (more, again) = gone_more x last z (gone_behind before x y last h more) again
-
-  pub gone_both : (x y z : B) → HasLetGo let_go x y → HasLetGo let_go y z → HasLetGo let_go x z
-  gone_both x y z h (places, more) = gone_behind places x y z h more
-
-module _ {B : Type 0} (wrote : B → ℕ → Result WriterEnd LinkFault → B → Type 0) (let_go : B → B → Type 0) where
-  -- what lies behind the last link is let go
-  let_go_more : (ends : List (Result WriterEnd LinkFault)) (x y z : B) → LinksWrittenBy wrote let_go ends x y → HasLetGo let_go y z → (length ends ≡ 0 → z ≡ y) → LinksWrittenBy wrote let_go ends x z
-  let_go_more [] x y z h more first = first refl ∙ h
-  let_go_more (end ∷ before) x y z (between, over, h, link, gone) more first = (between, over, h, link, gone_both let_go over y z gone more)
-
-  pub record WrittenSoFar (count : ℕ) (old new : B) : Type 0 where
-    pub ends : List (Result WriterEnd LinkFault)
-    pub takes : LinksWrittenBy wrote let_go ends old new
-    pub numbers : count ≡ length ends
-
-  pub none_written : (x : B) → WrittenSoFar 0 x x
-  none_written x = record { ends = []; takes = refl; numbers = refl }
-
-  pub one_written : (count : ℕ) (end : Result WriterEnd LinkFault) (w x y z : B) → WrittenSoFar count w x → HasLetGo let_go x y → (count ≡ 0 → y ≡ x) → wrote y (count + 1) end z → WrittenSoFar (count + 1) w z
-  one_written count end w x y z h more first one = record {
-    ends = end ∷ h.ends;
-    takes = (y, z, let_go_more h.ends w x y h.takes more (λ e. first (h.numbers ∙ e)), subst (λ (n : ℕ). wrote y (n + 1) end z) h.numbers one, gone_none let_go z);
-    numbers = omega (arith, h.numbers);
-  }
-
-  pub all_written : (count : ℕ) (w x y : B) → WrittenSoFar count w x → HasLetGo let_go x y → (count ≡ 0 → y ≡ x) → LineWrittenBy wrote let_go w y
-  all_written count w x y h more first = (h.ends, let_go_more h.ends w x y h.takes more (λ e. first (h.numbers ∙ e)))
+  pub one_written : (end : Result WriterEnd LinkFault) (x y z : B) → LineWrittenBy has_ended x y → has_ended end → LineWrittenBy has_ended x z
+  one_written end x y z h one = (end ∷ h.0, (y, h.1, one))
 
 -- ---- a line and its halves
 
-module _ {P O G C W K : Type 0} (reads : P → ℕ → Result Unit LinkFault → List Event → List Event → Option (List ℕ) → Option (List ℕ) → Type 0) (has_ended : O → Type 0) (opened : O → ℕ) (was_put : G → List Event) (was_taken : G → List (List LinkOut)) where
+module _ {O G C W K : Type 0} (has_ended : O → Type 0) (opened : O → ℕ) (was_put : G → List Event) (was_taken : G → List (List LinkOut)) where
   -- a half that is as it was has read no link
-  pub reads_did : (old new : Reads P O (Worker G C) W K) → old.all_over ≡ false → MayBeDone (ReadsDid reads has_ended opened was_put was_taken) old new → ReadsDid reads has_ended opened was_put was_taken old new
+  pub reads_did : (old new : Reads O (Worker G C) W K) → old.all_over ≡ false → MayBeDone (ReadsDid has_ended opened was_put was_taken) old new → ReadsDid has_ended opened was_put was_taken old new
   reads_did old new fresh may = ⊎_elim
-      (λ (same : new ≡ old). subst (λ (n : Reads P O (Worker G C) W K). ReadsDid reads has_ended opened was_put was_taken old n) (sym same)
-      (refl, refl, none_read (reads old.peer) old.all_over (has_ended old.opener) (opened old.opener) (was_put old.worker.gate) fresh, refl))
-      (λ (did : ReadsDid reads has_ended opened was_put was_taken old new). did)
+      (λ (same : new ≡ old). subst (λ (n : Reads O (Worker G C) W K). ReadsDid has_ended opened was_put was_taken old n) (sym same)
+      (refl, refl, none_read (reads_of old.peer) old.all_over (has_ended old.opener) (opened old.opener) (was_put old.worker.gate) fresh, refl))
+      (λ (did : ReadsDid has_ended opened was_put was_taken old new). did)
       may
 
-module _ {B W K : Type 0} (wrote : B → ℕ → Result WriterEnd LinkFault → B → Type 0) (let_go : B → B → Type 0) where
-  pub writes_did : (old new : Writes B W K) → MayBeDone (WritesDid wrote let_go) old new → WritesDid wrote let_go old new
+module _ {B W K : Type 0} (writer_ended : Result WriterEnd LinkFault → Type 0) where
+  pub writes_did : (old new : Writes B W K) → MayBeDone (WritesDid writer_ended) old new → WritesDid writer_ended old new
   writes_did old new may = ⊎_elim
-      (λ (same : new ≡ old). subst (λ (n : Writes B W K). WritesDid wrote let_go old n) (sym same) ([], refl))
-      (λ (did : WritesDid wrote let_go old new). did)
+      (λ (same : new ≡ old). subst (λ (n : Writes B W K). WritesDid writer_ended old n) (sym same) ([], refl))
+      (λ (did : WritesDid writer_ended old new). did)
       may
 
 -- ---- the same of what is equal
 
-module _ {P O G C : Type 0} (reads : P → ℕ → Result Unit LinkFault → List Event → List Event → Option (List ℕ) → Option (List ℕ) → Type 0) (has_ended : O → Type 0) (opened : O → ℕ) (was_put : G → List Event) where
-  pub read_as : (over : Bool) (p q : P) (o a e b : O) (w x v y : Worker G C) → p ≡ q → o ≡ a → b ≡ e → w ≡ x → y ≡ v
-      → LineRead (reads p) over (has_ended e) (opened o) (opened e) (was_put w.gate) (was_put v.gate) → LineRead (reads q) over (has_ended b) (opened a) (opened b) (was_put x.gate) (was_put y.gate)
+module _ {O G C : Type 0} (has_ended : O → Type 0) (opened : O → ℕ) (was_put : G → List Event) where
+  pub read_as : (over : Bool) (p q : Recipient) (o a e b : O) (w x v y : Worker G C) → p ≡ q → o ≡ a → b ≡ e → w ≡ x → y ≡ v
+      → LineRead (reads_of p) over (has_ended e) (opened o) (opened e) (was_put w.gate) (was_put v.gate) → LineRead (reads_of q) over (has_ended b) (opened a) (opened b) (was_put x.gate) (was_put y.gate)
   read_as over p q o a e b w x v y pq oa be wx yv h =
-      subst (λ (z : Worker G C). LineRead (reads q) over (has_ended b) (opened a) (opened b) (was_put x.gate) (was_put z.gate)) (sym yv)
-      (subst (λ (z : Worker G C). LineRead (reads q) over (has_ended b) (opened a) (opened b) (was_put z.gate) (was_put v.gate)) wx
-      (subst (λ (z : O). LineRead (reads q) over (has_ended z) (opened a) (opened z) (was_put w.gate) (was_put v.gate)) (sym be)
-      (subst (λ (z : O). LineRead (reads q) over (has_ended e) (opened z) (opened e) (was_put w.gate) (was_put v.gate)) oa
-      (subst (λ (z : P). LineRead (reads z) over (has_ended e) (opened o) (opened e) (was_put w.gate) (was_put v.gate)) pq h))))
+      subst (λ (z : Worker G C). LineRead (reads_of q) over (has_ended b) (opened a) (opened b) (was_put x.gate) (was_put z.gate)) (sym yv)
+      (subst (λ (z : Worker G C). LineRead (reads_of q) over (has_ended b) (opened a) (opened b) (was_put z.gate) (was_put v.gate)) wx
+      (subst (λ (z : O). LineRead (reads_of q) over (has_ended z) (opened a) (opened z) (was_put w.gate) (was_put v.gate)) (sym be)
+      (subst (λ (z : O). LineRead (reads_of q) over (has_ended e) (opened z) (opened e) (was_put w.gate) (was_put v.gate)) oa
+      (subst (λ (z : Recipient). LineRead (reads_of z) over (has_ended e) (opened o) (opened e) (was_put w.gate) (was_put v.gate)) pq h))))
 
-module _ {B : Type 0} (wrote : B → ℕ → Result WriterEnd LinkFault → B → Type 0) (let_go : B → B → Type 0) where
-  pub written_as : (w x v y : B) → w ≡ x → y ≡ v → LineWrittenBy wrote let_go w v → LineWrittenBy wrote let_go x y
+module _ {B : Type 0} (writer_ended : Result WriterEnd LinkFault → Type 0) where
+  pub written_as : (w x v y : B) → w ≡ x → y ≡ v → LineWrittenBy writer_ended w v → LineWrittenBy writer_ended x y
   written_as w x v y wx yv h =
-      subst (λ (z : B). LineWrittenBy wrote let_go x z) (sym yv) (subst (λ (z : B). LineWrittenBy wrote let_go z v) wx h)
+      subst (λ (z : B). LineWrittenBy writer_ended x z) (sym yv) (subst (λ (z : B). LineWrittenBy writer_ended z v) wx h)
 
 -- not all links may be over
 pub in_part : (reads : ℕ → Result Unit LinkFault → List Event → List Event → Option (List ℕ) → Option (List ℕ) → Type 0) (over : Bool) (HasEnded : Type 0) (o p : ℕ) (x y : List Event) → LineRead reads over HasEnded o p x y → LineRead reads false HasEnded o p x y
 in_part reads over HasEnded o p x y h = record { ends = h.ends; puts = h.puts; opened = h.opened; whole = λ e. absurd (false≢true e) }
 
-module _ {P O G C B W K : Type 0} (reads : P → ℕ → Result Unit LinkFault → List Event → List Event → Option (List ℕ) → Option (List ℕ) → Type 0) (has_ended : O → Type 0) (opened : O → ℕ) (g_put : G → List Event) (g_taken : G → List (List LinkOut)) (wrote : B → ℕ → Result WriterEnd LinkFault → B → Type 0) (let_go : B → B → Type 0) where
+module _ {O G C B W K : Type 0} (has_ended : O → Type 0) (opened : O → ℕ) (g_put : G → List Event) (g_taken : G → List (List LinkOut)) (writer_ended : Result WriterEnd LinkFault → Type 0) where
   -- what both halves of a line may have done
-  abbrev pub HalvesDid : (b c : Reads P O (Worker G C) W K × Writes B W K) → Type 0
-  HalvesDid b c = MayBeDone (ReadsDid reads has_ended opened g_put g_taken) b.0 c.0 × MayBeDone (WritesDid wrote let_go) b.1 c.1
+  abbrev pub HalvesDid : (b c : Reads O (Worker G C) W K × Writes B W K) → Type 0
+  HalvesDid b c = MayBeDone (ReadsDid has_ended opened g_put g_taken) b.0 c.0 × MayBeDone (WritesDid writer_ended) b.1 c.1
 
-  served_as : (over : Bool) (a : Line P O (Worker G C) B) (b c : Reads P O (Worker G C) W K × Writes B W K) (d : Line P O (Worker G C) B) → IsSplit a b → HalvesDid b c → IsJoined c d
-      → (LineRead (reads a.peer) c.0.all_over (has_ended d.opener) (opened a.opener) (opened d.opener) (g_put a.reader.gate) (g_put d.reader.gate) → LineRead (reads a.peer) over (has_ended d.opener) (opened a.opener) (opened d.opener) (g_put a.reader.gate) (g_put d.reader.gate))
-      → LineServed reads has_ended opened g_put g_taken wrote let_go over a d
+  served_as : (over : Bool) (a : Line O (Worker G C) B) (b c : Reads O (Worker G C) W K × Writes B W K) (d : Line O (Worker G C) B) → IsSplit a b → HalvesDid b c → IsJoined c d
+      → (LineRead (reads_of a.peer) c.0.all_over (has_ended d.opener) (opened a.opener) (opened d.opener) (g_put a.reader.gate) (g_put d.reader.gate) → LineRead (reads_of a.peer) over (has_ended d.opener) (opened a.opener) (opened d.opener) (g_put a.reader.gate) (g_put d.reader.gate))
+      → LineServed has_ended opened g_put g_taken writer_ended over a d
   served_as over a b c d split did joined so =
-      let read = reads_did reads has_ended opened g_put g_taken b.0 c.0 split.4 did.0 in
-      let did_write = writes_did wrote let_go b.1 c.1 did.1 in
+      let read = reads_did has_ended opened g_put g_taken b.0 c.0 split.4 did.0 in
+      let did_write = writes_did writer_ended b.1 c.1 did.1 in
       record {
         peer = joined.0 ∙ (read.0 ∙ split.0);
         steps = joined.1 ∙ (read.1 ∙ split.1);
-        read = so (read_as reads has_ended opened g_put c.0.all_over b.0.peer a.peer b.0.opener a.opener c.0.opener d.opener b.0.worker a.reader c.0.worker d.reader split.0 split.2 joined.2 split.3 joined.3 read.2);
-        written = written_as wrote let_go b.1.worker a.writer c.1.worker d.writer split.5 joined.4 did_write;
+        read = so (read_as has_ended opened g_put c.0.all_over b.0.peer a.peer b.0.opener a.opener c.0.opener d.opener b.0.worker a.reader c.0.worker d.reader split.0 split.2 joined.2 split.3 joined.3 read.2);
+        written = written_as writer_ended b.1.worker a.writer c.1.worker d.writer split.5 joined.4 did_write;
         none_taken = ap (λ (z : Worker G C). g_taken z.gate) joined.3 ∙ (read.3 ∙ ap (λ (z : Worker G C). g_taken z.gate) split.3);
       }
 
-  pub served_whole : (a : Line P O (Worker G C) B) (b c : Reads P O (Worker G C) W K × Writes B W K) (d : Line P O (Worker G C) B) → IsSplit a b → HalvesDid b c → c.0.all_over ≡ true → IsJoined c d → LineServed reads has_ended opened g_put g_taken wrote let_go true a d
+  pub served_whole : (a : Line O (Worker G C) B) (b c : Reads O (Worker G C) W K × Writes B W K) (d : Line O (Worker G C) B) → IsSplit a b → HalvesDid b c → c.0.all_over ≡ true → IsJoined c d → LineServed has_ended opened g_put g_taken writer_ended true a d
   served_whole a b c d split did over joined = served_as true a b c d split did joined
-      (λ h. subst (λ (z : Bool). LineRead (reads a.peer) z (has_ended d.opener) (opened a.opener) (opened d.opener) (g_put a.reader.gate) (g_put d.reader.gate)) over h)
+      (λ h. subst (λ (z : Bool). LineRead (reads_of a.peer) z (has_ended d.opener) (opened a.opener) (opened d.opener) (g_put a.reader.gate) (g_put d.reader.gate)) over h)
 
-  pub served_in_part : (a : Line P O (Worker G C) B) (b c : Reads P O (Worker G C) W K × Writes B W K) (d : Line P O (Worker G C) B) → IsSplit a b → HalvesDid b c → Unit {0} → IsJoined c d → LineServed reads has_ended opened g_put g_taken wrote let_go false a d
+  pub served_in_part : (a : Line O (Worker G C) B) (b c : Reads O (Worker G C) W K × Writes B W K) (d : Line O (Worker G C) B) → IsSplit a b → HalvesDid b c → Unit {0} → IsJoined c d → LineServed has_ended opened g_put g_taken writer_ended false a d
   served_in_part a b c d split did none joined = served_as false a b c d split did joined
-      (λ h. in_part (reads a.peer) c.0.all_over (has_ended d.opener) (opened a.opener) (opened d.opener) (g_put a.reader.gate) (g_put d.reader.gate) h)
+      (λ h. in_part (reads_of a.peer) c.0.all_over (has_ended d.opener) (opened a.opener) (opened d.opener) (g_put a.reader.gate) (g_put d.reader.gate) h)
 
 -- ---- lists, place by place
 

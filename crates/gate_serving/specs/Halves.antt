@@ -1,5 +1,5 @@
 -- Lines and their halves: how one is made of the other, and what a half has done.
-use Rattle.std.specs.Prelude.{◌≡◌, ℕ, false, List, Option, Result}
+use Rattle.std.specs.Prelude.{◌≡◌, ℕ, false, List, Result}
 use Rattle.gate_law.specs.Events.{Event, LinkOut}
 use Rattle.gate_workers.specs.link_io.declared.link_fault.LinkFault.{LinkFault}
 use Rattle.gate_workers.specs.declared.writer.WriterEnd.{WriterEnd}
@@ -7,32 +7,30 @@ use Rattle.gate_serving.specs.declared.halves.Reads.{Reads}
 use Rattle.gate_serving.specs.declared.halves.Writes.{Writes}
 use Rattle.gate_serving.specs.declared.line.Line.{Line}
 use Rattle.gate_serving.specs.declared.line.Worker.{Worker}
-use Rattle.gate_serving.specs.Lines.{LineRead, LineWrittenBy}
+use Rattle.gate_serving.specs.Lines.{LineRead, LineWrittenBy, reads_of}
 
 -- the halves of a line, before anything was done
-abbrev pub IsSplit : {P O A B W K : Type 0} → Line P O A B → Reads P O A W K × Writes B W K → Type 0
+abbrev pub IsSplit : {O A B W K : Type 0} → Line O A B → Reads O A W K × Writes B W K → Type 0
 IsSplit line half =
     (half.0.peer ≡ line.peer) × (half.0.steps ≡ line.steps) × (half.0.opener ≡ line.opener)
     × (half.0.worker ≡ line.reader) × (half.0.all_over ≡ false) × (half.1.worker ≡ line.writer)
 
 -- the line that two halves are
-abbrev pub IsJoined : {P O A B W K : Type 0} → Reads P O A W K × Writes B W K → Line P O A B → Type 0
+abbrev pub IsJoined : {O A B W K : Type 0} → Reads O A W K × Writes B W K → Line O A B → Type 0
 IsJoined half line =
     (line.peer ≡ half.0.peer) × (line.steps ≡ half.0.steps) × (line.opener ≡ half.0.opener)
     × (line.reader ≡ half.0.worker) × (line.writer ≡ half.1.worker)
 
 -- what was done of a line's links by its reader
-abbrev pub ReadsDid : {P O G C W K : Type 0}
-    → (P → ℕ → Result Unit LinkFault → List Event → List Event → Option (List ℕ) → Option (List ℕ) → Type 0)
-    → (O → Type 0) → (O → ℕ) → (G → List Event) → (G → List (List LinkOut))
-    → (old new : Reads P O (Worker G C) W K) → Type 0
-ReadsDid reads has_ended opened was_put was_taken old new =
+abbrev pub ReadsDid : {O G C W K : Type 0} → (O → Type 0) → (O → ℕ) → (G → List Event) → (G → List (List LinkOut))
+    → (old new : Reads O (Worker G C) W K) → Type 0
+ReadsDid has_ended opened was_put was_taken old new =
     (new.peer ≡ old.peer) × (new.steps ≡ old.steps)
-    × LineRead (reads old.peer) new.all_over (has_ended new.opener) (opened old.opener) (opened new.opener)
+    × LineRead (reads_of old.peer) new.all_over (has_ended new.opener) (opened old.opener) (opened new.opener)
     (was_put old.worker.gate) (was_put new.worker.gate)
     × (was_taken new.worker.gate ≡ was_taken old.worker.gate)
 
 -- what was done by its writer
-abbrev pub WritesDid : {B W K : Type 0} → (wrote : B → ℕ → Result WriterEnd LinkFault → B → Type 0)
-    → (let_go : B → B → Type 0) → (old new : Writes B W K) → Type 0
-WritesDid wrote let_go old new = LineWrittenBy wrote let_go old.worker new.worker
+abbrev pub WritesDid : {B W K : Type 0} → (has_ended : Result WriterEnd LinkFault → Type 0) → (old new : Writes B W K)
+    → Type 0
+WritesDid has_ended old new = LineWrittenBy has_ended old.worker new.worker

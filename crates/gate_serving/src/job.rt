@@ -4,6 +4,7 @@ ghost use Rattle.std.specs.Prelude.{◌≤◌, ◌<◌, ◌++◌, [], ◌∷◌,
 ghost use Rattle.std.specs.List.{AllZip};
 ghost use Rattle.std.specs.Thread.{IsSend, IsSync};
 ghost use Rattle.gate_serving.specs.Lines.{MayBeDone};
+ghost use Rattle.gate_serving.specs.Passed.{WasDone};
 
 use std::alloc::Global;
 use std::snapshot::Snapshot;
@@ -46,44 +47,56 @@ fn run_unless<R: Wait, J: Job>(
     job.run(rt, alloc, flag)
 }
 
-/// Does all jobs at once, each in a thread of its own, and gives them back in their order. Where a thread can't be had
-/// the flag is set, and the jobs that had none come back undone. Takes no memory of its own.
-pub(crate) fn run_all<R: Threads + Wait + Sync, A: Job + Send + Drop, B: Job + Send + Drop>(
+/// Does all jobs at once, each in a thread of its own, and gives them back in their order; meanwhile the calling thread
+/// does one that is to be done there. Where a thread can't be had the flag is set, and the jobs that had none come back
+/// undone. Takes no memory of its own.
+pub(crate) fn run_all<
+    R: Threads + Wait + Sync,
+    A: Job + Send + Drop,
+    B: Job + Send + Drop,
+    M: Job + Drop,
+>(
     rt: &R,
     alloc: Global,
     flag: &AtomicBool,
     pairs: Vec<(A, B)>,
-) -> Vec<(A, B)>
+    meanwhile: Option<M>,
+) -> (Vec<(A, B)>, Option<M>)
     ensures did { AllZip (λ old new. MayBeDone A.did old.0 new.0 × MayBeDone B.did old.1 new.1)
-        pairs.items result.items }
+        pairs.items result.0.items }
+    ensures meanwhile { WasDone M.did meanwhile result.1 }
 {
     let is_refused = AtomicBool::new(false);
-    run_pairs(rt, alloc, flag, &is_refused, pairs)
+    run_pairs(rt, alloc, flag, &is_refused, pairs, meanwhile)
 }
 
-/// Does the last pair's jobs in threads of their own, and all before it likewise meanwhile.
-fn run_pairs<R: Threads + Wait + Sync, A: Job + Send + Drop, B: Job + Send + Drop>(
+/// Does the last pair's jobs in threads of their own, and all before it likewise meanwhile. Once all have threads the
+/// calling thread does its own.
+fn run_pairs<R: Threads + Wait + Sync, A: Job + Send + Drop, B: Job + Send + Drop, M: Job + Drop>(
     rt: &R,
     alloc: Global,
     flag: &AtomicBool,
     is_refused: &AtomicBool,
     mut pairs: Vec<(A, B)>,
-) -> Vec<(A, B)>
+    meanwhile: Option<M>,
+) -> (Vec<(A, B)>, Option<M>)
     ensures did { AllZip (λ old new. MayBeDone A.did old.0 new.0 × MayBeDone B.did old.1 new.1)
-        pairs.items result.items }
-    ensures capacity { vec_capacity pairs ≤ vec_capacity result }
+        pairs.items result.0.items }
+    ensures meanwhile { WasDone M.did meanwhile result.1 }
+    ensures capacity { vec_capacity pairs ≤ vec_capacity result.0 }
 {
     let Some((first, second)) = pairs.pop() else {
-        return pairs;
+        return (pairs, run_here(rt, alloc, flag, meanwhile));
     };
     thread::scope(
         thread::scope_env(),
         rt,
-        |scope| -> Vec<(A, B)>
+        |scope| -> (Vec<(A, B)>, Option<M>)
             requires { IsSync R.row × IsSend A.row × IsSend B.row × (vec_len pairs < vec_capacity pairs) }
             ensures did { AllZip (λ old new. MayBeDone A.did old.0 new.0 × MayBeDone B.did old.1 new.1)
-                (pairs.items ++ (first, second) ∷ []) result.items }
-            ensures capacity { vec_capacity pairs ≤ vec_capacity result }
+                (pairs.items ++ (first, second) ∷ []) result.0.items }
+            ensures meanwhile { WasDone M.did meanwhile result.1 }
+            ensures capacity { vec_capacity pairs ≤ vec_capacity result.0 }
         {
             let promise = Keeps(Snapshot::of(&first));
             let one = scope.spawn_with(
@@ -99,7 +112,8 @@ fn run_pairs<R: Threads + Wait + Sync, A: Job + Send + Drop, B: Job + Send + Dro
                 is_refused.store(true, Ordering::SeqCst);
                 flag.store(true, Ordering::SeqCst);
             }
-            let mut back = run_pairs(rt, alloc, flag, is_refused, pairs);
+            let (back, done) = run_pairs(rt, alloc, flag, is_refused, pairs, meanwhile);
+            let mut back = back;
             let first = match one {
                 Ok(handle) => handle.join(rt),
                 Err(refused) => (refused.value)(),
@@ -111,7 +125,17 @@ fn run_pairs<R: Threads + Wait + Sync, A: Job + Send + Drop, B: Job + Send + Dro
             let Ok(()) = back.push((first, second)) else {
                 unreachable!()
             };
-            back
+            (back, done)
         },
     )
+}
+
+/// Does a job in the calling thread, where there is one.
+fn run_here<R: Wait, M: Job>(rt: &R, alloc: Global, flag: &AtomicBool, job: Option<M>) -> Option<M>
+    ensures { WasDone M.did job result }
+{
+    match job {
+        Some(job) => Some(job.run(rt, alloc, flag)),
+        None => None,
+    }
 }

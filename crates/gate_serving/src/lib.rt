@@ -1,22 +1,21 @@
-//! Serves lines: the links of each client and of each port, one after the other, all lines at once. The reader and the
-//! writer of a link run in a thread each, over any opener, gate and clock.
+//! Serves lines: the links of each client and of each port, one after the other, all lines at once, while time passes.
+//! The reader and the writer of a link run in a thread each, over any opener, gate, pen and clock.
 #![tactic(auto)]
 
 mod halves;
 mod job;
 mod line;
-mod line_writer;
 mod opener;
-mod peer;
 mod pen_worker;
+mod reading;
 mod serving;
 mod slot;
 mod splitting;
+mod ticks;
 
-pub use gate_workers::{Clock, Gate, LinkFault, Prompt, WriterEnd, ends_link, ticker};
+pub use gate_workers::{Clock, Gate, LinkFault, Prompt, WriterEnd, ends_link};
 pub use line::{Line, Worker};
-pub use line_writer::LineWriter;
 pub use opener::{Closer, LinkEnd, Opened, Opener};
-pub use peer::Peer;
 pub use pen_worker::PenWorker;
 pub use serving::{ServeFault, serve};
+pub use ticks::Ticks;

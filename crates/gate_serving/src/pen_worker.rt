@@ -1,9 +1,8 @@
 //! A pen as what writes a line's links.
 
-ghost use Rattle.std.specs.Prelude.{◌≡◌, IfSome};
+ghost use Rattle.std.specs.Prelude.{◌≡◌, ◌≤◌, IfSome};
 ghost use Rattle.gate_workers.specs.Pens.{HasEnded, WasWritten};
 
-use crate::line_writer::LineWriter;
 use gate_events::Recipient;
 use gate_workers::{Clock, Gate, LinkFault, Pen, Prompt, WriterEnd, client_writer, port_writer};
 use std::alloc::Global;
@@ -11,43 +10,40 @@ use std::io::Write;
 use std::sync::Wait;
 use std::sync::atomic::AtomicBool;
 
-/// The writer of a client's or port's links by their pen, which other threads hold too, and its clock.
+/// The writer of a line's links: their pen, which other threads hold too, and its clock.
 #[derive(Drop)]
 pub struct PenWorker<'a, W: Prompt + Drop, G: Gate + Drop, C> {
-    to: Recipient,
     pen: &'a Pen<W, G>,
     clock: C,
 }
 
 impl<'a, W: Prompt + Drop, G: Gate + Drop, C> PenWorker<'a, W, G, C> {
-    /// Of this client or port, by its pen, with the clock of its writer. Takes no memory.
-    pub fn new(to: Recipient, pen: &'a Pen<W, G>, clock: C) -> PenWorker<'a, W, G, C>
+    /// Of this pen, with the clock of its writer. Takes no memory.
+    pub fn new(pen: &'a Pen<W, G>, clock: C) -> PenWorker<'a, W, G, C>
         ensures pen { result.pen.now ≡ pen.now }
     {
-        PenWorker { to, pen, clock }
+        PenWorker { pen, clock }
     }
 }
 
-impl<'a, W: Prompt + Drop, G: Gate + Drop, C: Clock + Drop> LineWriter<W>
-    for PenWorker<'a, W, G, C> {
-    ghost wrote = { λ old link end new. HasEnded W.contents end };
-
-    ghost let_go_between = { λ old new. Unit {0} };
-
-    /// Opens the link at the pen, and writes it until it is over. `WriteFailed` where the pen has another one open, or
-    /// this isn't its next one.
-    fn write<R: Wait>(
+impl<'a, W: Prompt + Drop, G: Gate + Drop, C: Clock> PenWorker<'a, W, G, C> {
+    /// Opens the link of this number of a client or port at the pen, and writes it until it is over, with so many steps
+    /// at most. `WriteFailed` where the pen has another one open, or this isn't its next one.
+    pub(crate) fn write<R: Wait>(
         &mut self,
         rt: &R,
         alloc: Global,
+        peer: Recipient,
         link: u64,
         steps: u64,
         stream: W,
         stop: &AtomicBool,
-    ) -> Result<WriterEnd, LinkFault> {
-        let to = self.to;
+    ) -> Result<WriterEnd, LinkFault>
+        requires from_one { 1 ≤ steps }
+        ensures written { HasEnded W.contents result }
+    {
         let (pen, clock) = (self.pen, &mut self.clock);
-        let written = match to {
+        let written = match peer {
             Recipient::Client(client) => {
                 client_writer(rt, alloc, client, link, steps, stream, pen, clock, stop)
             }
@@ -58,7 +54,9 @@ impl<'a, W: Prompt + Drop, G: Gate + Drop, C: Clock + Drop> LineWriter<W>
         end_of(written)
     }
 
-    fn let_go<R: Wait>(&mut self, rt: &R, alloc: Global) {
+    /// Lets go what lies there between two links, and has the core stepped, since an event may have waited for the
+    /// room.
+    pub(crate) fn let_go<R: Wait>(&self, rt: &R, alloc: Global) {
         self.pen.let_go(rt, alloc);
     }
 }

@@ -2,16 +2,18 @@
 
 ghost use Rattle.std.specs.Prelude.{◌≡◌, true, false, IfOk, IfErr};
 ghost use Rattle.std.specs.List.{AllZip};
+ghost use Rattle.gate_workers.specs.Pens.{HasEnded};
 ghost use Rattle.gate_serving.specs.Lines.{LineServed};
+ghost use Rattle.gate_serving.specs.Passed.{TicksDid, WasDone};
 ghost use Rattle.gate_serving.specs.declared.serving.ServeFault.TheVariants.{NoMemory, NoThread};
 
 use crate::job::run_all;
 use crate::line::{Line, Worker};
-use crate::line_writer::LineWriter;
 use crate::opener::{Closer, Opener};
-use crate::peer::Peer;
+use crate::pen_worker::PenWorker;
 use crate::splitting::{joined, slots_of, split};
-use gate_workers::{Clock, Gate};
+use crate::ticks::Ticks;
+use gate_workers::{Clock, Gate, Prompt};
 use std::alloc::Global;
 use std::io::Read;
 use std::sync::Wait;
@@ -27,51 +29,65 @@ pub enum ServeFault {
     NoThread,
 }
 
+/// The lines of clients and ports: openers, gates and clocks of readers, pens and clocks of writers.
+type Lines<'p, O, G, C, W, H, D> = Vec<Line<O, Worker<G, C>, PenWorker<'p, W, H, D>>>;
+
 /// Serves all lines at once, each in two threads of its own, and hands them back in their order once all have ended.
-/// `Ok` where the links of each were read to the last that its opener had.
+/// `Ok` where the links of each were read to the last that its opener had. Meanwhile time passes in the calling thread,
+/// where there are ticks, until their flag is set.
 ///
-/// `NoMemory` before any thread starts: the lines are as they were. `NoThread` once one can't be had: from then on no
-/// further link is opened.
-pub fn serve<R, P, O, G, C, B>(
+/// `NoMemory` before any thread starts: lines and ticks are as they were. `NoThread` once one can't be had: from then
+/// on no further link is opened.
+pub fn serve<'p, 't, R, O, G, C, H, D>(
     rt: &R,
     alloc: Global,
-    lines: Vec<Line<P, O, Worker<G, C>, B>>,
-) -> Result<Vec<Line<P, O, Worker<G, C>, B>>, (ServeFault, Vec<Line<P, O, Worker<G, C>, B>>)>
+    lines: Lines<'p, O, G, C, O::Writer, H, D>,
+    ticks: Option<Ticks<'t, G, C>>,
+) -> Result<
+    (Lines<'p, O, G, C, O::Writer, H, D>, Option<Ticks<'t, G, C>>),
+    (
+        ServeFault,
+        Lines<'p, O, G, C, O::Writer, H, D>,
+        Option<Ticks<'t, G, C>>,
+    ),
+>
 where
     R: Threads + Wait + Sync,
-    P: Peer + Send + Drop,
     O: Opener + Send + Drop,
     O::Reader: Read + Send + Drop,
-    O::Writer: Send + Drop,
+    O::Writer: Prompt + Send + Drop,
     O::Closer: Closer + Send + Drop,
     G: Gate + Send + Drop,
     C: Clock + Send + Drop,
-    B: LineWriter<O::Writer> + Send + Drop,
+    H: Gate + Send + Drop,
+    D: Clock + Send + Drop,
     ensures served { IfOk result (λ back. AllZip
-        (LineServed P.reads O.has_ended O.opened G.was_put G.was_taken B.wrote B.let_go_between true)
-        lines.items back.items) }
+        (LineServed O.has_ended O.opened G.was_put G.was_taken (HasEnded O.Writer.contents) true)
+        lines.entry.items back.0.items) }
+    ensures ticked { IfOk result (λ back. WasDone (TicksDid G.was_put G.was_taken) ticks.entry back.1) }
     ensures no_thread { IfErr result (λ e. e.0 ≡ NoThread → AllZip
-        (LineServed P.reads O.has_ended O.opened G.was_put G.was_taken B.wrote B.let_go_between false)
-        lines.items e.1.items) }
-    ensures no_memory { IfErr result (λ e. e.0 ≡ NoMemory → e.1.items ≡ lines.items) }
+        (LineServed O.has_ended O.opened G.was_put G.was_taken (HasEnded O.Writer.contents) false)
+        lines.entry.items e.1.items × WasDone (TicksDid G.was_put G.was_taken) ticks.entry e.2) }
+    ensures no_memory { IfErr result (λ e. e.0 ≡ NoMemory
+        → (e.1.items ≡ lines.entry.items) × (e.2 ≡ ticks.entry)) }
 {
     let count = lines.len();
     let Ok(slots) = slots_of(alloc, count) else {
-        return Err((ServeFault::NoMemory, lines));
+        return Err((ServeFault::NoMemory, lines, ticks));
     };
     let Ok(halves) = Vec::with_capacity(alloc, count) else {
-        return Err((ServeFault::NoMemory, lines));
+        return Err((ServeFault::NoMemory, lines, ticks));
     };
     let Ok(back) = Vec::with_capacity(alloc, count) else {
-        return Err((ServeFault::NoMemory, lines));
+        return Err((ServeFault::NoMemory, lines, ticks));
     };
     let halves = split(lines, slots.as_slice(), halves);
     let halt = AtomicBool::new(false);
-    let halves = run_all(rt, alloc, &halt, halves);
+    let (halves, ticks) = run_all(rt, alloc, &halt, halves, ticks);
     let (back, all_over) = joined(halves, back);
     if all_over && !halt.load(Ordering::SeqCst) {
-        Ok(back)
+        Ok((back, ticks))
     } else {
-        Err((ServeFault::NoThread, back))
+        Err((ServeFault::NoThread, back, ticks))
     }
 }

@@ -10,7 +10,7 @@ use crate::slot::Slot;
 use std::alloc::{AllocError, Global};
 
 /// The two halves of a line.
-pub(crate) type Halves<'a, P, O, A, B, W, K> = (Reads<'a, P, O, A, W, K>, Writes<'a, B, W, K>);
+pub(crate) type Halves<'a, O, A, B, W, K> = (Reads<'a, O, A, W, K>, Writes<'a, B, W, K>);
 
 /// So many slots, without a link each.
 pub(crate) fn slots_of<W: Drop, K: Drop>(
@@ -27,11 +27,11 @@ pub(crate) fn slots_of<W: Drop, K: Drop>(
 }
 
 /// The halves of the lines, in their order, each with a slot of its own between them. Takes no memory.
-pub(crate) fn split<'a, P: Copy + Drop, O: Drop, A: Drop, B: Drop, W: Drop, K: Drop>(
-    lines: Vec<Line<P, O, A, B>>,
+pub(crate) fn split<'a, O: Drop, A: Drop, B: Drop, W: Drop, K: Drop>(
+    lines: Vec<Line<O, A, B>>,
     slots: &'a [Slot<W, K>],
-    halves: Vec<Halves<'a, P, O, A, B, W, K>>,
-) -> Vec<Halves<'a, P, O, A, B, W, K>>
+    halves: Vec<Halves<'a, O, A, B, W, K>>,
+) -> Vec<Halves<'a, O, A, B, W, K>>
     requires slots { length slots.now ≡ vec_len lines }
     requires empty { halves.items ≡ [] }
     requires room { vec_len lines ≤ vec_capacity halves }
@@ -50,6 +50,7 @@ pub(crate) fn split<'a, P: Copy + Drop, O: Drop, A: Drop, B: Drop, W: Drop, K: D
             all_over: false,
         };
         let writes = Writes {
+            peer: line.peer,
             steps: line.steps,
             worker: line.writer,
             slot,
@@ -62,10 +63,10 @@ pub(crate) fn split<'a, P: Copy + Drop, O: Drop, A: Drop, B: Drop, W: Drop, K: D
 }
 
 /// The lines of the halves, in their order, and whether all links of all lines are over. Takes no memory.
-pub(crate) fn joined<'a, P: Copy + Drop, O: Drop, A: Drop, B: Drop, W: Drop, K: Drop>(
-    halves: Vec<Halves<'a, P, O, A, B, W, K>>,
-    lines: Vec<Line<P, O, A, B>>,
-) -> (Vec<Line<P, O, A, B>>, bool)
+pub(crate) fn joined<'a, O: Drop, A: Drop, B: Drop, W: Drop, K: Drop>(
+    halves: Vec<Halves<'a, O, A, B, W, K>>,
+    lines: Vec<Line<O, A, B>>,
+) -> (Vec<Line<O, A, B>>, bool)
     requires empty { lines.items ≡ [] }
     requires room { vec_len halves ≤ vec_capacity lines }
     ensures lines { AllZip IsJoined halves.entry.items result.0.items }

@@ -3,21 +3,15 @@ use denote.RattleType.{RattleType}
 use denote.Ref.{NamedLft}
 use denote.Param.Send.{IsSend, IsSync, enum_send, recorded_send, sendable}
 use denote.Enum.Declared as E
-use denote.Param.SendFields.{declared_send, variants_send}
+use denote.Param.SendFields.{declared_send}
 use Rattle.std.proofs.Crossing.{crosses}
 use Rattle.std.specs.declared.hash.BuildHasher as BuildHasher
 use Rattle.std.specs.declared.hash.Hasher as Hasher
 use Rattle.desk_gates.proofs.desk.Sent.{shared_sync}
 use Rattle.desk_gates.specs.desk.declared.DeskName as DeskName
-use Rattle.std.specs.declared.io.Write as Write
-use Rattle.gate_serving.proofs.Sent.{pen_worker_send}
 use Rattle.desk_gates.specs.contracts.bell.BellClock as BellClock
-use Rattle.run_lines.specs.link_io.declared.gate.Gate as Gate
-use Rattle.run_lines.specs.link_io.declared.streams.Prompt as Prompt
-use Rattle.run_lines.specs.contracts.line_pen.RunPen as RunPen
-use Rattle.run_lines.specs.contracts.streams.RunWriter as RunWriter
-use Rattle.run_lines.specs.contracts.counted.CountedLinks as CountedLinks
-use Rattle.run_lines.specs.contracts.opener.RunOpener as RunOpener
+use Rattle.gateway_run.specs.contracts.counted.CountedLinks as CountedLinks
+use Rattle.gateway_run.specs.contracts.run_opener.RunOpener as RunOpener
 use Rattle.gateway_run.specs.contracts.clock.RunClock as RunClock
 use Rattle.gateway_run.specs.contracts.clock.Watch as Watch
 use Rattle.gateway_run.specs.contracts.port_faults.PortLinks as PortLinks
@@ -86,12 +80,3 @@ pub opener_send : (a b : NamedLft) (A C K R : RattleType) (k : DeskName.Ghosts K
 opener_send a b A C K R k s c r = let O = RunOpener.the_type (CountedLinks.the_row a A) (PortLinks.the_row b C K R k) in
     recorded_send _ _ _ O.to_one (enum_send (E.shape O)
     (search (counted_send a A s, port_links_send b K R k r C c, sendable) depth 40))
-
-pub writer_send : (A C : RattleType) → IsSend A → IsSend C → IsSend (RunWriter.the_row A C)
-writer_send A C a c = let O = RunWriter.the_type A C in recorded_send _ _ _ O.to_one (enum_send (E.shape O)
-    (search (a, c, sendable) depth 40))
-
-pub run_pen_send : (a : NamedLft) (W G C : RattleType) (p : Prompt.Ghosts W.Denot) (w : Write.Ghosts W.Denot)
-    (t : Gate.Ghosts G.Denot) → IsSend W → IsSend G → IsSend C → IsSend (RunPen.the_row a W G C p w t)
-run_pen_send a W G C p w t sw sg sc = variants_send (RunPen.enum a W G C p w t)
-    ((pen_worker_send W G p w t sw sg a C sc, tt), (tt, tt))

@@ -1,3 +1,4 @@
+pub mod Openers
 pub mod Own
 pub mod Told
 pub use Rattle.gate_law.specs.Holds

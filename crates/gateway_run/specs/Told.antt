@@ -5,7 +5,7 @@ use Rattle.gate_law.specs.Settings.{Settings}
 use Rattle.gate_law.specs.Events.{History}
 use Rattle.gate_law.specs.Holds.{Holds}
 use Rattle.audit_lines.specs.gate_audit.gate_journal.Kept.{Kept}
-use Rattle.run_lines.specs.link_io.declared.link_fault.LinkFault.{LinkFault}
+use Rattle.link_io.specs.declared.link_fault.LinkFault.{LinkFault}
 use Rattle.audit_lines.specs.gate_audit.Pairs.{accepted_pairs}
 use Rattle.audit_lines.specs.Lines.{shown_audit}
 

@@ -1,8 +1,9 @@
 //! The clocks of readers, and of the worker that has time pass.
 
+use crate::counted::ClientCounts;
 use desk_gates::{DeskName, Shared};
+use gate_serving::Clock;
 use link_sockets::SystemClock;
-use run_lines::{ClientCounts, Clock};
 use std::hash::RandomState;
 use std::sync::Wait;
 use std::sync::atomic::{AtomicBool, Ordering};

@@ -1,18 +1,18 @@
 //! The ends of a desk, as lines that threads serve.
 
 ghost use Rattle.std.specs.Prelude.{◌≡◌, All, true};
-ghost use Rattle.gateway_run.specs.Own.{of_pen, recipient_of, source_of_peer};
+ghost use Rattle.gateway_run.specs.Own.{source_of_peer};
 
-use crate::lines::{Count, RunLine, client_line, clock_line, port_line, teller_of};
+use crate::counted::CountedLinks;
+use crate::lines::{RunLine, line_of, teller_of};
 use crate::port_faults::PortLinks;
+use crate::run_opener::RunOpener;
 use crate::telling_gate::TellingGate;
 use desk_gates::{DeskName, Inlet, InletGate, OutletEnd, OutletPen, Prompt, Shared};
-use gate_events::{ClientNumber, PortNumber, Recipient, Source};
-use run_lines::{ClientCounts, CountedLinks};
+use gate_events::{Recipient, Source};
 use std::alloc::{AllocError, Global};
 use std::hash::RandomState;
 use std::sync::Wait;
-use std::sync::atomic::AtomicBool;
 use std::time::Clock;
 
 /// Where the links of a gateway come from: an opener for each client and for each port, in the order of the settings.
@@ -26,16 +26,15 @@ pub struct RunPlan<A, C> {
     pub tells_frames: bool,
 }
 
-/// The lines of a desk's clients, of its ports and of its clock, in this order. Its type keeps that each puts the
-/// events of its own client, port or clock, and takes what that is told.
+/// The lines of a desk's clients and of its ports, in this order. Its type keeps that each puts the events of its own
+/// client or port, and takes what that is told.
 #[derive(Drop)]
 pub(crate) struct Ends<'p, 'a, W: Prompt + Drop, G: OutletEnd + Drop, A, C, K: DeskName, R> {
     alloc: Global,
     tells_frames: bool,
     pub(crate) lines: Vec<RunLine<'p, 'a, W, G, A, C, K, R>>,
     ghost puts_own: { All (λ l. l.reader.gate.gate.inlet.source ≡ source_of_peer l.peer) lines.items },
-    ghost takes_own: { All (λ l. of_pen (λ p. G.told p.pen.now.first.value) l.writer ≡ recipient_of l.peer)
-        lines.items },
+    ghost takes_own: { All (λ l. G.told l.writer.pen.now.first.value ≡ l.peer) lines.items },
 }
 
 impl<
@@ -57,77 +56,45 @@ impl<
         }
     }
 
+    /// Adds the line of a client or port over its inlet and outlet. One over another's would not be added.
+    fn add(
+        &mut self,
+        rt: &'a R,
+        shared: &'a Shared<K, RandomState>,
+        peer: Recipient,
+        opener: RunOpener<CountedLinks<'a, A>, PortLinks<'a, C, K, R>>,
+        inlet: Inlet<K>,
+        pens: &'p [OutletPen<W, G>],
+        pen: &'p OutletPen<W, G>,
+    ) -> Result<(), AllocError> {
+        if is_of(&inlet, source_of(&peer)) && is_to(pen, &peer) {
+            let at = inlet.position();
+            let teller = teller_of(rt, self.tells_frames, &peer);
+            let own = InletGate::new(shared, pens, inlet);
+            let gate = TellingGate::new(self.alloc, own, teller);
+            let line = line_of(rt, shared, peer, opener, gate, at, pen);
+            return self.keep(line);
+        }
+        Ok(())
+    }
+
     /// Adds a line that is over its own ends.
-    fn add(&mut self, line: RunLine<'p, 'a, W, G, A, C, K, R>) -> Result<(), AllocError>
+    fn keep(&mut self, line: RunLine<'p, 'a, W, G, A, C, K, R>) -> Result<(), AllocError>
         requires puts_own { line.reader.gate.gate.inlet.source ≡ source_of_peer line.peer }
-        requires takes_own { of_pen (λ p. G.told p.pen.now.first.value) line.writer ≡ recipient_of line.peer }
+        requires takes_own { G.told line.writer.pen.now.first.value ≡ line.peer }
     {
         self.lines.push(line)?;
         Ok(())
     }
+}
 
-    /// Adds the line of a client over its inlet and outlet. One over another's would not be added.
-    fn add_client(
-        &mut self,
-        rt: &'a R,
-        shared: &'a Shared<K, RandomState>,
-        client: ClientNumber,
-        opener: CountedLinks<'a, A>,
-        inlet: Inlet<K>,
-        pens: &'p [OutletPen<W, G>],
-        pen: &'p OutletPen<W, G>,
-    ) -> Result<(), AllocError> {
-        if is_of(&inlet, Source::Client(client)) && is_to(pen, Recipient::Client(client)) {
-            let at = inlet.position();
-            let teller = teller_of(rt, self.tells_frames, Recipient::Client(client));
-            let own = InletGate::new(shared, pens, inlet);
-            let gate = TellingGate::new(self.alloc, own, teller);
-            let line = client_line(rt, shared, client, opener, gate, at, pen);
-            return self.add(line);
-        }
-        Ok(())
-    }
-
-    /// The same of a port.
-    fn add_port(
-        &mut self,
-        rt: &'a R,
-        shared: &'a Shared<K, RandomState>,
-        port: PortNumber,
-        opener: C,
-        inlet: Inlet<K>,
-        pens: &'p [OutletPen<W, G>],
-        pen: &'p OutletPen<W, G>,
-    ) -> Result<(), AllocError> {
-        if is_of(&inlet, Source::Port(port)) && is_to(pen, Recipient::Port(port)) {
-            let at = inlet.position();
-            let links = PortLinks::new(rt, shared, port, opener);
-            let own = InletGate::new(shared, pens, inlet);
-            let gate = TellingGate::new(self.alloc, own, None);
-            let line = port_line(rt, shared, port, links, gate, at, pen);
-            return self.add(line);
-        }
-        Ok(())
-    }
-
-    /// Adds the line of the clock over its inlet.
-    pub(crate) fn add_clock(
-        &mut self,
-        rt: &'a R,
-        shared: &'a Shared<K, RandomState>,
-        count: Count,
-        counts: &'a ClientCounts,
-        is_over: &'a AtomicBool,
-        inlet: Inlet<K>,
-        pens: &'p [OutletPen<W, G>],
-    ) -> Result<(), AllocError> {
-        if inlet.source() == Source::Clock {
-            let own = InletGate::new(shared, pens, inlet);
-            let gate = TellingGate::new(self.alloc, own, None);
-            let line = clock_line(rt, shared, count, counts, is_over, gate);
-            return self.add(line);
-        }
-        Ok(())
+/// Whom a client's or port's events come from.
+fn source_of(peer: &Recipient) -> Source
+    ensures { result ≡ source_of_peer peer.now }
+{
+    match peer {
+        Recipient::Client(client) => Source::Client(*client),
+        Recipient::Port(port) => Source::Port(*port),
     }
 }
 
@@ -139,10 +106,13 @@ fn is_of<K: DeskName>(inlet: &Inlet<K>, source: Source) -> bool
 }
 
 /// Whether a pen writes what this one is told.
-fn is_to<W: Prompt + Drop, G: OutletEnd + Drop>(pen: &OutletPen<W, G>, recipient: Recipient) -> bool
-    ensures { result ≡ true → pen.now.to ≡ recipient }
+fn is_to<W: Prompt + Drop, G: OutletEnd + Drop>(
+    pen: &OutletPen<W, G>,
+    recipient: &Recipient,
+) -> bool
+    ensures { result ≡ true → pen.now.to ≡ recipient.now }
 {
-    pen.recipient() == recipient
+    pen.recipient() == *recipient
 }
 
 /// Lines over the inlets and the outlets' pens of a desk: each inlet of a client or port with the pen at its position.
@@ -171,13 +141,17 @@ pub(crate) fn ends_of<
     for (inlet, pen) in inlets.into_iter().zip(pens) {
         match inlet.source() {
             Source::Client(client) => {
-                if let Some(opener) = accepting.next() {
-                    ends.add_client(rt, shared, client, opener, inlet, pens, pen)?;
+                if let Some(links) = accepting.next() {
+                    let opener = RunOpener::Client(links);
+                    let peer = Recipient::Client(client);
+                    ends.add(rt, shared, peer, opener, inlet, pens, pen)?;
                 }
             }
             Source::Port(port) => {
-                if let Some(opener) = connecting.next() {
-                    ends.add_port(rt, shared, port, opener, inlet, pens, pen)?;
+                if let Some(links) = connecting.next() {
+                    let opener = RunOpener::Port(PortLinks::new(rt, shared, port, links));
+                    let peer = Recipient::Port(port);
+                    ends.add(rt, shared, peer, opener, inlet, pens, pen)?;
                 }
             }
             Source::Clock => {}

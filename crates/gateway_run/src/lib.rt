@@ -1,14 +1,16 @@
-//! The gateway as it runs: a desk, and for each client's, each port's and the clock's line the threads that serve it.
-//! It ends when all its clients' links have been served, and gives its day.
+//! The gateway as it runs: a desk, and for each client's and each port's line the threads that serve it. It ends when
+//! all its clients' links have been served, and gives its day.
 #![tactic(auto)]
 
 mod by_settings;
 mod clock;
+mod counted;
 mod day;
 mod ends;
 mod fault;
 mod lines;
 mod port_faults;
+mod run_opener;
 mod running;
 mod telling;
 mod telling_gate;

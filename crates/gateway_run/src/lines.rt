@@ -1,22 +1,20 @@
 //! The lines of a gateway, over the ends of its desk.
 
-ghost use Rattle.std.specs.Prelude.{◌≡◌, All, [], None, Some};
-ghost use Rattle.gate_events.specs.declared.source.Recipient.TheVariants as recipients;
+ghost use Rattle.std.specs.Prelude.{◌≡◌, All, [], None, IfSome};
 ghost use Rattle.gate_events.specs.declared.source.Source.TheVariants as sources;
-ghost use Rattle.gateway_run.specs.Own.{of_pen, recipient_of, source_of_peer};
-ghost use Rattle.run_lines.specs.declared.line_pen.RunPen.TheVariants as writers;
 
 use crate::clock::RunClock;
+use crate::counted::{ClientCounts, CountedLinks};
 use crate::port_faults::PortLinks;
+use crate::run_opener::RunOpener;
 use crate::telling::{Teller, Whose};
 use crate::telling_gate::TellingGate;
 use desk_gates::{
-    BellClock, DeskName, Finished, InletGate, Outlet, OutletEnd, OutletGate, OutletPen, Prompt,
-    Shared,
+    BellClock, DeskName, Finished, Inlet, InletGate, Outlet, OutletEnd, OutletGate, OutletPen,
+    Prompt, Shared,
 };
-use gate_events::{ClientNumber, PortNumber, Recipient};
-use gate_serving::{Line, LinkFault, PenWorker, Worker};
-use run_lines::{ClientCounts, CountedLinks, RunOpener, RunPeer, RunPen, Ticks};
+use gate_events::{Recipient, Source};
+use gate_serving::{Line, LinkFault, PenWorker, Ticks, Worker};
 use std::alloc::{AllocError, Global};
 use std::hash::RandomState;
 use std::sync::Wait;
@@ -41,21 +39,18 @@ pub(crate) type ReadingGate<'p, 'a, W, G, K, R> = TellingGate<
 /// The gate of a writer over an outlet.
 pub(crate) type WritingGate<'a, K, R> = TellingGate<'a, OutletGate<'a, K, RandomState>, R>;
 
-/// A reader's worker over an inlet.
-pub(crate) type Reading<'p, 'a, W, G, K, R> = Worker<
-    ReadingGate<'p, 'a, W, G, K, R>,
-    RunClock<'a, K, R>,
->;
-
-/// A writer by the pen of an outlet; that of the clock has none.
-pub(crate) type Writing<'p, 'a, W, G, K, R> = RunPen<'p, W, G, BellClock<'a, K, R, RandomState>>;
-
 /// A line of a gateway.
 pub(crate) type RunLine<'p, 'a, W, G, A, C, K, R> = Line<
-    RunPeer<'a>,
     RunOpener<CountedLinks<'a, A>, PortLinks<'a, C, K, R>>,
-    Reading<'p, 'a, W, G, K, R>,
-    Writing<'p, 'a, W, G, K, R>,
+    Worker<ReadingGate<'p, 'a, W, G, K, R>, RunClock<'a, K, R>>,
+    PenWorker<'p, W, G, BellClock<'a, K, R, RandomState>>,
+>;
+
+/// The ticks of a gateway.
+pub(crate) type RunTicks<'p, 'a, W, G, K, R> = Ticks<
+    'a,
+    ReadingGate<'p, 'a, W, G, K, R>,
+    RunClock<'a, K, R>,
 >;
 
 /// How many clients and ports there are.
@@ -65,130 +60,66 @@ pub(crate) struct Count {
     pub(crate) ports: u16,
 }
 
-/// The line of a client over the gate of its inlet and the pen of its outlet, both at this position.
-pub(crate) fn client_line<
-    'p,
-    'a,
-    W: Prompt + Drop,
-    G: OutletEnd + Drop,
-    A,
-    C,
-    K: DeskName,
-    R: Wait + Clock,
->(
+/// The line of a client or port over the gate of its inlet and the pen of its outlet, both at this position.
+pub(crate) fn line_of<'p, 'a, W: Prompt + Drop, G: OutletEnd + Drop, A, C, K, R>(
     rt: &'a R,
     shared: &'a Shared<K, RandomState>,
-    client: ClientNumber,
-    opener: CountedLinks<'a, A>,
+    peer: Recipient,
+    opener: RunOpener<CountedLinks<'a, A>, PortLinks<'a, C, K, R>>,
     gate: ReadingGate<'p, 'a, W, G, K, R>,
     at: usize,
     pen: &'p OutletPen<W, G>,
 ) -> RunLine<'p, 'a, W, G, A, C, K, R>
-    ensures peer { source_of_peer result.peer ≡ sources.Client client }
-    ensures told { recipient_of result.peer ≡ Some (recipients.Client client) }
+where
+    K: DeskName,
+    R: Wait + Clock,
+    ensures peer { result.peer ≡ peer }
     ensures gate { result.reader.gate ≡ gate.entry }
-    ensures pen { of_pen (λ p. G.told p.pen.now.first.value) result.writer ≡ Some pen.now.to }
+    ensures pen { G.told result.writer.pen.now.first.value ≡ pen.now.to }
     ensures fault { result.fault ≡ None }
 {
     Line {
-        peer: RunPeer::Client(client),
+        peer,
         steps: STEPS,
         fault: None,
-        opener: RunOpener::Client(opener),
+        opener,
         reader: Worker {
             gate,
             clock: RunClock::new(rt),
         },
-        writer: RunPen::Pen(PenWorker::new(
-            pen.recipient(),
-            pen.pen(),
-            BellClock::new(rt, shared, at, longest_sleep()),
-        )),
+        writer: PenWorker::new(pen.pen(), BellClock::new(rt, shared, at, longest_sleep())),
     }
 }
 
-/// The line of a port, likewise.
-pub(crate) fn port_line<
-    'p,
-    'a,
-    W: Prompt + Drop,
-    G: OutletEnd + Drop,
-    A,
-    C,
-    K: DeskName,
-    R: Wait + Clock,
->(
+/// Ticks for so many clients and ports through the clock's inlet, until `is_over` is set. None through another's.
+pub(crate) fn ticks_of<'p, 'a, W: Prompt + Drop, G: OutletEnd + Drop, K, R>(
     rt: &'a R,
-    shared: &'a Shared<K, RandomState>,
-    port: PortNumber,
-    opener: PortLinks<'a, C, K, R>,
-    gate: ReadingGate<'p, 'a, W, G, K, R>,
-    at: usize,
-    pen: &'p OutletPen<W, G>,
-) -> RunLine<'p, 'a, W, G, A, C, K, R>
-    ensures peer { source_of_peer result.peer ≡ sources.Port port }
-    ensures told { recipient_of result.peer ≡ Some (recipients.Port port) }
-    ensures gate { result.reader.gate ≡ gate.entry }
-    ensures pen { of_pen (λ p. G.told p.pen.now.first.value) result.writer ≡ Some pen.now.to }
-    ensures fault { result.fault ≡ None }
-{
-    Line {
-        peer: RunPeer::Port(port),
-        steps: STEPS,
-        fault: None,
-        opener: RunOpener::Port(opener),
-        reader: Worker {
-            gate,
-            clock: RunClock::new(rt),
-        },
-        writer: RunPen::Pen(PenWorker::new(
-            pen.recipient(),
-            pen.pen(),
-            BellClock::new(rt, shared, at, longest_sleep()),
-        )),
-    }
-}
-
-/// The line of the clock over the gate of its inlet, with one link, on which time passes until `is_over` is set.
-pub(crate) fn clock_line<
-    'p,
-    'a,
-    W: Prompt + Drop,
-    G: OutletEnd + Drop,
-    A,
-    C,
-    K: DeskName,
-    R: Wait + Clock,
->(
-    rt: &'a R,
+    alloc: Global,
     shared: &'a Shared<K, RandomState>,
     count: Count,
     counts: &'a ClientCounts,
     is_over: &'a AtomicBool,
-    gate: ReadingGate<'p, 'a, W, G, K, R>,
-) -> RunLine<'p, 'a, W, G, A, C, K, R>
-    ensures peer { source_of_peer result.peer ≡ sources.Clock }
-    ensures told { recipient_of result.peer ≡ None }
-    ensures gate { result.reader.gate ≡ gate.entry }
-    ensures nothing { result.writer ≡ writers.Nothing }
-    ensures fault { result.fault ≡ None }
+    inlet: Inlet<K>,
+    pens: &'p [OutletPen<W, G>],
+) -> Option<RunTicks<'p, 'a, W, G, K, R>>
+where
+    K: DeskName,
+    R: Wait + Clock,
+    ensures own { IfSome result (λ ticks. ticks.gate.gate.inlet.source ≡ sources.Clock) }
 {
-    let Count { clients, ports } = count;
-    Line {
-        peer: RunPeer::Clock(Ticks {
+    if inlet.source() == Source::Clock {
+        let Count { clients, ports } = count;
+        let own = InletGate::new(shared, pens, inlet);
+        let gate = TellingGate::new(alloc, own, None);
+        return Some(Ticks {
             clients,
             ports,
             is_over,
-        }),
-        steps: 1,
-        fault: None,
-        opener: RunOpener::Clock(true),
-        reader: Worker {
             gate,
             clock: RunClock::watching(rt, shared, counts, is_over),
-        },
-        writer: RunPen::Nothing,
+        });
     }
+    None
 }
 
 /// What is left of lines that were served.
@@ -225,6 +156,18 @@ impl<K: DeskName> Left<K> {
             self.fault = self.fault.or(fault);
         }
         Ok(())
+    }
+
+    /// Ends the inlet of ticks, and keeps what was put.
+    pub(crate) fn end_ticks<'p, 'a, W: Prompt + Drop, G: OutletEnd + Drop, R>(
+        &mut self,
+        ticks: Option<RunTicks<'p, 'a, W, G, K, R>>,
+    ) -> Result<(), AllocError> {
+        let Some(ticks) = ticks else {
+            return Ok(());
+        };
+        let Ticks { gate, .. } = ticks;
+        self.end_inlet(gate.into_gate())
     }
 
     /// Ends the inlet of a gate, and keeps what was put.
@@ -264,7 +207,7 @@ pub(crate) fn pens_of<'a, W: Prompt + Drop, K: DeskName, R: Clock + Eprint>(
 {
     let mut pens = Vec::with_capacity(alloc, outlets.len())?;
     for outlet in outlets {
-        let teller = teller_of(rt, tells_frames, outlet.recipient());
+        let teller = teller_of(rt, tells_frames, &outlet.recipient());
         let gate = TellingGate::new(alloc, OutletGate::new(shared, outlet), teller);
         pens.push(OutletPen::new(gate))?;
     }
@@ -275,7 +218,7 @@ pub(crate) fn pens_of<'a, W: Prompt + Drop, K: DeskName, R: Clock + Eprint>(
 pub(crate) fn teller_of<'a, R: Clock + Eprint>(
     rt: &'a R,
     tells_frames: bool,
-    whose: Recipient,
+    whose: &Recipient,
 ) -> Option<Teller<'a, R>> {
     match whose {
         Recipient::Client(client) if tells_frames => {

@@ -5,16 +5,16 @@ ghost use Rattle.gate_law.specs.Holds.{Holds};
 ghost use Rattle.audit_lines.specs.gate_audit.gate_journal.Kept.{turns};
 ghost use Rattle.desk_gates.specs.desk.Settling.{AreSettled};
 
+use crate::counted::{ClientCounts, CountedLinks};
 use crate::day::Day;
 use crate::ends::{Ends, RunPlan, ends_of};
 use crate::fault::RunFault;
-use crate::lines::{Count, Left, pens_of};
+use crate::lines::{Count, Left, pens_of, ticks_of};
 use audit_lines::Settings;
 use desk_gates::{
     Closed, DeskName, Finished, Inlet, OutletEnd, OutletPen, Parts, Prompt, Shared, open_desk,
 };
 use gate_serving::{Closer, Opener, serve};
-use run_lines::{ClientCounts, CountedLinks, RunWriter};
 use std::alloc::{AllocError, Global};
 use std::hash::RandomState;
 use std::io::Read;
@@ -53,10 +53,7 @@ where
     A::Reader: Read + Send + Drop,
     A::Writer: Prompt + Send + Drop,
     A::Closer: Closer + Send + Drop,
-    C: Opener + Send + Drop,
-    C::Reader: Read + Send + Drop,
-    C::Writer: Prompt + Send + Drop,
-    C::Closer: Closer + Send + Drop,
+    C: Opener<Reader = A::Reader, Writer = A::Writer, Closer = A::Closer> + Send + Drop,
 {
     let count = Count {
         clients: settings.clients().len() as u16,
@@ -82,22 +79,13 @@ where
     A::Reader: Read + Send + Drop,
     A::Writer: Prompt + Send + Drop,
     A::Closer: Closer + Send + Drop,
-    C: Opener + Send + Drop,
-    C::Reader: Read + Send + Drop,
-    C::Writer: Prompt + Send + Drop,
-    C::Closer: Closer + Send + Drop,
+    C: Opener<Reader = A::Reader, Writer = A::Writer, Closer = A::Closer> + Send + Drop,
     requires named { (parts.inlets ≡ K.inlets) × (parts.outlets ≡ K.outlets) }
     requires clock { 0 < length parts.inlets }
 {
     let (shared, inlets, outlets) = open_desk::<K, RandomState>(alloc, parts)?;
     let counts = ClientCounts::of(plan.clients.len().min(usize::from(count.clients)) as u32);
-    let pens = pens_of::<RunWriter<A::Writer, C::Writer>, K, R>(
-        rt,
-        alloc,
-        &shared,
-        outlets,
-        plan.tells_frames,
-    )?;
+    let pens = pens_of::<A::Writer, K, R>(rt, alloc, &shared, outlets, plan.tells_frames)?;
     let mut left = serve_desk(
         rt,
         alloc,
@@ -141,7 +129,7 @@ fn close_desk<K: DeskName, R: Clock>(
 }
 
 /// Serves the ends of a desk, the last inlet being the clock's, until the clients' links have been served, and ends
-/// them.
+/// them. Time passes in the calling thread.
 fn serve_desk<'p, 'a, K, R, A, C, G>(
     rt: &'a R,
     alloc: Global,
@@ -149,7 +137,7 @@ fn serve_desk<'p, 'a, K, R, A, C, G>(
     shared: &'a Shared<K, RandomState>,
     counts: &'a ClientCounts,
     inlets: Vec<Inlet<K>>,
-    pens: &'p [OutletPen<RunWriter<A::Writer, C::Writer>, G>],
+    pens: &'p [OutletPen<A::Writer, G>],
     plan: RunPlan<A, C>,
     is_over: &'a AtomicBool,
 ) -> Result<Left<K>, RunFault>
@@ -160,10 +148,7 @@ where
     A::Reader: Read + Send + Drop,
     A::Writer: Prompt + Send + Drop,
     A::Closer: Closer + Send + Drop,
-    C: Opener + Send + Drop,
-    C::Reader: Read + Send + Drop,
-    C::Writer: Prompt + Send + Drop,
-    C::Closer: Closer + Send + Drop,
+    C: Opener<Reader = A::Reader, Writer = A::Writer, Closer = A::Closer> + Send + Drop,
     G: OutletEnd + Send + Drop,
     requires clock { 0 < length inlets.items }
 {
@@ -178,7 +163,7 @@ where
         tells_frames,
     } = plan;
     let clients = counted(alloc, clients, counts, is_over)?;
-    let mut ends = ends_of(
+    let ends = ends_of(
         rt,
         alloc,
         shared,
@@ -188,11 +173,14 @@ where
         ports,
         tells_frames,
     )?;
-    ends.add_clock(rt, shared, count, counts, is_over, clock, pens)?;
     let Ends { lines, .. } = ends;
-    match serve(rt, alloc, lines) {
-        Ok(lines) => left.end_lines(lines)?,
-        Err((fault, _)) => return Err(RunFault::from(fault)),
+    let ticks = ticks_of(rt, alloc, shared, count, counts, is_over, clock, pens);
+    match serve(rt, alloc, lines, ticks) {
+        Ok((lines, ticks)) => {
+            left.end_lines(lines)?;
+            left.end_ticks(ticks)?;
+        }
+        Err((fault, _, _)) => return Err(RunFault::from(fault)),
     }
     Ok(left)
 }

@@ -93,11 +93,25 @@ impl<'a, R: time::Clock> Gate for Waiting<'a, R> {
     }
 }
 
-/// A clock that pauses for a millisecond.
+/// A clock that pauses for a millisecond, and sets a flag at its third pause, where it has one.
 #[derive(Drop)]
 pub struct Sleeping<'a, R> {
     pub rt: &'a R,
     pub moment: u64,
+    pub pauses: u32,
+    pub sets: Option<&'a AtomicBool>,
+}
+
+impl<'a, R> Sleeping<'a, R> {
+    /// One that sets this flag, or none.
+    pub fn new(rt: &'a R, sets: Option<&'a AtomicBool>) -> Sleeping<'a, R> {
+        Sleeping {
+            rt,
+            moment: 0,
+            pauses: 0,
+            sets,
+        }
+    }
 }
 
 impl<'a, R: time::Clock> Clock for Sleeping<'a, R> {
@@ -108,6 +122,12 @@ impl<'a, R: time::Clock> Clock for Sleeping<'a, R> {
 
     fn pause(&mut self) {
         thread::sleep(self.rt, Duration::from_millis(1));
+        self.pauses = self.pauses.saturating_add(1);
+        if self.pauses == 3 {
+            if let Some(flag) = self.sets {
+                flag.store(true, Ordering::SeqCst);
+            }
+        }
     }
 }
 

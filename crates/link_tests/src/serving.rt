@@ -5,7 +5,7 @@ ghost use Rattle.std.specs.Prelude.{◌≡◌, ◌≤◌, [], IfOk};
 use super::gates::Kept;
 use super::lines::{Counted, Links, Seen, Sleeping, Waiting};
 use gate_events::{ClientNumber, Event, LinkOut, PortNumber, Recipient};
-use gate_serving::{Line, Peer, PenWorker, Worker, WriterEnd, serve};
+use gate_serving::{Line, PenWorker, Ticks, Worker, WriterEnd, serve};
 use gate_workers::Pen;
 use link_io::LinkFault;
 use short_list::ShortList;
@@ -22,8 +22,7 @@ const HEARTBEAT: &[u8; 26] = b"8=FIX.4.4\x019=5\x0135=0\x0110=163\x01";
 
 type TestPen<'a, R> = Pen<Counted<'a>, Waiting<'a, R>>;
 
-type TestLine<'p, 'a, P, R> = Line<
-    P,
+type TestLine<'p, 'a, R> = Line<
     Links<'a>,
     Worker<Waiting<'a, R>, Sleeping<'a, R>>,
     PenWorker<'p, Counted<'a>, Waiting<'a, R>, Sleeping<'a, R>>,
@@ -108,14 +107,13 @@ fn links_of<'a>(
 }
 
 /// A line over these links, this gate and this pen.
-fn line_of<'p, 'a, P: Drop, R: time::Clock>(
+fn line_of<'p, 'a, R: time::Clock>(
     rt: &'a R,
-    peer: P,
-    to: Recipient,
+    peer: Recipient,
     opener: Links<'a>,
     reader: Waiting<'a, R>,
     pen: &'p TestPen<'a, R>,
-) -> TestLine<'p, 'a, P, R> {
+) -> TestLine<'p, 'a, R> {
     Line {
         peer,
         steps: 1_000,
@@ -123,20 +121,21 @@ fn line_of<'p, 'a, P: Drop, R: time::Clock>(
         opener,
         reader: Worker {
             gate: reader,
-            clock: Sleeping { rt, moment: 0 },
+            clock: Sleeping::new(rt, None),
         },
-        writer: PenWorker::new(to, pen, Sleeping { rt, moment: 0 }),
+        writer: PenWorker::new(pen, Sleeping::new(rt, None)),
     }
 }
 
-/// Serves lines.
-fn served<'p, 'a, P: Peer + Send + Drop, R: Threads + Wait + time::Clock + Sync>(
+/// Serves lines; no time passes.
+fn served<'p, 'a, R: Threads + Wait + time::Clock + Sync>(
     rt: &'a R,
     alloc: Global,
-    lines: Vec<TestLine<'p, 'a, P, R>>,
-) -> Result<Vec<TestLine<'p, 'a, P, R>>, Fail> {
-    match serve(rt, alloc, lines) {
-        Ok(lines) => Ok(lines),
+    lines: Vec<TestLine<'p, 'a, R>>,
+) -> Result<Vec<TestLine<'p, 'a, R>>, Fail> {
+    let ticks: Option<Ticks<'a, Waiting<'a, R>, Sleeping<'a, R>>> = None;
+    match serve(rt, alloc, lines, ticks) {
+        Ok((lines, _)) => Ok(lines),
         Err(_) => Err(Fail::new("not served")),
     }
 }
@@ -150,12 +149,12 @@ fn client_line<'p, 'a, R: time::Clock>(
     stream: &'a [u8],
     reader: Waiting<'a, R>,
     pen: &'p TestPen<'a, R>,
-) -> TestLine<'p, 'a, ClientNumber, R>
+) -> TestLine<'p, 'a, R>
     requires { 1 ≤ number }
 {
     let links = links_of(alloc, stream, 1, 0, seen);
-    let client = ClientNumber::new(number);
-    line_of(rt, client, Recipient::Client(client), links, reader, pen)
+    let client = Recipient::Client(ClientNumber::new(number));
+    line_of(rt, client, links, reader, pen)
 }
 
 /// Serves the line of the first client, whose one link brings a heartbeat.
@@ -165,7 +164,7 @@ fn serve_one_client<'p, 'a, R: Threads + Wait + time::Clock + Sync>(
     seen: &'a Seen,
     reader: Waiting<'a, R>,
     pen: &'p TestPen<'a, R>,
-) -> Result<Vec<TestLine<'p, 'a, ClientNumber, R>>, Fail> {
+) -> Result<Vec<TestLine<'p, 'a, R>>, Fail> {
     let line = client_line(rt, alloc, seen, 1, HEARTBEAT.as_slice(), reader, pen);
     served(rt, alloc, vec![in alloc; line]?)
 }
@@ -230,18 +229,14 @@ fn gave_one_list<'a, R: time::Clock + Abort>(rt: &R, pen: TestPen<'a, R>) -> Res
 }
 
 /// So many events were put of a line.
-fn kept<'p, 'a, P, R: Abort + time::Clock>(
-    rt: &'a R,
-    line: &TestLine<'p, 'a, P, R>,
-    events: usize,
-) {
+fn kept<'p, 'a, R: Abort + time::Clock>(rt: &'a R, line: &TestLine<'p, 'a, R>, events: usize) {
     assert!(rt; line.reader.gate.kept.events.len() == events);
 }
 
 /// Nobody waited in vain, and each client's events and bytes went through.
 fn look_at_both<'p, 'a, R: Abort + time::Clock>(
     rt: &'a R,
-    lines: &[TestLine<'p, 'a, ClientNumber, R>],
+    lines: &[TestLine<'p, 'a, R>],
     seen: &Seen,
 ) -> Result<(), Fail> {
     assert!(rt; !seen.is_failed.load(Ordering::SeqCst));
@@ -299,16 +294,70 @@ fn serve_itself<'p, 'a, R: Threads + Wait + time::Clock + Abort + Sync>(
 /// The first client didn't wait in vain.
 fn look_at_own<'p, 'a, R: Abort + time::Clock>(
     rt: &'a R,
-    lines: &[TestLine<'p, 'a, ClientNumber, R>],
+    lines: &[TestLine<'p, 'a, R>],
     seen: &Seen,
 ) -> Result<(), Fail> {
     assert!(rt; !seen.is_failed.load(Ordering::SeqCst));
     let [one, two] = lines else {
         return Err(Fail::new("not two lines"));
     };
-    assert!(rt; one.peer.number() == 1 && two.peer.number() == 2);
+    assert!(rt; one.peer == Recipient::Client(ClientNumber::new(1)));
+    assert!(rt; two.peer == Recipient::Client(ClientNumber::new(2)));
     kept(rt, one, 4);
     kept(rt, two, 3);
+    Ok(())
+}
+
+/// While a client's link is served time passes: its put waits until ticks went round three times.
+#[test]
+fn time_passes_while_a_link_is_served(rt: HostRuntime) -> Result<(), Fail> {
+    let seen = Seen::new();
+    passes_meanwhile(&rt, rt.alloc(), &seen)
+}
+
+fn passes_meanwhile<'a, R: Threads + Wait + time::Clock + Abort + Sync>(
+    rt: &'a R,
+    alloc: Global,
+    seen: &'a Seen,
+) -> Result<(), Fail> {
+    let pen = told_pen(rt, alloc, seen, &seen.first)?;
+    serve_with_ticks(rt, alloc, seen, &pen)
+}
+
+fn serve_with_ticks<'p, 'a, R: Threads + Wait + time::Clock + Abort + Sync>(
+    rt: &'a R,
+    alloc: Global,
+    seen: &'a Seen,
+    pen: &'p TestPen<'a, R>,
+) -> Result<(), Fail> {
+    let reader = reading_gate(rt, alloc, seen, 1, &seen.second);
+    let line = client_line(rt, alloc, seen, 1, HEARTBEAT.as_slice(), reader, pen);
+    let ticks = Ticks {
+        clients: 2,
+        ports: 1,
+        is_over: &seen.second,
+        gate: reading_gate(rt, alloc, seen, 0, &seen.never),
+        clock: Sleeping::new(rt, Some(&seen.second)),
+    };
+    match serve(rt, alloc, vec![in alloc; line]?, Some(ticks)) {
+        Ok((lines, Some(ticks))) => look_at_ticks(rt, lines.as_slice(), &ticks, seen),
+        _ => Err(Fail::new("not served")),
+    }
+}
+
+/// Nobody waited in vain, three ticks of each client and port were put, and all events of the link.
+fn look_at_ticks<'p, 'a, R: Abort + time::Clock>(
+    rt: &'a R,
+    lines: &[TestLine<'p, 'a, R>],
+    ticks: &Ticks<'a, Waiting<'a, R>, Sleeping<'a, R>>,
+    seen: &Seen,
+) -> Result<(), Fail> {
+    assert!(rt; !seen.is_failed.load(Ordering::SeqCst));
+    assert!(rt; ticks.gate.kept.events.len() == 9);
+    let [line] = lines else {
+        return Err(Fail::new("not one line"));
+    };
+    kept(rt, line, 3);
     Ok(())
 }
 
@@ -349,8 +398,8 @@ fn serve_three<'p, 'a, R: Threads + Wait + time::Clock + Abort + Sync>(
 ) -> Result<(), Fail> {
     let reader = reading_gate(rt, alloc, seen, 0, &seen.never);
     let links = links_of(alloc, b"\x00\x01H\x00\x01H".as_slice(), 3, 2, seen);
-    let port = PortNumber::new(1);
-    let line = line_of(rt, port, Recipient::Port(port), links, reader, pen);
+    let port = Recipient::Port(PortNumber::new(1));
+    let line = line_of(rt, port, links, reader, pen);
     let lines = served(rt, alloc, vec![in alloc; line]?)?;
     look_at_three(rt, alloc, lines.as_slice())
 }
@@ -359,7 +408,7 @@ fn serve_three<'p, 'a, R: Threads + Wait + time::Clock + Abort + Sync>(
 fn look_at_three<'p, 'a, R: Abort + time::Clock>(
     rt: &'a R,
     alloc: Global,
-    lines: &[TestLine<'p, 'a, PortNumber, R>],
+    lines: &[TestLine<'p, 'a, R>],
 ) -> Result<(), Fail> {
     let [line] = lines else {
         return Err(Fail::new("not one line"));
@@ -452,7 +501,7 @@ fn serve_closed<'p, 'a, R: Threads + Wait + time::Clock + Abort + Sync>(
 /// The one link was closed, and shut down once.
 fn look_at_closed<'p, 'a, R: Abort + time::Clock>(
     rt: &'a R,
-    lines: &[TestLine<'p, 'a, ClientNumber, R>],
+    lines: &[TestLine<'p, 'a, R>],
     seen: &Seen,
 ) -> Result<(), Fail> {
     let [line] = lines else {

@@ -16,5 +16,6 @@ scope-returns g t c =
     ] in
     record {
       did = rw c.in-Ok-push.ensures.items (all_zipped_more (λ old new. MayBeDone g.A.Job.did old.0 new.0 × MayBeDone g.B.Job.did old.1 new.1) _ _ (c.captures.first, c.captures.second) _ c.run_pairs-back.ensures.did (one, other));
+      meanwhile = c.run_pairs-back.ensures.meanwhile;
       capacity = omega (arith, c.in-Ok-push.ensures.capacity, c.run_pairs-back.ensures.capacity);
     }

@@ -11,15 +11,13 @@ use Rattle.desk_gates.proofs.Sent.{inlet_gate_send}
 use Rattle.desk_gates.specs.desk.declared.DeskName as DeskName
 use Rattle.desk_gates.specs.declared.outlet_pen.OutletEnd as OutletEnd
 use Rattle.desk_gates.specs.contracts.inlet.InletGate as InletGate
-use Rattle.run_lines.specs.link_io.declared.gate.Gate as Gate
-use Rattle.run_lines.specs.link_io.declared.streams.Prompt as Prompt
-use Rattle.run_lines.specs.contracts.line_pen.RunPen as RunPen
-use Rattle.run_lines.specs.contracts.streams.RunWriter as RunWriter
-use Rattle.run_lines.specs.contracts.counted.CountedLinks as CountedLinks
-use Rattle.run_lines.specs.contracts.opener.RunOpener as RunOpener
+use Rattle.link_io.specs.declared.gate.Gate as Gate
+use Rattle.link_io.specs.declared.streams.Prompt as Prompt
+use Rattle.gateway_run.specs.contracts.counted.CountedLinks as CountedLinks
+use Rattle.gateway_run.specs.contracts.run_opener.RunOpener as RunOpener
 use Rattle.gateway_run.specs.contracts.port_faults.PortLinks as PortLinks
 use Rattle.gateway_run.specs.contracts.telling_gate.TellingGate as TellingGate
-use Rattle.gateway_run.proofs.Sent.{bell_send, opener_send, run_clock_send, run_pen_send, telling_send, writer_send}
+use Rattle.gateway_run.proofs.Sent.{bell_send, opener_send, run_clock_send, telling_send}
 use Rattle.gateway_run.proofs.running.serve_desk.Goals as goal
 
 pub serve-requires-send-O : goal.serve-requires-send-O
@@ -32,28 +30,20 @@ serve-requires-send-O g c κs l =
 
 pub serve-requires-send-G : goal.serve-requires-send-G
 serve-requires-send-G g c κs l =
-    let A = param 6 g.row.A-Writer in let C = param 9 g.row.C-Writer in let G = param 4 g.row.G in
+    let W = param 6 g.row.A-Writer in let G = param 4 g.row.G in
     let R = param 1 g.row.R in
-    let bounds = c.type_bounds in let W = RunWriter.the_row A C in
-    let sent = writer_send A C bounds.send-A-Writer bounds.send-C-Writer in
+    let bounds = c.type_bounds in
     let gates : (q a : NamedLft) (p : Prompt.Ghosts W.Denot) (w : Write.Ghosts W.Denot) (e : OutletEnd.Ghosts G.Denot)
     (t : Gate.Ghosts G.Denot) (K S T : RattleType) (k : DeskName.Ghosts K.Denot)
     (b : BuildHasher.Ghosts S.Denot T.Denot) (h : Hasher.Ghosts T.Denot) → IsSend S
     → IsSend (InletGate.the_row q a W G K S T p w e t k b h)
-    = λ q a p w e t K S T k b h s. inlet_gate_send W G p w e t sent bounds.send-G K S T k b h s q a in
+    = λ q a p w e t K S T k b h s. inlet_gate_send W G p w e t bounds.send-A-Writer bounds.send-G K S T k b h s q a in
     let told : (a : NamedLft) (X : RattleType) → IsSend X → IsSend (TellingGate.the_row a X R)
     = λ a X x. telling_send a R bounds.sync-R X x in
     search (told, gates, sendable, crosses) depth 100 fits 500000
 
-pub serve-requires-send-B : goal.serve-requires-send-B
-serve-requires-send-B g c κs l =
-    let A = param 6 g.row.A-Writer in let C = param 9 g.row.C-Writer in let G = param 4 g.row.G in
-    let bounds = c.type_bounds in let W = RunWriter.the_row A C in
-    let sent = writer_send A C bounds.send-A-Writer bounds.send-C-Writer in
-    let pens : (a : NamedLft) (D : RattleType) (p : Prompt.Ghosts W.Denot) (w : Write.Ghosts W.Denot)
-    (t : Gate.Ghosts G.Denot) → IsSend D → IsSend (RunPen.the_row a W G D p w t)
-    = λ a D p w t d. run_pen_send a W G D p w t sent bounds.send-G d in
-    search (pens, bell_send, bounds.sync-R, sendable) depth 40
-
 pub serve-requires-send-C : goal.serve-requires-send-C
 serve-requires-send-C g c κs l = search (run_clock_send, c.type_bounds.sync-R, sendable) depth 40
+
+pub serve-requires-send-D : goal.serve-requires-send-D
+serve-requires-send-D g c κs l = search (bell_send, c.type_bounds.sync-R, sendable) depth 40

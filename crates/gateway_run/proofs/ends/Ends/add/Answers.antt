@@ -1,13 +1,13 @@
-use Rattle.std.proofs.Common.{◌≡◌}
-use Rattle.gateway_run.specs.Own.{of_pen, recipient_of, source_of_peer}
-use Rattle.gateway_run.proofs.Kept.{pushed}
+use Rattle.std.proofs.Common.{◌∙◌, ap, sym}
+use Rattle.gateway_run.specs.Own.{source_of_peer}
 use Rattle.gateway_run.proofs.ends.Ends.add.Goals as goal
 
-pub invariant_of-self-clause-puts_own : goal.invariant_of-self-clause-puts_own
-invariant_of-self-clause-puts_own g c = pushed _ _ _ _ c.push.ensures.items
-    (λ l. l.reader.gate.gate.inlet.source ≡ source_of_peer l.peer) c.args.self.now.puts_own c.requires.puts_own
+pub keep-requires-clause-puts_own : goal.keep-requires-clause-puts_own
+keep-requires-clause-puts_own g c =
+    ap (λ t. t.gate.inlet.source) c.line_of-line.ensures.gate
+    ∙ (ap (λ i. i.inlet.source) c.new-gate.ensures ∙ (ap (λ i. i.source) c.new-own.ensures
+    ∙ (c.is_of.ensures c.if-is_of.true ∙ (c.source_of.ensures ∙ ap source_of_peer (sym c.line_of-line.ensures.peer)))))
 
-pub invariant_of-self-clause-takes_own : goal.invariant_of-self-clause-takes_own
-invariant_of-self-clause-takes_own g c = pushed _ _ _ _ c.push.ensures.items
-    (λ l. of_pen (λ p. g.G.OutletEnd.told p.pen.now.first.value) l.writer ≡ recipient_of l.peer)
-    c.args.self.now.takes_own c.requires.takes_own
+pub keep-requires-clause-takes_own : goal.keep-requires-clause-takes_own
+keep-requires-clause-takes_own g c =
+    c.line_of-line.ensures.pen ∙ (c.is_to.ensures c.if-is_to.true ∙ sym c.line_of-line.ensures.peer)

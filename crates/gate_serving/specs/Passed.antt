@@ -1,0 +1,19 @@
+-- What was put as time passed while lines were served.
+use Rattle.std.specs.Prelude.{◌≡◌, ◌⊎◌, Option, Some, None, List}
+use Rattle.gate_law.specs.Events.{Event, LinkOut}
+use Rattle.gate_workers.specs.TickersWork.{PutsTicks}
+use Rattle.gate_serving.specs.declared.ticks.Ticks.{Ticks}
+
+-- ticks of these clients and ports, and nothing else
+abbrev pub TicksDid : {G C : Type 0} → (G → List Event) → (G → List (List LinkOut)) → (old new : Ticks G C) → Type 0
+TicksDid was_put was_taken old new =
+    (new.clients ≡ old.clients) × (new.ports ≡ old.ports)
+    × PutsTicks old.clients old.ports (was_put old.gate) (was_put new.gate)
+    × (was_taken new.gate ≡ was_taken old.gate)
+
+-- a job was done, where there was one
+abbrev pub WasDone : {A : Type 0} → (A → A → Type 0) → (old new : Option A) → Type 0
+WasDone did None None = Unit {0}
+WasDone did None (Some new) = ⊥
+WasDone did (Some old) None = ⊥
+WasDone did (Some old) (Some new) = did old new
