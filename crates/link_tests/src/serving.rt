@@ -324,6 +324,21 @@ fn passes_meanwhile<'a, R: Threads + Wait + time::Clock + Abort + Sync>(
     serve_with_ticks(rt, alloc, seen, &pen)
 }
 
+/// Ticks of two clients and a port, which end as they went round three times.
+fn three_rounds<'a, R: time::Clock>(
+    rt: &'a R,
+    alloc: Global,
+    seen: &'a Seen,
+) -> Option<Ticks<'a, Waiting<'a, R>, Sleeping<'a, R>>> {
+    Some(Ticks {
+        clients: 2,
+        ports: 1,
+        is_over: &seen.second,
+        gate: reading_gate(rt, alloc, seen, 0, &seen.never),
+        clock: Sleeping::new(rt, Some(&seen.second)),
+    })
+}
+
 fn serve_with_ticks<'p, 'a, R: Threads + Wait + time::Clock + Abort + Sync>(
     rt: &'a R,
     alloc: Global,
@@ -332,16 +347,10 @@ fn serve_with_ticks<'p, 'a, R: Threads + Wait + time::Clock + Abort + Sync>(
 ) -> Result<(), Fail> {
     let reader = reading_gate(rt, alloc, seen, 1, &seen.second);
     let line = client_line(rt, alloc, seen, 1, HEARTBEAT.as_slice(), reader, pen);
-    let ticks = Ticks {
-        clients: 2,
-        ports: 1,
-        is_over: &seen.second,
-        gate: reading_gate(rt, alloc, seen, 0, &seen.never),
-        clock: Sleeping::new(rt, Some(&seen.second)),
-    };
-    match serve(rt, alloc, vec![in alloc; line]?, Some(ticks)) {
-        Ok((lines, Some(ticks))) => look_at_ticks(rt, lines.as_slice(), &ticks, seen),
-        _ => Err(Fail::new("not served")),
+    let ticks = three_rounds(rt, alloc, seen);
+    match serve(rt, alloc, vec![in alloc; line]?, ticks) {
+        Ok((lines, ticks)) => look_at_ticks(rt, lines.as_slice(), ticks, seen),
+        Err(_) => Err(Fail::new("not served")),
     }
 }
 
@@ -349,10 +358,13 @@ fn serve_with_ticks<'p, 'a, R: Threads + Wait + time::Clock + Abort + Sync>(
 fn look_at_ticks<'p, 'a, R: Abort + time::Clock>(
     rt: &'a R,
     lines: &[TestLine<'p, 'a, R>],
-    ticks: &Ticks<'a, Waiting<'a, R>, Sleeping<'a, R>>,
+    ticks: Option<Ticks<'a, Waiting<'a, R>, Sleeping<'a, R>>>,
     seen: &Seen,
 ) -> Result<(), Fail> {
     assert!(rt; !seen.is_failed.load(Ordering::SeqCst));
+    let Some(ticks) = ticks else {
+        return Err(Fail::new("no ticks came back"));
+    };
     assert!(rt; ticks.gate.kept.events.len() == 9);
     let [line] = lines else {
         return Err(Fail::new("not one line"));
