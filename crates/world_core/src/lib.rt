@@ -8,4 +8,4 @@
 
 mod laws;
 
-pub use laws::what_is_written_was_asked;
+pub use laws::{what_is_delivered_is_handled, what_is_written_was_asked};
