@@ -1,7 +1,7 @@
 -- What a port's session was given in order is what the order level handled of the port.
 use Rattle.std.proofs.Common.{◌≡◌, ◌+◌, ◌==◌, ℕ, Bool, true, false, List, [], ◌∷◌, length, Option, Some, None, Result, Ok, Err, refl, sym, ap, ◌∙◌, subst, eq-eqb, inl, inr, option_map, arith}
 use Rattle.std.proofs.lemmas.Bool.{eqb-true, cases_Bool, cond-true, cond-false}
-use Rattle.std.specs.Prelude.{if◌then◌else◌, ◌&&◌, ◌⊎◌}
+use Rattle.std.specs.Prelude.{if◌then◌else◌, ◌⊎◌}
 use Rattle.session_law.specs.fix_types.declared.application.AppMsg.{AppMsg}
 use Rattle.session_law.specs.Runs.{OnMessage}
 use Rattle.soup_packets.specs.declared.packet.Packet.{Packet}
@@ -9,22 +9,20 @@ use Rattle.soup_session.specs.declared.port_fault.PortFault.{PortFault}
 use Rattle.soup_session.specs.Faults.{fault_number}
 use Rattle.soup_session.specs.Delivered.{Arrival, delivered}
 use Rattle.soup_session.specs.Calls.{and_payload}
-use Rattle.soup_session.specs.Table.{PortCall, OnUp, OnPacket, OnGone, OnTick, PortAnswer, standing, answer, wanted}
-use Rattle.fix_fields.specs.Field.{Message}
+use Rattle.soup_session.specs.Table.{PortCall, OnPacket, PortAnswer, standing, wanted}
 use Rattle.order_law.specs.ouch_codec.declared.outbound.Outbound.{Outbound}
 use Rattle.order_law.specs.ouch_codec.declared.refusal.DecodeRefusal.{DecodeRefusal}
 use Rattle.order_law.specs.ouch_codec.Values.{decoded}
 use Rattle.order_law.specs.History.{Heard, OrderHistory, OrderTurn, Terms, handled}
 use Rattle.order_law.specs.Lawful.{judgement}
-use Rattle.order_law.specs.Headline.{EachWith, Headline}
-use Rattle.gate_law.specs.Settings.{Settings, port_of, port_terms, terms}
+use Rattle.order_law.specs.Headline.{Headline}
+use Rattle.gate_law.specs.Settings.{Settings, port_terms, terms}
 use Rattle.gate_law.specs.Events.{Event, ClientUp, ClientMessage, ClientGone, ClientTick, PortUp, PortPacket, PortGone, PortTick, Batch, Turn, History}
-use Rattle.gate_law.specs.Lists.{Lists, nothing_yet, turned}
-use Rattle.gate_law.specs.Sessions.{client_answer, port_answer, sends}
-use Rattle.gate_law.specs.Outcome.{Outcome, Stays, Refused, nothing, of_client, of_port, client_up, port_up, by_app, by_fault, by_payload, told_outcome, by_event, outcome, is_stepped, messages, bodies, addressee}
-use Rattle.gate_law.specs.After.{lists, lists_after, links_closed, with_outcome, order_turns, is_within_day}
-use Rattle.gate_law.specs.Due.{Gives}
-use Rattle.gate_law.specs.Holds.{Holds, IsRun, OfTurn}
+use Rattle.gate_law.specs.Lists.{Lists, turned}
+use Rattle.gate_law.specs.Sessions.{client_answer, port_answer}
+use Rattle.gate_law.specs.Outcome.{Outcome, Refused, nothing, of_client, of_port, client_up, port_up, by_app, by_fault, by_payload, told_outcome, by_event, outcome, is_stepped, messages, bodies, addressee}
+use Rattle.gate_law.specs.After.{lists, lists_after, order_turns, is_within_day}
+use Rattle.gate_law.specs.Holds.{Holds}
 use Rattle.gate_law.proofs.Parts.{called, own-calls, other-calls}
 use Rattle.gate_law.proofs.Telling.{turns-after}
 use Rattle.world_core.specs.Ports.{port_standing, NoFaults, AreDecoded}
