@@ -14,3 +14,4 @@ pub mod NoFault
 pub mod AtRest
 pub mod Kept
 pub mod Sent
+pub mod Totals

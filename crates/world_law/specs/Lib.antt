@@ -1,2 +1,3 @@
 pub mod Asked
 pub mod Rows
+pub mod Totals

@@ -18,6 +18,7 @@ ghost use Rattle.market_law.specs.Moves.{times};
 ghost use Rattle.market_law.specs.Said.{names};
 ghost use Rattle.world_law.specs.Asked.{AlwaysOfOrders, BytesAsked, CameAsked};
 ghost use Rattle.world_law.specs.Rows.{ReadsAsBook};
+ghost use Rattle.world_law.specs.Totals.{StaysWithin};
 
 /// The tokens of all that a port was ever asked lead to its orders, after every turn. It does nothing: its contract is
 /// the law.
@@ -62,4 +63,12 @@ pub fn what_is_sent_was_asked()
     ensures turn { (terms : List Terms) (before : OrderHistory) (t : OrderTurn) (client : ℕ) (m : Message) (port : Port)
         → t.event ≡ Came client m port → TurnHolds terms t before
         → Each (BytesAsked terms (terms_of terms client).port (t ∷ before)) t.sends }
+{}
+
+/// There, what is executed and open of an order in the market's book is at most the greatest OrderQty (38) that was
+/// accepted for it. It does nothing: its contract is the law.
+pub fn books_stay_within_what_was_accepted()
+    ensures { (terms : List Terms) (port : ℕ) (h : OrderHistory) (s : TableState) (moves : List Move)
+        → length h < 2 ^ 59 → TurnsLeave terms h s → Each (CameAsked terms port h) moves
+        → Each (StaysWithin terms port (accepted terms h)) (ran moves).machine.book }
 {}
