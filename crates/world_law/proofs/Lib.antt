@@ -15,3 +15,4 @@ pub mod AtRest
 pub mod Kept
 pub mod Sent
 pub mod Totals
+pub mod Alone

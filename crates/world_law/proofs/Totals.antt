@@ -74,11 +74,11 @@ more-asked most more (SaysCancel token) asks le k = tt
 
 -- ---- what an accepted message asks
 
-each-if : {X : Type 0} (P : X → Type 0) (b : Bool) (xs ys : List X) → (b ≡ true → Each P xs) → (b ≡ false → Each P ys) → Each P (if b then xs else ys)
+pub each-if : {X : Type 0} (P : X → Type 0) (b : Bool) (xs ys : List X) → (b ≡ true → Each P xs) → (b ≡ false → Each P ys) → Each P (if b then xs else ys)
 each-if P true xs ys f g = f refl
 each-if P false xs ys f g = g refl
 
-each-made : {X Y : Type 0} (P : Y → Type 0) (f : X → Y) (xs : List X) → ((x : X) → P (f x)) → Each P (map f xs)
+pub each-made : {X Y : Type 0} (P : Y → Type 0) (f : X → Y) (xs : List X) → ((x : X) → P (f x)) → Each P (map f xs)
 each-made P f [] all = tt
 each-made P f (x ∷ xs) all = (all x, each-made P f xs all)
 
