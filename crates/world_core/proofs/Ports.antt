@@ -24,7 +24,7 @@ use Rattle.gate_law.proofs.Parts.{called, own-calls, other-calls, moved-other}
 use Rattle.gate_law.proofs.Telling.{turns-after}
 use Rattle.gate_law.proofs.Links.{Keeps, Quiet, link-due, outcome-keeps, same-if}
 use Rattle.soup_session.proofs.Closes.{ends_by_close}
-use Rattle.world_core.specs.Ports.{PortAfter, StandsAs, StepHolds, port_standing, told_port}
+use Rattle.world_core.specs.Ports.{PortAfter, StandsAs, StepHolds, port_standing, outs_to_port}
 use Rattle.world_core.proofs.Handled.{heard-other}
 
 -- ---- what a history that keeps the promise says of its last event
@@ -67,7 +67,7 @@ told-by (x ∷ outs) w n p named is =
     ap (λ (c : Option ℕ). if is_the_number p c then x ∷ outs else [])
     (is ∙ ap (λ (c : Bool). if not (c && w) then Some n else None) (eqb-suc-zero (length outs)))
 
-pub told-due : (s : Settings) (e : Event) (b : Batch) (p : ℕ) → b.port ≡ due_port s e b → told_port p b ≡ (if port_named s e == p then b.port_out else [])
+pub told-due : (s : Settings) (e : Event) (b : Batch) (p : ℕ) → b.port ≡ due_port s e b → outs_to_port p b ≡ (if port_named s e == p then b.port_out else [])
 told-due s e b p named = told-by b.port_out (not (is_some b.fault)) (port_named s e) p b.port named
 
 pub no-lines : (link : Option ℕ) → to_port link [] ≡ []

@@ -41,8 +41,8 @@ AreDecoded payloads messages =
     EachWith (λ (payload : List ℕ) (m : Outbound). decoded payload ≡ Ok m) payloads messages
 
 -- what a batch tells the link of a port: nothing where it names another port
-abbrev pub told_port : ℕ → Batch → List LinkOut
-told_port p b = if is_the_number p b.port then b.port_out else []
+abbrev pub outs_to_port : ℕ → Batch → List LinkOut
+outs_to_port p b = if is_the_number p b.port then b.port_out else []
 
 -- two standings are the same but for their moments
 pub record StandsAs (x y : PortStanding) : Type 0 where
@@ -55,7 +55,7 @@ pub record StandsAs (x y : PortStanding) : Type 0 where
 -- `said` is what was handled of it, the newest first.
 pub record PortAfter (s : Settings) (e : Event) (b : Batch) (v : Lists) (p : ℕ) (outs : List LinkOut)
     (current : Option ℕ) (x : PortStanding) (said : List Outbound) : Type 0 where
-  pub told : told_port p b ≡ outs
+  pub told : outs_to_port p b ≡ outs
   pub link : (lists_after s e b v).port_link p ≡ current
   pub stands : StandsAs (port_standing s (lists_after s e b v) p) x
   pub heard : handled p (lists_after s e b v).turns ≡ said
