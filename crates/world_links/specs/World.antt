@@ -1,7 +1,7 @@
 -- The closed world: one gateway with its settings, a market for each port, clients of whom nothing is assumed, and the
 -- connections between the gateway and its markets, which may be lost with anything on their way. What each step does,
 -- with the batch that the gateway gives to its event. (SoupBinTCP 3.00, "SoupBinTCP Session"; OUCH 4.2, "Overview".)
-use Rattle.std.specs.Prelude.{◌≡◌, ℕ, ◌+◌, ◌==◌, Bool, true, false, nat_lt, List, [], ◌∷◌, ◌++◌, drop}
+use Rattle.std.specs.Prelude.{◌≡◌, ℕ, ◌+◌, ◌==◌, Bool, true, false, List, [], ◌∷◌, ◌++◌, drop}
 use Rattle.std.specs.Prelude.{Option, Some, None, if◌then◌else◌}
 use Rattle.std.specs.List.{list_any}
 use Rattle.market_law.specs.order_law.ouch_codec.declared.inbound.Inbound.{Inbound}
@@ -10,6 +10,7 @@ use Rattle.session_law.specs.fix_types.Application.{message_fields}
 use Rattle.session_law.specs.Runs.{OnMessage}
 use Rattle.soup_packets.specs.declared.packet.Packet.{Packet}
 use Rattle.soup_packets.specs.Spelling.{packet_bytes}
+use Rattle.soup_session.specs.Table.{later}
 use Rattle.order_law.specs.History.{Came, OrderEvent, Asked, accepted, asks_of, entry_at, handled, issued, outstanding}
 use Rattle.market_law.specs.declared.choice.Choice.{Choice}
 use Rattle.market_law.specs.Machine.{Machine}
@@ -109,33 +110,34 @@ with_connection p c w = record w { connections = at_port p (Some c) w.connection
 
 -- What the messages ask that an event sends to a port, one after another: all that is outstanding, where a packet
 -- brings the port up; what a client's message asks that the client's session delivers. (No other event sends any.)
-abbrev asked_by_app : Settings → ℕ → ℕ → Lists → Option AppMsg → List Asked
-asked_by_app s client p v None = []
-asked_by_app s client p v (Some app) = asks_of (terms s) p (entry_at (terms s) came v.turns) (accepted (terms s) v.turns)
-    (issued client v.turns) (handled p v.turns)
+abbrev asks_by_app : Settings → ℕ → ℕ → Lists → Option AppMsg → List Asked
+asks_by_app s client p v None = []
+asks_by_app s client p v (Some app) =
+    asks_of (terms s) p (entry_at (terms s) came v.turns) (accepted (terms s) v.turns) (issued client v.turns)
+    (handled p v.turns)
   where
     came : OrderEvent
     came = Came client (message_fields app)
         (stands_of (port_state s (port_of s client) (v.port_calls (port_of s client))))
 
-unfoldable pub asked_by : Settings → Event → Lists → ℕ → List Asked
-asked_by s (ClientUp client link at) v p = []
-asked_by s (ClientMessage client link at frame) v p = asked_by_app s client p v
+unfoldable pub asked_by_event : Settings → Event → Lists → ℕ → List Asked
+asked_by_event s (ClientUp client link at) v p = []
+asked_by_event s (ClientMessage client link at frame) v p = asks_by_app s client p v
     (client_answer s client (v.client_calls client) (at, OnMessage frame)).app
-asked_by s (ClientGone client link at) v p = []
-asked_by s (ClientTick client at) v p = []
-asked_by s (PortUp q link at) v p = []
-asked_by s (PortPacket q link at packet) v p = outstanding (terms s) p v.turns
-asked_by s (PortGone q link at) v p = []
-asked_by s (PortTick q at) v p = []
+asked_by_event s (ClientGone client link at) v p = []
+asked_by_event s (ClientTick client at) v p = []
+asked_by_event s (PortUp q link at) v p = []
+asked_by_event s (PortPacket q link at packet) v p = outstanding (terms s) p v.turns
+asked_by_event s (PortGone q link at) v p = []
+asked_by_event s (PortTick q at) v p = []
 
-abbrev pub first_of : List Asked → Option Asked
-first_of [] = None
-first_of (a ∷ asks) = Some a
+abbrev pub next_asked : List Asked → Option Asked
+next_asked [] = None
+next_asked (a ∷ asks) = Some a
 
 -- the packet, if it is for this link
 abbrev pub for_link : Bool → List ℕ → List Asked → List Carried
-for_link true bytes asks = record { bytes = bytes; asks = first_of asks } ∷ []
+for_link true bytes asks = record { bytes = bytes; asks = next_asked asks } ∷ []
 for_link false bytes asks = []
 
 -- the packets that a batch writes to a link, each with what it asks
@@ -154,7 +156,7 @@ told_connection p outs asks (Some c) w =
 -- the port that a batch is for, if there is one
 abbrev pub told_port : Settings → Event → Lists → List LinkOut → Option ℕ → World → World
 told_port s e v outs None w = w
-told_port s e v outs (Some p) w = told_connection p outs (asked_by s e v p) (w.connections p) w
+told_port s e v outs (Some p) w = told_connection p outs (asked_by_event s e v p) (w.connections p) w
 
 abbrev pub core_steps : Settings → Event → Batch → World → World
 core_steps s e b w = told_port s e (lists s w.history) b.port_out b.port
@@ -167,10 +169,10 @@ abbrev pub goes_out : List Packet → Option Connection → Option Connection
 goes_out packets None = None
 goes_out packets (Some c) = Some (record c { to_core = c.to_core ++ packets })
 
-abbrev pub arrives : Option Asked → List Move → Machine → List Arrival → List Arrival
-arrives None moves m earlier = earlier
-arrives (Some a) [] m earlier = earlier
-arrives (Some a) (move ∷ moves) m earlier = record { asks = a; before = m } ∷ earlier
+abbrev pub arrived_with : Option Asked → List Move → Machine → List Arrival → List Arrival
+arrived_with None moves m earlier = earlier
+arrived_with (Some a) [] m earlier = earlier
+arrived_with (Some a) (move ∷ moves) m earlier = record { asks = a; before = m } ∷ earlier
 
 -- `read` is what is read of the payload of its packet, `asks` what that asks
 abbrev pub market_steps : ℕ → SimEvent → Option Inbound → Option Asked → World → World
@@ -178,7 +180,7 @@ market_steps p e read asks w = record w {
   markets = at_port p (sim_step (w.markets p) e read).state w.markets;
   connections = at_port p (goes_out (sim_step (w.markets p) e read).packets (w.connections p)) w.connections;
   moves = at_port p (moves_by (w.markets p) e read ++ w.moves p) w.moves;
-  arrived = at_port p (arrives asks (moves_by (w.markets p) e read) (w.markets p).book (w.arrived p)) w.arrived;
+  arrived = at_port p (arrived_with asks (moves_by (w.markets p) e read) (w.markets p).book (w.arrived p)) w.arrived;
 }
 
 -- ---- which steps can be taken, and the event that the gateway gets
@@ -204,16 +206,13 @@ moment_of (PortPacket p link at packet) = at
 moment_of (PortGone p link at) = at
 moment_of (PortTick p at) = at
 
-abbrev pub later : ℕ → ℕ → ℕ
-later m n = if nat_lt m n then n else m
-
 -- the gateway steps an event, and gives some batch
-pub record Gets (s : Settings) (e : Event) (w after : World) : Type 0 where
+pub record CoreGets (s : Settings) (e : Event) (w after : World) : Type 0 where
   pub batch : Batch
   pub is_after : after ≡ core_steps s e batch w
 
 -- a packet is delivered to a market, which reads it
-pub record Reads (p : ℕ) (x : Carried) (choice : Choice) (w after : World) : Type 0 where
+pub record MarketGets (p : ℕ) (x : Carried) (choice : Choice) (w after : World) : Type 0 where
   pub packet : Packet
   pub is_packet : packet_bytes packet ≡ x.bytes
   pub read : Option Inbound
@@ -223,13 +222,13 @@ pub record Reads (p : ℕ) (x : Carried) (choice : Choice) (w after : World) : T
 -- ---- a step is one of these; one that can't be taken changes nothing
 
 abbrev pub ConnectOf : Settings → ℕ → Option Connection → World → World → Type 0
-ConnectOf s p None w after = Gets s (PortUp p (w.links p + 1) w.now) (connected p w) after
+ConnectOf s p None w after = CoreGets s (PortUp p (w.links p + 1) w.now) (connected p w) after
 ConnectOf s p (Some c) w after = after ≡ w
 
 abbrev pub DeliversToMarket : ℕ → Choice → Connection → List Carried → World → World → Type 0
 DeliversToMarket p choice c [] w after = after ≡ w
 DeliversToMarket p choice c (x ∷ rest) w after =
-    Reads p x choice (with_connection p (record c { to_market = rest }) w) after
+    MarketGets p x choice (with_connection p (record c { to_market = rest }) w) after
 
 abbrev pub ToMarketOf : ℕ → Choice → Option Connection → World → World → Type 0
 ToMarketOf p choice None w after = after ≡ w
@@ -238,7 +237,7 @@ ToMarketOf p choice (Some c) w after = DeliversToMarket p choice c c.to_market w
 abbrev pub DeliversToCore : Settings → ℕ → Connection → List Packet → World → World → Type 0
 DeliversToCore s p c [] w after = after ≡ w
 DeliversToCore s p c (packet ∷ rest) w after =
-    Gets s (PortPacket p c.link w.now packet) (with_connection p (record c { to_core = rest }) w) after
+    CoreGets s (PortPacket p c.link w.now packet) (with_connection p (record c { to_core = rest }) w) after
 
 abbrev pub ToCoreOf : Settings → ℕ → Option Connection → World → World → Type 0
 ToCoreOf s p None w after = after ≡ w
@@ -246,28 +245,28 @@ ToCoreOf s p (Some c) w after = DeliversToCore s p c c.to_core w after
 
 abbrev pub LoseOf : Settings → ℕ → Option Connection → World → World → Type 0
 LoseOf s p None w after = after ≡ w
-LoseOf s p (Some c) w after = Gets s (PortGone p c.link w.now) (ended p w) after
+LoseOf s p (Some c) w after = CoreGets s (PortGone p c.link w.now) (ended p w) after
 
 -- a client's event or a tick, with its own moment
 abbrev pub ClientOf : Settings → Event → Bool → World → World → Type 0
 ClientOf s e false w after = after ≡ w
-ClientOf s e true w after = Gets s e (record w { now = later w.now (moment_of e) }) after
+ClientOf s e true w after = CoreGets s e (record w { now = later w.now (moment_of e) }) after
 
 -- a step on a port, where the settings have it
-abbrev pub OnPort : Bool → Type 0 → World → World → Type 0
-OnPort true does w after = does
-OnPort false does w after = after ≡ w
+abbrev pub ForPort : Bool → Type 0 → World → World → Type 0
+ForPort true does w after = does
+ForPort false does w after = after ≡ w
 
 -- what a step makes of a world
 abbrev pub Happens : Settings → WorldStep → World → World → Type 0
 Happens s (Client e) w after = ClientOf s e (is_clients e) w after
-Happens s (Connect p) w after = OnPort (has_port s p) (ConnectOf s p (w.connections p) w after) w after
+Happens s (Connect p) w after = ForPort (has_port s p) (ConnectOf s p (w.connections p) w after) w after
 Happens s (ToMarket p choice) w after =
-    OnPort (has_port s p) (ToMarketOf p choice (w.connections p) w after) w after
-Happens s (ToCore p) w after = OnPort (has_port s p) (ToCoreOf s p (w.connections p) w after) w after
+    ForPort (has_port s p) (ToMarketOf p choice (w.connections p) w after) w after
+Happens s (ToCore p) w after = ForPort (has_port s p) (ToCoreOf s p (w.connections p) w after) w after
 Happens s (Act p choice) w after =
-    OnPort (has_port s p) (after ≡ market_steps p (sims.Act choice) None None w) w after
-Happens s (Lose p) w after = OnPort (has_port s p) (LoseOf s p (w.connections p) w after) w after
+    ForPort (has_port s p) (after ≡ market_steps p (sims.Act choice) None None w) w after
+Happens s (Lose p) w after = ForPort (has_port s p) (LoseOf s p (w.connections p) w after) w after
 
 -- these steps, the newest first, lead from the opening world to this one
 abbrev pub LeadsTo : Settings → List WorldStep → World → Type 0
