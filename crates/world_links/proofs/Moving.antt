@@ -37,7 +37,7 @@ not-handled newer handled =
     ∙ ap (map outbound_bytes) (drop-front (reverse handled) (reverse newer) (length handled) (length-reverse handled))
 
 -- one message at most is the same either way round
-few-reversed : (xs : List Outbound) → length xs ≤ 1 → reverse xs ≡ xs
+pub few-reversed : (xs : List Outbound) → length xs ≤ 1 → reverse xs ≡ xs
 few-reversed [] few = refl
 few-reversed (x ∷ []) few = refl
 few-reversed (x ∷ y ∷ xs) few = absurd (omega (arith, few))

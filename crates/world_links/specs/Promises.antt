@@ -1,11 +1,11 @@
 -- What holds of every world that steps lead to: no batch has a fault; each order is entered, and each replace is made,
 -- at most once, and the Cancel Orders of one request find at most one token live; no more is executed and open than was
 -- accepted; and at rest each client has read what the market's book has.
-use Rattle.std.specs.Prelude.{◌≡◌, ℕ, ◌+◌, ◌≤◌, ◌&&◌, ◌||◌, true, List, [], ◌∷◌, filter, length, map, max, Option, Some}
+use Rattle.std.specs.Prelude.{◌≡◌, ℕ, ◌+◌, ◌≤◌, ◌&&◌, ◌||◌, true, List, filter, length, map, max, Some}
 use Rattle.std.specs.Prelude.{None, bytes_eq, fold, is_some}
 use Rattle.order_law.specs.Asks.{total_of}
 use Rattle.order_law.specs.Headline.{Each}
-use Rattle.order_law.specs.History.{Asked, Entry, OrderHistory, SaysCancel, accepted, handled, is_new_order, issued}
+use Rattle.order_law.specs.History.{Entry, OrderHistory, SaysCancel, accepted, handled, is_new_order, issued}
 use Rattle.order_law.specs.History.{token_of}
 use Rattle.order_law.specs.Lawful.{order_of_token}
 use Rattle.order_law.specs.Reading.{reading}

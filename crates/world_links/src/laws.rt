@@ -1,7 +1,7 @@
-//! What each end of a link makes of what the other one writes.
+//! What each end of a link makes of what the other one writes, and what holds of every world that steps lead to.
 
 ghost use Rattle.std.specs.Prelude.{ℕ, ◌≡◌, ◌<◌, ◌≤◌, ◌+◌, ◌^◌, ◌⊎◌, List, [], ◌++◌, drop, length, map, reverse};
-ghost use Rattle.std.specs.Prelude.{Option, Ok, Some};
+ghost use Rattle.std.specs.Prelude.{Option, Ok, Some, true};
 ghost use Rattle.ouch_codec.specs.declared.inbound.Inbound.{Inbound};
 ghost use Rattle.ouch_codec.specs.declared.outbound.Outbound.{Outbound};
 ghost use Rattle.ouch_codec.specs.declared.outbound.Outbound.TheVariants as market;
@@ -14,7 +14,13 @@ ghost use Rattle.market_law.specs.Run.{Move};
 ghost use Rattle.market_sim.specs.Outbound.{outbound_bytes};
 ghost use Rattle.market_sim.specs.Sim.{SimState, accepts_login, login_number, market_session, opening_sim, sim_step};
 ghost use Rattle.market_sim.specs.declared.event.SimEvent.{SimEvent};
+ghost use Rattle.gate_law.specs.Settings.{Settings, terms};
+ghost use Rattle.gate_law.specs.Limits.{is_served};
+ghost use Rattle.gate_law.specs.Holds.{Holds};
+ghost use Rattle.order_machine.specs.Runs.{IsTableRun};
 ghost use Rattle.world_links.specs.Moves.{IsAfterMoves, moves_by};
+ghost use Rattle.world_links.specs.Promises.{AsksOnce, NoFaults, RestsAlike, StayWithin, turns_of};
+ghost use Rattle.world_links.specs.World.{LeadsTo, World, WorldStep};
 
 /// What a market's message is written as is decoded as the message. It does nothing: its contract is the law.
 pub fn written_messages_are_decoded()
@@ -51,4 +57,31 @@ pub fn markets_are_runs_of_the_machine()
     ensures first { IsAfterMoves [] opening_sim }
     ensures step { (moves : List Move) (s : SimState) (e : SimEvent) (read : Option Inbound) → IsAfterMoves moves s
         → IsAfterMoves (moves_by s e read ++ moves) (sim_step s e read).state }
+{}
+
+/// In every world that steps lead to, no batch of the gateway has a fault. It does nothing: its contract is the law.
+pub fn no_batch_has_a_fault()
+    ensures { (s : Settings) (steps : List WorldStep) (w : World) → is_served s ≡ true → LeadsTo s steps w
+        → Holds s w.history → IsTableRun (terms s) (turns_of s w) → NoFaults w.history }
+{}
+
+/// There, each new order enters its market at most once, and each replace replaces at most once, with the terms that
+/// were asked. It does nothing: its contract is the law.
+pub fn what_is_asked_is_done_once()
+    ensures { (s : Settings) (steps : List WorldStep) (w : World) → is_served s ≡ true → LeadsTo s steps w
+        → Holds s w.history → IsTableRun (terms s) (turns_of s w) → (p : ℕ) → AsksOnce s w p }
+{}
+
+/// There, what is executed and open of an order in a market's book is at most the greatest quantity that was accepted
+/// for it. It does nothing: its contract is the law.
+pub fn orders_stay_within_what_was_accepted()
+    ensures { (s : Settings) (steps : List WorldStep) (w : World) → is_served s ≡ true → LeadsTo s steps w
+        → Holds s w.history → IsTableRun (terms s) (turns_of s w) → (p : ℕ) → StayWithin s w p }
+{}
+
+/// There, once all that a port's market said is handled, what each client read of an order of the port is what the
+/// market's book has of it. It does nothing: its contract is the law.
+pub fn at_rest_both_agree()
+    ensures { (s : Settings) (steps : List WorldStep) (w : World) → is_served s ≡ true → LeadsTo s steps w
+        → Holds s w.history → IsTableRun (terms s) (turns_of s w) → (p : ℕ) → RestsAlike s w p }
 {}
