@@ -16,9 +16,9 @@ use Rattle.world_law.proofs.AtRest.{at-rest}
 use Rattle.world_law.proofs.Homes.{always-of-orders}
 use Rattle.world_law.proofs.NoFault.{once, told}
 use Rattle.world_links.specs.World.{LeadsTo, World, WorldStep}
-use Rattle.world_links.specs.Promises.{AsksOnce, NoFaults, RestsAlike, StayWithin, turns_of}
+use Rattle.world_links.specs.Promises.{AsksOnce, FillsOrKills, NoFaults, RestsAlike, StayWithin, turns_of}
 use Rattle.world_links.proofs.Good.{IsGood, turns-short}
-use Rattle.world_links.proofs.Shares.{stays-within}
+use Rattle.world_links.proofs.Shares.{stays-within, trades-all}
 use Rattle.world_links.proofs.Worlds.{worlds-good}
 
 module _ (s : Settings) (steps : List WorldStep) (w : World) (served : is_served s ≡ true) (leads : LeadsTo s steps w) (holds : Holds s w.history) (run : IsTableRun (terms s) (turns_of s w)) where
@@ -50,3 +50,6 @@ module _ (s : Settings) (steps : List WorldStep) (w : World) (served : is_served
 
   pub stay-within : (p : ℕ) → StayWithin s w p
   stay-within p = stays-within (terms s) p (turns_of s w) (always-of-orders (terms s) (turns_of s w) run.0 short run.1 p) (w.moves p) (all-good.good p).came
+
+  pub fills-or-kills : (p : ℕ) → FillsOrKills s w p
+  fills-or-kills p = trades-all (terms s) p (turns_of s w) (always-of-orders (terms s) (turns_of s w) run.0 short run.1 p) (w.moves p) (all-good.good p).came

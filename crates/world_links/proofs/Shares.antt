@@ -1,5 +1,5 @@
 -- What is executed and open of an order in a market's book is at most the greatest quantity that was accepted for it.
-use Rattle.std.proofs.Common.{◌≡◌, ◌≤◌, ◌+◌, ◌==◌, ℕ, max, Bool, true, false, List, [], ◌∷◌, ◌++◌, map, filter, length, drop, nat_le, refl, sym, ap, ◌∙◌, subst, arith, bytes_eq, codes, Option, Some, None}
+use Rattle.std.proofs.Common.{◌≡◌, ◌≤◌, ◌+◌, ◌==◌, ℕ, max, Bool, true, false, List, [], ◌∷◌, ◌++◌, map, filter, length, drop, nat_le, refl, sym, ap, ◌∙◌, ◌⊎◌, subst, arith, bytes_eq, codes, Option, Some, None}
 use Rattle.std.proofs.lemmas.Bool.{cond-true}
 use Rattle.std.specs.Prelude.{◌&&◌, ◌||◌, if◌then◌else◌, fold, option_map, option_to_list, slice_index}
 use Rattle.std.specs.Str.Parse.{digits_value}
@@ -13,7 +13,7 @@ use Rattle.order_law.specs.ouch_codec.Inbound.{inbound_bytes}
 use Rattle.order_law.specs.ouch_codec.Layout.{is_message}
 use Rattle.order_law.specs.ouch_codec.Layouts.{enter_order_layout, replace_layout}
 use Rattle.order_law.specs.ouch_codec.ToMarket as said
-use Rattle.order_law.specs.Asks.{Ask, New, Change, LifeTime, Limits, Standing, ask_of_bytes, ask_of_enter, ask_of_replace, asked_by_new, asked_by_request, life_time_of_seconds, limits_of, side_of_letter, total_of}
+use Rattle.order_law.specs.Asks.{Ask, New, Change, LifeTime, Limits, Standing, ask_of_bytes, ask_of_enter, ask_of_replace, asked_by_new, asked_by_request, life_time_of_seconds, limits_of, minimum_of, side_of_letter, total_of}
 use Rattle.order_law.specs.History.{Asked, Entry, OrderHistory, Said, SaysNew, SaysReplace, SaysCancel, Terms, accepted, asks, asks_of, entry_at, handled, is_new_order, issued, last_token, life_of, new_of, pending_tokens, terms_of, token_of}
 use Rattle.order_law.specs.Chain.{chain}
 use Rattle.order_law.specs.Life.{live}
@@ -21,12 +21,14 @@ use Rattle.order_law.specs.Lawful.{order_of_token}
 use Rattle.order_law.specs.Headline.{Each}
 use Rattle.order_law.specs.Verdicts.{is_replace}
 use Rattle.order_machine.proofs.Lists.{found-passes}
-use Rattle.fix_fields.specs.Field.{Message, text}
+use Rattle.fix_fields.specs.Field.{is, Message, text}
 use Rattle.market_law.specs.Machine.{BookOrder}
-use Rattle.market_law.specs.Moves.{IsSmall, IsWithin}
+use Rattle.market_law.specs.Moves.{IsAllOrNothing, IsSmall, IsWithin}
 use Rattle.market_law.specs.Run.{Move, Comes, Acts, ran}
-use Rattle.market_law.proofs.Basics.{and-parts, each-all, each-join, eq-is, eq-same, or-right}
+use Rattle.market_law.proofs.Basics.{and-parts, each-all, each-both, each-join, eq-is, eq-same, or-right}
 use Rattle.market_law.proofs.Bounds.{ran-within}
+use Rattle.market_law.proofs.Says.{IsPlaced, ran-told}
+use Rattle.market_law.proofs.Theorems.{whole}
 use Rattle.world_law.specs.Asked.{AlwaysOfOrders, CameAsked, TokensLead, WasAsked, asked, leads, sender}
 use Rattle.world_law.proofs.Members.{each-in}
 use Rattle.world_law.proofs.NoFault.{known-moves}
@@ -159,7 +161,8 @@ second-of true b x y z e f = absurd (cc)
 second-of false true x y z e f = refl
 second-of false false x y z e f = absurd (cc)
 
-enter-shares : (standing : Standing) (m : List ℕ) (side : ℕ) (symbol : List ℕ) (limits : Limits) (capacity : ℕ) → ask_of_enter standing m ≡ Some (New side symbol limits capacity) → said.enter_shares m ≡ limits.total
+enter-shares : (standing : Standing) (m : List ℕ) (side : ℕ) (symbol : List ℕ) (limits : Limits) (capacity : ℕ) → ask_of_enter standing m ≡ Some (New side symbol limits capacity)
+    → (said.enter_shares m ≡ limits.total) × (said.enter_minimum m ≡ limits.minimum)
 enter-shares standing m side symbol limits capacity e = by_side (side_of_letter (said.enter_side m)) (life_time_of_seconds (said.enter_time_in_force m)) refl refl
   where
     stands : Bool
@@ -168,15 +171,15 @@ enter-shares standing m side symbol limits capacity e = by_side (side_of_letter 
         && (said.enter_customer m == standing.customer
         && (said.enter_sweep m == slice_index (codes "N") 0 && said.enter_cross m == slice_index (codes "N") 0))
 
-    by_standing : (s : ℕ) (l : LifeTime) (b : Bool) → side_of_letter (said.enter_side m) ≡ Some s → life_time_of_seconds (said.enter_time_in_force m) ≡ Some l → stands ≡ b → said.enter_shares m ≡ limits.total
+    by_standing : (s : ℕ) (l : LifeTime) (b : Bool) → side_of_letter (said.enter_side m) ≡ Some s → life_time_of_seconds (said.enter_time_in_force m) ≡ Some l → stands ≡ b → (said.enter_shares m ≡ limits.total) × (said.enter_minimum m ≡ limits.minimum)
     by_standing s l true is_s is_l is_b =
         let x : Some (New s (said.enter_stock m) (record { total = said.enter_shares m; limit = said.enter_price m; life_time = l; minimum = said.enter_minimum m; display = said.enter_display m }) (said.enter_capacity m)) ≡ Some (New side symbol limits capacity) = rw (is_s, is_l, is_b) at e in
         let same : record { total = said.enter_shares m; limit = said.enter_price m; life_time = l; minimum = said.enter_minimum m; display = said.enter_display m } ≡ limits = cc in
-        ap (λ (k : Limits). k.total) same
+        (ap (λ (k : Limits). k.total) same, ap (λ (k : Limits). k.minimum) same)
     by_standing s l false is_s is_l is_b =
         let x : ◌≡◌ {A = Option Ask} None (Some (New side symbol limits capacity)) = rw (is_s, is_l, is_b) at e in absurd (cc)
 
-    by_side : (s : Option ℕ) (l : Option LifeTime) → side_of_letter (said.enter_side m) ≡ s → life_time_of_seconds (said.enter_time_in_force m) ≡ l → said.enter_shares m ≡ limits.total
+    by_side : (s : Option ℕ) (l : Option LifeTime) → side_of_letter (said.enter_side m) ≡ s → life_time_of_seconds (said.enter_time_in_force m) ≡ l → (said.enter_shares m ≡ limits.total) × (said.enter_minimum m ≡ limits.minimum)
     by_side None l is_s is_l = let x : ◌≡◌ {A = Option Ask} None (Some (New side symbol limits capacity)) = rw is_s at e in absurd (cc)
     by_side (Some s) None is_s is_l = let x : ◌≡◌ {A = Option Ask} None (Some (New side symbol limits capacity)) = rw (is_s, is_l) at e in absurd (cc)
     by_side (Some s) (Some l) is_s is_l = by_standing s l stands is_s is_l refl
@@ -196,13 +199,14 @@ replace-shares order_of m order limits e = by_order (order_of (said.token m)) (l
     by_order (Some k) None is_k is_l = let x : ◌≡◌ {A = Option Ask} None (Some (Change order limits)) = rw (is_k, is_l) at e in absurd (cc)
     by_order (Some k) (Some l) is_k is_l = by_sweep k l (said.replace_sweep m == slice_index (codes "N") 0) is_k is_l refl
 
--- an Enter Order asks for its shares
+-- an Enter Order asks for its shares, and for its minimum quantity
 pub enter-total : (standing : Standing) (order_of : List ℕ → Option ℕ) (order : EnterOrder) (side : ℕ) (symbol : List ℕ) (limits : Limits) (capacity : ℕ)
-    → ask_of_bytes standing order_of (inbound_bytes (ask.Enter order)) ≡ Some (New side symbol limits capacity) → order.shares ≡ limits.total
+    → ask_of_bytes standing order_of (inbound_bytes (ask.Enter order)) ≡ Some (New side symbol limits capacity) → (order.shares ≡ limits.total) × (order.minimum_quantity ≡ limits.minimum)
 enter-total standing order_of order side symbol limits capacity e =
     let w = SaysEnterOrder-written order in
-    let bytes : List ℕ = inbound_bytes (ask.Enter order) in
-    sym w.shares ∙ enter-shares standing (inbound_bytes (ask.Enter order)) side symbol limits capacity (sym (first-of (is_message enter_order_layout (inbound_bytes (ask.Enter order))) _ _ w.is_one) ∙ e)
+    let both = enter-shares standing (inbound_bytes (ask.Enter order)) side symbol limits capacity
+    (sym (first-of (is_message enter_order_layout (inbound_bytes (ask.Enter order))) _ _ w.is_one) ∙ e) in
+    (sym w.shares ∙ both.0, sym w.minimum ∙ both.1)
 
 -- a Replace Order is no Enter Order
 no-enter : (request : Replace) → is_message enter_order_layout (inbound_bytes (ask.Replace request)) ≡ false
@@ -243,7 +247,7 @@ module _ (ts : List Terms) (port : ℕ) (h : OrderHistory) (always : AlwaysOfOrd
       let o = of-order ts port w.asks h always w.there in
       let is = enter-said w.asks.said order w.says.tokens in
       let lead = subst (TokensLead ts port (accepted ts h) o.new) is o.tokens in
-      let total : order.shares ≡ total_of o.new.message = enter-total w.standing w.order_of order _ _ (limits_of o.new.message) _ (w.says.ask ∙ o.own order.token is) in
+      let total : order.shares ≡ total_of o.new.message = (enter-total w.standing w.order_of order _ _ (limits_of o.new.message) _ (w.says.ask ∙ o.own order.token is)).0 in
       let few = greatest-in w.asks.order o.new (accepted ts h) o.found in
       subst (λ (n : ℕ). order.shares ≤ n) (sym (ap limit_by lead.0.mine)) (subst (λ (k : List ℕ). order.shares ≤ greatest_total k (accepted ts h)) (sym (own-number w.asks.order o.new o.found)) (omega (arith, total, few)))
   move-small (Comes (ask.Replace request) choice) w = λ root leads_root.
@@ -265,3 +269,32 @@ module _ (ts : List Terms) (port : ℕ) (h : OrderHistory) (always : AlwaysOfOrd
       each-all (IsWithin limit) (λ (c : BookOrder). (new : Entry) → order_of_token ts port (accepted ts h) c.entered.token ≡ Some new → c.executed + c.unfilled ≤ greatest_total new.order (accepted ts h)) (ran moves).machine.book
       (λ c within new is. subst (λ (n : ℕ). c.executed + c.unfilled ≤ n) (ap limit_by is) within)
       (ran-within (leads ts port (accepted ts h)) (WasAsked ts port h) limit moves (known-moves ts port h always moves came) (each-all (CameAsked ts port h) (IsSmall (leads ts port (accepted ts h)) limit) moves move-small came))
+
+  -- ---- fill or kill
+
+  -- its shares and minimum quantity are those that its own message asks
+  entered-as : (order : EnterOrder) → WasAsked ts port h (ask.Enter order) → (new : Entry) → order_of_token ts port (accepted ts h) order.token ≡ Some new
+      → (order.shares ≡ total_of new.message) × (order.minimum_quantity ≡ minimum_of new.message)
+  entered-as order w new found =
+      let o = of-order ts port w.asks h always w.there in
+      let is = enter-said w.asks.said order w.says.tokens in
+      let lead = subst (TokensLead ts port (accepted ts h) o.new) is o.tokens in
+      let there : Some o.new ≡ Some new = sym lead.0.mine ∙ found in
+      let same : o.new ≡ new = cc in
+      subst (λ (e : Entry). (order.shares ≡ total_of e.message) × (order.minimum_quantity ≡ minimum_of e.message)) same
+      (enter-total w.standing w.order_of order _ _ (limits_of o.new.message) _ (w.says.ask ∙ o.own order.token is))
+
+  all-or-none : (c : BookOrder) → IsAllOrNothing c → IsPlaced (leads ts port (accepted ts h)) (WasAsked ts port h) c → (new : Entry) → order_of_token ts port (accepted ts h) c.entered.token ≡ Some new → is 59 (codes "4") new.message ≡ true → c.replacements ≡ []
+      → (c.executed ≡ 0) ⊎ (c.executed ≡ total_of new.message)
+  all-or-none c whole placed new found kill none =
+      let own = entered-as c.entered placed.was_entered new found in
+      let least : minimum_of new.message ≡ total_of new.message = cond-true (is 59 (codes "4") new.message) _ _ kill in
+      subst (λ (n : ℕ). (c.executed ≡ 0) ⊎ (c.executed ≡ n)) own.0 (whole none (own.1 ∙ least ∙ sym own.0))
+
+  pub trades-all : (moves : List Move) → Each (CameAsked ts port h) moves
+      → Each (λ (c : BookOrder). (new : Entry) → order_of_token ts port (accepted ts h) c.entered.token ≡ Some new → is 59 (codes "4") new.message ≡ true → c.replacements ≡ [] → (c.executed ≡ 0) ⊎ (c.executed ≡ total_of new.message)) (ran moves).machine.book
+  trades-all moves came =
+      each-all (λ (c : BookOrder). IsAllOrNothing c × IsPlaced (leads ts port (accepted ts h)) (WasAsked ts port h) c)
+      (λ (c : BookOrder). (new : Entry) → order_of_token ts port (accepted ts h) c.entered.token ≡ Some new → is 59 (codes "4") new.message ≡ true → c.replacements ≡ [] → (c.executed ≡ 0) ⊎ (c.executed ≡ total_of new.message)) (ran moves).machine.book
+      (λ c k. all-or-none c k.0 k.1)
+      (each-both IsAllOrNothing (IsPlaced (leads ts port (accepted ts h)) (WasAsked ts port h)) (ran moves).machine.book (whole moves) (ran-told (leads ts port (accepted ts h)) (WasAsked ts port h) moves (known-moves ts port h always moves came)).placed)

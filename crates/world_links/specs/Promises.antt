@@ -1,8 +1,9 @@
 -- What holds of every world that steps lead to: no batch has a fault; each order is entered, and each replace is made,
 -- at most once, and the Cancel Orders of one request find at most one token live; no more is executed and open than was
--- accepted; and at rest each client has read what the market's book has.
-use Rattle.std.specs.Prelude.{◌≡◌, ℕ, ◌+◌, ◌≤◌, ◌&&◌, ◌||◌, true, List, filter, length, map, max, Some}
+-- accepted, and of a fill-or-kill order nothing or all; and at rest each client has read what the market's book has.
+use Rattle.std.specs.Prelude.{◌≡◌, ℕ, ◌+◌, ◌≤◌, ◌&&◌, ◌||◌, ◌⊎◌, true, List, [], codes, filter, length, map, max, Some}
 use Rattle.std.specs.Prelude.{None, bytes_eq, fold, is_some}
+use Rattle.fix_fields.specs.Field.{is}
 use Rattle.order_law.specs.Asks.{total_of}
 use Rattle.order_law.specs.Headline.{Each}
 use Rattle.order_law.specs.History.{Entry, OrderHistory, SaysCancel, accepted, handled, is_new_order, issued}
@@ -63,6 +64,13 @@ StayWithin s w p = Each (λ (c : BookOrder). (new : Entry)
     → order_of_token (terms s) p (accepted (terms s) (turns_of s w)) c.entered.token ≡ Some new
     → c.executed + c.unfilled ≤ greatest_total new.order (accepted (terms s) (turns_of s w)))
     (ran (w.moves p)).machine.book
+
+-- What is executed of a fill-or-kill order (59=4) in the book, of which no replace was taken, is nothing or all of it.
+abbrev pub FillsOrKills : Settings → World → ℕ → Type 0
+FillsOrKills s w p = Each (λ (c : BookOrder). (new : Entry)
+    → order_of_token (terms s) p (accepted (terms s) (turns_of s w)) c.entered.token ≡ Some new
+    → is 59 (codes "4") new.message ≡ true → c.replacements ≡ []
+    → (c.executed ≡ 0) ⊎ (c.executed ≡ total_of new.message)) (ran (w.moves p)).machine.book
 
 -- ---- at rest
 
