@@ -79,8 +79,8 @@ pub fn orders_stay_within_what_was_accepted()
         → Holds s w.history → IsTableRun (terms s) (turns_of s w) → (p : ℕ) → StayWithin s w p }
 {}
 
-/// There, what is executed of a fill-or-kill order in a market's book, of which no replace was taken, is nothing or all
-/// of it. It does nothing: its contract is the law.
+/// There, what is executed of a fill-or-kill order of which no replace was accepted is nothing or all of it: in the
+/// market's book, and at rest in what its client read. It does nothing: its contract is the law.
 pub fn fill_or_kill_executes_all_or_nothing()
     ensures { (s : Settings) (steps : List WorldStep) (w : World) → is_served s ≡ true → LeadsTo s steps w
         → Holds s w.history → IsTableRun (terms s) (turns_of s w) → (p : ℕ) → FillsOrKills s w p }
