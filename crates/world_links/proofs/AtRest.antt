@@ -19,7 +19,8 @@ use Rattle.world_law.proofs.Homes.{always-of-orders}
 use Rattle.world_law.proofs.NoFault.{once, told}
 use Rattle.world_law.proofs.Totals.{stays-within}
 use Rattle.world_links.specs.World.{LeadsTo, World, WorldStep}
-use Rattle.world_links.specs.Promises.{AsksOnce, FillsOrKills, IsAtRest, NoFaults, RestsAlike, StayWithin, turns_of}
+use Rattle.world_core.specs.Ports.{NoFaults}
+use Rattle.world_links.specs.Promises.{AsksOnce, FillsOrKills, IsAtRest, RestsAlike, StayWithin, turns_of}
 use Rattle.world_links.proofs.Good.{IsGood, turns-short}
 use Rattle.world_links.proofs.Worlds.{worlds-good}
 

@@ -12,7 +12,6 @@ use Rattle.market_law.specs.Rows.{row}
 use Rattle.market_law.specs.Run.{ran}
 use Rattle.market_law.specs.Said.{EachSaid, names}
 use Rattle.gate_law.specs.Settings.{Settings, port_of, terms}
-use Rattle.gate_law.specs.Events.{History, Turn}
 use Rattle.gate_law.specs.After.{order_turns}
 use Rattle.world_law.specs.Asked.{IsIn, WasAsked, leads}
 use Rattle.world_law.specs.FillOrKill.{AllOrNone, IsFillOrKill}
@@ -23,10 +22,6 @@ use Rattle.world_links.specs.World.{Arrival, World}
 -- the order level's turns of a world
 abbrev pub turns_of : Settings → World → OrderHistory
 turns_of s w = order_turns s w.history
-
--- no batch has a fault
-abbrev pub NoFaults : History → Type 0
-NoFaults h = Each (λ (t : Turn). t.batch.fault ≡ None) h
 
 -- ---- what a port's market is asked, it does at most once
 

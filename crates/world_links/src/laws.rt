@@ -19,7 +19,8 @@ ghost use Rattle.gate_law.specs.Limits.{is_served};
 ghost use Rattle.gate_law.specs.Holds.{Holds};
 ghost use Rattle.order_machine.specs.Runs.{IsTableRun};
 ghost use Rattle.world_links.specs.Moves.{IsAfterMoves, moves_by};
-ghost use Rattle.world_links.specs.Promises.{AsksOnce, FillsOrKills, NoFaults, RestsAlike, StayWithin, turns_of};
+ghost use Rattle.world_core.specs.Ports.{NoFaults};
+ghost use Rattle.world_links.specs.Promises.{AsksOnce, FillsOrKills, RestsAlike, StayWithin, turns_of};
 ghost use Rattle.world_links.specs.World.{LeadsTo, World, WorldStep};
 
 /// What a market's message is written as is decoded as the message. It does nothing: its contract is the law.
