@@ -1,5 +1,6 @@
 //! How a gateway that runs is told to end.
 
+use decimal_digits::{are_digits, number_of};
 use std::alloc::Global;
 use std::io::{ErrorKind, Read, Write};
 use std::net::{Net, TcpListener, TcpStream, ToSocketAddrs};
@@ -130,20 +131,9 @@ fn asked<R: Net<Listener = TcpListener, Stream = TcpStream>>(
 
 /// The status of an answer: three digits behind `HTTP/1.1` and a space.
 fn status_in(answer: &[u8]) -> Option<u16> {
-    let [a, b, c, ..] = answer.strip_prefix(b"HTTP/1.1 ")? else {
+    let digits = answer.strip_prefix(b"HTTP/1.1 ")?.get(..3)?;
+    if !are_digits(digits) {
         return None;
-    };
-    let hundreds = digit(*a)?;
-    let tens = digit(*b)?;
-    let ones = digit(*c)?;
-    Some(hundreds * 100 + tens * 10 + ones)
-}
-
-/// A digit's number.
-fn digit(byte: u8) -> Option<u16> {
-    if byte.is_ascii_digit() {
-        Some(u16::from(byte - b'0'))
-    } else {
-        None
     }
+    u16::try_from(number_of(digits)?).ok()
 }

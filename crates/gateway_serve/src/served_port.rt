@@ -125,6 +125,7 @@ impl<'a, R: Clock + Eprint> ServedPort<'a, R> {
 }
 
 /// Why a port can't be connected, and when it is tried again.
+#[derive(Drop)]
 struct Unreachable<'a> {
     address: &'a str,
     error: &'a io::Error,
@@ -139,6 +140,7 @@ impl<'a> Display for Unreachable<'a> {
 }
 
 /// That a port is up.
+#[derive(Drop)]
 struct UpAt<'a>(&'a str);
 
 impl<'a> Display for UpAt<'a> {

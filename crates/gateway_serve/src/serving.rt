@@ -42,8 +42,8 @@ where
         + 'static,
 {
     let Bound { clients, control } = bound;
-    let asked = Arc::new(alloc, DayControl::new())?;
-    let flags = Arc::new(alloc, DayFlags::new())?;
+    let asked = control_of(alloc)?;
+    let flags = flags_of(alloc)?;
     let endpoint = match control {
         Some((listener, rules)) => serve_endpoint(rt, alloc, listener, rules, &asked)?,
         None => None,
@@ -58,6 +58,16 @@ where
     ender.join(rt);
     join_endpoint(rt, endpoint);
     ran
+}
+
+/// What is asked of a day, for whoever asks and whoever looks.
+fn control_of(alloc: Global) -> Result<Arc<DayControl>, AllocError> {
+    Ok(Arc::new(alloc, DayControl::new())?)
+}
+
+/// The flags of a day, for whoever sets and whoever looks.
+fn flags_of(alloc: Global) -> Result<Arc<DayFlags>, AllocError> {
+    Ok(Arc::new(alloc, DayFlags::new())?)
 }
 
 /// Waits for the endpoint's threads, where there are any.

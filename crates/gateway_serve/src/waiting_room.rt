@@ -198,6 +198,7 @@ fn looked<R: Clock>(rt: &R, silent: &Silent) -> Look {
 }
 
 /// That a client's link is up.
+#[derive(Drop)]
 struct UpFrom {
     peer: SocketAddr,
     in_vain: u64,

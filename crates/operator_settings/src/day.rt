@@ -1,6 +1,7 @@
 //! `[day]`.
 
-ghost use Rattle.std.specs.Prelude.{◌<◌, ◌≤◌, ForSome, IfSome};
+ghost use Rattle.std.specs.Option.{ForSome};
+ghost use Rattle.std.specs.Prelude.{◌<◌, ◌≤◌, IfSome};
 
 use crate::fault::{OperatorFault, refused};
 use crate::keys::other_key;

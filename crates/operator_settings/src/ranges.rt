@@ -88,6 +88,6 @@ fn agree(one: &[u8], other: &[u8], bits: u32) -> bool {
     if bits >= 8 {
         a == b && agree(one, other, bits - 8)
     } else {
-        a >> (8 - bits) == b >> (8 - bits) || bits == 0
+        bits == 0 || a >> (8 - bits) == b >> (8 - bits)
     }
 }
