@@ -1,38 +1,29 @@
 -- What becomes of a request to the control endpoint: the first row that holds counts.
 --
 -- Source: RFC 9110, 7.2 "Host and :authority", 11.6.2 "Authorization"; RFC 6454, 7 "The HTTP Origin Header Field".
-use Rattle.std.specs.Prelude.{ℕ, Bool, true, false, not, ◌&&◌, List, ◌++◌, map, codes, bytes_eq, Option, Some, None}
-use Rattle.std.specs.Prelude.{option_map, if◌then◌else◌}
+use Rattle.std.specs.Prelude.{ℕ, Bool, true, false, not, ◌&&◌, List, ◌++◌, map, codes, bytes_eq, Option, Some}
+use Rattle.std.specs.Prelude.{None, option_map, if◌then◌else◌}
 use Rattle.std.specs.List.{list_any}
 use Rattle.control_guard.specs.declared.request.Request.{Request}
 use Rattle.control_guard.specs.declared.request.Rules.{Rules}
 use Rattle.control_guard.specs.declared.request.Method.{Method}
 use Rattle.control_guard.specs.declared.request.Method.TheVariants as methods
-use Rattle.control_guard.specs.declared.path.Shown.{Shown}
-use Rattle.control_guard.specs.declared.path.Shown.TheVariants as shown
 use Rattle.control_guard.specs.declared.path.Act.{Act}
 use Rattle.control_guard.specs.declared.path.Act.TheVariants as acts
-use Rattle.control_guard.specs.declared.path.Asked.{Asked}
-use Rattle.control_guard.specs.declared.path.Asked.TheVariants.{Sight, Deed}
 use Rattle.control_guard.specs.declared.table.Verdict.{Verdict}
-use Rattle.control_guard.specs.declared.table.Verdict.TheVariants.{Shows, Does, Refused}
+use Rattle.control_guard.specs.declared.table.Verdict.TheVariants.{Does, Refused}
 use Rattle.control_guard.specs.declared.table.Refusal.TheVariants as refusals
 
 -- ---- what is asked, by path and query
 
-abbrev pub asked_plainly : List ℕ → Option Asked
-asked_plainly path =
-    if bytes_eq path (codes "/") then Some (Sight shown.Page)
-    else if bytes_eq path (codes "/status.json") then Some (Sight shown.Json)
-    else if bytes_eq path (codes "/metrics") then Some (Sight shown.Metrics)
-    else if bytes_eq path (codes "/end") then Some (Deed acts.End)
-    else None
+abbrev pub asked_plainly : List ℕ → Option Act
+asked_plainly path = if bytes_eq path (codes "/end") then Some acts.End else None
 
-abbrev pub asked_by_query : List ℕ → List ℕ → Option Asked
+abbrev pub asked_by_query : List ℕ → List ℕ → Option Act
 asked_by_query path query =
-    if bytes_eq path (codes "/end") && bytes_eq query (codes "now") then Some (Deed acts.EndNow) else None
+    if bytes_eq path (codes "/end") && bytes_eq query (codes "now") then Some acts.EndNow else None
 
-abbrev pub asked_at : List ℕ → Option (List ℕ) → Option Asked
+abbrev pub asked_at : List ℕ → Option (List ℕ) → Option Act
 asked_at path None = asked_plainly path
 asked_at path (Some query) = asked_by_query path query
 
@@ -41,7 +32,7 @@ asked_at path (Some query) = asked_by_query path query
 -- a request as it is judged: its fields by their bytes
 pub record Sent : Type 0 where
   pub method : Method
-  pub asked : Option Asked
+  pub asked : Option Act
   pub host : Option (List ℕ)
   pub origin : Option (List ℕ)
   pub token : Option (List ℕ)
@@ -77,12 +68,6 @@ gives_token (Some wanted) (Some given) = bytes_eq given wanted
 
 -- ---- the table
 
--- what is shown is got
-abbrev pub verdict_to_see : Shown → Method → Verdict
-verdict_to_see s methods.Get = Shows s
-verdict_to_see s methods.Post = Refused refusals.WrongMethod
-verdict_to_see s methods.Other = Refused refusals.WrongMethod
-
 -- what is done is posted, and by no page of another site
 abbrev pub verdict_by : Act → Bool → Method → Verdict
 verdict_by act is_own methods.Get = Refused refusals.WrongMethod
@@ -93,10 +78,9 @@ abbrev pub verdict_to_act : Act → Own → Sent → Verdict
 verdict_to_act act own sent = verdict_by act (is_own_origin own.hosts sent.origin) sent.method
 
 -- where its host and its token are right
-abbrev pub verdict_on : Own → Sent → Option Asked → Verdict
+abbrev pub verdict_on : Own → Sent → Option Act → Verdict
 verdict_on own sent None = Refused refusals.NoSuchPath
-verdict_on own sent (Some (Sight s)) = verdict_to_see s sent.method
-verdict_on own sent (Some (Deed act)) = verdict_to_act act own sent
+verdict_on own sent (Some act) = verdict_to_act act own sent
 
 abbrev pub verdict : Own → Sent → Verdict
 verdict own sent =

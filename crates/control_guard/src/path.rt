@@ -3,17 +3,6 @@
 ghost use Rattle.std.specs.Prelude.{◌≡◌, option_map};
 ghost use Rattle.control_guard.specs.Guard as spec;
 
-/// What is shown.
-#[derive(Clone, Copy, Debug, PartialEq, Eq)]
-pub enum Shown {
-    /// The page for a browser.
-    Page,
-    /// The same numbers as JSON.
-    Json,
-    /// The same numbers in Prometheus' text format.
-    Metrics,
-}
-
 /// What is done.
 #[derive(Clone, Copy, Debug, PartialEq, Eq)]
 pub enum Act {
@@ -23,15 +12,8 @@ pub enum Act {
     EndNow,
 }
 
-/// What is asked for: to see something, or that something be done.
-#[derive(Clone, Copy, Debug, PartialEq, Eq)]
-pub enum Asked {
-    Sight(Shown),
-    Deed(Act),
-}
-
 /// What a path and its query ask for; `None` where there is no such path.
-pub(crate) fn asked_at(path: &[u8], query: Option<&[u8]>) -> Option<Asked>
+pub(crate) fn asked_at(path: &[u8], query: Option<&[u8]>) -> Option<Act>
     ensures { result ≡ spec.asked_at path.now (option_map (λ t. t.now) query.entry) }
 {
     match query {
@@ -41,28 +23,22 @@ pub(crate) fn asked_at(path: &[u8], query: Option<&[u8]>) -> Option<Asked>
 }
 
 /// What a path without a query asks for.
-fn asked_plainly(path: &[u8]) -> Option<Asked>
+fn asked_plainly(path: &[u8]) -> Option<Act>
     ensures { result ≡ spec.asked_plainly path.now }
 {
-    if path == b"/".as_slice() {
-        Some(Asked::Sight(Shown::Page))
-    } else if path == b"/status.json".as_slice() {
-        Some(Asked::Sight(Shown::Json))
-    } else if path == b"/metrics".as_slice() {
-        Some(Asked::Sight(Shown::Metrics))
-    } else if path == b"/end".as_slice() {
-        Some(Asked::Deed(Act::End))
+    if path == b"/end".as_slice() {
+        Some(Act::End)
     } else {
         None
     }
 }
 
 /// What a path with a query asks for.
-fn asked_by_query(path: &[u8], query: &[u8]) -> Option<Asked>
+fn asked_by_query(path: &[u8], query: &[u8]) -> Option<Act>
     ensures { result ≡ spec.asked_by_query path.now query.now }
 {
     if path == b"/end".as_slice() && query == b"now".as_slice() {
-        Some(Asked::Deed(Act::EndNow))
+        Some(Act::EndNow)
     } else {
         None
     }

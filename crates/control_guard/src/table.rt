@@ -4,7 +4,7 @@ ghost use Rattle.std.specs.Prelude.{◌≡◌, bytes_eq, map, option_map};
 ghost use Rattle.std.specs.List.{list_any};
 ghost use Rattle.control_guard.specs.Guard as spec;
 
-use crate::path::{Act, Asked, Shown, asked_at};
+use crate::path::{Act, asked_at};
 use crate::request::{Method, Request, Rules};
 use crate::secret::is_same_secret;
 
@@ -26,8 +26,6 @@ pub enum Refusal {
 /// What becomes of a request.
 #[derive(Clone, Copy, Debug, PartialEq, Eq)]
 pub enum Verdict {
-    /// This is shown.
-    Shows(Shown),
     /// This is done.
     Does(Act),
     /// Nothing, for this reason.
@@ -35,7 +33,7 @@ pub enum Verdict {
 }
 
 /// What becomes of a request, by the first row that holds: another host's name, no token where one is set, no such
-/// path, another method than the path's, and of what does something a page of another site. Takes no memory.
+/// path, another method than the path's, a page of another site. Takes no memory.
 pub fn judged(request: &Request<'_>, rules: &Rules) -> Verdict
     ensures { result ≡ spec.verdict (spec.own_of rules.now) (spec.sent_of request.now) }
 {
@@ -47,18 +45,7 @@ pub fn judged(request: &Request<'_>, rules: &Rules) -> Verdict
     }
     match asked_at(request.path, request.query) {
         None => Verdict::Refused(Refusal::NoSuchPath),
-        Some(Asked::Sight(shown)) => shows(shown, request.method),
-        Some(Asked::Deed(act)) => does(act, request, rules),
-    }
-}
-
-/// What becomes of a request to see something.
-fn shows(shown: Shown, method: Method) -> Verdict
-    ensures { result ≡ spec.verdict_to_see shown method }
-{
-    match method {
-        Method::Get => Verdict::Shows(shown),
-        Method::Post | Method::Other => Verdict::Refused(Refusal::WrongMethod),
+        Some(act) => does(act, request, rules),
     }
 }
 

@@ -48,10 +48,6 @@ impl<'a> Service for Answers<'a> {
         response.add_header(header::CACHE_CONTROL, HeaderValue::from_static("no-store"))?;
         match verdict_on(self.alloc, request, self.rules)? {
             Verdict::Does(act) => self.does(act, response),
-            Verdict::Shows(_) => {
-                response.status = StatusCode::NOT_FOUND;
-                Ok(())
-            }
             Verdict::Refused(refusal) => refuses(refusal, response),
         }
     }
