@@ -7,10 +7,11 @@ use gateway_run::{Day, SettingsFault, SettingsFile, audit_day, end_day, read, ru
 use journal_audit::{audit_file, script_file};
 use script_command::{audit_script, tell_refusal};
 use std::alloc::Global;
-use std::fs::File;
+use std::fs::{File, OpenOptions};
 use std::hash::RandomState;
 use std::io::{self, BufWriter, ErrorKind, Write};
 use std::net::{Net, TcpListener, TcpStream};
+use std::os::unix::fs::OpenOptionsExt;
 use std::process::ExitCode;
 use std::random::RandomSource;
 use std::sync::Wait;
@@ -20,6 +21,9 @@ use std::{env, fs};
 
 #[cfg(test)]
 mod missing_files;
+mod served;
+
+use served::{asked_serve, end_served, serve_until_told};
 
 fn main(rt: HostRuntime) -> ExitCode {
     let words = match words_of(&rt) {
@@ -42,6 +46,11 @@ fn main(rt: HostRuntime) -> ExitCode {
             Ok(asked) => serve_file(&rt, rt.alloc(), asked, &mut rt.stderr()),
             Err(status) => status,
         },
+        Ok(Some(Asked::Serve { settings, journal })) => match asked_serve(&rt, settings, journal) {
+            Ok(asked) => serve_until_told(&rt, rt.alloc(), asked, &mut rt.stderr()),
+            Err(status) => status,
+        },
+        Ok(Some(Asked::End { settings, at_once })) => end_served(&rt, settings, at_once),
         Ok(Some(Asked::Demo)) => demonstrate(&rt, rt.alloc(), &mut rt.stderr()),
         Ok(None) => refused(
             &rt,
@@ -165,9 +174,15 @@ fn asked_run(
     })
 }
 
-/// A file that is made new, or the status where it can't be.
+/// A file that is made new, which its owner alone may read and write, or the status where it can't be.
 fn new_file(rt: &HostRuntime, path: &str) -> Result<File, ExitCode> {
-    match File::create_new(rt, path) {
+    let mut options = OpenOptions::new();
+    match options
+        .write(true)
+        .create_new(true)
+        .mode(0o600)
+        .open(rt, path)
+    {
         Ok(file) => Ok(file),
         Err(error) if error.kind() == ErrorKind::OutOfMemory => Err(out_of_memory(rt)),
         Err(error) if error.kind() == ErrorKind::AlreadyExists => {

@@ -1,6 +1,7 @@
 -- The command line of `gateway`: `audit --script FILE` or `audit --journal FILE --settings FILE`, `journal --script
--- FILE`, `run --settings FILE [--links N] [--journal FILE]`, `demo`, and nothing else but a call for help.
-use Rattle.std.specs.Prelude.{ℕ, true, List, Option, Some, None, codes, if◌then◌else◌, option_and_then, option_map}
+-- FILE`, `run --settings FILE [--links N] [--journal FILE]`, `serve --settings FILE [--journal FILE]`, `end --settings
+-- FILE [--now]`, `demo`, and nothing else but a call for help.
+use Rattle.std.specs.Prelude.{ℕ, Bool, true, false, List, Option, Some, None, codes, if◌then◌else◌, option_and_then, option_map}
 use Rattle.std.specs.Prelude.{nat_le, ◌&&◌}
 use Rattle.std.specs.Char.{is_ascii_digit}
 use Rattle.std.specs.List.{list_all}
@@ -9,7 +10,7 @@ use Rattle.decimal_digits.specs.Digits.{number_of}
 use Rattle.clap.specs.Simple.{new_shape}
 use Rattle.clap.specs.Words.{App, Row, Rule, Text, Kinds, fault_of, first_of, new_app, new_rule, subcommand_of}
 use Rattle.clap.specs.Words.{with_rule, with_subcommand}
-use Rattle.clap.specs.declared.builder.action.ArgAction.TheVariants.{Set}
+use Rattle.clap.specs.declared.builder.action.ArgAction.TheVariants.{Set, SetTrue}
 
 -- an option with a value, as `--script FILE`
 abbrev pub value_rule : Text → Rule
@@ -22,6 +23,10 @@ value_rule name = record (new_rule name) {
 -- the same, where it has to be given
 abbrev pub required_rule : Text → Rule
 required_rule name = record (value_rule name) { required = true }
+
+-- an option that is given or not, as `--now`
+abbrev pub flag_rule : Text → Rule
+flag_rule name = record (new_rule name) { long = Some name; action = Some SetTrue }
 
 -- `audit --script FILE`, or `audit --journal FILE --settings FILE`
 abbrev pub audit : App
@@ -41,6 +46,15 @@ runs =
     (with_rule (with_rule (new_app (codes "run")) (required_rule (codes "settings"))) (value_rule (codes "links")))
     (value_rule (codes "journal"))
 
+-- `serve --settings FILE [--journal FILE]`
+abbrev pub serves : App
+serves =
+    with_rule (with_rule (new_app (codes "serve")) (required_rule (codes "settings"))) (value_rule (codes "journal"))
+
+-- `end --settings FILE [--now]`
+abbrev pub ends : App
+ends = with_rule (with_rule (new_app (codes "end")) (required_rule (codes "settings"))) (flag_rule (codes "now"))
+
 -- `demo`
 abbrev pub demo : App
 demo = new_app (codes "demo")
@@ -58,7 +72,10 @@ with_command command more = with_subcommand command more.top
 
 -- `gateway` with its subcommands
 abbrev pub gateway : App
-gateway = with_command (with_command (with_command (with_command alone runs) demo) audit) journal
+gateway =
+    with_command
+    (with_command (with_command (with_command (with_command (with_command alone runs) serves) ends) demo) audit)
+    journal
 
 -- the subcommand that `clap` finds in the words of a command line, with its arguments, and why it refuses them
 unfoldable pub gateway_found : List Text → Option (Text × List Row)
@@ -68,13 +85,16 @@ unfoldable pub gateway_faults : List Text → Kinds
 gateway_faults words = fault_of gateway words
 
 -- what a command line asks for: the audit of a script's file; that of the day in a journal's file, by the settings in a
--- file; the day of a script's file as a journal; a gateway by the settings in a file, with so many links, and a file
--- for its journal; or the demonstration
+-- file; the day of a script's file as a journal; a gateway by the settings in a file, with so many links, or until it is
+-- told to end, and a file for its journal; the end of the gateway that is served by the settings in a file, at once or
+-- not; or the demonstration
 pub data Asking : Type 0 where
   Audits : (script : Text) → Asking
   AuditsDay : (journal : Text) (settings : Text) → Asking
   Keeps : (script : Text) → Asking
   Runs : (settings : Text) (links : Option Text) (journal : Option Text) → Asking
+  Serves : (settings : Text) (journal : Option Text) → Asking
+  Ends : (settings : Text) (at_once : Bool) → Asking
   Demonstrates : Asking
 
 -- What a subcommand asks for, by its name and its arguments. An audit is of a script alone, or of a journal with its
@@ -110,11 +130,26 @@ run_asked rows = option_map
     (λ (file : Text). Runs file (first_of (codes "links") rows) (first_of (codes "journal") rows))
     (first_of (codes "settings") rows)
 
+abbrev pub serve_asked : List Row → Option Asking
+serve_asked rows =
+    option_map (λ (file : Text). Serves file (first_of (codes "journal") rows)) (first_of (codes "settings") rows)
+
+-- a flag is given
+abbrev pub is_said : Option Text → Bool
+is_said None = false
+is_said (Some text) = bytes_eq text (codes "true")
+
+abbrev pub end_asked : List Row → Option Asking
+end_asked rows =
+    option_map (λ (file : Text). Ends file (is_said (first_of (codes "now") rows))) (first_of (codes "settings") rows)
+
 unfoldable pub asking_of : Text → List Row → Option Asking
 asking_of name rows =
     if bytes_eq name (codes "audit") then audit_asked rows
     else if bytes_eq name (codes "journal") then keep_asked rows
     else if bytes_eq name (codes "run") then run_asked rows
+    else if bytes_eq name (codes "serve") then serve_asked rows
+    else if bytes_eq name (codes "end") then end_asked rows
     else if bytes_eq name (codes "demo") then Some Demonstrates
     else None
 

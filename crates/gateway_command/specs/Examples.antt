@@ -1,9 +1,9 @@
 -- Computed: what command lines ask for, and which are refused.
-use Rattle.std.specs.Prelude.{◌≡◌, refl, List, [], ◌∷◌, Some, None, codes}
+use Rattle.std.specs.Prelude.{◌≡◌, refl, true, false, List, [], ◌∷◌, Some, None, codes}
 use Rattle.clap.specs.Words.{Text, Kinds}
 use Rattle.clap.specs.declared.error.kind.ErrorKind.TheVariants as kind
 use Rattle.clap.proofs.OnLiterals.{clap_on_literals}
-use Rattle.gateway_command.specs.Command.{Asking, Audits, AuditsDay, Demonstrates, Keeps, Runs}
+use Rattle.gateway_command.specs.Command.{Asking, Audits, AuditsDay, Demonstrates, Ends, Keeps, Runs, Serves}
 use Rattle.gateway_command.specs.Command.{asking_of, asked_of, gateway_found, gateway_faults, links_of}
 
 abbrev line : List Text → List Text
@@ -41,6 +41,36 @@ a_gateway_with_a_journal :
     (Runs (codes "a.toml") None (Some (codes "a.day")))
 unfolding clap_on_literals gateway_found gateway_faults asking_of
 a_gateway_with_a_journal = (refl, refl)
+
+a_gateway_until_it_is_told_to_end : Asks (codes "serve" ∷ codes "--settings" ∷ codes "a.toml" ∷ [])
+    (Serves (codes "a.toml") None)
+unfolding clap_on_literals gateway_found gateway_faults asking_of
+a_gateway_until_it_is_told_to_end = (refl, refl)
+
+a_gateway_that_is_served_with_a_journal :
+    Asks (codes "serve" ∷ codes "--journal" ∷ codes "a.day" ∷ codes "--settings" ∷ codes "a.toml" ∷ [])
+    (Serves (codes "a.toml") (Some (codes "a.day")))
+unfolding clap_on_literals gateway_found gateway_faults asking_of
+a_gateway_that_is_served_with_a_journal = (refl, refl)
+
+an_end : Asks (codes "end" ∷ codes "--settings" ∷ codes "a.toml" ∷ []) (Ends (codes "a.toml") false)
+unfolding clap_on_literals gateway_found gateway_faults asking_of
+an_end = (refl, refl)
+
+an_end_at_once :
+    Asks (codes "end" ∷ codes "--settings" ∷ codes "a.toml" ∷ codes "--now" ∷ []) (Ends (codes "a.toml") true)
+unfolding clap_on_literals gateway_found gateway_faults asking_of
+an_end_at_once = (refl, refl)
+
+links_of_a_gateway_that_is_served :
+    Refuses (codes "serve" ∷ codes "--links" ∷ codes "2" ∷ codes "--settings" ∷ codes "a.toml" ∷ [])
+    (kind.UnknownArgument ∷ [])
+unfolding clap_on_literals gateway_faults
+links_of_a_gateway_that_is_served = refl
+
+an_end_of_nothing : Refuses (codes "end" ∷ codes "--now" ∷ []) (kind.MissingRequiredArgument ∷ [])
+unfolding clap_on_literals gateway_faults
+an_end_of_nothing = refl
 
 a_day : Asks (codes "audit" ∷ codes "--settings" ∷ codes "a.toml" ∷ codes "--journal" ∷ codes "a.day" ∷ [])
     (AuditsDay (codes "a.day") (codes "a.toml"))

@@ -28,6 +28,20 @@ pub enum Asked<'a> {
         /// The file that the day's journal is written to.
         journal: Option<&'a str>,
     },
+    /// A gateway by the settings in a file, until it is told to end.
+    Serve {
+        /// The settings' file.
+        settings: &'a str,
+        /// The file that the day's journal is written to.
+        journal: Option<&'a str>,
+    },
+    /// The end of the gateway that is served by the settings in a file.
+    End {
+        /// The settings' file.
+        settings: &'a str,
+        /// Whether it ends at once, and doesn't await the market's answers for a while.
+        at_once: bool,
+    },
     /// The demonstration.
     Demo,
 }

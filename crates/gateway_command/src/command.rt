@@ -8,7 +8,7 @@ ghost use Rattle.gateway_command.specs.Command as spec;
 ghost use Rattle.gateway_command.specs.Seen.{asked_seen};
 
 use crate::asking::Asked;
-use crate::help::{AUDIT, DEMO, JOURNAL, RUN};
+use crate::help::{AUDIT, DEMO, END, JOURNAL, RUN, SERVE};
 use clap::{Arg, ArgAction, ArgMatches, Command, Error};
 use std::alloc::{AllocError, Global};
 use std::convert::AsStr;
@@ -52,6 +52,8 @@ fn asked_by<'a>(name: &str, found: &ArgMatches<'a>) -> Option<Asked<'a>>
         "audit" => audit_asked(found),
         "journal" => keep_asked(found),
         "run" => run_asked(found),
+        "serve" => serve_asked(found),
+        "end" => end_asked(found),
         "demo" => Some(Asked::Demo),
         _ => None,
     }
@@ -136,6 +138,42 @@ fn run_asked<'a>(found: &ArgMatches<'a>) -> Option<Asked<'a>>
     }
 }
 
+/// What `serve` asks for.
+fn serve_asked<'a>(found: &ArgMatches<'a>) -> Option<Asked<'a>>
+    ensures { option_map asked_seen result ≡ spec.serve_asked (rows_of (found_of found.now)) }
+{
+    match value_of(found, "settings") {
+        Some(settings) => Some(Asked::Serve {
+            settings,
+            journal: value_of(found, "journal"),
+        }),
+        None => None,
+    }
+}
+
+/// What `end` asks for.
+fn end_asked<'a>(found: &ArgMatches<'a>) -> Option<Asked<'a>>
+    ensures { option_map asked_seen result ≡ spec.end_asked (rows_of (found_of found.now)) }
+{
+    match value_of(found, "settings") {
+        Some(settings) => Some(Asked::End {
+            settings,
+            at_once: is_said(found, "now"),
+        }),
+        None => None,
+    }
+}
+
+/// Whether a flag is given.
+fn is_said<'a>(found: &ArgMatches<'a>, name: &str) -> bool
+    ensures { result ≡ spec.is_said (first_of name.now (rows_of (found_of found.now))) }
+{
+    match value_of(found, name) {
+        Some(text) => text == "true",
+        None => false,
+    }
+}
+
 /// The value of an option.
 fn value_of<'a>(found: &ArgMatches<'a>, name: &str) -> Option<&'a str>
     ensures { option_map (λ text. text.now) result ≡ first_of name.now (rows_of (found_of found.now)) }
@@ -165,6 +203,17 @@ fn required<'a>(alloc: Global, name: &'a str, value: &'a str, help: &'a str) -> 
         .value_name(value)
         .required(true)
         .action(ArgAction::Set)
+        .help(help)
+}
+
+/// An option that is given or not.
+fn flag<'a>(alloc: Global, name: &'a str, help: &'a str) -> Arg<'a>
+    ensures rule { rule_of result ≡ spec.flag_rule name.now }
+    ensures own { result.global ≡ false }
+{
+    Arg::new(alloc, name)
+        .long(name)
+        .action(ArgAction::SetTrue)
         .help(help)
 }
 
@@ -236,6 +285,45 @@ fn run<'a>(alloc: Global) -> Result<Command<'a>, AllocError>
     with_option(with_links, journal)
 }
 
+/// `serve --settings FILE [--journal FILE]`.
+fn serve<'a>(alloc: Global) -> Result<Command<'a>, AllocError>
+    ensures app { IfOk result (λ command. app_of command ≡ spec.serves) }
+    ensures own { IfOk result (λ command. (fields_of command).has_globals ≡ false) }
+{
+    let alone = Command::new(alloc, "serve")
+        .about(
+            "Serves the clients and connects the ports that its settings name, until it is told to end",
+        )
+        .after_help(SERVE);
+    let settings = required(alloc, "settings", "FILE", "The settings, in TOML");
+    let with_settings = with_option(alone, settings)?;
+    let journal = option(
+        alloc,
+        "journal",
+        "FILE",
+        "A new file that the journal of the day is written to at its end",
+    );
+    with_option(with_settings, journal)
+}
+
+/// `end --settings FILE [--now]`.
+fn end<'a>(alloc: Global) -> Result<Command<'a>, AllocError>
+    ensures app { IfOk result (λ command. app_of command ≡ spec.ends) }
+    ensures own { IfOk result (λ command. (fields_of command).has_globals ≡ false) }
+{
+    let alone = Command::new(alloc, "end")
+        .about("Tells the gateway that is served by these settings to end, and waits until it has")
+        .after_help(END);
+    let settings = required(alloc, "settings", "FILE", "The settings, in TOML");
+    let with_settings = with_option(alone, settings)?;
+    let now = flag(
+        alloc,
+        "now",
+        "Doesn't await the market's answers for a while",
+    );
+    with_option(with_settings, now)
+}
+
 /// `demo`.
 fn demo<'a>(alloc: Global) -> Command<'a>
     ensures app { app_of result ≡ spec.demo }
@@ -261,6 +349,32 @@ fn with_run<'a>(alloc: Global, command: Command<'a>) -> Result<Command<'a>, Allo
 {
     match run(alloc) {
         Ok(run) => with_command(command, run),
+        Err(error) => {
+            drop(command);
+            Err(error)
+        }
+    }
+}
+
+/// A command with `serve` more.
+fn with_serve<'a>(alloc: Global, command: Command<'a>) -> Result<Command<'a>, AllocError>
+    ensures { IfOk result (λ wider. app_of wider ≡ spec.with_command (app_of command.entry) spec.serves) }
+{
+    match serve(alloc) {
+        Ok(serve) => with_command(command, serve),
+        Err(error) => {
+            drop(command);
+            Err(error)
+        }
+    }
+}
+
+/// A command with `end` more.
+fn with_end<'a>(alloc: Global, command: Command<'a>) -> Result<Command<'a>, AllocError>
+    ensures { IfOk result (λ wider. app_of wider ≡ spec.with_command (app_of command.entry) spec.ends) }
+{
+    match end(alloc) {
+        Ok(end) => with_command(command, end),
         Err(error) => {
             drop(command);
             Err(error)
@@ -303,7 +417,9 @@ fn gateway<'a>(alloc: Global) -> Result<Command<'a>, AllocError>
         .subcommand_required(true)
         .arg_required_else_help(true);
     let with_run = with_run(alloc, alone)?;
-    let with_demo = with_command(with_run, demo(alloc))?;
+    let with_serve = with_serve(alloc, with_run)?;
+    let with_end = with_end(alloc, with_serve)?;
+    let with_demo = with_command(with_end, demo(alloc))?;
     let with_audit = with_audit(alloc, with_demo)?;
     with_journal(alloc, with_audit)
 }

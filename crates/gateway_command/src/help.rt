@@ -64,6 +64,36 @@ where all orders agree, 1 where one doesn't, where memory runs out, a thread can
 written, 2 for settings that are refused, which the first key that is missing or wrong names, or a journal that is there
 already.";
 
+/// Of `gateway serve`.
+pub(crate) const SERVE: &str = "\
+Clients come and go, and ports are connected again after a link is lost, until the day ends: by gateway end, or at the
+time of day that the settings name. What an operator sets stands in the same settings, all of it optional:
+
+  [day]
+  ends = 21:05:00               # UTC; without it the day ends when it is told to
+  linger = 10                   # seconds that the market's answers are awaited then
+  [control]
+  listen = \"127.0.0.1:9100\"    # where gateway end tells it to end; without it only the time of day does
+  token = \"0123456789abcdef\"   # has to be given; 127.0.0.1, [::1] and localhost alone need none
+  [[client]]
+  ..
+  from = [\"10.4.0.0/16\"]      # from where this client may connect; from anywhere without it
+
+Each address is listened at before a port is connected. At the end no further link is taken, the market's answers are
+awaited for a while, the link of each client and then of each port is closed once what lay there for it is written, and
+the audit of the day is printed. Orders that are open at the market, or that it hasn't answered, are named on standard
+error. The status is 0 where all orders agree, 1 as gateway run has it, 2 for settings that are refused, an address that
+can't be listened at, or a journal that is there already: then nothing was connected.";
+
+/// Of `gateway end`.
+pub(crate) const END: &str = "\
+The gateway is told over the address of [control] in its settings, and with their token.
+
+  $ gateway end --settings settings.toml
+
+The status is 0 once it has ended, 1 where it hasn't within 60 seconds, or refuses, 2 where nobody answers, or the
+settings are refused or name no address.";
+
 /// Of `gateway demo`.
 pub(crate) const DEMO: &str = "\
 Two clients send three orders each, a simulated market takes and fills them, all on loopback; printed is the audit:

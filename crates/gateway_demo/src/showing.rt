@@ -7,7 +7,7 @@ use crate::client::{Client, Order};
 use crate::fault::DemoFault;
 use crate::market::Market;
 use crate::settings::demo_settings;
-use gateway_run::{Day, RunFault, RunPlan, audit_day, run};
+use gateway_run::{Day, LinkRules, RunFault, RunPlan, audit_day, run};
 use link_sockets::{Acceptor, Connector, Opened, Opener};
 use market_book::Choice;
 use std::alloc::{AllocError, Global};
@@ -189,7 +189,10 @@ fn plan_of<'a, R>(
             Acceptor::of_listener(rt, second, 1, is_over),
         ]?,
         ports: vec![in alloc; Connector::new(rt, market, 1, is_over)]?,
-        tells_frames: false,
+        rules: LinkRules {
+            tells_frames: false,
+            leaves_faulted: false,
+        },
     })
 }
 

@@ -39,7 +39,7 @@ module _ (a : NamedLft) (K R : RattleType) (k : DeskName.Ghosts K.Denot) (r : Is
       search (shared_sync, sendable) depth 40,
       (
         search sendable depth 40,
-        (search (c, sendable), (search sendable, tt)),
+        (search (c, sendable), (search sendable, (search sendable, tt))),
       ),
     ),
   )

@@ -1,7 +1,7 @@
 //! A gateway by its settings file.
 
 use crate::day::Day;
-use crate::ends::RunPlan;
+use crate::ends::{LinkRules, RunPlan};
 use crate::fault::RunFault;
 use crate::running::run;
 use crate::telling::{Teller, Telling, Whose};
@@ -67,6 +67,9 @@ fn plan_of<'a, R: Clock + Eprint>(
     Ok(RunPlan {
         clients,
         ports,
-        tells_frames: true,
+        rules: LinkRules {
+            tells_frames: true,
+            leaves_faulted: false,
+        },
     })
 }

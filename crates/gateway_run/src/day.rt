@@ -58,6 +58,13 @@ impl Day {
         &self.history
     }
 
+    /// The settings that it ran by.
+    pub fn settings(&self) -> &Settings
+        ensures { result.now ≡ self.now.settings }
+    {
+        &self.settings
+    }
+
     /// The first fault of a link: of the clients' in their order, then of the ports'. `None` where no link had one.
     pub fn fault(&self) -> Option<LinkFault>
         ensures { result ≡ self.now.fault }

@@ -21,9 +21,17 @@ use std::time::Clock;
 pub struct RunPlan<A, C> {
     pub clients: Vec<A>,
     pub ports: Vec<C>,
+    pub rules: LinkRules,
+}
+
+/// What is done with links beside serving them.
+#[derive(Clone, Copy, Debug)]
+pub struct LinkRules {
     /// Whether standard error has how many bytes of a client's link were part of no frame, and each Reject,
     /// ResendRequest and Logout that a client is sent.
     pub tells_frames: bool,
+    /// Whether a port that is faulted isn't connected again.
+    pub leaves_faulted: bool,
 }
 
 /// The lines of a desk's clients and of its ports, in this order. Its type keeps that each puts the events of its own
@@ -31,7 +39,7 @@ pub struct RunPlan<A, C> {
 #[derive(Drop)]
 pub(crate) struct Ends<'p, 'a, W: Prompt + Drop, G: OutletEnd + Drop, A, C, K: DeskName, R> {
     alloc: Global,
-    tells_frames: bool,
+    rules: LinkRules,
     pub(crate) lines: Vec<RunLine<'p, 'a, W, G, A, C, K, R>>,
     ghost puts_own: { All (λ l. l.reader.gate.gate.inlet.source ≡ source_of_peer l.peer) lines.items },
     ghost takes_own: { All (λ l. G.told l.writer.pen.now.first.value ≡ l.peer) lines.items },
@@ -47,11 +55,11 @@ impl<
     K: DeskName,
     R: Wait + Clock + Eprint,
 > Ends<'p, 'a, W, G, A, C, K, R> {
-    /// No line yet; whether what goes over clients' links is told of.
-    fn new(alloc: Global, tells_frames: bool) -> Ends<'p, 'a, W, G, A, C, K, R> {
+    /// No line yet.
+    fn new(alloc: Global, rules: LinkRules) -> Ends<'p, 'a, W, G, A, C, K, R> {
         Ends {
             alloc,
-            tells_frames,
+            rules,
             lines: Vec::new(alloc),
         }
     }
@@ -69,7 +77,7 @@ impl<
     ) -> Result<(), AllocError> {
         if is_of(&inlet, source_of(&peer)) && is_to(pen, &peer) {
             let at = inlet.position();
-            let teller = teller_of(rt, self.tells_frames, &peer);
+            let teller = teller_of(rt, self.rules.tells_frames, &peer);
             let own = InletGate::new(shared, pens, inlet);
             let gate = TellingGate::new(self.alloc, own, teller);
             let line = line_of(rt, shared, peer, opener, gate, at, pen);
@@ -133,11 +141,11 @@ pub(crate) fn ends_of<
     pens: &'p [OutletPen<W, G>],
     clients: Vec<CountedLinks<'a, A>>,
     ports: Vec<C>,
-    tells_frames: bool,
+    rules: LinkRules,
 ) -> Result<Ends<'p, 'a, W, G, A, C, K, R>, AllocError> {
     let mut accepting = clients.into_iter();
     let mut connecting = ports.into_iter();
-    let mut ends = Ends::new(alloc, tells_frames);
+    let mut ends = Ends::new(alloc, rules);
     for (inlet, pen) in inlets.into_iter().zip(pens) {
         match inlet.source() {
             Source::Client(client) => {
@@ -149,7 +157,13 @@ pub(crate) fn ends_of<
             }
             Source::Port(port) => {
                 if let Some(links) = connecting.next() {
-                    let opener = RunOpener::Port(PortLinks::new(rt, shared, port, links));
+                    let opener = RunOpener::Port(PortLinks::new(
+                        rt,
+                        shared,
+                        port,
+                        links,
+                        rules.leaves_faulted,
+                    ));
                     let peer = Recipient::Port(port);
                     ends.add(rt, shared, peer, opener, inlet, pens, pen)?;
                 }

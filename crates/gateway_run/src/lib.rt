@@ -15,11 +15,13 @@ mod running;
 mod telling;
 mod telling_gate;
 
+pub use audit_lines::{OrderPair, ReadingFault, Settings, audit};
 pub use by_settings::run_settings;
 pub use day::{Day, audit_day, end_day, keep_day, tell};
-pub use ends::RunPlan;
+pub use ends::{LinkRules, RunPlan};
 pub use fault::RunFault;
 pub use gate_events::PortNumber;
 pub use running::run;
 pub use settings_file::{SettingsFault, SettingsFile, read};
 pub use soup_session::PortFault;
+pub use telling::{Teller, Whose};

@@ -11,28 +11,32 @@ use std::sync::Wait;
 use std::time::Clock;
 
 /// The links of a port, of which its fault is told once: as the link that ended by it is gone, or before the next.
+/// Where a port that is faulted is left alone there is no further link then.
 #[derive(Drop)]
 pub(crate) struct PortLinks<'a, C, K: DeskName, R> {
     rt: &'a R,
     shared: &'a Shared<K, RandomState>,
     port: PortNumber,
     opener: C,
+    leaves_faulted: bool,
     is_told: bool,
 }
 
 impl<'a, C, K: DeskName, R: Wait + Clock + Eprint> PortLinks<'a, C, K, R> {
-    /// Of this port. Takes no memory.
+    /// Of this port; whether it is left alone once it is faulted. Takes no memory.
     pub(crate) fn new(
         rt: &'a R,
         shared: &'a Shared<K, RandomState>,
         port: PortNumber,
         opener: C,
+        leaves_faulted: bool,
     ) -> PortLinks<'a, C, K, R> {
         PortLinks {
             rt,
             shared,
             port,
             opener,
+            leaves_faulted,
             is_told: false,
         }
     }
@@ -56,7 +60,9 @@ impl<'a, C, K: DeskName, R: Wait + Clock + Eprint> PortLinks<'a, C, K, R> {
 impl<'a, C: Opener, K: DeskName, R: Wait + Clock + Eprint> Opener for PortLinks<'a, C, K, R> {
     ghost opened = { λ t. C.opened t.opener };
 
-    ghost has_ended = { λ t. C.has_ended t.opener };
+    ghost use Rattle.std.specs.Prelude.{◌≡◌, ◌⊎◌, true};
+
+    ghost has_ended = { λ t. C.has_ended t.opener ⊎ (t.is_told ≡ true) };
 
     type Reader = C::Reader;
 
@@ -66,6 +72,9 @@ impl<'a, C: Opener, K: DeskName, R: Wait + Clock + Eprint> Opener for PortLinks<
 
     fn open(&mut self) -> Option<Result<Opened<C::Reader, C::Writer, C::Closer>, LinkFault>> {
         self.look();
+        if self.leaves_faulted && self.is_told {
+            return None;
+        }
         self.opener.open()
     }
 

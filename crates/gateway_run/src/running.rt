@@ -85,7 +85,7 @@ where
 {
     let (shared, inlets, outlets) = open_desk::<K, RandomState>(alloc, parts)?;
     let counts = ClientCounts::of(plan.clients.len().min(usize::from(count.clients)) as u32);
-    let pens = pens_of::<A::Writer, K, R>(rt, alloc, &shared, outlets, plan.tells_frames)?;
+    let pens = pens_of::<A::Writer, K, R>(rt, alloc, &shared, outlets, plan.rules.tells_frames)?;
     let mut left = serve_desk(
         rt,
         alloc,
@@ -160,19 +160,10 @@ where
     let RunPlan {
         clients,
         ports,
-        tells_frames,
+        rules,
     } = plan;
     let clients = counted(alloc, clients, counts, is_over)?;
-    let ends = ends_of(
-        rt,
-        alloc,
-        shared,
-        inlets,
-        pens,
-        clients,
-        ports,
-        tells_frames,
-    )?;
+    let ends = ends_of(rt, alloc, shared, inlets, pens, clients, ports, rules)?;
     let Ends { lines, .. } = ends;
     let ticks = ticks_of(rt, alloc, shared, count, counts, is_over, clock, pens);
     match serve(rt, alloc, lines, ticks) {

@@ -8,7 +8,7 @@ use std::{fmt, str};
 
 /// Whose link is told of: a client or a port, by its number from 1.
 #[derive(Clone, Copy, Debug, PartialEq, Eq)]
-pub(crate) enum Whose {
+pub enum Whose {
     Client(usize),
     Port(usize),
 }
@@ -24,22 +24,38 @@ impl Display for Whose {
 
 /// Tells on standard error of the links of a client or port, a line at a time behind its moment in UTC.
 #[derive(Drop)]
-pub(crate) struct Teller<'a, R> {
+pub struct Teller<'a, R> {
     rt: &'a R,
     whose: Whose,
 }
 
 impl<'a, R: Clock + Eprint> Teller<'a, R> {
     /// Of these links. Takes no memory.
-    pub(crate) fn new(rt: &'a R, whose: Whose) -> Teller<'a, R> {
+    pub fn new(rt: &'a R, whose: Whose) -> Teller<'a, R> {
         Teller { rt, whose }
     }
 
     /// Tells what came of a link. Where that can't be written it is lost.
-    pub(crate) fn tell(&self, what: &str) {
+    pub fn tell(&self, what: &str) {
         let at = self.now();
         let at = str::from_utf8(&at).unwrap_or("");
         let _ = eprintln!(self.rt; "{at} {} {what}", self.whose);
+    }
+
+    /// The same of what can be shown.
+    pub fn tell_of<D: Display>(&self, what: &D) {
+        let at = self.now();
+        let at = str::from_utf8(&at).unwrap_or("");
+        let _ = eprintln!(self.rt; "{at} {} {what}", self.whose);
+    }
+
+    /// Tells how a link has ended.
+    pub fn tell_end(&self, end: &LinkEnd) {
+        match (end.fault(), end.writer) {
+            (Some(fault), _) => self.tell_fault(fault),
+            (None, Ok(WriterEnd::Closed)) => self.tell("closed by the gateway"),
+            (None, _) => self.tell("gone"),
+        }
     }
 
     /// Tells of a link's fault.
@@ -121,11 +137,7 @@ impl<'a, O: Opener, R: Clock + Eprint> Opener for Telling<'a, O, R> {
     }
 
     fn ended(&mut self, end: LinkEnd) {
-        match (end.fault(), end.writer) {
-            (Some(fault), _) => self.teller.tell_fault(fault),
-            (None, Ok(WriterEnd::Closed)) => self.teller.tell("closed by the gateway"),
-            (None, _) => self.teller.tell("gone"),
-        }
+        self.teller.tell_end(&end);
         self.opener.ended(end);
     }
 }

@@ -48,8 +48,9 @@ impl<'a, R> Connector<'a, R> {
     }
 }
 
-/// A stream to this address: a host and a TCP port. Each address of the host is tried in turn.
-fn connected<R: Net<Listener = TcpListener, Stream = TcpStream>>(
+/// A stream to this address: a host and a TCP port. Each address of the host is tried in turn, for ten seconds each;
+/// the error is the last one's.
+pub fn connected<R: Net<Listener = TcpListener, Stream = TcpStream>>(
     rt: &R,
     address: &str,
 ) -> io::Result<TcpStream> {

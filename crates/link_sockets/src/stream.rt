@@ -108,8 +108,9 @@ impl<'a, R: Clock> Closer for SocketCloser<'a, R> {
     }
 }
 
-/// A stream as a link: what is written goes out at once (TCP_NODELAY).
-pub(crate) fn link_of<'a, R>(
+/// A stream as a link: what is written goes out at once (TCP_NODELAY). Its reader is at its end once `is_over` is set.
+/// Takes no memory.
+pub fn link_of<'a, R>(
     rt: &'a R,
     stream: TcpStream,
     is_over: &'a AtomicBool,

@@ -2,7 +2,7 @@
 
 use crate::threads::ended;
 use gateway_demo::{Acceptor, Client, Connector, DemoFault, Opener, connected, loopback};
-use gateway_run::{Day, RunFault, RunPlan, SettingsFile, audit_day, read, run};
+use gateway_run::{Day, LinkRules, RunFault, RunPlan, SettingsFile, audit_day, read, run};
 use std::alloc::{AllocError, Global};
 use std::hash::RandomState;
 use std::io::Write;
@@ -154,7 +154,10 @@ fn plan_of<'a, R>(
     Ok(RunPlan {
         clients,
         ports,
-        tells_frames: false,
+        rules: LinkRules {
+            tells_frames: false,
+            leaves_faulted: false,
+        },
     })
 }
 

@@ -5,7 +5,7 @@ use gateway_demo::{
     Acceptor, Choice, Client, Connector, DemoFault, Market, Opened, Opener, Order, connected,
 };
 use gateway_run::{
-    Day, PortFault, PortNumber, RunFault, RunPlan, SettingsFile, audit_day, read, run,
+    Day, LinkRules, PortFault, PortNumber, RunFault, RunPlan, SettingsFile, audit_day, read, run,
 };
 use std::alloc::{AllocError, Global};
 use std::hash::RandomState;
@@ -155,7 +155,10 @@ fn plan_of<'a, R>(
     Ok(RunPlan {
         clients: vec![in alloc; Acceptor::of_listener(rt, client, 1, is_over)]?,
         ports: vec![in alloc; Connector::new(rt, market, 1, is_over)]?,
-        tells_frames: false,
+        rules: LinkRules {
+            tells_frames: false,
+            leaves_faulted: false,
+        },
     })
 }
 

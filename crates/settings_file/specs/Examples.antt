@@ -128,6 +128,15 @@ others :
     × (refused (table (with_others (file (port ∷ []) (client ∷ no_members ∷ [])))) ≡ Some (codes "comp"))
 others = (refl, refl, refl, refl, refl, refl)
 
+-- what an operator sets is none of the gateway's, whatever it says, where it may stand
+operators :
+    (refused (table (with_key (codes "control") (boolean true) (with_key (codes "day") (boolean true) whole))) ≡ None)
+    × (of_client (with_key (codes "from") (boolean true) client) ≡ None)
+    × (of_client (with_key (codes "day") (boolean true) client) ≡ Some (codes "day"))
+    × (of_port (with_key (codes "from") (boolean true) port) ≡ Some (codes "from"))
+    × (refused (table (with_key (codes "from") (boolean true) whole)) ≡ Some (codes "from"))
+operators = (refl, refl, refl, refl, refl)
+
 -- ---- texts that are wrong, beside what is right
 
 abbrev port_with : List ℕ → List ℕ → Option (List ℕ)

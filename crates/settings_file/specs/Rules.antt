@@ -130,9 +130,21 @@ client_rules ports earlier =
 abbrev pub gateway_rules : List Rule
 gateway_rules = own_name (codes "comp") [] ∷ []
 
--- the keys of the whole file
+-- the keys of a client: those of its rules, and `from`, which is its operator's
+abbrev pub client_keys : List (List ℕ)
+client_keys =
+    codes "comp"
+    ∷ codes "listen"
+    ∷ codes "port"
+    ∷ codes "firm"
+    ∷ codes "capacity"
+    ∷ codes "customer"
+    ∷ codes "from"
+    ∷ []
+
+-- the keys of the whole file: the gateway's, and `day` and `control`, which are its operator's
 abbrev pub file_keys : List (List ℕ)
-file_keys = codes "comp" ∷ codes "port" ∷ codes "client" ∷ []
+file_keys = codes "comp" ∷ codes "port" ∷ codes "client" ∷ codes "day" ∷ codes "control" ∷ []
 
 -- ---- the whole file
 
@@ -171,7 +183,7 @@ abbrev pub refused_port : List Data → Data → Option (List ℕ)
 refused_port earlier t = refused_in (port_rules earlier) t
 
 abbrev pub refused_client : List Data → List Data → Data → Option (List ℕ)
-refused_client ports earlier t = refused_in (client_rules ports earlier) t
+refused_client ports earlier t = option_or (first_broken (client_rules ports earlier) t) (first_other client_keys t)
 
 -- What is refused of a file: of `comp`, of each port in order, of each client in order, and then the first other key.
 abbrev pub refused : Data → Option (List ℕ)

@@ -25,7 +25,8 @@ pub struct ClientEntry {
     pub listen: String,
 }
 
-/// Reads a client's table, behind these, beside these ports, of which there are 16 at most.
+/// Reads a client's table, behind these, beside these ports, of which there are 16 at most. What `from` says is its
+/// operator's (`operator_settings`).
 pub fn read_client(
     alloc: Global,
     ports: &[Value],
@@ -56,7 +57,9 @@ pub fn read_client(
     let Some(customer) = letter(table, "customer", b"RN ") else {
         return Err(refusal(alloc, "customer"));
     };
-    let keys = ["comp", "listen", "port", "firm", "capacity", "customer"];
+    let keys = [
+        "comp", "listen", "port", "firm", "capacity", "customer", "from",
+    ];
     if let Some(key) = first_other(table, &keys) {
         return Err(refusal(alloc, key));
     }

@@ -5,7 +5,8 @@
 /// Source: TOML 1.1; the keys are this gateway's own.
 pub const EXAMPLE: &str = "\
 # Settings of the gateway, in TOML. A text is written between two double quotes.
-# Every key below has to be there; no other key may be. The gateway names the first key that is missing or wrong.
+# Every key of the gateway, its ports and its clients has to be there, and no other key may be but those of an operator,
+# at the end. The gateway names the first key that is missing or wrong.
 
 # The gateway's own name: the TargetCompID (56) of what clients send, the SenderCompID (49) of what they are sent.
 # 1 to 20 ASCII characters, no space among them.
@@ -61,4 +62,22 @@ port = \"P2\"
 firm = \"FIRM\"
 capacity = \"R\"
 customer = \" \"
+# For gateway serve: from which addresses it may connect; from anywhere where this is missing. (Optional.)
+from = [\"127.0.0.1\", \"10.4.0.0/16\"]
+
+# What an operator sets for gateway serve. All of it is optional.
+[day]
+# When a day ends, in UTC. Where this is missing it ends when it is told to, by gateway end.
+ends = 21:05:00
+# For how many seconds the market's answers are awaited then, before the links of clients are closed: 0 to 3600, or 10.
+linger = 10
+
+# The control endpoint, over which gateway end tells a day to end.
+[control]
+# Where it listens. Without a token only 127.0.0.1, [::1] or localhost.
+listen = \"127.0.0.1:9100\"
+# What each request has to give; 16 to 64 ASCII characters, no space.
+# token = \"0123456789abcdef\"
+# A further name under which a browser may call it: host, colon, TCP port.
+# host = \"gw1.example:9100\"
 ";

@@ -53,7 +53,8 @@ impl Model for SettingsFile {
 /// Refused by the first key that is missing or wrong, in this order: `comp`; `port`, where there aren't 1 to 16 tables
 /// of ports; of each port `name`, `address`, `user`, `password` and then any other key; `client`, where there aren't 1
 /// to 64 tables of clients; of each client `comp`, `listen`, `port`, `firm`, `capacity`, `customer` and then any other
-/// key; any other key of the whole. Other keys come in byte order. `toml` is refused of a text that isn't TOML.
+/// key; any other key of the whole. Other keys come in byte order; `day`, `control` and a client's `from` are the
+/// operator's (`operator_settings`), whatever they say. `toml` is refused of a text that isn't TOML.
 ///
 /// Source: TOML 1.1; the keys are this gateway's own.
 pub fn read(alloc: Global, text: &[u8]) -> Result<SettingsFile, SettingsFault>
@@ -95,7 +96,7 @@ fn read_file(alloc: Global, file: &Value) -> Result<SettingsFile, SettingsFault>
         return Err(refusal(alloc, "client"));
     }
     let clients = read_clients(alloc, port_tables, client_tables)?;
-    if let Some(key) = first_other(file, &["comp", "port", "client"]) {
+    if let Some(key) = first_other(file, &["comp", "port", "client", "day", "control"]) {
         return Err(refusal(alloc, key));
     }
     let comp = Text::copied(alloc, comp.as_bytes())?;

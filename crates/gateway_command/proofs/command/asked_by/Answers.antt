@@ -15,6 +15,14 @@ pub returns-in-run : goal.returns-in-run
 unfolding asking_of
 returns-in-run c = search rules
 
+pub returns-in-serve : goal.returns-in-serve
+unfolding asking_of
+returns-in-serve c = search rules
+
+pub returns-in-end : goal.returns-in-end
+unfolding asking_of
+returns-in-end c = search rules
+
 pub returns-in-demo : goal.returns-in-demo
 unfolding asking_of asked_seen
 returns-in-demo c = search rules

@@ -1,0 +1,155 @@
+//! `serve` and `end`.
+
+use super::{ended, file_at, new_file, no_seed, out_of_memory};
+use gateway_run::{SettingsFault, SettingsFile, read, tell};
+use gateway_serve::{
+    Bound, OperatorFault, OperatorSettings, Told, bind_all, read_operator, serve_day, tell_end,
+    tell_open_orders,
+};
+use std::alloc::Global;
+use std::fs::File;
+use std::hash::RandomState;
+use std::io::{self, BufWriter, Write};
+use std::net::{Net, TcpListener, TcpStream};
+use std::process::ExitCode;
+use std::random::RandomSource;
+use std::sync::Wait;
+use std::thread::Threads;
+use std::time::Clock;
+
+/// A gateway that is to be served until it is told to end: its settings, its listeners, and where its day's journal
+/// goes.
+#[derive(Drop)]
+pub(crate) struct AskedServe {
+    file: SettingsFile,
+    operator: OperatorSettings,
+    bound: Bound,
+    journal: Option<File>,
+}
+
+/// What a settings file says, of the gateway and of its operator, or the status where it is refused.
+fn all_settings_at(
+    rt: &HostRuntime,
+    path: &str,
+) -> Result<(SettingsFile, OperatorSettings), ExitCode> {
+    let text = file_at(rt, path)?;
+    let file = match read(rt.alloc(), text.as_slice()) {
+        Ok(file) => file,
+        Err(SettingsFault::NoMemory) => return Err(out_of_memory(rt)),
+        Err(SettingsFault::Refused(key)) => return Err(refused_key(rt, key.as_str())),
+    };
+    match read_operator(rt.alloc(), text.as_slice()) {
+        Ok(operator) => Ok((file, operator)),
+        Err(OperatorFault::NoMemory) => Err(out_of_memory(rt)),
+        Err(OperatorFault::Refused(key)) => Err(refused_key(rt, key.as_str())),
+    }
+}
+
+/// Tells which key of settings is refused.
+fn refused_key(rt: &HostRuntime, key: &str) -> ExitCode {
+    let _ = eprintln!(rt; "gateway: settings: {key}");
+    ExitCode::from(2)
+}
+
+/// What `serve` asks for, or the status where it is refused: of settings, of a journal that can't be made new, or of an
+/// address that can't be listened at. Nothing is connected before all of it is there.
+pub(crate) fn asked_serve(
+    rt: &HostRuntime,
+    settings: &str,
+    journal: Option<&str>,
+) -> Result<AskedServe, ExitCode> {
+    let (file, operator) = all_settings_at(rt, settings)?;
+    let bound = match bind_all(rt, rt.alloc(), &file.listens, &operator.control) {
+        Ok(Some(bound)) => bound,
+        Ok(None) => return Err(ExitCode::from(2)),
+        Err(_) => return Err(out_of_memory(rt)),
+    };
+    let journal = match journal {
+        Some(path) => Some(new_file(rt, path)?),
+        None => None,
+    };
+    Ok(AskedServe {
+        file,
+        operator,
+        bound,
+        journal,
+    })
+}
+
+/// Serves a gateway until it is told to end, and ends its day.
+pub(crate) fn serve_until_told<R, F: Write>(
+    rt: &R,
+    alloc: Global,
+    asked: AskedServe,
+    faults: &mut F,
+) -> ExitCode
+where
+    R: Threads
+        + Wait
+        + Sync
+        + Clock
+        + Net<Listener = TcpListener, Stream = TcpStream>
+        + RandomSource
+        + Print
+        + Eprint
+        + Copy
+        + Send
+        + Drop
+        + 'static,
+{
+    let Ok(hasher) = RandomState::new(rt) else {
+        return no_seed(faults);
+    };
+    let Ok(mut output) = BufWriter::new(alloc, io::writer(rt)) else {
+        let _ = writeln!(faults, "out of memory");
+        return ExitCode::from(1);
+    };
+    let AskedServe {
+        file,
+        operator,
+        bound,
+        journal,
+    } = asked;
+    let status = match serve_day(rt, alloc, hasher, file, &operator, bound) {
+        Ok(day) => {
+            let status = ended(alloc, &day, journal, &mut output, faults);
+            tell_open_orders(alloc, &day, faults);
+            status
+        }
+        Err(fault) => tell(fault, faults),
+    };
+    ExitCode::from(status)
+}
+
+/// Tells the gateway that is served by these settings to end, and waits until it has.
+pub(crate) fn end_served(rt: &HostRuntime, settings: &str, at_once: bool) -> ExitCode {
+    let (_, operator) = match all_settings_at(rt, settings) {
+        Ok(both) => both,
+        Err(status) => return status,
+    };
+    let Some(control) = operator.control else {
+        let _ = eprintln!(rt; "gateway: settings: control");
+        return ExitCode::from(2);
+    };
+    let token = match &control.token {
+        Some(token) => Some(token.as_bytes()),
+        None => None,
+    };
+    let listen = control.listen.as_str();
+    match tell_end(rt, rt.alloc(), listen, token, at_once) {
+        Ok(Told::Ended) => ExitCode::from(0),
+        Ok(Told::StillThere) => {
+            let _ = eprintln!(rt; "gateway: it was told to end, and hasn't within 60 seconds");
+            ExitCode::from(1)
+        }
+        Ok(Told::Refused(status)) => {
+            let _ = eprintln!(rt; "gateway: it refuses to end: HTTP status {status}");
+            ExitCode::from(1)
+        }
+        Ok(Told::Nobody) => {
+            let _ = eprintln!(rt; "gateway: nobody answers at {listen}");
+            ExitCode::from(2)
+        }
+        Err(_) => out_of_memory(rt),
+    }
+}

@@ -1,0 +1,23 @@
+//! A day that is served until it is told to end: clients come and go for ever, ports are connected again after longer
+//! and longer pauses, and at the end no further link is taken, the market's answers are awaited for a while, and each
+//! client's and then each port's link is closed once what lay there for it is written.
+#![tactic(auto)]
+
+mod binding;
+mod day_flags;
+mod ending;
+mod open_orders;
+mod pacing;
+mod served_port;
+mod serving;
+mod waiting_room;
+
+pub use binding::{Bound, bind_all};
+pub use gateway_control::{DayControl, Told, tell_end};
+pub use gateway_run::{Day, RunFault};
+pub use open_orders::tell_open_orders;
+pub use operator_settings::{
+    ControlSettings, DaySettings, OperatorFault, OperatorSettings, read_operator,
+};
+pub use pacing::pause_after;
+pub use serving::serve_day;

@@ -1,0 +1,145 @@
+//! A day.
+
+use crate::binding::Bound;
+use crate::day_flags::DayFlags;
+use crate::ending::end_in_time;
+use crate::served_port::ServedPort;
+use crate::waiting_room::WaitingRoom;
+use gateway_control::{DayControl, Endpoint, serve_endpoint};
+use gateway_run::{Day, LinkRules, RunFault, RunPlan, SettingsFile, Teller, Whose, run};
+use operator_settings::{AddressRange, OperatorSettings};
+use std::alloc::{AllocError, Global};
+use std::hash::RandomState;
+use std::net::{Net, TcpListener, TcpStream};
+use std::random::RandomSource;
+use std::sync::{Arc, Wait};
+use std::thread::Threads;
+use std::time::Clock;
+
+/// Serves the gateway of a settings file over these listeners until it is told to end, by its control endpoint or by
+/// its time of day, and gives its day. Tells on standard error of each link that comes and goes.
+///
+/// `NoMemory` and `NoThread` come as `run` has them.
+pub fn serve_day<R>(
+    rt: &R,
+    alloc: Global,
+    hasher: RandomState,
+    file: SettingsFile,
+    operator: &OperatorSettings,
+    bound: Bound,
+) -> Result<Day, RunFault>
+where
+    R: Threads
+        + Wait
+        + Sync
+        + Clock
+        + Eprint
+        + RandomSource
+        + Net<Listener = TcpListener, Stream = TcpStream>
+        + Copy
+        + Send
+        + Drop
+        + 'static,
+{
+    let Bound { clients, control } = bound;
+    let asked = control_of(alloc)?;
+    let flags = flags_of(alloc)?;
+    let endpoint = match control {
+        Some((listener, rules)) => serve_endpoint(rt, alloc, listener, rules, &asked)?,
+        None => None,
+    };
+    let theirs = Arc::try_clone(&asked)?;
+    let Some(ender) = end_in_time(rt, operator.day, theirs, Arc::try_clone(&flags)?) else {
+        asked.close();
+        return Err(RunFault::NoThread);
+    };
+    let ran = run_day(rt, alloc, hasher, file, &operator.from, clients, &flags);
+    asked.close();
+    ender.join(rt);
+    join_endpoint(rt, endpoint);
+    ran
+}
+
+/// What is asked of a day, for whoever asks and whoever looks.
+fn control_of(alloc: Global) -> Result<Arc<DayControl>, AllocError> {
+    Ok(Arc::new(alloc, DayControl::new())?)
+}
+
+/// The flags of a day, for whoever sets and whoever looks.
+fn flags_of(alloc: Global) -> Result<Arc<DayFlags>, AllocError> {
+    Ok(Arc::new(alloc, DayFlags::new())?)
+}
+
+/// Waits for the endpoint's threads, where there are any.
+fn join_endpoint<R: Threads + Wait>(rt: &R, endpoint: Option<Endpoint>) {
+    if let Some(endpoint) = endpoint {
+        endpoint.join(rt);
+    }
+}
+
+/// Runs the gateway until its clients' links have ended.
+fn run_day<R>(
+    rt: &R,
+    alloc: Global,
+    hasher: RandomState,
+    file: SettingsFile,
+    from: &[Vec<AddressRange>],
+    listeners: Vec<TcpListener>,
+    flags: &DayFlags,
+) -> Result<Day, RunFault>
+where
+    R: Threads + Wait + Sync + Clock + Eprint + Net<Listener = TcpListener, Stream = TcpStream>,
+{
+    let SettingsFile {
+        settings,
+        addresses,
+        ..
+    } = file;
+    let clients = rooms_of(rt, alloc, listeners, from, flags)?;
+    let ports = ports_of(rt, alloc, &addresses, flags)?;
+    let plan = RunPlan {
+        clients,
+        ports,
+        rules: LinkRules {
+            tells_frames: true,
+            leaves_faulted: true,
+        },
+    };
+    run(rt, alloc, hasher, settings, plan, flags.ports())
+}
+
+/// The links of clients, by their listeners, in their order.
+fn rooms_of<'a, R: Clock + Eprint>(
+    rt: &'a R,
+    alloc: Global,
+    listeners: Vec<TcpListener>,
+    from: &'a [Vec<AddressRange>],
+    flags: &'a DayFlags,
+) -> Result<Vec<WaitingRoom<'a, R>>, AllocError> {
+    let mut rooms = Vec::with_capacity(alloc, listeners.len())?;
+    for listener in listeners {
+        let at = rooms.len();
+        let ranges = match from.get(at) {
+            Some(ranges) => ranges.as_slice(),
+            None => &[],
+        };
+        let teller = Teller::new(rt, Whose::Client(at.saturating_add(1)));
+        rooms.push(WaitingRoom::new(rt, alloc, listener, ranges, teller, flags))?;
+    }
+    Ok(rooms)
+}
+
+/// The links of ports, by their addresses, in their order.
+fn ports_of<'a, R: Clock + Eprint>(
+    rt: &'a R,
+    alloc: Global,
+    addresses: &'a [String],
+    flags: &'a DayFlags,
+) -> Result<Vec<ServedPort<'a, R>>, AllocError> {
+    let mut ports = Vec::with_capacity(alloc, addresses.len())?;
+    for address in addresses {
+        let teller = Teller::new(rt, Whose::Port(ports.len().saturating_add(1)));
+        ports.push(ServedPort::new(rt, address.as_str(), teller, flags))?;
+    }
+    Ok(ports)
+}

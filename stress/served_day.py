@@ -1,0 +1,362 @@
+"""`python3 -m stress.served_day GATEWAY`: a day of `gateway serve` as an operator has one, step by step.
+
+The gateway starts before its market is there, clients connect and say nothing, or the wrong thing, one never comes, the
+market goes and comes again, and `gateway end` ends the day. Each step prints what came; the status is 0 where all came
+that has to."""
+import os
+import socket
+import stat
+import subprocess
+import sys
+import tempfile
+import threading
+import time
+from pathlib import Path
+
+from . import ouch
+from .fix import Reader, stamp, written
+from .link import free_addresses, listener
+
+SETTINGS = """comp = "GATE"
+[day]
+linger = 2
+[control]
+listen = "127.0.0.1:{control}"
+token = "0123456789abcdef"
+[[port]]
+name = "P1"
+address = "127.0.0.1:{market}"
+user = "USER01"
+password = "PASSWORD"
+[[client]]
+comp = "BANK"
+listen = "127.0.0.1:{bank}"
+port = "P1"
+firm = "FIRM"
+capacity = "A"
+customer = "R"
+[[client]]
+comp = "FUND"
+listen = "127.0.0.1:{fund}"
+port = "P1"
+firm = "FIRM"
+capacity = "A"
+customer = "R"
+from = ["127.0.0.2", "10.0.0.0/8"]
+"""
+
+
+class Market:
+    """Fills each order at once, but for those of INTC at 1: they stay open. What it said it keeps."""
+
+    def __init__(self, address):
+        self.address, self.said, self.reference, self.logins = address, [], 0, 0
+        self.is_there = False
+
+    def begin(self):
+        """Listens, and serves one link after the other, until it ends."""
+        self.listener, self.is_there = listener(self.address), True
+        self.thread = threading.Thread(target=self.serve, daemon=True)
+        self.thread.start()
+
+    def end(self):
+        """Nobody listens any more, and the link is gone."""
+        self.is_there = False
+        self.thread.join()
+        self.listener.close()
+
+    def serve(self):
+        self.listener.settimeout(0.05)
+        while self.is_there:
+            try:
+                stream = self.listener.accept()[0]
+            except TimeoutError:
+                continue
+            self.serve_link(stream)
+            stream.close()
+
+    def serve_link(self, stream):
+        stream.settimeout(0.05)
+        packets, beat, told = ouch.Packets(), time.monotonic(), None
+        while self.is_there:
+            try:
+                data = stream.recv(65536)
+                if not data:
+                    return
+            except TimeoutError:
+                data = b""
+            except OSError:
+                return
+            for kind, payload in packets.feed(data):
+                if kind == b"L":
+                    self.logins += 1
+                    told = int(payload[26:]) - 1
+                    stream.sendall(ouch.login_accepted(b"DAY", told + 1))
+                elif kind == b"U":
+                    self.answer(payload)
+            while told is not None and told < len(self.said):
+                stream.sendall(ouch.packet(b"S", self.said[told]))
+                told += 1
+            if told is not None and time.monotonic() - beat > 0.9:
+                beat = time.monotonic()
+                stream.sendall(ouch.packet(b"H"))
+
+    def answer(self, payload):
+        it = ouch.asked(payload)
+        if payload[:1] != b"O":
+            return
+        self.reference += 1
+        self.said.append(ouch.accepted(it, it.shares, it.price, self.reference, b"L"))
+        if it.price != 10000:
+            self.said.append(ouch.executed(it.token, it.shares, it.price, self.reference))
+
+
+class Client:
+    """A FIX client by hand."""
+
+    def __init__(self, name, address, source=None):
+        self.name, self.sent, self.reader, self.frames = name, 0, Reader(), []
+        self.stream = socket.create_connection(("127.0.0.1", address), 5, source and (source, 0))
+
+    def send(self, kind, *body):
+        self.sent += 1
+        head = [(35, kind), (49, self.name), (56, b"GATE"), (34, b"%d" % self.sent), (52, stamp())]
+        self.stream.sendall(written(head + list(body)))
+
+    def log_on(self, *more):
+        self.send(b"A", (98, b"0"), (108, b"30"), *more)
+        return self.wait(lambda frame: frame.kind == b"A", 5)
+
+    def order(self, name, price=b"23"):
+        self.send(b"D", (11, name), (54, b"1"), (55, b"INTC"), (38, b"100"), (40, b"2"), (44, price))
+
+    def wait(self, holds, seconds):
+        """The first frame, from now on or from before, of which that holds; None where none comes."""
+        end = time.monotonic() + seconds
+        while True:
+            for frame in self.frames:
+                if holds(frame):
+                    return frame
+            self.stream.settimeout(max(0.01, end - time.monotonic()))
+            try:
+                data = self.stream.recv(65536)
+            except (TimeoutError, OSError):
+                data = b""
+            if not data and time.monotonic() >= end:
+                return None
+            if not data:
+                time.sleep(0.01)
+            self.frames += self.reader.feed(data)
+
+    def told(self, name, what, seconds=5):
+        """A report of this ClOrdID with this ExecType."""
+        return self.wait(lambda frame: frame.kind == b"8" and (frame[11], frame[150]) == (name, what), seconds)
+
+    def is_over(self, seconds):
+        """Whether the link comes to its end."""
+        self.stream.settimeout(seconds)
+        try:
+            while self.stream.recv(65536):
+                pass
+            return True
+        except TimeoutError:
+            return False
+        except OSError:
+            return True
+
+
+class Day:
+    """The steps of a day, and what was wrong of them."""
+
+    def __init__(self, gateway, folder):
+        self.gateway, self.folder, self.wrong = gateway, Path(folder), 0
+        names = ("control", "market", "bank", "fund")
+        self.at = dict(zip(names, free_addresses(len(names))))
+        self.settings = self.folder / "settings.toml"
+        self.settings.write_text(SETTINGS.format(**self.at))
+        self.journal = self.folder / "day.journal"
+        self.market = Market(self.at["market"])
+
+    def is_so(self, what, holds):
+        print("ok    " if holds else "WRONG ", what)
+        self.wrong += not holds
+        return holds
+
+    def start(self, *more):
+        words = [self.gateway, "serve", "--settings", str(self.settings), *more]
+        self.output, self.errors = self.folder / "output", self.folder / "errors"
+        with self.output.open("w") as output, self.errors.open("w") as errors:
+            return subprocess.Popen(words, stdout=output, stderr=errors)
+
+    def end(self, *more):
+        return subprocess.run([self.gateway, "end", "--settings", str(self.settings), *more], capture_output=True,
+                              text=True)
+
+    def says(self, text, seconds=5):
+        """Whether standard error has this text."""
+        end = time.monotonic() + seconds
+        while text not in self.errors.read_text():
+            if time.monotonic() > end:
+                return False
+            time.sleep(0.02)
+        return True
+
+    def an_address_in_use(self):
+        held = listener(self.at["fund"])
+        market = listener(self.at["market"])
+        gateway = self.start()
+        status = gateway.wait(10)
+        market.settimeout(0.3)
+        try:
+            market.accept()
+            is_connected = True
+        except TimeoutError:
+            is_connected = False
+        self.is_so("an address in use: status 2, address and reason are told",
+                   status == 2 and self.says(f"cannot listen at 127.0.0.1:{self.at['fund']}: "))
+        self.is_so("an address in use: nothing is connected", not is_connected)
+        held.close()
+        market.close()
+
+    def nobody_to_end(self):
+        ran = self.end()
+        self.is_so("gateway end with nobody there: status 2", ran.returncode == 2 and "nobody answers" in ran.stderr)
+
+    def before_the_market(self):
+        self.running = self.start("--journal", str(self.journal))
+        self.is_so("a port that isn't there is told with address and reason",
+                   self.says(f"P1 127.0.0.1:{self.at['market']}: Connection refused") and self.says("next try in 1 s"))
+        self.is_so("the journal is its owner's alone",
+                   stat.S_IMODE(os.stat(self.journal).st_mode) == 0o600)
+        bank = self.bank = Client(b"BANK", self.at["bank"])
+        self.is_so("a client logs on", bank.log_on() is not None)
+        bank.order(b"A1")
+        self.is_so("its order waits", bank.told(b"A1", b"A") is not None)
+        self.market.begin()
+        self.is_so("its order is filled once the market is there", bank.told(b"A1", b"F", 70) is not None)
+        bank.stream.close()
+        self.is_so("its going is told", self.says("C1 gone"))
+
+    def bare_connects(self):
+        begin = time.monotonic()
+        for _ in range(1500):
+            socket.create_connection(("127.0.0.1", self.at["bank"])).close()
+        silent = [socket.create_connection(("127.0.0.1", self.at["bank"])) for _ in range(20)]
+        bank = Client(b"BANK", self.at["bank"])
+        bank.sent = self.bank.sent
+        begin = time.monotonic()
+        answer = bank.log_on()
+        self.is_so(f"behind 1,520 bare connects a Logon is answered ({1000 * (time.monotonic() - begin):.0f} ms)",
+                   answer is not None)
+        self.is_so("they are told as a count", self.says("connects without a byte before"))
+        for one in silent:
+            one.close()
+        self.bank = bank
+
+    def refused_logons(self):
+        self.bank.stream.close()
+        answered = 0
+        for _ in range(100):
+            stranger = Client(b"NOBODY", self.at["bank"])
+            stranger.send(b"A", (98, b"0"), (108, b"30"))
+            answered += stranger.is_over(10)
+            stranger.stream.close()
+        self.is_so(f"100 refused Logons end their links ({answered})", answered == 100)
+        bank = Client(b"BANK", self.at["bank"])
+        bank.sent = self.bank.sent
+        self.is_so("the client logs on behind them", bank.log_on() is not None)
+        self.bank = bank
+
+    def foreign_addresses(self):
+        fund = Client(b"FUND", self.at["fund"])
+        self.is_so("who comes from another address is closed", fund.is_over(5))
+        fund = self.fund = Client(b"FUND", self.at["fund"], "127.0.0.2")
+        self.is_so("who comes from a client's own address logs on", fund.log_on() is not None)
+        self.is_so("the other is told as a count", self.says("1 from other addresses before"))
+
+    def market_restarts(self):
+        for turn in range(3):
+            name = b"R%d" % turn
+            self.market.end()
+            self.bank.order(name)
+            waits = self.bank.told(name, b"A") is not None
+            self.market.begin()
+            self.is_so(f"a market that goes and comes again fills what waited ({turn + 1})",
+                       waits and self.bank.told(name, b"F", 70) is not None)
+
+    def headers(self):
+        def asked(head):
+            stream = socket.create_connection(("127.0.0.1", self.at["control"]), 5)
+            stream.sendall(head.replace("\n", "\r\n").format(**self.at).encode())
+            answer = b""
+            while data := stream.recv(4096):
+                answer += data
+            return answer[:12].decode()
+        own = "Host: 127.0.0.1:{control}\n"
+        token = "Authorization: Bearer 0123456789abcdef\n"
+        close = "Connection: close\n\n"
+        for what, head, wanted in (
+                ("a foreign Host", "POST /end HTTP/1.1\nHost: evil.example:80\n" + token + close, "403"),
+                ("no token", "POST /end HTTP/1.1\n" + own + close, "401"),
+                ("a wrong token", "POST /end HTTP/1.1\n" + own + "Authorization: Bearer 0123456789abcdeF\n" + close,
+                 "401"),
+                ("a foreign Origin", "POST /end HTTP/1.1\n" + own + token + "Origin: http://evil.example\n" + close,
+                 "403"),
+                ("GET of /end", "GET /end HTTP/1.1\n" + own + token + close, "405"),
+                ("no such path", "POST /stop HTTP/1.1\n" + own + token + close, "404"),
+                ("a head of 20 KB", "POST /end HTTP/1.1\n" + own + "X-Long: " + "a" * 20000 + "\n" + close, "431"),
+        ):
+            answer = asked(head)
+            self.is_so(f"{what}: {answer}", answer.endswith(wanted))
+        stream = socket.create_connection(("127.0.0.1", self.at["control"]), 10)
+        begin = time.monotonic()
+        try:
+            for byte in b"POST /end HTTP/1.1\r\n" * 3:
+                stream.sendall(bytes([byte]))
+                time.sleep(0.3)
+        except OSError:
+            pass
+        spent = time.monotonic() - begin
+        self.is_so(f"a byte each 0.3 s is closed after {spent:.1f} s", 4.0 < spent < 7.0)
+
+    def the_end(self):
+        self.bank.order(b"OPEN", b"1")
+        self.is_so("an order is open at the market", self.bank.told(b"OPEN", b"0") is not None)
+        begin = time.monotonic()
+        ran = self.end()
+        spent = time.monotonic() - begin
+        status = self.running.wait(20)
+        self.is_so(f"gateway end: status {ran.returncode} after {spent:.1f} s", ran.returncode == 0 and 1.5 < spent < 8)
+        self.is_so(f"the gateway ends with status {status}", status == 0)
+        self.is_so("each client's link comes to its end", self.bank.is_over(1) and self.fund.is_over(1))
+        told, audit = self.errors.read_text(), self.output.read_text()
+        self.is_so("the open order is named", "OPEN of BANK: 100 of 100 open at the market\n" in told)
+        self.is_so("and counted", "1 orders are open at the market, 0 weren't answered" in told)
+        self.is_so("the audit has all orders, and all agree", audit.endswith("orders 5 agree 5\n"))
+        ran = subprocess.run([self.gateway, "audit", "--journal", str(self.journal), "--settings", str(self.settings)],
+                             capture_output=True, text=True)
+        self.is_so("the journal has the same audit", (ran.returncode, ran.stdout) == (0, audit))
+        self.market.end()
+
+    def run(self):
+        for step in (self.an_address_in_use, self.nobody_to_end, self.before_the_market, self.bare_connects,
+                     self.refused_logons, self.foreign_addresses, self.market_restarts, self.headers, self.the_end):
+            step()
+        print("all is right" if self.wrong == 0 else f"{self.wrong} wrong")
+        return 1 if self.wrong else 0
+
+
+def main():
+    with tempfile.TemporaryDirectory() as folder:
+        day = Day(sys.argv[1], folder)
+        try:
+            return day.run()
+        finally:
+            running = getattr(day, "running", None)
+            if running and running.poll() is None:
+                running.kill()
+                print(day.errors.read_text()[-3000:])
+
+
+if __name__ == "__main__":
+    sys.exit(main())
