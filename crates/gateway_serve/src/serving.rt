@@ -78,14 +78,14 @@ fn join_endpoint<R: Threads + Wait>(rt: &R, endpoint: Option<Endpoint>) {
 }
 
 /// Runs the gateway until its clients' links have ended.
-fn run_day<R>(
-    rt: &R,
+fn run_day<'x, R>(
+    rt: &'x R,
     alloc: Global,
     hasher: RandomState,
     file: SettingsFile,
-    from: &[Vec<AddressRange>],
+    from: &'x [Vec<AddressRange>],
     listeners: Vec<TcpListener>,
-    flags: &DayFlags,
+    flags: &'x DayFlags,
 ) -> Result<Day, RunFault>
 where
     R: Threads + Wait + Sync + Clock + Eprint + Net<Listener = TcpListener, Stream = TcpStream>,
