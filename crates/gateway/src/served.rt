@@ -110,7 +110,7 @@ where
         bound,
         journal,
     } = asked;
-    let status = match serve_day(rt, alloc, hasher, file, &operator, bound) {
+    let status = match serve_day(rt, alloc, hasher, file, operator, bound) {
         Ok(day) => {
             let status = ended(alloc, &day, journal, &mut output, faults);
             tell_open_orders(alloc, &day, faults);

@@ -22,12 +22,12 @@ pub fn bind_all<R: Net<Listener = TcpListener, Stream = TcpStream> + Eprint>(
 ) -> Result<Option<Bound>, AllocError> {
     let mut clients = Vec::with_capacity(alloc, listens.len())?;
     for address in listens {
-        if let Some(listener) = bound(rt, address.as_str()) {
+        if let Some(listener) = listener_at(rt, address.as_str()) {
             clients.push(listener)?;
         }
     }
     let endpoint = match control {
-        Some(settings) => match bound(rt, settings.listen.as_str()) {
+        Some(settings) => match listener_at(rt, settings.listen.as_str()) {
             Some(listener) => Some((listener, rules_of(alloc, settings)?)),
             None => return Ok(None),
         },
@@ -43,7 +43,7 @@ pub fn bind_all<R: Net<Listener = TcpListener, Stream = TcpStream> + Eprint>(
 }
 
 /// A listener at this address; `None`, told with its address and reason, where it can't be had.
-fn bound<R: Net<Listener = TcpListener, Stream = TcpStream> + Eprint>(
+fn listener_at<R: Net<Listener = TcpListener, Stream = TcpStream> + Eprint>(
     rt: &R,
     address: &str,
 ) -> Option<TcpListener> {

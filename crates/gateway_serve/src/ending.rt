@@ -1,5 +1,7 @@
 //! Who ends a day.
 
+ghost use Rattle.std.specs.Prelude.{◌<◌, ◌^◌, IfSome};
+
 use crate::day_flags::DayFlags;
 use gateway_control::DayControl;
 use operator_settings::{DaySettings, next_at};
@@ -11,6 +13,9 @@ use std::time::{Clock, Duration};
 
 /// How often in a second it is looked whether the day is to end.
 const LOOKS: u64 = 20;
+
+/// A moment that no day reaches.
+const FAR: u64 = 9_000_000_000_000_000_000;
 
 fn look() -> Duration {
     Duration::from_millis(50)
@@ -75,11 +80,13 @@ fn is_reached<R: Clock>(rt: &R, end: Option<u64>) -> bool {
     }
 }
 
-/// Now, in milliseconds since 1970; `None` where the system can't say, or says more than 2^62.
-fn now<R: Clock>(rt: &R) -> Option<u64> {
+/// Now, in milliseconds since 1970; `None` where the system can't say, or is 285 million years from then.
+fn now<R: Clock>(rt: &R) -> Option<u64>
+    ensures { IfSome result (λ now. now < 2 ^ 63) }
+{
     let since = rt.since_1970().ok()?;
     match u64::try_from(since.as_millis()) {
-        Ok(now) if now < 1 << 62 => Some(now),
+        Ok(now) if now < FAR => Some(now),
         _ => None,
     }
 }

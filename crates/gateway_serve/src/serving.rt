@@ -25,7 +25,7 @@ pub fn serve_day<R>(
     alloc: Global,
     hasher: RandomState,
     file: SettingsFile,
-    operator: &OperatorSettings,
+    operator: OperatorSettings,
     bound: Bound,
 ) -> Result<Day, RunFault>
 where
@@ -48,12 +48,21 @@ where
         Some((listener, rules)) => serve_endpoint(rt, alloc, listener, rules, &asked)?,
         None => None,
     };
+    let OperatorSettings { day, from, .. } = operator;
     let theirs = Arc::try_clone(&asked)?;
-    let Some(ender) = end_in_time(rt, operator.day, theirs, Arc::try_clone(&flags)?) else {
+    let Some(ender) = end_in_time(rt, day, theirs, Arc::try_clone(&flags)?) else {
         asked.close();
         return Err(RunFault::NoThread);
     };
-    let ran = run_day(rt, alloc, hasher, file, &operator.from, clients, &flags);
+    let SettingsFile {
+        settings,
+        addresses,
+        ..
+    } = file;
+    let ran = match plan_of(rt, alloc, clients, &from, &addresses, &flags) {
+        Ok(plan) => run(rt, alloc, hasher, settings, plan, flags.ports()),
+        Err(_) => Err(RunFault::NoMemory),
+    };
     asked.close();
     ender.join(rt);
     join_endpoint(rt, endpoint);
@@ -77,35 +86,28 @@ fn join_endpoint<R: Threads + Wait>(rt: &R, endpoint: Option<Endpoint>) {
     }
 }
 
-/// Runs the gateway until its clients' links have ended.
-fn run_day<R>(
-    rt: &R,
+/// Where the links of a day come from.
+type DayPlan<'a, R> = RunPlan<WaitingRoom<'a, R>, ServedPort<'a, R>>;
+
+/// The links of clients by their listeners, from these addresses, and those of ports by theirs.
+fn plan_of<'a, R: Clock + Eprint>(
+    rt: &'a R,
     alloc: Global,
-    hasher: RandomState,
-    file: SettingsFile,
-    from: &[Vec<AddressRange>],
     listeners: Vec<TcpListener>,
-    flags: &DayFlags,
-) -> Result<Day, RunFault>
-where
-    R: Threads + Wait + Sync + Clock + Eprint + Net<Listener = TcpListener, Stream = TcpStream>,
-{
-    let SettingsFile {
-        settings,
-        addresses,
-        ..
-    } = file;
+    from: &'a [Vec<AddressRange>],
+    addresses: &'a [String],
+    flags: &'a DayFlags,
+) -> Result<DayPlan<'a, R>, AllocError> {
     let clients = rooms_of(rt, alloc, listeners, from, flags)?;
-    let ports = ports_of(rt, alloc, &addresses, flags)?;
-    let plan = RunPlan {
+    let ports = ports_of(rt, alloc, addresses, flags)?;
+    Ok(RunPlan {
         clients,
         ports,
         rules: LinkRules {
             tells_frames: true,
             leaves_faulted: true,
         },
-    };
-    run(rt, alloc, hasher, settings, plan, flags.ports())
+    })
 }
 
 /// The links of clients, by their listeners, in their order.
