@@ -12,3 +12,15 @@ pub mod Parts
 pub mod Good
 pub mod Worlds
 pub mod AtRest
+pub mod NeverLive
+pub mod Chains
+pub mod Naming
+pub mod Requests
+pub mod Queues
+pub mod Waiting
+pub mod Readable
+pub mod Arriving
+pub mod Way
+pub mod Sending
+pub mod Given
+pub mod Finding

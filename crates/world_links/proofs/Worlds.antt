@@ -117,7 +117,7 @@ read-message ts p h packet bytes message k is kind read = by_kind k.has_kind
     by_kind (inr (inl e)) = absurd (let f : false ≡ true = ap (λ (n : ℕ). n == 85) (sym e ∙ ap (λ (y : Packet). y.kind) same) ∙ kind in cc)
     by_kind (inr (inr e)) = read-asked ts p h message (subst (BytesAsked ts p h) (ap (λ (y : Packet). y.payload) same ∙ sym read) e.1)
 
-no-logout : (ts : List Terms) (p : ℕ) (h : OrderHistory) (packet : Packet) (bytes : List ℕ) → IsForMarket ts p h bytes → packet_bytes packet ≡ bytes → (packet.kind == 79) ≡ false
+pub no-logout : (ts : List Terms) (p : ℕ) (h : OrderHistory) (packet : Packet) (bytes : List ℕ) → IsForMarket ts p h bytes → packet_bytes packet ≡ bytes → (packet.kind == 79) ≡ false
 no-logout ts p h packet bytes k is = ap (λ (y : Packet). y.kind == 79) (sym same) ∙ by_kind k.has_kind
   where
     same : k.packet ≡ packet
@@ -129,7 +129,7 @@ no-logout ts p h packet bytes k is = ap (λ (y : Packet). y.kind == 79) (sym sam
     by_kind (inr (inr e)) = ap (λ (n : ℕ). n == 79) e.0
 
 -- what comes to the machine was asked
-came-heard : (ts : List Terms) (p : ℕ) (h : OrderHistory) (moves : List Move) (link : SimLink) (packet : Packet) (bytes : List ℕ) (read : Option Inbound) (choice : Choice) → IsForMarket ts p h bytes → packet_bytes packet ≡ bytes → IsReadAs packet.payload read
+pub came-heard : (ts : List Terms) (p : ℕ) (h : OrderHistory) (moves : List Move) (link : SimLink) (packet : Packet) (bytes : List ℕ) (read : Option Inbound) (choice : Choice) → IsForMarket ts p h bytes → packet_bytes packet ≡ bytes → IsReadAs packet.payload read
     → Each (CameAsked ts p h) moves → Each (CameAsked ts p h) (heard_on link packet read choice ++ moves)
 came-heard ts p h moves NoLink packet bytes read choice k is reads came = came
 came-heard ts p h moves Connected packet bytes read choice k is reads came = came
@@ -334,7 +334,7 @@ module _ (s : Settings) (served : is_served s ≡ true) (w : World) (good : IsGo
 -- ---- a step
 
 -- the history of a world after the gateway's step
-step-lawful : (s : Settings) (e : Event) (w after : World) (k : CoreGets s e w after) → Lawful s after.history → Lawful s (record { event = e; batch = k.batch } ∷ w.history)
+pub step-lawful : (s : Settings) (e : Event) (w after : World) (k : CoreGets s e w after) → Lawful s after.history → Lawful s (record { event = e; batch = k.batch } ∷ w.history)
 step-lawful s e w after k lawful = subst (Lawful s) (ap (λ (x : World). x.history) k.is_after ∙ (core-keeps s e k.batch w).history) lawful
 
 module _ (s : Settings) (served : is_served s ≡ true) (w after : World) (lawful : Lawful s after.history) (was : Lawful s w.history → IsGood s w) where

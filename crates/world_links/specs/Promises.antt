@@ -1,7 +1,7 @@
 -- What holds of every world that steps lead to: no batch has a fault; each order is entered, and each replace is made,
 -- at most once, and the Cancel Orders of one request find at most one token live; no more is executed and open than was
 -- accepted, and of a fill-or-kill order nothing or all; and at rest each client has read what the market's book has.
-use Rattle.std.specs.Prelude.{◌≡◌, ℕ, ◌≤◌, true, List, filter, length, None, is_some}
+use Rattle.std.specs.Prelude.{◌≡◌, ℕ, ◌≤◌, true, List, filter, length, is_some}
 use Rattle.order_law.specs.Headline.{Each}
 use Rattle.order_law.specs.History.{Entry, OrderHistory, SaysCancel, accepted, handled, is_new_order, issued}
 use Rattle.order_law.specs.History.{token_of}

@@ -3,8 +3,9 @@
 -- with the batch that the gateway gives to its event. (SoupBinTCP 3.00, "SoupBinTCP Session"; OUCH 4.2, "Overview".)
 use Rattle.std.specs.Prelude.{◌≡◌, ℕ, ◌+◌, ◌==◌, Bool, true, false, List, [], ◌∷◌, ◌++◌, drop}
 use Rattle.std.specs.Prelude.{Option, Some, None, if◌then◌else◌}
-use Rattle.std.specs.List.{list_any}
+use Rattle.std.specs.List.{list_all, list_any}
 use Rattle.market_law.specs.order_law.ouch_codec.declared.inbound.Inbound.{Inbound}
+use Rattle.order_law.specs.ouch_codec.Values.{is_byte}
 use Rattle.session_law.specs.fix_types.declared.application.AppMsg.{AppMsg}
 use Rattle.session_law.specs.fix_types.Application.{message_fields}
 use Rattle.session_law.specs.Runs.{OnMessage}
@@ -211,10 +212,11 @@ pub record CoreGets (s : Settings) (e : Event) (w after : World) : Type 0 where
   pub batch : Batch
   pub is_after : after ≡ core_steps s e batch w
 
--- a packet is delivered to a market, which reads it
+-- a packet, in bytes, is delivered to a market, which reads it
 pub record MarketGets (p : ℕ) (x : Carried) (choice : Choice) (w after : World) : Type 0 where
   pub packet : Packet
   pub is_packet : packet_bytes packet ≡ x.bytes
+  pub are_bytes : list_all is_byte packet.payload ≡ true
   pub read : Option Inbound
   pub is_read : ReadsEvent (sims.Packet packet choice) read
   pub is_after : after ≡ market_steps p (sims.Packet packet choice) read x.asks w

@@ -20,7 +20,7 @@ ghost use Rattle.gate_law.specs.Holds.{Holds};
 ghost use Rattle.order_machine.specs.Runs.{IsTableRun};
 ghost use Rattle.world_links.specs.Moves.{IsAfterMoves, moves_by};
 ghost use Rattle.world_core.specs.Ports.{NoFaults};
-ghost use Rattle.world_links.specs.Promises.{AsksOnce, FillsOrKills, RestsAlike, StayWithin, turns_of};
+ghost use Rattle.world_links.specs.Promises.{AsksOnce, FillsOrKills, FindOne, RestsAlike, StayWithin, turns_of};
 ghost use Rattle.world_links.specs.World.{LeadsTo, World, WorldStep};
 
 /// What a market's message is written as is decoded as the message. It does nothing: its contract is the law.
@@ -92,4 +92,10 @@ pub fn fill_or_kill_executes_all_or_nothing()
 pub fn at_rest_both_agree()
     ensures { (s : Settings) (steps : List WorldStep) (w : World) → is_served s ≡ true → LeadsTo s steps w
         → Holds s w.history → IsTableRun (terms s) (turns_of s w) → (p : ℕ) → RestsAlike s w p }
+{}
+
+/// There, the Cancel Orders of one request find at most one token live. It does nothing: its contract is the law.
+pub fn cancels_of_a_request_find_one_token()
+    ensures { (s : Settings) (steps : List WorldStep) (w : World) → is_served s ≡ true → LeadsTo s steps w
+        → Holds s w.history → IsTableRun (terms s) (turns_of s w) → (p : ℕ) → FindOne w p }
 {}
