@@ -1,7 +1,7 @@
 //! What is answered to a request.
 
 use crate::control::DayControl;
-use bytes::{BufMut, Bytes};
+use bytes::Bytes;
 use control_guard::{Act, Method, Refusal, Request as Asking, Rules, Verdict, judged, token_in};
 use http::{HeaderValue, Request, StatusCode, header};
 use http_server::{Response, Service};
