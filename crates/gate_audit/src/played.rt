@@ -1,0 +1,92 @@
+//! A closed world, played: what comes of its steps, and the audit of it beside the markets' books.
+
+use crate::opening::Opening;
+use crate::openings::openings_of;
+use crate::order_pair::OrderPair;
+use crate::pairs::audit;
+use closed_world::{BookRow, ClosedWorld, WorldStep};
+use gate_core::Settings;
+use gate_journal::History;
+use order_accounts::ReadingFault;
+use std::alloc::{AllocError, Global};
+
+/// What came of a closed world's steps.
+#[derive(Drop)]
+pub struct Played {
+    /// The core's events with their batches, the oldest first.
+    pub history: History,
+    /// What the market has of each order that was accepted, in the order of `pairs`: zeros and no side of an order that
+    /// never came there, or that it rejected.
+    pub books: Vec<BookRow>,
+    /// Each order that was accepted by both of its accounts, as `audit` has them.
+    pub pairs: Vec<OrderPair>,
+}
+
+/// What comes of these steps, one after another, from no step on: a core, a market for each port that the settings
+/// have, and the connections between them, in memory. A step that can't be taken does nothing.
+///
+/// The refusals are those of `audit`: `TooLarge` where an account has a number that is larger than its integer holds,
+/// or more tokens were given than there are; or else `NoMemory`.
+///
+/// Source: FIX 4.4 Volumes 2 and 4; OUCH 4.2; SoupBinTCP 3.00.
+pub fn play(
+    alloc: Global,
+    settings: &Settings,
+    steps: &[WorldStep],
+) -> Result<Played, ReadingFault> {
+    let world = world_after(alloc, settings, steps)?;
+    let books = books_of(alloc, settings, &world)?;
+    let history = world.into_history();
+    let pairs = audit(alloc, &history, settings)?;
+    Ok(Played {
+        history,
+        books,
+        pairs,
+    })
+}
+
+/// The world of these settings after these steps.
+fn world_after(
+    alloc: Global,
+    settings: &Settings,
+    steps: &[WorldStep],
+) -> Result<ClosedWorld, AllocError> {
+    let mut world = ClosedWorld::new(alloc, settings)?;
+    for step in steps {
+        world.step(alloc, step)?;
+    }
+    Ok(world)
+}
+
+/// What the markets have of the orders that were accepted, by client and then in the order of acceptance.
+fn books_of(
+    alloc: Global,
+    settings: &Settings,
+    world: &ClosedWorld,
+) -> Result<Vec<BookRow>, ReadingFault> {
+    let batches = world.history().batches(alloc)?;
+    let openings = openings_of(alloc, batches.as_slice())?;
+    let mut books = Vec::new(alloc);
+    for place in 0..settings.clients().len() {
+        let client = (place + 1) as u16;
+        let port = settings.clients()[place].terms.port;
+        push_rows(world, client, port, openings.orders.as_slice(), &mut books)?;
+    }
+    Ok(books)
+}
+
+/// What the market of a port has of a client's orders, behind the rows before.
+fn push_rows(
+    world: &ClosedWorld,
+    client: u16,
+    port: u16,
+    openings: &[Opening],
+    books: &mut Vec<BookRow>,
+) -> Result<(), AllocError> {
+    for opening in openings {
+        if opening.client == client {
+            books.push(world.row(port, &opening.root.bytes()))?;
+        }
+    }
+    Ok(())
+}
