@@ -7,15 +7,13 @@
 //! Source: SoupBinTCP 3.00, "Packets Sent by the Client", "Packets Sent by the Server"; OUCH 4.2.
 #![tactic(auto)]
 
-mod connection;
-mod events;
-mod port_line;
+mod places;
 mod step;
 mod world;
 
 pub use gate_core::Settings;
 pub use gate_events::{ClientFrame, ClientNumber, Event, PortNumber};
 pub use gate_journal::History;
-pub use market_sim::{BookRow, Choice, Trading};
+pub use world_ports::{BookRow, Choice, Trading};
 pub use step::WorldStep;
 pub use world::ClosedWorld;

@@ -1,13 +1,12 @@
 //! The world as a value, and its steps.
 
-use crate::events::{is_from_without, moment_of};
-use crate::port_line::PortLine;
+use crate::places::{opening_lines, place_of};
 use crate::step::WorldStep;
 use gate_core::{Core, Settings};
 use gate_events::{Batch, Event, PortNumber};
 use gate_journal::History;
-use market_sim::{BookRow, Choice};
 use std::alloc::{AllocError, Global};
+use world_ports::{BookRow, Choice, PortLine, is_from_without, later, moment_of};
 
 /// A core, a market for each port with its connection, and all events of the core with their batches.
 #[derive(Drop)]
@@ -21,13 +20,23 @@ pub struct ClosedWorld {
 }
 
 impl ClosedWorld {
+    ghost use Rattle.std.specs.Prelude.{◌≡◌, ◌+◌, ◌<◌, ◌∷◌, [], List, Option, Some, None, IfOk, length};
+    ghost use Rattle.gate_law.specs.Settings as law;
+    ghost use Rattle.gate_law.specs.Events as told;
+    ghost use Rattle.gate_events.specs.Seen.{batch_seen, event_seen};
+    ghost use Rattle.gate_journal.specs.Kept.{turns};
+    ghost use Rattle.market_law.specs.Rows.{row};
+    ghost use Rattle.world_links.specs.World as world;
+    ghost use Rattle.world_links.specs.World.{World};
+    ghost use Rattle.closed_world.specs.Steps.{step_seen};
+    ghost use Rattle.closed_world.specs.Worlds.{Goes, IsAsWorld, IsStepped, IsWorld, Steps, after_turn, but_connection};
+
     /// The world of these settings, in which nothing has come yet: no orders, no connections, moment 0.
-    pub fn new(alloc: Global, settings: &Settings) -> Result<ClosedWorld, AllocError> {
+    pub fn new(alloc: Global, settings: &Settings) -> Result<ClosedWorld, AllocError>
+        ensures { IfOk result (λ w. IsWorld settings.now [] w) }
+    {
         let core = Core::new(alloc, settings)?;
-        let mut ports = Vec::new(alloc);
-        for _ in 0..settings.ports().len() {
-            ports.push(PortLine::new(alloc))?;
-        }
+        let ports = opening_lines(alloc, settings.ports().len())?;
         Ok(ClosedWorld {
             core,
             history: History::new(alloc),
@@ -42,7 +51,20 @@ impl ClosedWorld {
     /// An event that the step makes for the core, of a port's link that comes or goes and of its packets, has the
     /// greatest moment of the events from without so far. Links of a port count from 1. A batch that closes a port's
     /// link ends its connection, and what is on its way on it is lost.
-    pub fn step(&mut self, alloc: Global, step: &WorldStep) -> Result<(), AllocError> {
+    ///
+    /// Source: SoupBinTCP 3.00, "Packets Sent by the Client", "Packets Sent by the Server"; the steps are our own.
+    pub fn step(&mut self, alloc: Global, step: &WorldStep) -> Result<(), AllocError>
+        ensures { IfOk result (λ u. (s : law.Settings) (steps : List world.WorldStep)
+            → IsWorld s steps self.old → IsWorld s (step_seen step.now ∷ steps) self.new) }
+    {
+        self.take(alloc, step)
+    }
+
+    /// From whichever world, the step goes to the next one.
+    fn take(&mut self, alloc: Global, step: &WorldStep) -> Result<(), AllocError>
+        ensures { IfOk result (λ u. (s : law.Settings) (x : World) → IsAsWorld s x self.old
+            → Goes s x (step_seen step.now) self.new) }
+    {
         match step {
             WorldStep::Client(event) => self.client(alloc, event),
             WorldStep::Connect(port) => self.connect(alloc, *port),
@@ -55,7 +77,10 @@ impl ClosedWorld {
 
     /// What the market of this port has of the order that goes by this token, or went by it before a replace: zeros and
     /// no side where there is none, and of a port that the settings don't have. Takes no memory.
-    pub fn row(&self, port: u16, token: &[u8; 14]) -> BookRow {
+    pub fn row(&self, port: u16, token: &[u8; 14]) -> BookRow
+        ensures { (s : law.Settings) (x : World) → IsAsWorld s x self.now → law.has_port s port ≡ true
+            → result ≡ row (x.markets port).book.book token.now }
+    {
         match place_of(port, self.ports.len()) {
             Some(place) => self.ports[place].market.row(token),
             None => BookRow {
@@ -69,12 +94,16 @@ impl ClosedWorld {
     }
 
     /// All events of the core so far with their batches. Takes no memory.
-    pub fn history(&self) -> &History {
+    pub fn history(&self) -> &History
+        ensures { (s : law.Settings) (x : World) → IsAsWorld s x self.now → turns result.now ≡ x.history }
+    {
         &self.history
     }
 
     /// The same, moved out. Takes no memory.
-    pub fn into_history(self) -> History {
+    pub fn into_history(self) -> History
+        ensures { (s : law.Settings) (x : World) → IsAsWorld s x self → turns result ≡ x.history }
+    {
         let ClosedWorld {
             core: _,
             history,
@@ -85,11 +114,14 @@ impl ClosedWorld {
     }
 
     /// An event from without.
-    fn client(&mut self, alloc: Global, event: &Event) -> Result<(), AllocError> {
+    fn client(&mut self, alloc: Global, event: &Event) -> Result<(), AllocError>
+        ensures { IfOk result (λ u. (s : law.Settings) (x : World) → IsAsWorld s x self.old
+            → Goes s x (world.Client (event_seen event.now)) self.new) }
+    {
         if !is_from_without(event) {
             return Ok(());
         }
-        self.now = self.now.max(moment_of(event));
+        self.now = later(self.now, moment_of(event));
         let batch = self.core_steps(alloc, event)?;
         match batch.port {
             Some(port) => self.tell(alloc, port.number(), &batch),
@@ -98,11 +130,15 @@ impl ClosedWorld {
     }
 
     /// A connection opens.
-    fn connect(&mut self, alloc: Global, port: u16) -> Result<(), AllocError> {
+    fn connect(&mut self, alloc: Global, port: u16) -> Result<(), AllocError>
+        ensures { IfOk result (λ u. (s : law.Settings) (x : World) → IsAsWorld s x self.old
+            → Goes s x (world.Connect port) self.new) }
+    {
         let Some(place) = place_of(port, self.ports.len()) else {
             return Ok(());
         };
-        let Some(link) = self.ports[place].open(alloc)? else {
+        let opened = self.ports[place].open(alloc)?;
+        let Some(link) = opened else {
             return Ok(());
         };
         let event = Event::PortUp {
@@ -114,7 +150,10 @@ impl ClosedWorld {
     }
 
     /// The oldest packet is delivered to a market.
-    fn to_market(&mut self, alloc: Global, port: u16, choice: Choice) -> Result<(), AllocError> {
+    fn to_market(&mut self, alloc: Global, port: u16, choice: Choice) -> Result<(), AllocError>
+        ensures { IfOk result (λ u. (s : law.Settings) (x : World) → IsAsWorld s x self.old
+            → Goes s x (world.ToMarket port choice) self.new) }
+    {
         match place_of(port, self.ports.len()) {
             Some(place) => self.ports[place].deliver(alloc, choice),
             None => Ok(()),
@@ -122,11 +161,15 @@ impl ClosedWorld {
     }
 
     /// The oldest packet is delivered to the core.
-    fn to_core(&mut self, alloc: Global, port: u16) -> Result<(), AllocError> {
+    fn to_core(&mut self, alloc: Global, port: u16) -> Result<(), AllocError>
+        ensures { IfOk result (λ u. (s : law.Settings) (x : World) → IsAsWorld s x self.old
+            → Goes s x (world.ToCore port) self.new) }
+    {
         let Some(place) = place_of(port, self.ports.len()) else {
             return Ok(());
         };
-        let Some((link, packet)) = self.ports[place].next_to_core() else {
+        let taken = self.ports[place].next_to_core();
+        let Some((link, packet)) = taken else {
             return Ok(());
         };
         let event = Event::PortPacket {
@@ -139,7 +182,10 @@ impl ClosedWorld {
     }
 
     /// A market does something by itself.
-    fn act(&mut self, alloc: Global, port: u16, choice: Choice) -> Result<(), AllocError> {
+    fn act(&mut self, alloc: Global, port: u16, choice: Choice) -> Result<(), AllocError>
+        ensures { IfOk result (λ u. (s : law.Settings) (x : World) → IsAsWorld s x self.old
+            → Goes s x (world.Act port choice) self.new) }
+    {
         match place_of(port, self.ports.len()) {
             Some(place) => self.ports[place].act(alloc, choice),
             None => Ok(()),
@@ -147,7 +193,10 @@ impl ClosedWorld {
     }
 
     /// A connection ends.
-    fn lose(&mut self, alloc: Global, port: u16) -> Result<(), AllocError> {
+    fn lose(&mut self, alloc: Global, port: u16) -> Result<(), AllocError>
+        ensures { IfOk result (λ u. (s : law.Settings) (x : World) → IsAsWorld s x self.old
+            → Goes s x (world.Lose port) self.new) }
+    {
         let Some(place) = place_of(port, self.ports.len()) else {
             return Ok(());
         };
@@ -163,29 +212,32 @@ impl ClosedWorld {
     }
 
     /// The core steps an event of a port, and its batch is told.
-    fn port_event(&mut self, alloc: Global, port: u16, event: &Event) -> Result<(), AllocError> {
+    fn port_event(&mut self, alloc: Global, port: u16, event: &Event) -> Result<(), AllocError>
+        ensures { IfOk result (λ u. (s : law.Settings) (x : World) (c : Option world.Connection)
+            → IsAsWorld s (but_connection port c x) self.old → Steps s x (event_seen event.now) port c self.new) }
+    {
         let batch = self.core_steps(alloc, event)?;
         self.tell(alloc, port, &batch)
     }
 
     /// The core steps an event, which is kept with its batch.
-    fn core_steps(&mut self, alloc: Global, event: &Event) -> Result<Batch, AllocError> {
+    fn core_steps(&mut self, alloc: Global, event: &Event) -> Result<Batch, AllocError>
+        ensures { IfOk result (λ batch. IsStepped (event_seen event.now) self.old self.new (batch_seen batch)) }
+    {
         let batch = self.core.step(alloc, event)?;
         self.history.push(event, &batch)?;
         Ok(batch)
     }
 
     /// What a batch tells a port's link.
-    fn tell(&mut self, alloc: Global, port: u16, batch: &Batch) -> Result<(), AllocError> {
+    fn tell(&mut self, alloc: Global, port: u16, batch: &Batch) -> Result<(), AllocError>
+        ensures { IfOk result (λ u. (s : law.Settings) (x : World) (e : told.Event) (c : Option world.Connection)
+            → IsAsWorld s (after_turn e (batch_seen batch.now) (but_connection port c x)) self.old
+            → IsAsWorld s (world.core_steps x e (batch_seen batch.now) port c) self.new) }
+    {
         match place_of(port, self.ports.len()) {
-            Some(place) => self.ports[place].hear(alloc, &batch.port_out),
+            Some(place) => self.ports[place].hear(alloc, batch),
             None => Ok(()),
         }
     }
-}
-
-/// The place of a number from 1, where there are so many.
-fn place_of(number: u16, count: usize) -> Option<usize> {
-    let place = usize::from(number).checked_sub(1)?;
-    if place < count { Some(place) } else { None }
 }

@@ -1,6 +1,6 @@
 -- What a command line asks for, as contracts see it.
 use Rattle.std.specs.Prelude.{option_map}
-use Rattle.gateway_command.specs.Command.{Asking, Audits, AuditsDay, Demonstrates, Keeps, Runs}
+use Rattle.gateway_command.specs.Command.{Asking, Audits, AuditsDay, Demonstrates, Keeps, Plays, Runs}
 use Rattle.gateway_command.specs.declared.asking.Asked.{Asked}
 use Rattle.gateway_command.specs.declared.asking.Asked.TheVariants as asked
 
@@ -11,3 +11,5 @@ asked_seen (asked.Keep script) = Keeps script.now
 asked_seen (asked.Run settings links journal) = Runs settings.now (option_map (λ text. text.now) links)
     (option_map (λ text. text.now) journal)
 asked_seen asked.Demo = Demonstrates
+asked_seen (asked.World seed steps clients ports) = Plays seed.now steps.now (option_map (λ text. text.now) clients)
+    (option_map (λ text. text.now) ports)

@@ -11,10 +11,13 @@ mod frames;
 mod maker;
 mod settings;
 mod shape;
+mod showing;
 mod weights;
 
 pub use counts::{Counts, counts_of};
+pub use frames::frame_of;
 pub use gate_audit::{BookRow, History, OrderPair, Played, ReadingFault, Settings, WorldStep, play};
 pub use maker::random_steps;
 pub use settings::world_settings;
 pub use shape::Shape;
+pub use showing::show_world;

@@ -1,92 +1,30 @@
-//! Closed worlds by seeds: standard input says which, standard output has a line for each row of seeds.
-//!
-//! `README.md` has the lines, and what is counted.
+//! Closed worlds played: those that standard input writes out, a case at a time, and those of seeds. Standard output
+//! has a line for each. `README.md` has what a line of the input may say.
 #![tactic(auto)]
 
-mod orders;
+mod case;
+mod choices;
+mod judging;
+mod lines;
+mod order;
+mod seeds;
+mod sender;
 mod sums;
 
-use decimal_digits::number_of;
-use random_world::{Shape, counts_of, play, random_steps, world_settings};
-use std::io::{self, BufRead, BufReader, ErrorKind, Write};
-use std::alloc::Global;
-use sums::Sums;
+use lines::Lines;
+use std::io::{self, BufRead, BufReader};
 
 fn main(rt: HostRuntime) -> io::Result<()> {
+    let mut lines = Lines::new(rt.alloc());
+    run(&rt, &mut lines)
+}
+
+/// Does what the lines of standard input say.
+fn run(rt: &HostRuntime, lines: &mut Lines) -> io::Result<()> {
     let alloc = rt.alloc();
     for line in BufReader::new(alloc, rt.reader())?.lines(alloc) {
         let line = line?;
-        run_line(alloc, line.as_str().as_bytes(), &mut io::writer(&rt))?;
+        lines.take(alloc, line.as_str().as_bytes(), &mut io::writer(rt))?;
     }
     Ok(())
-}
-
-/// `worlds FIRST LAST STEPS CLIENTS PORTS`: the worlds of these seeds.
-fn run_line<W: Write>(alloc: Global, line: &[u8], output: &mut W) -> io::Result<()> {
-    let mut numbers = Vec::new(alloc);
-    for word in line.split(|byte| *byte == b' ') {
-        if let Some(number) = number_of(word) {
-            numbers.push(number)?;
-        }
-    }
-    match numbers.as_slice() {
-        [first, last, steps, clients, ports] => {
-            let sums = worlds(
-                alloc,
-                *first,
-                *last,
-                *steps as u32,
-                *clients as u16,
-                *ports as u16,
-                output,
-            )?;
-            writeln!(output, "{sums}")?;
-            Ok(())
-        }
-        _ => Ok(()),
-    }
-}
-
-fn worlds<W: Write>(
-    alloc: Global,
-    first: u64,
-    last: u64,
-    steps: u32,
-    clients: u16,
-    ports: u16,
-    output: &mut W,
-) -> io::Result<Sums> {
-    let mut sums = Sums::new();
-    for seed in first..=last {
-        let shape = Shape {
-            seed,
-            steps,
-            clients,
-            ports,
-        };
-        world(alloc, &shape, &mut sums, output)?;
-    }
-    Ok(sums)
-}
-
-fn world<W: Write>(
-    alloc: Global,
-    shape: &Shape,
-    sums: &mut Sums,
-    output: &mut W,
-) -> io::Result<()> {
-    let Some(settings) = world_settings(alloc, shape.clients, shape.ports)? else {
-        return Err(io::Error::from(ErrorKind::InvalidInput));
-    };
-    let steps = random_steps(alloc, &settings, shape)?;
-    let Ok(played) = play(alloc, &settings, steps.as_slice()) else {
-        writeln!(output, "seed {}: not played", shape.seed)?;
-        return Ok(());
-    };
-    let counts = counts_of(alloc, u64::from(shape.steps), &played)?;
-    if !counts.is_right() {
-        writeln!(output, "seed {}: {counts}", shape.seed)?;
-    }
-    sums.add(&counts);
-    orders::judge(alloc, shape.seed, &played, sums, output)
 }

@@ -2,7 +2,7 @@
 use Rattle.std.proofs.Common.{rules, ap, ap₂, ◌≡◌, ◌∙◌}
 use Rattle.std.proofs.lemmas.Result.{IfOk-weaker}
 use Rattle.clap.specs.Words.{app_of}
-use Rattle.gateway_command.specs.Command.{alone, audit, demo, journal, runs, with_command}
+use Rattle.gateway_command.specs.Command.{alone, audit, demo, journal, runs, with_command, world}
 use Rattle.gateway_command.proofs.command.gateway.Goals as goal
 
 pub returns : goal.returns
@@ -14,4 +14,7 @@ returns c =
     c.in_ok-with_demo.ensures ∙ ap₂ with_command with_run_is c.demo.ensures.app in
     let with_audit_is : app_of c.in_ok-with_audit.with_audit ≡ with_command (with_command (with_command alone runs) demo) audit =
     c.in_ok-with_audit.ensures ∙ ap (λ x. with_command x audit) with_demo_is in
-    IfOk-weaker c.with_journal.result _ _ (λ command h. h ∙ ap (λ x. with_command x journal) with_audit_is) c.with_journal.ensures
+    let with_journal_is : app_of c.in_ok-with_journal.with_journal
+    ≡ with_command (with_command (with_command (with_command alone runs) demo) audit) journal =
+    c.in_ok-with_journal.ensures ∙ ap (λ x. with_command x journal) with_audit_is in
+    IfOk-weaker c.with_world.result _ _ (λ command h. h ∙ ap (λ x. with_command x world) with_journal_is) c.with_world.ensures

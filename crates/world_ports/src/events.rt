@@ -1,9 +1,15 @@
 //! Which events are steps of their own, and when they come.
 
+ghost use Rattle.std.specs.Prelude.{◌≡◌};
+ghost use Rattle.gate_events.specs.Seen.{event_seen};
+ghost use Rattle.world_links.specs.World as world;
+
 use gate_events::Event;
 
 /// Whether this is a client's event, or a tick: what a step may bring from without.
-pub fn is_from_without(event: &Event) -> bool {
+pub fn is_from_without(event: &Event) -> bool
+    ensures { result ≡ world.is_clients (event_seen event.now) }
+{
     match event {
         Event::ClientUp { .. }
         | Event::ClientMessage { .. }
@@ -15,7 +21,9 @@ pub fn is_from_without(event: &Event) -> bool {
 }
 
 /// When it comes, in milliseconds since 1970.
-pub fn moment_of(event: &Event) -> u64 {
+pub fn moment_of(event: &Event) -> u64
+    ensures { result ≡ world.moment_of (event_seen event.now) }
+{
     match event {
         Event::ClientUp { at, .. }
         | Event::ClientMessage { at, .. }
@@ -26,4 +34,11 @@ pub fn moment_of(event: &Event) -> u64 {
         | Event::PortGone { at, .. }
         | Event::PortTick { at, .. } => *at,
     }
+}
+
+/// The later of two moments.
+pub fn later(one: u64, other: u64) -> u64
+    ensures { result ≡ world.later one other }
+{
+    if one < other { other } else { one }
 }

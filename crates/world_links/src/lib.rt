@@ -1,0 +1,4 @@
+//! The closed world, as a definition.
+//!
+//! Contracts of the crates above cite `specs/`.
+#![tactic(auto)]
