@@ -1,5 +1,14 @@
 //! A closed world, played: what comes of its steps, and the audit of it beside the markets' books.
 
+ghost use Rattle.std.specs.Prelude.{◌≡◌, ◌++◌, true, IfOk, map, reverse};
+ghost use Rattle.gate_law.specs.Settings as law;
+ghost use Rattle.world_links.specs.World.{World};
+ghost use Rattle.closed_world.specs.Steps.{step_seen};
+ghost use Rattle.closed_world.specs.Worlds.{IsAsWorld, IsWorld};
+ghost use Rattle.gate_audit.specs.Pairs as read;
+ghost use Rattle.gate_audit.specs.Played as played;
+ghost use Rattle.gate_audit.specs.Played.{Plays};
+
 use crate::opening::Opening;
 use crate::openings::openings_of;
 use crate::order_pair::OrderPair;
@@ -33,7 +42,10 @@ pub fn play(
     alloc: Global,
     settings: &Settings,
     steps: &[WorldStep],
-) -> Result<Played, ReadingFault> {
+) -> Result<Played, ReadingFault>
+    ensures { IfOk result (λ done. Plays settings.now (reverse (map step_seen steps.now)) done.history done.books.items
+        done.pairs.items) }
+{
     let world = world_after(alloc, settings, steps)?;
     let books = books_of(alloc, settings, &world)?;
     let history = world.into_history();
@@ -50,7 +62,9 @@ fn world_after(
     alloc: Global,
     settings: &Settings,
     steps: &[WorldStep],
-) -> Result<ClosedWorld, AllocError> {
+) -> Result<ClosedWorld, AllocError>
+    ensures { IfOk result (λ world. IsWorld settings.now (reverse (map step_seen steps.now)) world) }
+{
     let mut world = ClosedWorld::new(alloc, settings)?;
     for step in steps {
         world.step(alloc, step)?;
@@ -63,7 +77,10 @@ fn books_of(
     alloc: Global,
     settings: &Settings,
     world: &ClosedWorld,
-) -> Result<Vec<BookRow>, ReadingFault> {
+) -> Result<Vec<BookRow>, ReadingFault>
+    ensures { IfOk result (λ books. (x : World) → IsAsWorld settings.now x world.now
+        → books.items ≡ played.books settings.now x) }
+{
     let batches = world.history().batches(alloc)?;
     let openings = openings_of(alloc, batches.as_slice())?;
     let mut books = Vec::new(alloc);
@@ -82,7 +99,10 @@ fn push_rows(
     port: u16,
     openings: &[Opening],
     books: &mut Vec<BookRow>,
-) -> Result<(), AllocError> {
+) -> Result<(), AllocError>
+    ensures { IfOk result (λ u. (s : law.Settings) (x : World) → IsAsWorld s x world.now → law.has_port s port ≡ true
+        → books.new.items ≡ books.old.items ++ map (played.book_of x port) (read.orders_of client openings.now)) }
+{
     for opening in openings {
         if opening.client == client {
             books.push(world.row(port, &opening.root.bytes()))?;

@@ -208,15 +208,40 @@ impl Maker {
             _ => self.chance.below(3_000),
         };
         self.now = self.now.saturating_add(u64::from(passed));
-        let at = self.now;
-        let event = if self.chance.once_in(3) {
-            let client = ClientNumber::at_place(self.client());
-            Event::ClientTick { client, at }
-        } else {
-            let port = PortNumber::new(self.port());
-            Event::PortTick { port, at }
-        };
+        let event = self.tick_event();
         self.take(alloc, WorldStep::Client(event))
+    }
+
+    /// The tick of a client or of a port; in one of ten an event that does nothing.
+    fn tick_event(&mut self) -> Event {
+        let at = self.now;
+        let client = ClientNumber::at_place(self.client());
+        let port = PortNumber::new(self.port());
+        match self.chance.below(10) {
+            0 => self.stray(client, port),
+            1..=3 => Event::ClientTick { client, at },
+            _ => Event::PortTick { port, at },
+        }
+    }
+
+    /// An event that does nothing: of a number that the settings don't have, of a link that isn't current, or one that
+    /// isn't a client's.
+    fn stray(&mut self, client: ClientNumber, port: PortNumber) -> Event {
+        let at = self.now;
+        let link = u64::MAX;
+        match self.chance.below(5) {
+            0 => Event::ClientTick {
+                client: ClientNumber::new(1_000),
+                at,
+            },
+            1 => Event::PortTick {
+                port: PortNumber::new(1_000),
+                at,
+            },
+            2 => Event::PortUp { port, link, at },
+            3 => Event::PortGone { port, link, at },
+            _ => Event::ClientGone { client, link, at },
+        }
     }
 
     /// What a market chooses where its answer is free.
@@ -280,11 +305,11 @@ impl Maker {
         self.look_for_newer();
         let mut token = token_of(self.newest);
         let mut row = self.world.row(port, &token);
-        for _ in 0..12 {
+        for _ in 0..24 {
             if row.unfilled > 0 {
                 break;
             }
-            let back = u64::from(self.chance.below(24));
+            let back = u64::from(self.chance.below(40));
             token = token_of(self.newest.saturating_sub(back));
             row = self.world.row(port, &token);
         }

@@ -25,7 +25,7 @@ impl Weights {
     /// Those of a world: with few deliveries or many, with few losses or many.
     pub fn of(chance: &mut Chance) -> Weights {
         let deliveries = one_of(chance, [4, 12, 20, 40]);
-        let acts = one_of(chance, [5, 10, 20, 30]);
+        let acts = one_of(chance, [10, 20, 30, 40]);
         let losses = one_of(chance, [0, 2, 3, 12]);
         let ticks = one_of(chance, [1, 3, 3, 8]);
         Weights {
