@@ -1,2 +1,2 @@
-mod Few
+pub mod Few
 mod Serving

@@ -1,0 +1,15 @@
+pub mod Decoded
+pub mod Logins
+pub mod Moving
+pub mod Stands
+pub mod Behind
+pub mod InStep
+pub mod Markets
+pub mod Core
+pub mod Events
+pub mod Lines
+pub mod Parts
+pub mod Good
+pub mod Worlds
+pub mod AtRest
+pub mod Shares
