@@ -1,23 +1,28 @@
 -- Steps, taken by the code's world.
-use Rattle.std.proofs.Common.{◌≡◌, ℕ, ◌+◌, ◌<◌, ◌≤◌, Bool, true, false, List, [], ◌∷◌, length, Option, Some, None, refl, sym, ap, ◌∙◌, subst, arith}
-use Rattle.std.specs.Prelude.{◌&&◌, nat_le, is_some, if◌then◌else◌}
+use Rattle.std.proofs.Common.{◌≡◌, ℕ, ◌+◌, ◌<◌, ◌≤◌, Bool, true, false, List, [], ◌∷◌, ◌++◌, length, map, Option, Some, None, refl, sym, ap, ◌∙◌, subst, arith}
+use Rattle.std.specs.Prelude.{◌&&◌, nat_le, is_some, option_map, if◌then◌else◌}
+use Rattle.std.specs.List.{list_any}
 use Rattle.std.proofs.lemmas.Bool.Decides.{nat_tests}
 use Rattle.gate_law.specs.Settings.{Settings, has_port}
-use Rattle.gate_law.specs.Events.{Batch, Event, History, PortUp, PortPacket, PortGone}
-use Rattle.ouch_codec.specs.declared.inbound.Inbound.{Inbound}
+use Rattle.gate_law.specs.After.{is_close, lists}
+use Rattle.gate_law.specs.Events.{Batch, Event, History, LinkOut, PortUp, PortPacket, PortGone}
+use Rattle.gate_law.specs.order_law.History.{Asked}
+use Rattle.gate_journal.specs.Kept.{turns}
+use Rattle.gate_core.specs.Core.{CoreState, IsAfter}
+use Rattle.market_law.specs.declared.choice.Choice.{Choice}
+use Rattle.market_law.specs.order_law.ouch_codec.declared.inbound.Inbound.{Inbound}
 use Rattle.soup_packets.specs.declared.packet.Packet.{Packet}
 use Rattle.soup_packets.specs.Spelling.{packet_bytes}
 use Rattle.market_sim.specs.declared.event.SimEvent.TheVariants as sims
-use Rattle.market_sim.specs.Sim.{ReadsEvent, SimStep, sim_step}
-use Rattle.gate_core.specs.Core.{CoreState, IsAfter}
-use Rattle.market_law.specs.declared.choice.Choice.{Choice}
+use Rattle.market_sim.specs.Sim.{ReadsEvent, sim_step}
+use Rattle.gate_law.specs.soup_session.Table.{later}
 use Rattle.world_links.specs.World as world
-use Rattle.world_links.specs.World.{World, OnPort, ConnectOf, LoseOf, ToCoreOf, ToMarketOf, core_steps, market_steps}
+use Rattle.world_links.specs.World.{Carried, ConnectOf, CoreGets, ForPort, LoseOf, ToCoreOf, ToMarketOf, World, asked_by_event, carried, connected, core_steps, ended, market_steps, told_connection, told_port, with_connection}
+use Rattle.world_ports.specs.Lines.{ArePackets, Delivers, DeliversOn, Line, NothingToCore, Way, market_line, with_way}
 use Rattle.closed_world.specs.declared.world.ClosedWorld.{ClosedWorld}
-use Rattle.world_ports.specs.Lines.{ArePackets, Delivers, DeliversOn, Line, line_at, market_line, nothing_to_core, with_connection}
-use Rattle.closed_world.specs.Worlds.{AreLines, Goes, IsAsWorld, IsStepped, after_turn, but_connection}
-use Rattle.world_ports.proofs.Written.{batch-packets}
-use Rattle.closed_world.proofs.Worlds.{its-connection, others-stay, stepped-line}
+use Rattle.closed_world.specs.Worlds.{AreLines, Gets, Goes, IsAsWorld, IsStepped, after_turn, line_at, way_of}
+use Rattle.closed_world.proofs.Written.{batch-packets}
+use Rattle.closed_world.proofs.Changes.{Changes, changes-none, changes-then, connection-changes, market-changes}
 
 -- what the last batch wrote are packets
 pub told-packets : (s : Settings) (e : Event) (b : Batch) (h : History) (c : CoreState) → IsAfter s (record { event = e; batch = b } ∷ h) c → ArePackets b.port_out
@@ -34,16 +39,6 @@ stepped-same s x e b old new stepped same = record {
   lines = subst (λ ports. AreLines x ports.items) (sym stepped.ports) same.lines;
 }
 
--- each port has its own connection
-pub own-connection : (s : Settings) (x : World) (p : ℕ) (w : ClosedWorld) → IsAsWorld s x w → IsAsWorld s (but_connection p (x.connections p) x) w
-own-connection s x p w same = record {
-  core = same.core;
-  history = same.history;
-  moment = same.moment;
-  count = same.count;
-  lines = its-connection x p w.ports.items same.lines;
-}
-
 -- ---- which ports there are
 
 pub is-port : (s : Settings) (p count : ℕ) → count ≡ length s.ports → true ≡ (nat_le 1 p && nat_le p count) → has_port s p ≡ true
@@ -58,188 +53,267 @@ no-place p count known i inside is = both p count (omega arith) (omega arith) kn
     both : (p count : ℕ) → 1 ≤ p → p ≤ count → false ≡ (nat_le 1 p && nat_le p count) → ⊥
     both p count one few known = grind (arith, nat_tests)
 
-pub on-port : (s : Settings) (x : World) (p : ℕ) (does : Type 0) (after : World) → has_port s p ≡ true → does → OnPort s x p does after
-on-port s x p does after is done = rw is done
+pub for-port : (b : Bool) (does : Type 0) (x after : World) → b ≡ true → does → ForPort b does x after
+for-port true does x after is done = done
+for-port false does x after is done = absurd (cc)
 
-pub off-port : (s : Settings) (x : World) (p : ℕ) (does : Type 0) → has_port s p ≡ false → OnPort s x p does x
-off-port s x p does is = rw is refl
+pub no-port : (b : Bool) (does : Type 0) (x : World) → b ≡ false → ForPort b does x x
+no-port true does x is = absurd (cc)
+no-port false does x is = refl
 
 -- ---- a connection opens
 
-pub connect-off : (s : Settings) (x : World) (p : ℕ) (w : ClosedWorld) → has_port s p ≡ false → IsAsWorld s x w → Goes s x (world.Connect p) w
-connect-off s x p w is same = record { after = x; happens = off-port s x p (ConnectOf x p (x.connections p) x) is; same = same }
+pub connect-off : (s : Settings) (x : World) (p : ℕ) (w : ClosedWorld) → has_port s p ≡ false → IsAsWorld s x w → Goes s (world.Connect p) x w
+connect-off s x p w is same = record { after = x; happens = no-port (has_port s p) (ConnectOf s p (x.connections p) x x) x is; same = same }
 
-pub connect-busy : (s : Settings) (x : World) (p : ℕ) (w : ClosedWorld) → has_port s p ≡ true → is_some (x.connections p) ≡ true → IsAsWorld s x w → Goes s x (world.Connect p) w
+pub connect-busy : (s : Settings) (x : World) (p : ℕ) (w : ClosedWorld) → has_port s p ≡ true → is_some (option_map way_of (x.connections p)) ≡ true → IsAsWorld s x w → Goes s (world.Connect p) x w
 connect-busy s x p w is busy same = record {
   after = x;
-  happens = on-port s x p (ConnectOf x p (x.connections p) x) x is (by_connection (x.connections p) busy);
+  happens = for-port (has_port s p) (ConnectOf s p (x.connections p) x x) x x is (by_connection (x.connections p) busy);
   same = same;
 }
   where
-    by_connection : (c : Option world.Connection) → is_some c ≡ true → ConnectOf x p c x
+    by_connection : (c : Option world.Connection) → is_some (option_map way_of c) ≡ true → ConnectOf s p c x x
     by_connection None e = absurd (cc)
     by_connection (Some c) e = refl
 
--- a world in which one has opened
-abbrev pub opened_world : World → ℕ → World
-opened_world x p = record x {
-  links = world.at_port p (x.links p + 1) x.links;
-  markets = world.at_port p (sim_step (x.markets p) sims.Up None).state x.markets;
+pub connect-opens : (s : Settings) (x : World) (p : ℕ) (w : ClosedWorld) → has_port s p ≡ true → option_map way_of (x.connections p) ≡ None
+    → Gets s (PortUp p (x.links p + 1) x.now) (connected p x) w → Goes s (world.Connect p) x w
+connect-opens s x p w is none got = record {
+  after = got.after;
+  happens = for-port (has_port s p) (ConnectOf s p (x.connections p) x got.after) x got.after is (by_connection (x.connections p) none);
+  same = got.same;
 }
-
-abbrev pub first_connection : World → ℕ → Option world.Connection
-first_connection x p = Some (record { link = x.links p + 1; to_market = []; to_core = [] })
-
-pub connect-opens : (s : Settings) (x : World) (p : ℕ) (w : ClosedWorld) (b : Batch) → has_port s p ≡ true → x.connections p ≡ None
-    → IsAsWorld s (core_steps (opened_world x p) (PortUp p (x.links p + 1) x.now) b p (first_connection x p)) w → Goes s x (world.Connect p) w
-connect-opens s x p w b is none same =
-    let after : World = core_steps (opened_world x p) (PortUp p (x.links p + 1) x.now) b p (first_connection x p) in
-    record {
-      after = after;
-      happens = on-port s x p (ConnectOf x p (x.connections p) after) after is (subst (λ (c : Option world.Connection). ConnectOf x p c after) (sym none) (b, refl));
-      same = same;
-    }
+  where
+    by_connection : (c : Option world.Connection) → option_map way_of c ≡ None → ConnectOf s p c x got.after
+    by_connection None e = got.gets
+    by_connection (Some c) e = absurd (cc)
 
 -- ---- a connection ends
 
-pub lose-off : (s : Settings) (x : World) (p : ℕ) (w : ClosedWorld) → has_port s p ≡ false → IsAsWorld s x w → Goes s x (world.Lose p) w
-lose-off s x p w is same = record { after = x; happens = off-port s x p (LoseOf x p (x.connections p) x) is; same = same }
+pub lose-off : (s : Settings) (x : World) (p : ℕ) (w : ClosedWorld) → has_port s p ≡ false → IsAsWorld s x w → Goes s (world.Lose p) x w
+lose-off s x p w is same = record { after = x; happens = no-port (has_port s p) (LoseOf s p (x.connections p) x x) x is; same = same }
 
-pub lose-none : (s : Settings) (x : World) (p : ℕ) (w : ClosedWorld) → has_port s p ≡ true → x.connections p ≡ None → IsAsWorld s x w → Goes s x (world.Lose p) w
+pub lose-none : (s : Settings) (x : World) (p : ℕ) (w : ClosedWorld) → has_port s p ≡ true → option_map way_of (x.connections p) ≡ None → IsAsWorld s x w → Goes s (world.Lose p) x w
 lose-none s x p w is none same = record {
   after = x;
-  happens = on-port s x p (LoseOf x p (x.connections p) x) x is (subst (λ (c : Option world.Connection). LoseOf x p c x) (sym none) refl);
-  same = same;
-}
-
-pub lose-some : (s : Settings) (x : World) (p : ℕ) (w : ClosedWorld) (c : world.Connection) (b : Batch) → has_port s p ≡ true → x.connections p ≡ Some c
-    → IsAsWorld s (core_steps x (PortGone p c.link x.now) b p None) w → Goes s x (world.Lose p) w
-lose-some s x p w c b is some same =
-    let after : World = core_steps x (PortGone p c.link x.now) b p None in
-    record {
-      after = after;
-      happens = on-port s x p (LoseOf x p (x.connections p) after) after is (subst (λ (c : Option world.Connection). LoseOf x p c after) (sym some) (b, refl));
-      same = same;
-    }
-
--- ---- a packet is delivered to the core
-
-pub core-off : (s : Settings) (x : World) (p : ℕ) (w : ClosedWorld) → has_port s p ≡ false → IsAsWorld s x w → Goes s x (world.ToCore p) w
-core-off s x p w is same = record { after = x; happens = off-port s x p (ToCoreOf x p (x.connections p) x) is; same = same }
-
-pub core-none : (s : Settings) (x : World) (p : ℕ) (w : ClosedWorld) → has_port s p ≡ true → nothing_to_core (x.connections p) → IsAsWorld s x w → Goes s x (world.ToCore p) w
-core-none s x p w is none same = record {
-  after = x;
-  happens = on-port s x p (ToCoreOf x p (x.connections p) x) x is (by_connection (x.connections p) none);
+  happens = for-port (has_port s p) (LoseOf s p (x.connections p) x x) x x is (by_connection (x.connections p) none);
   same = same;
 }
   where
-    by_connection : (c : Option world.Connection) → nothing_to_core c → ToCoreOf x p c x
+    by_connection : (c : Option world.Connection) → option_map way_of c ≡ None → LoseOf s p c x x
+    by_connection None e = refl
+    by_connection (Some c) e = absurd (cc)
+
+pub lose-some : (s : Settings) (x : World) (p link : ℕ) (w : ClosedWorld) (c : Way) → has_port s p ≡ true → option_map way_of (x.connections p) ≡ Some c → link ≡ c.link
+    → Gets s (PortGone p link x.now) (ended p x) w → Goes s (world.Lose p) x w
+lose-some s x p link w c is some same_link got = record {
+  after = got.after;
+  happens = for-port (has_port s p) (LoseOf s p (x.connections p) x got.after) x got.after is (by_connection (x.connections p) some);
+  same = got.same;
+}
+  where
+    by_connection : (d : Option world.Connection) → option_map way_of d ≡ Some c → LoseOf s p d x got.after
+    by_connection None e = absurd (cc)
+    by_connection (Some d) e =
+        let links : link ≡ d.link = cc in
+        subst (λ (n : ℕ). CoreGets s (PortGone p n x.now) (ended p x) got.after) links got.gets
+
+-- ---- a packet is delivered to the core
+
+pub core-off : (s : Settings) (x : World) (p : ℕ) (w : ClosedWorld) → has_port s p ≡ false → IsAsWorld s x w → Goes s (world.ToCore p) x w
+core-off s x p w is same = record { after = x; happens = no-port (has_port s p) (ToCoreOf s p (x.connections p) x x) x is; same = same }
+
+pub core-none : (s : Settings) (x : World) (p : ℕ) (w : ClosedWorld) → has_port s p ≡ true → NothingToCore (option_map way_of (x.connections p)) → IsAsWorld s x w → Goes s (world.ToCore p) x w
+core-none s x p w is none same = record {
+  after = x;
+  happens = for-port (has_port s p) (ToCoreOf s p (x.connections p) x x) x x is (by_connection (x.connections p) none);
+  same = same;
+}
+  where
+    by_connection : (c : Option world.Connection) → NothingToCore (option_map way_of c) → ToCoreOf s p c x x
     by_connection None e = refl
     by_connection (Some c) e = rw e refl
 
-pub core-some : (s : Settings) (x : World) (p : ℕ) (w : ClosedWorld) (c : world.Connection) (packet : Packet) (rest : List Packet) (b : Batch)
-    → has_port s p ≡ true → x.connections p ≡ Some c → c.to_core ≡ packet ∷ rest
-    → IsAsWorld s (core_steps x (PortPacket p c.link x.now packet) b p (Some (record c { to_core = rest }))) w → Goes s x (world.ToCore p) w
-core-some s x p w c packet rest b is some front same =
-    let after : World = core_steps x (PortPacket p c.link x.now packet) b p (Some (record c { to_core = rest })) in
-    record {
-      after = after;
-      happens = on-port s x p (ToCoreOf x p (x.connections p) after) after is (subst (λ (c : Option world.Connection). ToCoreOf x p c after) (sym some) (rw front (b, refl)));
-      same = same;
-    }
+-- the connection with what is left on its way to the core
+pub record LeftToCore (s : Settings) (x : World) (p : ℕ) (packet : Packet) (rest : List Packet) (link : ℕ) (c : Way) : Type 0 where
+  pub conn : world.Connection
+  pub rests : Changes p x (with_connection p conn x) (with_way (Some (record c { to_core = rest })) (line_at x p))
+  pub goes : (after : World) → CoreGets s (PortPacket p link x.now packet) (with_connection p conn x) after → ToCoreOf s p (x.connections p) x after
+
+pub left-to-core : (s : Settings) (x : World) (p : ℕ) (packet : Packet) (rest : List Packet) (link : ℕ) (c : Way)
+    → option_map way_of (x.connections p) ≡ Some c → c.to_core ≡ packet ∷ rest → link ≡ c.link → LeftToCore s x p packet rest link c
+left-to-core s x p packet rest link c some front same_link = by_connection (x.connections p) refl some
+  where
+    by_parts : (l : ℕ) (to_market : List Carried) (to_core : List Packet)
+        → x.connections p ≡ Some (record { link = l; to_market = to_market; to_core = to_core })
+        → way_of (record { link = l; to_market = to_market; to_core = to_core }) ≡ c → LeftToCore s x p packet rest link c
+    by_parts l to_market to_core is e =
+        let links : link ≡ l = cc in
+        let fronts : to_core ≡ packet ∷ rest = cc in
+        let ways : map (λ (y : Carried). y.bytes) to_market ≡ c.to_market = cc in
+        let way : way_of (record { link = l; to_market = to_market; to_core = rest }) ≡ record c { to_core = rest } = cc in
+        record {
+          conn = record { link = l; to_market = to_market; to_core = rest };
+          rests = subst (λ (z : Way). Changes p x (with_connection p (record { link = l; to_market = to_market; to_core = rest }) x) (with_way (Some z) (line_at x p))) way
+              (connection-changes p (record { link = l; to_market = to_market; to_core = rest }) x);
+          goes = λ after got. subst (λ (d : Option world.Connection). ToCoreOf s p d x after) (sym is)
+              (rw fronts (subst (λ (n : ℕ). CoreGets s (PortPacket p n x.now packet) (with_connection p (record { link = l; to_market = to_market; to_core = rest }) x) after) links got));
+        }
+
+    by_connection : (d : Option world.Connection) → x.connections p ≡ d → option_map way_of d ≡ Some c → LeftToCore s x p packet rest link c
+    by_connection None is e = absurd (cc)
+    by_connection (Some d) is e = let same : way_of d ≡ c = cc in by_parts d.link d.to_market d.to_core is same
+
+pub core-some : (s : Settings) (x : World) (p : ℕ) (w : ClosedWorld) (packet : Packet) (rest : List Packet) (link : ℕ) (c : Way) (left : LeftToCore s x p packet rest link c)
+    → has_port s p ≡ true → Gets s (PortPacket p link x.now packet) (with_connection p left.conn x) w → Goes s (world.ToCore p) x w
+core-some s x p w packet rest link c left is got = record {
+  after = got.after;
+  happens = for-port (has_port s p) (ToCoreOf s p (x.connections p) x got.after) x got.after is (left.goes got.after got.gets);
+  same = got.same;
+}
 
 -- ---- a packet is delivered to a market
 
-pub market-off : (s : Settings) (x : World) (p : ℕ) (choice : Choice) (w : ClosedWorld) → has_port s p ≡ false → IsAsWorld s x w → Goes s x (world.ToMarket p choice) w
-market-off s x p choice w is same = record { after = x; happens = off-port s x p (ToMarketOf x p choice (x.connections p) x) is; same = same }
+pub market-off : (s : Settings) (x : World) (p : ℕ) (choice : Choice) (w : ClosedWorld) → has_port s p ≡ false → IsAsWorld s x w → Goes s (world.ToMarket p choice) x w
+market-off s x p choice w is same = record { after = x; happens = no-port (has_port s p) (ToMarketOf p choice (x.connections p) x x) x is; same = same }
 
--- ---- a market acts
-
-pub act-off : (s : Settings) (x : World) (p : ℕ) (choice : Choice) (w : ClosedWorld) → has_port s p ≡ false → IsAsWorld s x w → Goes s x (world.Act p choice) w
-act-off s x p choice w is same = record {
-  after = x;
-  happens = off-port s x p (x ≡ market_steps x p (sim_step (x.markets p) (sims.Act choice) None) (x.connections p)) is;
-  same = same;
-}
-
-pub act-on : (s : Settings) (x : World) (p : ℕ) (choice : Choice) (w : ClosedWorld) → has_port s p ≡ true
-    → IsAsWorld s (market_steps x p (sim_step (x.markets p) (sims.Act choice) None) (x.connections p)) w → Goes s x (world.Act p choice) w
-act-on s x p choice w is same =
-    let after : World = market_steps x p (sim_step (x.markets p) (sims.Act choice) None) (x.connections p) in
-    record { after = after; happens = on-port s x p (after ≡ after) after is refl; same = same }
-
--- ---- an event from without
-
-pub client-not : (s : Settings) (x : World) (e : Event) (w : ClosedWorld) → world.is_clients e ≡ false → IsAsWorld s x w → Goes s x (world.Client e) w
-client-not s x e w is same = record { after = x; happens = rw is refl; same = same }
-
--- a world at the event's moment, if that is later
-abbrev pub later_world : World → Event → World
-later_world x e = record x { now = world.later x.now (world.moment_of e) }
-
-pub client-steps : (s : Settings) (x : World) (e : Event) (b : Batch) (w : ClosedWorld) → world.is_clients e ≡ true
-    → IsAsWorld s (core_steps (later_world x e) e b (world.port_told b) (x.connections (world.port_told b))) w → Goes s x (world.Client e) w
-client-steps s x e b w is same = record {
-  after = core_steps (later_world x e) e b (world.port_told b) (x.connections (world.port_told b));
-  happens = rw is (b, refl);
-  same = same;
-}
-
--- a port after a delivery to its market, and the world that it makes
+-- the world that a delivery makes, by what it makes of the port
 pub record Delivered (x : World) (p : ℕ) (choice : Choice) (c : Option world.Connection) (new : Line) : Type 0 where
   pub after : World
-  pub goes : ToMarketOf x p choice c after
-  pub there : new ≡ line_at after p
-  pub others : (q : ℕ) → (q ≡ p → ⊥) → line_at x q ≡ line_at after q
+  pub goes : ToMarketOf p choice c x after
+  pub changes : Changes p x after new
   pub history : after.history ≡ x.history
   pub moment : after.now ≡ x.now
 
-nothing-delivered : (x : World) (p : ℕ) (choice : Choice) (link : ℕ) (to_core : List Packet) (new : Line)
-    → x.connections p ≡ Some (record { link = link; to_market = []; to_core = to_core })
-    → new ≡ with_connection (Some (record { link = link; to_market = []; to_core = to_core })) (line_at x p)
-    → Delivered x p choice (Some (record { link = link; to_market = []; to_core = to_core })) new
-nothing-delivered x p choice link to_core new is made = record {
-  after = x;
-  goes = refl;
-  there = made ∙ ap (λ (c : Option world.Connection). with_connection c (line_at x p)) (sym is);
-  others = λ q ne. refl;
-  history = refl;
-  moment = refl;
-}
-
-packet-delivered : (x : World) (p : ℕ) (choice : Choice) (link : ℕ) (bytes : List ℕ) (rest : List (List ℕ)) (to_core : List Packet) (new : Line)
-    → (packet : Packet) (read : Option Inbound) → packet_bytes packet ≡ bytes → ReadsEvent (sims.Packet packet choice) read
+packet-delivered : (x : World) (p : ℕ) (choice : Choice) (link : ℕ) (one : Carried) (rest : List Carried) (to_core : List Packet) (new : Line)
+    → (packet : Packet) (read : Option Inbound) → packet_bytes packet ≡ one.bytes → ReadsEvent (sims.Packet packet choice) read
     → new ≡ market_line (sim_step (x.markets p) (sims.Packet packet choice) read)
-    (with_connection (Some (record { link = link; to_market = rest; to_core = to_core })) (line_at x p))
-    → Delivered x p choice (Some (record { link = link; to_market = bytes ∷ rest; to_core = to_core })) new
-packet-delivered x p choice link bytes rest to_core new packet read spelled reads made =
-    let step : SimStep = sim_step (x.markets p) (sims.Packet packet choice) read in
-    let c : Option world.Connection = Some (record { link = link; to_market = rest; to_core = to_core }) in
+    (with_way (Some (way_of (record { link = link; to_market = rest; to_core = to_core }))) (line_at x p))
+    → Delivered x p choice (Some (record { link = link; to_market = one ∷ rest; to_core = to_core })) new
+packet-delivered x p choice link one rest to_core new packet read spelled reads made =
+    let left : world.Connection = record { link = link; to_market = rest; to_core = to_core } in
+    let y : World = with_connection p left x in
+    let first : Changes p x y (with_way (Some (way_of left)) (line_at x p)) = connection-changes p left x in
+    let second : Changes p y (market_steps p (sims.Packet packet choice) read one.asks y) (market_line (sim_step (y.markets p) (sims.Packet packet choice) read) (line_at y p)) =
+    market-changes p (sims.Packet packet choice) read one.asks y in
     record {
-      after = market_steps x p step c;
-      goes = (packet, read, spelled, reads, refl);
-      there = made ∙ stepped-line x p p step c refl;
-      others = λ q ne. others-stay x p q step c ne;
+      after = market_steps p (sims.Packet packet choice) read one.asks y;
+      goes = record { packet = packet; is_packet = spelled; read = read; is_read = reads; is_after = refl };
+      changes = subst (λ (l : Line). Changes p x (market_steps p (sims.Packet packet choice) read one.asks y) l)
+          (ap (market_line (sim_step (x.markets p) (sims.Packet packet choice) read)) first.there ∙ sym made)
+          (changes-then p x y (market_steps p (sims.Packet packet choice) read one.asks y) _ _ first second);
       history = refl;
       moment = refl;
     }
 
-on-connection : (x : World) (p : ℕ) (choice : Choice) (link : ℕ) (to_market : List (List ℕ)) (to_core : List Packet) (new : Line)
+on-connection : (x : World) (p : ℕ) (choice : Choice) (link : ℕ) (to_market : List Carried) (to_core : List Packet) (new : Line)
     → x.connections p ≡ Some (record { link = link; to_market = to_market; to_core = to_core })
-    → DeliversOn choice (record { link = link; to_market = to_market; to_core = to_core }) to_market (line_at x p) new
+    → DeliversOn choice (way_of (record { link = link; to_market = to_market; to_core = to_core })) (map (λ (y : Carried). y.bytes) to_market) (line_at x p) new
     → Delivered x p choice (Some (record { link = link; to_market = to_market; to_core = to_core })) new
-on-connection x p choice link [] to_core new is made = nothing-delivered x p choice link to_core new is made
-on-connection x p choice link (bytes ∷ rest) to_core new is made = packet-delivered x p choice link bytes rest to_core new made.0 made.1 made.2 made.3 made.4
+on-connection x p choice link [] to_core new is made = record {
+  after = x;
+  goes = refl;
+  changes = subst (λ (l : Line). Changes p x x l) (same ∙ sym made) (changes-none p x);
+  history = refl;
+  moment = refl;
+}
+  where
+    same : line_at x p ≡ with_way (Some (way_of (record { link = link; to_market = []; to_core = to_core }))) (line_at x p)
+    same = ap (λ (c : Option world.Connection). with_way (option_map way_of c) (line_at x p)) is
+on-connection x p choice link (one ∷ rest) to_core new is made = packet-delivered x p choice link one rest to_core new made.0 made.1 made.2 made.3 made.4
 
-pub delivered : (x : World) (p : ℕ) (choice : Choice) (c : Option world.Connection) (new : Line) → x.connections p ≡ c → Delivers choice c (line_at x p) new → Delivered x p choice c new
-delivered x p choice None new is made = record { after = x; goes = refl; there = made; others = λ q ne. refl; history = refl; moment = refl }
-delivered x p choice (Some c) new is made = on-connection x p choice c.link c.to_market c.to_core new is made
+pub delivered : (x : World) (p : ℕ) (choice : Choice) (new : Line) → Delivers choice (option_map way_of (x.connections p)) (line_at x p) new → Delivered x p choice (x.connections p) new
+delivered x p choice new made = by_connection (x.connections p) refl made
+  where
+    by_connection : (c : Option world.Connection) → x.connections p ≡ c → Delivers choice (option_map way_of c) (line_at x p) new → Delivered x p choice c new
+    by_connection None is same = record {
+      after = x;
+      goes = refl;
+      changes = subst (λ (l : Line). Changes p x x l) (sym same) (changes-none p x);
+      history = refl;
+      moment = refl;
+    }
+    by_connection (Some c) is made = on-connection x p choice c.link c.to_market c.to_core new is made
 
 pub market-goes : (s : Settings) (x : World) (p : ℕ) (choice : Choice) (w : ClosedWorld) (new : Line) (d : Delivered x p choice (x.connections p) new)
-    → has_port s p ≡ true → IsAsWorld s d.after w → Goes s x (world.ToMarket p choice) w
+    → has_port s p ≡ true → IsAsWorld s d.after w → Goes s (world.ToMarket p choice) x w
 market-goes s x p choice w new d is same = record {
   after = d.after;
-  happens = on-port s x p (ToMarketOf x p choice (x.connections p) d.after) d.after is d.goes;
+  happens = for-port (has_port s p) (ToMarketOf p choice (x.connections p) x d.after) x d.after is d.goes;
   same = same;
 }
+
+-- ---- a market acts
+
+pub act-off : (s : Settings) (x : World) (p : ℕ) (choice : Choice) (w : ClosedWorld) → has_port s p ≡ false → IsAsWorld s x w → Goes s (world.Act p choice) x w
+act-off s x p choice w is same = record {
+  after = x;
+  happens = no-port (has_port s p) (x ≡ market_steps p (sims.Act choice) None None x) x is;
+  same = same;
+}
+
+pub act-on : (s : Settings) (x : World) (p : ℕ) (choice : Choice) (w : ClosedWorld) → has_port s p ≡ true
+    → IsAsWorld s (market_steps p (sims.Act choice) None None x) w → Goes s (world.Act p choice) x w
+act-on s x p choice w is same =
+    let after : World = market_steps p (sims.Act choice) None None x in
+    record { after = after; happens = for-port (has_port s p) (after ≡ after) x after is refl; same = same }
+
+-- ---- an event from without
+
+pub client-not : (s : Settings) (x : World) (e : Event) (w : ClosedWorld) → world.is_clients e ≡ false → IsAsWorld s x w → Goes s (world.Client e) x w
+client-not s x e w is same = record { after = x; happens = rw is refl; same = same }
+
+-- a world at the event's moment, if that is later
+abbrev pub later_world : World → Event → World
+later_world x e = record x { now = later x.now (world.moment_of e) }
+
+pub client-gets : (s : Settings) (x : World) (e : Event) (w : ClosedWorld) → world.is_clients e ≡ true → Gets s e (later_world x e) w → Goes s (world.Client e) x w
+client-gets s x e w is got = record { after = got.after; happens = rw is got.gets; same = got.same }
+
+-- ---- the code's world after a change
+
+pub as-after : (s : Settings) (x y : World) (old new : ClosedWorld) → y.history ≡ x.history → y.now ≡ x.now
+    → new.core ≡ old.core → new.history ≡ old.history → new.now ≡ old.now → length new.ports.items ≡ length old.ports.items
+    → (AreLines x old.ports.items → AreLines y new.ports.items) → IsAsWorld s x old → IsAsWorld s y new
+as-after s x y old new history moment core kept now count lines same = record {
+  core = subst (λ (c : CoreState). IsAfter s y.history c) (sym core) (subst (λ (h : History). IsAfter s h old.core) (sym history) same.core);
+  history = ap turns kept ∙ (same.history ∙ sym history);
+  moment = now ∙ (same.moment ∙ sym moment);
+  count = count ∙ same.count;
+  lines = lines same.lines;
+}
+
+told-history : (p : ℕ) (outs : List LinkOut) (asks : List Asked) (c : Option world.Connection) (x : World) → (told_connection p outs asks c x).history ≡ x.history
+told-history p outs asks None x = refl
+told-history p outs asks (Some c) x = by_close (list_any (is_close (Some c.link)) outs)
+  where
+    by_close : (b : Bool) → (if b then ended p x else with_connection p (record c { to_market = c.to_market ++ carried c.link outs asks }) x).history ≡ x.history
+    by_close true = refl
+    by_close false = refl
+
+told-moment : (p : ℕ) (outs : List LinkOut) (asks : List Asked) (c : Option world.Connection) (x : World) → (told_connection p outs asks c x).now ≡ x.now
+told-moment p outs asks None x = refl
+told-moment p outs asks (Some c) x = by_close (list_any (is_close (Some c.link)) outs)
+  where
+    by_close : (b : Bool) → (if b then ended p x else with_connection p (record c { to_market = c.to_market ++ carried c.link outs asks }) x).now ≡ x.now
+    by_close true = refl
+    by_close false = refl
+
+-- a port was told what a batch writes to it
+pub told-same : (s : Settings) (x : World) (p : ℕ) (outs : List LinkOut) (asks : List Asked) (old new : ClosedWorld)
+    → new.core ≡ old.core → new.history ≡ old.history → new.now ≡ old.now → length new.ports.items ≡ length old.ports.items
+    → (AreLines x old.ports.items → AreLines (told_connection p outs asks (x.connections p) x) new.ports.items)
+    → IsAsWorld s x old → IsAsWorld s (told_connection p outs asks (x.connections p) x) new
+told-same s x p outs asks old new core kept now count lines same =
+    as-after s x (told_connection p outs asks (x.connections p) x) old new (told-history p outs asks (x.connections p) x) (told-moment p outs asks (x.connections p) x) core kept now count lines same
+
+pub tell-some : (s : Settings) (x : World) (e : Event) (b : Batch) (p : ℕ) (w : ClosedWorld) → b.port ≡ Some p
+    → IsAsWorld s (told_connection p b.port_out (asked_by_event s e (lists s x.history) p) (x.connections p) (after_turn e b x)) w → IsAsWorld s (core_steps s e b x) w
+tell-some s x e b p w is same = subst (λ (q : Option ℕ). IsAsWorld s (told_port s e (lists s x.history) b.port_out q (after_turn e b x)) w) (sym is) same
+
+pub tell-none : (s : Settings) (x : World) (e : Event) (b : Batch) (w : ClosedWorld) → b.port ≡ None → IsAsWorld s (after_turn e b x) w → IsAsWorld s (core_steps s e b x) w
+tell-none s x e b w is same = subst (λ (q : Option ℕ). IsAsWorld s (told_port s e (lists s x.history) b.port_out q (after_turn e b x)) w) (sym is) same
+
+pub batch-gets : (s : Settings) (x : World) (e : Event) (b : Batch) (w : ClosedWorld) → IsAsWorld s (core_steps s e b x) w → Gets s e x w
+batch-gets s x e b w same = record { after = core_steps s e b x; gets = record { batch = b; is_after = refl }; same = same }

@@ -1,2 +1,3 @@
-pub mod Worlds
+pub mod Written
+pub mod Changes
 pub mod Going

@@ -1,18 +1,28 @@
 -- When the code's world is one that steps lead to.
-use Rattle.std.specs.Prelude.{◌≡◌, ℕ, ◌+◌, List, ◌∷◌, length, Option, Some, None, slice_get, if◌then◌else◌}
+use Rattle.std.specs.Prelude.{◌≡◌, ℕ, ◌+◌, List, ◌∷◌, length, map, Option, Some, option_map, slice_get}
 use Rattle.gate_law.specs.Settings.{Settings}
 use Rattle.gate_law.specs.Events.{Batch, Event, History}
 use Rattle.gate_core.specs.Core.{IsAfter}
 use Rattle.gate_journal.specs.Kept.{turns}
 use Rattle.world_links.specs.World as world
-use Rattle.world_links.specs.World.{Happens, LeadsTo, World, at_port, core_steps}
+use Rattle.world_links.specs.World.{Carried, CoreGets, Happens, LeadsTo, World}
+use Rattle.world_ports.specs.Lines.{Line, Way, line_seen}
 use Rattle.world_ports.specs.declared.port_line.PortLine.{PortLine}
 use Rattle.closed_world.specs.declared.world.ClosedWorld.{ClosedWorld}
-use Rattle.world_ports.specs.Lines.{line_at, line_seen}
+
+-- ---- what a world has of a port: no program keeps what a packet on its way asks
+
+abbrev pub way_of : world.Connection → Way
+way_of c = record { link = c.link; to_market = map (λ (x : Carried). x.bytes) c.to_market; to_core = c.to_core }
+
+abbrev pub line_at : World → ℕ → Line
+line_at x p = record { market = x.markets p; connection = option_map way_of (x.connections p); links = x.links p }
 
 -- each port is the world's
 abbrev pub AreLines : World → List PortLine → Type 0
 AreLines x ports = (i : ℕ) (line : PortLine) → slice_get ports i ≡ Some line → line_seen line ≡ line_at x (i + 1)
+
+-- ---- worlds
 
 -- the core stands as the world's history leaves it, the history that is kept is the world's, and so is each port
 pub record IsAsWorld (s : Settings) (x : World) (w : ClosedWorld) : Type 0 where
@@ -29,27 +39,26 @@ pub record IsWorld (s : Settings) (steps : List world.WorldStep) (w : ClosedWorl
   pub same : IsAsWorld s x w
 
 -- from this world the step goes to one that the code's is
-pub record Goes (s : Settings) (x : World) (step : world.WorldStep) (w : ClosedWorld) : Type 0 where
+pub record Goes (s : Settings) (step : world.WorldStep) (x : World) (w : ClosedWorld) : Type 0 where
   pub after : World
-  pub happens : Happens s x step after
+  pub happens : Happens s step x after
   pub same : IsAsWorld s after w
 
--- the same with another connection of one port
-abbrev pub but_connection : ℕ → Option world.Connection → World → World
-but_connection p c x = record x { connections = at_port p c x.connections }
+-- in this world the core gets the event, which leads to one that the code's is
+pub record Gets (s : Settings) (e : Event) (x : World) (w : ClosedWorld) : Type 0 where
+  pub after : World
+  pub gets : CoreGets s e x after
+  pub same : IsAsWorld s after w
 
--- the core has stepped this event, which its history has, and its batch is not yet told
+-- ---- the core has stepped an event
+
+-- the history has it, and its batch is not yet told
 abbrev pub after_turn : Event → Batch → World → World
 after_turn e b x = record x { history = record { event = e; batch = b } ∷ x.history }
 
--- the core has stepped this event, which gave this batch
 pub record IsStepped (e : Event) (old new : ClosedWorld) (b : Batch) : Type 0 where
-  pub core : (s : Settings) (h : History) → IsAfter s h old.core → IsAfter s (record { event = e; batch = b } ∷ h) new.core
+  pub core : (s : Settings) (h : History) → IsAfter s h old.core
+      → IsAfter s (record { event = e; batch = b } ∷ h) new.core
   pub history : turns new.history ≡ record { event = e; batch = b } ∷ turns old.history
   pub ports : new.ports ≡ old.ports
   pub moment : new.now ≡ old.now
-
--- the core has stepped this event, and its batch was told on the port, which had this connection
-pub record Steps (s : Settings) (x : World) (e : Event) (p : ℕ) (c : Option world.Connection) (w : ClosedWorld) : Type 0 where
-  pub batch : Batch
-  pub same : IsAsWorld s (core_steps x e batch p c) w

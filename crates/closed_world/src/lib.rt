@@ -7,6 +7,7 @@
 //! Source: SoupBinTCP 3.00, "Packets Sent by the Client", "Packets Sent by the Server"; OUCH 4.2.
 #![tactic(auto)]
 
+mod events;
 mod places;
 mod step;
 mod world;
@@ -14,6 +15,6 @@ mod world;
 pub use gate_core::Settings;
 pub use gate_events::{ClientFrame, ClientNumber, Event, PortNumber};
 pub use gate_journal::History;
-pub use world_ports::{BookRow, Choice, Trading};
 pub use step::WorldStep;
 pub use world::ClosedWorld;
+pub use world_ports::{BookRow, Choice, Trading};

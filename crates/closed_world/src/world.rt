@@ -1,12 +1,13 @@
 //! The world as a value, and its steps.
 
+use crate::events::{is_from_without, later, moment_of};
 use crate::places::{opening_lines, place_of};
 use crate::step::WorldStep;
 use gate_core::{Core, Settings};
-use gate_events::{Batch, Event, PortNumber};
+use gate_events::{Batch, Event, LinkOut, PortNumber};
 use gate_journal::History;
 use std::alloc::{AllocError, Global};
-use world_ports::{BookRow, Choice, PortLine, is_from_without, later, moment_of};
+use world_ports::{BookRow, Choice, PortLine};
 
 /// A core, a market for each port with its connection, and all events of the core with their batches.
 #[derive(Drop)]
@@ -20,16 +21,18 @@ pub struct ClosedWorld {
 }
 
 impl ClosedWorld {
-    ghost use Rattle.std.specs.Prelude.{◌≡◌, ◌+◌, ◌<◌, ◌∷◌, [], List, Option, Some, None, IfOk, length};
+    ghost use Rattle.std.specs.Prelude.{◌≡◌, ◌∷◌, [], List, IfOk, map, true};
     ghost use Rattle.gate_law.specs.Settings as law;
     ghost use Rattle.gate_law.specs.Events as told;
-    ghost use Rattle.gate_events.specs.Seen.{batch_seen, event_seen};
+    ghost use Rattle.gate_law.specs.order_law.History.{Asked};
+    ghost use Rattle.gate_events.specs.Seen.{batch_seen, event_seen, link_out_seen};
     ghost use Rattle.gate_journal.specs.Kept.{turns};
     ghost use Rattle.market_law.specs.Rows.{row};
     ghost use Rattle.world_links.specs.World as world;
     ghost use Rattle.world_links.specs.World.{World};
     ghost use Rattle.closed_world.specs.Steps.{step_seen};
-    ghost use Rattle.closed_world.specs.Worlds.{Goes, IsAsWorld, IsStepped, IsWorld, Steps, after_turn, but_connection};
+    ghost use Rattle.world_ports.specs.Lines.{ArePackets};
+    ghost use Rattle.closed_world.specs.Worlds.{Gets, Goes, IsAsWorld, IsStepped, IsWorld, after_turn};
 
     /// The world of these settings, in which nothing has come yet: no orders, no connections, moment 0.
     pub fn new(alloc: Global, settings: &Settings) -> Result<ClosedWorld, AllocError>
@@ -63,7 +66,7 @@ impl ClosedWorld {
     /// From whichever world, the step goes to the next one.
     fn take(&mut self, alloc: Global, step: &WorldStep) -> Result<(), AllocError>
         ensures { IfOk result (λ u. (s : law.Settings) (x : World) → IsAsWorld s x self.old
-            → Goes s x (step_seen step.now) self.new) }
+            → Goes s (step_seen step.now) x self.new) }
     {
         match step {
             WorldStep::Client(event) => self.client(alloc, event),
@@ -116,23 +119,19 @@ impl ClosedWorld {
     /// An event from without.
     fn client(&mut self, alloc: Global, event: &Event) -> Result<(), AllocError>
         ensures { IfOk result (λ u. (s : law.Settings) (x : World) → IsAsWorld s x self.old
-            → Goes s x (world.Client (event_seen event.now)) self.new) }
+            → Goes s (world.Client (event_seen event.now)) x self.new) }
     {
         if !is_from_without(event) {
             return Ok(());
         }
         self.now = later(self.now, moment_of(event));
-        let batch = self.core_steps(alloc, event)?;
-        match batch.port {
-            Some(port) => self.tell(alloc, port.number(), &batch),
-            None => Ok(()),
-        }
+        self.core_gets(alloc, event)
     }
 
     /// A connection opens.
     fn connect(&mut self, alloc: Global, port: u16) -> Result<(), AllocError>
         ensures { IfOk result (λ u. (s : law.Settings) (x : World) → IsAsWorld s x self.old
-            → Goes s x (world.Connect port) self.new) }
+            → Goes s (world.Connect port) x self.new) }
     {
         let Some(place) = place_of(port, self.ports.len()) else {
             return Ok(());
@@ -146,13 +145,13 @@ impl ClosedWorld {
             link,
             at: self.now,
         };
-        self.port_event(alloc, port, &event)
+        self.core_gets(alloc, &event)
     }
 
     /// The oldest packet is delivered to a market.
     fn to_market(&mut self, alloc: Global, port: u16, choice: Choice) -> Result<(), AllocError>
         ensures { IfOk result (λ u. (s : law.Settings) (x : World) → IsAsWorld s x self.old
-            → Goes s x (world.ToMarket port choice) self.new) }
+            → Goes s (world.ToMarket port choice) x self.new) }
     {
         match place_of(port, self.ports.len()) {
             Some(place) => self.ports[place].deliver(alloc, choice),
@@ -163,7 +162,7 @@ impl ClosedWorld {
     /// The oldest packet is delivered to the core.
     fn to_core(&mut self, alloc: Global, port: u16) -> Result<(), AllocError>
         ensures { IfOk result (λ u. (s : law.Settings) (x : World) → IsAsWorld s x self.old
-            → Goes s x (world.ToCore port) self.new) }
+            → Goes s (world.ToCore port) x self.new) }
     {
         let Some(place) = place_of(port, self.ports.len()) else {
             return Ok(());
@@ -178,13 +177,13 @@ impl ClosedWorld {
             at: self.now,
             packet,
         };
-        self.port_event(alloc, port, &event)
+        self.core_gets(alloc, &event)
     }
 
     /// A market does something by itself.
     fn act(&mut self, alloc: Global, port: u16, choice: Choice) -> Result<(), AllocError>
         ensures { IfOk result (λ u. (s : law.Settings) (x : World) → IsAsWorld s x self.old
-            → Goes s x (world.Act port choice) self.new) }
+            → Goes s (world.Act port choice) x self.new) }
     {
         match place_of(port, self.ports.len()) {
             Some(place) => self.ports[place].act(alloc, choice),
@@ -195,12 +194,13 @@ impl ClosedWorld {
     /// A connection ends.
     fn lose(&mut self, alloc: Global, port: u16) -> Result<(), AllocError>
         ensures { IfOk result (λ u. (s : law.Settings) (x : World) → IsAsWorld s x self.old
-            → Goes s x (world.Lose port) self.new) }
+            → Goes s (world.Lose port) x self.new) }
     {
         let Some(place) = place_of(port, self.ports.len()) else {
             return Ok(());
         };
-        let Some(link) = self.ports[place].lose() else {
+        let lost = self.ports[place].lose(alloc)?;
+        let Some(link) = lost else {
             return Ok(());
         };
         let event = Event::PortGone {
@@ -208,16 +208,16 @@ impl ClosedWorld {
             link,
             at: self.now,
         };
-        self.port_event(alloc, port, &event)
+        self.core_gets(alloc, &event)
     }
 
-    /// The core steps an event of a port, and its batch is told.
-    fn port_event(&mut self, alloc: Global, port: u16, event: &Event) -> Result<(), AllocError>
-        ensures { IfOk result (λ u. (s : law.Settings) (x : World) (c : Option world.Connection)
-            → IsAsWorld s (but_connection port c x) self.old → Steps s x (event_seen event.now) port c self.new) }
+    /// The core steps an event, and its batch is told.
+    fn core_gets(&mut self, alloc: Global, event: &Event) -> Result<(), AllocError>
+        ensures { IfOk result (λ u. (s : law.Settings) (x : World) → IsAsWorld s x self.old
+            → Gets s (event_seen event.now) x self.new) }
     {
         let batch = self.core_steps(alloc, event)?;
-        self.tell(alloc, port, &batch)
+        self.tell(alloc, &batch)
     }
 
     /// The core steps an event, which is kept with its batch.
@@ -229,14 +229,27 @@ impl ClosedWorld {
         Ok(batch)
     }
 
-    /// What a batch tells a port's link.
-    fn tell(&mut self, alloc: Global, port: u16, batch: &Batch) -> Result<(), AllocError>
-        ensures { IfOk result (λ u. (s : law.Settings) (x : World) (e : told.Event) (c : Option world.Connection)
-            → IsAsWorld s (after_turn e (batch_seen batch.now) (but_connection port c x)) self.old
-            → IsAsWorld s (world.core_steps x e (batch_seen batch.now) port c) self.new) }
+    /// What a batch tells the port that it names.
+    fn tell(&mut self, alloc: Global, batch: &Batch) -> Result<(), AllocError>
+        ensures { IfOk result (λ u. (s : law.Settings) (x : World) (e : told.Event)
+            → IsAsWorld s (after_turn e (batch_seen batch.now) x) self.old
+            → IsAsWorld s (world.core_steps s e (batch_seen batch.now) x) self.new) }
+    {
+        match batch.port {
+            Some(port) => self.tell_port(alloc, port.number(), &batch.port_out),
+            None => Ok(()),
+        }
+    }
+
+    /// What a port's link is told.
+    fn tell_port(&mut self, alloc: Global, port: u16, outs: &[LinkOut]) -> Result<(), AllocError>
+        ensures { IfOk result (λ u. (s : law.Settings) (x : World) (asks : List Asked)
+            → ArePackets (map link_out_seen outs.now) → IsAsWorld s x self.old
+            → IsAsWorld s (world.told_connection port (map link_out_seen outs.now) asks (x.connections port) x)
+            self.new) }
     {
         match place_of(port, self.ports.len()) {
-            Some(place) => self.ports[place].hear(alloc, batch),
+            Some(place) => self.ports[place].hear(alloc, outs),
             None => Ok(()),
         }
     }

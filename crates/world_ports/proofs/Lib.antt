@@ -1,3 +1,2 @@
 pub mod Places
-pub mod Written
 mod Links

@@ -1,32 +1,12 @@
--- What is written to a link, one out more; and whether it is closed.
-use Rattle.std.proofs.Common.{◌≡◌, ℕ, ◌+◌, ◌<◌, ◌==◌, Bool, true, false, List, [], ◌∷◌, ◌++◌, length, map, take, get_or, Option, Some, refl, sym, ap, ap₂, ◌∙◌, subst, append-nil, append_assoc, arith}
-use Rattle.std.proofs.lemmas.Bool.{eq-eqb, eqb-true}
+-- What is written to a link, one out more.
+use Rattle.std.proofs.Common.{◌≡◌, ℕ, ◌+◌, ◌<◌, List, [], ◌∷◌, ◌++◌, length, map, take, get_or, sym, ap, ◌∙◌, subst, append-nil, append_assoc}
 use Rattle.std.proofs.lemmas.Grind.{flat_map-append}
 use Rattle.std.proofs.lemmas.List.{map-append, take_more}
-use Rattle.std.specs.Prelude.{◌||◌}
-use Rattle.std.specs.List.{flat_map, list_any}
-use Rattle.soup_packets.specs.declared.packet.Packet.{Packet}
-use Rattle.gate_law.specs.Events.{LinkOut, Write, Close}
-use Rattle.gate_events.specs.Closing.{is_link_closed}
+use Rattle.std.specs.List.{flat_map}
+use Rattle.gate_law.specs.Events.{LinkOut}
 use Rattle.gate_events.specs.declared.batch.LinkOut as code
 use Rattle.gate_events.specs.Seen.{link_out_seen}
-use Rattle.world_links.specs.World as world
-use Rattle.world_ports.specs.Lines.{ArePackets, IsPacketOut, with_written}
-
-eq-turned : (m n : ℕ) → (m == n) ≡ (n == m)
-eq-turned m n = by_both (m == n) refl (n == m) refl
-  where
-    by_both : (a : Bool) → (m == n) ≡ a → (b : Bool) → (n == m) ≡ b → (m == n) ≡ (n == m)
-    by_both true p true q = p ∙ sym q
-    by_both true p false q = let e : (n == m) ≡ true = eq-eqb n m (sym (eqb-true m n p)) in absurd (cc)
-    by_both false p true q = let e : (m == n) ≡ true = eq-eqb m n (sym (eqb-true n m q)) in absurd (cc)
-    by_both false p false q = p ∙ sym q
-
--- the session's word and the world's
-pub closed-same : (link : ℕ) (outs : List LinkOut) → is_link_closed (Some link) outs ≡ list_any (world.closes link) outs
-closed-same link [] = refl
-closed-same link (Write other bytes ∷ outs) = closed-same link outs
-closed-same link (Close other ∷ outs) = ap₂ (λ (a b : Bool). a || b) (eq-turned link other) (closed-same link outs)
+use Rattle.world_ports.specs.Lines.{ArePackets, IsPacketOut, Way, with_written, written_to}
 
 packets-parted : (xs ys : List LinkOut) → ArePackets (xs ++ ys) → ArePackets xs × ArePackets ys
 packets-parted [] ys all = (tt, all)
@@ -40,25 +20,25 @@ outs-more outs i out inside is =
     ∙ ap (λ (o : code.LinkOut). map link_out_seen (take i outs ++ o ∷ [])) (sym is)
     ∙ map-append link_out_seen (take i outs) (out ∷ [])
 
-same-connection : (a b : world.Connection) → a.link ≡ b.link → a.to_market ≡ b.to_market → a.to_core ≡ b.to_core → a ≡ b
-same-connection a b link market core = cc
+same-way : (a b : Way) → a.link ≡ b.link → a.to_market ≡ b.to_market → a.to_core ≡ b.to_core → a ≡ b
+same-way a b link market core = cc
 
-written-step : (xs : List LinkOut) (out : LinkOut) (first before after : world.Connection) → before ≡ with_written xs first
-    → after.link ≡ before.link → after.to_core ≡ before.to_core → after.to_market ≡ before.to_market ++ world.written_to before.link out
+written-step : (xs : List LinkOut) (out : LinkOut) (first before after : Way) → before ≡ with_written xs first
+    → after.link ≡ before.link → after.to_core ≡ before.to_core → after.to_market ≡ before.to_market ++ written_to before.link out
     → after ≡ with_written (xs ++ out ∷ []) first
 written-step xs out first before after so_far link core market =
-    same-connection after (with_written (xs ++ out ∷ []) first) (link ∙ ap (λ (c : world.Connection). c.link) so_far)
-    (market ∙ ap (λ (c : world.Connection). c.to_market ++ world.written_to c.link out) so_far
-    ∙ append_assoc first.to_market (flat_map (world.written_to first.link) xs) (world.written_to first.link out)
-    ∙ ap (λ (ys : List (List ℕ)). first.to_market ++ (flat_map (world.written_to first.link) xs ++ ys)) (sym (append-nil (world.written_to first.link out)))
-    ∙ ap (λ (ys : List (List ℕ)). first.to_market ++ ys) (sym (flat_map-append (world.written_to first.link) xs (out ∷ []))))
-    (core ∙ ap (λ (c : world.Connection). c.to_core) so_far)
+    same-way after (with_written (xs ++ out ∷ []) first) (link ∙ ap (λ (c : Way). c.link) so_far)
+    (market ∙ ap (λ (c : Way). c.to_market ++ written_to c.link out) so_far
+    ∙ append_assoc first.to_market (flat_map (written_to first.link) xs) (written_to first.link out)
+    ∙ ap (λ (ys : List (List ℕ)). first.to_market ++ (flat_map (written_to first.link) xs ++ ys)) (sym (append-nil (written_to first.link out)))
+    ∙ ap (λ (ys : List (List ℕ)). first.to_market ++ ys) (sym (flat_map-append (written_to first.link) xs (out ∷ []))))
+    (core ∙ ap (λ (c : Way). c.to_core) so_far)
 
 -- one out more is written
-pub written-more : (outs : List code.LinkOut) (i : ℕ) (out : code.LinkOut) (first before after : world.Connection) → i < length outs → out ≡ get_or outs i out
+pub written-more : (outs : List code.LinkOut) (i : ℕ) (out : code.LinkOut) (first before after : Way) → i < length outs → out ≡ get_or outs i out
     → (ArePackets (map link_out_seen (take i outs)) → before ≡ with_written (map link_out_seen (take i outs)) first)
     → after.link ≡ before.link → after.to_core ≡ before.to_core
-    → (IsPacketOut (link_out_seen out) → after.to_market ≡ before.to_market ++ world.written_to before.link (link_out_seen out))
+    → (IsPacketOut (link_out_seen out) → after.to_market ≡ before.to_market ++ written_to before.link (link_out_seen out))
     → ArePackets (map link_out_seen (take (i + 1) outs)) → after ≡ with_written (map link_out_seen (take (i + 1) outs)) first
 written-more outs i out first before after inside is so_far link core market all =
     let xs : List LinkOut = map link_out_seen (take i outs) in

@@ -15,17 +15,17 @@ pub struct Connection {
 }
 
 impl Connection {
-    ghost use Rattle.std.specs.Prelude.{◌≡◌, [], ◌∷◌, ◌++◌, IfOk, map};
+    ghost use Rattle.std.specs.Prelude.{◌≡◌, [], ◌∷◌, ◌++◌, IfOk, Some, map};
     ghost use Rattle.std.specs.List.{list_any};
+    ghost use Rattle.gate_law.specs.After.{is_close};
     ghost use Rattle.gate_events.specs.Seen.{link_out_seen};
     ghost use Rattle.soup_packets.specs.declared.packet.Packet.{Packet};
     ghost use Rattle.soup_packets.specs.Spelling.{packet_bytes};
-    ghost use Rattle.world_links.specs.World as world;
-    ghost use Rattle.world_ports.specs.Lines.{ArePackets, IsPacketOut, connection_seen, with_written};
+    ghost use Rattle.world_ports.specs.Lines.{ArePackets, IsPacketOut, way_seen, with_written, written_to};
 
     /// A connection by this link, with nothing on its way. Takes no memory.
     pub fn new(alloc: Global, link: u64) -> Connection
-        ensures { connection_seen result ≡ record { link = link; to_market = []; to_core = [] } }
+        ensures { way_seen result ≡ record { link = link; to_market = []; to_core = [] } }
     {
         Connection {
             link,
@@ -36,7 +36,7 @@ impl Connection {
 
     /// Whether a batch that tells the port's link this closes the connection. Takes no memory.
     pub fn is_closed_by(&self, outs: &[LinkOut]) -> bool
-        ensures { result ≡ list_any (world.closes self.now.link) (map link_out_seen outs.now) }
+        ensures { result ≡ list_any (is_close (Some self.now.link)) (map link_out_seen outs.now) }
     {
         closes_link(Some(self.link), outs)
     }
@@ -44,7 +44,7 @@ impl Connection {
     /// What a batch writes to the link goes behind what is on its way to the market.
     pub fn write_all(&mut self, alloc: Global, outs: &[LinkOut]) -> Result<(), AllocError>
         ensures { IfOk result (λ u. ArePackets (map link_out_seen outs.now)
-            → connection_seen self.new ≡ with_written (map link_out_seen outs.now) (connection_seen self.old)) }
+            → way_seen self.new ≡ with_written (map link_out_seen outs.now) (way_seen self.old)) }
     {
         for out in outs {
             self.write(alloc, out)?;
@@ -58,12 +58,12 @@ impl Connection {
         ensures core { IfOk result (λ u. self.new.to_core.items ≡ self.old.to_core.items) }
         ensures market { IfOk result (λ u. IsPacketOut (link_out_seen out.now)
             → map packet_bytes self.new.to_market.items ≡ map packet_bytes self.old.to_market.items
-            ++ world.written_to self.old.link (link_out_seen out.now)) }
+            ++ written_to self.old.link (link_out_seen out.now)) }
     {
         match out {
             LinkOut::Write { link, bytes } => {
                 if *link == self.link {
-                    self.write_bytes(alloc, bytes.as_slice())?;
+                    return self.write_bytes(alloc, bytes.as_slice());
                 }
                 Ok(())
             }
@@ -80,9 +80,20 @@ impl Connection {
             ≡ map packet_bytes self.old.to_market.items ++ bytes.now ∷ []) }
     {
         let read = Packet::get(alloc, bytes)?;
-        if let Some(packet) = read {
-            self.to_market.push_back(packet)?;
+        match read {
+            Some(packet) => self.push(packet),
+            None => Ok(()),
         }
+    }
+
+    /// A packet goes behind what is on its way to the market.
+    fn push(&mut self, packet: Packet) -> Result<(), AllocError>
+        ensures link { IfOk result (λ u. self.new.link ≡ self.old.link) }
+        ensures core { IfOk result (λ u. self.new.to_core.items ≡ self.old.to_core.items) }
+        ensures market { IfOk result (λ u. map packet_bytes self.new.to_market.items
+            ≡ map packet_bytes self.old.to_market.items ++ packet_bytes packet ∷ []) }
+    {
+        self.to_market.push_back(packet)?;
         Ok(())
     }
 

@@ -1,5 +1,4 @@
-//! The ports of the closed world: of each its market, and its connection with what is on its way; and which events come
-//! from without.
+//! The ports of the closed world: of each its market, and its connection with what is on its way.
 //!
 //! In go packets that are delivered, what a market does by itself, connections that open and end, and batches of the
 //! core. Nothing here steps a core.
@@ -8,10 +7,8 @@
 #![tactic(auto)]
 
 mod connection;
-mod events;
 mod port_line;
 
 pub use connection::Connection;
-pub use events::{is_from_without, later, moment_of};
 pub use market_sim::{BookRow, Choice, Packet, Sim, Trading};
 pub use port_line::PortLine;

@@ -1,7 +1,7 @@
 //! A port: its market, and its connection.
 
 use crate::connection::Connection;
-use gate_events::{Batch, LinkOut};
+use gate_events::LinkOut;
 use market_sim::{Choice, Packet, Sim, SimEvent};
 use std::alloc::{AllocError, Global};
 
@@ -14,14 +14,14 @@ pub struct PortLine {
 }
 
 impl PortLine {
-    ghost use Rattle.std.specs.Prelude.{◌≡◌, ℕ, List, Option, Some, None, IfOk};
-    ghost use Rattle.ouch_codec.specs.declared.inbound.Inbound.{Inbound};
-    ghost use Rattle.gate_events.specs.Seen.{batch_seen};
-    ghost use Rattle.market_sim.specs.Sim as market;
+    ghost use Rattle.std.specs.Prelude.{◌≡◌, Option, Some, None, IfOk, map};
+    ghost use Rattle.gate_events.specs.Seen.{link_out_seen};
+    ghost use Rattle.market_law.specs.order_law.ouch_codec.declared.inbound.Inbound.{Inbound};
     ghost use Rattle.market_sim.specs.Sim.{ReadsEvent, sim_step};
     ghost use Rattle.market_sim.specs.declared.event.SimEvent.TheVariants as sims;
     ghost use Rattle.world_ports.specs.Lines as lines;
-    ghost use Rattle.world_ports.specs.Lines.{ArePackets, Delivers, LosesTo, OpensTo, TakesToCore, line_seen};
+    ghost use Rattle.world_ports.specs.Lines.{ArePackets, Delivers, LosesTo, OpensTo, TakesToCore, line_seen, way_seen};
+    ghost use Rattle.world_ports.specs.Lines.{with_way};
 
     /// A market without orders, and no connection yet. Takes no memory.
     pub fn new(alloc: Global) -> PortLine
@@ -51,14 +51,24 @@ impl PortLine {
         Ok(Some(link))
     }
 
-    /// The connection ends: the number of its link, or `None` where there is none.
-    pub fn lose(&mut self) -> Option<u64>
-        ensures { LosesTo (line_seen self.old) (line_seen self.new) result }
+    /// The connection ends with all that is on its way: the number of its link, or `None` where there is none.
+    pub fn lose(&mut self, alloc: Global) -> Result<Option<u64>, AllocError>
+        ensures { IfOk result (LosesTo (line_seen self.old) (line_seen self.new)) }
     {
         match self.connection.take() {
-            Some(connection) => Some(connection.link),
-            None => None,
+            Some(connection) => self.lose_link(alloc, connection.link),
+            None => Ok(None),
         }
+    }
+
+    /// The market has no link any more; the connection was of this one.
+    fn lose_link(&mut self, alloc: Global, link: u64) -> Result<Option<u64>, AllocError>
+        requires { self.old.connection ≡ None }
+        ensures { IfOk result (λ lost. (lost ≡ Some link)
+            × (line_seen self.new ≡ lines.ended_line (line_seen self.old))) }
+    {
+        self.leave(alloc)?;
+        Ok(Some(link))
     }
 
     /// The oldest packet on its way to the core leaves the connection, beside its link's number.
@@ -73,8 +83,7 @@ impl PortLine {
 
     /// The same of this connection.
     fn next_on(&mut self, connection: Connection) -> Option<(u64, Packet)>
-        ensures { TakesToCore (lines.with_connection (Some (lines.connection_seen connection)) (line_seen self.old))
-            (line_seen self.new) result }
+        ensures { TakesToCore (with_way (Some (way_seen connection)) (line_seen self.old)) (line_seen self.new) result }
     {
         let mut connection = connection;
         let link = connection.link;
@@ -105,7 +114,7 @@ impl PortLine {
         connection: Connection,
         choice: Choice,
     ) -> Result<(), AllocError>
-        ensures { IfOk result (λ u. Delivers choice (Some (lines.connection_seen connection)) (line_seen self.old)
+        ensures { IfOk result (λ u. Delivers choice (Some (way_seen connection)) (line_seen self.old)
             (line_seen self.new)) }
     {
         let mut connection = connection;
@@ -139,8 +148,8 @@ impl PortLine {
 
     /// Packets of the market go behind what is on its way to the core on this connection.
     fn say(&mut self, connection: Connection, packets: Vec<Packet>) -> Result<(), AllocError>
-        ensures { IfOk result (λ u. line_seen self.new ≡ lines.with_connection
-            (lines.said_on packets.items (lines.connection_seen connection)) (line_seen self.old)) }
+        ensures { IfOk result (λ u. line_seen self.new
+            ≡ with_way (lines.said_on packets.items (Some (way_seen connection))) (line_seen self.old)) }
     {
         let mut connection = connection;
         connection.say_all(packets)?;
@@ -148,15 +157,14 @@ impl PortLine {
         Ok(())
     }
 
-    /// What a batch tells the port's link: it goes on its way to the market, or ends the connection. Where there is
-    /// none then, the market has no link.
-    pub fn hear(&mut self, alloc: Global, batch: &Batch) -> Result<(), AllocError>
-        ensures { IfOk result (λ u. ArePackets (batch_seen batch.now).port_out
-            → line_seen self.new ≡ lines.told_line (batch_seen batch.now) (line_seen self.old)) }
+    /// What a batch tells the port's link: it goes on its way to the market, or ends the connection.
+    pub fn hear(&mut self, alloc: Global, outs: &[LinkOut]) -> Result<(), AllocError>
+        ensures { IfOk result (λ u. ArePackets (map link_out_seen outs.now)
+            → line_seen self.new ≡ lines.told_line (map link_out_seen outs.now) (line_seen self.old)) }
     {
         match self.connection.take() {
-            Some(connection) => self.hear_on(alloc, connection, batch),
-            None => self.leave(alloc),
+            Some(connection) => self.hear_on(alloc, connection, outs),
+            None => Ok(()),
         }
     }
 
@@ -165,15 +173,13 @@ impl PortLine {
         &mut self,
         alloc: Global,
         connection: Connection,
-        batch: &Batch,
+        outs: &[LinkOut],
     ) -> Result<(), AllocError>
         requires { self.old.connection ≡ None }
-        ensures { IfOk result (λ u. ArePackets (batch_seen batch.now).port_out
-            → line_seen self.new ≡ lines.told_line (batch_seen batch.now)
-            (lines.with_connection (Some (lines.connection_seen connection)) (line_seen self.old))) }
+        ensures { IfOk result (λ u. ArePackets (map link_out_seen outs.now) → line_seen self.new
+            ≡ lines.told_on (map link_out_seen outs.now) (Some (way_seen connection)) (line_seen self.old)) }
     {
         let mut connection = connection;
-        let outs: &[LinkOut] = &batch.port_out;
         if connection.is_closed_by(outs) {
             return self.leave(alloc);
         }
@@ -184,7 +190,8 @@ impl PortLine {
 
     /// The market's link is gone.
     fn leave(&mut self, alloc: Global) -> Result<(), AllocError>
-        ensures { IfOk result (λ u. line_seen self.new ≡ lines.left_line (line_seen self.old)) }
+        requires { self.old.connection ≡ None }
+        ensures { IfOk result (λ u. line_seen self.new ≡ lines.ended_line (line_seen self.old)) }
     {
         let _nothing = self.market.step(alloc, SimEvent::Gone)?;
         Ok(())

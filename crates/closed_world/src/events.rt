@@ -1,6 +1,7 @@
 //! Which events are steps of their own, and when they come.
 
 ghost use Rattle.std.specs.Prelude.{◌≡◌};
+ghost use Rattle.gate_core.specs.soup_session.Table as session;
 ghost use Rattle.gate_events.specs.Seen.{event_seen};
 ghost use Rattle.world_links.specs.World as world;
 
@@ -37,8 +38,8 @@ pub fn moment_of(event: &Event) -> u64
 }
 
 /// The later of two moments.
-pub fn later(one: u64, other: u64) -> u64
-    ensures { result ≡ world.later one other }
+pub fn later(now: u64, at: u64) -> u64
+    ensures { result ≡ session.later now at }
 {
-    if one < other { other } else { one }
+    if now < at { at } else { now }
 }
