@@ -8,7 +8,7 @@ use Rattle.gate_law.specs.order_law.History.{Asked}
 use Rattle.market_law.specs.order_law.ouch_codec.declared.inbound.Inbound.{Inbound}
 use Rattle.soup_packets.specs.declared.packet.Packet.{Packet}
 use Rattle.market_sim.specs.declared.event.SimEvent.{SimEvent}
-use Rattle.market_sim.specs.Sim.{sim_step}
+use Rattle.market_sim.specs.Sim.{SimState, sim_step}
 use Rattle.gate_law.specs.After.{is_close}
 use Rattle.gate_law.specs.Events.{LinkOut, Write, Close}
 use Rattle.world_links.specs.World as world
@@ -32,7 +32,11 @@ at-other {A = A} p q x f ne = by_test (q == p) refl
 
 -- a port by its three parts
 pub is-line : (x : World) (p : ℕ) (l : Line) → x.markets p ≡ l.market → option_map way_of (x.connections p) ≡ l.connection → x.links p ≡ l.links → line_at x p ≡ l
-is-line x p l market connection links = cc
+is-line x p l market connection links = same-fields (x.markets p) l.market (option_map way_of (x.connections p)) l.connection (x.links p) l.links market connection links
+  where
+    same-fields : (m n : SimState) (c d : Option Way) (j k : ℕ) → m ≡ n → c ≡ d → j ≡ k
+        → (let one : Line = record { market = m; connection = c; links = j } in let other : Line = record { market = n; connection = d; links = k } in one ≡ other)
+    same-fields m n c d j k market connection links = cc
 
 -- ---- one port is this line, and each other one stays
 
@@ -83,20 +87,19 @@ market-changes p e read asks x = record {
 carried-bytes : (link : ℕ) (outs : List LinkOut) (asks : List Asked) → map (λ (x : Carried). x.bytes) (carried link outs asks) ≡ flat_map (written_to link) outs
 carried-bytes link [] asks = refl
 carried-bytes link (Close other ∷ outs) asks = carried-bytes link outs asks
-carried-bytes link (Write other bytes ∷ outs) asks = by_link (other == link)
+carried-bytes link (Write other bytes ∷ outs) asks = by_link (other == link) (carried-bytes link outs (drop 1 asks))
   where
-    by_link : (b : Bool) → map (λ (x : Carried). x.bytes) (for_link b bytes asks ++ carried link outs (drop 1 asks)) ≡ (if b then bytes ∷ [] else []) ++ flat_map (written_to link) outs
-    by_link true = ap (λ (ys : List (List ℕ)). bytes ∷ ys) (carried-bytes link outs (drop 1 asks))
-    by_link false = carried-bytes link outs (drop 1 asks)
+    by_link : (b : Bool) → map (λ (x : Carried). x.bytes) (carried link outs (drop 1 asks)) ≡ flat_map (written_to link) outs
+        → map (λ (x : Carried). x.bytes) (for_link b bytes asks ++ carried link outs (drop 1 asks)) ≡ (if b then bytes ∷ [] else []) ++ flat_map (written_to link) outs
+    by_link true rest = ap (λ (ys : List (List ℕ)). bytes ∷ ys) rest
+    by_link false rest = rest
 
 written-way : (c : world.Connection) (outs : List LinkOut) (asks : List Asked)
     → way_of (record c { to_market = c.to_market ++ carried c.link outs asks }) ≡ with_written outs (way_of c)
-written-way c outs asks = same (map-append (λ (x : Carried). x.bytes) c.to_market (carried c.link outs asks)
+written-way c outs asks =
+    ap (λ (ys : List (List ℕ)). let w : Way = record { link = c.link; to_market = ys; to_core = c.to_core } in w)
+    (map-append (λ (x : Carried). x.bytes) c.to_market (carried c.link outs asks)
     ∙ ap (λ (ys : List (List ℕ)). map (λ (x : Carried). x.bytes) c.to_market ++ ys) (carried-bytes c.link outs asks))
-  where
-    same : map (λ (x : Carried). x.bytes) (c.to_market ++ carried c.link outs asks) ≡ map (λ (x : Carried). x.bytes) c.to_market ++ flat_map (written_to c.link) outs
-        → way_of (record c { to_market = c.to_market ++ carried c.link outs asks }) ≡ with_written outs (way_of c)
-    same e = cc
 
 pub told-changes : (p : ℕ) (outs : List LinkOut) (asks : List Asked) (x : World)
     → Changes p x (told_connection p outs asks (x.connections p) x) (told_line outs (line_at x p))

@@ -1,8 +1,9 @@
 -- Steps, taken by the code's world.
-use Rattle.std.proofs.Common.{◌≡◌, ℕ, ◌+◌, ◌<◌, ◌≤◌, Bool, true, false, List, [], ◌∷◌, ◌++◌, length, map, Option, Some, None, refl, sym, ap, ◌∙◌, subst, arith}
+use Rattle.std.proofs.Common.{◌≡◌, ℕ, ◌+◌, ◌<◌, ◌≤◌, Bool, true, false, List, [], ◌∷◌, ◌++◌, length, map, get_or, slice_set, Option, Some, None, refl, sym, ap, ◌∙◌, subst, arith}
 use Rattle.std.specs.Prelude.{◌&&◌, nat_le, is_some, option_map, if◌then◌else◌}
 use Rattle.std.specs.List.{list_any}
 use Rattle.std.proofs.lemmas.Bool.Decides.{nat_tests}
+use Rattle.std.proofs.lemmas.List.{length-set}
 use Rattle.gate_law.specs.Settings.{Settings, has_port}
 use Rattle.gate_law.specs.After.{is_close, lists}
 use Rattle.gate_law.specs.Events.{Batch, Event, History, LinkOut, PortUp, PortPacket, PortGone}
@@ -18,16 +19,21 @@ use Rattle.market_sim.specs.Sim.{ReadsEvent, sim_step}
 use Rattle.gate_law.specs.soup_session.Table.{later}
 use Rattle.world_links.specs.World as world
 use Rattle.world_links.specs.World.{Carried, ConnectOf, CoreGets, ForPort, LoseOf, ToCoreOf, ToMarketOf, World, asked_by_event, carried, connected, core_steps, ended, market_steps, told_connection, told_port, with_connection}
-use Rattle.world_ports.specs.Lines.{ArePackets, Delivers, DeliversOn, Line, NothingToCore, Way, market_line, with_way}
+use Rattle.world_ports.specs.Lines.{ArePackets, Delivers, DeliversOn, Line, NothingToCore, TakesToCore, Way, line_seen, market_line, told_line, with_way}
+use Rattle.world_ports.specs.declared.port_line.PortLine.{PortLine}
 use Rattle.closed_world.specs.declared.world.ClosedWorld.{ClosedWorld}
-use Rattle.closed_world.specs.Worlds.{AreLines, Gets, Goes, IsAsWorld, IsStepped, after_turn, line_at, way_of}
+use Rattle.closed_world.specs.Worlds.{AreLines, Gets, Goes, IsAsWorld, IsStepped, IsWorld, after_turn, line_at, way_of}
+use Rattle.world_ports.proofs.Places.{at-place}
 use Rattle.closed_world.proofs.Written.{batch-packets}
-use Rattle.closed_world.proofs.Changes.{Changes, changes-none, changes-then, connection-changes, market-changes}
+use Rattle.closed_world.proofs.Changes.{Changes, changed-lines, changes-none, changes-then, connection-changes, market-changes, told-changes, untold-lines}
+use Rattle.closed_world.proofs.Standing.{core-holds}
 
 -- what the last batch wrote are packets
 pub told-packets : (s : Settings) (e : Event) (b : Batch) (h : History) (c : CoreState) → IsAfter s (record { event = e; batch = b } ∷ h) c → ArePackets b.port_out
-unfolding IsAfter
-told-packets s e b h c after = batch-packets s e b h after.holds
+told-packets s e b h c after = batch-packets s e b h (core-holds s (record { event = e; batch = b } ∷ h) c after)
+
+pub told-packets-of : (s : Settings) (e : Event) (b : Batch) (x : World) (outs : List LinkOut) (w : ClosedWorld) → outs ≡ b.port_out → IsAsWorld s (after_turn e b x) w → ArePackets outs
+told-packets-of s e b x outs w are same = subst ArePackets (sym are) (told-packets s e b x.history w.core same.core)
 
 -- the core has stepped an event
 pub stepped-same : (s : Settings) (x : World) (e : Event) (b : Batch) (old new : ClosedWorld) → IsStepped e old new b → IsAsWorld s x old → IsAsWorld s (after_turn e b x) new
@@ -274,7 +280,7 @@ client-gets s x e w is got = record { after = got.after; happens = rw is got.get
 -- ---- the code's world after a change
 
 pub as-after : (s : Settings) (x y : World) (old new : ClosedWorld) → y.history ≡ x.history → y.now ≡ x.now
-    → new.core ≡ old.core → new.history ≡ old.history → new.now ≡ old.now → length new.ports.items ≡ length old.ports.items
+    → new.core ≡ old.core → new.history ≡ old.history → new.moment ≡ old.moment → length new.ports.items ≡ length old.ports.items
     → (AreLines x old.ports.items → AreLines y new.ports.items) → IsAsWorld s x old → IsAsWorld s y new
 as-after s x y old new history moment core kept now count lines same = record {
   core = subst (λ (c : CoreState). IsAfter s y.history c) (sym core) (subst (λ (h : History). IsAfter s h old.core) (sym history) same.core);
@@ -300,20 +306,81 @@ told-moment p outs asks (Some c) x = by_close (list_any (is_close (Some c.link))
     by_close true = refl
     by_close false = refl
 
--- a port was told what a batch writes to it
-pub told-same : (s : Settings) (x : World) (p : ℕ) (outs : List LinkOut) (asks : List Asked) (old new : ClosedWorld)
-    → new.core ≡ old.core → new.history ≡ old.history → new.now ≡ old.now → length new.ports.items ≡ length old.ports.items
-    → (AreLines x old.ports.items → AreLines (told_connection p outs asks (x.connections p) x) new.ports.items)
-    → IsAsWorld s x old → IsAsWorld s (told_connection p outs asks (x.connections p) x) new
-told-same s x p outs asks old new core kept now count lines same =
-    as-after s x (told_connection p outs asks (x.connections p) x) old new (told-history p outs asks (x.connections p) x) (told-moment p outs asks (x.connections p) x) core kept now count lines same
+-- one port is another
+pub port-changed : (s : Settings) (x y : World) (p : ℕ) (l : Line) (old new : ClosedWorld) (place : ℕ) (line d : PortLine) → Changes p x y l → y.history ≡ x.history → y.now ≡ x.now
+    → p ≡ place + 1 → place < length old.ports.items → d ≡ get_or old.ports.items place d → (line_seen d ≡ line_at x p → line_seen line ≡ l)
+    → new.core ≡ old.core → new.history ≡ old.history → new.moment ≡ old.moment → new.ports.items ≡ slice_set old.ports.items place line
+    → IsAsWorld s x old → IsAsWorld s y new
+port-changed s x y p l old new place line d changes history moment number inside is made core kept now ports same =
+    as-after s x y old new history moment core kept now (ap (λ (ls : List PortLine). length ls) ports ∙ length-set old.ports.items place line)
+    (λ lines. subst (AreLines y) (sym ports) (changed-lines x y p l old.ports.items place line d changes number inside is made lines)) same
 
-pub tell-some : (s : Settings) (x : World) (e : Event) (b : Batch) (p : ℕ) (w : ClosedWorld) → b.port ≡ Some p
-    → IsAsWorld s (told_connection p b.port_out (asked_by_event s e (lists s x.history) p) (x.connections p) (after_turn e b x)) w → IsAsWorld s (core_steps s e b x) w
-tell-some s x e b p w is same = subst (λ (q : Option ℕ). IsAsWorld s (told_port s e (lists s x.history) b.port_out q (after_turn e b x)) w) (sym is) same
+-- a port is as it was
+pub port-same : (s : Settings) (x : World) (p : ℕ) (old new : ClosedWorld) (place : ℕ) (line d : PortLine)
+    → p ≡ place + 1 → place < length old.ports.items → d ≡ get_or old.ports.items place d → line_seen line ≡ line_seen d
+    → new.core ≡ old.core → new.history ≡ old.history → new.moment ≡ old.moment → new.ports.items ≡ slice_set old.ports.items place line
+    → IsAsWorld s x old → IsAsWorld s x new
+port-same s x p old new place line d number inside is stays core kept now ports same =
+    port-changed s x x p (line_at x p) old new place line d (changes-none p x) refl refl number inside is (λ was. stays ∙ was) core kept now ports same
+
+-- a port was told what a batch writes to it
+pub port-told : (s : Settings) (x : World) (p : ℕ) (outs : List LinkOut) (asks : List Asked) (old new : ClosedWorld) (place : ℕ) (line d : PortLine)
+    → p ≡ place + 1 → place < length old.ports.items → d ≡ get_or old.ports.items place d → line_seen line ≡ told_line outs (line_seen d)
+    → new.core ≡ old.core → new.history ≡ old.history → new.moment ≡ old.moment → new.ports.items ≡ slice_set old.ports.items place line
+    → IsAsWorld s x old → IsAsWorld s (told_connection p outs asks (x.connections p) x) new
+port-told s x p outs asks old new place line d number inside is told core kept now ports same =
+    port-changed s x (told_connection p outs asks (x.connections p) x) p (told_line outs (line_at x p)) old new place line d (told-changes p outs asks x)
+    (told-history p outs asks (x.connections p) x) (told-moment p outs asks (x.connections p) x) number inside is (λ was. told ∙ ap (told_line outs) was) core kept now ports same
+
+-- a port that isn't there was
+pub nobody-told : (s : Settings) (x : World) (p count : ℕ) (outs : List LinkOut) (asks : List Asked) (w : ClosedWorld) → count ≡ length w.ports.items → false ≡ (nat_le 1 p && nat_le p count)
+    → IsAsWorld s x w → IsAsWorld s (told_connection p outs asks (x.connections p) x) w
+nobody-told s x p count outs asks w counted known same =
+    as-after s x (told_connection p outs asks (x.connections p) x) w w (told-history p outs asks (x.connections p) x) (told-moment p outs asks (x.connections p) x) refl refl refl refl
+    (untold-lines x (told_connection p outs asks (x.connections p) x) p (told_line outs (line_at x p)) w.ports.items (told-changes p outs asks x) (λ i inside. no-place p count known i (omega (arith, inside, counted)))) same
+
+pub tell-some : (s : Settings) (x : World) (e : Event) (b : Batch) (p : ℕ) (outs : List LinkOut) (w : ClosedWorld) → b.port ≡ Some p → outs ≡ b.port_out
+    → IsAsWorld s (told_connection p outs (asked_by_event s e (lists s x.history) p) (x.connections p) (after_turn e b x)) w → IsAsWorld s (core_steps s e b x) w
+tell-some s x e b p outs w is are same =
+    subst (λ (q : Option ℕ). IsAsWorld s (told_port s e (lists s x.history) b.port_out q (after_turn e b x)) w) (sym is)
+    (subst (λ (os : List LinkOut). IsAsWorld s (told_connection p os (asked_by_event s e (lists s x.history) p) (x.connections p) (after_turn e b x)) w) are same)
 
 pub tell-none : (s : Settings) (x : World) (e : Event) (b : Batch) (w : ClosedWorld) → b.port ≡ None → IsAsWorld s (after_turn e b x) w → IsAsWorld s (core_steps s e b x) w
 tell-none s x e b w is same = subst (λ (q : Option ℕ). IsAsWorld s (told_port s e (lists s x.history) b.port_out q (after_turn e b x)) w) (sym is) same
 
 pub batch-gets : (s : Settings) (x : World) (e : Event) (b : Batch) (w : ClosedWorld) → IsAsWorld s (core_steps s e b x) w → Gets s e x w
 batch-gets s x e b w same = record { after = core_steps s e b x; gets = record { batch = b; is_after = refl }; same = same }
+
+-- time has passed
+pub later-same : (s : Settings) (x : World) (e : Event) (old new : ClosedWorld) → new.core ≡ old.core → new.history ≡ old.history → new.ports ≡ old.ports
+    → new.moment ≡ later old.moment (world.moment_of e) → IsAsWorld s x old → IsAsWorld s (later_world x e) new
+later-same s x e old new core kept ports now same = record {
+  core = subst (λ (c : CoreState). IsAfter s x.history c) (sym core) same.core;
+  history = ap turns kept ∙ same.history;
+  moment = now ∙ ap (λ n. later n (world.moment_of e)) same.moment;
+  count = ap (λ ports. length ports.items) ports ∙ same.count;
+  lines = subst (λ ports. AreLines x ports.items) (sym ports) same.lines;
+}
+
+-- the step before and this one
+pub one-more : (s : Settings) (step : world.WorldStep) (steps : List world.WorldStep) (old new : ClosedWorld)
+    → ((x : World) → IsAsWorld s x old → Goes s step x new) → IsWorld s steps old → IsWorld s (step ∷ steps) new
+one-more s step steps old new goes before =
+    let gone : Goes s step before.x new = goes before.x before.same in
+    record { x = gone.after; leads = (before.x, before.leads, gone.happens); same = gone.same }
+
+-- the port at a place
+pub line-there : (s : Settings) (x : World) (p : ℕ) (w : ClosedWorld) (place : ℕ) (d : PortLine) → p ≡ place + 1 → place < length w.ports.items → d ≡ get_or w.ports.items place d
+    → IsAsWorld s x w → line_seen d ≡ line_at x p
+line-there s x p w place d number inside is same =
+    at-place (λ i (k : PortLine). line_seen k ≡ line_at x (i + 1)) w.ports.items place d is inside same.lines ∙ ap (line_at x) (sym number)
+
+-- the same event of the same port at the same moment
+pub gets-same : (s : Settings) (y : World) (w : ClosedWorld) (make : ℕ → ℕ → ℕ → Event) (a b k l m n : ℕ) → a ≡ b → k ≡ l → m ≡ n → Gets s (make a k m) y w → Gets s (make b l n) y w
+gets-same s y w make a b k l m n e f g got =
+    subst (λ (z : ℕ). Gets s (make b l z) y w) g (subst (λ (z : ℕ). Gets s (make b z m) y w) f (subst (λ (z : ℕ). Gets s (make z k m) y w) e got))
+
+-- no packet was taken
+pub none-taken : (old new : Line) (t : Option (ℕ × Packet)) → TakesToCore old new t → ((taken : ℕ × Packet) → t ≡ Some taken → ⊥) → NothingToCore old.connection × (new ≡ old)
+none-taken old new None takes none = takes
+none-taken old new (Some taken) takes none = absurd (none taken refl)

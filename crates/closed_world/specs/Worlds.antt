@@ -28,7 +28,7 @@ AreLines x ports = (i : ℕ) (line : PortLine) → slice_get ports i ≡ Some li
 pub record IsAsWorld (s : Settings) (x : World) (w : ClosedWorld) : Type 0 where
   pub core : IsAfter s x.history w.core
   pub history : turns w.history ≡ x.history
-  pub moment : w.now ≡ x.now
+  pub moment : w.moment ≡ x.now
   pub count : length w.ports.items ≡ length s.ports
   pub lines : AreLines x w.ports.items
 
@@ -61,4 +61,4 @@ pub record IsStepped (e : Event) (old new : ClosedWorld) (b : Batch) : Type 0 wh
       → IsAfter s (record { event = e; batch = b } ∷ h) new.core
   pub history : turns new.history ≡ record { event = e; batch = b } ∷ turns old.history
   pub ports : new.ports ≡ old.ports
-  pub moment : new.now ≡ old.now
+  pub moment : new.moment ≡ old.moment

@@ -17,7 +17,7 @@ pub struct ClosedWorld {
     /// By the ports' numbers.
     ports: Vec<PortLine>,
     /// The greatest moment of an event from without so far.
-    now: u64,
+    moment: u64,
 }
 
 impl ClosedWorld {
@@ -44,7 +44,7 @@ impl ClosedWorld {
             core,
             history: History::new(alloc),
             ports,
-            now: 0,
+            moment: 0,
         })
     }
 
@@ -111,7 +111,7 @@ impl ClosedWorld {
             core: _,
             history,
             ports: _,
-            now: _,
+            moment: _,
         } = self;
         history
     }
@@ -124,7 +124,7 @@ impl ClosedWorld {
         if !is_from_without(event) {
             return Ok(());
         }
-        self.now = later(self.now, moment_of(event));
+        self.moment = later(self.moment, moment_of(event));
         self.core_gets(alloc, event)
     }
 
@@ -143,7 +143,7 @@ impl ClosedWorld {
         let event = Event::PortUp {
             port: PortNumber::at_place(place),
             link,
-            at: self.now,
+            at: self.moment,
         };
         self.core_gets(alloc, &event)
     }
@@ -168,13 +168,14 @@ impl ClosedWorld {
             return Ok(());
         };
         let taken = self.ports[place].next_to_core();
-        let Some((link, packet)) = taken else {
+        let Some(taken) = taken else {
             return Ok(());
         };
+        let (link, packet) = taken;
         let event = Event::PortPacket {
             port: PortNumber::at_place(place),
             link,
-            at: self.now,
+            at: self.moment,
             packet,
         };
         self.core_gets(alloc, &event)
@@ -206,7 +207,7 @@ impl ClosedWorld {
         let event = Event::PortGone {
             port: PortNumber::at_place(place),
             link,
-            at: self.now,
+            at: self.moment,
         };
         self.core_gets(alloc, &event)
     }

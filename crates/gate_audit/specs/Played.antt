@@ -7,6 +7,7 @@ use Rattle.gate_law.specs.Settings.{Settings, port_of}
 use Rattle.gate_law.specs.Holds.{Holds}
 use Rattle.gate_journal.specs.Kept.{Kept, turns}
 use Rattle.world_links.specs.World.{LeadsTo, World, WorldStep}
+use Rattle.world_links.specs.Promises.{AsksOnce, NoFaults, RestsAlike, StayWithin}
 use Rattle.gate_audit.specs.Pairs.{OpenedOrder, Pair, opened_orders, orders_of, pairs, said_to_clients}
 use Rattle.gate_audit.specs.Read.{for_clients}
 
@@ -23,7 +24,15 @@ books_of s w client =
 abbrev pub books : Settings → World → List BookRow
 books s w = for_clients (books_of s w) (length s.clients)
 
--- a world that these steps, the newest first, lead to
+-- what is promised of every world that steps lead to
+pub record KeepsPromises (s : Settings) (w : World) : Type 0 where
+  pub no_faults : NoFaults w.history
+  pub once : (p : ℕ) → AsksOnce s w p
+  pub within : (p : ℕ) → StayWithin s w p
+  pub alike : (p : ℕ) → RestsAlike s w p
+
+-- What these steps, the newest first, come to: a world that they lead to, its history, and its orders; and what is
+-- promised of every such world.
 pub record Plays (s : Settings) (steps : List WorldStep) (h : Kept) (rows : List BookRow) (ps : List Pair)
     : Type 0 where
   pub w : World
@@ -32,3 +41,4 @@ pub record Plays (s : Settings) (steps : List WorldStep) (h : Kept) (rows : List
   pub history : turns h ≡ w.history
   pub books : rows ≡ books s w
   pub pairs : ps ≡ pairs s w.history
+  pub keeps : KeepsPromises s w

@@ -1,13 +1,17 @@
 //! A closed world, played: what comes of its steps, and the audit of it beside the markets' books.
 
-ghost use Rattle.std.specs.Prelude.{◌≡◌, ◌++◌, true, IfOk, map, reverse};
+ghost use Rattle.std.specs.Prelude.{◌≡◌, ◌++◌, true, List, IfOk, map, reverse};
+ghost use Rattle.order_machine.specs.Runs.{IsTableRun};
 ghost use Rattle.gate_law.specs.Settings as law;
-ghost use Rattle.world_links.specs.World.{World};
+ghost use Rattle.gate_law.specs.Holds.{Holds};
+ghost use Rattle.world_links.specs.World as world;
+ghost use Rattle.world_links.specs.World.{LeadsTo, World};
+ghost use Rattle.world_links.specs.Promises.{turns_of};
 ghost use Rattle.closed_world.specs.Steps.{step_seen};
 ghost use Rattle.closed_world.specs.Worlds.{IsAsWorld, IsWorld};
 ghost use Rattle.gate_audit.specs.Pairs as read;
 ghost use Rattle.gate_audit.specs.Played as played;
-ghost use Rattle.gate_audit.specs.Played.{Plays};
+ghost use Rattle.gate_audit.specs.Played.{KeepsPromises, Plays};
 
 use crate::opening::Opening;
 use crate::openings::openings_of;
@@ -18,6 +22,10 @@ use gate_core::Settings;
 use gate_journal::History;
 use order_accounts::ReadingFault;
 use std::alloc::{AllocError, Global};
+use world_links::{
+    at_rest_both_agree, no_batch_has_a_fault, orders_stay_within_what_was_accepted,
+    what_is_asked_is_done_once,
+};
 
 /// What came of a closed world's steps.
 #[derive(Drop)]
@@ -38,15 +46,12 @@ pub struct Played {
 /// or more tokens were given than there are; or else `NoMemory`.
 ///
 /// Source: FIX 4.4 Volumes 2 and 4; OUCH 4.2; SoupBinTCP 3.00.
-pub fn play(
-    alloc: Global,
-    settings: &Settings,
-    steps: &[WorldStep],
-) -> Result<Played, ReadingFault>
+pub fn play(alloc: Global, settings: &Settings, steps: &[WorldStep]) -> Result<Played, ReadingFault>
     ensures { IfOk result (λ done. Plays settings.now (reverse (map step_seen steps.now)) done.history done.books.items
         done.pairs.items) }
 {
     let world = world_after(alloc, settings, steps)?;
+    promises(settings);
     let books = books_of(alloc, settings, &world)?;
     let history = world.into_history();
     let pairs = audit(alloc, &history, settings)?;
@@ -86,7 +91,8 @@ fn books_of(
     let mut books = Vec::new(alloc);
     for place in 0..settings.clients().len() {
         let client = (place + 1) as u16;
-        let port = settings.clients()[place].terms.port;
+        let own = &settings.clients()[place];
+        let port = own.terms.port;
         push_rows(world, client, port, openings.orders.as_slice(), &mut books)?;
     }
     Ok(books)
@@ -109,4 +115,17 @@ fn push_rows(
         }
     }
     Ok(())
+}
+
+/// What holds of every world of these settings that steps lead to. It does nothing: its contract is what the laws say.
+fn promises(settings: &Settings)
+    ensures { (steps : List world.WorldStep) (w : World) → LeadsTo settings.now steps w → Holds settings.now w.history
+        → IsTableRun (law.terms settings.now) (turns_of settings.now w) → KeepsPromises settings.now w }
+{
+    // known of it: the settings are served
+    let _comp = settings.comp();
+    no_batch_has_a_fault();
+    what_is_asked_is_done_once();
+    orders_stay_within_what_was_accepted();
+    at_rest_both_agree();
 }

@@ -3,6 +3,7 @@ use Rattle.std.proofs.Common.{◌≡◌, ℕ, ◌+◌, ◌<◌, List, [], ◌∷
 use Rattle.std.proofs.lemmas.Grind.{flat_map-append}
 use Rattle.std.proofs.lemmas.List.{map-append, take_more}
 use Rattle.std.specs.List.{flat_map}
+use Rattle.soup_packets.specs.declared.packet.Packet.{Packet}
 use Rattle.gate_law.specs.Events.{LinkOut}
 use Rattle.gate_events.specs.declared.batch.LinkOut as code
 use Rattle.gate_events.specs.Seen.{link_out_seen}
@@ -20,8 +21,12 @@ outs-more outs i out inside is =
     ∙ ap (λ (o : code.LinkOut). map link_out_seen (take i outs ++ o ∷ [])) (sym is)
     ∙ map-append link_out_seen (take i outs) (out ∷ [])
 
+same-fields : (k l : ℕ) (x y : List (List ℕ)) (u v : List Packet) → k ≡ l → x ≡ y → u ≡ v
+    → (let one : Way = record { link = k; to_market = x; to_core = u } in let other : Way = record { link = l; to_market = y; to_core = v } in one ≡ other)
+same-fields k l x y u v link market core = cc
+
 same-way : (a b : Way) → a.link ≡ b.link → a.to_market ≡ b.to_market → a.to_core ≡ b.to_core → a ≡ b
-same-way a b link market core = cc
+same-way a b link market core = same-fields a.link b.link a.to_market b.to_market a.to_core b.to_core link market core
 
 written-step : (xs : List LinkOut) (out : LinkOut) (first before after : Way) → before ≡ with_written xs first
     → after.link ≡ before.link → after.to_core ≡ before.to_core → after.to_market ≡ before.to_market ++ written_to before.link out
