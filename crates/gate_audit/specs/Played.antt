@@ -7,7 +7,8 @@ use Rattle.gate_law.specs.Settings.{Settings, port_of}
 use Rattle.gate_law.specs.Holds.{Holds}
 use Rattle.gate_journal.specs.Kept.{Kept, turns}
 use Rattle.world_links.specs.World.{LeadsTo, World, WorldStep}
-use Rattle.world_links.specs.Promises.{AsksOnce, NoFaults, RestsAlike, StayWithin}
+use Rattle.world_core.specs.Ports.{NoFaults}
+use Rattle.world_links.specs.Promises.{AsksOnce, FillsOrKills, RestsAlike, StayWithin}
 use Rattle.gate_audit.specs.Pairs.{OpenedOrder, Pair, opened_orders, orders_of, pairs, said_to_clients}
 use Rattle.gate_audit.specs.Read.{for_clients}
 
@@ -29,6 +30,7 @@ pub record KeepsPromises (s : Settings) (w : World) : Type 0 where
   pub no_faults : NoFaults w.history
   pub once : (p : ℕ) → AsksOnce s w p
   pub within : (p : ℕ) → StayWithin s w p
+  pub all_or_nothing : (p : ℕ) → FillsOrKills s w p
   pub alike : (p : ℕ) → RestsAlike s w p
 
 -- What these steps, the newest first, come to: a world that they lead to, its history, and its orders; and what is

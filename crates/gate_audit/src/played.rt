@@ -23,8 +23,8 @@ use gate_journal::History;
 use order_accounts::ReadingFault;
 use std::alloc::{AllocError, Global};
 use world_links::{
-    at_rest_both_agree, no_batch_has_a_fault, orders_stay_within_what_was_accepted,
-    what_is_asked_is_done_once,
+    at_rest_both_agree, fill_or_kill_executes_all_or_nothing, no_batch_has_a_fault,
+    orders_stay_within_what_was_accepted, what_is_asked_is_done_once,
 };
 
 /// What came of a closed world's steps.
@@ -127,5 +127,6 @@ fn promises(settings: &Settings)
     no_batch_has_a_fault();
     what_is_asked_is_done_once();
     orders_stay_within_what_was_accepted();
+    fill_or_kill_executes_all_or_nothing();
     at_rest_both_agree();
 }

@@ -74,7 +74,7 @@ and-false false = refl
 -- ---- an event
 
 module _ (s : Settings) (b : Batch) (v : Lists) (p : ℕ) where
-  abbrev IsAsked : Event → Type 0
+  abbrev pub IsAsked : Event → Type 0
   IsAsked e = Each (BytesAsked (terms s) p (turned (outcome s e b v).turn v).turns) (messages b)
 
   -- the port that a batch is for
@@ -108,7 +108,7 @@ module _ (s : Settings) (b : Batch) (v : Lists) (p : ℕ) where
       by_up false false e asks = none-asked (terms s) p _ (messages b) asks
 
   -- a client's message that is delivered
-  by-message : (client link at : ℕ) (frame : Message) → port_of s client ≡ p → Headline (terms s) (turned (outcome s (ClientMessage client link at frame) b v).turn v).turns
+  pub by-message : (client link at : ℕ) (frame : Message) → port_of s client ≡ p → Headline (terms s) (turned (outcome s (ClientMessage client link at frame) b v).turn v).turns
       → Asks s (ClientMessage client link at frame) b v → IsAsked (ClientMessage client link at frame)
   by-message client link at frame same headline asks =
       by_step (is_stepped s (ClientMessage client link at frame) v) refl (client_answer s client (v.client_calls client) (at, OnMessage frame)).app refl headline asks

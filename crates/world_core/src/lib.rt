@@ -8,4 +8,9 @@
 
 mod laws;
 
-pub use laws::what_is_written_was_asked;
+pub use laws::{
+    accepted_logins_ask_again, clients_send_what_they_ask, events_of_others_leave_a_port,
+    heartbeats_leave_a_port, histories_hold_at_each_step, ports_log_in_for_what_they_want,
+    ticks_beat_or_close, wanted_messages_are_handled, what_is_delivered_is_handled,
+    what_is_written_was_asked,
+};

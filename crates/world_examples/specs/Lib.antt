@@ -1,2 +1,3 @@
 pub mod AskedSoFar
 pub mod ReadAlike
+pub mod AcceptedTotals

@@ -38,7 +38,7 @@ none-has p (c ∷ cs) e = by_test (p c) refl (none-has p cs)
     by_test true f rest = absurd (let x : ◌≡◌ {A = Option BookOrder} (Some c) None = rw f at e in cc)
     by_test false f rest = (f, rest (rw f at e))
 
-each-find : (P : BookOrder → Type 0) (p : BookOrder → Bool) (cs : List BookOrder) (c : BookOrder) → Each P cs → find p cs ≡ Some c → P c × (p c ≡ true)
+pub each-find : (P : BookOrder → Type 0) (p : BookOrder → Bool) (cs : List BookOrder) (c : BookOrder) → Each P cs → find p cs ≡ Some c → P c × (p c ≡ true)
 each-find P p [] c each e = absurd (cc)
 each-find P p (x ∷ cs) c each e = by_test (p x) refl (each-find P p cs c each.1)
   where

@@ -14,3 +14,5 @@ pub mod NoFault
 pub mod AtRest
 pub mod Kept
 pub mod Sent
+pub mod Totals
+pub mod Alone

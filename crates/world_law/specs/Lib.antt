@@ -1,2 +1,4 @@
 pub mod Asked
 pub mod Rows
+pub mod Totals
+pub mod FillOrKill

@@ -17,7 +17,9 @@ ghost use Rattle.market_law.specs.Rows.{row};
 ghost use Rattle.market_law.specs.Moves.{times};
 ghost use Rattle.market_law.specs.Said.{names};
 ghost use Rattle.world_law.specs.Asked.{AlwaysOfOrders, BytesAsked, CameAsked};
+ghost use Rattle.world_law.specs.FillOrKill.{AllOrNone, IsFillOrKill};
 ghost use Rattle.world_law.specs.Rows.{ReadsAsBook};
+ghost use Rattle.world_law.specs.Totals.{StaysWithin};
 
 /// The tokens of all that a port was ever asked lead to its orders, after every turn. It does nothing: its contract is
 /// the law.
@@ -62,4 +64,29 @@ pub fn what_is_sent_was_asked()
     ensures turn { (terms : List Terms) (before : OrderHistory) (t : OrderTurn) (client : ℕ) (m : Message) (port : Port)
         → t.event ≡ Came client m port → TurnHolds terms t before
         → Each (BytesAsked terms (terms_of terms client).port (t ∷ before)) t.sends }
+{}
+
+/// There, what is executed and open of an order in the market's book is at most the greatest OrderQty (38) that was
+/// accepted for it. It does nothing: its contract is the law.
+pub fn books_stay_within_what_was_accepted()
+    ensures { (terms : List Terms) (port : ℕ) (h : OrderHistory) (s : TableState) (moves : List Move)
+        → length h < 2 ^ 59 → TurnsLeave terms h s → Each (CameAsked terms port h) moves
+        → Each (StaysWithin terms port (accepted terms h)) (ran moves).machine.book }
+{}
+
+/// There, a fill or kill order (TimeInForce, 59=4) of which no replace was accepted has all of its shares executed or
+/// none, in the market's book; and in what its client read of it, once all that the market said is handled. It does
+/// nothing: its contract is the law.
+pub fn fill_or_kill_orders_trade_all_or_nothing()
+    ensures book { (terms : List Terms) (port : ℕ) (h : OrderHistory) (s : TableState) (moves : List Move)
+        → length h < 2 ^ 59 → TurnsLeave terms h s → Each (CameAsked terms port h) moves
+        → Each (λ (new : Entry). IsFillOrKill terms port (accepted terms h) new
+        → AllOrNone new (row (ran moves).machine.book (token_of new)).executed)
+        (filter (λ (e : Entry). is_new_order e.message) (accepted terms h)) }
+    ensures reading { (terms : List Terms) (port : ℕ) (h : OrderHistory) (s : TableState) (moves : List Move)
+        → length h < 2 ^ 59 → TurnsLeave terms h s → Each (CameAsked terms port h) moves
+        → (ran moves).said ≡ handled port h
+        → Each (λ (new : Entry). IsFillOrKill terms port (accepted terms h) new
+        → AllOrNone new (reading new.order (issued new.client h)).executed)
+        (filter (λ (e : Entry). is_new_order e.message) (accepted terms h)) }
 {}

@@ -9,6 +9,7 @@
 mod laws;
 
 pub use laws::{
-    asked_tokens_lead_to_their_orders, each_token_is_named_once, readings_are_books_at_rest,
+    asked_tokens_lead_to_their_orders, books_stay_within_what_was_accepted,
+    each_token_is_named_once, fill_or_kill_orders_trade_all_or_nothing, readings_are_books_at_rest,
     what_is_said_is_no_fault, what_is_sent_was_asked,
 };

@@ -12,13 +12,16 @@ use Rattle.gate_law.specs.Settings.{Settings, port_of, terms}
 use Rattle.gate_law.specs.Limits.{is_served}
 use Rattle.gate_law.specs.Holds.{Holds}
 use Rattle.world_law.specs.Rows.{ReadsAsBook}
+use Rattle.world_law.specs.FillOrKill.{AllOrNone, IsFillOrKill}
+use Rattle.world_law.proofs.Alone.{books-whole, readings-whole}
 use Rattle.world_law.proofs.AtRest.{at-rest}
 use Rattle.world_law.proofs.Homes.{always-of-orders}
 use Rattle.world_law.proofs.NoFault.{once, told}
+use Rattle.world_law.proofs.Totals.{stays-within}
 use Rattle.world_links.specs.World.{LeadsTo, World, WorldStep}
-use Rattle.world_links.specs.Promises.{AsksOnce, NoFaults, RestsAlike, StayWithin, turns_of}
+use Rattle.world_core.specs.Ports.{NoFaults}
+use Rattle.world_links.specs.Promises.{AsksOnce, FillsOrKills, IsAtRest, RestsAlike, StayWithin, turns_of}
 use Rattle.world_links.proofs.Good.{IsGood, turns-short}
-use Rattle.world_links.proofs.Shares.{stays-within}
 use Rattle.world_links.proofs.Worlds.{worlds-good}
 
 module _ (s : Settings) (steps : List WorldStep) (w : World) (served : is_served s ≡ true) (leads : LeadsTo s steps w) (holds : Holds s w.history) (run : IsTableRun (terms s) (turns_of s w)) where
@@ -48,5 +51,16 @@ module _ (s : Settings) (steps : List WorldStep) (w : World) (served : is_served
       (sym (all-good.good p).after.book)
       (at-rest (terms s) p (turns_of s w) run.0 (w.moves p) short run.1 (all-good.good p).came (none-before (all-good.good p).newer (handled p (turns_of s w)) (ran (w.moves p)).said (all-good.good p).split rest))
 
+  -- where a port's market is at rest, all that it said is handled
+  all-handled : (p : ℕ) → IsAtRest s w p → (ran (w.moves p)).said ≡ handled p (turns_of s w)
+  all-handled p rest = none-before (all-good.good p).newer (handled p (turns_of s w)) (ran (w.moves p)).said (all-good.good p).split rest
+
   pub stay-within : (p : ℕ) → StayWithin s w p
-  stay-within p = stays-within (terms s) p (turns_of s w) (always-of-orders (terms s) (turns_of s w) run.0 short run.1 p) (w.moves p) (all-good.good p).came
+  stay-within p = stays-within (terms s) p (turns_of s w) run.0 (w.moves p) short run.1 (all-good.good p).came
+
+  pub fills-or-kills : (p : ℕ) → FillsOrKills s w p
+  fills-or-kills p = record {
+    in_book = subst (λ (m : Machine). Each (λ (new : Entry). IsFillOrKill (terms s) p (accepted (terms s) (turns_of s w)) new → AllOrNone new (row m.book (token_of new)).executed) (filter (λ (e : Entry). is_new_order e.message) (accepted (terms s) (turns_of s w))))
+        (sym (all-good.good p).after.book) (books-whole (terms s) p (turns_of s w) run.0 (w.moves p) short run.1 (all-good.good p).came);
+    in_reading = λ rest. readings-whole (terms s) p (turns_of s w) run.0 (w.moves p) short run.1 (all-good.good p).came (all-handled p rest);
+  }

@@ -30,7 +30,7 @@ use Rattle.world_law.proofs.Kept.{came-kept}
 use Rattle.world_core.proofs.Writing.{written-asked}
 use Rattle.world_links.specs.Moves.{IsAfterMoves}
 use Rattle.world_links.specs.World.{Carried, Connection, World, asked_by_event, carried, core_steps}
-use Rattle.world_links.specs.Promises.{NoFaults}
+use Rattle.world_core.specs.Ports.{NoFaults}
 use Rattle.world_links.proofs.InStep.{told, told_link}
 use Rattle.world_links.proofs.Core.{StepIn}
 use Rattle.world_links.proofs.Events.{Goes}

@@ -12,4 +12,3 @@ pub mod Parts
 pub mod Good
 pub mod Worlds
 pub mod AtRest
-pub mod Shares

@@ -40,7 +40,7 @@ use Rattle.world_law.proofs.NoFault.{no-fault, told as told-said}
 use Rattle.world_law.proofs.Sent.{read-asked}
 use Rattle.world_links.specs.Moves.{IsAfterMoves, heard_on, moves_by}
 use Rattle.world_links.specs.World.{Carried, Connection, CoreGets, DeliversToCore, DeliversToMarket, ForPort, Happens, LeadsTo, World, WorldStep, Client, Connect, ToMarket, ToCore, Act, Lose, ClientOf, ConnectOf, LoseOf, ToCoreOf, ToMarketOf, asked_by_event, connected, core_steps, ended, goes_out, is_clients, market_steps, moment_of, opening_world, with_connection}
-use Rattle.world_links.specs.Promises.{NoFaults}
+use Rattle.world_core.specs.Ports.{NoFaults}
 use Rattle.world_links.proofs.Decoded.{decoded-written}
 use Rattle.world_links.proofs.Moving.{at-first, step-kept}
 use Rattle.world_links.proofs.InStep.{told, told_link}

@@ -1,34 +1,27 @@
 -- What holds of every world that steps lead to: no batch has a fault; each order is entered, and each replace is made,
 -- at most once, and the Cancel Orders of one request find at most one token live; no more is executed and open than was
--- accepted; and at rest each client has read what the market's book has.
-use Rattle.std.specs.Prelude.{◌≡◌, ℕ, ◌+◌, ◌≤◌, ◌&&◌, ◌||◌, true, List, filter, length, map, max, Some}
-use Rattle.std.specs.Prelude.{None, bytes_eq, fold, is_some}
-use Rattle.order_law.specs.Asks.{total_of}
+-- accepted, and of a fill-or-kill order nothing or all; and at rest each client has read what the market's book has.
+use Rattle.std.specs.Prelude.{◌≡◌, ℕ, ◌≤◌, true, List, filter, length, None, is_some}
 use Rattle.order_law.specs.Headline.{Each}
 use Rattle.order_law.specs.History.{Entry, OrderHistory, SaysCancel, accepted, handled, is_new_order, issued}
 use Rattle.order_law.specs.History.{token_of}
-use Rattle.order_law.specs.Lawful.{order_of_token}
 use Rattle.order_law.specs.Reading.{reading}
-use Rattle.order_law.specs.Verdicts.{is_replace}
-use Rattle.market_law.specs.Machine.{BookOrder, live_order}
+use Rattle.market_law.specs.Machine.{live_order}
 use Rattle.market_law.specs.Moves.{times}
 use Rattle.market_law.specs.Rows.{row}
 use Rattle.market_law.specs.Run.{ran}
 use Rattle.market_law.specs.Said.{EachSaid, names}
 use Rattle.gate_law.specs.Settings.{Settings, port_of, terms}
-use Rattle.gate_law.specs.Events.{History, Turn}
 use Rattle.gate_law.specs.After.{order_turns}
 use Rattle.world_law.specs.Asked.{IsIn, WasAsked, leads}
+use Rattle.world_law.specs.FillOrKill.{AllOrNone, IsFillOrKill}
 use Rattle.world_law.specs.Rows.{ReadsAsBook}
+use Rattle.world_law.specs.Totals.{StaysWithin}
 use Rattle.world_links.specs.World.{Arrival, World}
 
 -- the order level's turns of a world
 abbrev pub turns_of : Settings → World → OrderHistory
 turns_of s w = order_turns s w.history
-
--- no batch has a fault
-abbrev pub NoFaults : History → Type 0
-NoFaults h = Each (λ (t : Turn). t.batch.fault ≡ None) h
 
 -- ---- what a port's market is asked, it does at most once
 
@@ -52,17 +45,9 @@ FindOne w p = (a b : Arrival) (t u : List ℕ) → IsIn a (w.arrived p) → IsIn
 
 -- ---- shares
 
--- the greatest quantity of the accepted new order and replaces of an order
-abbrev pub greatest_total : List ℕ → List Entry → ℕ
-greatest_total order entries = fold max 0 (map (λ (e : Entry). total_of e.message)
-    (filter (λ (e : Entry). bytes_eq e.order order && (is_new_order e.message || is_replace e.message)) entries))
-
 -- What is executed and open of an order in the book is at most the greatest quantity that was accepted for it.
 abbrev pub StayWithin : Settings → World → ℕ → Type 0
-StayWithin s w p = Each (λ (c : BookOrder). (new : Entry)
-    → order_of_token (terms s) p (accepted (terms s) (turns_of s w)) c.entered.token ≡ Some new
-    → c.executed + c.unfilled ≤ greatest_total new.order (accepted (terms s) (turns_of s w)))
-    (ran (w.moves p)).machine.book
+StayWithin s w p = Each (StaysWithin (terms s) p (accepted (terms s) (turns_of s w))) (ran (w.moves p)).machine.book
 
 -- ---- at rest
 
@@ -76,3 +61,18 @@ RestsAlike s w p = IsAtRest s w p
     → Each (λ (new : Entry). port_of s new.client ≡ p
     → ReadsAsBook (reading new.order (issued new.client (turns_of s w))) (row (w.markets p).book.book (token_of new)))
     (filter (λ (e : Entry). is_new_order e.message) (accepted (terms s) (turns_of s w)))
+
+-- ---- fill or kill
+
+-- What is executed of a fill-or-kill order of which no replace was accepted is nothing or all of it, in the market's
+-- book; and at rest in what its client read.
+pub record FillsOrKills (s : Settings) (w : World) (p : ℕ) : Type 0 where
+  pub in_book :
+      Each (λ (new : Entry). IsFillOrKill (terms s) p (accepted (terms s) (turns_of s w)) new
+      → AllOrNone new (row (w.markets p).book.book (token_of new)).executed)
+      (filter (λ (e : Entry). is_new_order e.message) (accepted (terms s) (turns_of s w)))
+  pub in_reading :
+      IsAtRest s w p
+      → Each (λ (new : Entry). IsFillOrKill (terms s) p (accepted (terms s) (turns_of s w)) new
+      → AllOrNone new (reading new.order (issued new.client (turns_of s w))).executed)
+      (filter (λ (e : Entry). is_new_order e.message) (accepted (terms s) (turns_of s w)))

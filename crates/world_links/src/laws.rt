@@ -19,7 +19,8 @@ ghost use Rattle.gate_law.specs.Limits.{is_served};
 ghost use Rattle.gate_law.specs.Holds.{Holds};
 ghost use Rattle.order_machine.specs.Runs.{IsTableRun};
 ghost use Rattle.world_links.specs.Moves.{IsAfterMoves, moves_by};
-ghost use Rattle.world_links.specs.Promises.{AsksOnce, NoFaults, RestsAlike, StayWithin, turns_of};
+ghost use Rattle.world_core.specs.Ports.{NoFaults};
+ghost use Rattle.world_links.specs.Promises.{AsksOnce, FillsOrKills, RestsAlike, StayWithin, turns_of};
 ghost use Rattle.world_links.specs.World.{LeadsTo, World, WorldStep};
 
 /// What a market's message is written as is decoded as the message. It does nothing: its contract is the law.
@@ -77,6 +78,13 @@ pub fn what_is_asked_is_done_once()
 pub fn orders_stay_within_what_was_accepted()
     ensures { (s : Settings) (steps : List WorldStep) (w : World) → is_served s ≡ true → LeadsTo s steps w
         → Holds s w.history → IsTableRun (terms s) (turns_of s w) → (p : ℕ) → StayWithin s w p }
+{}
+
+/// There, what is executed of a fill-or-kill order of which no replace was accepted is nothing or all of it: in the
+/// market's book, and at rest in what its client read. It does nothing: its contract is the law.
+pub fn fill_or_kill_executes_all_or_nothing()
+    ensures { (s : Settings) (steps : List WorldStep) (w : World) → is_served s ≡ true → LeadsTo s steps w
+        → Holds s w.history → IsTableRun (terms s) (turns_of s w) → (p : ℕ) → FillsOrKills s w p }
 {}
 
 /// There, once all that a port's market said is handled, what each client read of an order of the port is what the

@@ -10,7 +10,8 @@
 mod laws;
 
 pub use laws::{
-    accepted_logins_have_their_number, at_rest_both_agree, logins_bring_what_is_not_handled,
-    logins_have_their_number, markets_are_runs_of_the_machine, no_batch_has_a_fault,
-    orders_stay_within_what_was_accepted, what_is_asked_is_done_once, written_messages_are_decoded,
+    accepted_logins_have_their_number, at_rest_both_agree, fill_or_kill_executes_all_or_nothing,
+    logins_bring_what_is_not_handled, logins_have_their_number, markets_are_runs_of_the_machine,
+    no_batch_has_a_fault, orders_stay_within_what_was_accepted, what_is_asked_is_done_once,
+    written_messages_are_decoded,
 };
