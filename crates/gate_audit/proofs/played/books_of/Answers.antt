@@ -27,10 +27,10 @@ loop-place-preserved c =
     let has : has_port s c.own.inside.terms.port ≡ true = ap (has_port s) port ∙ known-port s ports (n + 1) (omega arith) (omega (arith, inside)) in
     λ x same.
     c.in_ok-push_rows.ensures s x same has
-    ∙ books-more s x n c.own.inside.terms.port c.loop-place.books.items c.as_slice-2.result.now c.history.result.now.events bs
+    ∙ books-more s x n c.own.inside.terms.port c.loop-place.books.items c.as_slice-in-loop-place.result.now c.history.result.now.events bs
     (ap (λ (l : List Batch). length l) c.as_slice.ensures.value ∙ c.in_ok-batches.ensures.count)
     (same-turns c.history.result.now.events bs c.history.result.now refl (ap (λ (l : List Batch). map batch_seen l) c.as_slice.ensures.value ∙ c.in_ok-batches.ensures.batches) ∙ c.history.ensures s x same)
-    port (c.as_slice-2.ensures.value ∙ c.in_ok-openings.ensures.opened) (c.loop-place.invariant x same)
+    port (c.as_slice-in-loop-place.ensures.value ∙ c.in_ok-openings.ensures.opened) (c.loop-place.invariant x same)
 
 pub returns : goal.returns
 returns c = λ x same.

@@ -13,7 +13,7 @@ returns c =
     let steps = reverse (map step_seen c.args.steps.now) in
     let is : IsWorld s steps c.in_ok-world.world = c.in_ok-world.ensures in
     let holds : Holds s is.x.history = core-holds s is.x.history c.in_ok-world.world.core is.same.core in
-    let history : turns c.into_history.result ≡ is.x.history = c.into_history.ensures s is.x is.same in
+    let history : turns c.into_history-history.result ≡ is.x.history = c.into_history-history.ensures s is.x is.same in
     record {
       w = is.x;
       leads = is.leads;
