@@ -3,8 +3,8 @@
 use super::{ended, file_at, new_file, no_seed, out_of_memory};
 use gateway_run::{SettingsFault, SettingsFile, read, tell};
 use gateway_serve::{
-    Bound, OperatorFault, OperatorSettings, Told, bind_all, read_operator, serve_day, tell_end,
-    tell_open_orders,
+    Bound, ControlSettings, OperatorFault, OperatorSettings, Told, bind_all, read_operator,
+    serve_day, tell_end, tell_open_orders,
 };
 use std::alloc::Global;
 use std::fs::File;
@@ -123,33 +123,49 @@ where
 
 /// Tells the gateway that is served by these settings to end, and waits until it has.
 pub(crate) fn end_served(rt: &HostRuntime, settings: &str, at_once: bool) -> ExitCode {
-    let (_, operator) = match all_settings_at(rt, settings) {
-        Ok(both) => both,
-        Err(status) => return status,
-    };
-    let Some(control) = operator.control else {
-        let _ = eprintln!(rt; "gateway: settings: control");
-        return ExitCode::from(2);
-    };
+    match all_settings_at(rt, settings) {
+        Ok((_, operator)) => end_of(rt, operator, at_once),
+        Err(status) => status,
+    }
+}
+
+/// The same by what its operator set.
+fn end_of(rt: &HostRuntime, operator: OperatorSettings, at_once: bool) -> ExitCode {
+    let OperatorSettings { control, .. } = operator;
+    match control {
+        Some(control) => end_at(rt, &control, at_once),
+        None => refused_key(rt, "control"),
+    }
+}
+
+/// The same at this endpoint.
+fn end_at(rt: &HostRuntime, control: &ControlSettings, at_once: bool) -> ExitCode {
     let token = match &control.token {
         Some(token) => Some(token.as_bytes()),
         None => None,
     };
     let listen = control.listen.as_str();
     match tell_end(rt, rt.alloc(), listen, token, at_once) {
-        Ok(Told::Ended) => ExitCode::from(0),
-        Ok(Told::StillThere) => {
+        Ok(told) => told_status(rt, listen, told),
+        Err(_) => out_of_memory(rt),
+    }
+}
+
+/// The status of what came of telling a gateway to end, and why it isn't 0.
+fn told_status(rt: &HostRuntime, listen: &str, told: Told) -> ExitCode {
+    match told {
+        Told::Ended => ExitCode::from(0),
+        Told::StillThere => {
             let _ = eprintln!(rt; "gateway: it was told to end, and hasn't within 60 seconds");
             ExitCode::from(1)
         }
-        Ok(Told::Refused(status)) => {
+        Told::Refused(status) => {
             let _ = eprintln!(rt; "gateway: it refuses to end: HTTP status {status}");
             ExitCode::from(1)
         }
-        Ok(Told::Nobody) => {
+        Told::Nobody => {
             let _ = eprintln!(rt; "gateway: nobody answers at {listen}");
             ExitCode::from(2)
         }
-        Err(_) => out_of_memory(rt),
     }
 }
