@@ -1,4 +1,7 @@
-mod Files
-mod One
-mod Summed
+pub mod Files
 mod Grown
+mod One
+mod Parted
+pub mod Meaning
+mod Standing
+mod Summed
