@@ -17,3 +17,5 @@ mod Counting
 mod Heard
 mod Held
 mod Shelved
+mod Playing
+mod Resting
