@@ -7,11 +7,10 @@ use crate::line::Line;
 use crate::sender::LineSender;
 use rtrb::Producer;
 use std::fmt::Display;
-use std::io;
 use std::sync::atomic::{AtomicBool, Ordering};
 use std::sync::{Mutex, Wait};
-use std::thread;
 use std::time::{Clock, Duration};
+use std::{io, thread};
 
 /// For how many pauses the queue's end waits for its last lines to be written.
 const PATIENCE: u32 = 1_000;

@@ -4,11 +4,10 @@ use crate::line::Line;
 use crate::queue::LineQueue;
 use rtrb::{Consumer, RingBuffer};
 use std::alloc::{AllocError, Global};
-use std::str;
 use std::sync::{Arc, Wait};
-use std::thread;
 use std::thread::Threads;
 use std::time::{Clock, Duration};
+use std::{str, thread};
 
 /// How many lines wait at most.
 const ROOM: usize = 1024;
