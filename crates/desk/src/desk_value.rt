@@ -2,6 +2,7 @@
 
 use desk_ends::{DeskName, Finished};
 use desk_steps::{History, PortFault, RecordedCore, Settings, Side, Turned, round, settle};
+use gate_events::Event;
 use std::alloc::{AllocError, Global};
 use std::hash::{BuildHasher, BuildHasherDefault, FoldHasher};
 use std::marker::{Model, PhantomData};
@@ -49,7 +50,8 @@ impl<K: DeskName, S: BuildHasher + Drop> Desk<K, S> {
     ghost use Rattle.std.specs.Prelude.{◌≡◌, IfOk, OnOk, OnErr};
     ghost use Rattle.gate_law.specs.After.{lists};
     ghost use Rattle.gate_law.specs.Holds.{Holds};
-    ghost use Rattle.desk_steps.specs.gate_core.Expected.{fault_now};
+    ghost use Rattle.desk_steps.specs.gate_core.Expected.{event_due, fault_now};
+    ghost use Rattle.gate_events.specs.Seen.{event_seen};
     ghost use Rattle.desk_steps.specs.gate_journal.Kept.{turns};
     ghost use Rattle.desk_steps.specs.Agreeing.{Agrees, AreNamed};
     ghost use Rattle.desk_steps.specs.Settling.{AreSettled, HistoryGoesOn};
@@ -92,6 +94,14 @@ impl<K: DeskName, S: BuildHasher + Drop> Desk<K, S> {
         ensures { self.new ≡ self.old }
     {
         self.side.take_waiting()
+    }
+
+    /// Whether this event is none that only says that time passes and gives nothing (`Core::is_due`). Takes no memory.
+    pub fn is_due(&self, alloc: Global, event: &Event) -> bool
+        ensures { result ≡ event_due self.now.recorded.settings
+            (lists self.now.recorded.settings (turns self.now.recorded.kept)) (event_seen event.now) }
+    {
+        self.recorded.is_due(alloc, event)
     }
 
     /// Why a port is faulted; `None` of one that isn't, and of one that the settings don't have. Takes no memory.

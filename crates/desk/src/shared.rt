@@ -4,6 +4,7 @@ use crate::desk_value::{Closed, Desk};
 use crate::told_outlets::{ToldOutlets, WriteTold};
 use desk_ends::{DeskName, Finished};
 use desk_steps::{PortFault, Turned};
+use gate_events::Event;
 use std::alloc::{AllocError, Global};
 use std::hash::{BuildHasher, BuildHasherDefault, FoldHasher};
 use std::sync::atomic::{AtomicBool, Ordering};
@@ -189,6 +190,14 @@ impl<K: DeskName, S: BuildHasher + Drop> Shared<K, S> {
                 self.ring(at);
             }
         }
+    }
+
+    /// Whether this event is none that only says that time passes and gives nothing (`Core::is_due`), once the lock
+    /// could be had.
+    pub fn is_due(&self, rt: &impl Wait, alloc: Global, event: &Event) -> bool {
+        let guard = self.desk.lock(rt);
+        let desk = &*guard;
+        desk.is_due(alloc, event)
     }
 
     /// Why a port is faulted, once the lock could be had; `None` of one that isn't.

@@ -90,7 +90,7 @@ impl<S: BuildHasher + Drop> RecordedCore<S> {
     ghost use Rattle.gate_journal.specs.gate_law.Holds.{Holds};
     ghost use Rattle.gate_journal.specs.gate_law.Promises.{IsAmong};
     ghost use Rattle.gate_events.specs.Seen.{event_seen};
-    ghost use Rattle.gate_core.specs.Expected.{fault_now};
+    ghost use Rattle.gate_core.specs.Expected.{event_due, fault_now};
     ghost use Rattle.gate_core.specs.Targets.{client_for, port_for};
     ghost use Rattle.gate_journal.specs.Kept.{turns};
     ghost use Rattle.desk_steps.specs.Recorded.{IsKeptStep};
@@ -121,6 +121,14 @@ impl<S: BuildHasher + Drop> RecordedCore<S> {
                 Err(error)
             }
         }
+    }
+
+    /// Whether this event is none that only says that time passes and gives nothing (`Core::is_due`). Takes no memory.
+    pub fn is_due(&self, alloc: Global, event: &Event) -> bool
+        ensures { result ≡ event_due self.now.settings (lists self.now.settings (turns self.now.kept))
+            (event_seen event.now) }
+    {
+        self.core.is_due(alloc, event)
     }
 
     /// Why a port is faulted; `None` of one that isn't, and of one that the settings don't have. Takes no memory.

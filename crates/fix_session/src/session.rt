@@ -1,7 +1,7 @@
 //! The session and its calls.
 
 ghost use Rattle.std.specs.Prelude.{◌≡◌, ◌≤◌, ◌<◌, ◌+◌, ◌^◌, ◌∷◌, ◌++◌, [], List, map, ℕ, length, nat_le};
-ghost use Rattle.std.specs.Prelude.{if◌then◌else◌, IfOk, OnErr, OnOk, Some, None, true, false};
+ghost use Rattle.std.specs.Prelude.{if◌then◌else◌, IfOk, OnErr, OnOk, Some, None, true, false, nat_lt};
 ghost use Rattle.session_law.specs.Session.{on_written};
 ghost use Rattle.session_law.specs.Table.{is_logged_on};
 
@@ -10,7 +10,7 @@ use crate::draft::{Draft, Resend, phase_heard};
 use crate::issues::kind_of;
 use crate::judge::{judge, judge_logon};
 use crate::logon::answer_logon;
-use crate::ticks::do_due;
+use crate::ticks::{do_due, gives_anything};
 use fix_fields::{Fields, Text};
 use session_law::{IssuedReport, Kind, Logged, Phase};
 use session_reading::{AppBody, due_at};
@@ -264,6 +264,14 @@ impl Session {
         ensures err { OnErr result (self.new ≡ self.old) }
     {
         self.tick_step(alloc, at)
+    }
+
+    /// Whether anything is due at this moment: whether a tick would give the link anything. One that gives it nothing
+    /// changes no more than the session's latest moment. Takes no memory.
+    pub fn is_due(&self, at: u64) -> bool
+        ensures { result ≡ nat_lt 0 (length (step self.now.session at OnTick).outs) }
+    {
+        gives_anything(due_at(self.phase, self.latest.max(at)))
     }
 
     /// The link came up, or went. It takes no memory.

@@ -93,7 +93,7 @@ impl<S: BuildHasher + Drop> Core<S> {
     ghost use Rattle.gate_law.specs.Promises.{IsAmong};
     ghost use Rattle.gate_core.specs.Core.{IsAfter, turn_of};
     ghost use Rattle.order_core.specs.State.{IsAfterTurns, core_clients, core_numbers};
-    ghost use Rattle.gate_core.specs.Expected.{fault_now, next_expected};
+    ghost use Rattle.gate_core.specs.Expected.{event_due, fault_now, next_expected};
     ghost use Rattle.gate_events.specs.Seen.{event_seen};
     ghost use Rattle.gate_core.specs.Targets.{client_for, port_for};
 
@@ -201,6 +201,16 @@ impl<S: BuildHasher + Drop> Core<S> {
             → result ≡ next_expected s client ((lists s before).client_calls client) }
     {
         self.parts.next_in(client)
+    }
+
+    /// Whether this event gives anything, or may: `false` of a tick for which the session's table has no row just now, and
+    /// of one for a client or port that the settings don't have. Such a tick gives an empty batch, and changes no more
+    /// than the session's latest moment: whoever has time pass may leave it out. Takes no memory.
+    pub fn is_due(&self, alloc: Global, event: &Event) -> bool
+        ensures { (s : law.Settings) (before : History) → IsAfter s before self.now
+            → result ≡ event_due s (lists s before) (event_seen event.now) }
+    {
+        self.parts.is_due(alloc, event)
     }
 
     /// Why a port is faulted; `None` of one that isn't, and of one that the settings don't have. Takes no memory.

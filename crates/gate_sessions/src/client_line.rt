@@ -3,7 +3,7 @@
 ghost use Rattle.std.specs.Prelude.{◌≡◌, ℕ, List, [], None, true, false};
 ghost use Rattle.gate_law.specs.session_law.Runs.{Timed};
 ghost use Rattle.gate_law.specs.Settings.{Settings, client_name};
-ghost use Rattle.gate_sessions.specs.Leaving.{ClientLeaves, expected_in};
+ghost use Rattle.gate_sessions.specs.Leaving.{ClientLeaves, expected_in, is_client_due};
 ghost use Rattle.gate_sessions.specs.Lines.{client_now, client_settled};
 
 use fix_session::{IssuedTurn, Session, SessionTurn};
@@ -72,6 +72,14 @@ impl ClientLine {
             self.session.settle();
             self.is_touched = true;
         }
+    }
+
+    /// Whether a tick of this moment would give the client's link anything. Takes no memory.
+    pub fn is_due(&self, at: u64) -> bool
+        ensures { (s : Settings) (c : ℕ) (calls : List Timed) → ClientLeaves s c calls self.now.session.session
+            → result ≡ is_client_due s c calls at }
+    {
+        self.session.is_due(at)
     }
 
     /// The number that is expected of the client's next frame (MsgSeqNum, 34), from 1.

@@ -6,6 +6,7 @@ mod by_settings;
 mod clock;
 mod counted;
 mod day;
+mod due_gate;
 mod ends;
 mod fault;
 mod lines;

@@ -5,6 +5,7 @@ ghost use Rattle.gate_events.specs.declared.source.Source.TheVariants as sources
 
 use crate::clock::RunClock;
 use crate::counted::{ClientCounts, CountedLinks};
+use crate::due_gate::DueGate;
 use crate::port_faults::PortLinks;
 use crate::run_opener::RunOpener;
 use crate::telling::{Teller, Whose};
@@ -29,7 +30,7 @@ fn longest_sleep() -> Duration {
     Duration::from_millis(10)
 }
 
-/// The gate of a reader, or of the ticker, over an inlet.
+/// The gate of a reader over an inlet.
 pub(crate) type ReadingGate<'p, 'a, W, G, K, R> = TellingGate<
     'a,
     InletGate<'p, 'a, W, G, K, RandomState>,
@@ -46,10 +47,18 @@ pub(crate) type RunLine<'p, 'a, W, G, A, C, K, R> = Line<
     PenWorker<'p, W, G, BellClock<'a, K, R, RandomState>>,
 >;
 
+/// The gate of ticks over an inlet.
+pub(crate) type TickingGate<'p, 'a, W, G, K, R> = DueGate<
+    'a,
+    InletGate<'p, 'a, W, G, K, RandomState>,
+    K,
+    R,
+>;
+
 /// The ticks of a gateway.
 pub(crate) type RunTicks<'p, 'a, W, G, K, R> = Ticks<
     'a,
-    ReadingGate<'p, 'a, W, G, K, R>,
+    TickingGate<'p, 'a, W, G, K, R>,
     RunClock<'a, K, R>,
 >;
 
@@ -91,7 +100,8 @@ where
     }
 }
 
-/// Ticks for so many clients and ports through the clock's inlet, until `is_over` is set. None through another's.
+/// Ticks for so many clients and ports through the clock's inlet, where they are due, until `is_over` is set. None
+/// through another's.
 pub(crate) fn ticks_of<'p, 'a, W: Prompt + Drop, G: OutletEnd + Drop, K, R>(
     rt: &'a R,
     alloc: Global,
@@ -110,7 +120,7 @@ where
     if inlet.source() == Source::Clock {
         let Count { clients, ports } = count;
         let own = InletGate::new(shared, pens, inlet);
-        let gate = TellingGate::new(alloc, own, None);
+        let gate = DueGate::new(rt, alloc, shared, own);
         return Some(Ticks {
             clients,
             ports,
