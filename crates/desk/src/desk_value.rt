@@ -72,8 +72,8 @@ impl<K: DeskName, S: BuildHasher + Drop> Desk<K, S> {
     /// Goes once round the inlets, in order, and steps an event of each at most. An event waits where a ring is full to
     /// somebody whom its batch may tell something, and is dropped where it isn't of its inlet's source.
     ///
-    /// Where memory is refused the event stays first in its inlet's ring, and the round ends. `AllocError` comes only
-    /// where that was the first step that was tried.
+    /// Where memory is refused the event stays first in its inlet's ring, and the other inlets have their turns.
+    /// `AllocError` comes where it was refused for one, and no step was made.
     pub fn round(&mut self, alloc: Global) -> Result<Turned, AllocError>
         ensures ok { IfOk result (λ turned. Rounds turned self.old self.new) }
         ensures err { OnErr result (RoundIsRefused self.old self.new) }

@@ -10,6 +10,7 @@ mod due_gate;
 mod ends;
 mod fault;
 mod lines;
+mod memory_watch;
 mod port_faults;
 mod run_opener;
 mod running;

@@ -81,7 +81,7 @@ pub(crate) fn line_of<'p, 'a, W: Prompt + Drop, G: OutletEnd + Drop, A, C, K, R>
 ) -> RunLine<'p, 'a, W, G, A, C, K, R>
 where
     K: DeskName,
-    R: Wait + Clock,
+    R: Wait + Clock + Eprint,
     ensures peer { result.peer ≡ peer }
     ensures gate { result.reader.gate ≡ gate.entry }
     ensures pen { G.told result.writer.pen.now.first.value ≡ pen.now.to }
@@ -114,7 +114,7 @@ pub(crate) fn ticks_of<'p, 'a, W: Prompt + Drop, G: OutletEnd + Drop, K, R>(
 ) -> Option<RunTicks<'p, 'a, W, G, K, R>>
 where
     K: DeskName,
-    R: Wait + Clock,
+    R: Wait + Clock + Eprint,
     ensures own { IfSome result (λ ticks. ticks.gate.gate.inlet.source ≡ sources.Clock) }
 {
     if inlet.source() == Source::Clock {
