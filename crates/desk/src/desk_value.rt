@@ -2,7 +2,9 @@
 
 use desk_ends::{DeskName, Finished};
 use desk_steps::{History, PortFault, RecordedCore, Settings, Side, Turned, round, settle};
-use gate_events::Event;
+use fix_fields::Fields;
+use fix_session::LogonFault;
+use gate_events::{ClientNumber, Event};
 use std::alloc::{AllocError, Global};
 use std::hash::{BuildHasher, BuildHasherDefault, FoldHasher};
 use std::marker::{Model, PhantomData};
@@ -50,7 +52,7 @@ impl<K: DeskName, S: BuildHasher + Drop> Desk<K, S> {
     ghost use Rattle.std.specs.Prelude.{◌≡◌, IfOk, OnOk, OnErr};
     ghost use Rattle.gate_law.specs.After.{lists};
     ghost use Rattle.gate_law.specs.Holds.{Holds};
-    ghost use Rattle.desk_steps.specs.gate_core.Expected.{event_due, fault_now};
+    ghost use Rattle.desk_steps.specs.gate_core.Expected.{event_due, fault_now, logon_fault_now};
     ghost use Rattle.gate_events.specs.Seen.{event_seen};
     ghost use Rattle.desk_steps.specs.gate_journal.Kept.{turns};
     ghost use Rattle.desk_steps.specs.Agreeing.{Agrees, AreNamed};
@@ -102,6 +104,15 @@ impl<K: DeskName, S: BuildHasher + Drop> Desk<K, S> {
             (lists self.now.recorded.settings (turns self.now.recorded.kept)) (event_seen event.now) }
     {
         self.recorded.is_due(alloc, event)
+    }
+
+    /// Why a frame of a client's link that isn't logged on is answered by the link's end alone (`Core::logon_fault`).
+    /// Takes no memory.
+    pub fn logon_fault(&self, client: ClientNumber, frame: &Fields) -> Option<LogonFault>
+        ensures { result ≡ logon_fault_now self.now.recorded.settings client
+            ((lists self.now.recorded.settings (turns self.now.recorded.kept)).client_calls client) frame.now }
+    {
+        self.recorded.logon_fault(client, frame)
     }
 
     /// Why a port is faulted; `None` of one that isn't, and of one that the settings don't have. Takes no memory.

@@ -4,7 +4,9 @@ use crate::desk_value::{Closed, Desk};
 use crate::told_outlets::{ToldOutlets, WriteTold};
 use desk_ends::{DeskName, Finished};
 use desk_steps::{PortFault, Turned};
-use gate_events::Event;
+use fix_fields::Fields;
+use fix_session::LogonFault;
+use gate_events::{ClientNumber, Event};
 use std::alloc::{AllocError, Global};
 use std::hash::{BuildHasher, BuildHasherDefault, FoldHasher};
 use std::sync::atomic::{AtomicBool, Ordering};
@@ -219,6 +221,19 @@ impl<K: DeskName, S: BuildHasher + Drop> Shared<K, S> {
         let guard = self.desk.lock(rt);
         let desk = &*guard;
         desk.is_due(alloc, event)
+    }
+
+    /// Why a frame of a client's link that isn't logged on is answered by the link's end alone (`Core::logon_fault`), once
+    /// the lock could be had.
+    pub fn logon_fault(
+        &self,
+        rt: &impl Wait,
+        client: ClientNumber,
+        frame: &Fields,
+    ) -> Option<LogonFault> {
+        let guard = self.desk.lock(rt);
+        let desk = &*guard;
+        desk.logon_fault(client, frame)
     }
 
     /// Why a port is faulted, once the lock could be had; `None` of one that isn't.

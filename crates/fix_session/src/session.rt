@@ -10,6 +10,7 @@ use crate::draft::{Draft, Resend, phase_heard};
 use crate::issues::kind_of;
 use crate::judge::{judge, judge_logon};
 use crate::logon::answer_logon;
+use crate::logon_fault::{LogonFault, logon_fault};
 use crate::ticks::{do_due, gives_anything};
 use fix_fields::{Fields, Text};
 use session_law::{IssuedReport, Kind, Logged, Phase};
@@ -130,6 +131,7 @@ impl Session {
     ghost use Rattle.session_writing.specs.Written.{told_bytes, told_frame};
     ghost use Rattle.fix_session.specs.Made.{made, resent_outs};
     ghost use Rattle.session_law.specs.Bounds.{MovesLittle};
+    ghost use Rattle.fix_session.specs.LogonFaults as faults;
 
     /// A session of a client with the gateway, by their names: no link, and number 1 on both sides.
     #[tactic(auto, unfolding(session_law::specs::Runs::Leaves))]
@@ -272,6 +274,16 @@ impl Session {
         ensures { result ≡ nat_lt 0 (length (step self.now.session at OnTick).outs) }
     {
         gives_anything(due_at(self.phase, self.latest.max(at)))
+    }
+
+    /// Why a message of a link that isn't logged on is answered by the link's end alone; `None` of a Logon that is
+    /// answered. Takes no memory.
+    ///
+    /// Source: FIX 4.4 Volume 2, "Logon".
+    pub fn logon_fault(&self, m: &Fields) -> Option<LogonFault>
+        ensures { result ≡ faults.logon_fault self.now.session m.now }
+    {
+        logon_fault(self, m)
     }
 
     /// The link came up, or went. It takes no memory.

@@ -8,7 +8,9 @@ use Rattle.gate_law.specs.Settings.{Settings, has_client, has_port}
 use Rattle.gate_law.specs.Sessions.{fault_in, port_state}
 use Rattle.gate_law.specs.Events.{Event, ClientTick, PortTick}
 use Rattle.gate_law.specs.Lists.{Lists}
-use Rattle.gate_sessions.specs.Leaving.{expected_in, is_client_due, is_port_due}
+use Rattle.gate_sessions.specs.Leaving.{expected_in, is_client_due, is_port_due, logon_fault_in}
+use Rattle.fix_fields.specs.Field.{Message}
+use Rattle.fix_session.specs.declared.logon_fault.LogonFault.{LogonFault}
 
 -- of a client that the settings have, after these calls of its session (FIX 4.4 Volume 2, "Message Recovery")
 abbrev pub next_expected : Settings → ℕ → List Timed → Option ℕ
@@ -32,3 +34,8 @@ abbrev pub event_due : Settings → Lists → Event → Bool
 event_due s v (ClientTick client at) = client_due s client (v.client_calls client) at
 event_due s v (PortTick p at) = port_due s p (v.port_calls p) at
 event_due s v other = true
+
+-- of a client that the settings have, after these calls of its session: why a message of a link that isn't logged on is
+-- answered by the link's end alone (FIX 4.4 Volume 2, "Logon")
+abbrev pub logon_fault_now : Settings → ℕ → List Timed → Message → Option LogonFault
+logon_fault_now s client calls m = if has_client s client then logon_fault_in s client calls m else None

@@ -3,7 +3,7 @@
 ghost use Rattle.std.specs.Prelude.{◌≡◌, ℕ, List, [], None, true, false};
 ghost use Rattle.gate_law.specs.session_law.Runs.{Timed};
 ghost use Rattle.gate_law.specs.Settings.{Settings, client_name};
-ghost use Rattle.gate_sessions.specs.Leaving.{ClientLeaves, expected_in, is_client_due};
+ghost use Rattle.gate_sessions.specs.Leaving.{ClientLeaves, expected_in, is_client_due, logon_fault_in};
 ghost use Rattle.gate_sessions.specs.Lines.{client_now, client_settled};
 
 use fix_session::{IssuedTurn, Session, SessionTurn};
@@ -80,6 +80,14 @@ impl ClientLine {
             → result ≡ is_client_due s c calls at }
     {
         self.session.is_due(at)
+    }
+
+    /// Why a frame of a link that isn't logged on is answered by the link's end alone. Takes no memory.
+    pub fn logon_fault(&self, frame: &Fields) -> Option<LogonFault>
+        ensures { (s : Settings) (c : ℕ) (calls : List Timed) → ClientLeaves s c calls self.now.session.session
+            → result ≡ logon_fault_in s c calls frame.now }
+    {
+        self.session.logon_fault(frame)
     }
 
     /// The number that is expected of the client's next frame (MsgSeqNum, 34), from 1.

@@ -10,6 +10,7 @@ mod due_gate;
 mod ends;
 mod fault;
 mod lines;
+mod login_gate;
 mod memory_watch;
 mod port_faults;
 mod run_opener;

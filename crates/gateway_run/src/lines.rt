@@ -6,6 +6,7 @@ ghost use Rattle.gate_events.specs.declared.source.Source.TheVariants as sources
 use crate::clock::RunClock;
 use crate::counted::{ClientCounts, CountedLinks};
 use crate::due_gate::DueGate;
+use crate::login_gate::LoginGate;
 use crate::port_faults::PortLinks;
 use crate::run_opener::RunOpener;
 use crate::telling::{Teller, Whose};
@@ -33,7 +34,7 @@ fn longest_sleep() -> Duration {
 /// The gate of a reader over an inlet.
 pub(crate) type ReadingGate<'p, 'a, W, G, K, R> = TellingGate<
     'a,
-    InletGate<'p, 'a, W, G, K, RandomState>,
+    LoginGate<'a, InletGate<'p, 'a, W, G, K, RandomState>, K, R>,
     R,
 >;
 
@@ -162,7 +163,7 @@ impl<K: DeskName> Left<K> {
     ) -> Result<(), AllocError> {
         for line in lines {
             let Line { fault, reader, .. } = line;
-            self.end_inlet(reader.gate.into_gate())?;
+            self.end_inlet(reader.gate.into_gate().into_gate())?;
             self.fault = self.fault.or(fault);
         }
         Ok(())
@@ -236,4 +237,22 @@ pub(crate) fn teller_of<'a, R: Clock + Eprint>(
         }
         _ => None,
     }
+}
+
+/// Who tells why the sessions of a client's or port's links are refused, where that is told of.
+pub(crate) fn login_teller_of<'a, R: Clock + Eprint>(
+    rt: &'a R,
+    tells_frames: bool,
+    whose: &Recipient,
+) -> Option<Teller<'a, R>> {
+    if !tells_frames {
+        return None;
+    }
+    Some(Teller::new(
+        rt,
+        match whose {
+            Recipient::Client(client) => Whose::Client(usize::from(client.number())),
+            Recipient::Port(port) => Whose::Port(usize::from(port.number())),
+        },
+    ))
 }
