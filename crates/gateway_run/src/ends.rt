@@ -5,7 +5,7 @@ ghost use Rattle.gateway_run.specs.Own.{source_of_peer};
 
 use crate::counted::CountedLinks;
 use crate::lines::{RunLine, line_of, login_teller_of, teller_of};
-use crate::login_gate::LoginGate;
+use crate::run_gate::RunGate;
 use crate::port_faults::PortLinks;
 use crate::run_opener::RunOpener;
 use crate::telling_gate::TellingGate;
@@ -81,7 +81,7 @@ impl<
             let teller = teller_of(rt, self.rules.tells_frames, &peer);
             let own = InletGate::new(shared, pens, inlet);
             let who = login_teller_of(rt, self.rules.tells_frames, &peer);
-            let own = LoginGate::new(rt, shared, own, who);
+            let own = RunGate::new(rt, self.alloc, shared, own, who);
             let gate = TellingGate::new(self.alloc, own, teller);
             let line = line_of(rt, shared, peer, opener, gate, at, pen);
             return self.keep(line);

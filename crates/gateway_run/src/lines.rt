@@ -5,9 +5,8 @@ ghost use Rattle.gate_events.specs.declared.source.Source.TheVariants as sources
 
 use crate::clock::RunClock;
 use crate::counted::{ClientCounts, CountedLinks};
-use crate::due_gate::DueGate;
-use crate::login_gate::LoginGate;
 use crate::port_faults::PortLinks;
+use crate::run_gate::RunGate;
 use crate::run_opener::RunOpener;
 use crate::telling::{Teller, Whose};
 use crate::telling_gate::TellingGate;
@@ -31,10 +30,10 @@ fn longest_sleep() -> Duration {
     Duration::from_millis(10)
 }
 
-/// The gate of a reader over an inlet.
+/// The gate of a reader, or of the ticker, over an inlet.
 pub(crate) type ReadingGate<'p, 'a, W, G, K, R> = TellingGate<
     'a,
-    LoginGate<'a, InletGate<'p, 'a, W, G, K, RandomState>, K, R>,
+    RunGate<'a, InletGate<'p, 'a, W, G, K, RandomState>, K, R>,
     R,
 >;
 
@@ -48,18 +47,10 @@ pub(crate) type RunLine<'p, 'a, W, G, A, C, K, R> = Line<
     PenWorker<'p, W, G, BellClock<'a, K, R, RandomState>>,
 >;
 
-/// The gate of ticks over an inlet.
-pub(crate) type TickingGate<'p, 'a, W, G, K, R> = DueGate<
-    'a,
-    InletGate<'p, 'a, W, G, K, RandomState>,
-    K,
-    R,
->;
-
 /// The ticks of a gateway.
 pub(crate) type RunTicks<'p, 'a, W, G, K, R> = Ticks<
     'a,
-    TickingGate<'p, 'a, W, G, K, R>,
+    ReadingGate<'p, 'a, W, G, K, R>,
     RunClock<'a, K, R>,
 >;
 
@@ -116,12 +107,13 @@ pub(crate) fn ticks_of<'p, 'a, W: Prompt + Drop, G: OutletEnd + Drop, K, R>(
 where
     K: DeskName,
     R: Wait + Clock + Eprint,
-    ensures own { IfSome result (λ ticks. ticks.gate.gate.inlet.source ≡ sources.Clock) }
+    ensures own { IfSome result (λ ticks. ticks.gate.gate.gate.inlet.source ≡ sources.Clock) }
 {
     if inlet.source() == Source::Clock {
         let Count { clients, ports } = count;
         let own = InletGate::new(shared, pens, inlet);
-        let gate = DueGate::new(rt, alloc, shared, own);
+        let own = RunGate::new(rt, alloc, shared, own, None);
+        let gate = TellingGate::new(alloc, own, None);
         return Some(Ticks {
             clients,
             ports,
@@ -178,7 +170,7 @@ impl<K: DeskName> Left<K> {
             return Ok(());
         };
         let Ticks { gate, .. } = ticks;
-        self.end_inlet(gate.into_gate())
+        self.end_inlet(gate.into_gate().into_gate())
     }
 
     /// Ends the inlet of a gate, and keeps what was put.

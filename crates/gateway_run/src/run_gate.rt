@@ -1,5 +1,5 @@
-//! What is told of a link that is refused its session: why a client's Logon isn't answered, and what a market says of a
-//! login.
+//! What is looked at before it goes to the desk: ticks that aren't due are left out, and it is told why a client's Logon
+//! isn't answered, and what a market says of a login.
 
 use crate::telling::Teller;
 use desk_gates::{DeskName, Gate, Shared};
@@ -15,33 +15,39 @@ use std::hash::RandomState;
 use std::sync::Wait;
 use std::time::Clock;
 
-/// A gate that tells why a link's first frame is no Logon that is answered (`Core::logon_fault`), and with which letter a
-/// market rejects a login; or that tells nothing.
+/// A gate through which a tick goes only where a session's table has a row for it just now (`Core::is_due`). Any other
+/// tick is given back: it would give its link nothing, and would stand in the day's history for ever.
+///
+/// Where somebody tells, it is told why a link's first frame is no Logon that is answered (`Core::logon_fault`), and with
+/// which letter a market rejects a login.
 #[derive(Drop)]
-pub(crate) struct LoginGate<'a, G, K: DeskName, R> {
+pub(crate) struct RunGate<'a, G, K: DeskName, R> {
     gate: G,
     rt: &'a R,
+    alloc: Global,
     shared: &'a Shared<K, RandomState>,
     teller: Option<Teller<'a, R>>,
     /// No frame of the link came yet.
     is_first: bool,
 }
 
-impl<'a, G, K: DeskName, R> LoginGate<'a, G, K, R> {
+impl<'a, G, K: DeskName, R> RunGate<'a, G, K, R> {
     ghost use Rattle.std.specs.Prelude.{◌≡◌};
 
     /// This gate to the desk, with who tells, where somebody does. Takes no memory.
     pub(crate) fn new(
         rt: &'a R,
+        alloc: Global,
         shared: &'a Shared<K, RandomState>,
         gate: G,
         teller: Option<Teller<'a, R>>,
-    ) -> LoginGate<'a, G, K, R>
+    ) -> RunGate<'a, G, K, R>
         ensures { result.gate ≡ gate }
     {
-        LoginGate {
+        RunGate {
             gate,
             rt,
+            alloc,
             shared,
             teller,
             is_first: true,
@@ -56,14 +62,28 @@ impl<'a, G, K: DeskName, R> LoginGate<'a, G, K, R> {
     }
 }
 
-impl<'a, G, K: DeskName, R: Wait + Clock + Eprint> LoginGate<'a, G, K, R> {
+impl<'a, G, K: DeskName, R: Wait + Clock + Eprint> RunGate<'a, G, K, R> {
+    ghost use Rattle.std.specs.Prelude.{◌≡◌};
+
+    /// Whether an event is a tick that gives nothing.
+    fn is_left_out(&self, event: &Event) -> bool {
+        match event {
+            Event::ClientTick { .. } | Event::PortTick { .. } => {
+                !self.shared.is_due(self.rt, self.alloc, event)
+            }
+            _ => false,
+        }
+    }
+
     /// Tells of an event, where there is something to tell.
     fn look(&mut self, event: &Event)
         ensures { self.new.gate ≡ self.old.gate }
     {
         match event {
             Event::ClientUp { .. } => self.is_first = true,
-            Event::ClientMessage { client, frame, .. } => self.look_at_frame(*client, frame),
+            Event::ClientMessage { client, frame, .. } => {
+                self.look_at_frame(*client, frame.fields());
+            }
             Event::PortPacket { packet, .. } => self.look_at_packet(packet),
             _ => {}
         }
@@ -92,12 +112,16 @@ impl<'a, G, K: DeskName, R: Wait + Clock + Eprint> LoginGate<'a, G, K, R> {
     }
 }
 
-impl<'a, G: Gate, K: DeskName, R: Wait + Clock + Eprint> Gate for LoginGate<'a, G, K, R> {
+impl<'a, G: Gate, K: DeskName, R: Wait + Clock + Eprint> Gate for RunGate<'a, G, K, R> {
     ghost was_put = { λ t. G.was_put t.gate };
 
     ghost was_taken = { λ t. G.was_taken t.gate };
 
+    /// Puts an event; a tick only where it is due, once the desk could be had.
     fn put(&mut self, event: Event) -> Result<(), Event> {
+        if self.is_left_out(&event) {
+            return Err(event);
+        }
         self.look(&event);
         self.gate.put(event)
     }
