@@ -265,6 +265,8 @@ class Day:
         bank = Client(b"BANK", self.at["bank"])
         bank.sent = self.bank.sent
         self.is_so("the client logs on behind them", bank.log_on() is not None)
+        why = "C1 Logon refused: 49=NOBODY isn't this client's name\n"
+        self.is_so(f"why is told, of each ({self.errors.read_text().count(why)})", self.errors.read_text().count(why) == 100)
         self.bank = bank
 
     def foreign_addresses(self):
