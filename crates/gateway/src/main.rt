@@ -3,9 +3,12 @@
 
 use gateway_command::{Asked, asked, links_of};
 use gateway_demo::{Choice, show_demo};
-use gateway_run::{Day, SettingsFault, SettingsFile, audit_day, end_day, read, run_settings, tell};
+use gateway_run::{
+    Day, RunFault, SettingsFault, SettingsFile, audit_day, end_day, read, run_settings, tell,
+};
 use journal_audit::{audit_file, script_file};
 use script_command::{audit_script, tell_refusal};
+use stderr_queue::{LineQueue, Queued, start_writer};
 use std::alloc::Global;
 use std::fs::{File, OpenOptions};
 use std::hash::RandomState;
@@ -14,7 +17,7 @@ use std::net::{Net, TcpListener, TcpStream};
 use std::os::unix::fs::OpenOptionsExt;
 use std::process::ExitCode;
 use std::random::RandomSource;
-use std::sync::Wait;
+use std::sync::{Arc, Wait};
 use std::thread::Threads;
 use std::time::{Clock, Duration};
 use std::{env, fs};
@@ -206,7 +209,11 @@ where
         + Net<Listener = TcpListener, Stream = TcpStream>
         + RandomSource
         + Print
-        + Eprint,
+        + Eprint
+        + Copy
+        + Send
+        + Drop
+        + 'static,
 {
     let Ok(hasher) = RandomState::new(rt) else {
         return no_seed(faults);
@@ -215,16 +222,35 @@ where
         let _ = writeln!(faults, "out of memory");
         return ExitCode::from(1);
     };
+    let lines = match lines_of(rt, alloc) {
+        Ok(lines) => lines,
+        Err(fault) => return ExitCode::from(tell(fault, faults)),
+    };
     let AskedRun {
         file,
         links,
         journal,
     } = asked;
-    let status = match run_settings(rt, alloc, hasher, file, u32::from(links)) {
+    let queued = Queued::new(*rt, &lines);
+    let ran = run_settings(&queued, alloc, hasher, file, u32::from(links));
+    lines.end(rt);
+    let status = match ran {
         Ok(day) => ended(alloc, &day, journal, &mut output, faults),
         Err(fault) => tell(fault, faults),
     };
     ExitCode::from(status)
+}
+
+/// A queue for what is told while links are served, so that no reader of standard error holds up anybody.
+fn lines_of<R>(rt: &R, alloc: Global) -> Result<Arc<LineQueue>, RunFault>
+where
+    R: Threads + Wait + Clock + Eprint + Copy + Send + Drop + 'static,
+{
+    match start_writer(rt, alloc) {
+        Ok(Some(lines)) => Ok(lines),
+        Ok(None) => Err(RunFault::NoThread),
+        Err(_) => Err(RunFault::NoMemory),
+    }
 }
 
 /// Ends a day: writes its journal, where there is to be one, and its audit.

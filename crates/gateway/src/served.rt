@@ -1,7 +1,7 @@
 //! `serve` and `end`.
 
-use super::{ended, file_at, new_file, no_seed, out_of_memory};
-use gateway_run::{SettingsFault, SettingsFile, read, tell};
+use super::{ended, file_at, lines_of, new_file, no_seed, out_of_memory};
+use gateway_run::{RunFault, SettingsFault, SettingsFile, read, tell};
 use gateway_serve::{
     Bound, ControlSettings, OperatorFault, OperatorSettings, Told, bind_all, read_operator,
     serve_day, tell_end, tell_open_orders,
@@ -13,7 +13,7 @@ use std::io::{self, BufWriter, Write};
 use std::net::{Net, TcpListener, TcpStream};
 use std::process::ExitCode;
 use std::random::RandomSource;
-use std::sync::Wait;
+use std::sync::{Arc, Wait};
 use std::thread::Threads;
 use std::time::Clock;
 
@@ -110,7 +110,16 @@ where
         bound,
         journal,
     } = asked;
-    let status = match serve_day(rt, alloc, hasher, file, operator, bound) {
+    let lines = match lines_of(rt, alloc) {
+        Ok(lines) => lines,
+        Err(fault) => return ExitCode::from(tell(fault, faults)),
+    };
+    let Ok(theirs) = Arc::try_clone(&lines) else {
+        return ExitCode::from(tell(RunFault::NoMemory, faults));
+    };
+    let ran = serve_day(rt, alloc, hasher, file, operator, bound, theirs);
+    lines.end(rt);
+    let status = match ran {
         Ok(day) => {
             let status = ended(alloc, &day, journal, &mut output, faults);
             tell_open_orders(alloc, &day, faults);

@@ -5,6 +5,7 @@ ghost use Rattle.std.specs.Prelude.{◌<◌, ◌^◌, IfSome};
 use crate::day_flags::DayFlags;
 use gateway_control::DayControl;
 use operator_settings::{DaySettings, next_at};
+use stderr_queue::LineQueue;
 use std::alloc::Global;
 use std::sync::{Arc, Wait};
 use std::thread;
@@ -29,16 +30,23 @@ pub(crate) fn end_in_time<R>(
     settings: DaySettings,
     control: Arc<DayControl>,
     flags: Arc<DayFlags>,
+    lines: Arc<LineQueue>,
 ) -> Option<JoinHandle<()>>
 where
-    R: Threads + Wait + Clock + Eprint + Copy + Send + Drop + 'static,
+    R: Threads + Wait + Clock + Copy + Send + Drop + 'static,
 {
     let own = *rt;
-    thread::spawn(rt, move || watch(&own, settings, &control, &flags)).ok()
+    thread::spawn(rt, move || watch(&own, settings, &control, &flags, &lines)).ok()
 }
 
 /// Waits for the day's end, and ends it.
-fn watch<R: Clock + Eprint>(rt: &R, settings: DaySettings, control: &DayControl, flags: &DayFlags) {
+fn watch<R: Clock + Wait>(
+    rt: &R,
+    settings: DaySettings,
+    control: &DayControl,
+    flags: &DayFlags,
+    lines: &LineQueue,
+) {
     let DaySettings { ends, linger, .. } = settings;
     let end = match (ends, now(rt)) {
         (Some(time), Some(now)) => Some(next_at(now, time)),
@@ -47,7 +55,7 @@ fn watch<R: Clock + Eprint>(rt: &R, settings: DaySettings, control: &DayControl,
     if !waits_for_the_end(rt, end, control) {
         return;
     }
-    let _ = eprintln!(rt; "gateway: the day ends: no further link is taken");
+    let _ = lines.tell(rt, "gateway: the day ends: no further link is taken");
     flags.close();
     for _ in 0..linger * LOOKS {
         if control.is_hurried() || control.is_over() {

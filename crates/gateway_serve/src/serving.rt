@@ -8,6 +8,7 @@ use crate::waiting_room::WaitingRoom;
 use gateway_control::{DayControl, Endpoint, serve_endpoint};
 use gateway_run::{Day, LinkRules, RunFault, RunPlan, SettingsFile, Teller, Whose, run};
 use operator_settings::{AddressRange, OperatorSettings};
+use stderr_queue::{LineQueue, Queued};
 use std::alloc::{AllocError, Global};
 use std::hash::RandomState;
 use std::net::{Net, TcpListener, TcpStream};
@@ -17,7 +18,7 @@ use std::thread::Threads;
 use std::time::Clock;
 
 /// Serves the gateway of a settings file over these listeners until it is told to end, by its control endpoint or by
-/// its time of day, and gives its day. Tells on standard error of each link that comes and goes.
+/// its time of day, and gives its day. Tells of each link that comes and goes, in lines of this queue.
 ///
 /// `NoMemory` and `NoThread` come as `run` has them.
 pub fn serve_day<R>(
@@ -27,13 +28,13 @@ pub fn serve_day<R>(
     file: SettingsFile,
     operator: OperatorSettings,
     bound: Bound,
+    lines: Arc<LineQueue>,
 ) -> Result<Day, RunFault>
 where
     R: Threads
         + Wait
         + Sync
         + Clock
-        + Eprint
         + RandomSource
         + Net<Listener = TcpListener, Stream = TcpStream>
         + Copy
@@ -50,7 +51,8 @@ where
     };
     let OperatorSettings { day, from, .. } = operator;
     let theirs = Arc::try_clone(&asked)?;
-    let Some(ender) = end_in_time(rt, day, theirs, Arc::try_clone(&flags)?) else {
+    let told = Arc::try_clone(&lines)?;
+    let Some(ender) = end_in_time(rt, day, theirs, Arc::try_clone(&flags)?, told) else {
         asked.close();
         return Err(RunFault::NoThread);
     };
@@ -59,8 +61,9 @@ where
         addresses,
         ..
     } = file;
-    let ran = match plan_of(rt, alloc, clients, &from, &addresses, &flags) {
-        Ok(plan) => run(rt, alloc, hasher, settings, plan, flags.ports()),
+    let queued = Queued::new(*rt, &lines);
+    let ran = match plan_of(&queued, alloc, clients, &from, &addresses, &flags) {
+        Ok(plan) => run(&queued, alloc, hasher, settings, plan, flags.ports()),
         Err(_) => Err(RunFault::NoMemory),
     };
     asked.close();

@@ -1,0 +1,3 @@
+mod Examples
+pub mod Line
+pub mod Sent
