@@ -340,9 +340,42 @@ class Day:
         self.is_so("the journal has the same audit", (ran.returncode, ran.stdout) == (0, audit))
         self.market.end()
 
+    def a_pipe_that_nobody_reads(self):
+        words = [self.gateway, "serve", "--settings", str(self.settings)]
+        self.market.begin()
+        with self.output.open("w") as output:
+            self.running = subprocess.Popen(words, stdout=output, stderr=subprocess.PIPE)
+        time.sleep(0.5)
+        bank = Client(b"BANK", self.at["bank"])
+        self.is_so("a client logs on, while nobody reads standard error", bank.log_on() is not None)
+        longest, begin = 0.0, time.monotonic()
+        for turn in range(1500):
+            stranger = Client(b"FUND", self.at["fund"], "127.0.0.2")
+            stranger.send(b"D", (11, b"%0200d" % turn))
+            stranger.is_over(10)
+            stranger.stream.close()
+            if turn % 100 == 0:
+                name, asked = b"Q%d" % turn, time.monotonic()
+                bank.order(name)
+                filled = bank.told(name, b"F")
+                longest = max(longest, time.monotonic() - asked if filled else 99.0)
+        self.is_so(f"1,500 links of another client in {time.monotonic() - begin:.0f} s; an order takes"
+                   f" {1000 * longest:.0f} ms at most", longest < 1.0)
+        ran = self.end("--now")
+        told = self.running.communicate(timeout=20)[1].decode()
+        self.is_so(f"gateway end: status {ran.returncode}, {self.running.returncode}",
+                   (ran.returncode, self.running.returncode) == (0, 0))
+        lost = [int(line.split()[1]) for line in told.splitlines() if "lines are lost here" in line]
+        self.is_so(f"{sum(lost)} lines are lost, and told as lost", sum(lost) > 0)
+        kept = sum(" C2 up" in line or " C2 Logon refused" in line or " C2 closed" in line for line in told.splitlines())
+        self.is_so(f"{kept} lines of that client are there: with those that are lost about all of 4,500",
+                   4400 < kept + sum(lost) < 4600)
+        self.market.end()
+
     def run(self):
         for step in (self.an_address_in_use, self.nobody_to_end, self.before_the_market, self.bare_connects,
-                     self.refused_logons, self.foreign_addresses, self.market_restarts, self.headers, self.the_end):
+                     self.refused_logons, self.foreign_addresses, self.market_restarts, self.headers, self.the_end,
+                     self.a_pipe_that_nobody_reads):
             step()
         print("all is right" if self.wrong == 0 else f"{self.wrong} wrong")
         return 1 if self.wrong else 0
