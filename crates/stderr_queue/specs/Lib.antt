@@ -1,3 +1,4 @@
 mod Examples
+pub mod Shown
 pub mod Line
 pub mod Sent

@@ -20,5 +20,5 @@ pub record IsTheEnd (before after : LineSender) : Type 0 where
   pub told : before.told ≡ 2 ^ 64 - 1
   pub same : after ≡ before
 
-pub WasSent : LineSender → LineSender → Line → Type 0
+abbrev pub WasSent : LineSender → LineSender → Line → Type 0
 WasSent before after line = WentIn before after line ⊎ (WasDropped before after ⊎ IsTheEnd before after)

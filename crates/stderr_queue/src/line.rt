@@ -1,7 +1,7 @@
 //! A line that waits.
 
 ghost use Rattle.std.specs.Prelude.{◌≡◌, ◌≤◌, []};
-ghost use Rattle.stderr_queue.specs.Line.{cut, appended, line_text, shown_byte};
+ghost use Rattle.stderr_queue.specs.Shown.{appended, cut, shown_byte};
 
 use std::fmt;
 use std::fmt::{Display, Write};
@@ -22,6 +22,8 @@ pub struct Line {
 }
 
 impl Line {
+    ghost use Rattle.stderr_queue.specs.Line.{line_text};
+
     /// An empty one. Takes no memory.
     fn empty() -> Line
         ensures { line_text result ≡ [] }
@@ -44,9 +46,14 @@ impl Line {
 
     /// The same line, with how many were dropped before it.
     pub(crate) fn behind(self, dropped: u64) -> Line
-        ensures { result ≡ record self.entry { dropped = dropped } }
+        ensures { result ≡ record self { dropped = dropped } }
     {
-        Line { dropped, ..self }
+        let Line { bytes, length, .. } = self;
+        Line {
+            bytes,
+            length,
+            dropped,
+        }
     }
 
     /// Its bytes, without an end of line.
@@ -76,6 +83,8 @@ impl Line {
 }
 
 impl Write for Line {
+    ghost use Rattle.stderr_queue.specs.Line.{line_text};
+
     ghost write_str_gives = { λ before text after. line_text after ≡ cut (line_text before) text };
 
     fn write_str(&mut self, text: &str) -> fmt::Result {

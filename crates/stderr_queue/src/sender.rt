@@ -2,7 +2,6 @@
 
 ghost use Rattle.std.specs.Prelude.{◌≡◌, ◌+◌, [], length};
 ghost use Rattle.rtrb.specs.Ring.{sent};
-ghost use Rattle.stderr_queue.specs.Sent.{WasSent};
 
 use crate::line::Line;
 use rtrb::Producer;
@@ -18,10 +17,13 @@ pub(crate) struct LineSender {
 }
 
 impl LineSender {
+    ghost use Rattle.stderr_queue.specs.Sent.{WasSent};
+
     /// Over a queue of which nothing was sent. Takes no memory.
     pub(crate) fn new(ring: Producer<Line>) -> LineSender
         requires fresh { sent ring ≡ [] }
-        ensures { result ≡ record { ring = ring; told = 0; dropped = 0 } }
+        ensures ring { result.ring ≡ ring }
+        ensures none { (result.told ≡ 0) × (result.dropped ≡ 0) }
     {
         LineSender {
             ring,
