@@ -342,6 +342,7 @@ class Day:
 
     def a_pipe_that_nobody_reads(self):
         words = [self.gateway, "serve", "--settings", str(self.settings)]
+        self.market = Market(self.at["market"])
         self.market.begin()
         with self.output.open("w") as output:
             self.running = subprocess.Popen(words, stdout=output, stderr=subprocess.PIPE)
