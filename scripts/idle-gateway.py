@@ -1,6 +1,7 @@
 #!/usr/bin/env python3
-"""idle-gateway.py PROGRAM: runs a built `gateway` with 64 clients on 16 ports on loopback, all logged on, and says which part of a
-processor it takes over ten seconds in which nothing happens but heartbeats, and how long it takes to end."""
+"""idle-gateway.py PROGRAM [SECONDS]: runs a built `gateway` with 64 clients on 16 ports on loopback, all logged on, and says which part
+of a processor it takes over so many seconds, 30, in which nothing happens but heartbeats, how fast its memory grows meanwhile, and how
+long it takes to end."""
 import os, socket, subprocess, sys, tempfile, threading, time
 
 PORTS, CLIENTS = 16, 64
@@ -39,6 +40,13 @@ def used(pid):
     return (int(words[11]) + int(words[12])) / os.sysconf("SC_CLK_TCK")
 
 
+def memory(pid):
+    """What it holds, in bytes."""
+    with open(f"/proc/{pid}/status") as file:
+        return next(1024 * int(line.split()[1]) for line in file if line.startswith("VmRSS:"))
+
+
+seconds = float(sys.argv[2]) if len(sys.argv) > 2 else 30.0
 markets = [listener() for _ in range(PORTS)]
 for it in markets:
     threading.Thread(target=serve, args=(it,), daemon=True).start()
@@ -62,11 +70,11 @@ with tempfile.NamedTemporaryFile("w", suffix=".toml") as file:
     with open(f"/proc/{ran.pid}/status") as status:
         threads = next(line.split()[1] for line in status if line.startswith("Threads:"))
     time.sleep(1)
-    before = used(ran.pid)
-    time.sleep(10)
-    part = (used(ran.pid) - before) / 10
+    before, held = used(ran.pid), memory(ran.pid)
+    time.sleep(seconds)
+    part, grown = (used(ran.pid) - before) / seconds, (memory(ran.pid) - held) / seconds
     begin = time.time()
     for i, it in enumerate(streams):
         it.sendall(frame("5", 2, f"C{i + 1}", ""))
     out = ran.communicate(timeout=60)[0].decode()
-    print(f"{threads} threads; idle: {part:.3f} of a processor; ended after {time.time() - begin:.1f} s, status {ran.returncode}: {out.strip()}")
+    print(f"{threads} threads; idle: {part:.3f} of a processor, {grown * 3600 / 1e6:.1f} MB an hour; ended after {time.time() - begin:.1f} s, status {ran.returncode}: {out.strip()}")
