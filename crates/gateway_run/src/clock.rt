@@ -98,7 +98,8 @@ impl<'a, K: DeskName, R: Wait + time::Clock + Eprint> Watch<'a, K, R> {
                 break;
             }
         }
-        self.memory.look(self.shared.is_memory_refused(), clock.now_ms());
+        self.memory
+            .look(self.shared.is_memory_refused(), clock.now_ms());
         self.look();
     }
 

@@ -5,8 +5,8 @@ ghost use Rattle.gateway_run.specs.Own.{source_of_peer};
 
 use crate::counted::CountedLinks;
 use crate::lines::{RunLine, line_of, login_teller_of, teller_of};
-use crate::run_gate::RunGate;
 use crate::port_faults::PortLinks;
+use crate::run_gate::RunGate;
 use crate::run_opener::RunOpener;
 use crate::telling_gate::TellingGate;
 use desk_gates::{DeskName, Inlet, InletGate, OutletEnd, OutletPen, Prompt, Shared};

@@ -37,14 +37,14 @@ step_front-requires g c = record {
       (own-first c.args.place c.is_empty.new.self.seats c.front-event.result.now c.source.result c.front-event.ensures c.source.ensures (sym c.is_from.ensures ∙ c.if-not-is_from.false));
 }
 
-pub returns-then-Ok-clause-does : goal.returns-then-Ok-clause-does
-returns-then-Ok-clause-does g c =
+pub returns-in-Ok-clause-does : goal.returns-in-Ok-clause-does
+returns-in-Ok-clause-does g c =
     let looks = looked-in c.args.place c.args.recorded.now c.args.side.now c.is_empty.new.self c.is_empty.ensures.seats c.is_empty.ensures.ways c.is_empty.ensures.counts in
     let m : DeskState = record { recorded = c.args.recorded.now; side = c.first_has_room.new.side } in
     let t : DeskState = record { recorded = c.step_front.new.recorded; side = c.step_front.new.side } in (
       m,
       looked-out c.args.place c.args.recorded.now c.args.side.now c.is_empty.new.self c.first_has_room.new.side looks c.first_has_room.ensures.seats c.first_has_room.ensures.ways c.first_has_room.ensures.counts,
-      c.step_front.ensures.ok,
-      c.first_has_room.ensures.cuts c.if-not-first_has_room.false t c.step_front.ensures.ok,
+      c.in-Ok.ensures.ok,
+      c.first_has_room.ensures.cuts c.if-not-first_has_room.false t c.in-Ok.ensures.ok,
       c.first_has_room.ensures.room c.if-not-first_has_room.false,
     )
