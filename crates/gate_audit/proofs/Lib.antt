@@ -17,3 +17,4 @@ mod Counting
 mod Heard
 mod Held
 mod Shelved
+mod Playing

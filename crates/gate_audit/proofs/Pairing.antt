@@ -64,7 +64,7 @@ terms-at (c ∷ clients) (suc i) d inside =
 some_client : ClientSettings
 some_client = record { comp = []; terms = record { port = 0; capacity = 0; standing = record { firm = []; customer = 0 } } }
 
-on-port : (s : Settings) → All (IsOnPort (length s.ports)) s.clients → (c : ℕ) → 1 ≤ c → c ≤ length s.clients → (1 ≤ port_of s c) × (port_of s c ≤ length s.ports)
+pub on-port : (s : Settings) → All (IsOnPort (length s.ports)) s.clients → (c : ℕ) → 1 ≤ c → c ≤ length s.clients → (1 ≤ port_of s c) × (port_of s c ≤ length s.ports)
 on-port s all c some known =
     let again : c - 1 + 1 ≡ c = omega (arith, some) in
     let is : port_of s c ≡ (get_or s.clients (c - 1) some_client).terms.port = ap (port_of s) (sym again) ∙ ap (λ (t : Terms). t.port) (terms-at s.clients (c - 1) some_client (omega (arith, some, known))) in

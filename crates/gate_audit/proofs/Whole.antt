@@ -86,7 +86,7 @@ same-pair : (sent : List Message) (ms : List Outbound) (o : OpenedOrder) → pai
 same-pair sent ms o = rw (same-reading o.order sent) refl
 
 -- the orders of a client, the oldest first
-orders-whole : (events : List Event) (batches : List Batch) (c : ℕ) → length batches ≡ length events
+pub orders-whole : (events : List Event) (batches : List Batch) (c : ℕ) → length batches ≡ length events
     → reverse (orders_of c (opened_orders (said_to_clients (history events batches)))) ≡ orders_of c (reverse (opened_orders (reverse (said_by_batches batches))))
 orders-whole events batches c same =
     ap (λ (all : List SaidToClient). reverse (orders_of c (opened_orders all))) (said-is events batches same)

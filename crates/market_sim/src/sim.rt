@@ -5,6 +5,7 @@ ghost use Rattle.std.specs.Prelude.{map, drop};
 ghost use Rattle.std.specs.Prelude.{vec_len, vec_capacity};
 ghost use Rattle.ouch_codec.specs.declared.inbound.Inbound.{Inbound};
 ghost use Rattle.market_book.specs.market_law.Machine as law;
+ghost use Rattle.market_book.specs.market_law.Rows.{row};
 ghost use Rattle.market_sim.specs.Outbound.{outbound_bytes};
 ghost use Rattle.market_sim.specs.Sim as spec;
 ghost use Rattle.market_sim.specs.Sim.{IsReadAs, IsStepOfSim, ReadsEvent};
@@ -16,7 +17,7 @@ use crate::numbers::number_asked;
 use crate::packets::{SESSION, accepts_login, rejects_login, sequenced_packet, server_heartbeat};
 use crate::reading::inbound_of;
 use crate::saying::{LONGEST, payload_in};
-use market_book::{Book, Choice};
+use market_book::{Book, BookRow, Choice};
 use ouch_codec::{Inbound, Outbound};
 use soup_packets::{Packet, Payload};
 use std::alloc::{AllocError, Global};
@@ -104,6 +105,14 @@ impl Sim {
         let packets = sent_on(self.link, sent, Vec::with_capacity(alloc, 1)?);
         self.kept.push(Payload::of(alloc, payload)?)?;
         Ok(packets)
+    }
+
+    /// What the book has of the order that goes by this token, or went by it before a replace: zeros and no side where
+    /// there is none. Takes no memory.
+    pub fn row(&self, token: &[u8; 14]) -> BookRow
+        ensures { result ≡ row self.now.book.book token.now }
+    {
+        self.book.row(token)
     }
 
     /// The link stands so from now on.

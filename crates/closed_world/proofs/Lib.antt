@@ -1,0 +1,4 @@
+pub mod Written
+pub mod Standing
+pub mod Changes
+pub mod Going

@@ -1,0 +1,20 @@
+//! The closed world: a core, a market for each port, and the connections between them, stepped by what a list of steps
+//! says. Of the clients nothing is assumed.
+//!
+//! In go steps: a client's event, a tick, a connection that opens or ends, the next packet that is delivered, what a
+//! market does by itself. Each event of the core is kept with its batch. Nothing here reads a clock or a socket.
+//!
+//! Source: SoupBinTCP 3.00, "Packets Sent by the Client", "Packets Sent by the Server"; OUCH 4.2.
+#![tactic(auto)]
+
+mod events;
+mod places;
+mod step;
+mod world;
+
+pub use gate_core::Settings;
+pub use gate_events::{ClientFrame, ClientNumber, Event, PortNumber};
+pub use gate_journal::History;
+pub use step::WorldStep;
+pub use world::ClosedWorld;
+pub use world_ports::{BookRow, Choice, Trading};
