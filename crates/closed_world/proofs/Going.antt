@@ -1,7 +1,7 @@
 -- Steps, taken by the code's world.
 use Rattle.std.proofs.Common.{◌≡◌, ℕ, ◌+◌, ◌<◌, ◌≤◌, Bool, true, false, List, [], ◌∷◌, ◌++◌, length, map, get_or, slice_set, Option, Some, None, refl, sym, ap, ◌∙◌, subst, arith}
 use Rattle.std.specs.Prelude.{◌&&◌, nat_le, is_some, option_map, if◌then◌else◌}
-use Rattle.std.specs.List.{list_any}
+use Rattle.std.specs.List.{list_all, list_any}
 use Rattle.std.proofs.lemmas.Bool.Decides.{nat_tests}
 use Rattle.std.proofs.lemmas.List.{length-set}
 use Rattle.gate_law.specs.Settings.{Settings, has_port}
@@ -12,6 +12,7 @@ use Rattle.gate_journal.specs.Kept.{turns}
 use Rattle.gate_core.specs.Core.{CoreState, IsAfter}
 use Rattle.market_law.specs.declared.choice.Choice.{Choice}
 use Rattle.market_law.specs.order_law.ouch_codec.declared.inbound.Inbound.{Inbound}
+use Rattle.market_law.specs.order_law.ouch_codec.Values.{is_byte}
 use Rattle.soup_packets.specs.declared.packet.Packet.{Packet}
 use Rattle.soup_packets.specs.Spelling.{packet_bytes}
 use Rattle.market_sim.specs.declared.event.SimEvent.TheVariants as sims
@@ -193,11 +194,11 @@ pub record Delivered (x : World) (p : ℕ) (choice : Choice) (c : Option world.C
   pub moment : after.now ≡ x.now
 
 packet-delivered : (x : World) (p : ℕ) (choice : Choice) (link : ℕ) (one : Carried) (rest : List Carried) (to_core : List Packet) (new : Line)
-    → (packet : Packet) (read : Option Inbound) → packet_bytes packet ≡ one.bytes → ReadsEvent (sims.Packet packet choice) read
+    → (packet : Packet) (read : Option Inbound) → packet_bytes packet ≡ one.bytes → list_all is_byte packet.payload ≡ true → ReadsEvent (sims.Packet packet choice) read
     → new ≡ market_line (sim_step (x.markets p) (sims.Packet packet choice) read)
     (with_way (Some (way_of (record { link = link; to_market = rest; to_core = to_core }))) (line_at x p))
     → Delivered x p choice (Some (record { link = link; to_market = one ∷ rest; to_core = to_core })) new
-packet-delivered x p choice link one rest to_core new packet read spelled reads made =
+packet-delivered x p choice link one rest to_core new packet read spelled in_bytes reads made =
     let left : world.Connection = record { link = link; to_market = rest; to_core = to_core } in
     let y : World = with_connection p left x in
     let first : Changes p x y (with_way (Some (way_of left)) (line_at x p)) = connection-changes p left x in
@@ -205,7 +206,7 @@ packet-delivered x p choice link one rest to_core new packet read spelled reads 
     market-changes p (sims.Packet packet choice) read one.asks y in
     record {
       after = market_steps p (sims.Packet packet choice) read one.asks y;
-      goes = record { packet = packet; is_packet = spelled; read = read; is_read = reads; is_after = refl };
+      goes = record { packet = packet; is_packet = spelled; are_bytes = in_bytes; read = read; is_read = reads; is_after = refl };
       changes = subst (λ (l : Line). Changes p x (market_steps p (sims.Packet packet choice) read one.asks y) l)
           (ap (market_line (sim_step (x.markets p) (sims.Packet packet choice) read)) first.there ∙ sym made)
           (changes-then p x y (market_steps p (sims.Packet packet choice) read one.asks y) _ _ first second);
@@ -227,7 +228,7 @@ on-connection x p choice link [] to_core new is made = record {
   where
     same : line_at x p ≡ with_way (Some (way_of (record { link = link; to_market = []; to_core = to_core }))) (line_at x p)
     same = ap (λ (c : Option world.Connection). with_way (option_map way_of c) (line_at x p)) is
-on-connection x p choice link (one ∷ rest) to_core new is made = packet-delivered x p choice link one rest to_core new made.0 made.1 made.2 made.3 made.4
+on-connection x p choice link (one ∷ rest) to_core new is made = packet-delivered x p choice link one rest to_core new made.0 made.1 made.2 made.3 made.4 made.5
 
 pub delivered : (x : World) (p : ℕ) (choice : Choice) (new : Line) → Delivers choice (option_map way_of (x.connections p)) (line_at x p) new → Delivered x p choice (x.connections p) new
 delivered x p choice new made = by_connection (x.connections p) refl made

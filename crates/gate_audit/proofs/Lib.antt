@@ -18,3 +18,4 @@ mod Heard
 mod Held
 mod Shelved
 mod Playing
+mod Resting

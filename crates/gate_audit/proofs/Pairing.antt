@@ -127,14 +127,20 @@ module _ (s : Settings) (h : History) (c : ℕ) where
 
 -- ---- all of them
 
+-- the orders that its reports open are its accepted new orders
+pub orders-opened : (s : Settings) (h : History) → Holds s h → (c : ℕ) → orders_of c (opened_orders (said_to_clients h)) ≡ map started (filter (λ (e : Entry). e.client == c) (accepted_new_orders s h))
+orders-opened s h holds c =
+    ap (λ all_said. orders_of c (opened_orders all_said)) (said-same s h holds.run)
+    ∙ ap (orders_of c) (headline-told (terms s) (order_turns s h) holds.orders).same
+    ∙ orders-started c (accepted_new_orders s h)
+
 client-pairs : EndsAll → (s : Settings) (h : History) → Holds s h → All (IsOnPort (length s.ports)) s.clients → (c : ℕ) → 1 ≤ c → c ≤ length s.clients → pairs_of s h c ≡ accepted_pairs_of s h c
 client-pairs ends s h holds all c some known =
     let turns = order_turns s h in
     let on = on-port s all c some known in
     let handled : handled_for s h c ≡ orders.handled (port_of s c) turns = sym (handled-again ends s (port_of s c) (has-of (port_of s c) (length s.ports) on.0 on.1) h holds.run) in
     let own : List Entry = filter (λ (e : Entry). e.client == c) (accepted_new_orders s h) in
-    let opens : orders_of c (opened_orders (said_to_clients h)) ≡ map started own =
-    ap (λ all_said. orders_of c (opened_orders all_said)) (said-same s h holds.run) ∙ ap (orders_of c) (headline-told (terms s) turns holds.orders).same ∙ orders-started c (accepted_new_orders s h) in
+    let opens : orders_of c (opened_orders (said_to_clients h)) ≡ map started own = orders-opened s h holds c in
     let each = own-pairs s h c (holds.reads c) handled (accepted_new_orders s h) (all-found (terms s) turns (few-numbered s h)) (run-agrees s h holds) in
     let pair : OpenedOrder → Pair = pair_in (told_by_batches c h) (handled_for s h c) in
     ap (λ os. map pair (reverse os)) opens

@@ -51,7 +51,7 @@ made-same f p xs i x old inside is fails =
     let none : filter p (x ∷ []) ≡ [] = rw fails refl in
     ap (λ zs. old ++ map f zs) (sym (filtered-more p xs i x inside is ∙ (ap (λ zs. filter p (take i xs) ++ zs) none ∙ append-nil (filter p (take i xs)))))
 
-each-append : {X : Type 0} (P : X → Type 0) (xs ys : List X) → Each P xs → Each P ys → Each P (xs ++ ys)
+pub each-append : {X : Type 0} (P : X → Type 0) (xs ys : List X) → Each P xs → Each P ys → Each P (xs ++ ys)
 each-append P [] ys first second = second
 each-append P (x ∷ xs) ys first second = (first.0, each-append P xs ys first.1 second)
 

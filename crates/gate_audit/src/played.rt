@@ -23,8 +23,8 @@ use gate_journal::History;
 use order_accounts::ReadingFault;
 use std::alloc::{AllocError, Global};
 use world_links::{
-    at_rest_both_agree, fill_or_kill_executes_all_or_nothing, no_batch_has_a_fault,
-    orders_stay_within_what_was_accepted, what_is_asked_is_done_once,
+    at_rest_both_agree, cancels_of_a_request_find_one_token, fill_or_kill_executes_all_or_nothing,
+    no_batch_has_a_fault, orders_stay_within_what_was_accepted, what_is_asked_is_done_once,
 };
 
 /// What came of a closed world's steps.
@@ -126,6 +126,7 @@ fn promises(settings: &Settings)
     let _comp = settings.comp();
     no_batch_has_a_fault();
     what_is_asked_is_done_once();
+    cancels_of_a_request_find_one_token();
     orders_stay_within_what_was_accepted();
     fill_or_kill_executes_all_or_nothing();
     at_rest_both_agree();

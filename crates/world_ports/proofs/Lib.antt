@@ -1,2 +1,3 @@
 pub mod Places
+mod Bytes
 mod Links

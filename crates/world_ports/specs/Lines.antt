@@ -2,9 +2,10 @@
 -- and what becomes of it. (SoupBinTCP 3.00, "SoupBinTCP Session"; the connections are our own.)
 use Rattle.std.specs.Prelude.{◌≡◌, ℕ, ◌+◌, ◌==◌, true, List, [], ◌∷◌, ◌++◌, map, Option, Some, None, is_some}
 use Rattle.std.specs.Prelude.{option_map, if◌then◌else◌}
-use Rattle.std.specs.List.{flat_map, list_any}
+use Rattle.std.specs.List.{flat_map, list_all, list_any}
 use Rattle.market_law.specs.declared.choice.Choice.{Choice}
 use Rattle.market_law.specs.order_law.ouch_codec.declared.inbound.Inbound.{Inbound}
+use Rattle.market_law.specs.order_law.ouch_codec.Values.{is_byte}
 use Rattle.soup_packets.specs.declared.packet.Packet.{Packet}
 use Rattle.soup_packets.specs.Spelling.{packet_bytes}
 use Rattle.market_sim.specs.declared.event.SimEvent.TheVariants as sims
@@ -114,11 +115,12 @@ said_on packets (Some c) = Some (record c { to_core = c.to_core ++ packets })
 abbrev pub market_line : SimStep → Line → Line
 market_line step l = record l { market = step.state; connection = said_on step.packets l.connection }
 
--- the oldest packet on its way to the market is delivered, by this choice
+-- the oldest packet on its way to the market, in bytes, is delivered, by this choice
 abbrev pub DeliversOn : Choice → Way → List (List ℕ) → Line → Line → Type 0
 DeliversOn choice c [] old new = new ≡ with_way (Some c) old
 DeliversOn choice c (bytes ∷ rest) old new = (packet : Packet) × (read : Option Inbound)
-    × (packet_bytes packet ≡ bytes) × ReadsEvent (sims.Packet packet choice) read
+    × (packet_bytes packet ≡ bytes) × (list_all is_byte packet.payload ≡ true)
+    × ReadsEvent (sims.Packet packet choice) read
     × (new ≡ market_line (sim_step old.market (sims.Packet packet choice) read)
     (with_way (Some (record c { to_market = rest })) old))
 

@@ -1,5 +1,9 @@
 //! A port: its market, and its connection.
 
+ghost use Rattle.std.specs.Prelude.{◌≡◌, true};
+ghost use Rattle.std.specs.List.{list_all};
+ghost use Rattle.market_law.specs.order_law.ouch_codec.Values.{is_byte};
+
 use crate::connection::Connection;
 use gate_events::LinkOut;
 use market_sim::{Choice, Packet, Sim, SimEvent};
@@ -14,9 +18,11 @@ pub struct PortLine {
 }
 
 impl PortLine {
-    ghost use Rattle.std.specs.Prelude.{◌≡◌, Option, Some, None, IfOk, map};
+    ghost use Rattle.std.specs.Prelude.{◌≡◌, true, Option, Some, None, IfOk, map};
+    ghost use Rattle.std.specs.List.{list_all};
     ghost use Rattle.gate_events.specs.Seen.{link_out_seen};
     ghost use Rattle.market_law.specs.order_law.ouch_codec.declared.inbound.Inbound.{Inbound};
+    ghost use Rattle.market_law.specs.order_law.ouch_codec.Values.{is_byte};
     ghost use Rattle.market_sim.specs.Sim.{ReadsEvent, sim_step};
     ghost use Rattle.market_sim.specs.declared.event.SimEvent.TheVariants as sims;
     ghost use Rattle.world_ports.specs.Lines as lines;
@@ -55,18 +61,10 @@ impl PortLine {
     pub fn lose(&mut self, alloc: Global) -> Result<Option<u64>, AllocError>
         ensures { IfOk result (LosesTo (line_seen self.old) (line_seen self.new)) }
     {
-        match self.connection.take() {
-            Some(connection) => self.lose_link(alloc, connection.link),
-            None => Ok(None),
-        }
-    }
-
-    /// The market has no link any more; the connection was of this one.
-    fn lose_link(&mut self, alloc: Global, link: u64) -> Result<Option<u64>, AllocError>
-        requires { self.old.connection ≡ None }
-        ensures { IfOk result (λ lost. (lost ≡ Some link)
-            × (line_seen self.new ≡ lines.ended_line (line_seen self.old))) }
-    {
+        let Some(connection) = &self.connection else {
+            return Ok(None);
+        };
+        let link = connection.link;
         self.leave(alloc)?;
         Ok(Some(link))
     }
@@ -121,9 +119,19 @@ impl PortLine {
         let taken = connection.to_market.pop_front();
         self.connection = Some(connection);
         match taken {
-            Some(packet) => self.comes(alloc, SimEvent::Packet(packet, choice)),
+            Some(packet) => self.come(alloc, packet, choice),
             None => Ok(()),
         }
+    }
+
+    /// A packet, in bytes, comes to the market.
+    fn come(&mut self, alloc: Global, packet: Packet, choice: Choice) -> Result<(), AllocError>
+        ensures { IfOk result (λ u. (read : Option Inbound) × (list_all is_byte packet.payload ≡ true)
+            × ReadsEvent (sims.Packet packet choice) read × (line_seen self.new
+            ≡ lines.market_line (sim_step self.old.market (sims.Packet packet choice) read) (line_seen self.old))) }
+    {
+        are_bytes(packet.payload.as_slice());
+        self.comes(alloc, SimEvent::Packet(packet, choice))
     }
 
     /// The market does this by itself; what it says goes out.
@@ -175,7 +183,6 @@ impl PortLine {
         connection: Connection,
         outs: &[LinkOut],
     ) -> Result<(), AllocError>
-        requires { self.old.connection ≡ None }
         ensures { IfOk result (λ u. ArePackets (map link_out_seen outs.now) → line_seen self.new
             ≡ lines.told_on (map link_out_seen outs.now) (Some (way_seen connection)) (line_seen self.old)) }
     {
@@ -188,12 +195,17 @@ impl PortLine {
         Ok(())
     }
 
-    /// The market's link is gone.
+    /// The connection is over with all that is on its way, and the market has no link.
     fn leave(&mut self, alloc: Global) -> Result<(), AllocError>
-        requires { self.old.connection ≡ None }
         ensures { IfOk result (λ u. line_seen self.new ≡ lines.ended_line (line_seen self.old)) }
     {
         let _nothing = self.market.step(alloc, SimEvent::Gone)?;
+        self.connection = None;
         Ok(())
     }
 }
+
+/// What stands in memory is bytes. It does nothing: its contract is what the type says.
+fn are_bytes(bytes: &[u8])
+    ensures { list_all is_byte bytes.now ≡ true }
+{}
