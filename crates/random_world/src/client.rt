@@ -1,6 +1,7 @@
 //! A client of whom the generator draws messages.
 
 use crate::chance::Chance;
+use closed_world::ClientNumber;
 use fix_stamp::stamp;
 use std::alloc::{AllocError, Global};
 use std::io::{self, Write};
@@ -14,7 +15,7 @@ struct Order {
 /// What a client knows of itself.
 #[derive(Drop)]
 pub struct Client {
-    place: u16,
+    pub number: ClientNumber,
     /// Its last link.
     pub link: u64,
     /// MsgSeqNum (34) of its next message.
@@ -25,20 +26,15 @@ pub struct Client {
 }
 
 impl Client {
-    /// A client at a place that has said nothing yet. Takes no memory.
-    pub fn new(alloc: Global, place: u16) -> Client {
+    /// A client that has said nothing yet. Takes no memory.
+    pub fn new(alloc: Global, number: ClientNumber) -> Client {
         Client {
-            place,
+            number,
             link: 0,
             next: 1,
             ids: 0,
             orders: Vec::new(alloc),
         }
-    }
-
-    /// The number of the client.
-    pub fn number(&self) -> u16 {
-        self.place.saturating_add(1)
     }
 
     /// The text of a logon, whose numbers begin anew in one of eight.
@@ -134,10 +130,10 @@ impl Client {
             return Ok(count);
         }
         let back = if chance.once_in(8) { count } else { count.min(3) };
-        let place = count - 1 - chance.below(back as u32) as usize % count;
+        let place = count - 1 - chance.place(back).min(count - 1);
         let ids = &self.orders[place].ids;
         let back = if chance.once_in(4) { ids.len() } else { 1 };
-        let id = newest_but(ids.as_slice(), chance.below(back as u32) as usize);
+        let id = newest_but(ids.as_slice(), chance.place(back));
         write!(body, "41=A{id}\x01")?;
         Ok(place)
     }
@@ -145,7 +141,7 @@ impl Client {
     /// A message's text with its header.
     fn text(&mut self, alloc: Global, kind: &str, body: &[u8], at: u64) -> io::Result<Vec<u8>> {
         let mut text = Vec::new(alloc);
-        let number = self.number();
+        let number = self.number.number();
         let next = self.next;
         write!(text, "35={kind}\x0149=C{number}\x0156=GATE\x0134={next}\x0152=")?;
         text.extend_from_slice(&stamp(at))?;

@@ -55,32 +55,46 @@ pub fn counts_of(alloc: Global, steps: u64, played: &Played) -> Result<Counts, A
         steps,
         events: events.len() as u64,
         orders: played.pairs.len() as u64,
-        trades: count(batches.as_slice(), trades_in),
-        lost: events.iter().filter(|event| is_loss(event)).count() as u64,
-        faults: count(batches.as_slice(), faults_in),
+        trades: trades_in(batches.as_slice()),
+        lost: losses_in(events.as_slice()),
+        faults: faults_in(batches.as_slice()),
         agree: agreeing(played.pairs.as_slice(), played.books.as_slice()),
     })
 }
 
-/// What is counted of each batch, together.
-fn count(batches: &[Batch], of: fn(&Batch) -> u64) -> u64 {
-    let mut total = 0u64;
-    for batch in batches {
-        total = total.saturating_add(of(batch));
+/// How many links of ports are gone.
+fn losses_in(events: &[Event]) -> u64 {
+    let mut losses = 0u64;
+    for event in events {
+        if let Event::PortGone { .. } = event {
+            losses = losses.saturating_add(1);
+        }
     }
-    total
+    losses
 }
 
-/// Whether a port's link is gone.
-fn is_loss(event: &Event) -> bool {
-    match event {
-        Event::PortGone { .. } => true,
-        _ => false,
+/// How many batches have a fault.
+fn faults_in(batches: &[Batch]) -> u64 {
+    let mut faults = 0u64;
+    for batch in batches {
+        if batch.fault.is_some() {
+            faults = faults.saturating_add(1);
+        }
     }
+    faults
+}
+
+/// How many trades batches tell.
+fn trades_in(batches: &[Batch]) -> u64 {
+    let mut trades = 0u64;
+    for batch in batches {
+        trades = trades.saturating_add(trades_of(batch));
+    }
+    trades
 }
 
 /// How many trades a batch tells.
-fn trades_in(batch: &Batch) -> u64 {
+fn trades_of(batch: &Batch) -> u64 {
     let mut trades = 0u64;
     for report in batch.reports.as_slice() {
         if is_trade(report.text()) {
@@ -98,11 +112,6 @@ fn is_trade(report: &[u8]) -> bool {
     }
 }
 
-/// 1 where a batch has a fault.
-fn faults_in(batch: &Batch) -> u64 {
-    if batch.fault.is_some() { 1 } else { 0 }
-}
-
 /// How many orders agree, and are what their market's book has.
 fn agreeing(pairs: &[OrderPair], books: &[BookRow]) -> u64 {
     let mut agree = 0u64;
@@ -115,7 +124,7 @@ fn agreeing(pairs: &[OrderPair], books: &[BookRow]) -> u64 {
 }
 
 /// Whether what a client read of an order is what the market's book has, in side where the book has one.
-pub fn is_as_booked(pair: &OrderPair, book: &BookRow) -> bool {
+fn is_as_booked(pair: &OrderPair, book: &BookRow) -> bool {
     book.side.unwrap_or(pair.fix.side) == pair.fix.side
         && u128::from(book.executed) == pair.fix.executed
         && book.unfilled == u64::from(pair.fix.unfilled)

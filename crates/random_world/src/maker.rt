@@ -53,7 +53,8 @@ impl Maker {
     fn new(alloc: Global, settings: &Settings, shape: &Shape) -> io::Result<Maker> {
         let mut clients = Vec::new(alloc);
         for place in 0..shape.clients {
-            clients.push(Client::new(alloc, place))?;
+            let number = ClientNumber::at_place(usize::from(place));
+            clients.push(Client::new(alloc, number))?;
         }
         Ok(Maker {
             chance: Chance::of(shape.seed),
@@ -82,26 +83,27 @@ impl Maker {
     fn draw(&mut self, alloc: Global, weights: &Weights) -> io::Result<()> {
         match weights.kind(&mut self.chance) {
             Kind::ToMarket => {
-                let step = WorldStep::ToMarket(self.port(), self.choice());
-                self.take(alloc, step)
+                let port = self.port();
+                let choice = self.choice();
+                self.take(alloc, WorldStep::ToMarket(port.number(), choice))
             }
             Kind::ToCore => {
-                let step = WorldStep::ToCore(self.port());
-                self.take(alloc, step)
+                let port = self.port();
+                self.take(alloc, WorldStep::ToCore(port.number()))
             }
             Kind::Message => self.message(alloc),
             Kind::Act => {
                 let port = self.port();
-                let step = WorldStep::Act(port, self.act(port));
-                self.take(alloc, step)
+                let choice = self.act(port);
+                self.take(alloc, WorldStep::Act(port.number(), choice))
             }
             Kind::Lose => {
-                let step = WorldStep::Lose(self.port());
-                self.take(alloc, step)
+                let port = self.port();
+                self.take(alloc, WorldStep::Lose(port.number()))
             }
             Kind::Connect => {
-                let step = WorldStep::Connect(self.port());
-                self.take(alloc, step)
+                let port = self.port();
+                self.take(alloc, WorldStep::Connect(port.number()))
             }
             Kind::Tick => self.tick(alloc),
             Kind::LogOn => {
@@ -117,13 +119,13 @@ impl Maker {
             self.steps.push(WorldStep::Connect(port))?;
         }
         for _ in 0..steps.saturating_add(100) {
-            self.deliver_once(alloc)?;
+            self.deliver_once()?;
         }
         Ok(())
     }
 
     /// On each port a packet is delivered each way.
-    fn deliver_once(&mut self, _alloc: Global) -> io::Result<()> {
+    fn deliver_once(&mut self) -> io::Result<()> {
         for port in 1..=self.ports {
             let choice = self.choice();
             self.steps.push(WorldStep::ToMarket(port, choice))?;
@@ -141,13 +143,23 @@ impl Maker {
     }
 
     /// One of the ports.
-    fn port(&mut self) -> u16 {
-        (self.chance.below(u32::from(self.ports)) + 1) as u16
+    fn port(&mut self) -> PortNumber {
+        let place = self.chance.below(u32::from(self.ports));
+        PortNumber::at_place(place as usize)
     }
 
     /// The place of one of the clients.
     fn client(&mut self) -> usize {
-        self.chance.below(self.clients.len() as u32) as usize
+        self.chance.place(self.clients.len())
+    }
+
+    /// The number of one of the clients.
+    fn client_number(&mut self) -> ClientNumber {
+        let place = self.client();
+        match self.clients.as_slice().get(place) {
+            Some(client) => client.number,
+            None => ClientNumber::new(1),
+        }
     }
 
     /// A moment: a little later mostly, one that was before in one of twenty.
@@ -163,6 +175,9 @@ impl Maker {
     fn message(&mut self, alloc: Global) -> io::Result<()> {
         let place = self.client();
         let at = self.moment();
+        if place >= self.clients.len() {
+            return Ok(());
+        }
         let text = self.clients[place].message(alloc, &mut self.chance, at)?;
         self.say(alloc, place, text.as_slice(), at)
     }
@@ -170,19 +185,47 @@ impl Maker {
     /// A client's link goes where it has one, and the next one comes, on which it logs on.
     fn log_on(&mut self, alloc: Global, place: usize) -> io::Result<()> {
         let at = self.moment();
-        let client = ClientNumber::at_place(place);
-        let link = self.clients[place].link;
-        if link > 0 {
-            let gone = Event::ClientGone { client, link, at };
-            self.take(alloc, WorldStep::Client(gone))?;
+        self.link_gone(alloc, place, at)?;
+        self.link_comes(alloc, place, at)?;
+        if place >= self.clients.len() {
+            return Ok(());
         }
-        self.clients[place].link = link.saturating_add(1);
-        let link = link.saturating_add(1);
-        self.take(alloc, WorldStep::Client(Event::ClientUp { client, link, at }))?;
         let text = self.clients[place].log_on(alloc, &mut self.chance, at)?;
         self.say(alloc, place, text.as_slice(), at)?;
+        self.reset(alloc, place, at)
+    }
+
+    /// A client's number is put right, whatever was lost before.
+    fn reset(&mut self, alloc: Global, place: usize, at: u64) -> io::Result<()> {
+        if place >= self.clients.len() {
+            return Ok(());
+        }
         let text = self.clients[place].reset(alloc, at)?;
         self.say(alloc, place, text.as_slice(), at)
+    }
+
+    /// A client's link is gone, where it has one.
+    fn link_gone(&mut self, alloc: Global, place: usize, at: u64) -> io::Result<()> {
+        if place >= self.clients.len() {
+            return Ok(());
+        }
+        let client = self.clients[place].number;
+        let link = self.clients[place].link;
+        if link == 0 {
+            return Ok(());
+        }
+        self.take(alloc, WorldStep::Client(Event::ClientGone { client, link, at }))
+    }
+
+    /// A client's next link comes.
+    fn link_comes(&mut self, alloc: Global, place: usize, at: u64) -> io::Result<()> {
+        if place >= self.clients.len() {
+            return Ok(());
+        }
+        let client = self.clients[place].number;
+        let link = self.clients[place].link.saturating_add(1);
+        self.clients[place].link = link;
+        self.take(alloc, WorldStep::Client(Event::ClientUp { client, link, at }))
     }
 
     /// A client's frame comes.
@@ -190,8 +233,11 @@ impl Maker {
         let Some(frame) = frame_of(alloc, text)? else {
             return Ok(());
         };
+        if place >= self.clients.len() {
+            return Ok(());
+        }
         let event = Event::ClientMessage {
-            client: ClientNumber::at_place(place),
+            client: self.clients[place].number,
             link: self.clients[place].link,
             at,
             frame,
@@ -215,8 +261,8 @@ impl Maker {
     /// The tick of a client or of a port; in one of ten an event that does nothing.
     fn tick_event(&mut self) -> Event {
         let at = self.now;
-        let client = ClientNumber::at_place(self.client());
-        let port = PortNumber::new(self.port());
+        let client = self.client_number();
+        let port = self.port();
         match self.chance.below(10) {
             0 => self.stray(client, port),
             1..=3 => Event::ClientTick { client, at },
@@ -259,7 +305,7 @@ impl Maker {
     }
 
     /// What a market does by itself.
-    fn act(&mut self, port: u16) -> Choice {
+    fn act(&mut self, port: PortNumber) -> Choice {
         match self.chance.below(12) {
             0..=5 => self.trade(port),
             6..=7 => self.removal(port),
@@ -272,7 +318,7 @@ impl Maker {
     }
 
     /// A trade of an order that is open, if one is found.
-    fn trade(&mut self, port: u16) -> Choice {
+    fn trade(&mut self, port: PortNumber) -> Choice {
         let (token, row) = self.open_order(port);
         let shares = self.shares_of(&row);
         self.trades = self.trades.saturating_add(1);
@@ -284,7 +330,7 @@ impl Maker {
     }
 
     /// Shares leave the book, of an order that is open, if one is found.
-    fn removal(&mut self, port: u16) -> Choice {
+    fn removal(&mut self, port: PortNumber) -> Choice {
         let (token, row) = self.open_order(port);
         let shares = self.shares_of(&row);
         Choice::TakeOff(Removal { token, shares })
@@ -301,17 +347,17 @@ impl Maker {
 
     /// A token of an order of which something is open, and what the market has of it: one of the newest, looked for a
     /// few times.
-    fn open_order(&mut self, port: u16) -> ([u8; 14], BookRow) {
+    fn open_order(&mut self, port: PortNumber) -> ([u8; 14], BookRow) {
         self.look_for_newer();
         let mut token = token_of(self.newest);
-        let mut row = self.world.row(port, &token);
+        let mut row = self.world.row(port.number(), &token);
         for _ in 0..24 {
             if row.unfilled > 0 {
                 break;
             }
             let back = u64::from(self.chance.below(40));
             token = token_of(self.newest.saturating_sub(back));
-            row = self.world.row(port, &token);
+            row = self.world.row(port.number(), &token);
         }
         (token, row)
     }

@@ -11,8 +11,8 @@ pub fn world_settings(
     ports: u16,
 ) -> Result<Option<Settings>, AllocError> {
     let gate = Text::copied(alloc, b"GATE")?;
+    let clients = clients_of(alloc, clients, ports)?;
     let ports = ports_of(alloc, ports)?;
-    let clients = clients_of(alloc, clients, ports.len() as u16)?;
     if !Settings::are_served(&gate, ports.as_slice(), clients.as_slice()) {
         return Ok(None);
     }
@@ -55,7 +55,7 @@ fn client(alloc: Global, place: u16, ports: u16) -> Result<ClientSettings, Alloc
 }
 
 /// The name of the client at a place: `C` and its number.
-pub fn client_name(alloc: Global, place: u16) -> Result<Text, AllocError> {
+fn client_name(alloc: Global, place: u16) -> Result<Text, AllocError> {
     let name = format!(in alloc; "C{}", u32::from(place) + 1)?;
     Text::copied(alloc, name.as_str().as_bytes())
 }

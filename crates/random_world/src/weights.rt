@@ -35,7 +35,7 @@ impl Weights {
                 (Kind::Message, 30),
                 (Kind::Act, acts),
                 (Kind::Lose, losses),
-                (Kind::Connect, losses + 2),
+                (Kind::Connect, losses.saturating_add(2)),
                 (Kind::Tick, ticks),
                 (Kind::LogOn, 2),
             ],
