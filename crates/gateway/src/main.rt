@@ -1,11 +1,10 @@
 //! The order gateway's program: runs a gateway by its settings, shows one, and audits scripts.
 #![tactic(auto)]
 
-use gateway_command::{Asked, asked, links_of, number_between};
+use gateway_command::{Asked, asked, links_of};
 use gateway_demo::{Choice, show_demo};
 use gateway_run::{Day, SettingsFault, SettingsFile, audit_day, end_day, read, run_settings, tell};
 use journal_audit::{audit_file, script_file};
-use random_world::{Shape, show_world};
 use script_command::{audit_script, tell_refusal};
 use std::alloc::Global;
 use std::fs::{File, OpenOptions};
@@ -22,8 +21,10 @@ use std::{env, fs};
 
 #[cfg(test)]
 mod missing_files;
+mod played;
 mod served;
 
+use played::{asked_shape, play_world};
 use served::{asked_serve, end_served, serve_until_told};
 
 fn main(rt: HostRuntime) -> ExitCode {
@@ -61,7 +62,7 @@ fn main(rt: HostRuntime) -> ExitCode {
                     ports,
                 },
             ),
-        ) => match shape_of(&rt, seed, steps, clients, ports) {
+        ) => match asked_shape(&rt, seed, steps, clients, ports) {
             Ok(shape) => play_world(&rt, &shape),
             Err(status) => status,
         },
@@ -277,43 +278,6 @@ where
     let patience = Duration::from_secs(10);
     let answer = Choice::AcceptLive;
     ExitCode::from(show_demo(rt, alloc, hasher, patience, answer, &mut output, faults))
-}
-
-/// The world that is asked for, or the status where a number of it is out of its range.
-fn shape_of(
-    rt: &HostRuntime,
-    seed: &str,
-    steps: &str,
-    clients: Option<&str>,
-    ports: Option<&str>,
-) -> Result<Shape, ExitCode> {
-    let Some(seed) = number_between(seed, 0, u64::MAX) else {
-        return Err(refused(rt, "--seed is a number from 0 to 18446744073709551615"));
-    };
-    let Some(steps) = number_between(steps, 1, 10_000) else {
-        return Err(refused(rt, "--steps is a number from 1 to 10000"));
-    };
-    let Some(clients) = number_between(clients.unwrap_or("4"), 1, 64) else {
-        return Err(refused(rt, "--clients is a number from 1 to 64"));
-    };
-    let Some(ports) = number_between(ports.unwrap_or("2"), 1, 16) else {
-        return Err(refused(rt, "--ports is a number from 1 to 16"));
-    };
-    Ok(Shape {
-        seed,
-        steps: steps as u32,
-        clients: clients as u16,
-        ports: ports as u16,
-    })
-}
-
-/// Plays a closed world.
-fn play_world(rt: &HostRuntime, shape: &Shape) -> ExitCode {
-    let alloc = rt.alloc();
-    let Ok(mut output) = BufWriter::new(alloc, io::writer(rt)) else {
-        return out_of_memory(rt);
-    };
-    ExitCode::from(show_world(alloc, shape, &mut output, &mut rt.stderr()))
 }
 
 /// Tells that the system has no random number for the seed of the gateway's indexes.

@@ -2,7 +2,7 @@
 -- FILE`, `run --settings FILE [--links N] [--journal FILE]`, `serve --settings FILE [--journal FILE]`, `end --settings
 -- FILE [--now]`, `demo`, `world --seed N --steps K [--clients C] [--ports P]`, and nothing else but a call for help.
 use Rattle.std.specs.Prelude.{ℕ, Bool, true, false, List, Option, Some, None, codes, if◌then◌else◌, option_and_then, option_map}
-use Rattle.std.specs.Prelude.{nat_le, ◌&&◌}
+use Rattle.std.specs.Prelude.{nat_le, ◌&&◌, ◌==◌, length, not}
 use Rattle.std.specs.Char.{is_ascii_digit}
 use Rattle.std.specs.List.{list_all}
 use Rattle.std.specs.Str.{bytes_eq}
@@ -195,8 +195,8 @@ unfoldable pub links_of : Option Text → Option ℕ
 links_of None = Some 1
 links_of (Some digits) = links_in digits
 
--- a number that was said: digits, for one from the least to the most
+-- a number that was said: digits, one at least, for one from the least to the most
 abbrev pub number_between : ℕ → ℕ → Text → Option ℕ
 number_between least most digits =
-    if list_all is_ascii_digit digits && nat_le least (number_of digits)
+    if not (length digits == 0) && list_all is_ascii_digit digits && nat_le least (number_of digits)
     && nat_le (number_of digits) most then Some (number_of digits) else None

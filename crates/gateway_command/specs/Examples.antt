@@ -4,7 +4,7 @@ use Rattle.clap.specs.Words.{Text, Kinds}
 use Rattle.clap.specs.declared.error.kind.ErrorKind.TheVariants as kind
 use Rattle.clap.proofs.OnLiterals.{clap_on_literals}
 use Rattle.gateway_command.specs.Command.{Asking, Audits, AuditsDay, Demonstrates, Ends, Keeps, Plays, Runs, Serves}
-use Rattle.gateway_command.specs.Command.{asking_of, asked_of, gateway_found, gateway_faults, links_of}
+use Rattle.gateway_command.specs.Command.{asking_of, asked_of, gateway_found, gateway_faults, links_of, number_between}
 
 abbrev line : List Text → List Text
 line words = codes "gateway" ∷ words
@@ -207,3 +207,22 @@ no_digits = refl
 a_sign : links_of (Some (codes "+1")) ≡ None
 unfolding links_of
 a_sign = refl
+
+-- numbers in their range
+the_least_number : number_between 1 64 (codes "1") ≡ Some 1
+the_least_number = refl
+
+the_greatest_number : number_between 1 64 (codes "64") ≡ Some 64
+the_greatest_number = refl
+
+a_number_below : number_between 1 64 (codes "0") ≡ None
+a_number_below = refl
+
+a_number_above : number_between 1 64 (codes "65") ≡ None
+a_number_above = refl
+
+a_number_without_digits : number_between 0 64 [] ≡ None
+a_number_without_digits = refl
+
+a_number_with_a_letter : number_between 0 64 (codes "1x") ≡ None
+a_number_with_a_letter = refl

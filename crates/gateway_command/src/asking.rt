@@ -1,6 +1,6 @@
 //! What a command line asks for.
 
-ghost use Rattle.std.specs.Prelude.{◌≡◌, option_map};
+ghost use Rattle.std.specs.Prelude.{◌≡◌, ◌≤◌, IfSome, option_map};
 ghost use Rattle.gateway_command.specs.Command as spec;
 
 use decimal_digits::{are_digits, number_of};
@@ -81,18 +81,20 @@ fn links_in(digits: &[u8]) -> Option<u16>
     }
 }
 
-/// A number that was said: digits, for one from the least to the most. `None` of anything else.
+/// A number that was said: digits, one at least, for one from the least to the most. `None` of anything else.
 pub fn number_between(digits: &str, least: u64, most: u64) -> Option<u64>
-    ensures { result ≡ spec.number_between least most digits.now }
+    ensures number { result ≡ spec.number_between least most digits.now }
+    ensures within { IfSome result (λ number. (least ≤ number) × (number ≤ most)) }
 {
     number_in(digits.as_bytes(), least, most)
 }
 
 /// The same of the bytes.
 fn number_in(digits: &[u8], least: u64, most: u64) -> Option<u64>
-    ensures { result ≡ spec.number_between least most digits.now }
+    ensures number { result ≡ spec.number_between least most digits.now }
+    ensures within { IfSome result (λ number. (least ≤ number) × (number ≤ most)) }
 {
-    if !are_digits(digits) {
+    if digits.is_empty() || !are_digits(digits) {
         return None;
     }
     match number_of(digits) {

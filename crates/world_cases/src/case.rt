@@ -1,5 +1,7 @@
 //! A case: steps that are written out.
 
+ghost use Rattle.std.specs.Prelude.{◌<◌, IfSome};
+
 use crate::judging::{Judged, judge};
 use crate::sender::Sender;
 use closed_world::{Choice, ClientNumber, Event, PortNumber, WorldStep};
@@ -120,23 +122,24 @@ impl Case {
         Ok(true)
     }
 
-    /// Plays the case, and prints what came of it; or plays it with a loss behind each delivery in turn, with all that
-    /// is on its way delivered in the end.
-    pub fn end<W: Write>(
-        &mut self,
-        alloc: Global,
-        is_crossed: bool,
-        output: &mut W,
-    ) -> io::Result<()> {
-        let Some(settings) = world_settings(alloc, CLIENTS, PORTS)? else {
-            return Err(io::Error::from(ErrorKind::InvalidData));
-        };
-        let judged = if is_crossed {
-            self.deliver_all()?;
-            self.crossed(alloc, &settings)?
-        } else {
-            judge(alloc, &settings, self.steps.as_slice())?
-        };
+    /// Plays the case, and prints what came of it.
+    pub fn end<W: Write>(&self, alloc: Global, output: &mut W) -> io::Result<()> {
+        let settings = case_settings(alloc)?;
+        let judged = judge(alloc, &settings, self.steps.as_slice())?;
+        self.tell(&judged, output)
+    }
+
+    /// Plays the case with all that is on its way delivered in the end, without a loss and with one behind each of its
+    /// deliveries in turn, and prints what came of them together.
+    pub fn end_crossed<W: Write>(&mut self, alloc: Global, output: &mut W) -> io::Result<()> {
+        let settings = case_settings(alloc)?;
+        self.deliver_all()?;
+        let judged = self.crossed(alloc, &settings)?;
+        self.tell(&judged, output)
+    }
+
+    /// Prints what came of the case.
+    fn tell<W: Write>(&self, judged: &Judged, output: &mut W) -> io::Result<()> {
         output.write_all(self.name.as_slice())?;
         writeln!(output, ": {judged}")?;
         Ok(())
@@ -184,20 +187,42 @@ impl Case {
         place: usize,
         port: u16,
     ) -> io::Result<Judged> {
-        if place >= self.steps.len() {
-            return Ok(Judged::none());
-        }
-        self.steps.insert(place + 1, WorldStep::Connect(port))?;
-        self.steps.insert(place + 1, WorldStep::Lose(port))?;
+        self.insert_behind(place, WorldStep::Connect(port))?;
+        self.insert_behind(place, WorldStep::Lose(port))?;
         let judged = judge(alloc, settings, self.steps.as_slice())?;
-        self.steps.remove(place + 1);
-        self.steps.remove(place + 1);
+        self.remove_behind(place);
+        self.remove_behind(place);
         Ok(judged)
+    }
+
+    /// A step more behind the one at a place, where there is one.
+    fn insert_behind(&mut self, place: usize, step: WorldStep) -> io::Result<()> {
+        if place < self.steps.len() {
+            self.steps.insert(place + 1, step)?;
+        }
+        Ok(())
+    }
+
+    /// The step behind the one at a place goes, where there is one.
+    fn remove_behind(&mut self, place: usize) {
+        if place < self.steps.len().saturating_sub(1) {
+            let _step = self.steps.remove(place + 1);
+        }
+    }
+}
+
+/// The settings of each case.
+fn case_settings(alloc: Global) -> io::Result<Settings> {
+    match world_settings(alloc, CLIENTS, PORTS)? {
+        Some(settings) => Ok(settings),
+        None => Err(io::Error::from(ErrorKind::InvalidData)),
     }
 }
 
 /// The place of a client.
-fn place_of(number: u16) -> Option<usize> {
+fn place_of(number: u16) -> Option<usize>
+    ensures { IfSome result (λ place. place < 3) }
+{
     match number {
         1 => Some(0),
         2 => Some(1),

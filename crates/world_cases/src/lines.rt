@@ -40,8 +40,8 @@ impl Lines {
         let (word, rest) = words_of(line);
         match word {
             b"case" => self.case = Case::named(alloc, rest)?,
-            b"end" => self.case.end(alloc, false, output)?,
-            b"crossings" => self.case.end(alloc, true, output)?,
+            b"end" => self.case.end(alloc, output)?,
+            b"crossings" => self.case.end_crossed(alloc, output)?,
             b"worlds" => return run_seeds(alloc, rest, output),
             b"at" => return Ok(self.case.at(number_of(rest))),
             _ => return self.step(alloc, word, rest),

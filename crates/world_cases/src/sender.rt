@@ -1,5 +1,7 @@
 //! A client whose messages a case writes out.
 
+ghost use Rattle.std.specs.Prelude.{◌≤◌, length};
+
 use fix_stamp::stamp;
 use std::alloc::Global;
 use std::io::{self, Write};
@@ -30,10 +32,7 @@ impl Sender {
         fields: &[u8],
         at: u64,
     ) -> io::Result<Vec<u8>> {
-        let head = match fields.iter().position(|byte| *byte == b'|') {
-            Some(end) => end + 1,
-            None => fields.len(),
-        };
+        let head = end_of_first(fields);
         let mut text = Vec::new(alloc);
         push_fields(&mut text, &fields[..head])?;
         let next = self.next;
@@ -43,6 +42,16 @@ impl Sender {
         push_fields(&mut text, &fields[head..])?;
         self.next = next.saturating_add(1);
         Ok(text)
+    }
+}
+
+/// The place behind the first field, or the end of the text.
+fn end_of_first(fields: &[u8]) -> usize
+    ensures { result ≤ length fields.now }
+{
+    match fields.iter().position(|byte| *byte == b'|') {
+        Some(end) => end + 1,
+        None => fields.len(),
     }
 }
 
