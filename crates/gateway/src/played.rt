@@ -1,13 +1,13 @@
 //! A closed world of a seed, played.
 
-use crate::{out_of_memory, refused};
+use super::{out_of_memory, refused};
 use gateway_command::number_between;
 use random_world::{Shape, show_world};
 use std::io::{self, BufWriter};
 use std::process::ExitCode;
 
 /// The world that is asked for, or the status where a number of it is out of its range.
-pub fn asked_shape(
+pub(crate) fn asked_shape(
     rt: &HostRuntime,
     seed: &str,
     steps: &str,
@@ -35,7 +35,7 @@ pub fn asked_shape(
 }
 
 /// Plays a closed world, prints what came of it, and gives the status to end with.
-pub fn play_world(rt: &HostRuntime, shape: &Shape) -> ExitCode {
+pub(crate) fn play_world(rt: &HostRuntime, shape: &Shape) -> ExitCode {
     let alloc = rt.alloc();
     let Ok(mut output) = BufWriter::new(alloc, io::writer(rt)) else {
         return out_of_memory(rt);
