@@ -7,8 +7,8 @@ use world_ports::Choice;
 /// taken does nothing.
 #[derive(Debug, Drop)]
 pub enum WorldStep {
-    /// A client's event, or a tick, with its own link and moment. It can't be taken where it is a port's link that comes
-    /// or goes, or a port's packet: those are made by the other steps.
+    /// A client's event, or a tick, with its own link and moment. It can't be taken where it is a port's link that
+    /// comes or goes, or a port's packet: those are made by the other steps.
     Client(Event),
     /// A connection of this port opens. It can't be taken beside another one.
     Connect(u16),

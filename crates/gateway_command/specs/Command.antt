@@ -1,8 +1,8 @@
 -- The command line of `gateway`: `audit --script FILE` or `audit --journal FILE --settings FILE`, `journal --script
 -- FILE`, `run --settings FILE [--links N] [--journal FILE]`, `serve --settings FILE [--journal FILE]`, `end --settings
 -- FILE [--now]`, `demo`, `world --seed N --steps K [--clients C] [--ports P]`, and nothing else but a call for help.
-use Rattle.std.specs.Prelude.{ℕ, Bool, true, false, List, Option, Some, None, codes, if◌then◌else◌, option_and_then, option_map}
-use Rattle.std.specs.Prelude.{nat_le, ◌&&◌, ◌==◌, length, not}
+use Rattle.std.specs.Prelude.{ℕ, Bool, true, false, List, Option, Some, None, codes, if◌then◌else◌, option_and_then}
+use Rattle.std.specs.Prelude.{option_map, nat_le, ◌&&◌, ◌==◌, length, not}
 use Rattle.std.specs.Char.{is_ascii_digit}
 use Rattle.std.specs.List.{list_all}
 use Rattle.std.specs.Str.{bytes_eq}
@@ -96,9 +96,9 @@ unfoldable pub gateway_faults : List Text → Kinds
 gateway_faults words = fault_of gateway words
 
 -- what a command line asks for: the audit of a script's file; that of the day in a journal's file, by the settings in a
--- file; the day of a script's file as a journal; a gateway by the settings in a file, with so many links, or until it is
--- told to end, and a file for its journal; the end of the gateway that is served by the settings in a file, at once or
--- not; the demonstration; or the closed world of a seed, with so many steps, clients and ports
+-- file; the day of a script's file as a journal; a gateway by the settings in a file, with so many links, or until it
+-- is told to end, and a file for its journal; the end of the gateway that is served by the settings in a file, at once
+-- or not; the demonstration; or the closed world of a seed, with so many steps, clients and ports
 pub data Asking : Type 0 where
   Audits : (script : Text) → Asking
   AuditsDay : (journal : Text) (settings : Text) → Asking

@@ -8,9 +8,9 @@ use gate_audit::{ReadingFault, Settings, play};
 use std::alloc::Global;
 use std::io::{self, ErrorKind, Write};
 
-/// Plays the world of a shape, prints what came of it, counted, and gives the status to end with: 0 where no batch has a
-/// fault and all orders agree, 1 where not, where memory runs out or a write fails, 2 where there are no such settings.
-/// What is wrong is told in `faults`.
+/// Plays the world of a shape, prints what came of it, counted, and gives the status to end with: 0 where no batch has
+/// a fault and all orders agree, 1 where not, where memory runs out or a write fails, 2 where there are no such
+/// settings. What is wrong is told in `faults`.
 pub fn show_world<W: Write, F: Write>(
     alloc: Global,
     shape: &Shape,

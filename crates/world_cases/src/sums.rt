@@ -25,7 +25,8 @@ pub struct Sums {
     /// Fill or kill orders of which no replace was accepted, and those of them that were filled.
     pub killed: u64,
     pub filled: u64,
-    /// Orders whose executed and open shares pass what was asked for them; fill or kill orders that were filled in part.
+    /// Orders whose executed and open shares pass what was asked for them; fill or kill orders that were filled in
+    /// part.
     pub over: u64,
     pub partly: u64,
 }
