@@ -21,13 +21,13 @@ pub struct ClosedWorld {
 }
 
 impl ClosedWorld {
-    ghost use Rattle.std.specs.Prelude.{◌≡◌, ◌∷◌, [], List, IfOk, map, true};
+    ghost use Rattle.std.specs.Prelude.{◌≡◌, ◌∷◌, [], List, IfOk, None, false, map, true};
     ghost use Rattle.gate_law.specs.Settings as law;
     ghost use Rattle.gate_law.specs.Events as told;
     ghost use Rattle.gate_law.specs.order_law.History.{Asked};
     ghost use Rattle.gate_events.specs.Seen.{batch_seen, event_seen, link_out_seen};
     ghost use Rattle.gate_journal.specs.Kept.{turns};
-    ghost use Rattle.market_law.specs.Rows.{row};
+    ghost use Rattle.market_law.specs.Rows.{row, row_of_order};
     ghost use Rattle.world_links.specs.World as world;
     ghost use Rattle.world_links.specs.World.{World};
     ghost use Rattle.closed_world.specs.Steps.{step_seen};
@@ -81,8 +81,10 @@ impl ClosedWorld {
     /// What the market of this port has of the order that goes by this token, or went by it before a replace: zeros and
     /// no side where there is none, and of a port that the settings don't have. Takes no memory.
     pub fn row(&self, port: u16, token: &[u8; 14]) -> BookRow
-        ensures { (s : law.Settings) (x : World) → IsAsWorld s x self.now → law.has_port s port ≡ true
+        ensures row { (s : law.Settings) (x : World) → IsAsWorld s x self.now → law.has_port s port ≡ true
             → result ≡ row (x.markets port).book.book token.now }
+        ensures none { (s : law.Settings) (x : World) → IsAsWorld s x self.now → law.has_port s port ≡ false
+            → result ≡ row_of_order None }
     {
         match place_of(port, self.ports.len()) {
             Some(place) => self.ports[place].market.row(token),
