@@ -23,6 +23,8 @@ use std::{env, fs};
 mod missing_files;
 mod played;
 mod served;
+#[cfg(test)]
+mod world_numbers;
 
 use played::{asked_shape, play_world};
 use served::{asked_serve, end_served, serve_until_told};
