@@ -32,11 +32,11 @@ with-mapped : {X A B : Type 0} (P : A → B → Type 0) (f : X → A) (g : X →
 with-mapped P f g [] each = tt
 with-mapped P f g (x ∷ xs) each = (each.0, with-mapped P f g xs each.1)
 
-with-append : {A B : Type 0} (P : A → B → Type 0) (as : List A) (bs : List B) (cs : List A) (ds : List B) → EachWith P as bs → EachWith P cs ds → EachWith P (as ++ cs) (bs ++ ds)
-with-append P [] [] cs ds first second = second
-with-append P [] (b ∷ bs) cs ds first second = absurd first
-with-append P (a ∷ as) [] cs ds first second = absurd first
-with-append P (a ∷ as) (b ∷ bs) cs ds first second = (first.0, with-append P as bs cs ds first.1 second)
+with-append : {A B : Type 0} (P : A → B → Type 0) (xs : List A) (ys : List B) (us : List A) (vs : List B) → EachWith P xs ys → EachWith P us vs → EachWith P (xs ++ us) (ys ++ vs)
+with-append P [] [] us vs first second = second
+with-append P [] (y ∷ ys) us vs first second = absurd first
+with-append P (x ∷ xs) [] us vs first second = absurd first
+with-append P (x ∷ xs) (y ∷ ys) us vs first second = (first.0, with-append P xs ys us vs first.1 second)
 
 for-clients-with : {A B : Type 0} (P : A → B → Type 0) (f : ℕ → List A) (g : ℕ → List B) → ((c : ℕ) → EachWith P (f c) (g c)) → (n : ℕ) → EachWith P (for_clients f n) (for_clients g n)
 for-clients-with P f g each ℕ.zero = tt

@@ -366,16 +366,13 @@ fn world<'a>(alloc: Global) -> Result<Command<'a>, AllocError>
     ensures own { IfOk result (λ command. (fields_of command).has_globals ≡ false) }
 {
     let alone = Command::new(alloc, "world")
-        .about("Plays a closed world of clients, gateway and markets by a seed, and judges what came of it")
+        .about(
+            "Plays a closed world of clients, gateway and markets by a seed, and judges what came of it",
+        )
         .after_help(WORLD);
     let seed = required(alloc, "seed", "N", "The seed");
     let with_seed = with_option(alone, seed)?;
-    let steps = required(
-        alloc,
-        "steps",
-        "K",
-        "How many steps are drawn: 1 to 10000",
-    );
+    let steps = required(alloc, "steps", "K", "How many steps are drawn: 1 to 10000");
     let with_steps = with_option(with_seed, steps)?;
     let clients = option(
         alloc,

@@ -129,7 +129,11 @@ impl Client {
             body.extend_from_slice(b"41=NONE\x01")?;
             return Ok(count);
         }
-        let back = if chance.once_in(8) { count } else { count.min(3) };
+        let back = if chance.once_in(8) {
+            count
+        } else {
+            count.min(3)
+        };
         let place = count - 1 - chance.place(back).min(count - 1);
         let ids = &self.orders[place].ids;
         let back = if chance.once_in(4) { ids.len() } else { 1 };
@@ -143,7 +147,10 @@ impl Client {
         let mut text = Vec::new(alloc);
         let number = self.number.number();
         let next = self.next;
-        write!(text, "35={kind}\x0149=C{number}\x0156=GATE\x0134={next}\x0152=")?;
+        write!(
+            text,
+            "35={kind}\x0149=C{number}\x0156=GATE\x0134={next}\x0152="
+        )?;
         text.extend_from_slice(&stamp(at))?;
         text.extend_from_slice(b"\x01")?;
         text.extend_from_slice(body)?;

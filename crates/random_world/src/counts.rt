@@ -42,7 +42,10 @@ impl fmt::Display for Counts {
             faults,
             agree,
         } = self;
-        write!(f, "steps {steps} events {events} orders {orders} trades {trades} ")?;
+        write!(
+            f,
+            "steps {steps} events {events} orders {orders} trades {trades} "
+        )?;
         write!(f, "lost {lost} faults {faults} agree {agree}")
     }
 }

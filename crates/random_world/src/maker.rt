@@ -214,7 +214,10 @@ impl Maker {
         if link == 0 {
             return Ok(());
         }
-        self.take(alloc, WorldStep::Client(Event::ClientGone { client, link, at }))
+        self.take(
+            alloc,
+            WorldStep::Client(Event::ClientGone { client, link, at }),
+        )
     }
 
     /// A client's next link comes.
@@ -225,7 +228,10 @@ impl Maker {
         let client = self.clients[place].number;
         let link = self.clients[place].link.saturating_add(1);
         self.clients[place].link = link;
-        self.take(alloc, WorldStep::Client(Event::ClientUp { client, link, at }))
+        self.take(
+            alloc,
+            WorldStep::Client(Event::ClientUp { client, link, at }),
+        )
     }
 
     /// A client's frame comes.

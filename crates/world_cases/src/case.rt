@@ -11,6 +11,7 @@ use std::io::{self, ErrorKind, Write};
 
 /// How many clients and ports there are in a case: clients 1 and 3 are on port 1, client 2 is on port 2.
 const CLIENTS: u16 = 3;
+
 const PORTS: u16 = 2;
 
 /// How many packets are delivered each way in the end.

@@ -52,7 +52,10 @@ impl fmt::Display for Judged {
             faults,
             agree,
         } = self;
-        write!(f, "plays {plays} events {events} orders {orders} trades {trades} ")?;
+        write!(
+            f,
+            "plays {plays} events {events} orders {orders} trades {trades} "
+        )?;
         write!(f, "faults {faults} agree {agree}")
     }
 }

@@ -77,13 +77,27 @@ impl fmt::Display for Sums {
     fn fmt<W: fmt::Write>(&self, f: &mut fmt::Formatter<W>) -> fmt::Result {
         let (worlds, steps, events) = (self.worlds, self.steps, self.events);
         let (orders, trades, lost, closed) = (self.orders, self.trades, self.lost, self.closed);
-        let (replaced, fell, broken, pending) = (self.replaced, self.fell, self.broken, self.pending);
+        let (replaced, fell, broken, pending) = (
+            self.replaced,
+            self.fell,
+            self.broken,
+            self.pending,
+        );
         let (killed, filled, over, partly) = (self.killed, self.filled, self.over, self.partly);
         let (faults, agree) = (self.faults, self.agree);
         write!(f, "worlds {worlds} steps {steps} events {events} ")?;
-        write!(f, "orders {orders} trades {trades} lost {lost} closed {closed} ")?;
-        write!(f, "replaced {replaced} fell {fell} broken {broken} pending {pending} ")?;
-        write!(f, "fill-or-kill {killed} filled {filled} over {over} partly {partly} ")?;
+        write!(
+            f,
+            "orders {orders} trades {trades} lost {lost} closed {closed} "
+        )?;
+        write!(
+            f,
+            "replaced {replaced} fell {fell} broken {broken} pending {pending} "
+        )?;
+        write!(
+            f,
+            "fill-or-kill {killed} filled {filled} over {over} partly {partly} "
+        )?;
         write!(f, "faults {faults} agree {agree}")
     }
 }
