@@ -58,8 +58,8 @@ module _ (s : Settings) (w : World) (c : ℕ) where
       → Each (λ (new : Entry). port_of s new.client ≡ p
       → ReadsAsBook (reading new.order (orders.issued new.client (turns_of s w))) (row (w.markets p).book.book (token_of new))) es
 
-  as-book : (x : Reading) (r : BookRow) → ReadsAsBook x r → IsAsBook (account_read x) r
-  as-book x r reads = record { side = reads.side; executed = reads.executed; unfilled = reads.unfilled; cancelled = reads.cancelled; value = reads.value }
+  book-read : (x : Reading) (r : BookRow) → ReadsAsBook x r → IsAsBook (account_read x) r
+  book-read x r reads = record { side = reads.side; executed = reads.executed; unfilled = reads.unfilled; cancelled = reads.cancelled; value = reads.value }
 
   one-order : (e : Entry) (es : List Entry) → (e.client == c) ≡ true → ((p : ℕ) → Rests (e ∷ es) p) → Agrees e
   one-order e es own rests =
@@ -67,7 +67,7 @@ module _ (s : Settings) (w : World) (c : ℕ) where
       record {
         accounts = refl;
         at_rest = λ rest. subst (λ (k : ℕ). IsAsBook (account_read (reading e.order (orders.issued e.client (turns_of s w)))) (row (w.markets (port_of s k)).book.book (token_of e))) its_client
-            (as-book (reading e.order (orders.issued e.client (turns_of s w))) (row (w.markets (port_of s e.client)).book.book (token_of e)) ((rests (port_of s e.client) rest).0 refl));
+            (book-read (reading e.order (orders.issued e.client (turns_of s w))) (row (w.markets (port_of s e.client)).book.book (token_of e)) ((rests (port_of s e.client) rest).0 refl));
       }
 
   own-orders : (es : List Entry) → ((p : ℕ) → Rests es p) → Each Agrees (filter (λ (e : Entry). e.client == c) es)
