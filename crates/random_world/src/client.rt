@@ -68,15 +68,12 @@ impl Client {
     fn new_order(&mut self, alloc: Global, chance: &mut Chance, at: u64) -> io::Result<Vec<u8>> {
         let mut body = Vec::new(alloc);
         let (id, is_new) = self.some_id(chance);
-        let total = total(chance);
-        write!(body, "11=A{id}\x01")?;
-        body.extend_from_slice(one_of(
-            chance,
-            [b"54=1\x01", b"54=2\x01", b"54=5\x01", b"54=6\x01"],
-        ))?;
-        write!(body, "55=INTC\x0138={total}\x0140=2\x01")?;
+        let total = drawn_total(chance);
+        let side = drawn_side(chance);
+        write!(body, "11=A{id}\x0154={side}\x0155=INTC\x01")?;
+        write!(body, "38={total}\x0140=2\x01")?;
         push_price(&mut body, chance)?;
-        push_life(&mut body, chance, true)?;
+        push_life_or(&mut body, chance, b"59=4\x01")?;
         push_minimum(&mut body, chance, total)?;
         push_options(&mut body, chance)?;
         if is_new {
@@ -91,11 +88,11 @@ impl Client {
     fn replace(&mut self, alloc: Global, chance: &mut Chance, at: u64) -> io::Result<Vec<u8>> {
         let mut body = Vec::new(alloc);
         let (id, is_new) = self.some_id(chance);
-        let total = total(chance);
+        let total = drawn_total(chance);
         let place = self.push_order(&mut body, chance)?;
         write!(body, "11=A{id}\x0138={total}\x0140=2\x01")?;
         push_price(&mut body, chance)?;
-        push_life(&mut body, chance, false)?;
+        push_life_or(&mut body, chance, b"")?;
         push_minimum(&mut body, chance, total)?;
         if is_new && place < self.orders.len() {
             self.orders[place].ids.push(id)?;
@@ -161,19 +158,25 @@ impl Client {
 
 /// The id so many before the newest; 0 where there is none.
 fn newest_but(ids: &[u32], back: usize) -> u32 {
-    match ids.iter().rev().nth(back) {
-        Some(id) => *id,
-        None => 0,
+    if back < ids.len() {
+        ids[ids.len() - 1 - back]
+    } else {
+        0
     }
 }
 
-/// One of these.
-fn one_of<'a>(chance: &mut Chance, texts: [&'a [u8; 5]; 4]) -> &'a [u8; 5] {
-    texts[chance.below(4) as usize]
+/// Side (54): buy, sell, sell short, sell short exempt.
+fn drawn_side(chance: &mut Chance) -> u32 {
+    match chance.below(4) {
+        0 => 1,
+        1 => 2,
+        2 => 5,
+        _ => 6,
+    }
 }
 
 /// OrderQty (38).
-fn total(chance: &mut Chance) -> u32 {
+fn drawn_total(chance: &mut Chance) -> u32 {
     match chance.below(12) {
         0 => 1 + chance.below(999_999),
         1 => 1 + chance.below(50),
@@ -193,14 +196,17 @@ fn push_price(body: &mut Vec<u8>, chance: &mut Chance) -> io::Result<()> {
     Ok(())
 }
 
-/// TimeInForce (59): none, day, immediate or cancel, and of a new order fill or kill.
-fn push_life(body: &mut Vec<u8>, chance: &mut Chance, is_new: bool) -> Result<(), AllocError> {
+/// TimeInForce (59): none, day, immediate or cancel, or else this.
+fn push_life_or(
+    body: &mut Vec<u8>,
+    chance: &mut Chance,
+    otherwise: &[u8],
+) -> Result<(), AllocError> {
     match chance.below(10) {
         0..=3 => Ok(()),
         4..=5 => body.extend_from_slice(b"59=0\x01"),
         6..=7 => body.extend_from_slice(b"59=3\x01"),
-        _ if is_new => body.extend_from_slice(b"59=4\x01"),
-        _ => Ok(()),
+        _ => body.extend_from_slice(otherwise),
     }
 }
 
