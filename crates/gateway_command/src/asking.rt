@@ -94,7 +94,10 @@ fn number_in(digits: &[u8], least: u64, most: u64) -> Option<u64>
     ensures number { result ≡ spec.number_between least most digits.now }
     ensures within { IfSome result (λ number. (least ≤ number) × (number ≤ most)) }
 {
-    if digits.is_empty() || !are_digits(digits) {
+    if digits.is_empty() {
+        return None;
+    }
+    if !are_digits(digits) {
         return None;
     }
     match number_of(digits) {
