@@ -1,8 +1,8 @@
 //! A client of whom the generator draws messages.
 
-use crate::chance::Chance;
 use closed_world::ClientNumber;
 use fix_stamp::stamp;
+use seeded_choices::Chance;
 use std::alloc::{AllocError, Global};
 use std::io::{self, Write};
 
@@ -55,7 +55,7 @@ impl Client {
 
     /// The text of a message: a new order, a replace, a cancel, or one of a session.
     pub fn message(&mut self, alloc: Global, chance: &mut Chance, at: u64) -> io::Result<Vec<u8>> {
-        match chance.below(20) {
+        match chance.number_below(20) {
             0..=7 => self.new_order(alloc, chance, at),
             8..=14 => self.replace(alloc, chance, at),
             15..=17 => self.cancel(alloc, chance, at),
@@ -112,7 +112,7 @@ impl Client {
     /// A ClOrdID: the next one, or in one of twenty one that may be used; and whether it is the next one.
     fn some_id(&mut self, chance: &mut Chance) -> (u32, bool) {
         if chance.once_in(20) {
-            return (chance.below(self.ids.saturating_add(1)), false);
+            return (chance.number_below(self.ids.saturating_add(1)), false);
         }
         self.ids = self.ids.saturating_add(1);
         (self.ids, true)
@@ -131,10 +131,10 @@ impl Client {
         } else {
             count.min(3)
         };
-        let place = count - 1 - chance.place(back).min(count - 1);
+        let place = count - 1 - chance.below(back).min(count - 1);
         let ids = &self.orders[place].ids;
         let back = if chance.once_in(4) { ids.len() } else { 1 };
-        let id = newest_but(ids.as_slice(), chance.place(back));
+        let id = newest_but(ids.as_slice(), chance.below(back));
         write!(body, "41=A{id}\x01")?;
         Ok(place)
     }
@@ -167,7 +167,7 @@ fn newest_but(ids: &[u32], back: usize) -> u32 {
 
 /// Side (54): buy, sell, sell short, sell short exempt.
 fn drawn_side(chance: &mut Chance) -> u32 {
-    match chance.below(4) {
+    match chance.number_below(4) {
         0 => 1,
         1 => 2,
         2 => 5,
@@ -177,9 +177,9 @@ fn drawn_side(chance: &mut Chance) -> u32 {
 
 /// OrderQty (38).
 fn drawn_total(chance: &mut Chance) -> u32 {
-    match chance.below(12) {
-        0 => 1 + chance.below(999_999),
-        1 => 1 + chance.below(50),
+    match chance.number_below(12) {
+        0 => 1 + chance.number_below(999_999),
+        1 => 1 + chance.number_below(50),
         2..=4 => 100,
         5 => 101,
         6 => 200,
@@ -192,7 +192,7 @@ fn drawn_total(chance: &mut Chance) -> u32 {
 
 /// Price (44).
 fn push_price(body: &mut Vec<u8>, chance: &mut Chance) -> io::Result<()> {
-    write!(body, "44=10.{:02}\x01", chance.below(100))?;
+    write!(body, "44=10.{:02}\x01", chance.number_below(100))?;
     Ok(())
 }
 
@@ -202,7 +202,7 @@ fn push_life_or(
     chance: &mut Chance,
     otherwise: &[u8],
 ) -> Result<(), AllocError> {
-    match chance.below(10) {
+    match chance.number_below(10) {
         0..=3 => Ok(()),
         4..=5 => body.extend_from_slice(b"59=0\x01"),
         6..=7 => body.extend_from_slice(b"59=3\x01"),
@@ -213,7 +213,11 @@ fn push_life_or(
 /// MinQty (110), of one order in five.
 fn push_minimum(body: &mut Vec<u8>, chance: &mut Chance, total: u32) -> io::Result<()> {
     if chance.once_in(5) {
-        write!(body, "110={}\x01", chance.below(total.saturating_add(1)))?;
+        write!(
+            body,
+            "110={}\x01",
+            chance.number_below(total.saturating_add(1))
+        )?;
     }
     Ok(())
 }

@@ -4,7 +4,6 @@
 //! everything from the seed, so that the same seed makes the same steps.
 #![tactic(auto)]
 
-mod chance;
 mod client;
 mod counts;
 mod frames;

@@ -1,6 +1,5 @@
 //! Steps that are drawn by a seed.
 
-use crate::chance::Chance;
 use crate::client::Client;
 use crate::frames::frame_of;
 use crate::shape::Shape;
@@ -9,6 +8,7 @@ use closed_world::{
     BookRow, Choice, ClientNumber, ClosedWorld, Event, PortNumber, Settings, Trading, WorldStep,
 };
 use market_book::{Breaking, Letter, Removal};
+use seeded_choices::Chance;
 use std::alloc::Global;
 use std::io;
 use tokens::Token;
@@ -57,7 +57,7 @@ impl Maker {
             clients.push(Client::new(alloc, number))?;
         }
         Ok(Maker {
-            chance: Chance::of(shape.seed),
+            chance: Chance::of(shape.seed, 0),
             world: ClosedWorld::new(alloc, settings)?,
             steps: Vec::new(alloc),
             clients,
@@ -144,13 +144,12 @@ impl Maker {
 
     /// One of the ports.
     fn port(&mut self) -> PortNumber {
-        let place = self.chance.below(u32::from(self.ports));
-        PortNumber::at_place(place as usize)
+        PortNumber::at_place(self.chance.below(usize::from(self.ports)))
     }
 
     /// The place of one of the clients.
     fn client(&mut self) -> usize {
-        self.chance.place(self.clients.len())
+        self.chance.below(self.clients.len())
     }
 
     /// The number of one of the clients.
@@ -165,9 +164,13 @@ impl Maker {
     /// A moment: a little later mostly, one that was before in one of twenty.
     fn moment(&mut self) -> u64 {
         if self.chance.once_in(20) {
-            return self.now.saturating_sub(u64::from(self.chance.below(5_000)));
+            return self
+                .now
+                .saturating_sub(u64::from(self.chance.number_below(5_000)));
         }
-        self.now = self.now.saturating_add(u64::from(self.chance.below(50)));
+        self.now = self
+            .now
+            .saturating_add(u64::from(self.chance.number_below(50)));
         self.now
     }
 
@@ -253,11 +256,11 @@ impl Maker {
 
     /// Time passes: a little, or so much that links are closed.
     fn tick(&mut self, alloc: Global) -> io::Result<()> {
-        let passed = match self.chance.below(6) {
+        let passed = match self.chance.number_below(6) {
             0 => 16_000,
             1 => 1_001,
             2 => 31_000,
-            _ => self.chance.below(3_000),
+            _ => self.chance.number_below(3_000),
         };
         self.now = self.now.saturating_add(u64::from(passed));
         let event = self.tick_event();
@@ -269,7 +272,7 @@ impl Maker {
         let at = self.now;
         let client = self.client_number();
         let port = self.port();
-        match self.chance.below(10) {
+        match self.chance.number_below(10) {
             0 => self.stray(client, port),
             1..=3 => Event::ClientTick { client, at },
             _ => Event::PortTick { port, at },
@@ -281,7 +284,7 @@ impl Maker {
     fn stray(&mut self, client: ClientNumber, port: PortNumber) -> Event {
         let at = self.now;
         let link = u64::MAX;
-        match self.chance.below(5) {
+        match self.chance.number_below(5) {
             0 => Event::ClientTick {
                 client: ClientNumber::new(1_000),
                 at,
@@ -298,7 +301,7 @@ impl Maker {
 
     /// What a market chooses where its answer is free.
     fn choice(&mut self) -> Choice {
-        match self.chance.below(12) {
+        match self.chance.number_below(12) {
             0 => Choice::AcceptDead,
             1..=2 => refusal(&mut self.chance),
             3 => Choice::TakeOff(Removal {
@@ -312,11 +315,12 @@ impl Maker {
 
     /// What a market does by itself.
     fn act(&mut self, port: PortNumber) -> Choice {
-        match self.chance.below(12) {
+        match self.chance.number_below(12) {
             0..=5 => self.trade(port),
             6..=7 => self.removal(port),
             8..=9 => Choice::Break(Breaking {
-                match_number: u64::from(self.chance.below(self.trades.saturating_add(1))) + 1,
+                match_number: u64::from(self.chance.number_below(self.trades.saturating_add(1)))
+                    + 1,
             }),
             10 => system_event(),
             _ => self.choice(),
@@ -331,7 +335,7 @@ impl Maker {
         Choice::Execute(Trading {
             token,
             shares,
-            price: 100_000 + self.chance.below(1_000),
+            price: 100_000 + self.chance.number_below(1_000),
         })
     }
 
@@ -348,7 +352,7 @@ impl Maker {
         if self.chance.once_in(3) {
             return unfilled;
         }
-        1 + self.chance.below(unfilled)
+        1 + self.chance.number_below(unfilled)
     }
 
     /// A token of an order of which something is open, and what the market has of it: one of the newest, looked for a
@@ -361,7 +365,7 @@ impl Maker {
             if row.unfilled > 0 {
                 break;
             }
-            let back = u64::from(self.chance.below(40));
+            let back = u64::from(self.chance.number_below(40));
             token = token_of(self.newest.saturating_sub(back));
             row = self.world.row(port.number(), &token);
         }
@@ -401,7 +405,7 @@ fn token_of(number: u64) -> [u8; 14] {
 
 /// A refusal by a letter.
 fn refusal(chance: &mut Chance) -> Choice {
-    match Letter::of(65 + chance.below(26) as u8) {
+    match Letter::of(65 + chance.number_below(26) as u8) {
         Some(letter) => Choice::Refuse(letter),
         None => Choice::Nothing,
     }

@@ -1,6 +1,6 @@
 //! How often each kind of step is drawn.
 
-use crate::chance::Chance;
+use seeded_choices::Chance;
 
 /// A kind of step.
 #[derive(Clone, Copy, Debug, PartialEq, Eq)]
@@ -44,7 +44,7 @@ impl Weights {
 
     /// A kind of step.
     pub fn kind(&self, chance: &mut Chance) -> Kind {
-        let mut left = chance.below(self.total());
+        let mut left = chance.number_below(self.total());
         for (kind, weight) in &self.rows {
             if left < *weight {
                 return *kind;
@@ -66,5 +66,5 @@ impl Weights {
 
 /// One of these.
 fn one_of(chance: &mut Chance, numbers: [u32; 4]) -> u32 {
-    numbers[chance.below(4) as usize]
+    numbers[chance.number_below(4) as usize]
 }
