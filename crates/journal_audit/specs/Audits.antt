@@ -1,5 +1,5 @@
 -- The audit of a day's file, and the file of a script's day.
-use Rattle.std.specs.Prelude.{ℕ, List, Option}
+use Rattle.std.specs.Prelude.{◌≡◌, ◌⊎◌, ℕ, List, Option}
 use Rattle.std.specs.Io.KnownBytes.{Appends}
 use Rattle.gate_lines.specs.gate_law.Settings.{Settings}
 use Rattle.gate_lines.specs.gate_law.Holds.{Holds}
@@ -7,16 +7,18 @@ use Rattle.gate_audit.specs.Pairs.{accepted_pairs, pairs}
 use Rattle.gate_lines.specs.audit_lines.Lines.{shown_audit}
 use Rattle.gate_lines.specs.Scripts.{ComesTo}
 use Rattle.gate_lines.specs.script_steps.Settings.{fixed}
+use Rattle.journal_file.specs.declared.ending.Ending.{Ending}
+use Rattle.journal_file.specs.declared.ending.Ending.TheVariants.{Over}
 use Rattle.journal_file.specs.declared.fault.FileFault.{FileFault}
 use Rattle.gate_audit.specs.gate_journal.Kept.{Kept, turns}
-use Rattle.journal_file.specs.File.{IsNoFile, Says}
+use Rattle.journal_file.specs.Said.{IsNoFile, Says}
 use Rattle.journal_file.specs.Written.{IsFileOfTurns}
 
--- What a writer has grew by just the audit of what the file says, and where all that is promised of a run holds of it,
--- by the accounts of the orders that were accepted.
+-- The file is of a day that is over; what a writer has grew by just the audit of what it says, and where all that is
+-- promised of a run holds of it, by the accounts of the orders that were accepted.
 pub record IsAuditOfFile (s : Settings) (file : List ℕ) (old new : Option (List ℕ)) : Type 0 where
   pub day : Kept
-  pub says : Says file day
+  pub says : Says file day Over
   pub written : Appends old new (shown_audit (pairs s (turns day)))
   pub run : Holds s (turns day) → Appends old new (shown_audit (accepted_pairs s (turns day)))
 
@@ -25,6 +27,17 @@ pub record IsNoDaysFile (file : List ℕ) : Type 0 where
   pub number : ℕ
   pub fault : FileFault
   pub why : IsNoFile file number fault
+
+-- the file is of a day that goes on
+pub record GoesOnStill (file : List ℕ) : Type 0 where
+  pub day : Kept
+  pub ending : Ending
+  pub says : Says file day ending
+  pub not_over : ending ≡ Over → ⊥
+
+-- the file is none of a day that is over
+abbrev pub IsNotOver : List ℕ → Type 0
+IsNotOver file = IsNoDaysFile file ⊎ GoesOnStill file
 
 -- What a writer has grew by a file that says the history that the lines of this text come to, of which all that is
 -- promised holds.

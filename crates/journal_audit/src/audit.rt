@@ -1,29 +1,31 @@
 //! The audit of a day's file.
 
-ghost use Rattle.std.specs.Prelude.{◌≡◌, ◌≤◌, IfOk};
+ghost use Rattle.std.specs.Prelude.{◌≡◌, ◌≤◌};
 ghost use Rattle.std.specs.Io.KnownBytes.{Appends, Keeps};
 ghost use Rattle.gate_lines.specs.gate_law.Holds.{Holds};
 ghost use Rattle.gate_audit.specs.Pairs.{accepted_pairs, pairs};
 ghost use Rattle.gate_lines.specs.audit_lines.Lines.{shown_audit};
+ghost use Rattle.journal_file.specs.declared.ending.Ending.TheVariants.{Over};
 ghost use Rattle.journal_file.specs.declared.fault.FileFault.TheVariants.{Page};
 ghost use Rattle.journal_file.specs.journal_pages.declared.fault.PageFault.TheVariants.{NoMemory};
 ghost use Rattle.gate_audit.specs.gate_journal.Kept.{turns};
-ghost use Rattle.journal_audit.specs.Audits.{IsAuditOfFile, IsNoDaysFile};
+ghost use Rattle.journal_audit.specs.Audits.{IsAuditOfFile, IsNotOver};
 
 use gate_audit::{History, ReadingFault, Settings, audit};
 use gate_lines::write_audit;
-use journal_file::{FileFault, PageFault, read_day};
+use journal_file::{DayFile, Ending, FileFault, PageFault, read_file};
 use std::alloc::Global;
 use std::io::Write;
 
-/// Reads a day's file, and writes the audit of its history to `output`: a line for each order that was accepted, and
-/// one for how many there are and how many agree.
+/// Reads the file of a day that is over, and writes the audit of its history to `output`: a line for each order that was
+/// accepted, and one for how many there are and how many agree.
 ///
 /// Answers the status that a program ends with which does so: 0 where both accounts of each order agree; 2 where the
-/// file is none, with `page N: FAULT` on `faults`, the number from 0 and the fault as `FileFault` has it, and nothing
-/// on `output`; else 1: where those of an order don't agree, where memory runs out, with `out of memory`, where a write
-/// fails, with `read or write failed`, and where a number of an account is larger than its integer holds, with `an
-/// order's account is too large`.
+/// file is none, with `page N: FAULT` on `faults`, the number from 0 and the fault as `FileFault` has it, and where its
+/// day goes on, with `the day goes on: ` and how its file ends; in both cases nothing is written to `output`; else 1:
+/// where those of an order don't agree, where memory runs out, with `out of memory`, where a write fails, with `read or
+/// write failed`, and where a number of an account is larger than its integer holds, with `an order's account is too
+/// large`.
 ///
 /// Source: FIX 4.4 Volume 4, "Execution Report"; OUCH 4.2, "Outbound Messages".
 pub fn audit_file<W: Write, F: Write>(
@@ -36,11 +38,45 @@ pub fn audit_file<W: Write, F: Write>(
     ensures status { result ≤ 2 }
     ensures audited { result ≡ 0
         → IsAuditOfFile settings.now file.now (W.contents output.old) (W.contents output.new) }
-    ensures refused { result ≡ 2 → IsNoDaysFile file.now × Keeps (W.contents output.old) (W.contents output.new) }
+    ensures refused { result ≡ 2 → IsNotOver file.now × Keeps (W.contents output.old) (W.contents output.new) }
 {
-    match read_day(alloc, file) {
-        Ok(day) => write_day_audit(alloc, &day, settings, output, faults),
+    match read_file(alloc, file) {
+        Ok(read) => audit_read(alloc, &read, settings, output, faults),
         Err((number, fault)) => tell_refusal(number, fault, faults),
+    }
+}
+
+/// Writes the audit of a file that was read, where its day is over.
+fn audit_read<W: Write, F: Write>(
+    alloc: Global,
+    read: &DayFile,
+    settings: &Settings,
+    output: &mut W,
+    faults: &mut F,
+) -> u8
+    ensures status { result ≤ 2 }
+    ensures over { result ≡ 0 → read.now.ending ≡ Over }
+    ensures written { result ≡ 0 → Appends (W.contents output.old) (W.contents output.new)
+        (shown_audit (pairs settings.now (turns read.now.day))) }
+    ensures run { Holds settings.now (turns read.now.day) → result ≡ 0
+        → Appends (W.contents output.old) (W.contents output.new)
+        (shown_audit (accepted_pairs settings.now (turns read.now.day))) }
+    ensures refused { result ≡ 2 → read.now.ending ≡ Over → ⊥ }
+    ensures untold { result ≡ 2 → Keeps (W.contents output.old) (W.contents output.new) }
+{
+    match read.ending {
+        Ending::Over => write_day_audit(alloc, &read.day, settings, output, faults),
+        Ending::GoesOn => {
+            let _ = writeln!(faults, "the day goes on: its file has no end");
+            2
+        }
+        Ending::Torn(bytes) => {
+            let _ = writeln!(
+                faults,
+                "the day goes on: its file ends with {bytes} bytes of a write that was cut short"
+            );
+            2
+        }
     }
 }
 

@@ -1,4 +1,6 @@
-mod Files
-mod One
-mod Summed
+pub mod Files
 mod Grown
+mod One
+mod Parted
+mod Reads
+mod Summed

@@ -1,16 +1,14 @@
--- A day's file: the bytes of its pages, each behind its length and its sum, and an end. The form is the gateway's own.
--- Files of a first form, in which a page stands behind its length alone, are read and no longer written.
-use Rattle.std.specs.Prelude.{◌≡◌, ◌⊎◌, ◌≤◌, ◌==◌, ℕ, ◌+◌, Bool, true, ◌||◌, nat_lt, List, [], ◌∷◌, ◌++◌, length, min}
+-- A day's file: the bytes of its pages, each behind its length and its sum, and an end once the day is over. The form is
+-- the gateway's own. Files of a first form, in which a page stands behind its length alone, are read and no longer
+-- written.
+use Rattle.std.specs.Prelude.{◌≤◌, ◌==◌, ℕ, ◌+◌, Bool, true, ◌&&◌, ◌||◌, nat_lt, List, [], ◌∷◌, ◌++◌, length}
 use Rattle.std.specs.Prelude.{bytes_eq, drop, take, Option, Some, None, if◌then◌else◌}
 use Rattle.std.specs.Int.{w64, to_be_bytes, from_be_bytes}
 use Rattle.std.specs.List.{flat_map}
-use Rattle.journal_pages.specs.declared.fault.PageFault.{PageFault}
 use Rattle.journal_pages.specs.declared.fault.PageFault.TheVariants as pages
 use Rattle.journal_pages.specs.declared.version.Version.{Version}
 use Rattle.journal_pages.specs.declared.version.Version.TheVariants.{One, Two}
 use Rattle.journal_pages.specs.Page.{page_name}
-use Rattle.journal_days.specs.Day.{day_fault, version_of}
-use Rattle.gate_journal.specs.Kept.{IsRead, Kept}
 use Rattle.journal_file.specs.declared.fault.FileFault.{FileFault}
 use Rattle.journal_file.specs.declared.fault.FileFault.TheVariants as faults
 use Rattle.journal_file.specs.Sum.{sum_of}
@@ -38,22 +36,27 @@ file_of form pages = sized_pages form pages ++ sized_page form []
 abbrev pub stands_at : ℕ → List ℕ → List ℕ → Bool
 stands_at place name file = bytes_eq (take 4 (drop place file)) name
 
+-- the length that stands in front
+abbrev pub size_in : List ℕ → ℕ
+size_in bytes = from_be_bytes w64 (take 8 bytes)
+
+-- an end of the first form, and nothing else
+abbrev pub is_end_of_one : List ℕ → Bool
+is_end_of_one file = (length file == 8) && (size_in file == 0)
+
 -- The form of a file, by the name of its first page: the second where that of a page of version 2 stands behind a length
--- and a sum; the first where that of a page of version 1 stands behind a length, or there are eight bytes, an end of it.
+-- and a sum; the first where that of a page of version 1 stands behind a length, or there is an end of it and nothing else;
+-- else the second.
 abbrev pub form_of : List ℕ → Version
 form_of file =
     if stands_at 16 (page_name Two) file then Two
-    else if stands_at 8 (page_name One) file || length file == 8 then One
+    else if stands_at 8 (page_name One) file || is_end_of_one file then One
     else Two
 
 -- how many bytes stand before a page
 abbrev pub before_size : Version → ℕ
 before_size One = 8
 before_size Two = 16
-
--- the length that stands in front
-abbrev pub size_in : List ℕ → ℕ
-size_in bytes = from_be_bytes w64 (take 8 bytes)
 
 -- there are fewer bytes than stand before a page, or than its length says
 abbrev pub is_cut_short : Version → List ℕ → Bool
@@ -75,59 +78,7 @@ front_fault form bytes =
     else if has_its_sum form bytes then None
     else Some faults.Sum
 
--- ---- what is no file
-
 -- none is an end
 abbrev pub AreNotEmpty : List (List ℕ) → Type 0
 AreNotEmpty [] = Unit {0}
 AreNotEmpty (page ∷ pages) = (1 ≤ length page) × AreNotEmpty pages
-
--- the place of the page behind so many, from 0; behind 2^32 - 1 it stays
-abbrev pub number_behind : List (List ℕ) → ℕ
-number_behind pages = min (length pages) 4_294_967_295
-
--- whole pages, and behind them neither another nor an end, for this reason
-pub record IsBrokenAt (n : ℕ) (fault : FileFault) (file : List ℕ) : Type 0 where
-  pub pages : List (List ℕ)
-  pub rest : List ℕ
-  pub same : file ≡ sized_pages (form_of file) pages ++ rest
-  pub full : AreNotEmpty pages
-  pub why : front_fault (form_of file) rest ≡ Some fault
-  pub number : n ≡ number_behind pages
-
--- a file, and something behind its end
-pub record GoesOnAt (n : ℕ) (file : List ℕ) : Type 0 where
-  pub pages : List (List ℕ)
-  pub rest : List ℕ
-  pub same : file ≡ file_of (form_of file) pages ++ rest
-  pub full : AreNotEmpty pages
-  pub more : 1 ≤ length rest
-  pub number : n ≡ number_behind pages
-
--- why bytes are no file, by its form
-abbrev pub IsNoForm : List ℕ → ℕ → FileFault → Type 0
-IsNoForm file n fault = IsBrokenAt n fault file ⊎ (GoesOnAt n file × (fault ≡ faults.Page pages.Head))
-
--- a file whose pages are no day
-pub record IsNoDay (file : List ℕ) (n : ℕ) (fault : FileFault) : Type 0 where
-  pub pages : List (List ℕ)
-  pub page_fault : PageFault
-  pub same : file ≡ file_of (form_of file) pages
-  pub why : day_fault (version_of pages) pages ≡ Some (n, page_fault)
-  pub is : fault ≡ faults.Page page_fault
-
--- why bytes are no day's file
-abbrev pub IsNoFile : List ℕ → ℕ → FileFault → Type 0
-IsNoFile file n fault = IsNoForm file n fault ⊎ IsNoDay file n fault
-
--- memory ran out, of which the file says nothing
-abbrev pub IsNoMemory : ℕ → FileFault → Type 0
-IsNoMemory n fault = (n ≡ 0) × (fault ≡ faults.Page pages.NoMemory)
-
--- ---- what a file says
-
--- the history that a file's pages are
-pub record Says (file : List ℕ) (day : Kept) : Type 0 where
-  pub pages : List (List ℕ)
-  pub same : file ≡ file_of (form_of file) pages
-  pub read : IsRead pages day

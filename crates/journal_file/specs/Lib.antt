@@ -1,6 +1,9 @@
+pub mod Endings
 pub mod File
+pub mod Said
 pub mod Sum
 pub mod Written
+mod Worked
 pub use Rattle.gate_journal.specs.Kept
 pub use Rattle.journal_days.specs.Cut
 pub use Rattle.journal_days.specs.Day

@@ -1,19 +1,23 @@
 //! A day's pages in one file.
 //!
 //! Each page stands behind its length and its sum, eight bytes each, the high byte first; behind the last one stands an
-//! end, which is a page of no bytes. Files of an older form, without sums, are read too.
+//! end once the day is over, which is a page of no bytes. A file without an end is of a day that goes on, be it that a
+//! write was cut short; any other is damaged. Files of an older form, without sums, are read too.
 //!
 //! The form is the gateway's own.
 #![tactic(auto)]
 
+mod ending;
 mod fault;
 mod laws;
 mod reading;
 mod sum;
 mod writing;
 
+pub use ending::Ending;
 pub use fault::FileFault;
 pub use journal_pages::PageFault;
-pub use laws::files_are_read;
-pub use reading::read_day;
+pub use laws::{files_are_one, files_are_read};
+pub use reading::{DayFile, read_file};
+pub use sum::sum_of;
 pub use writing::write_day;

@@ -1,36 +1,68 @@
 //! A day's file, read.
 
-ghost use Rattle.std.specs.Prelude.{◌≡◌, ◌⊎◌, ◌<◌, ◌^◌, ◌++◌, ◌∷◌, [], Some, length, min, MatchOption, MatchResult, OnOk, ◌≤◌};
+ghost use Rattle.std.specs.Prelude.{◌≡◌, ◌⊎◌, ◌<◌, ◌^◌, ◌++◌, ◌∷◌, [], Some, length, min, false, MatchOption, MatchResult, IfOk, OnOk, ◌≤◌};
 ghost use Rattle.std.specs.Int.{w64, to_be_bytes};
 ghost use Rattle.journal_days.specs.Cut.{texts};
+ghost use Rattle.journal_file.specs.Endings as endings;
+ghost use Rattle.journal_file.specs.Endings.{EndsBy};
 ghost use Rattle.journal_file.specs.File as spec;
-ghost use Rattle.journal_file.specs.File.{IsNoFile, IsNoForm, IsNoMemory, Says, file_of, front_fault, sized_page};
+ghost use Rattle.journal_file.specs.File.{front_fault, sized_page};
+ghost use Rattle.journal_file.specs.Said.{IsNoFile, IsNoForm, IsNoMemory, IsParted, ReadsInFront, ReadsNothingElse, Says};
 ghost use Rattle.journal_pages.specs.declared.fault.PageFault.TheVariants.{Head};
 ghost use Rattle.journal_pages.specs.declared.version.Version.TheVariants.{One, Two};
+ghost use Rattle.journal_file.specs.declared.ending.Ending.TheVariants.{Over};
 ghost use Rattle.journal_file.specs.declared.fault.FileFault.TheVariants as faults;
 
+use crate::ending::Ending;
 use crate::fault::FileFault;
 use crate::sum::sum_of;
 use gate_journal::{History, Version};
 use journal_pages::PageFault;
 use std::alloc::{AllocError, Global};
 
+/// What a write that was cut short leaves has fewer bytes than this: 64 MiB.
+const TORN_LIMIT: usize = 67_108_864;
+
 /// What stands in front of a file, and what behind it.
 type Parts<'a> = (&'a [u8], &'a [u8]);
 
-/// The history that a file is; or the place of the first page with which something is wrong, from 0, and what.
+/// A day's file, read: the history that its whole pages are, and how it ends behind them.
+#[derive(Drop)]
+pub struct DayFile {
+    pub day: History,
+    pub ending: Ending,
+}
+
+/// Whole pages of a file, and how it ends behind them; or the place of the page with which something is wrong, and what.
+type Parted = Result<(Vec<Vec<u8>>, Ending), (u32, FileFault)>;
+
+/// The history that a file's whole pages are, and how the file ends behind them: the day goes on, it is over, or the
+/// write of its last page was cut short. Of a file that is damaged the place of the first page with which something is
+/// wrong, from 0, and what.
 ///
-/// The file's form comes first: `CutShort` where a page ends before its length says, or no end stands behind the last
-/// one, `Sum` where its sum isn't that of its bytes, with the place of the page that isn't whole; `Head` where bytes stand
-/// behind the end, with the place of the page that they would be. Then what `History::read` refuses. `NoMemory` has the
-/// place 0.
-pub fn read_day(alloc: Global, file: &[u8]) -> Result<History, (u32, FileFault)>
-    ensures { MatchResult result (λ day. Says file.now day)
+/// The file's form comes first: where no whole page and no end stands, `CutShort` for too few bytes or `Sum` for a sum
+/// that isn't theirs, with the place that a page there would have, unless a write that was cut short left these bytes:
+/// fewer than 64 MiB, at none of which a page or an end begins. `Head` where bytes stand behind an end, with the place of
+/// the page that they would be. Then what `History::read` refuses. A file of the first form is read where it is over.
+/// `NoMemory` has the place 0.
+pub fn read_file(alloc: Global, file: &[u8]) -> Result<DayFile, (u32, FileFault)>
+    ensures read { MatchResult result (λ read. Says file.now read.day read.ending)
+        (λ fault. IsNoMemory fault.0 fault.1 ⊎ IsNoFile file.now fault.0 fault.1) }
+    ensures in_front { IfOk result (λ read. ReadsInFront file.now read.day) }
+    ensures nothing_else { IfOk result (λ read. ReadsNothingElse file.now read.day) }
+{
+    let read = read_parts(alloc, file)?;
+    Ok(read)
+}
+
+/// The same, by the definition alone.
+fn read_parts(alloc: Global, file: &[u8]) -> Result<DayFile, (u32, FileFault)>
+    ensures { MatchResult result (λ read. Says file.now read.day read.ending)
         (λ fault. IsNoMemory fault.0 fault.1 ⊎ IsNoFile file.now fault.0 fault.1) }
 {
-    let pages = pages_of(alloc, form_of(file), file)?;
+    let (pages, ending) = pages_of(alloc, form_of(file), file)?;
     match History::read(alloc, pages.as_slice()) {
-        Ok(day) => Ok(day),
+        Ok(day) => Ok(DayFile { day, ending }),
         Err((number, fault)) => Err((number, FileFault::Page(fault))),
     }
 }
@@ -42,10 +74,20 @@ fn form_of(file: &[u8]) -> Version
     if has_at(file, 16, b"GJ02") {
         return Version::Two;
     }
-    if has_at(file, 8, b"GJ01") || file.len() == 8 {
+    if has_at(file, 8, b"GJ01") || is_end_of_one(file) {
         return Version::One;
     }
     Version::Two
+}
+
+/// Whether a file is an end of the first form, and nothing else.
+fn is_end_of_one(file: &[u8]) -> bool
+    ensures { result ≡ spec.is_end_of_one file.now }
+{
+    match number_in_front(file) {
+        Some((size, rest)) => rest.is_empty() && size == 0,
+        None => false,
+    }
 }
 
 /// Whether a page's name stands at a place.
@@ -58,10 +100,10 @@ fn has_at(file: &[u8], place: usize, name: &[u8; 4]) -> bool
     }
 }
 
-/// The pages of a file of a form, or why it has no end behind whole pages.
-fn pages_of(alloc: Global, form: Version, file: &[u8]) -> Result<Vec<Vec<u8>>, (u32, FileFault)>
+/// The whole pages of a file of a form and how it ends behind them, or why it is no file.
+fn pages_of(alloc: Global, form: Version, file: &[u8]) -> Parted
     requires { form ≡ spec.form_of file.now }
-    ensures { MatchResult result (λ pages. file.now ≡ file_of form (texts pages.items))
+    ensures { MatchResult result (λ read. IsParted form file.now (texts read.0.items) read.1)
         (λ fault. IsNoMemory fault.0 fault.1 ⊎ IsNoForm file.now fault.0 fault.1) }
 {
     let mut pages = Vec::new(alloc);
@@ -69,7 +111,7 @@ fn pages_of(alloc: Global, form: Version, file: &[u8]) -> Result<Vec<Vec<u8>>, (
     'pages: loop {
         let (page, behind) = match first_sized(form, rest) {
             Ok(parts) => parts,
-            Err(fault) => return Err((number_behind(&pages), fault)),
+            Err(fault) => return unfinished(form, pages, rest, fault),
         };
         if page.is_empty() {
             return whole(pages, behind);
@@ -82,15 +124,65 @@ fn pages_of(alloc: Global, form: Version, file: &[u8]) -> Result<Vec<Vec<u8>>, (
 }
 
 /// The pages before an end, behind which nothing may stand.
-fn whole(pages: Vec<Vec<u8>>, behind: &[u8]) -> Result<Vec<Vec<u8>>, (u32, FileFault)>
-    ensures { MatchResult result (λ same. (same ≡ pages) × (behind.now ≡ []))
+fn whole(pages: Vec<Vec<u8>>, behind: &[u8]) -> Parted
+    ensures { MatchResult result (λ read. (read.0 ≡ pages) × (read.1 ≡ Over) × (behind.now ≡ []))
         (λ fault. (fault.0 ≡ min (length pages.items) 4_294_967_295) × (fault.1 ≡ faults.Page Head)
         × (1 ≤ length behind.now)) }
 {
     if behind.is_empty() {
-        Ok(pages)
+        Ok((pages, Ending::Over))
     } else {
         Err((number_behind(&pages), FileFault::Page(PageFault::Head)))
+    }
+}
+
+/// The pages before bytes in front of which no page stands, for this reason: the day goes on where a write that was cut
+/// short left them, or there are none.
+fn unfinished(form: Version, pages: Vec<Vec<u8>>, rest: &[u8], fault: FileFault) -> Parted
+    ensures { MatchResult result (λ read. (read.0 ≡ pages) × EndsBy form rest.now read.1)
+        (λ why. (why.0 ≡ min (length pages.items) 4_294_967_295) × (why.1 ≡ fault)
+        × (endings.is_unfinished form rest.now ≡ false)) }
+{
+    if !is_unfinished(form, rest) {
+        return Err((number_behind(&pages), fault));
+    }
+    if rest.is_empty() {
+        return Ok((pages, Ending::GoesOn));
+    }
+    Ok((pages, Ending::Torn(rest.len())))
+}
+
+/// Whether the day may go on in front of these bytes, once they are cut.
+fn is_unfinished(form: Version, rest: &[u8]) -> bool
+    ensures { result ≡ endings.is_unfinished form rest.now }
+{
+    match form {
+        Version::One => false,
+        Version::Two => rest.len() < TORN_LIMIT && !stands_somewhere(rest),
+    }
+}
+
+/// Whether a page or an end stands whole at some place of these bytes.
+fn stands_somewhere(bytes: &[u8]) -> bool
+    ensures { result ≡ endings.stands_somewhere bytes.now }
+{
+    let mut rest = bytes;
+    while let [_, behind @ ..] = rest {
+        if stands_in_front(rest) {
+            return true;
+        }
+        rest = behind;
+    }
+    false
+}
+
+/// Whether a page or an end stands whole in front of these bytes.
+fn stands_in_front(bytes: &[u8]) -> bool
+    ensures { result ≡ endings.stands_in_front bytes.now }
+{
+    match first_of_sum(bytes) {
+        Ok(_) => true,
+        Err(_) => false,
     }
 }
 

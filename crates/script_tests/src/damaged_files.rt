@@ -1,4 +1,4 @@
-//! Files that aren't a day's.
+//! Files that aren't of a day that is over.
 
 use journal_audit::audit_file;
 use script_steps::fixed_settings;
@@ -53,16 +53,37 @@ fn a_file_without_orders(rt: HostRuntime) -> Result<(), Fail> {
     Ok(())
 }
 
-/// A file ends before its end, wherever it is cut: with page 0 where that isn't whole, else with page 1.
+/// A file that ends before its end is of a day that goes on, wherever it is cut: behind whole pages, or in a write that
+/// was cut short, of the page or of the end.
 #[test]
 fn each_front_of_a_file(rt: HostRuntime) -> Result<(), Fail> {
+    let alloc = rt.alloc();
     for size in 0..ONE_UP.len() {
-        let told = if size < 74 {
+        let torn = if size < 74 { size } else { size - 74 };
+        let refusal = refusal_of(alloc, &ONE_UP[..size])?;
+        let told = if torn == 0 {
+            format!(in alloc; "the day goes on: its file has no end\n")?
+        } else {
+            format!(in alloc;
+                "the day goes on: its file ends with {torn} bytes of a write that was cut short\n"
+            )?
+        };
+        assert!(rt; refusal.as_slice() == told.as_bytes(), "{size} bytes");
+    }
+    Ok(())
+}
+
+/// A file of the first form has to be over, wherever it is cut: with page 0 where that isn't whole, else with page 1.
+/// Fewer than twelve bytes don't say the form.
+#[test]
+fn each_front_of_a_file_of_the_first_form(rt: HostRuntime) -> Result<(), Fail> {
+    for size in 12..ONE_UP_BEFORE.len() {
+        let told = if size < 58 {
             b"page 0: cut short\n"
         } else {
             b"page 1: cut short\n"
         };
-        let refusal = refusal_of(rt.alloc(), &ONE_UP[..size])?;
+        let refusal = refusal_of(rt.alloc(), &ONE_UP_BEFORE[..size])?;
         assert!(rt; refusal.as_slice() == told.as_slice(), "{size} bytes");
     }
     Ok(())
@@ -81,6 +102,21 @@ fn a_file_that_is_changed(rt: HostRuntime) -> Result<(), Fail> {
     let mut file = *ONE_UP_BEFORE;
     file[35] = 0x10;
     refuses(&rt, alloc, &file, b"page 0: kind\n")
+}
+
+/// A page that stands whole behind a damaged one is no crash's work; nor is an end.
+#[test]
+fn a_page_behind_a_damaged_one(rt: HostRuntime) -> Result<(), Fail> {
+    let alloc = rt.alloc();
+    let mut file = Vec::from_slice(alloc, &ONE_UP[..74])?;
+    file.extend_from_slice(&ONE_UP[..74])?;
+    refuses(&rt, alloc, file.as_slice(), b"page 1: number\n")?;
+    let mut damaged = *ONE_UP;
+    damaged[51] = 0x10;
+    let mut file = Vec::from_slice(alloc, &damaged[..74])?;
+    file.extend_from_slice(&ONE_UP[..74])?;
+    refuses(&rt, alloc, file.as_slice(), b"page 0: sum\n")?;
+    refuses(&rt, alloc, &damaged, b"page 0: sum\n")
 }
 
 /// Each byte of a file changed: its page's by the sum, and the end's.

@@ -1,0 +1,15 @@
+-- What a file has that was opened, as it was noted.
+use Rattle.std.specs.Prelude.{◌≡◌, ℕ, List, [], length}
+use Rattle.host_log.specs.declared.host_file.HostFile.{HostFile}
+use Rattle.host_log.specs.declared.opening.FoundLog.{FoundLog}
+use Rattle.host_log.specs.declared.opening.FoundLog.TheVariants.{New, There}
+
+-- a file has just these bytes, all of them durable
+pub record HasJust (bytes : List ℕ) (file : HostFile) : Type 0 where
+  pub noted : file.noted.bytes ≡ bytes
+  pub durable : file.durable ≡ length bytes
+
+-- one that was made has none
+abbrev pub HasNothing : FoundLog → Type 0
+HasNothing (New file) = HasJust [] file
+HasNothing (There stopped) = Unit {0}

@@ -1,0 +1,3 @@
+pub mod Apart
+pub use Rattle.journal_days.specs.Left
+pub use Rattle.journal_pages.specs.Record

@@ -1,0 +1,58 @@
+//! Records of two days, side by side.
+
+ghost use Rattle.std.specs.Prelude.{◌≡◌, true, false, MatchOption};
+ghost use Rattle.journal_days.specs.Left.{records_left};
+ghost use Rattle.journal_pages.specs.Seen.{record_seen};
+ghost use Rattle.same_records.specs.Apart as spec;
+ghost use Rattle.same_records.specs.Apart.{DifferBehind};
+
+use journal_days::DayRecords;
+use journal_pages::{RecordKind, RecordView};
+
+/// `None` where two days have the same records, one by one, wherever their pages were cut; else how many whole batches
+/// are the same before the first record that differs, or that only one of them has. Takes no memory.
+pub fn first_difference(records: DayRecords<'_>, others: DayRecords<'_>) -> Option<u64>
+    ensures { MatchOption result (records_left records.entry ≡ records_left others.entry)
+        (λ batches. DifferBehind batches (records_left records.entry) (records_left others.entry)) }
+{
+    let mut rest = records;
+    let mut left = others;
+    let mut batches = 0u64;
+    while let Some((first, behind)) = rest.split_first() {
+        let Some((second, further)) = left.split_first() else {
+            return Some(batches);
+        };
+        if !is_same_record(&first, &second) {
+            return Some(batches);
+        }
+        batches = with_record(batches, first.kind);
+        rest = behind;
+        left = further;
+    }
+    match left.split_first() {
+        Some(_) => Some(batches),
+        None => None,
+    }
+}
+
+/// So many whole batches, with a record of this kind more.
+fn with_record(batches: u64, kind: RecordKind) -> u64
+    ensures { result ≡ spec.with_record batches kind }
+{
+    match kind {
+        RecordKind::BatchEnd => batches.saturating_add(1),
+        _ => batches,
+    }
+}
+
+/// Whether two records are the same.
+fn is_same_record(one: &RecordView<'_>, other: &RecordView<'_>) -> bool
+    ensures same { result ≡ true → record_seen one.now ≡ record_seen other.now }
+    ensures apart { result ≡ false → record_seen one.now ≡ record_seen other.now → ⊥ }
+{
+    one.kind == other.kind
+        && one.source == other.source
+        && one.link == other.link
+        && one.at == other.at
+        && one.payload == other.payload
+}

@@ -1,0 +1,6 @@
+//! Whether the records of two days are the same, wherever their pages were cut.
+#![tactic(auto)]
+
+mod comparing;
+
+pub use comparing::first_difference;
