@@ -5,12 +5,14 @@ use Rattle.journal_file.specs.File.{file_of, sized_pages}
 use Rattle.day_log.specs.Crash.{Only, StandsBefore}
 
 -- the file is these pages, all of it durable
-pub record IsSettled {F : Type 0} (seen : F → List ℕ) (may_leave : F → List ℕ → Type 0) (pages : List (List ℕ)) (file : F) : Type 0 where
+pub record IsSettled {F : Type 0} (seen : F → List ℕ) (may_leave : F → List ℕ → Type 0) (pages : List (List ℕ))
+    (file : F) : Type 0 where
   pub written : seen file ≡ sized_pages Two pages
   pub durable : Only (seen file) (may_leave file)
 
 -- the file is these pages and an end, all of it durable
-pub record IsEnded {F : Type 0} (seen : F → List ℕ) (may_leave : F → List ℕ → Type 0) (pages : List (List ℕ)) (file : F) : Type 0 where
+pub record IsEnded {F : Type 0} (seen : F → List ℕ) (may_leave : F → List ℕ → Type 0) (pages : List (List ℕ))
+    (file : F) : Type 0 where
   pub written : seen file ≡ file_of Two pages
   pub durable : Only (seen file) (may_leave file)
 

@@ -7,8 +7,8 @@ use crate::fault::WriteFault;
 
 /// A file that is only added to, as a log sees it.
 ///
-/// Its one premise is `durable`: what a sync that answered well leaves is what every crash leaves. A file in memory meets
-/// it by what it does; of a file of the system it is trusted.
+/// Its one premise is `durable`: what a sync that answered well leaves is what every crash leaves. A file in memory
+/// meets it by what it does; of a file of the system it is trusted.
 pub trait LogFile {
     /// The bytes that a read returns.
     ghost seen: { Self → List ℕ };

@@ -1,5 +1,5 @@
-//! A day's log: pages that are added to a file, each behind its length and its sum (`journal_file`), each durable before
-//! the next; and an end. What any crash leaves of it begins with the pages that were acknowledged.
+//! A day's log: pages that are added to a file, each behind its length and its sum (`journal_file`), each durable
+//! before the next; and an end. What any crash leaves of it begins with the pages that were acknowledged.
 #![tactic(auto)]
 
 mod fault;

@@ -1,6 +1,7 @@
 //! The log.
 
-ghost use Rattle.std.specs.Prelude.{◌≡◌, ◌⊎◌, ◌<◌, ◌≤◌, ◌++◌, ◌∷◌, [], List, ℕ, length, Err, IsErrOf, None, OnErr, OnOk, Some};
+ghost use Rattle.std.specs.Prelude.{◌≡◌, ◌⊎◌, ◌<◌, ◌≤◌, ◌++◌, ◌∷◌, [], List, ℕ, length};
+ghost use Rattle.std.specs.Prelude.{Err, IsErrOf, None, OnErr, OnOk, Some};
 ghost use Rattle.journal_pages.specs.declared.version.Version.TheVariants.{Two};
 ghost use Rattle.journal_file.specs.File.{sized_page};
 ghost use Rattle.day_log.specs.Crash.{Follows, Only, StandsBefore};
@@ -51,11 +52,11 @@ impl<F: LogFile> DayLog<F> {
         &self.file
     }
 
-    /// Adds a page, by one write and one sync. At `Ok` each crash leaves it, whole and behind those before; at `Err` each
-    /// crash leaves those before. A page has a byte at least: one of none is an end.
+    /// Adds a page, by one write and one sync. At `Ok` each crash leaves it, whole and behind those before; at `Err`
+    /// each crash leaves those before. A page has a byte at least: one of none is an end.
     ///
-    /// `Failed` where the file fails, and from then on: the file isn't called again. `Ended` behind an end. `NoMemory`
-    /// leaves the log as it was.
+    /// `Failed` where the file fails, and from then on: the file isn't called again. `Ended` behind an end.
+    /// `NoMemory` leaves the log as it was.
     pub fn commit(&mut self, page: &[u8]) -> Result<(), LogFault>
         requires { 1 ≤ length page.now }
         ensures told { OnOk result ((pages : List (List ℕ)) → IsSettled F.seen F.may_leave pages self.old.file

@@ -7,8 +7,8 @@ ghost use Rattle.journal_file.specs.File.{sized_page};
 use journal_file::sum_of;
 use std::alloc::AllocError;
 
-/// Appends a page behind its length and its sum; of no bytes it is an end. `AllocError` leaves what stood in `out` in front
-/// of some of it.
+/// Appends a page behind its length and its sum; of no bytes it is an end. `AllocError` leaves what stood in `out` in
+/// front of some of it.
 pub(crate) fn append_sized(out: &mut Vec<u8>, page: &[u8]) -> Result<(), AllocError>
     ensures { OnOk result (out.new.items ≡ out.old.items ++ sized_page Two page.now) }
 {

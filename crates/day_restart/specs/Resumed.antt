@@ -32,7 +32,8 @@ pub record IsUnended (file : List ℕ) (day : Kept) (torn : ℕ) : Type 0 where
 
 -- The day is a run by these settings; the core goes on behind it, and behind the goings of just the links that were up
 -- at its end, at this moment. All that is promised of a run holds of the whole.
-pub record IsStepped (settings : Settings) (day : Kept) (at : ℕ) (recorded : Recorded) (links : List OpenLink) : Type 0 where
+pub record IsStepped (settings : Settings) (day : Kept) (at : ℕ) (recorded : Recorded) (links : List OpenLink)
+    : Type 0 where
   pub settings : recorded.settings ≡ settings
   pub links : links ≡ open_in day.events
   pub events : recorded.kept.events ≡ day.events ++ map (gone_at at) links
@@ -41,7 +42,8 @@ pub record IsStepped (settings : Settings) (day : Kept) (at : ℕ) (recorded : R
   pub whole : Holds settings (turns recorded.kept)
 
 -- a file's day is gone on with, behind so many of its bytes, with so many behind them cut
-pub record GoesOnWith (settings : Settings) (file : List ℕ) (at : ℕ) (recorded : Recorded) (links : List OpenLink) (whole torn : ℕ) : Type 0 where
+pub record GoesOnWith (settings : Settings) (file : List ℕ) (at : ℕ) (recorded : Recorded) (links : List OpenLink)
+    (whole torn : ℕ) : Type 0 where
   pub day : Kept
   pub unended : IsUnended file day torn
   pub stepped : IsStepped settings day at recorded links

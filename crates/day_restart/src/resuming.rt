@@ -36,13 +36,13 @@ struct Unended {
     torn: usize,
 }
 
-/// A day's file, gone on with: it is read, its events are stepped once more by these settings, each batch compared with
-/// the one that was read, and each link that was up is gone, at a moment in milliseconds since 1970. All that is promised
-/// of a run holds of the whole day.
+/// A day's file, gone on with: it is read, its events are stepped once more by these settings, each batch compared
+/// with the one that was read, and each link that was up is gone, at a moment in milliseconds since 1970. All that is
+/// promised of a run holds of the whole day.
 ///
 /// `Over` where the file has its end; `Damaged` where it is none, with the place of the page, from 0; `Differs` where
-/// these settings, or this program, give another batch, with the event's place, from 0. `NoMemory` says nothing of the
-/// file.
+/// these settings, or this program, give another batch, with the event's place, from 0. `NoMemory` says nothing of
+/// the file.
 pub fn resumed<S: BuildHasher + Clone + Drop>(
     alloc: Global,
     hasher: S,

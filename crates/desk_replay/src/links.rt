@@ -129,8 +129,8 @@ fn leave(up: &mut Vec<OpenLink>, gone: &OpenLink)
     up.retain(|link| !gone.is_same(link));
 }
 
-/// Steps that each of these links is gone, at a moment in milliseconds since 1970. `AllocError` leaves the first of them
-/// stepped; the others may be stepped yet.
+/// Steps that each of these links is gone, at a moment in milliseconds since 1970. `AllocError` leaves the first of
+/// them stepped; the others may be stepped yet.
 pub fn step_gones<S: BuildHasher + Drop>(
     recorded: &mut RecordedCore<S>,
     alloc: Global,

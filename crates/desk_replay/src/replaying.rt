@@ -23,7 +23,8 @@ pub fn replayed<S: BuildHasher + Clone + Drop>(
     settings: Settings,
     day: &History,
 ) -> Result<RecordedCore<S>, ReplayFault>
-    ensures { MatchResult result (λ recorded. Replays settings day.now recorded) (λ fault. IsRefused settings day.now fault) }
+    ensures { MatchResult result (λ recorded. Replays settings day.now recorded)
+        (λ fault. IsRefused settings day.now fault) }
 {
     let events = day.events(alloc)?;
     let mut recorded = RecordedCore::with_hasher(alloc, hasher, settings)?;

@@ -63,8 +63,8 @@ impl StoppedLog {
     }
 }
 
-/// Opens a log's file: made new where there is none, which its owner alone may read and write, else with what it has. It
-/// is locked, so that another process that opens it is refused, for as long as it is open; its name is durable.
+/// Opens a log's file: made new where there is none, which its owner alone may read and write, else with what it has.
+/// It is locked, so that another process that opens it is refused, for as long as it is open; its name is durable.
 pub fn open_log<R: Files<File = File>>(
     rt: &R,
     alloc: Global,

@@ -17,15 +17,15 @@ use journal_file::{DayFile, Ending, FileFault, PageFault, read_file};
 use std::alloc::Global;
 use std::io::Write;
 
-/// Reads the file of a day that is over, and writes the audit of its history to `output`: a line for each order that was
-/// accepted, and one for how many there are and how many agree.
+/// Reads the file of a day that is over, and writes the audit of its history to `output`: a line for each order that
+/// was accepted, and one for how many there are and how many agree.
 ///
 /// Answers the status that a program ends with which does so: 0 where both accounts of each order agree; 2 where the
-/// file is none, with `page N: FAULT` on `faults`, the number from 0 and the fault as `FileFault` has it, and where its
-/// day goes on, with `the day goes on: ` and how its file ends; in both cases nothing is written to `output`; else 1:
-/// where those of an order don't agree, where memory runs out, with `out of memory`, where a write fails, with `read or
-/// write failed`, and where a number of an account is larger than its integer holds, with `an order's account is too
-/// large`.
+/// file is none, with `page N: FAULT` on `faults`, the number from 0 and the fault as `FileFault` has it, and where
+/// its day goes on, with `the day goes on: ` and how its file ends; in both cases nothing is written to `output`;
+/// else 1: where those of an order don't agree, where memory runs out, with `out of memory`, where a write fails,
+/// with `read or write failed`, and where a number of an account is larger than its integer holds, with `an order's
+/// account is too large`.
 ///
 /// Source: FIX 4.4 Volume 4, "Execution Report"; OUCH 4.2, "Outbound Messages".
 pub fn audit_file<W: Write, F: Write>(

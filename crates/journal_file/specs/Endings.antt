@@ -19,9 +19,9 @@ stands_somewhere (b ∷ bytes) = stands_in_front (b ∷ bytes) || stands_somewhe
 abbrev pub torn_limit : ℕ
 torn_limit = 67_108_864
 
--- The day may go on in front of these bytes, once they are cut: there are none, or a write that was cut short left them.
--- In the second form a page is written only once the one before it is durable, so that no page and no end stands behind
--- one that was cut short. A file of the first form was written whole at the day's end.
+-- The day may go on in front of these bytes, once they are cut: there are none, or a write that was cut short left
+-- them. In the second form a page is written only once the one before it is durable, so that no page and no end
+-- stands behind one that was cut short. A file of the first form was written whole at the day's end.
 abbrev pub is_unfinished : Version → List ℕ → Bool
 is_unfinished One rest = false
 is_unfinished Two rest = nat_lt (length rest) torn_limit && not (stands_somewhere rest)

@@ -1,5 +1,5 @@
--- A day's file: the bytes of its pages, each behind its length and its sum, and an end once the day is over. The form is
--- the gateway's own. Files of a first form, in which a page stands behind its length alone, are read and no longer
+-- A day's file: the bytes of its pages, each behind its length and its sum, and an end once the day is over. The form
+-- is the gateway's own. Files of a first form, in which a page stands behind its length alone, are read and no longer
 -- written.
 use Rattle.std.specs.Prelude.{◌≤◌, ◌==◌, ℕ, ◌+◌, Bool, true, ◌&&◌, ◌||◌, nat_lt, List, [], ◌∷◌, ◌++◌, length}
 use Rattle.std.specs.Prelude.{bytes_eq, drop, take, Option, Some, None, if◌then◌else◌}
@@ -44,9 +44,9 @@ size_in bytes = from_be_bytes w64 (take 8 bytes)
 abbrev pub is_end_of_one : List ℕ → Bool
 is_end_of_one file = (length file == 8) && (size_in file == 0)
 
--- The form of a file, by the name of its first page: the second where that of a page of version 2 stands behind a length
--- and a sum; the first where that of a page of version 1 stands behind a length, or there is an end of it and nothing else;
--- else the second.
+-- The form of a file, by the name of its first page: the second where that of a page of version 2 stands behind a
+-- length and a sum; the first where that of a page of version 1 stands behind a length, or there is an end of it and
+-- nothing else; else the second.
 abbrev pub form_of : List ℕ → Version
 form_of file =
     if stands_at 16 (page_name Two) file then Two

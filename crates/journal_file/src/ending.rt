@@ -7,7 +7,7 @@ pub enum Ending {
     GoesOn,
     /// The day is over: an end stands there, and nothing behind it.
     Over,
-    /// The day goes on, and what was written last was cut short: so many bytes stand there, at none of which a page or an
-    /// end begins. Nobody was told what they say.
+    /// The day goes on, and what was written last was cut short: so many bytes stand there, at none of which a page
+    /// or an end begins. Nobody was told what they say.
     Torn(usize),
 }

@@ -1,13 +1,15 @@
 //! A day's file, read.
 
-ghost use Rattle.std.specs.Prelude.{◌≡◌, ◌⊎◌, ◌<◌, ◌^◌, ◌++◌, ◌∷◌, [], Some, length, min, false, MatchOption, MatchResult, IfOk, OnOk, ◌≤◌};
+ghost use Rattle.std.specs.Prelude.{◌≡◌, ◌⊎◌, ◌<◌, ◌^◌, ◌++◌, ◌∷◌, [], Some, length, min, false};
+ghost use Rattle.std.specs.Prelude.{MatchOption, MatchResult, IfOk, OnOk, ◌≤◌};
 ghost use Rattle.std.specs.Int.{w64, to_be_bytes};
 ghost use Rattle.journal_days.specs.Cut.{texts};
 ghost use Rattle.journal_file.specs.Endings as endings;
 ghost use Rattle.journal_file.specs.Endings.{EndsBy};
 ghost use Rattle.journal_file.specs.File as spec;
 ghost use Rattle.journal_file.specs.File.{front_fault, sized_page};
-ghost use Rattle.journal_file.specs.Said.{IsNoFile, IsNoForm, IsNoMemory, IsParted, ReadsInFront, ReadsNothingElse, Says};
+ghost use Rattle.journal_file.specs.Said.{IsNoFile, IsNoForm, IsNoMemory, IsParted, Says};
+ghost use Rattle.journal_file.specs.Said.{ReadsInFront, ReadsNothingElse};
 ghost use Rattle.journal_pages.specs.declared.fault.PageFault.TheVariants.{Head};
 ghost use Rattle.journal_pages.specs.declared.version.Version.TheVariants.{One, Two};
 ghost use Rattle.journal_file.specs.declared.ending.Ending.TheVariants.{Over};
@@ -33,18 +35,19 @@ pub struct DayFile {
     pub ending: Ending,
 }
 
-/// Whole pages of a file, and how it ends behind them; or the place of the page with which something is wrong, and what.
+/// Whole pages of a file, and how it ends behind them; or the place of the page with which something is wrong, and
+/// what.
 type Parted = Result<(Vec<Vec<u8>>, Ending), (u32, FileFault)>;
 
 /// The history that a file's whole pages are, and how the file ends behind them: the day goes on, it is over, or the
-/// write of its last page was cut short. Of a file that is damaged the place of the first page with which something is
-/// wrong, from 0, and what.
+/// write of its last page was cut short. Of a file that is damaged the place of the first page with which something
+/// is wrong, from 0, and what.
 ///
-/// The file's form comes first: where no whole page and no end stands, `CutShort` for too few bytes or `Sum` for a sum
-/// that isn't theirs, with the place that a page there would have, unless a write that was cut short left these bytes:
-/// fewer than 64 MiB, at none of which a page or an end begins. `Head` where bytes stand behind an end, with the place of
-/// the page that they would be. Then what `History::read` refuses. A file of the first form is read where it is over.
-/// `NoMemory` has the place 0.
+/// The file's form comes first: where no whole page and no end stands, `CutShort` for too few bytes or `Sum` for a
+/// sum that isn't theirs, with the place that a page there would have, unless a write that was cut short left these
+/// bytes: fewer than 64 MiB, at none of which a page or an end begins. `Head` where bytes stand behind an end, with
+/// the place of the page that they would be. Then what `History::read` refuses. A file of the first form is read
+/// where it is over. `NoMemory` has the place 0.
 pub fn read_file(alloc: Global, file: &[u8]) -> Result<DayFile, (u32, FileFault)>
     ensures read { MatchResult result (λ read. Says file.now read.day read.ending)
         (λ fault. IsNoMemory fault.0 fault.1 ⊎ IsNoFile file.now fault.0 fault.1) }

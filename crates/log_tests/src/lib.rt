@@ -1,5 +1,5 @@
-//! Days written ahead, through `day_log`, `host_log` and `day_restart`: over a file in memory that is cut at each byte of
-//! its last write, over one of which each call fails in turn, and over a file of the system.
+//! Days written ahead, through `day_log`, `host_log` and `day_restart`: over a file in memory that is cut at each
+//! byte of its last write, over one of which each call fails in turn, and over a file of the system.
 #![tactic(auto)]
 
 #[cfg(test)]

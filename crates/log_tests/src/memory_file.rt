@@ -6,8 +6,8 @@ use day_log::{LogFile, WriteFault};
 use noted_bytes::Noted;
 use std::alloc::{AllocError, Global};
 
-/// A file in memory, which has done each call when it returns: a crash leaves what is there. It keeps each content that it
-/// had before a write, and can fail at one of its calls.
+/// A file in memory, which has done each call when it returns: a crash leaves what is there. It keeps each content
+/// that it had before a write, and can fail at one of its calls.
 #[derive(Drop)]
 pub struct MemoryFile {
     bytes: Vec<u8>,

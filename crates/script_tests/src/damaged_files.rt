@@ -6,8 +6,8 @@ use std::alloc::Global;
 use std::process::Abort;
 use std::test::Fail;
 
-/// Client 1's link 1 is up at moment 0, and its batch is empty: a page of 58 bytes behind its length and its sum, and an
-/// end. The sums were computed from the form by hand.
+/// Client 1's link 1 is up at moment 0, and its batch is empty: a page of 58 bytes behind its length and its sum, and
+/// an end. The sums were computed from the form by hand.
 const ONE_UP: &[u8; 90] = b"\0\0\0\0\0\0\0\x3a\
     \x8c\x9c\x4e\xdc\x21\x0d\x97\xc5\
     GJ02\0\0\0\0\0\0\0\0\
